@@ -1,0 +1,7 @@
+//! What every part of the tracer speaks of: points and paths, the outside world, and list texts.
+#![tactic(auto)]
+
+pub mod fault;
+pub mod path;
+pub mod point;
+pub mod policy;
