@@ -1,1 +1,4 @@
 pub mod ClosedWalk
+pub mod Counts
+pub mod Documents
+pub mod Files

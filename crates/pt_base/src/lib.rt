@@ -2,6 +2,9 @@
 #![tactic(auto)]
 
 pub mod fault;
+pub mod gate;
+pub mod inputs;
 pub mod path;
 pub mod point;
 pub mod policy;
+pub mod sink;
