@@ -2,3 +2,8 @@ pub mod ClosedWalk
 pub mod Counts
 pub mod Documents
 pub mod Files
+pub mod MemSink
+pub mod Shelf
+pub mod MemOutputs
+pub mod MemInputs
+pub mod PointsText
