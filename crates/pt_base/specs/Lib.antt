@@ -7,3 +7,4 @@ pub mod Shelf
 pub mod MemOutputs
 pub mod MemInputs
 pub mod PointsText
+pub mod Whole

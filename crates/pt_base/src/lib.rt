@@ -1,6 +1,7 @@
 //! What every part of the tracer speaks of: points and paths, the outside world, and list texts.
 #![tactic(auto)]
 
+pub mod decimal;
 pub mod err_sink;
 pub mod fault;
 pub mod file_inputs;

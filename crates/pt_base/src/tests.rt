@@ -1,5 +1,6 @@
 //! What no clause says: the real adapters, and that the calls that allocate succeed.
 
+use crate::decimal::{BadDecimal, read_whole};
 use crate::err_sink::ErrSink;
 use crate::fault::{DeviceFault, OpenFault};
 use crate::file_inputs::FileInputs;
@@ -38,6 +39,24 @@ fn points_text(rt: HostRuntime) -> Result<(), Fail> {
         b"points 16 2 1\n- 1 0,1 0,0 1,0 1,1\n".as_slice()
     );
     Ok(())
+}
+
+#[test]
+fn whole_numbers(rt: HostRuntime) {
+    let table = [
+        ("0", Ok(0)),
+        ("007", Ok(7)),
+        ("1000000000", Ok(1_000_000_000)),
+        ("1000000001", Err(BadDecimal)),
+        ("00000000001", Err(BadDecimal)),
+        ("", Err(BadDecimal)),
+        ("+1", Err(BadDecimal)),
+        ("1x", Err(BadDecimal)),
+    ];
+    for (text, number) in table {
+        assert_eq!(rt; read_whole(text, 0, 1_000_000_000), number, "{text:?}");
+    }
+    assert_eq!(rt; read_whole("4", 5, 9), Err(BadDecimal));
 }
 
 #[test]

@@ -1,0 +1,8 @@
+//! potrace: traces bitmaps to outlines.
+#![tactic(auto)]
+
+mod ask;
+mod document;
+mod message;
+
+fn main() {}
