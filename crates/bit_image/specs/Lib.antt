@@ -1,0 +1,4 @@
+pub mod Image
+pub mod Page
+pub mod FirstBlack
+pub mod Cells

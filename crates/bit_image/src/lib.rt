@@ -1,0 +1,4 @@
+//! Pages of black and white pixels.
+#![tactic(auto)]
+
+pub mod bitmap;

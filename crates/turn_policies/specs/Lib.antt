@@ -1,0 +1,4 @@
+pub mod Heading
+pub mod Boundary
+pub mod Majority
+pub mod Turn

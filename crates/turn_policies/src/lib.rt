@@ -1,0 +1,8 @@
+//! Which way a boundary path turns at a corner of four pixels.
+//!
+//! A path runs along pixel edges with black on its left. At each corner it looks at the two pixels
+//! ahead and goes straight on, left or right.
+#![tactic(auto)]
+
+pub mod edge;
+pub mod heading;
