@@ -1,17 +1,12 @@
--- Rows of pixels one after another in one list, as a bitmap keeps them.
-use Rattle.std.specs.Prelude.{◌≡◌, ℕ, zero, suc, ◌*◌, ◌≤◌, Bool, List, [], ◌∷◌, length, take, drop}
-use Rattle.bit_image.specs.Page.{Page}
+-- How a bitmap keeps its pixels: one entry for each, row after row from the lowest up.
+use Rattle.std.specs.Prelude.{◌≡◌, ℕ, ◌+◌, ◌*◌, ◌≤◌, Bool, false, List, length, slice_index_or}
+use Rattle.bit_image.specs.Image.{Image}
 
--- the first `count` rows of a list of pixels, each of one width
-abbrev pub rows_of : ℕ → ℕ → List Bool → List (List Bool)
-rows_of width zero cells = []
-rows_of width (suc count) cells = take width cells ∷ rows_of width count (drop width cells)
+-- the pixels that a list of entries keeps, at a width
+unfoldable pub pixels_of : ℕ → List Bool → Image
+pixels_of width cells x y = slice_index_or cells (y * width + x) false
 
--- the page that a list of pixels is, from the lowest row up
-abbrev pub page_of : ℕ → ℕ → List Bool → Page
-page_of width height cells = record { width = width; height = height; rows = rows_of width height cells }
-
--- both sides are 1 to 16384, and there is one entry for each pixel
+-- both sides are 1 to 16384, and there is an entry for each pixel
 pub record IsLaidOut (width height : ℕ) (cells : List Bool) : Type 0 where
   pub some_width : 1 ≤ width
   pub most_width : width ≤ 16384

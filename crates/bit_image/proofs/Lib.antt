@@ -1,0 +1,2 @@
+mod Cells
+pub mod Pages
