@@ -1,4 +1,5 @@
 pub mod Heading
 pub mod Boundary
+pub mod Corner
 pub mod Majority
 pub mod Turn

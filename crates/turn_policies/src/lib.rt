@@ -6,3 +6,6 @@
 
 pub mod edge;
 pub mod heading;
+pub mod laws;
+pub mod majority;
+pub mod rule;

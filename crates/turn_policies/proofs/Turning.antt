@@ -1,0 +1,130 @@
+-- A turned edge has black on its left and white on its right again.
+use Rattle.std.proofs.Common.{◌≡◌, ◌≢◌, ℕ, zero, suc, Bool, true, false, refl, sym, ◌∙◌}
+use Rattle.std.proofs.lemmas.Bool.{false≢true}
+use Rattle.pt_base.specs.declared.path.Sign.{Sign}
+use Rattle.pt_base.specs.declared.policy.Policy.{Policy}
+use Rattle.bit_image.specs.Image.{Image, south_west}
+use Rattle.turn_policies.specs.declared.heading.Dir.{Dir}
+use Rattle.turn_policies.specs.declared.heading.Dir.TheVariants.{North, East, South, West}
+use Rattle.turn_policies.specs.declared.edge.Edge.{Edge}
+use Rattle.turn_policies.specs.Heading.{left_of, right_of, opposite_of, end_x, end_y}
+use Rattle.turn_policies.specs.Boundary.{left_pixel, right_pixel, IsBoundary}
+use Rattle.turn_policies.specs.Majority.{major}
+use Rattle.turn_policies.specs.Turn.{goes_right, turn_of, next}
+
+-- the pixel behind a corner, on the left of the edge that came there
+abbrev pub left_behind : (ℕ → ℕ → Bool) → ℕ → ℕ → Dir → Bool
+left_behind c x y North = c x y
+left_behind c x y East = c x (suc y)
+left_behind c x y South = c (suc x) (suc y)
+left_behind c x y West = c (suc x) y
+
+-- and the one on its right
+abbrev pub right_behind : (ℕ → ℕ → Bool) → ℕ → ℕ → Dir → Bool
+right_behind c x y North = c (suc x) y
+right_behind c x y East = c x y
+right_behind c x y South = c x (suc y)
+right_behind c x y West = c (suc x) (suc y)
+
+-- The four pixels around a corner, as an edge sees them that turns there.
+pub left_pixel-left_of : (c : ℕ → ℕ → Bool) (x y : ℕ) (d : Dir) → left_pixel c x y (left_of d) ≡ left_behind c x y d
+left_pixel-left_of c x y North = refl
+left_pixel-left_of c x y East = refl
+left_pixel-left_of c x y South = refl
+left_pixel-left_of c x y West = refl
+
+pub right_pixel-left_of : (c : ℕ → ℕ → Bool) (x y : ℕ) (d : Dir) → right_pixel c x y (left_of d) ≡ left_pixel c x y d
+right_pixel-left_of c x y North = refl
+right_pixel-left_of c x y East = refl
+right_pixel-left_of c x y South = refl
+right_pixel-left_of c x y West = refl
+
+pub left_pixel-right_of : (c : ℕ → ℕ → Bool) (x y : ℕ) (d : Dir) → left_pixel c x y (right_of d) ≡ right_pixel c x y d
+left_pixel-right_of c x y North = refl
+left_pixel-right_of c x y East = refl
+left_pixel-right_of c x y South = refl
+left_pixel-right_of c x y West = refl
+
+pub right_pixel-right_of : (c : ℕ → ℕ → Bool) (x y : ℕ) (d : Dir) → right_pixel c x y (right_of d) ≡ right_behind c x y d
+right_pixel-right_of c x y North = refl
+right_pixel-right_of c x y East = refl
+right_pixel-right_of c x y South = refl
+right_pixel-right_of c x y West = refl
+
+-- No black pixel lies on the margin, so what lies beside a boundary edge lies behind its end.
+pub left_behind-end : (b : Image) (x y : ℕ) (d : Dir) → left_pixel (south_west b) x y d ≡ true
+    → left_behind (south_west b) (end_x x d) (end_y y d) d ≡ left_pixel (south_west b) x y d
+left_behind-end b x y North h = refl
+left_behind-end b x y East h = refl
+left_behind-end b x zero South h = absurd (false≢true h)
+left_behind-end b x (suc y) South h = refl
+left_behind-end b zero y West h = absurd (false≢true h)
+left_behind-end b (suc x) y West h = refl
+
+pub right_behind-end : (b : Image) (x y : ℕ) (d : Dir) → left_pixel (south_west b) x y d ≡ true
+    → right_behind (south_west b) (end_x x d) (end_y y d) d ≡ right_pixel (south_west b) x y d
+right_behind-end b x y North h = refl
+right_behind-end b x y East h = refl
+right_behind-end b x zero South h = absurd (false≢true h)
+right_behind-end b x (suc y) South h = refl
+right_behind-end b zero y West h = absurd (false≢true h)
+right_behind-end b (suc x) y West h = refl
+
+-- the left pixel after a turn, for each line of the table
+pub left_pixel-turn_of : (c : ℕ → ℕ → Bool) (x y : ℕ) (l r g : Bool) (d : Dir) → left_pixel c x y d ≡ l → right_pixel c x y d ≡ r
+    → left_behind c x y d ≡ true → left_pixel c x y (turn_of l r g d) ≡ true
+left_pixel-turn_of c x y false true true d el er h = left_pixel-right_of c x y d ∙ er
+left_pixel-turn_of c x y false true false d el er h = left_pixel-left_of c x y d ∙ h
+left_pixel-turn_of c x y true true g d el er h = left_pixel-right_of c x y d ∙ er
+left_pixel-turn_of c x y false false g d el er h = left_pixel-left_of c x y d ∙ h
+left_pixel-turn_of c x y true false g d el er h = el
+
+-- and the right one
+pub right_pixel-turn_of : (c : ℕ → ℕ → Bool) (x y : ℕ) (l r g : Bool) (d : Dir) → left_pixel c x y d ≡ l → right_pixel c x y d ≡ r
+    → right_behind c x y d ≡ false → right_pixel c x y (turn_of l r g d) ≡ false
+right_pixel-turn_of c x y false true true d el er h = right_pixel-right_of c x y d ∙ h
+right_pixel-turn_of c x y false true false d el er h = right_pixel-left_of c x y d ∙ el
+right_pixel-turn_of c x y true true g d el er h = right_pixel-right_of c x y d ∙ h
+right_pixel-turn_of c x y false false g d el er h = right_pixel-left_of c x y d ∙ el
+right_pixel-turn_of c x y true false g d el er h = er
+
+-- the edge that follows a boundary edge is one too
+pub next_boundary : (b : Image) (policy : Policy) (sign : Sign) (e : Edge) → IsBoundary b e → IsBoundary b (next b policy sign e)
+next_boundary b policy sign e h =
+    let x : ℕ = end_x e.x e.heading in
+    let y : ℕ = end_y e.y e.heading in
+    let right : Bool = goes_right policy sign (major b x y) in
+    record {
+      black_left =
+          left_pixel-turn_of (south_west b) x y _ _ right e.heading refl refl
+          (left_behind-end b e.x e.y e.heading h.black_left ∙ h.black_left);
+      white_right =
+          right_pixel-turn_of (south_west b) x y _ _ right e.heading refl refl
+          (right_behind-end b e.x e.y e.heading h.black_left ∙ h.white_right);
+    }
+
+left_of≢opposite_of : (d : Dir) → left_of d ≢ opposite_of d
+left_of≢opposite_of North e = cc
+left_of≢opposite_of East e = cc
+left_of≢opposite_of South e = cc
+left_of≢opposite_of West e = cc
+
+right_of≢opposite_of : (d : Dir) → right_of d ≢ opposite_of d
+right_of≢opposite_of North e = cc
+right_of≢opposite_of East e = cc
+right_of≢opposite_of South e = cc
+right_of≢opposite_of West e = cc
+
+same≢opposite_of : (d : Dir) → d ≢ opposite_of d
+same≢opposite_of North e = cc
+same≢opposite_of East e = cc
+same≢opposite_of South e = cc
+same≢opposite_of West e = cc
+
+-- no turn goes back
+pub onwards : (l r right : Bool) (d : Dir) → turn_of l r right d ≢ opposite_of d
+onwards false true true d = right_of≢opposite_of d
+onwards false true false d = left_of≢opposite_of d
+onwards true true right d = right_of≢opposite_of d
+onwards false false right d = left_of≢opposite_of d
+onwards true false right d = same≢opposite_of d

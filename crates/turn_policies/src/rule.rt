@@ -1,0 +1,109 @@
+//! The table of turns.
+ghost use Rattle.std.specs.Prelude.{◌≡◌, ◌≢◌, ◌≤◌, suc, nat_abs};
+ghost use Rattle.bit_image.specs.Image.{south_west};
+ghost use Rattle.bit_image.specs.Page.{image_of};
+ghost use Rattle.turn_policies.specs.Boundary.{left_pixel, right_pixel, IsBoundary};
+ghost use Rattle.turn_policies.specs.Corner.{IsCorner};
+ghost use Rattle.turn_policies.specs.Majority.{major};
+ghost use Rattle.turn_policies.specs.Turn.{goes_right, turn, next};
+
+use crate::edge::Edge;
+use crate::heading::Dir;
+use crate::majority::major_at;
+use bit_image::bitmap::Bitmap;
+use pt_base::path::Sign;
+use pt_base::point::Point;
+use pt_base::policy::Policy;
+
+/// Where a path goes on that comes to a corner with a heading.
+///
+/// | Ahead on the right | Ahead on the left | Turn |
+/// |---|---|---|
+/// | black | white | as the policy says |
+/// | black | black | right |
+/// | white | white | left |
+/// | white | black | straight on |
+pub fn turn(page: &Bitmap, at: Point, heading: Dir, policy: Policy, sign: Sign) -> Dir
+    requires { IsCorner at }
+    ensures { result ≡ turn (image_of page.now) policy sign (nat_abs at.x) (nat_abs at.y) heading }
+{
+    turn_at(page, at.x as u32, at.y as u32, heading, policy, sign)
+}
+
+/// Where a path goes on that comes to corner (x, y) with a heading.
+pub fn turn_at(page: &Bitmap, x: u32, y: u32, heading: Dir, policy: Policy, sign: Sign) -> Dir
+    requires x { x ≤ 32767 }
+    requires y { y ≤ 32767 }
+    ensures { result ≡ turn (image_of page.now) policy sign x y heading }
+{
+    let left = is_left_black(page, x, y, heading);
+    let right = is_right_black(page, x, y, heading);
+    match (left, right) {
+        (true, false) => heading,
+        (true, true) => heading.right(),
+        (false, false) => heading.left(),
+        (false, true) => {
+            if chooses_right(page, x, y, policy, sign) {
+                heading.right()
+            } else {
+                heading.left()
+            }
+        }
+    }
+}
+
+/// The edge that follows an edge of a boundary: it is one too.
+pub fn next(page: &Bitmap, edge: Edge, policy: Policy, sign: Sign) -> Edge
+    requires { IsBoundary (image_of page.now) edge }
+    ensures value { result ≡ next (image_of page.now) policy sign edge }
+    ensures boundary { IsBoundary (image_of page.now) result }
+{
+    let x = edge.end_x();
+    let y = edge.end_y();
+    let heading = turn_at(page, x, y, edge.heading, policy, sign);
+    Edge { x, y, heading }
+}
+
+/// Whether the pixel on the left of the edge that leaves corner (x, y) is black.
+fn is_left_black(page: &Bitmap, x: u32, y: u32, heading: Dir) -> bool
+    requires x { x ≤ 32767 }
+    requires y { y ≤ 32767 }
+    ensures { result ≡ left_pixel (south_west (image_of page.now)) x y heading }
+{
+    match heading {
+        Dir::North => page.south_west(x, y + 1),
+        Dir::East => page.south_west(x + 1, y + 1),
+        Dir::South => page.south_west(x + 1, y),
+        Dir::West => page.south_west(x, y),
+    }
+}
+
+/// Whether the pixel on the right of the edge that leaves corner (x, y) is black.
+fn is_right_black(page: &Bitmap, x: u32, y: u32, heading: Dir) -> bool
+    requires x { x ≤ 32767 }
+    requires y { y ≤ 32767 }
+    ensures { result ≡ right_pixel (south_west (image_of page.now)) x y heading }
+{
+    match heading {
+        Dir::North => page.south_west(x + 1, y + 1),
+        Dir::East => page.south_west(x + 1, y),
+        Dir::South => page.south_west(x, y),
+        Dir::West => page.south_west(x, y + 1),
+    }
+}
+
+/// Whether the policy turns right at corner (x, y), where the pixels ahead leave a choice.
+fn chooses_right(page: &Bitmap, x: u32, y: u32, policy: Policy, sign: Sign) -> bool
+    requires x { x ≤ 32767 }
+    requires y { y ≤ 32767 }
+    ensures { result ≡ goes_right policy sign (major (image_of page.now) x y) }
+{
+    match policy {
+        Policy::Left => false,
+        Policy::Right => true,
+        Policy::Black => matches!(sign, Sign::Plus),
+        Policy::White => matches!(sign, Sign::Minus),
+        Policy::Majority => major_at(page, x, y),
+        Policy::Minority => !major_at(page, x, y),
+    }
+}
