@@ -1,2 +1,5 @@
 pub mod Back
+mod Majorities
+pub mod OnPage
+mod Rings
 pub mod Turning

@@ -1,5 +1,5 @@
 -- A turned edge has black on its left and white on its right again.
-use Rattle.std.proofs.Common.{◌≡◌, ◌≢◌, ℕ, zero, suc, Bool, true, false, refl, sym, ◌∙◌}
+use Rattle.std.proofs.Common.{◌≡◌, ◌≢◌, ℕ, zero, suc, Bool, true, false, refl, ◌∙◌}
 use Rattle.std.proofs.lemmas.Bool.{false≢true}
 use Rattle.pt_base.specs.declared.path.Sign.{Sign}
 use Rattle.pt_base.specs.declared.policy.Policy.{Policy}

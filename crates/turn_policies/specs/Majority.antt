@@ -1,6 +1,6 @@
 -- The colour in the majority around a corner (the potrace manual page, turn policy "majority";
 -- Selinger, "Potrace", 2003, section 2.1.2).
-use Rattle.std.specs.Prelude.{ℕ, zero, suc, ◌+◌, ◌-◌, Bool, true, false, not, cond, ◌&&◌, ◌||◌, nat_eq, nat_lt, nat_le}
+use Rattle.std.specs.Prelude.{ℕ, zero, suc, ◌+◌, ◌*◌, ◌-◌, Bool, true, false, not, cond, ◌&&◌, ◌||◌, nat_eq, nat_lt, nat_le}
 use Rattle.bit_image.specs.Image.{Image}
 
 -- the pixel r columns to the left of, and r rows below, the one that a corner is the lower left of
@@ -25,12 +25,12 @@ is_rim side i j = nat_eq i 0 || nat_eq (suc i) side || nat_eq j 0 || nat_eq (suc
 -- its pixels are black:
 unfoldable pub black_in_ring : Image → ℕ → ℕ → ℕ → ℕ
 black_in_ring b x y r =
-    sum_below (r + r) (λ i. count_below (r + r) (λ j. is_rim (r + r) i j && behind b r (x + i) (y + j)))
+    sum_below (2 * r) (λ i. count_below (2 * r) (λ j. is_rim (2 * r) i j && behind b r (x + i) (y + j)))
 
 -- and how many are white
 unfoldable pub white_in_ring : Image → ℕ → ℕ → ℕ → ℕ
 white_in_ring b x y r =
-    sum_below (r + r) (λ i. count_below (r + r) (λ j. is_rim (r + r) i j && not (behind b r (x + i) (y + j))))
+    sum_below (2 * r) (λ i. count_below (2 * r) (λ j. is_rim (2 * r) i j && not (behind b r (x + i) (y + j))))
 
 -- whether black is more than white; where there is as much of either, what comes next decides
 abbrev pub is_more : ℕ → ℕ → Bool → Bool

@@ -1,8 +1,8 @@
 //! The colour in the majority around a corner.
-ghost use Rattle.std.specs.Prelude.{◌≡◌, ◌+◌, ◌*◌, ◌-◌, ◌≤◌, ◌<◌, ◌^◌, IfSome, IsNone, MatchOption, nat_abs, nat_lt};
+ghost use Rattle.std.specs.Prelude.{◌≡◌, ◌+◌, ◌*◌, ◌≤◌, ◌<◌, ◌&&◌, nat_abs};
 ghost use Rattle.bit_image.specs.Page.{image_of};
 ghost use Rattle.turn_policies.specs.Corner.{IsCorner};
-ghost use Rattle.turn_policies.specs.Majority.{behind, count_below, black_in_ring, white_in_ring, major};
+ghost use Rattle.turn_policies.specs.Majority.{behind, is_rim, count_below, black_in_ring, major};
 
 use bit_image::bitmap::Bitmap;
 use pt_base::point::Point;
@@ -49,25 +49,37 @@ pub fn major_at(page: &Bitmap, x: u32, y: u32) -> bool
 fn black_around(page: &Bitmap, x: u32, y: u32, radius: u32) -> u32
     requires x { x ≤ 32767 }
     requires y { y ≤ 32767 }
-    requires least { 1 ≤ radius }
-    requires most { radius ≤ 4 }
+    requires radius { radius ≤ 4 }
     ensures { result ≡ black_in_ring (image_of page.now) x y radius }
 {
-    let side = 2 * radius;
     let mut black = 0;
-    for i in 0..side {
-        black += if i == 0 || i == side - 1 {
-            black_in_column(page, x + i, y, radius, side)
-        } else {
-            u32::from(is_black_behind(page, x + i, y, radius))
-                + u32::from(is_black_behind(page, x + i, y + side - 1, radius))
-        };
+    for column in 0..2 * radius {
+        black += black_in_ring_column(page, x, y, radius, column);
     }
     black
 }
 
-/// How many of so many pixels are black, one above the other from one behind corner (x, y) up.
-fn black_in_column(page: &Bitmap, x: u32, y: u32, radius: u32, count: u32) -> u32
+/// How many pixels of one column of that ring are black; the leftmost column is 0.
+fn black_in_ring_column(page: &Bitmap, x: u32, y: u32, radius: u32, column: u32) -> u32
+    requires x { x ≤ 32767 }
+    requires y { y ≤ 32767 }
+    requires radius { radius ≤ 4 }
+    requires column { column < 2 * radius }
+    ensures value { result
+        ≡ count_below (2 * radius) (λ j. is_rim (2 * radius) column j && behind (image_of page.now) radius (x + column) (y + j)) }
+    ensures bound { result ≤ 8 }
+{
+    let last = 2 * radius - 1;
+    if column == 0 || column == last {
+        return black_above(page, x + column, y, radius, last + 1);
+    }
+    let lowest = is_black_behind(page, x + column, y, radius);
+    let highest = is_black_behind(page, x + column, y + last, radius);
+    u32::from(lowest) + u32::from(highest)
+}
+
+/// How many of so many pixels are black, one above the other from the one behind pixel (x, y) up.
+fn black_above(page: &Bitmap, x: u32, y: u32, radius: u32, count: u32) -> u32
     requires y { y ≤ 32767 }
     requires count { count ≤ 8 }
     ensures value { result ≡ count_below count (λ j. behind (image_of page.now) radius x (y + j)) }

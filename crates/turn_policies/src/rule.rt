@@ -58,6 +58,9 @@ pub fn next(page: &Bitmap, edge: Edge, policy: Policy, sign: Sign) -> Edge
     ensures value { result ≡ next (image_of page.now) policy sign edge }
     ensures boundary { IsBoundary (image_of page.now) result }
 {
+    // A boundary edge lies on the page, so its end has small coordinates too.
+    let (width, height) = (page.width(), page.height());
+    prove!(edge.x <= width && edge.y <= height);
     let x = edge.end_x();
     let y = edge.end_y();
     let heading = turn_at(page, x, y, edge.heading, policy, sign);

@@ -1,4 +1,3 @@
-use Rattle.turn_policies.specs.Boundary.{left_pixel}
 use Rattle.turn_policies.proofs.Turning.{next_boundary, onwards}
 use Rattle.turn_policies.proofs.laws.edges_lead_on.Goals as goal
 
