@@ -1,2 +1,3 @@
 mod Cells
+mod Examples
 pub mod Pages

@@ -150,3 +150,62 @@ impl Bitmap {
         None
     }
 }
+
+#[cfg(test)]
+mod tests {
+    use super::*;
+    use std::test::Fail;
+
+    // .#.
+    // #.#
+    fn roof(alloc: Global) -> Result<Bitmap, NoMemory>
+        ensures { IfOk result (λ page. (page.width ≡ 3) × (page.height ≡ 2)) }
+    {
+        let mut page = Bitmap::new(alloc, 3, 2)?;
+        page.set(0, 0, true);
+        page.set(2, 0, true);
+        page.set(1, 1, true);
+        Ok(page)
+    }
+
+    #[test]
+    fn pixels_of_a_small_page(rt: HostRuntime) -> Result<(), Fail> {
+        let mut page = roof(rt.alloc())?;
+        assert_eq!(rt; (page.width(), page.height()), (3, 2));
+        let cases = [
+            (0, 0, true),
+            (1, 0, false),
+            (2, 0, true),
+            (0, 1, false),
+            (1, 1, true),
+            (3, 0, false),
+            (1, 2, false),
+            (-1, 0, false),
+            (0, -1, false),
+            (1 << 32, 0, false),
+            (1, i64::MAX, false),
+            (i64::MIN, 1, false),
+        ];
+        for (x, y, black) in cases {
+            assert_eq!(rt; page.get(x, y), black, "at {x}, {y}");
+        }
+        assert_eq!(rt; page.is_black(2, 0), true);
+        assert_eq!(rt; page.south_west(2, 2), true);
+        assert_eq!(rt; page.first_black(1), Some((1, 1)));
+        assert_eq!(rt; page.first_black(0), Some((0, 0)));
+
+        let copy = page.copy(rt.alloc())?;
+        page.flip_from(1, 0);
+        page.set(1, 1, false);
+        page.flip_from(3, 1);
+        for (x, now, then) in [(0, true, true), (1, true, false), (2, false, true)] {
+            assert_eq!(rt; page.get(x, 0), now, "at column {x}");
+            assert_eq!(rt; copy.get(x, 0), then, "of the copy at column {x}");
+        }
+        page.flip_from(0, 0);
+        page.set(2, 0, false);
+        assert_eq!(rt; page.first_black(1), None);
+        assert_eq!(rt; copy.get(1, 1), true);
+        Ok(())
+    }
+}
