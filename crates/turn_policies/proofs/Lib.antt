@@ -1,4 +1,5 @@
 pub mod Back
+mod Examples
 mod Majorities
 pub mod OnPage
 mod Rings

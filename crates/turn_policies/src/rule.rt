@@ -110,3 +110,93 @@ fn chooses_right(page: &Bitmap, x: u32, y: u32, policy: Policy, sign: Sign) -> b
         Policy::Minority => !major_at(page, x, y),
     }
 }
+
+#[cfg(test)]
+mod tests {
+    use super::*;
+    use crate::majority::major;
+    use pt_base::fault::NoMemory;
+    use std::alloc::Global;
+    use std::test::Fail;
+
+    // #.
+    // .#
+    fn diagonal(alloc: Global) -> Result<Bitmap, NoMemory> {
+        let mut page = Bitmap::new(alloc, 2, 2)?;
+        page.set(0, 1, true);
+        page.set(1, 0, true);
+        Ok(page)
+    }
+
+    // Eight by eight pixels:
+    // ##..
+    // ##..
+    // ..##
+    // ..##    each twice as wide and as high
+    fn quarters(alloc: Global) -> Result<Bitmap, NoMemory> {
+        let mut page = Bitmap::new(alloc, 8, 8)?;
+        for y in 0..4 {
+            page.flip_from(4, y);
+            page.flip_from(0, y + 4);
+            page.flip_from(4, y + 4);
+        }
+        Ok(page)
+    }
+
+    fn at(x: i32, y: i32) -> Point
+        ensures { result ≡ record { x = x; y = y } }
+    {
+        Point { x, y }
+    }
+
+    #[test]
+    fn turns_of_two_pages(rt: HostRuntime) -> Result<(), Fail> {
+        let page = diagonal(rt.alloc())?;
+        let cases = [
+            (Policy::Left, Sign::Plus, Dir::North),
+            (Policy::Right, Sign::Plus, Dir::South),
+            (Policy::Black, Sign::Plus, Dir::South),
+            (Policy::Black, Sign::Minus, Dir::North),
+            (Policy::White, Sign::Plus, Dir::North),
+            (Policy::White, Sign::Minus, Dir::South),
+            (Policy::Majority, Sign::Plus, Dir::North),
+            (Policy::Minority, Sign::Minus, Dir::South),
+        ];
+        for (policy, sign, to) in cases {
+            assert_eq!(rt;
+                turn(&page, at(1, 1), Dir::East, policy, sign),
+                to,
+                "{policy:?}, {sign:?}"
+            );
+        }
+        // At the page's edge, and beyond.
+        let cases = [
+            (0, 2, Dir::West, Dir::South),
+            (0, 1, Dir::South, Dir::East),
+            (2, 0, Dir::East, Dir::North),
+            (2, 1, Dir::North, Dir::West),
+            (32767, 32767, Dir::North, Dir::West),
+        ];
+        for (x, y, from, to) in cases {
+            assert_eq!(rt;
+                turn(&page, at(x, y), from, Policy::Minority, Sign::Plus),
+                to,
+                "at {x}, {y}"
+            );
+        }
+
+        let page = quarters(rt.alloc())?;
+        assert_eq!(rt; major(&page, at(4, 4)), false);
+        assert_eq!(rt;
+            turn(&page, at(4, 4), Dir::East, Policy::Majority, Sign::Plus),
+            Dir::North
+        );
+        assert_eq!(rt;
+            turn(&page, at(4, 4), Dir::West, Policy::Minority, Sign::Plus),
+            Dir::North
+        );
+        assert_eq!(rt; major(&page, at(6, 2)), true);
+        assert_eq!(rt; major(&page, at(8, 8)), false);
+        Ok(())
+    }
+}
