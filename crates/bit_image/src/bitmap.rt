@@ -85,7 +85,7 @@ impl Bitmap {
     pub fn get(&self, x: i64, y: i64) -> bool
         ensures { result ≡ pixel_at (image_of self.now) x y }
     {
-        // The width is touched, so that the proof sees that no page has a column or a row past a `u32`.
+        // The width is touched, so that the proof sees that no page has a row or a column past a `u32`.
         let _ = &self.width;
         match (u32::try_from(x), u32::try_from(y)) {
             (Ok(x), Ok(y)) => self.is_black(x, y),
@@ -116,7 +116,8 @@ impl Bitmap {
         requires column { x < self.old.width }
         requires row { y < self.old.height }
         ensures sides { SameSides self.old self.new }
-        ensures pixels { (u v : ℕ) → image_of self.new u v ≡ with_pixel (image_of self.old) x y black u v }
+        ensures pixels { (u v : ℕ)
+            → image_of self.new u v ≡ with_pixel (image_of self.old) x y black u v }
     {
         let place = y as usize * self.width as usize + x as usize;
         self.cells[place] = black;
@@ -134,11 +135,14 @@ impl Bitmap {
         row::invert(&mut self.cells[start + x as usize..start + self.width as usize]);
     }
 
-    /// The black pixel of the uppermost row up to row `from`, and there the leftmost: its column and row.
+    /// The column and the row of the first black pixel of rows `from` down to 0.
+    ///
+    /// It is the leftmost one of the uppermost of these rows that has one.
     pub fn first_black(&self, from: u32) -> Option<(u32, u32)>
         requires { from < self.now.height }
         ensures none { IsNone result ↔ IsWhiteTo (image_of self.now) from }
-        ensures first { IfSome result (λ place. IsFirstBlackFrom (image_of self.now) from place.0 place.1) }
+        ensures first { IfSome result (λ place.
+            IsFirstBlackFrom (image_of self.now) from place.0 place.1) }
     {
         let width = self.width as usize;
         for y in (0..from + 1).rev() {

@@ -1,8 +1,8 @@
 //! Pages of black and white pixels.
 //!
-//! Column 0 is the leftmost one and row 0 the lowest, and around a page all is white. Contracts see a
-//! page as its width, its height and its rows, and mostly through the image that it shows: a function
-//! from columns and rows to pixels.
+//! Column 0 is the leftmost one and row 0 the lowest, and around a page all is white. Contracts see
+//! a page as its width, its height and its rows, and mostly through the image that it shows: a
+//! function from columns and rows to pixels.
 //!
 //! ```text
 //!     row 1    . # .

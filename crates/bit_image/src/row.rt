@@ -15,7 +15,8 @@ pub fn first_black(row: &[bool]) -> Option<u32>
     requires { length row.now < 2 ^ 32 }
     ensures white { IsNone result → (k : ℕ) → slice_index_or row.now k false ≡ false }
     ensures black { IfSome result (λ x. slice_index_or row.now x false ≡ true) }
-    ensures left { IfSome result (λ x. (k : ℕ) → k < x → slice_index_or row.now k false ≡ false) }
+    ensures left { IfSome result (λ x.
+        (k : ℕ) → k < x → slice_index_or row.now k false ≡ false) }
 {
     for (x, pixel) in row.iter().enumerate() {
         if *pixel {

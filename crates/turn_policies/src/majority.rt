@@ -9,8 +9,8 @@ use pt_base::point::Point;
 
 /// Whether black is in the majority around a corner.
 ///
-/// The rings of 12, 20 and 28 pixels around the corner are asked in turn, and the first one with more of
-/// one colour decides. After three ties black isn't in the majority.
+/// The rings of 12, 20 and 28 pixels around the corner are asked in turn, and the first one with
+/// more of one colour decides. After three ties black isn't in the majority.
 ///
 /// ```text
 ///     4 4 4 4 4 4 4 4
@@ -65,8 +65,9 @@ fn black_in_ring_column(page: &Bitmap, x: u32, y: u32, radius: u32, column: u32)
     requires y { y ≤ 32767 }
     requires radius { radius ≤ 4 }
     requires column { column < 2 * radius }
-    ensures value { result
-        ≡ count_below (2 * radius) (λ j. is_rim (2 * radius) column j && behind (image_of page.now) radius (x + column) (y + j)) }
+    ensures value { result ≡ count_below (2 * radius) (λ j.
+        is_rim (2 * radius) column j
+        && behind (image_of page.now) radius (x + column) (y + j)) }
     ensures bound { result ≤ 8 }
 {
     let last = 2 * radius - 1;

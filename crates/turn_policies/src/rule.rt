@@ -1,5 +1,5 @@
 //! The table of turns.
-ghost use Rattle.std.specs.Prelude.{◌≡◌, ◌≢◌, ◌≤◌, suc, nat_abs};
+ghost use Rattle.std.specs.Prelude.{◌≡◌, ◌≤◌, nat_abs};
 ghost use Rattle.bit_image.specs.Image.{south_west};
 ghost use Rattle.bit_image.specs.Page.{image_of};
 ghost use Rattle.turn_policies.specs.Boundary.{left_pixel, right_pixel, IsBoundary};

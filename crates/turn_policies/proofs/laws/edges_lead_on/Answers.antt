@@ -1,3 +1,4 @@
+-- Each is a lemma.
 use Rattle.turn_policies.proofs.Turning.{next_boundary, onwards}
 use Rattle.turn_policies.proofs.laws.edges_lead_on.Goals as goal
 
