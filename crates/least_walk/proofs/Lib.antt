@@ -1,0 +1,5 @@
+pub mod Going
+pub mod Before
+pub mod Walks
+pub mod Onward
+pub mod Cheapest

@@ -1,0 +1,8 @@
+use Rattle.std.proofs.Common.{◌≡◌, ◌+◌, length}
+use Rattle.least_walk.specs.Suffix.{HasFewest}
+use Rattle.least_walk.proofs.suffixes.fill_counts.Given as goal
+
+abbrev pub invariant-loop-from : goal.invariant-loop-from
+invariant-loop-from g l =
+    let steps = g.S.Steps in
+    HasFewest (steps.size_of l.steps) (steps.is_allowed l.steps) l.from l.counts

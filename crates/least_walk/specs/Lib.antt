@@ -1,0 +1,2 @@
+pub mod LeastWalk
+pub mod Suffix
