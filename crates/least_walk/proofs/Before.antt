@@ -1,5 +1,5 @@
 -- The order of walks.
-use Rattle.std.proofs.Common.{◌≡◌, ℕ, suc, ◌+◌, ◌*◌, ◌^◌, ◌<◌, ◌≤◌, List, [], ◌∷◌, length, refl, ap, sym, ◌∙◌, inl, inr, arith}
+use Rattle.std.proofs.Common.{◌≡◌, ℕ, ◌<◌, List, ◌∷◌, refl, ap, sym, ◌∙◌, inl, inr, arith}
 use Rattle.std.specs.Ordering.{nat_cmp, ordering_reverse}
 use Rattle.std.specs.Cmp.Lexicographic.{slice_cmp}
 use Rattle.std.specs.declared.cmp.Ordering.{Ordering}
@@ -8,9 +8,9 @@ use Rattle.std.proofs.lemmas.Cmp.{nat_cmp_total, nat_list_cmp_total, tied_itself
 use Rattle.std.proofs.lemmas.Map.Lookups.{exact_bytes}
 use Rattle.std.proofs.lemmas.Bool.{cases_lt}
 use Rattle.std.proofs.lemmas.Bool.Decides.{nat_tests}
-use Rattle.least_walk.specs.LeastWalk.{Step, steps_from, step_count, total_cost, IsBefore}
+use Rattle.least_walk.specs.LeastWalk.{step_count, total_cost, IsBefore}
 use Rattle.least_walk.specs.LeastWalk.IsBefore.{by_steps, by_cost, by_list}
-use Rattle.least_walk.proofs.Going.{length-steps_from, total_cost-cons}
+use Rattle.least_walk.proofs.Going.{total_cost-cons}
 
 -- the greater of two numbers
 pub nat_cmp_above : (m n : ℕ) → n < m → nat_cmp m n ≡ Greater

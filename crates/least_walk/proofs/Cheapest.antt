@@ -1,7 +1,6 @@
 -- The cheapest step that keeps to the fewest, and what it leads to.
-use Rattle.std.proofs.Common.{◌≡◌, ℕ, ◌+◌, ◌*◌, ◌-◌, ◌^◌, ◌<◌, ◌≤◌, ◌⊎◌, List, ◌∷◌, length, inl, inr, refl, ◌∙◌, arith}
+use Rattle.std.proofs.Common.{◌≡◌, ℕ, ◌+◌, ◌-◌, ◌^◌, ◌<◌, ◌≤◌, ◌⊎◌, List, ◌∷◌, inl, inr, ◌∙◌, arith}
 use Rattle.std.specs.List.{slice_index}
-use Rattle.least_walk.specs.LeastWalk.{total_cost}
 use Rattle.least_walk.specs.Suffix.{IsLeastFrom, IsLeastCost, IsLeastNext, HasFewest, HasCosts}
 use Rattle.least_walk.proofs.Going.{goes_below, total_cost-cons, total_cost-below}
 use Rattle.least_walk.proofs.Onward.{some_fewest, least_onward}

@@ -3,3 +3,4 @@ pub mod Before
 pub mod Walks
 pub mod Onward
 pub mod Cheapest
+mod Examples

@@ -1,5 +1,5 @@
 -- How the least way to go on from an index follows from those of the later indices.
-use Rattle.std.proofs.Common.{◌≡◌, ℕ, suc, ◌+◌, ◌<◌, ◌≤◌, List, [], ◌∷◌, ◌++◌, length, append_assoc, refl, ap, sym, ◌∙◌, subst, inl, inr, arith}
+use Rattle.std.proofs.Common.{◌≡◌, ℕ, ◌+◌, ◌<◌, ◌≤◌, List, [], ◌∷◌, ◌++◌, length, append_assoc, refl, ap, sym, ◌∙◌, subst, inl, inr, arith}
 use Rattle.std.specs.List.{slice_index}
 use Rattle.std.specs.Ordering.{nat_cmp}
 use Rattle.std.specs.Cmp.Lexicographic.{slice_cmp}
@@ -101,11 +101,12 @@ module _ (size : ℕ) (is_allowed : ℕ → ℕ → Type 0) where
     pub goes_next : (i j : ℕ) (rest : List ℕ) → IsLeastFrom size is_allowed cost i rest → IsLeastNext size is_allowed cost i j → (after : List ℕ) × (rest ≡ j ∷ after) × IsLeastFrom size is_allowed cost j after
     goes_next i j rest least next = (next.rest, same_least i rest (j ∷ next.rest) least next.is_least, least_tail i j next.rest next.is_least)
 
-    -- the walk is kept, as its next index is written to the starts of its steps
-    pub walk_onward : (starts : List ℕ) (i j : ℕ) (rest : List ℕ) → IsLeastFrom size is_allowed cost i rest → IsLeastNext size is_allowed cost i j → IsLeast size is_allowed cost (starts ++ i ∷ rest) → (after : List ℕ) × IsLeastFrom size is_allowed cost j after × IsLeast size is_allowed cost ((starts ++ i ∷ []) ++ j ∷ after)
-    walk_onward starts i j rest least next walk =
+    -- the walk stays, as one index more is written down
+    pub walk_onward : (starts more : List ℕ) (i j : ℕ) (rest : List ℕ) → more ≡ starts ++ i ∷ [] → IsLeastFrom size is_allowed cost i rest → IsLeastNext size is_allowed cost i j → IsLeast size is_allowed cost (starts ++ i ∷ rest) → (after : List ℕ) × IsLeastFrom size is_allowed cost j after × IsLeast size is_allowed cost (more ++ j ∷ after)
+    walk_onward starts more i j rest pushed least next walk =
         let (after, same, after_least) = goes_next i j rest least next in
-        let regrouped : starts ++ i ∷ rest ≡ (starts ++ i ∷ []) ++ j ∷ after = ap (λ v. starts ++ i ∷ v) same ∙ sym (append_assoc starts (i ∷ []) (j ∷ after)) in
+        let regrouped : starts ++ i ∷ rest ≡ more ++ j ∷ after =
+          ap (λ v. starts ++ i ∷ v) same ∙ sym (append_assoc starts (i ∷ []) (j ∷ after)) ∙ sym (ap (λ v. v ++ j ∷ after) pushed) in
         (after, after_least, subst (IsLeast size is_allowed cost) regrouped walk)
 
     -- and at the end it is whole

@@ -1,5 +1,5 @@
 -- A walk is 0 and what goes on from there.
-use Rattle.std.proofs.Common.{◌≡◌, ℕ, suc, ◌+◌, ◌-◌, ◌<◌, List, [], ◌∷◌, ◌++◌, length, refl, ap, sym, ◌∙◌, subst, arith, Some, None, sub-one, length-append}
+use Rattle.std.proofs.Common.{◌≡◌, ℕ, ◌<◌, List, [], ◌∷◌, ◌++◌, length, refl, ap, sym, ◌∙◌, subst, arith, Some, sub-one, length-append}
 use Rattle.std.specs.List.{slice_get, All}
 use Rattle.std.proofs.lemmas.List.Elements.{All-nil, All-cons, All-head, All-tail}
 use Rattle.least_walk.specs.LeastWalk.{Step, steps_from, total_cost, IsWalk, IsLeast, IsBefore}
@@ -48,6 +48,10 @@ module _ (size : ℕ) (is_allowed : ℕ → ℕ → Type 0) where
       none_before = λ other other_walk before.
         let (after, same, goes) = goes_from_walk other other_walk in
         least.none_before after goes (subst (λ v. IsBefore cost v (0 ∷ rest)) same before) }
+
+  -- at first nothing is written down of it
+  pub walk_begun : (cost : ℕ → ℕ → ℕ) (starts rest : List ℕ) → starts ≡ [] → IsLeastFrom size is_allowed cost 0 rest → IsLeast size is_allowed cost (starts ++ 0 ∷ rest)
+  walk_begun cost starts rest none least = subst (λ v. IsLeast size is_allowed cost (v ++ 0 ∷ rest)) (sym none) (least_from_goes cost rest least)
 
   -- the least walk goes on from 0 as the least way does, so it has as many steps, and costs as much
   module _ (cost : ℕ → ℕ → ℕ) (starts : List ℕ) (walk : IsLeast size is_allowed cost (starts ++ size ∷ [])) where

@@ -14,3 +14,6 @@ pub mod laws;
 pub mod steps;
 mod suffixes;
 pub mod walk;
+
+#[cfg(test)]
+mod tests;

@@ -1,4 +1,4 @@
-use Rattle.std.proofs.Common.{◌≡◌, ℕ, ◌+◌, ◌-◌, ◌<◌, ◌≤◌, arith, get_or}
+use Rattle.std.proofs.Common.{arith, get_or}
 use Rattle.least_walk.proofs.Going.{fewest_below}
 use Rattle.least_walk.proofs.Cheapest.{cost_below, cheapest_onward}
 use Rattle.least_walk.proofs.suffixes.cheapest_from.Goals as goal

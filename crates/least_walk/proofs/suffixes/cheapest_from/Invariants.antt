@@ -1,4 +1,4 @@
-use Rattle.std.proofs.Common.{◌≡◌, ◌+◌, ℕ, get_or}
+use Rattle.std.proofs.Common.{◌≡◌, ◌+◌, get_or}
 use Rattle.least_walk.proofs.Cheapest.{IsCheapest}
 use Rattle.least_walk.proofs.suffixes.cheapest_from.Given as goal
 

@@ -1,4 +1,3 @@
-use Rattle.std.proofs.Common.{◌≡◌, ◌+◌, length}
 use Rattle.least_walk.specs.Suffix.{HasCosts, HasNexts}
 use Rattle.least_walk.proofs.suffixes.fill_costs.Given as goal
 

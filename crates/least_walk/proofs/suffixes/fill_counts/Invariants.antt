@@ -1,4 +1,3 @@
-use Rattle.std.proofs.Common.{◌≡◌, ◌+◌, length}
 use Rattle.least_walk.specs.Suffix.{HasFewest}
 use Rattle.least_walk.proofs.suffixes.fill_counts.Given as goal
 

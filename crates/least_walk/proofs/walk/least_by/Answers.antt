@@ -1,5 +1,5 @@
-use Rattle.std.proofs.Common.{◌≡◌, ◌∷◌, [], ◌++◌, length, ap, sym, ◌∙◌, subst, get_or, arith}
-use Rattle.least_walk.specs.LeastWalk.{IsLeast, total_cost}
+use Rattle.std.proofs.Common.{◌∷◌, [], ◌++◌, length, ap, sym, ◌∙◌, get_or, arith}
+use Rattle.least_walk.specs.LeastWalk.{total_cost}
 use Rattle.least_walk.proofs.Walks.{walk_cost, walk_count}
 use Rattle.least_walk.proofs.walk.least_by.Goals as goal
 
