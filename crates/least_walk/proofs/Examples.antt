@@ -1,7 +1,7 @@
 -- The definitions on pictures.
-use Rattle.std.proofs.Common.{◌≡◌, ℕ, ◌+◌, ◌*◌, ◌<◌, ◌≤◌, ◌⊎◌, List, [], ◌∷◌, suc, zero, refl, ap, subst, inl, inr, arith, lit<}
+use Rattle.std.proofs.Common.{◌≡◌, ℕ, ◌+◌, ◌*◌, ◌≤◌, ◌⊎◌, List, [], ◌∷◌, suc, zero, refl, ap, subst, inl, inr, arith, lit<}
 use Rattle.std.specs.List.{Contains}
-use Rattle.least_walk.specs.LeastWalk.{Step, steps_of, step_count, total_cost, IsBefore, IsWalk, IsFewest, IsFewestStep, walk_from}
+use Rattle.least_walk.specs.LeastWalk.{Step, steps_of, step_count, total_cost, IsBefore, IsFewest, IsFewestStep, walk_from}
 use Rattle.least_walk.specs.LeastWalk.IsBefore.{by_steps, by_cost, by_list}
 use Rattle.least_walk.specs.Suffix.{GoesOn}
 use Rattle.least_walk.proofs.Walks.{walk_from_goes, goes_from_walk}

@@ -9,7 +9,8 @@ use Rattle.least_walk.specs.LeastWalk.{total_cost, IsBefore, IsLeast}
 use Rattle.least_walk.specs.LeastWalk.IsBefore.{by_steps, by_cost, by_list}
 use Rattle.least_walk.specs.Suffix.{GoesOn, IsFewestFrom, IsLeastFrom, IsLeastCost, IsLeastNext, HasFewest, HasCosts}
 use Rattle.least_walk.proofs.Going.{goes_below, length-steps_from, total_cost-cons}
-use Rattle.least_walk.proofs.Before.{slice_cmp-cons, nat_cmp_above, not_before_itself, IsBefore-cons, same_from_neither}
+use Rattle.least_walk.proofs.Before.{slice_cmp-cons, nat_cmp_above, not_before_itself, IsBefore-cons}
+use Rattle.least_walk.specs.OneLeast.{same_from_neither}
 
 module _ (size : ℕ) (is_allowed : ℕ → ℕ → Type 0) where
   -- at the end there is nothing left to go

@@ -2,10 +2,16 @@
 use Rattle.std.proofs.Common.{◌≡◌, ℕ, ◌<◌, List, [], ◌∷◌, ◌++◌, length, refl, ap, sym, ◌∙◌, subst, arith, Some, sub-one, length-append}
 use Rattle.std.specs.List.{slice_get, All}
 use Rattle.std.proofs.lemmas.List.Elements.{All-nil, All-cons, All-head, All-tail}
-use Rattle.least_walk.specs.LeastWalk.{Step, steps_from, total_cost, IsWalk, IsLeast, IsBefore}
+use Rattle.least_walk.specs.LeastWalk.{Step, steps_from, step_count, total_cost, walk_from, IsWalk, IsLeast, IsBefore}
 use Rattle.least_walk.specs.Suffix.{GoesOn, IsFewestFrom, IsLeastFrom, IsLeastCost}
-use Rattle.least_walk.proofs.Before.{same_from_neither}
+use Rattle.least_walk.proofs.Going.{length-steps_from}
+use Rattle.least_walk.specs.OneLeast.{same_from_neither}
 use Rattle.least_walk.proofs.Onward.{length-least}
+
+-- a walk has as many steps as starts
+pub step_count-walk_from : (starts : List ℕ) (size : ℕ) → step_count (walk_from starts size) ≡ length starts
+step_count-walk_from [] size = refl
+step_count-walk_from (i ∷ rest) size = length-steps_from i (rest ++ size ∷ []) ∙ (simp (length-append) (omega arith))
 
 module _ (size : ℕ) (is_allowed : ℕ → ℕ → Type 0) where
   last_from_goes : (i : ℕ) (rest : List ℕ) → GoesOn size is_allowed i rest → slice_get (i ∷ rest) (length rest) ≡ Some size
@@ -63,6 +69,6 @@ module _ (size : ℕ) (is_allowed : ℕ → ℕ → Type 0) where
     pub walk_cost : (c : ℕ) → IsLeastCost size is_allowed cost 0 c → c ≡ total_cost cost (starts ++ size ∷ [])
     walk_cost c spent = sym (ap (total_cost cost) (same_walk spent.rest spent.is_least) ∙ spent.costs)
 
-    pub walk_count : (n c : ℕ) → IsFewestFrom size is_allowed 0 n → IsLeastCost size is_allowed cost 0 c → n ≡ length starts
-    walk_count n c fewest spent =
+    pub walk_length : (n c : ℕ) → IsFewestFrom size is_allowed 0 n → IsLeastCost size is_allowed cost 0 c → n ≡ length starts
+    walk_length n c fewest spent =
         omega (arith, length-least size is_allowed cost 0 n spent.rest spent.is_least fewest, ap length (same_walk spent.rest spent.is_least), length-append starts (size ∷ []))

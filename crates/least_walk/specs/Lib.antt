@@ -1,2 +1,3 @@
 pub mod LeastWalk
 pub mod Suffix
+pub mod OneLeast

@@ -1,7 +1,7 @@
 //! The least walk.
-ghost use Rattle.std.specs.Prelude.{◌≡◌, ◌+◌, ◌++◌, ◌∷◌, [], length, IfOk};
-ghost use Rattle.least_walk.specs.LeastWalk.{IsLeast, walk_from, total_cost, step_count};
-ghost use Rattle.least_walk.specs.Suffix.{HasNexts, IsLeastFrom};
+ghost use Rattle.std.specs.Prelude.{◌≡◌, ◌+◌, length, IfOk};
+ghost use Rattle.least_walk.specs.LeastWalk.{IsLeast, walk_from, step_count, total_cost};
+ghost use Rattle.least_walk.specs.Suffix.{HasFewest, HasCosts, HasNexts};
 
 use crate::indices::Indices;
 use crate::steps::Steps;
@@ -12,7 +12,7 @@ use std::alloc::Global;
 /// A walk from 0 to the size of its `Steps`.
 #[derive(Debug, Drop)]
 pub struct Walk {
-    /// Where each step begins: the walk without the size, at which it ends.
+    /// Where each step begins: all of the walk but the size, at which it ends.
     pub at: Indices,
     /// The number of steps.
     pub count: u32,
@@ -20,19 +20,21 @@ pub struct Walk {
     pub cost: u128,
 }
 
-/// The walk of fewest steps, of those the cheapest, and of those the lexicographically least.
+/// The walk of fewest steps; of several the cheapest, and of those the lexicographically least.
 //
-// Walks are compared from their end down: the least walk from an index goes by one step to an
-// index further on, and from there by the least walk from that one.
+// The least walk from an index goes by one step to a later index, and on from there by the least
+// walk from that one. So each array below is filled from its end down.
 //
 // 1. `counts`: the fewest steps from each index to the end.
-// 2. `costs` and `nexts`: of the steps that keep to the fewest, the cheapest one, and of those the
+// 2. `costs` and `nexts`: the cheapest of the steps that keep to the fewest, and of several the
 //    shortest.
-// 3. The walk goes from 0 by `nexts`.
+// 3. The walk goes from 0 on by `nexts`.
 pub fn least<S: Steps>(alloc: Global, steps: &S) -> Result<Walk, NoMemory>
     ensures least { IfOk result (λ walk. IsLeast (S.size_of steps.now) (S.is_allowed steps.now)
         (S.cost_of steps.now) (walk_from walk.at (S.size_of steps.now))) }
-    ensures count { IfOk result (λ walk. walk.count ≡ length walk.at) }
+    ensures starts { IfOk result (λ walk. walk.count ≡ length walk.at) }
+    ensures count { IfOk result (λ walk. walk.count
+        ≡ step_count (walk_from walk.at (S.size_of steps.now))) }
     ensures cost { IfOk result (λ walk. walk.cost
         ≡ total_cost (S.cost_of steps.now) (walk_from walk.at (S.size_of steps.now))) }
 {
@@ -40,49 +42,38 @@ pub fn least<S: Steps>(alloc: Global, steps: &S) -> Result<Walk, NoMemory>
     let mut counts = vec![in alloc; 0u32; places]?;
     let mut costs = vec![in alloc; 0u128; places]?;
     let mut nexts = vec![in alloc; 0u32; places]?;
-    least_by(alloc, steps, &mut counts, &mut costs, &mut nexts)
+    fill_counts(steps, &mut counts);
+    fill_costs(steps, &counts, &mut costs, &mut nexts);
+    walk_by(alloc, steps, &counts, &costs, &nexts)
 }
 
-/// The least walk, found in arrays with a place for each index.
-fn least_by<S: Steps>(
-    alloc: Global,
-    steps: &S,
-    counts: &mut [u32],
-    costs: &mut [u128],
-    nexts: &mut [u32],
-) -> Result<Walk, NoMemory>
-    requires counts { length counts.old ≡ S.size_of steps.now + 1 }
-    requires costs { length costs.old ≡ S.size_of steps.now + 1 }
-    requires nexts { length nexts.old ≡ S.size_of steps.now + 1 }
+/// The least walk, by what is known of each index.
+fn walk_by<S: Steps>(alloc: Global, steps: &S, counts: &[u32], costs: &[u128], nexts: &[u32]) -> Result<Walk, NoMemory>
+    requires count_places { length counts.now ≡ S.size_of steps.now + 1 }
+    requires cost_places { length costs.now ≡ S.size_of steps.now + 1 }
+    requires next_places { length nexts.now ≡ S.size_of steps.now + 1 }
+    requires counts { HasFewest (S.size_of steps.now) (S.is_allowed steps.now) 0 counts.now }
+    requires costs { HasCosts (S.size_of steps.now) (S.is_allowed steps.now) (S.cost_of steps.now) 0 costs.now }
+    requires nexts { HasNexts (S.size_of steps.now) (S.is_allowed steps.now) (S.cost_of steps.now) 0 nexts.now }
     ensures least { IfOk result (λ walk. IsLeast (S.size_of steps.now) (S.is_allowed steps.now)
         (S.cost_of steps.now) (walk_from walk.at (S.size_of steps.now))) }
-    ensures count { IfOk result (λ walk. walk.count ≡ length walk.at) }
+    ensures starts { IfOk result (λ walk. walk.count ≡ length walk.at) }
+    ensures count { IfOk result (λ walk. walk.count
+        ≡ step_count (walk_from walk.at (S.size_of steps.now))) }
     ensures cost { IfOk result (λ walk. walk.cost
         ≡ total_cost (S.cost_of steps.now) (walk_from walk.at (S.size_of steps.now))) }
 {
-    fill_counts(steps, counts);
-    fill_costs(steps, counts, costs, nexts);
-    let at = starts(alloc, steps, counts[0], nexts)?;
-    Ok(Walk {
-        at: Indices::from_vec(at),
-        count: counts[0],
-        cost: costs[0],
-    })
-}
-
-/// Where the steps of the least walk begin.
-fn starts<S: Steps>(alloc: Global, steps: &S, count: u32, nexts: &[u32]) -> Result<Vec<u32>, NoMemory>
-    requires places { length nexts.now ≡ S.size_of steps.now + 1 }
-    requires nexts { HasNexts (S.size_of steps.now) (S.is_allowed steps.now) (S.cost_of steps.now) 0 nexts.now }
-    ensures { IfOk result (λ at. IsLeast (S.size_of steps.now) (S.is_allowed steps.now)
-        (S.cost_of steps.now) (walk_from at.items (S.size_of steps.now))) }
-{
     let size = steps.size();
+    let count = counts[0];
     let mut at = Vec::with_capacity(alloc, count as usize)?;
     let mut from = 0;
     while from < size {
         at.push(from)?;
         from = nexts[from as usize];
     }
-    Ok(at)
+    Ok(Walk {
+        at: Indices::from_vec(at),
+        count,
+        cost: costs[0],
+    })
 }

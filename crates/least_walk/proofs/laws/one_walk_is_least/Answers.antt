@@ -1,6 +1,7 @@
-use Rattle.least_walk.proofs.Before.{same_from_neither}
+use Rattle.least_walk.specs.OneLeast.{one_least}
 use Rattle.least_walk.proofs.laws.one_walk_is_least.Goals as goal
 
 pub returns : goal.returns
-returns g c = λ v w v_least w_least.
-    same_from_neither (g.S.Steps.cost_of c.args.steps.now) v w (w_least.none_before v v_least.is_walk) (v_least.none_before w w_least.is_walk)
+returns g c =
+    let steps = c.args.steps.now in
+    one_least (g.S.Steps.size_of steps) (g.S.Steps.is_allowed steps) (g.S.Steps.cost_of steps)

@@ -1,7 +1,7 @@
 use Rattle.std.proofs.Common.{ℕ, ◌-◌, List, ◌∷◌, ◌++◌}
 use Rattle.least_walk.specs.LeastWalk.{IsLeast}
 use Rattle.least_walk.specs.Suffix.{IsLeastFrom}
-use Rattle.least_walk.proofs.walk.starts.Given as goal
+use Rattle.least_walk.proofs.walk.walk_by.Given as goal
 
 abbrev pub invariant-loop-from : goal.invariant-loop-from
 invariant-loop-from g l =
