@@ -1,4 +1,4 @@
--- The order of walks.
+-- The order of walks, where a step is put before them.
 use Rattle.std.proofs.Common.{◌≡◌, ℕ, ◌<◌, List, ◌∷◌, ◌∙◌, arith}
 use Rattle.std.specs.Ordering.{nat_cmp}
 use Rattle.std.specs.Cmp.Lexicographic.{slice_cmp}
@@ -24,8 +24,12 @@ not_before_itself cost v (by_cost tied cheaper) = omega arith
 not_before_itself cost v (by_list tied as_cheap lower) = let same = tied_itself nat_list_cmp_total v in cc
 
 -- a step put before both keeps their order
-pub IsBefore-cons : (cost : ℕ → ℕ → ℕ) (i j : ℕ) (v w : List ℕ) → IsBefore cost (j ∷ v) (j ∷ w) → IsBefore cost (i ∷ j ∷ v) (i ∷ j ∷ w)
+pub IsBefore-cons : (cost : ℕ → ℕ → ℕ) (i j : ℕ) (v w : List ℕ)
+    → IsBefore cost (j ∷ v) (j ∷ w)
+    → IsBefore cost (i ∷ j ∷ v) (i ∷ j ∷ w)
 IsBefore-cons cost i j v w (by_steps fewer) = by_steps (omega arith)
-IsBefore-cons cost i j v w (by_cost tied cheaper) = by_cost (omega arith) (omega (arith, total_cost-cons cost i j v, total_cost-cons cost i j w))
+IsBefore-cons cost i j v w (by_cost tied cheaper) =
+    by_cost (omega arith) (omega (arith, total_cost-cons cost i j v, total_cost-cons cost i j w))
 IsBefore-cons cost i j v w (by_list tied as_cheap lower) =
-    by_list (omega arith) (omega (arith, total_cost-cons cost i j v, total_cost-cons cost i j w)) (slice_cmp-cons i (j ∷ v) (j ∷ w) ∙ lower)
+    by_list (omega arith) (omega (arith, total_cost-cons cost i j v, total_cost-cons cost i j w))
+    (slice_cmp-cons i (j ∷ v) (j ∷ w) ∙ lower)

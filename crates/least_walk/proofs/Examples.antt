@@ -1,4 +1,4 @@
--- The definitions on pictures.
+-- The definitions of least walks, on pictures.
 use Rattle.std.proofs.Common.{◌≡◌, ℕ, ◌+◌, ◌*◌, ◌≤◌, ◌⊎◌, List, [], ◌∷◌, suc, zero, refl, ap, subst, inl, inr, arith, lit<}
 use Rattle.std.specs.List.{Contains}
 use Rattle.least_walk.specs.LeastWalk.{Step, steps_of, step_count, total_cost, IsBefore, IsFewest, IsFewestStep, walk_from}
@@ -65,10 +65,11 @@ two_at_least (i ∷ j ∷ rest) goes = omega arith
 by_one_is_fewest : IsFewest 3 IsShort by_one
 unfolding IsShort by_one
 by_one_is_fewest = record {
-    is_walk = walk_from_goes 3 IsShort (1 ∷ 3 ∷ []) (lit< tt, inl refl, (lit< tt, inr refl, refl));
-    none_fewer = λ other walk.
+  is_walk = walk_from_goes 3 IsShort (1 ∷ 3 ∷ []) (lit< tt, inl refl, (lit< tt, inr refl, refl));
+  none_fewer = λ other walk.
       let (rest, same, goes) = goes_from_walk 3 IsShort other walk in
-      omega (arith, two_at_least rest goes, ap step_count same) }
+      omega (arith, two_at_least rest goes, ap step_count same);
+}
 
 -- so the steps of these walks are fewest steps
 first_step : IsFewestStep 3 IsShort 0 1
@@ -76,7 +77,8 @@ unfolding by_one
 first_step = record { walk = by_one; is_fewest = by_one_is_fewest; goes = (0, lit< tt, refl) }
 
 -- and the one from 1 to 2 is on no walk of fewest steps
-not_between : (rest : List ℕ) → GoesOn 3 IsShort 0 rest → step_count (0 ∷ rest) ≤ 2 → ¬ Contains (steps_of (0 ∷ rest)) (record { from = 1; to = 2 })
+not_between : (rest : List ℕ) → GoesOn 3 IsShort 0 rest → step_count (0 ∷ rest) ≤ 2
+    → ¬ Contains (steps_of (0 ∷ rest)) (record { from = 1; to = 2 })
 unfolding IsShort
 not_between [] goes few (k, below, here) = omega arith
 not_between (i ∷ []) goes few (zero, below, here) = omega (arith, ap (λ (step : Step). step.from) here)
@@ -91,4 +93,5 @@ unfolding by_one
 middle_step step =
     let (rest, same, goes) = goes_from_walk 3 IsShort step.walk step.is_fewest.is_walk in
     let few : step_count step.walk ≤ 2 = step.is_fewest.none_fewer by_one by_one_is_fewest.is_walk in
-    not_between rest goes (omega (arith, ap step_count same)) (subst (λ walk. Contains (steps_of walk) (record { from = 1; to = 2 })) same step.goes)
+    not_between rest goes (omega (arith, ap step_count same))
+    (subst (λ walk. Contains (steps_of walk) (record { from = 1; to = 2 })) same step.goes)

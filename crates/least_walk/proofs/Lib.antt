@@ -3,4 +3,5 @@ pub mod Before
 pub mod Walks
 pub mod Onward
 pub mod Cheapest
+pub mod Written
 mod Examples

@@ -1,8 +1,9 @@
 -- Least walks: fewest steps, then least cost, then the lexicographically least list. With possible
--- segments as steps and their penalties as costs this is the optimal polygon of Selinger, "Potrace: a
--- polygon-based tracing algorithm", 2003, section 2.2.4; the third key is added here, so that a least
--- walk is one list.
-use Rattle.std.specs.Prelude.{◌≡◌, ℕ, ◌-◌, ◌<◌, ◌≤◌, List, [], ◌∷◌, ◌++◌, length, slice_get, Some, All, Contains, sum_by}
+-- segments for steps, and their penalties for costs, this is the optimal polygon of Selinger,
+-- "Potrace: a polygon-based tracing algorithm", 2003, sections 2.2.2 to 2.2.4. The third key is our
+-- own: it makes the least walk one list.
+use Rattle.std.specs.Prelude.{◌≡◌, ℕ, ◌-◌, ◌<◌, ◌≤◌, List, [], ◌∷◌, ◌++◌, length, slice_get}
+use Rattle.std.specs.Prelude.{Some, All, Contains, sum_by}
 use Rattle.std.specs.Ordering.{nat_cmp}
 use Rattle.std.specs.Cmp.Lexicographic.{slice_cmp}
 use Rattle.std.specs.declared.cmp.Ordering.TheVariants.{Less}
@@ -12,7 +13,7 @@ pub record Step : Type 0 where
   pub from : ℕ
   pub to : ℕ
 
--- the steps of a walk from this index on by these
+-- the steps of a walk that goes from this index on by these
 abbrev pub steps_from : ℕ → List ℕ → List Step
 steps_from i [] = []
 steps_from i (j ∷ rest) = record { from = i; to = j } ∷ steps_from j rest
@@ -41,18 +42,25 @@ pub record IsWalk (size : ℕ) (is_allowed : ℕ → ℕ → Type 0) (walk : Lis
 -- lexicographically lower list
 pub data IsBefore (cost : ℕ → ℕ → ℕ) (v w : List ℕ) : Type 0 where
   by_steps : step_count v < step_count w → IsBefore cost v w
-  by_cost : step_count v ≡ step_count w → total_cost cost v < total_cost cost w → IsBefore cost v w
-  by_list : step_count v ≡ step_count w → total_cost cost v ≡ total_cost cost w → slice_cmp nat_cmp v w ≡ Less → IsBefore cost v w
+  by_cost : step_count v ≡ step_count w
+      → total_cost cost v < total_cost cost w
+      → IsBefore cost v w
+  by_list : step_count v ≡ step_count w
+      → total_cost cost v ≡ total_cost cost w
+      → slice_cmp nat_cmp v w ≡ Less
+      → IsBefore cost v w
 
 -- it is a walk, and no walk comes before it
-pub record IsLeast (size : ℕ) (is_allowed : ℕ → ℕ → Type 0) (cost : ℕ → ℕ → ℕ) (walk : List ℕ) : Type 0 where
+pub record IsLeast (size : ℕ) (is_allowed : ℕ → ℕ → Type 0) (cost : ℕ → ℕ → ℕ) (walk : List ℕ)
+    : Type 0 where
   pub is_walk : IsWalk size is_allowed walk
   pub none_before : (other : List ℕ) → IsWalk size is_allowed other → ¬ IsBefore cost other walk
 
 -- it is a walk, and no walk has fewer steps
 pub record IsFewest (size : ℕ) (is_allowed : ℕ → ℕ → Type 0) (walk : List ℕ) : Type 0 where
   pub is_walk : IsWalk size is_allowed walk
-  pub none_fewer : (other : List ℕ) → IsWalk size is_allowed other → step_count walk ≤ step_count other
+  pub none_fewer : (other : List ℕ) → IsWalk size is_allowed other
+      → step_count walk ≤ step_count other
 
 -- a fewest step: some walk of fewest steps goes from i to j
 pub record IsFewestStep (size : ℕ) (is_allowed : ℕ → ℕ → Type 0) (i j : ℕ) : Type 0 where

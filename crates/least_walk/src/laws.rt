@@ -10,8 +10,7 @@ pub fn one_walk_is_least<S: Steps>(steps: &S)
         → IsLeast (S.size_of steps.now) (S.is_allowed steps.now) (S.cost_of steps.now) v
         → IsLeast (S.size_of steps.now) (S.is_allowed steps.now) (S.cost_of steps.now) w
         → v ≡ w }
-{
-}
+{}
 
 /// Each step of the least walk is a fewest step.
 pub fn least_walk_keeps_to_fewest_steps<S: Steps>(steps: &S)
@@ -19,5 +18,4 @@ pub fn least_walk_keeps_to_fewest_steps<S: Steps>(steps: &S)
         → IsLeast (S.size_of steps.now) (S.is_allowed steps.now) (S.cost_of steps.now) walk
         → Contains (steps_of walk) step
         → IsFewestStep (S.size_of steps.now) (S.is_allowed steps.now) step.from step.to }
-{
-}
+{}

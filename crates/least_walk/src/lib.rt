@@ -13,7 +13,6 @@ pub mod indices;
 pub mod laws;
 pub mod steps;
 mod suffixes;
-pub mod walk;
-
 #[cfg(test)]
 mod tests;
+pub mod walk;

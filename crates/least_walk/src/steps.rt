@@ -3,26 +3,28 @@ ghost use Rattle.std.specs.Prelude.{◌≡◌, ℕ, ◌+◌, ◌^◌, ◌<◌, �
 
 /// The steps that a walk from 0 to `size` may take, and what each costs.
 ///
-/// Walks only go up, and the step from each index to the next one is allowed, so there is always
+/// Steps lead onwards only, and each index has an allowed step to the next one: so there is always
 /// a walk.
 pub trait Steps {
     /// The index at which a walk ends.
     ghost size_of: { Self → ℕ };
 
-    /// No step from an index leads beyond this one.
+    /// The index beyond which no step leads from this one.
     ghost last_of: { Self → ℕ → ℕ };
 
     /// The step from the first index to the second is allowed.
     ghost is_allowed: { Self → ℕ → ℕ → Type 0 };
 
-    /// What an allowed step costs.
+    /// What the step from the first index to the second costs.
     ghost cost_of: { Self → ℕ → ℕ → ℕ };
 
     /// The index at which a walk ends; it begins at 0.
     fn size(&self) -> u32
         ensures { result ≡ size_of self.now };
 
-    /// An index beyond which no step from `from` leads.
+    /// An index beyond which no step leads from this one.
+    ///
+    /// Each index up to it is looked at, so the nearer it is, the faster the search.
     fn last(&self, from: u32) -> u32
         requires { from < size_of self.now }
         ensures { result ≡ last_of self.now from };
@@ -38,20 +40,32 @@ pub trait Steps {
         requires { is_allowed self.now from to }
         ensures { result ≡ cost_of self.now from to };
 
+    /// There is at least one step to go.
     ghost least_size: { (steps : Self) → 1 ≤ size_of steps };
 
+    /// An index fits 32 bits, and so does the place after it.
     ghost greatest_size: { (steps : Self) → size_of steps ≤ 2 ^ 31 };
 
-    /// From each index before the end a step may lead onwards, and none leads beyond the end.
+    /// From each index before the end a step may lead onwards,
     ghost last_is_beyond: { (steps : Self) (i : ℕ) → i < size_of steps → i < last_of steps i };
-    ghost last_is_within: { (steps : Self) (i : ℕ) → i < size_of steps → last_of steps i ≤ size_of steps };
 
-    /// A step to the next index is always allowed.
-    ghost next_is_allowed: { (steps : Self) (i : ℕ) → i < size_of steps → is_allowed steps i (i + 1) };
+    /// and none leads beyond the end.
+    ghost last_is_within: { (steps : Self) (i : ℕ)
+        → i < size_of steps → last_of steps i ≤ size_of steps };
 
-    /// An allowed step leads onwards, and at most to the last index.
-    ghost allowed_goes_up: { (steps : Self) (i j : ℕ) → i < size_of steps → is_allowed steps i j → i < j };
-    ghost allowed_ends_at_last: { (steps : Self) (i j : ℕ) → i < size_of steps → is_allowed steps i j → j ≤ last_of steps i };
+    /// The step to the next index is allowed.
+    ghost next_is_allowed: { (steps : Self) (i : ℕ)
+        → i < size_of steps → is_allowed steps i (i + 1) };
 
-    ghost greatest_cost: { (steps : Self) (i j : ℕ) → i < size_of steps → is_allowed steps i j → cost_of steps i j < 2 ^ 56 };
+    /// An allowed step leads onwards,
+    ghost allowed_goes_up: { (steps : Self) (i j : ℕ)
+        → i < size_of steps → is_allowed steps i j → i < j };
+
+    /// and at most to the last index.
+    ghost allowed_ends_at_last: { (steps : Self) (i j : ℕ)
+        → i < size_of steps → is_allowed steps i j → j ≤ last_of steps i };
+
+    /// The costs of all steps of a walk together fit 128 bits.
+    ghost greatest_cost: { (steps : Self) (i j : ℕ)
+        → i < size_of steps → is_allowed steps i j → cost_of steps i j < 2 ^ 56 };
 }

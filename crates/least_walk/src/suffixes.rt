@@ -1,19 +1,20 @@
-//! The least walks from each index on to the end, from the last index down to the first.
+//! The least way to go on from each index, from the last index down to the first.
 ghost use Rattle.std.specs.Prelude.{◌≡◌, ◌+◌, ◌<◌, length};
-ghost use Rattle.least_walk.specs.Suffix.{HasFewest, HasCosts, HasNexts, IsFewestFrom, IsLeastCost, IsLeastNext};
+ghost use Rattle.least_walk.specs.Suffix.{HasFewest, HasCosts, HasNexts, IsFewestFrom};
+ghost use Rattle.least_walk.specs.Suffix.{IsLeastCost, IsLeastNext};
 
 use crate::steps::Steps;
 
-/// The cheapest of the steps that keep to the fewest.
+/// A step to go on by.
 #[derive(Clone, Copy)]
 struct Onward {
-    /// What the walk costs from here to the end.
+    /// What the walk costs from this step on to the end.
     cost: u128,
-    /// The index to which the step leads.
+    /// Where the step leads.
     next: u32,
 }
 
-/// Writes the fewest steps from each index to the end.
+/// Writes down the fewest steps from each index to the end.
 pub(crate) fn fill_counts<S: Steps>(steps: &S, counts: &mut [u32])
     requires { length counts.old ≡ S.size_of steps.now + 1 }
     ensures { HasFewest (S.size_of steps.now) (S.is_allowed steps.now) 0 counts.new }
@@ -25,14 +26,15 @@ pub(crate) fn fill_counts<S: Steps>(steps: &S, counts: &mut [u32])
     }
 }
 
-/// The fewest steps from this index to the end, by those from each later index.
+/// The fewest steps from this index to the end, by those from each later one.
 //
-// The farthest steps come first: they mostly leave the fewest, so most others are out by their
-// count alone, and are not tested.
+// The farthest index comes first: from there the fewest steps are left in most cases, and then the
+// nearer ones are out by their counts alone.
 fn fewest_from<S: Steps>(steps: &S, from: u32, counts: &[u32]) -> u32
     requires from { from < S.size_of steps.now }
     requires places { length counts.now ≡ S.size_of steps.now + 1 }
-    requires later { HasFewest (S.size_of steps.now) (S.is_allowed steps.now) (from + 1) counts.now }
+    requires later { HasFewest (S.size_of steps.now) (S.is_allowed steps.now)
+        (from + 1) counts.now }
     ensures { IsFewestFrom (S.size_of steps.now) (S.is_allowed steps.now) from result }
 {
     let mut fewest = counts[from as usize + 1] + 1;
@@ -45,14 +47,16 @@ fn fewest_from<S: Steps>(steps: &S, from: u32, counts: &[u32]) -> u32
     fewest
 }
 
-/// Writes the cost of the least walk from each index to the end, and where its first step leads.
+/// Writes down what the least walk from each index to the end costs, and where it goes first.
 pub(crate) fn fill_costs<S: Steps>(steps: &S, counts: &[u32], costs: &mut [u128], nexts: &mut [u32])
-    requires counts { length counts.now ≡ S.size_of steps.now + 1 }
-    requires costs { length costs.old ≡ S.size_of steps.now + 1 }
-    requires nexts { length nexts.old ≡ S.size_of steps.now + 1 }
+    requires count_places { length counts.now ≡ S.size_of steps.now + 1 }
+    requires cost_places { length costs.old ≡ S.size_of steps.now + 1 }
+    requires next_places { length nexts.old ≡ S.size_of steps.now + 1 }
     requires fewest { HasFewest (S.size_of steps.now) (S.is_allowed steps.now) 0 counts.now }
-    ensures costs { HasCosts (S.size_of steps.now) (S.is_allowed steps.now) (S.cost_of steps.now) 0 costs.new }
-    ensures nexts { HasNexts (S.size_of steps.now) (S.is_allowed steps.now) (S.cost_of steps.now) 0 nexts.new }
+    ensures costs { HasCosts (S.size_of steps.now) (S.is_allowed steps.now) (S.cost_of steps.now)
+        0 costs.new }
+    ensures nexts { HasNexts (S.size_of steps.now) (S.is_allowed steps.now) (S.cost_of steps.now)
+        0 nexts.new }
 {
     let size = steps.size();
     costs[size as usize] = 0;
@@ -63,24 +67,28 @@ pub(crate) fn fill_costs<S: Steps>(steps: &S, counts: &[u32], costs: &mut [u128]
     }
 }
 
-/// The cheapest step from this index that keeps to the fewest; the shortest of several.
+/// The cheapest of the steps from this index that keep to the fewest, and of several the shortest.
 fn cheapest_from<S: Steps>(steps: &S, from: u32, counts: &[u32], costs: &[u128]) -> Onward
     requires from { from < S.size_of steps.now }
-    requires counts { length counts.now ≡ S.size_of steps.now + 1 }
-    requires costs { length costs.now ≡ S.size_of steps.now + 1 }
+    requires count_places { length counts.now ≡ S.size_of steps.now + 1 }
+    requires cost_places { length costs.now ≡ S.size_of steps.now + 1 }
     requires fewest { HasFewest (S.size_of steps.now) (S.is_allowed steps.now) 0 counts.now }
-    requires later { HasCosts (S.size_of steps.now) (S.is_allowed steps.now) (S.cost_of steps.now) (from + 1) costs.now }
-    ensures cost { IsLeastCost (S.size_of steps.now) (S.is_allowed steps.now) (S.cost_of steps.now) from result.cost }
-    ensures next { IsLeastNext (S.size_of steps.now) (S.is_allowed steps.now) (S.cost_of steps.now) from result.next }
+    requires later { HasCosts (S.size_of steps.now) (S.is_allowed steps.now) (S.cost_of steps.now)
+        (from + 1) costs.now }
+    ensures cost { IsLeastCost (S.size_of steps.now) (S.is_allowed steps.now) (S.cost_of steps.now)
+        from result.cost }
+    ensures next { IsLeastNext (S.size_of steps.now) (S.is_allowed steps.now) (S.cost_of steps.now)
+        from result.next }
 {
-    // Above what any walk costs, until a step is found.
+    let count = counts[from as usize];
+    // Until a step is found, the cost is above that of any walk.
     let mut cheapest = Onward {
         cost: u128::MAX,
         next: from,
     };
-    let count = counts[from as usize];
     for to in from + 1..steps.last(from) + 1 {
         let rest = costs[to as usize];
+        // What is dearer without the step already is out before the step is looked at.
         if counts[to as usize] + 1 == count && rest < cheapest.cost && steps.allowed(from, to) {
             let cost = u128::from(steps.cost(from, to)) + rest;
             if cost < cheapest.cost {

@@ -6,21 +6,27 @@ mod table;
 use crate::walk::least;
 use chain::Chain;
 use std::test::Fail;
-use table::Table;
+use table::{Listed, Table};
 
 #[test]
 fn fewest_then_cheapest_then_lowest(rt: HostRuntime) -> Result<(), Fail> {
-    let none: &[(u32, u32, u64)] = &[];
-    let cases: [(&str, u32, &[(u32, u32, u64)], &[u32], u128); 9] = [
-        ("size one", 1, none, &[0], 0),
-        ("a cost", 1, &[(0, 1, 7)], &[0], 7),
-        ("size two", 2, none, &[0, 1], 0),
-        ("fewer steps at any cost", 2, &[(0, 1, 1), (1, 2, 1), (0, 2, 900)], &[0], 900),
-        ("the cheaper of as many", 3, &[(0, 1, 3), (1, 3, 3), (0, 2, 4), (2, 3, 1)], &[0, 2], 5),
-        ("the lower of as cheap", 3, &[(0, 1, 1), (1, 3, 4), (0, 2, 4), (2, 3, 1)], &[0, 1], 5),
-        ("the lower at a later index", 5, &[(0, 2, 9), (2, 4, 2), (4, 5, 2), (2, 3, 2), (3, 5, 2), (0, 1, 9)], &[0, 2, 3], 13),
-        ("not the farthest step", 5, &[(0, 3, 0), (0, 2, 0), (2, 5, 0)], &[0, 2], 0),
-        ("no step past the gap", 4, &[(0, 2, 1), (0, 4, 5)], &[0], 5),
+    let priced: &[Listed] = &[(0, 1, 7)];
+    let fewer: &[Listed] = &[(0, 1, 1), (1, 2, 1), (0, 2, 900)];
+    let cheaper: &[Listed] = &[(0, 1, 3), (1, 3, 3), (0, 2, 4), (2, 3, 1)];
+    let lower: &[Listed] = &[(0, 1, 1), (1, 3, 4), (0, 2, 4), (2, 3, 1)];
+    let later: &[Listed] = &[(0, 2, 9), (2, 4, 2), (4, 5, 2), (2, 3, 2), (3, 5, 2)];
+    let nearer: &[Listed] = &[(0, 3, 0), (0, 2, 0), (2, 5, 0)];
+    let gap: &[Listed] = &[(0, 2, 1), (0, 4, 5)];
+    let cases: [(&str, u32, &[Listed], &[u32], u128); 9] = [
+        ("size one", 1, &[], &[0], 0),
+        ("size one, at a price", 1, priced, &[0], 7),
+        ("size two", 2, &[], &[0, 1], 0),
+        ("fewer steps at any cost", 2, fewer, &[0], 900),
+        ("cheaper, and not lower", 3, cheaper, &[0, 2], 5),
+        ("as cheap, and lower", 3, lower, &[0, 1], 5),
+        ("as cheap, and later lower", 5, later, &[0, 2, 3], 13),
+        ("not by the farthest step", 5, nearer, &[0, 2], 0),
+        ("past a gap", 4, gap, &[0], 5),
     ];
     for (case, size, listed, at, cost) in cases {
         assert!(rt; 1 <= size && size <= 5);
@@ -36,9 +42,11 @@ fn fewest_then_cheapest_then_lowest(rt: HostRuntime) -> Result<(), Fail> {
 fn a_chain_has_one_walk(rt: HostRuntime) -> Result<(), Fail> {
     for size in [1, 2, 100_000] {
         let walk = least(rt.alloc(), &Chain::new(size))?;
+        let cost = u128::from(size) * u128::from(Chain::COST);
         assert_eq!(rt; walk.count, size);
-        assert_eq!(rt; walk.cost, u128::from(size) * u128::from(Chain::COST), "of {size}");
-        assert!(rt; walk.at.into_vec().into_iter().eq(0..size), "of {size}");
+        assert_eq!(rt; walk.cost, cost, "of {size}");
+        let starts = walk.at.into_vec();
+        assert!(rt; starts.into_iter().eq(0..size), "of {size}");
     }
     Ok(())
 }

@@ -48,13 +48,21 @@ pub fn least<S: Steps>(alloc: Global, steps: &S) -> Result<Walk, NoMemory>
 }
 
 /// The least walk, by what is known of each index.
-fn walk_by<S: Steps>(alloc: Global, steps: &S, counts: &[u32], costs: &[u128], nexts: &[u32]) -> Result<Walk, NoMemory>
+fn walk_by<S: Steps>(
+    alloc: Global,
+    steps: &S,
+    counts: &[u32],
+    costs: &[u128],
+    nexts: &[u32],
+) -> Result<Walk, NoMemory>
     requires count_places { length counts.now ≡ S.size_of steps.now + 1 }
     requires cost_places { length costs.now ≡ S.size_of steps.now + 1 }
     requires next_places { length nexts.now ≡ S.size_of steps.now + 1 }
     requires counts { HasFewest (S.size_of steps.now) (S.is_allowed steps.now) 0 counts.now }
-    requires costs { HasCosts (S.size_of steps.now) (S.is_allowed steps.now) (S.cost_of steps.now) 0 costs.now }
-    requires nexts { HasNexts (S.size_of steps.now) (S.is_allowed steps.now) (S.cost_of steps.now) 0 nexts.now }
+    requires costs { HasCosts (S.size_of steps.now) (S.is_allowed steps.now) (S.cost_of steps.now)
+        0 costs.now }
+    requires nexts { HasNexts (S.size_of steps.now) (S.is_allowed steps.now) (S.cost_of steps.now)
+        0 nexts.now }
     ensures least { IfOk result (λ walk. IsLeast (S.size_of steps.now) (S.is_allowed steps.now)
         (S.cost_of steps.now) (walk_from walk.at (S.size_of steps.now))) }
     ensures starts { IfOk result (λ walk. walk.count ≡ length walk.at) }

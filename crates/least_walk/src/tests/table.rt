@@ -1,14 +1,17 @@
 //! A table of steps.
-ghost use Rattle.std.specs.Prelude.{◌≡◌, ◌+◌, ◌-◌, ◌^◌, ◌<◌, ◌≤◌, ◌⊎◌, ◌==◌, ◌&&◌, find, IsSome, unwrap_or, min, option_map};
+ghost use Rattle.std.specs.Prelude.{◌≡◌, ◌+◌, ◌-◌, ◌^◌, ◌<◌, ◌≤◌, ◌⊎◌, ◌==◌, ◌&&◌};
+ghost use Rattle.std.specs.Prelude.{find, IsSome, unwrap_or, min, option_map};
 
 use crate::steps::Steps;
 
-/// The steps of one, which cost nothing where they aren't listed, and those that are listed: from,
-/// to and cost.
+/// A step's ends and what it costs.
+pub(super) type Listed = (u32, u32, u64);
+
+/// The steps of one, which cost nothing if they aren't listed, and those that are listed.
 #[derive(Drop)]
 pub(super) struct Table<'a> {
     size: u32,
-    listed: &'a [(u32, u32, u64)],
+    listed: &'a [Listed],
     ghost some: { 1 ≤ size },
     ghost few: { size ≤ 2 ^ 31 },
 }
@@ -16,7 +19,7 @@ pub(super) struct Table<'a> {
 impl<'a> Table<'a> {
     const GREATEST: u64 = (1 << 56) - 1;
 
-    pub(super) fn new(size: u32, listed: &'a [(u32, u32, u64)]) -> Table<'a>
+    pub(super) fn new(size: u32, listed: &'a [Listed]) -> Table<'a>
         requires some { 1 ≤ size }
         requires few { size ≤ 2 ^ 31 }
     {
@@ -24,7 +27,8 @@ impl<'a> Table<'a> {
     }
 
     fn listed_cost(&self, from: u32, to: u32) -> Option<u64>
-        ensures { result ≡ option_map (λ step. step.2) (find (λ step. (step.0 == from) && (step.1 == to)) self.now.listed.now) }
+        ensures { result ≡ option_map (λ step. step.2)
+            (find (λ step. (step.0 == from) && (step.1 == to)) self.now.listed.now) }
     {
         self.listed
             .iter()
@@ -43,8 +47,8 @@ impl Steps for Table<'_> {
     ghost is_allowed = { λ t i j. (i < j) × (j ≤ t.size)
         × ((j ≡ i + 1) ⊎ IsSome (find (λ step. (step.0 == i) && (step.1 == j)) t.listed.now)) };
 
-    ghost cost_of = { λ t i j. min (2 ^ 56 - 1)
-        (unwrap_or (option_map (λ step. step.2) (find (λ step. (step.0 == i) && (step.1 == j)) t.listed.now)) 0) };
+    ghost cost_of = { λ t i j. min (2 ^ 56 - 1) (unwrap_or (option_map (λ step. step.2)
+        (find (λ step. (step.0 == i) && (step.1 == j)) t.listed.now)) 0) };
 
     fn size(&self) -> u32 {
         self.size
