@@ -1,11 +1,12 @@
 //! The least walk through a table of steps: fewest steps, then least cost, then the
 //! lexicographically least list.
 //!
-//! A walk leads from index 0 up to the table's size, by steps that the table allows and prices.
+//! A walk leads from 0 up to the table's size, by steps that the table allows and prices.
 //!
 //! ```text
-//!     0 ---- 1 ---- 2 ---- 3     a step of one is always allowed
-//!     \____________/             and here also the one from 0 to 2
+//!     0 ----- 1 ----- 2 ----- 3     The steps of one are always allowed, and here the one from 0
+//!      \_____________/              to 2 is too. Of the two walks, 0 1 2 3 and 0 2 3, the second
+//!                                   is the least, since it has fewer steps.
 //! ```
 #![tactic(auto)]
 

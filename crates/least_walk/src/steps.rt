@@ -40,16 +40,16 @@ pub trait Steps {
         requires { is_allowed self.now from to }
         ensures { result ≡ cost_of self.now from to };
 
-    /// There is at least one step to go.
+    /// A walk has at least one step.
     ghost least_size: { (steps : Self) → 1 ≤ size_of steps };
 
-    /// An index fits 32 bits, and so does the place after it.
+    /// An index fits 32 bits, and so does the number after it.
     ghost greatest_size: { (steps : Self) → size_of steps ≤ 2 ^ 31 };
 
-    /// From each index before the end a step may lead onwards,
+    /// From each index before the end a step may lead onwards.
     ghost last_is_beyond: { (steps : Self) (i : ℕ) → i < size_of steps → i < last_of steps i };
 
-    /// and none leads beyond the end.
+    /// No step leads beyond the end.
     ghost last_is_within: { (steps : Self) (i : ℕ)
         → i < size_of steps → last_of steps i ≤ size_of steps };
 
@@ -57,15 +57,15 @@ pub trait Steps {
     ghost next_is_allowed: { (steps : Self) (i : ℕ)
         → i < size_of steps → is_allowed steps i (i + 1) };
 
-    /// An allowed step leads onwards,
+    /// An allowed step leads onwards.
     ghost allowed_goes_up: { (steps : Self) (i j : ℕ)
         → i < size_of steps → is_allowed steps i j → i < j };
 
-    /// and at most to the last index.
+    /// An allowed step leads no farther than to the last index.
     ghost allowed_ends_at_last: { (steps : Self) (i j : ℕ)
         → i < size_of steps → is_allowed steps i j → j ≤ last_of steps i };
 
-    /// The costs of all steps of a walk together fit 128 bits.
+    /// So the steps of a walk together cost less than 2^87.
     ghost greatest_cost: { (steps : Self) (i j : ℕ)
         → i < size_of steps → is_allowed steps i j → cost_of steps i j < 2 ^ 56 };
 }
