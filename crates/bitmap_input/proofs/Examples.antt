@@ -1,0 +1,108 @@
+-- The definitions on small files, most of them made by hand for a format's edge.
+use Rattle.std.proofs.Common.{◌≡◌, refl, ℕ, suc, Bool, true, false, List, [], ◌∷◌, ◌++◌, replicate}
+use Rattle.std.specs.Prelude.{codes}
+use Rattle.bitmap_input.specs.Cut.{Kind, Ending, Cut, is_by_end}
+use Rattle.bitmap_input.specs.Cut.Kind.{UnknownFormat, BadHeader, ZeroSide, TooLarge, Truncated, BadRaster, TooLong}
+use Rattle.bitmap_input.specs.Cut.Ending.{End, Trailing, Refused}
+use Rattle.bitmap_input.specs.Cut.Cut.{Takes, Stops}
+use Rattle.bitmap_input.specs.Parts.{number, gap, some_gap, block, run_of}
+use Rattle.bitmap_input.specs.Raw.{Raw, bits_page, bits_of}
+use Rattle.bitmap_input.specs.Front.{Answer, front, page_at}
+use Rattle.bitmap_input.specs.Front.Answer.{Page, Ends}
+use Rattle.bitmap_input.specs.FilePages.{FilePages}
+use Rattle.bitmap_input.specs.FilePages.FilePages.{Ended, Next}
+
+-- one black pixel, whose page is not by the end: the line feed belongs to what follows
+one_pixel : page_at false (codes "P1 1 1 1\n") ≡ Takes false (bits_page 1 1 ((true ∷ []) ∷ [])) (10 ∷ [])
+one_pixel = refl
+
+one_pixel_used : front false (codes "P1 1 1 1\n") ≡ Page (bits_page 1 1 ((true ∷ []) ∷ [])) 8
+one_pixel_used = refl
+
+-- .######## above ........# (the padding bits of each row are ones, and don't count)
+two_rows : List (List Bool)
+two_rows =
+    (false ∷ true ∷ true ∷ true ∷ true ∷ true ∷ true ∷ true ∷ false ∷ []) ∷ (true ∷ false ∷ false ∷ false ∷ false ∷ false ∷ false ∷ false ∷ false ∷ []) ∷ []
+
+padding : front false (codes "P4\n9 2\n" ++ 0x7f ∷ 0x7f ∷ 0x80 ∷ 0x7f ∷ []) ≡ Page (bits_page 9 2 two_rows) 11
+unfolding two_rows
+padding = refl
+
+-- comments in the header and in the raster
+comments : front false (codes "P1 # c\n2 #d\n1\n1#x\n0") ≡ Page (bits_page 2 1 ((true ∷ false ∷ []) ∷ [])) 19
+comments = refl
+
+-- a byte 13 ends a comment too
+carriage_return : front false (codes "P1#c\r1 1 1") ≡ Page (bits_page 1 1 ((true ∷ []) ∷ [])) 10
+carriage_return = refl
+
+-- two raw pages, and then bytes that begin no page
+two_pages_and_more : List ℕ
+two_pages_and_more = codes "P4 1 1\n" ++ 0x80 ∷ [] ++ codes "P4 1 1\n" ++ 0x80 ∷ [] ++ codes "xyz"
+
+black_pixel : Raw
+black_pixel = bits_page 1 1 ((true ∷ []) ∷ [])
+
+trailing : FilePages false two_pages_and_more (black_pixel ∷ black_pixel ∷ []) Trailing
+unfolding two_pages_and_more black_pixel
+trailing = Next {used = 8} refl (Next {used = 8} refl (Ended refl))
+
+-- a second page whose last row is short
+short_last_row : FilePages false (codes "P4 1 1\n" ++ 0x80 ∷ [] ++ codes "P4 8 2\n" ++ 0xff ∷ []) (black_pixel ∷ []) (Refused Truncated)
+unfolding black_pixel
+short_last_row = Next {used = 8} refl (Ended refl)
+
+-- what is refused, and whether that is by the end
+nothing : page_at false [] ≡ Stops true (Refused UnknownFormat)
+nothing = refl
+
+nothing_more : page_at true (codes " \n") ≡ Stops true End
+nothing_more = refl
+
+half_a_magic : page_at true (codes "P") ≡ Stops true Trailing
+half_a_magic = refl
+
+colors : page_at false (codes "P6 1 1 255\n") ≡ Stops false (Refused UnknownFormat)
+colors = refl
+
+no_gap : page_at false (codes "P11 1 1") ≡ Stops false (Refused BadHeader)
+no_gap = refl
+
+wide : page_at false (codes "P4 16385 1\n") ≡ Stops false (Refused TooLarge)
+wide = refl
+
+zero_before_large : page_at false (codes "P4 0 99999\n") ≡ Stops false (Refused ZeroSide)
+zero_before_large = refl
+
+zero_at_the_end : page_at false (codes "P4 0 9") ≡ Stops true (Refused ZeroSide)
+zero_at_the_end = refl
+
+two_is_no_pixel : page_at false (codes "P1 2 1 12") ≡ Stops false (Refused BadRaster)
+two_is_no_pixel = refl
+
+missing_pixel : page_at false (codes "P1 2 1 1") ≡ Stops true (Refused Truncated)
+missing_pixel = refl
+
+-- the last pixel of a plain page and the last byte of a raw one are not by the end
+last_pixel : is_by_end (page_at false (codes "P1 1 1 1")) ≡ false
+last_pixel = refl
+
+last_byte : is_by_end (page_at false (codes "P4 1 1 " ++ 0 ∷ [])) ≡ false
+last_byte = refl
+
+-- a digit before the end of the bytes is by the end: more digits might follow
+last_digit : number BadHeader (codes "12") ≡ Takes true 12 []
+last_digit = refl
+
+leading_zeros : number BadHeader (codes "007x") ≡ Takes false 7 (120 ∷ [])
+leading_zeros = refl
+
+most_significant_first : bits_of 0xa1 ≡ true ∷ false ∷ true ∷ false ∷ false ∷ false ∷ false ∷ true ∷ []
+most_significant_first = refl
+
+-- a run of as many bytes as a gap may have is taken, and one more is refused, also at the end
+longest_gap : run_of 1048576 [] ≡ Takes true [] []
+longest_gap = refl
+
+gap_too_long : (bytes : List ℕ) → run_of 1048577 bytes ≡ Stops false (Refused TooLong)
+gap_too_long bytes = refl

@@ -1,0 +1,48 @@
+-- Cutting a list of bytes: a part of a page takes a front of the list, or stops the reading.
+use Rattle.std.specs.Prelude.{ℕ, Bool, ◌||◌, List, ◌++◌}
+
+-- why a page is refused
+pub data Kind : Type 0 where
+  UnknownFormat : Kind
+  BadHeader : Kind
+  ZeroSide : Kind
+  TooLarge : Kind
+  Truncated : Kind
+  BadRaster : Kind
+  BmpKind : Kind
+  BadOffset : Kind
+  TooLong : Kind
+
+-- how the pages of a file end: well, with bytes that begin no page, or with a page that is refused
+pub data Ending : Type 0 where
+  End : Ending
+  Trailing : Ending
+  Refused : Kind → Ending
+
+-- what a part of a page is in a list of bytes: it takes a front of the list, which has a value, and
+-- leaves the rest, or the pages end here. The flag says whether this is by the end of the list:
+-- whether it might be otherwise if bytes were added to the list.
+pub data Cut (A : Type 0) : Type 0 where
+  Takes : Bool → A → List ℕ → Cut A
+  Stops : Bool → Ending → Cut A
+
+-- whether it is by the end of the list
+abbrev pub is_by_end : {A : Type 0} → Cut A → Bool
+is_by_end (Takes e x rest) = e
+is_by_end (Stops e ending) = e
+
+-- a cut that came after another one, which was or wasn't by the end itself
+abbrev pub after : {A : Type 0} → Bool → Cut A → Cut A
+after d (Takes e x rest) = Takes (d || e) x rest
+after d (Stops e ending) = Stops (d || e) ending
+
+-- one part, and then another that begins where the first one ended
+infixl 10 ◌>>=◌
+abbrev pub ◌>>=◌ : {A B : Type 0} → Cut A → (A → List ℕ → Cut B) → Cut B
+(Takes e x rest) >>= f = after e (f x rest)
+(Stops e ending) >>= f = Stops e ending
+
+-- the same cut of a list to which bytes were added
+abbrev pub with_more : {A : Type 0} → List ℕ → Cut A → Cut A
+with_more more (Takes e x rest) = Takes e x (rest ++ more)
+with_more more (Stops e ending) = Stops e ending

@@ -1,0 +1,19 @@
+-- The pages of a file, one after another.
+use Rattle.std.specs.Prelude.{ℕ, ◌+◌, ◌≡◌, Bool, true, max, List, [], ◌∷◌, drop}
+use Rattle.bitmap_input.specs.Cut.{Ending}
+use Rattle.bitmap_input.specs.Parts.{run_length, is_space}
+use Rattle.bitmap_input.specs.Raw.{Raw}
+use Rattle.bitmap_input.specs.Front.{Answer, front}
+use Rattle.bitmap_input.specs.Front.Answer.{Page, Ends}
+
+-- where the next page begins: behind the bytes that this one takes, and behind those that it claims
+-- from its magic on
+abbrev pub next_begins : List ℕ → Raw → ℕ → ℕ
+next_begins bytes raw used = max used (run_length is_space bytes + raw.least_length)
+
+-- the pages at the front of the bytes, one behind another, and how they end
+pub data FilePages : Bool → List ℕ → List Raw → Ending → Type 0 where
+  Ended : {later : Bool} {bytes : List ℕ} {ending : Ending} → front later bytes ≡ Ends ending → FilePages later bytes [] ending
+  Next : {later : Bool} {bytes : List ℕ} {raw : Raw} {used : ℕ} {raws : List Raw} {ending : Ending} →
+    front later bytes ≡ Page raw used → FilePages true (drop (next_begins bytes raw used) bytes) raws ending →
+    FilePages later bytes (raw ∷ raws) ending

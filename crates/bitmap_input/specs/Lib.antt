@@ -1,0 +1,5 @@
+pub mod Cut
+pub mod Parts
+pub mod Raw
+pub mod Front
+pub mod FilePages

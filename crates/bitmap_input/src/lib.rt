@@ -1,0 +1,4 @@
+//! The pages of a file: what is read from it, and where and why it is refused.
+#![tactic(auto)]
+
+pub mod fault;
