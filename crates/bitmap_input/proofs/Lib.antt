@@ -1,1 +1,3 @@
 mod Examples
+pub mod Bytes
+pub mod Appending
