@@ -1,3 +1,4 @@
 mod Examples
 pub mod Bytes
 pub mod Appending
+pub mod Telling

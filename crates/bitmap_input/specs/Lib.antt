@@ -3,3 +3,4 @@ pub mod Parts
 pub mod Raw
 pub mod Front
 pub mod FilePages
+pub mod Reading

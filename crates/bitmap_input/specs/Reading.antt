@@ -1,0 +1,91 @@
+-- Reading from inputs through a window: what is taken from the inputs, and what part of a page the
+-- bytes at hand and those taken are.
+use Rattle.std.specs.Prelude.{◌≡◌, ℕ, ◌≤◌, Bool, true, false, ◌⊎◌, List, [], ◌++◌, length, take, Option, IfSome, Result, Ok, Err}
+use Rattle.pt_base.specs.Files.{Files, with_read, unread}
+use Rattle.pt_base.specs.Counts.{Rose}
+use Rattle.bitmap_input.specs.declared.fault.InFault.{InFault}
+use Rattle.bitmap_input.specs.declared.fault.InFault.TheVariants as fault
+use Rattle.bitmap_input.specs.declared.stop.Stop.{Stop}
+use Rattle.bitmap_input.specs.declared.stop.Stop.TheVariants as stop
+use Rattle.bitmap_input.specs.Cut.{Kind, Ending, Cut, is_by_end}
+use Rattle.bitmap_input.specs.Cut.Kind.{UnknownFormat, BadHeader, ZeroSide, TooLarge, Truncated, BadRaster, BmpKind, BadOffset, TooLong}
+use Rattle.bitmap_input.specs.Cut.Ending.{End, Trailing, Refused}
+use Rattle.bitmap_input.specs.Cut.Cut.{Takes, Stops}
+
+-- the bytes that were taken from the inputs and not used yet, and whether a read has given nothing
+pub record Held : Type 0 where
+  pub bytes : List ℕ
+  pub ended : Bool
+
+-- nothing is left to be read, where that is told
+abbrev pub AtEnd : Option Files → Type 0
+AtEnd files = IfSome (unread files) (λ rest. rest ≡ [])
+
+-- these bytes were taken from the inputs: they are a front of what was unread, and none are taken
+-- once a read has given nothing, which happens only where nothing is left
+pub record Moves (ended : Bool) (before : Option Files) (ended_now : Bool) (now : Option Files) (more : List ℕ) : Type 0 where
+  pub files : now ≡ with_read before (length more)
+  pub told : IfSome (unread before) (λ rest. more ≡ take (length more) rest)
+  pub stopped : ended ≡ true → (more ≡ []) × (ended_now ≡ true)
+  pub end : ended_now ≡ true → (ended ≡ true) ⊎ AtEnd now
+
+-- why reading stopped: the bytes say so, a read failed, or memory is wanting
+pub data Cause : Type 0 where
+  Says : Ending → Cause
+  Device : Cause
+  Memory : Cause
+
+abbrev pub cause_of_fault : InFault → Cause
+cause_of_fault fault.UnknownFormat = Says (Refused UnknownFormat)
+cause_of_fault fault.BadHeader = Says (Refused BadHeader)
+cause_of_fault fault.ZeroSide = Says (Refused ZeroSide)
+cause_of_fault fault.TooLarge = Says (Refused TooLarge)
+cause_of_fault fault.Truncated = Says (Refused Truncated)
+cause_of_fault fault.BadRaster = Says (Refused BadRaster)
+cause_of_fault fault.BmpKind = Says (Refused BmpKind)
+cause_of_fault fault.BadOffset = Says (Refused BadOffset)
+cause_of_fault fault.TooLong = Says (Refused TooLong)
+cause_of_fault fault.ReadFault = Device
+cause_of_fault fault.NoMemory = Memory
+
+abbrev pub cause_of : Stop → Cause
+cause_of stop.End = Says End
+cause_of stop.Trailing = Says Trailing
+cause_of (stop.Fault f) = cause_of_fault f
+
+-- the cut of the bytes stops by this cause: as they say; or it is by their end and a read failed
+abbrev pub StopsBy : {A : Type 0} → Cut A → Cause → Held → Type 0
+StopsBy cut (Says ending) held = (e : Bool) × (cut ≡ Stops e ending) × (e ≡ true → held.ended ≡ true)
+StopsBy cut Device held = (is_by_end cut ≡ true) × (held.ended ≡ false)
+StopsBy cut Memory held = Unit {0}
+
+-- the result is what the cut of the bytes says, with `held` as the rest; where it is by the end, a
+-- read has given nothing, so that no byte comes after
+abbrev pub Gives : {A X : Type 0} → (X → A → Type 0) → Cut A → Result X Stop → Held → Type 0
+Gives {A = A} is cut (Ok x) held =
+    (e : Bool) × (a : A) × is x a × (cut ≡ Takes e a held.bytes) × (e ≡ true → held.ended ≡ true)
+Gives is cut (Err s) held = StopsBy cut (cause_of s) held
+
+-- a step of the reader: it takes bytes from the inputs and answers as the part says of the bytes
+-- that were at hand and those
+abbrev pub Reads : {A X : Type 0} → (X → A → Type 0) → (List ℕ → Cut A) → Held → Option Files → Result X Stop → Held → Option Files → Type 0
+Reads is part old files result new now =
+    (more : List ℕ) × Moves old.ended files new.ended now more × Gives is (part (old.bytes ++ more)) result new
+
+-- the value doesn't matter
+abbrev pub Any : {X A : Type 0} → X → A → Type 0
+Any x a = Unit {0}
+
+-- the value is the same
+abbrev pub Same : {A : Type 0} → A → A → Type 0
+Same x a = a ≡ x
+
+-- how the inputs' count of faults moves: it rises where a read failed, and else it stays
+abbrev pub CountsBy : Cause → ℕ → ℕ → Type 0
+CountsBy (Says ending) before now = now ≡ before
+CountsBy Device before now = Rose before now × (before ≤ now)
+CountsBy Memory before now = now ≡ before
+
+abbrev pub Counts : {X : Type 0} → Result X Stop → ℕ → ℕ → Type 0
+Counts (Ok x) before now = now ≡ before
+Counts (Err s) before now = CountsBy (cause_of s) before now
