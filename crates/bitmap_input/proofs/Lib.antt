@@ -2,3 +2,4 @@ mod Examples
 pub mod Bytes
 pub mod Appending
 pub mod Telling
+pub mod Places

@@ -4,3 +4,4 @@ pub mod Raw
 pub mod Front
 pub mod FilePages
 pub mod Reading
+pub mod Window

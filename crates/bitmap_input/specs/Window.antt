@@ -1,0 +1,28 @@
+-- A look at the next byte through a window.
+use Rattle.std.specs.Prelude.{◌≡◌, ℕ, ◌≤◌, true, false, List, [], ◌∷◌, ◌++◌, Option, Some, None}
+use Rattle.pt_base.specs.Counts.{Rose}
+use Rattle.pt_base.specs.Files.{Files}
+use Rattle.bitmap_input.specs.Reading.{Held, Moves}
+use Rattle.bitmap_input.specs.declared.window.Look.{Look}
+use Rattle.bitmap_input.specs.declared.window.Look.TheVariants.{Byte, End, Fault}
+
+-- the first byte of a list, if there is one
+abbrev pub IsFirst : List ℕ → Option ℕ → Type 0
+IsFirst bytes (Some b) = (bs : List ℕ) × (bytes ≡ b ∷ bs)
+IsFirst bytes None = bytes ≡ []
+
+-- bytes were read or not, and all are still there
+abbrev pub ReadsOn : Held → Option Files → Held → Option Files → Type 0
+ReadsOn old files new now = (more : List ℕ) × Moves old.ended files new.ended now more × (new.bytes ≡ old.bytes ++ more)
+
+-- the next byte; or none comes any more; or none was there and the read of more failed
+abbrev pub Looks : Held → Option Files → Look → Held → Option Files → Type 0
+Looks old files (Byte b) new now = ReadsOn old files new now × ((bs : List ℕ) × (new.bytes ≡ b ∷ bs))
+Looks old files End new now = ReadsOn old files new now × ((new.bytes ≡ []) × (new.ended ≡ true))
+Looks old files Fault new now = (new ≡ old) × (now ≡ files) × (old.bytes ≡ []) × (old.ended ≡ false)
+
+-- the inputs' count of faults rises where the read failed, and else it stays
+abbrev pub CountsLook : Look → ℕ → ℕ → Type 0
+CountsLook (Byte b) before now = now ≡ before
+CountsLook End before now = now ≡ before
+CountsLook Fault before now = Rose before now × (before ≤ now)
