@@ -3,3 +3,5 @@ pub mod Bytes
 pub mod Appending
 pub mod Telling
 pub mod Places
+pub mod Running
+pub mod Digits

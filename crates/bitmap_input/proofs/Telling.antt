@@ -8,6 +8,7 @@ use Rattle.bitmap_input.specs.Cut.{Kind, Ending, Cut, is_by_end, after, with_mor
 use Rattle.bitmap_input.specs.Cut.Cut.{Takes, Stops}
 use Rattle.bitmap_input.specs.Reading.{Held, AtEnd, Moves, Cause, cause_of, StopsBy, Gives, Reads}
 use Rattle.bitmap_input.specs.Reading.Cause.{Says, Device, Memory}
+use Rattle.bitmap_input.specs.Window.{ReadsOn}
 use Rattle.bitmap_input.proofs.Appending.{Stays, after-false, is_by_end-after}
 
 -- Reading twice is reading both.
@@ -84,7 +85,7 @@ move_on {e} {e2} {e3} {f} {f2} {f3} {more} {more2} a b =
 
 -- What a cut gives when the one before it was by the end or not.
 
-not_true : false ≡ true → ⊥
+pub not_true : false ≡ true → ⊥
 not_true h = cc
 
 or_false : (d : Bool) → (d || false) ≡ true → d ≡ true
@@ -119,20 +120,24 @@ first_stays part false a bytes rest more stays is none =
     stays bytes more open_end ∙ ap (with_more more) is
 
 -- one step after another
-pub reads_on : {A B X Y : Type 0} (is : X → A → Type 0) (js : Y → B → Type 0) (part : List ℕ → Cut A)
-    (next : A → List ℕ → Cut B) (old mid new : Held) (files fmid now : Option Files) (x : X) (result : Result Y Stop) →
+pub reads_on : {A B X Y : Type 0} {is : X → A → Type 0} {js : Y → B → Type 0} {part : List ℕ → Cut A}
+    {next : A → List ℕ → Cut B} {old mid new : Held} {files fmid now : Option Files} {x : X} {result : Result Y Stop} →
     Stays part → Reads is part old files (Ok x) mid fmid →
     ((a : A) → is x a → Reads js (next a) mid fmid result new now) →
     Reads js (λ bytes. part bytes >>= next) old files result new now
-reads_on is js part next old mid new files fmid now x result stays (more, moves, (e, a, same, takes, settled)) then =
-    let second = then a same in
-    let none : e ≡ true → second.0 ≡ [] = λ h. (second.1.stopped (settled h)).0 in
-    let ended : e ≡ true → new.ended ≡ true = λ h. (second.1.stopped (settled h)).1 in
-    let first = first_stays part e a (old.bytes ++ more) mid.bytes second.0 stays takes none in
-    let whole : part (old.bytes ++ (more ++ second.0)) ≡ Takes e a (mid.bytes ++ second.0)
-              = ap part (sym (append_assoc old.bytes more second.0)) ∙ first in
-    (more ++ second.0, move_on moves second.1,
-     rw whole (after_gives js e (next a (mid.bytes ++ second.0)) result new ended second.2))
+reads_on {js = js} {part = part} {next = next} {old = old} {mid = mid} {new = new} {result = result} stays r then =
+    let (e, a, same, takes, settled) = r.gives in
+    let t = then a same in
+    let none : e ≡ true → t.more ≡ [] = λ h. (t.moves.stopped (settled h)).0 in
+    let ended : e ≡ true → new.ended ≡ true = λ h. (t.moves.stopped (settled h)).1 in
+    let first = first_stays part e a (old.bytes ++ r.more) mid.bytes t.more stays takes none in
+    let whole : part (old.bytes ++ (r.more ++ t.more)) ≡ Takes e a (mid.bytes ++ t.more)
+              = ap part (sym (append_assoc old.bytes r.more t.more)) ∙ first in
+    record {
+      more = r.more ++ t.more;
+      moves = move_on r.moves t.moves;
+      gives = rw whole (after_gives js e (next a (mid.bytes ++ t.more)) result new ended t.gives);
+    }
 
 stops_bind : {A B : Type 0} (cut : Cut A) (next : A → List ℕ → Cut B) (cause : Cause) (held : Held) →
     StopsBy cut cause held → StopsBy (cut >>= next) cause held
@@ -143,37 +148,67 @@ stops_bind (Stops e ending) next Device held (end, going_on) = (end, going_on)
 stops_bind cut next Memory held stops = tt
 
 -- what stops the first step stops both
-pub reads_stop : {A B X Y : Type 0} (is : X → A → Type 0) (js : Y → B → Type 0) (part : List ℕ → Cut A)
-    (next : A → List ℕ → Cut B) (old new : Held) (files now : Option Files) (s : Stop) →
+pub reads_stop : {A B X Y : Type 0} {is : X → A → Type 0} {js : Y → B → Type 0} {part : List ℕ → Cut A}
+    {old new : Held} {files now : Option Files} {s : Stop} (next : A → List ℕ → Cut B) →
     Reads is part old files (Err s) new now → Reads js (λ bytes. part bytes >>= next) old files (Err s) new now
-reads_stop is js part next old new files now s (more, moves, stops) =
-    (more, moves, stops_bind (part (old.bytes ++ more)) next (cause_of s) new stops)
+reads_stop {part = part} {old = old} {new = new} {s = s} next r = record {
+  more = r.more;
+  moves = r.moves;
+  gives = stops_bind (part (old.bytes ++ r.more)) next (cause_of s) new r.gives;
+}
 
 -- a value at hand
-pub reads_value : {B Y : Type 0} (js : Y → B → Type 0) (y : Y) (b : B) (held : Held) (files : Option Files) →
+pub reads_value : {B Y : Type 0} {js : Y → B → Type 0} {y : Y} {b : B} {held : Held} {files : Option Files} →
     js y b → Reads js (λ bytes. Takes false b bytes) held files (Ok y) held files
-reads_value js y b held files same =
-    ([], stand held.ended files, (false, b, same, ap (Takes false b) (append-nil held.bytes), λ h. absurd (not_true h)))
+reads_value {b = b} {held = held} {files = files} same = record {
+  more = [];
+  moves = stand held.ended files;
+  gives = (false, b, same, ap (Takes false b) (append-nil held.bytes), λ h. absurd (not_true h));
+}
+
+-- a step whose value says less
+pub reads_weaken : {A X : Type 0} {is js : X → A → Type 0} {part : List ℕ → Cut A} {old new : Held} {files now : Option Files}
+    {result : Result X Stop} → ((x : X) (a : A) → is x a → js x a) → Reads is part old files result new now →
+    Reads js part old files result new now
+reads_weaken {result = Ok x} less r =
+    let (e, a, same, takes, settled) = r.gives in
+    record { more = r.more; moves = r.moves; gives = (e, a, less x a same, takes, settled) }
+reads_weaken {result = Err s} less r = record { more = r.more; moves = r.moves; gives = r.gives }
 
 -- a step with its value looked at in another way
-pub reads_map : {A B X : Type 0} (is : X → A → Type 0) (js : X → B → Type 0) (part : List ℕ → Cut A) (f : A → B)
-    (old new : Held) (files now : Option Files) (result : Result X Stop) →
+pub reads_map : {A B X : Type 0} {is : X → A → Type 0} {js : X → B → Type 0} {part : List ℕ → Cut A}
+    {old new : Held} {files now : Option Files} {result : Result X Stop} (f : A → B) →
     ((x : X) (a : A) → is x a → js x (f a)) → Reads is part old files result new now →
     Reads js (λ bytes. part bytes >>= λ a rest. Takes false (f a) rest) old files result new now
-reads_map is js part f old new files now (Ok x) same (more, moves, (e, a, is_x, takes, settled)) =
-    (more, moves, (e || false, f a, same x a is_x, ap (λ c. c >>= λ a rest. Takes false (f a) rest) takes, λ h. settled (or_false e h)))
-reads_map is js part f old new files now (Err s) same reads = reads_stop is js part _ old new files now s reads
+reads_map {result = Ok x} f same r =
+    let (e, a, is_x, takes, settled) = r.gives in
+    record {
+      more = r.more;
+      moves = r.moves;
+      gives = (e || false, f a, same x a is_x, ap (λ c. c >>= λ a rest. Takes false (f a) rest) takes, λ h. settled (or_false e h));
+    }
+reads_map {result = Err s} f same r = reads_stop (λ a rest. Takes false (f a) rest) r
 
 -- a step that begins after some bytes were read
-pub reads_after : {A X : Type 0} (is : X → A → Type 0) (part : List ℕ → Cut A) (old mid new : Held)
-    (files fmid now : Option Files) (result : Result X Stop) (more : List ℕ) → Moves old.ended files mid.ended fmid more →
-    mid.bytes ≡ old.bytes ++ more → Reads is part mid fmid result new now → Reads is part old files result new now
-reads_after is part old mid new files fmid now result more moves bytes (more2, moves2, gives) =
-    (more ++ more2, move_on moves moves2,
-     rw (← append_assoc old.bytes more more2, ← bytes) gives)
+pub reads_after : {A X : Type 0} {is : X → A → Type 0} {part : List ℕ → Cut A} {old mid new : Held}
+    {files fmid now : Option Files} {result : Result X Stop} → ReadsOn old files mid fmid →
+    Reads is part mid fmid result new now → Reads is part old files result new now
+reads_after {is = is} {part = part} {old = old} {new = new} {result = result} on r = record {
+  more = on.more ++ r.more;
+  moves = move_on on.moves r.moves;
+  gives = rw (← append_assoc old.bytes on.more r.more, ← on.bytes) r.gives;
+}
 
 -- a step by another part that is the same on the bytes at hand, whatever comes after them
-pub reads_as : {A X : Type 0} (is : X → A → Type 0) (part other : List ℕ → Cut A) (old new : Held) (files now : Option Files)
-    (result : Result X Stop) → ((more : List ℕ) → part (old.bytes ++ more) ≡ other (old.bytes ++ more)) →
+pub reads_as : {A X : Type 0} {is : X → A → Type 0} {part other : List ℕ → Cut A} {old new : Held} {files now : Option Files}
+    {result : Result X Stop} → ((more : List ℕ) → part (old.bytes ++ more) ≡ other (old.bytes ++ more)) →
     Reads is other old files result new now → Reads is part old files result new now
-reads_as is part other old new files now result same (more, moves, gives) = (more, moves, rw same gives)
+reads_as same r = record { more = r.more; moves = r.moves; gives = rw same r.gives }
+
+-- a step that begins with a look at a byte that is there, and goes on as another part does at that byte
+pub reads_look : {A X : Type 0} {is : X → A → Type 0} {part other : List ℕ → Cut A} {old mid new : Held}
+    {files fmid now : Option Files} {result : Result X Stop} {b : ℕ} (look : (bs : List ℕ) × (mid.bytes ≡ b ∷ bs)) →
+    ReadsOn old files mid fmid → ((xs : List ℕ) → part (b ∷ xs) ≡ other (b ∷ xs)) →
+    Reads is other mid fmid result new now → Reads is part old files result new now
+reads_look {part = part} {other = other} (bs, here) on same r =
+    reads_after on (reads_as (λ xs. rw here (same (bs ++ xs))) r)

@@ -5,3 +5,4 @@ pub mod Front
 pub mod FilePages
 pub mod Reading
 pub mod Window
+pub mod Run

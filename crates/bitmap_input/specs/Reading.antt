@@ -68,9 +68,10 @@ Gives is cut (Err s) held = StopsBy cut (cause_of s) held
 
 -- a step of the reader: it takes bytes from the inputs and answers as the part says of the bytes
 -- that were at hand and those
-abbrev pub Reads : {A X : Type 0} → (X → A → Type 0) → (List ℕ → Cut A) → Held → Option Files → Result X Stop → Held → Option Files → Type 0
-Reads is part old files result new now =
-    (more : List ℕ) × Moves old.ended files new.ended now more × Gives is (part (old.bytes ++ more)) result new
+pub record Reads {A X : Type 0} (is : X → A → Type 0) (part : List ℕ → Cut A) (old : Held) (before : Option Files) (result : Result X Stop) (new : Held) (now : Option Files) : Type 0 where
+  pub more : List ℕ
+  pub moves : Moves old.ended before new.ended now more
+  pub gives : Gives is (part (old.bytes ++ more)) result new
 
 -- the value doesn't matter
 abbrev pub Any : {X A : Type 0} → X → A → Type 0

@@ -12,8 +12,10 @@ IsFirst bytes (Some b) = (bs : List ℕ) × (bytes ≡ b ∷ bs)
 IsFirst bytes None = bytes ≡ []
 
 -- bytes were read or not, and all are still there
-abbrev pub ReadsOn : Held → Option Files → Held → Option Files → Type 0
-ReadsOn old files new now = (more : List ℕ) × Moves old.ended files new.ended now more × (new.bytes ≡ old.bytes ++ more)
+pub record ReadsOn (old : Held) (before : Option Files) (new : Held) (now : Option Files) : Type 0 where
+  pub more : List ℕ
+  pub moves : Moves old.ended before new.ended now more
+  pub bytes : new.bytes ≡ old.bytes ++ more
 
 -- the next byte; or none comes any more; or none was there and the read of more failed
 abbrev pub Looks : Held → Option Files → Look → Held → Option Files → Type 0

@@ -2,5 +2,7 @@
 #![tactic(auto)]
 
 pub mod fault;
+mod number;
+mod run;
 mod stop;
 mod window;

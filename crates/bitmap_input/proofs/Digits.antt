@@ -1,0 +1,17 @@
+-- Numbers that are read one digit after another.
+use Rattle.std.proofs.Common.{◌≡◌, refl, ℕ, suc, ◌+◌, ◌-◌, ◌*◌, ◌≤◌, true, false, min, List, [], ◌∷◌, ◌++◌, arith, ap, sym, ◌∙◌}
+use Rattle.bitmap_input.specs.Cut.{Kind, Cut}
+use Rattle.bitmap_input.specs.Parts.{is_digit, run_length, value, number, some_gap, gap, gap_length}
+use Rattle.bitmap_input.specs.Run.{cap, IsCapped, digits}
+
+-- one more digit
+pub value_more : (n : ℕ) (ds : List ℕ) (d : ℕ) → value n (ds ++ d ∷ []) ≡ 10 * value n ds + (d - 48)
+value_more n [] d = refl
+value_more n (c ∷ ds) d = value_more (10 * n + (c - 48)) ds d
+
+pub capped_more : (x y v k : ℕ) → IsCapped x v → y ≡ min (10 * x + k) cap → IsCapped y (10 * v + k)
+capped_more x y v k a b = omega arith
+
+-- a number that begins with this digit is the digits from here on
+pub number_at : (kind : Kind) (b : ℕ) (xs : List ℕ) → is_digit b ≡ true → number kind (b ∷ xs) ≡ digits (b ∷ xs)
+number_at kind b xs test = rw test refl

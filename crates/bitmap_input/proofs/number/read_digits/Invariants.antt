@@ -1,0 +1,18 @@
+use Rattle.std.proofs.Common.{◌+◌, ◌-◌, ◌≡◌, true, ◌≤◌}
+use Rattle.bitmap_input.specs.Parts.{run_length, is_digit, value}
+use Rattle.bitmap_input.specs.Run.{IsCapped, RunSoFar}
+use Rattle.bitmap_input.proofs.number.read_digits.Given as goal
+
+abbrev pub invariant-loop-n : goal.invariant-loop-n
+invariant-loop-n g l =
+    let source = g.I.Inputs in
+    record {
+      so_far : RunSoFar (run_length is_digit) (run_length is_digit) l.fn.window (source.files l.fn.inputs) l.n l.window (source.files l.inputs);
+      number : IsCapped l.value (value 0 so_far.used);
+      most : l.n ≤ 1048577;
+      steady : source.faults l.inputs ≡ source.faults l.fn.inputs;
+      opened : source.is_opened l.inputs ≡ true;
+    }
+
+abbrev pub decreases-loop-n : goal.decreases-loop-n
+decreases-loop-n g l = 1048577 - l.n

@@ -1,0 +1,13 @@
+use Rattle.std.proofs.Common.{arith, rules, List, ℕ, ◌≡◌, true}
+use Rattle.bitmap_input.specs.Cut.Kind.{BadHeader}
+use Rattle.bitmap_input.specs.Parts.{is_digit, number}
+use Rattle.bitmap_input.specs.Run.{IsCapped, digits}
+use Rattle.bitmap_input.proofs.Telling.{reads_look}
+use Rattle.bitmap_input.proofs.Digits.{number_at}
+use Rattle.bitmap_input.proofs.number.read_number.Goals as goal
+
+pub returns-then-is_digit-clause-reads : goal.returns-then-is_digit-clause-reads
+returns-then-is_digit-clause-reads g c =
+    let look = c.in-Byte.ensures.looks in
+    let test : is_digit c.in-Byte.byte ≡ true = search rules in
+    reads_look look.1 look.0 (λ xs. number_at BadHeader c.in-Byte.byte xs test) c.read_digits.ensures.reads

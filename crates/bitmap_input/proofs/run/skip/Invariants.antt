@@ -1,0 +1,16 @@
+use Rattle.std.proofs.Common.{◌+◌, ◌-◌, ◌≡◌, true, ◌≤◌}
+use Rattle.bitmap_input.specs.Run.{length_of, RunSoFar}
+use Rattle.bitmap_input.proofs.run.skip.Given as goal
+
+abbrev pub invariant-loop-n : goal.invariant-loop-n
+invariant-loop-n g l =
+    let source = g.I.Inputs in
+    record {
+      so_far : RunSoFar (length_of l.fn.run) (length_of l.run) l.fn.window (source.files l.fn.inputs) l.n l.window (source.files l.inputs);
+      most : l.n ≤ 1048577;
+      steady : source.faults l.inputs ≡ source.faults l.fn.inputs;
+      opened : source.is_opened l.inputs ≡ true;
+    }
+
+abbrev pub decreases-loop-n : goal.decreases-loop-n
+decreases-loop-n g l = 1048577 - l.n

@@ -1,0 +1,44 @@
+-- Runs of bytes, read one byte after another.
+use Rattle.std.specs.Prelude.{◌≡◌, ℕ, suc, ◌+◌, ◌≤◌, Bool, true, false, List, ◌∷◌, ◌++◌, length, min, Option, Some, None}
+use Rattle.pt_base.specs.Files.{Files}
+use Rattle.bitmap_input.specs.Cut.{Cut, ◌>>=◌}
+use Rattle.bitmap_input.specs.Cut.Cut.{Takes}
+use Rattle.bitmap_input.specs.Parts.{run_length, gap_length, is_space, is_digit, run_of, value}
+use Rattle.bitmap_input.specs.Reading.{Held, Moves}
+use Rattle.bitmap_input.specs.declared.run.Run.{Run}
+use Rattle.bitmap_input.specs.declared.run.Run.TheVariants.{Space, Gap, Comment}
+
+-- how many bytes of the run stand at the front
+abbrev pub length_of : Run → List ℕ → ℕ
+length_of Space bytes = run_length is_space bytes
+length_of Gap bytes = gap_length false bytes
+length_of Comment bytes = gap_length true bytes
+
+-- the run as a part of a page
+abbrev pub part_of : Run → List ℕ → Cut (List ℕ)
+part_of run bytes = run_of (length_of run bytes) bytes
+
+-- the run goes on behind the byte, or ends before it
+abbrev pub Continues : Run → ℕ → Option Run → Type 0
+Continues run b (Some next) = (bs : List ℕ) → length_of run (b ∷ bs) ≡ suc (length_of next bs)
+Continues run b None = (bs : List ℕ) → length_of run (b ∷ bs) ≡ 0
+
+-- the digits at the front, as many as there are, and the number that they stand for
+abbrev pub digits : List ℕ → Cut ℕ
+digits bytes = run_of (run_length is_digit bytes) bytes >>= λ ds rest. Takes false (value 0 ds) rest
+
+-- the number, or this where it is less: a number that is too large for a side may be cut here
+abbrev pub cap : ℕ
+cap = 100000
+
+abbrev pub IsCapped : ℕ → ℕ → Type 0
+IsCapped x a = x ≡ min a cap
+
+-- n bytes of a run were used: a run that begins as theirs did goes on as `len_now` says
+pub record RunSoFar (len len_now : List ℕ → ℕ) (old : Held) (before : Option Files) (n : ℕ) (new : Held) (now : Option Files) : Type 0 where
+  pub more : List ℕ
+  pub used : List ℕ
+  pub moves : Moves old.ended before new.ended now more
+  pub split : old.bytes ++ more ≡ used ++ new.bytes
+  pub count : length used ≡ n
+  pub goes_on : (tail : List ℕ) → len (used ++ tail) ≡ n + len_now tail

@@ -1,0 +1,85 @@
+//! Runs of whitespace and of comments.
+ghost use Rattle.std.specs.Prelude.{◌≡◌, ℕ, true, false, suc, List, ◌∷◌, MatchOption, IsTrue, ◌↔◌};
+ghost use Rattle.bitmap_input.specs.Reading.{Reads, Counts, Any};
+ghost use Rattle.bitmap_input.specs.Parts.{is_space};
+ghost use Rattle.bitmap_input.specs.Run.{length_of, part_of, Continues};
+
+use crate::fault::InFault;
+use crate::stop::Stop;
+use crate::window::{Look, Window};
+use pt_base::inputs::Inputs;
+
+/// The most bytes of a gap, and of a run of digits.
+pub(crate) const LONGEST: u32 = 1048576;
+
+/// A run of bytes, as far as it is known what may come next in it.
+#[derive(Clone, Copy, Debug)]
+pub(crate) enum Run {
+    /// Whitespace alone.
+    Space,
+    /// Whitespace and comments, outside of a comment.
+    Gap,
+    /// Whitespace and comments, inside of a comment.
+    Comment,
+}
+
+pub(crate) fn is_space(byte: u8) -> bool
+    ensures { result ≡ is_space byte }
+{
+    (9 <= byte && byte <= 13) || byte == 32
+}
+
+// What the run is behind this byte, or none where it ends before it.
+pub(crate) fn behind(run: Run, byte: u8) -> Option<Run>
+    ensures { Continues run byte result }
+{
+    match run {
+        Run::Space => {
+            if is_space(byte) {
+                Some(Run::Space)
+            } else {
+                None
+            }
+        }
+        Run::Gap => {
+            if byte == b'#' {
+                Some(Run::Comment)
+            } else if is_space(byte) {
+                Some(Run::Gap)
+            } else {
+                None
+            }
+        }
+        Run::Comment => {
+            if byte == b'\n' || byte == b'\r' {
+                Some(Run::Gap)
+            } else {
+                Some(Run::Comment)
+            }
+        }
+    }
+}
+
+/// Goes on behind a run, which may be empty.
+pub(crate) fn skip<I: Inputs>(window: &mut Window, inputs: &mut I, run: Run) -> Result<(), Stop>
+    requires { I.is_opened inputs.old ≡ true }
+    ensures reads { Reads Any (part_of run) window.old (I.files inputs.old) result window.new (I.files inputs.new) }
+    ensures counts { Counts result (I.faults inputs.old) (I.faults inputs.new) }
+    ensures stays_opened { I.is_opened inputs.new ≡ true }
+{
+    let mut run = run;
+    let mut n = 0;
+    while n <= LONGEST {
+        match window.look(inputs) {
+            Look::Byte(byte) => match behind(run, byte) {
+                Some(next) => run = next,
+                None => return Ok(()),
+            },
+            Look::End => return Ok(()),
+            Look::Fault => return Err(Stop::Fault(InFault::ReadFault)),
+        }
+        window.pass();
+        n += 1;
+    }
+    Err(Stop::Fault(InFault::TooLong))
+}
