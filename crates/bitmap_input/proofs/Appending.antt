@@ -10,7 +10,7 @@ use Rattle.bitmap_input.specs.Cut.Ending.{End, Trailing, Refused}
 use Rattle.bitmap_input.specs.Cut.Cut.{Takes, Stops}
 use Rattle.bitmap_input.specs.Parts.{longest, is_zero, is_empty, is_space, is_digit, run_length, gap_length, missing, run_of, spaces, gap, some_gap, value, number, space, pixel, block, times}
 use Rattle.bitmap_input.specs.Raw.{Raw, bits_page, row_bytes, unpacked}
-use Rattle.bitmap_input.specs.Front.{Magic, Answer, no_magic, magic, checked, sides, plain_pixel, raw_row, body, page_at, answer_of, front, longest_side}
+use Rattle.bitmap_input.specs.Front.{Magic, Answer, no_magic, magic_behind, magic, checked, sides, plain_pixel, raw_row, body, page_at, answer_of, front, longest_side}
 use Rattle.bitmap_input.specs.Front.Magic.{PlainBits, RawBits}
 use Rattle.bitmap_input.specs.Front.Answer.{Page, Ends}
 use Rattle.bitmap_input.proofs.Bytes.{run_length-le, run_length-append-le, run_length-append, gap_length-le, gap_length-append-le, gap_length-append}
@@ -174,38 +174,32 @@ times_stay part stays (suc n) bytes more not_end =
     (λ xs rest. Takes false (x ∷ xs) rest) more (λ xs. take_stays false (x ∷ xs)) (times_stay part stays n bytes more) not_end)
     (stays bytes more) not_end
 
-no_magic_stays : (later : Bool) (e : Bool) (bytes more : List ℕ) →
-    is_by_end (no_magic e later) ≡ false → no_magic e later ≡ with_more more (no_magic e later)
-no_magic_stays true e bytes more not_end = refl
-no_magic_stays false e bytes more not_end = refl
-
 is_by_end-no_magic : (e later : Bool) → is_by_end (no_magic e later) ≡ e
 is_by_end-no_magic e true = refl
 is_by_end-no_magic e false = refl
 
+no_magic_stays : (e later : Bool) (more : List ℕ) → no_magic e later ≡ with_more more (no_magic e later)
+no_magic_stays e true more = refl
+no_magic_stays e false more = refl
+
+pub magic_behind_stays : (later : Bool) (a : ℕ) → Stays (magic_behind later a)
+magic_behind_stays later a [] more not_end = let e = rw is_by_end-no_magic at not_end in cc
+magic_behind_stays later a (b ∷ rest) more not_end =
+    let none : no_magic false later ≡ with_more more (no_magic false later) = no_magic_stays false later more in
+    pick_stays (nat_eq a 80) (cond (nat_eq b 49) (Takes false PlainBits rest) (cond (nat_eq b 52) (Takes false RawBits rest) (no_magic false later)))
+    (no_magic false later)
+    (cond (nat_eq b 49) (Takes false PlainBits (rest ++ more)) (cond (nat_eq b 52) (Takes false RawBits (rest ++ more)) (no_magic false later)))
+    (no_magic false later) more
+    (pick_stays (nat_eq b 49) (Takes false PlainBits rest) (cond (nat_eq b 52) (Takes false RawBits rest) (no_magic false later))
+    (Takes false PlainBits (rest ++ more)) (cond (nat_eq b 52) (Takes false RawBits (rest ++ more)) (no_magic false later)) more (λ _. refl)
+    (pick_stays (nat_eq b 52) (Takes false RawBits rest) (no_magic false later) (Takes false RawBits (rest ++ more)) (no_magic false later) more (λ _. refl) (λ _. none)))
+    (λ _. none) not_end
+
 pub magic_stays : (later : Bool) → Stays (magic later)
 magic_stays true [] more not_end = cc
 magic_stays false [] more not_end = cc
-magic_stays true (a ∷ []) more not_end = cc
-magic_stays false (a ∷ []) more not_end = cc
-magic_stays true (a ∷ b ∷ rest) more not_end =
-    pick_stays (nat_eq a 80) (cond (nat_eq b 49) (Takes false PlainBits rest) (cond (nat_eq b 52) (Takes false RawBits rest) (no_magic false true)))
-    (no_magic false true)
-    (cond (nat_eq b 49) (Takes false PlainBits (rest ++ more)) (cond (nat_eq b 52) (Takes false RawBits (rest ++ more)) (no_magic false true)))
-    (no_magic false true) more
-    (pick_stays (nat_eq b 49) (Takes false PlainBits rest) (cond (nat_eq b 52) (Takes false RawBits rest) (no_magic false true))
-    (Takes false PlainBits (rest ++ more)) (cond (nat_eq b 52) (Takes false RawBits (rest ++ more)) (no_magic false true)) more (λ _. refl)
-    (pick_stays (nat_eq b 52) (Takes false RawBits rest) (no_magic false true) (Takes false RawBits (rest ++ more)) (no_magic false true) more (λ _. refl) (λ _. refl)))
-    (λ _. refl) not_end
-magic_stays false (a ∷ b ∷ rest) more not_end =
-    pick_stays (nat_eq a 80) (cond (nat_eq b 49) (Takes false PlainBits rest) (cond (nat_eq b 52) (Takes false RawBits rest) (no_magic false false)))
-    (no_magic false false)
-    (cond (nat_eq b 49) (Takes false PlainBits (rest ++ more)) (cond (nat_eq b 52) (Takes false RawBits (rest ++ more)) (no_magic false false)))
-    (no_magic false false) more
-    (pick_stays (nat_eq b 49) (Takes false PlainBits rest) (cond (nat_eq b 52) (Takes false RawBits rest) (no_magic false false))
-    (Takes false PlainBits (rest ++ more)) (cond (nat_eq b 52) (Takes false RawBits (rest ++ more)) (no_magic false false)) more (λ _. refl)
-    (pick_stays (nat_eq b 52) (Takes false RawBits rest) (no_magic false false) (Takes false RawBits (rest ++ more)) (no_magic false false) more (λ _. refl) (λ _. refl)))
-    (λ _. refl) not_end
+magic_stays true (a ∷ rest) more not_end = magic_behind_stays true a rest more not_end
+magic_stays false (a ∷ rest) more not_end = magic_behind_stays false a rest more not_end
 
 pub checked_stays : (width height : ℕ) → Stays (checked width height)
 checked_stays width height bytes more not_end =

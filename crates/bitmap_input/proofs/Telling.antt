@@ -212,3 +212,14 @@ pub reads_look : {A X : Type 0} {is : X → A → Type 0} {part other : List ℕ
     Reads is other mid fmid result new now → Reads is part old files result new now
 reads_look {part = part} {other = other} (bs, here) on same r =
     reads_after on (reads_as (λ xs. rw here (same (bs ++ xs))) r)
+
+-- a step that uses a byte that is there, and goes on as another part does behind that byte
+pub reads_pass : {A X : Type 0} {is : X → A → Type 0} {part other : List ℕ → Cut A} {old mid passed new : Held}
+    {files fmid now : Option Files} {result : Result X Stop} {b : ℕ} (look : (bs : List ℕ) × (mid.bytes ≡ b ∷ bs)) →
+    ReadsOn old files mid fmid → passed.bytes ≡ drop 1 mid.bytes → passed.ended ≡ mid.ended →
+    ((xs : List ℕ) → part (b ∷ xs) ≡ other xs) →
+    Reads is other passed fmid result new now → Reads is part old files result new now
+reads_pass {is = is} {part = part} {other = other} {mid = mid} {passed = passed} {new = new} {result = result} (bs, here) on bytes ended same r =
+    let left : passed.bytes ≡ bs = bytes ∙ ap (drop 1) here in
+    let whole : part (mid.bytes ++ r.more) ≡ other (passed.bytes ++ r.more) = rw (here, left) (same (bs ++ r.more)) in
+    reads_after on record { more = r.more; moves = rw (← ended) r.moves; gives = rw whole r.gives }

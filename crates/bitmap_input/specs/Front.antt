@@ -22,16 +22,21 @@ abbrev pub no_magic : Bool → Bool → Cut Magic
 no_magic e true = Stops e Trailing
 no_magic e false = Stops e (Refused UnknownFormat)
 
--- two bytes that name the format of the page, where `later` says that a page came before
-abbrev pub magic : Bool → List ℕ → Cut Magic
-magic true [] = Stops true End
-magic false [] = Stops true (Refused UnknownFormat)
-magic later (a ∷ []) = no_magic true later
-magic later (a ∷ b ∷ rest) =
+-- the second byte of a magic, behind the first one
+abbrev pub magic_behind : Bool → ℕ → List ℕ → Cut Magic
+magic_behind later a [] = no_magic true later
+magic_behind later a (b ∷ rest) =
     if nat_eq a 80 then
       (if nat_eq b 49 then Takes false PlainBits rest
       else (if nat_eq b 52 then Takes false RawBits rest else no_magic false later))
     else no_magic false later
+
+-- two bytes that name the format of the page, where `later` says that a page came before
+abbrev pub magic : Bool → List ℕ → Cut Magic
+magic true [] = Stops true End
+magic false [] = Stops true (Refused UnknownFormat)
+magic true (a ∷ rest) = magic_behind true a rest
+magic false (a ∷ rest) = magic_behind false a rest
 
 -- both sides are in range: first none is 0, and then none is too large
 abbrev pub checked : ℕ → ℕ → List ℕ → Cut (ℕ × ℕ)

@@ -6,3 +6,4 @@ pub mod FilePages
 pub mod Reading
 pub mod Window
 pub mod Run
+pub mod Header

@@ -2,6 +2,7 @@
 #![tactic(auto)]
 
 pub mod fault;
+mod header;
 mod number;
 mod run;
 mod stop;
