@@ -10,7 +10,7 @@ use Rattle.bitmap_input.specs.Cut.Ending.{End, Trailing, Refused}
 use Rattle.bitmap_input.specs.Cut.Cut.{Takes, Stops}
 use Rattle.bitmap_input.specs.Parts.{longest, is_zero, is_empty, is_space, is_digit, run_length, gap_length, missing, run_of, spaces, gap, some_gap, value, number, space, pixel, block, times}
 use Rattle.bitmap_input.specs.Raw.{Raw, bits_page, row_bytes, unpacked}
-use Rattle.bitmap_input.specs.Front.{Magic, Answer, no_magic, magic_behind, magic, checked, sides, plain_pixel, raw_row, body, page_at, answer_of, front, longest_side}
+use Rattle.bitmap_input.specs.Front.{Magic, Answer, no_magic, magic_behind, magic, checked, side, sides, plain_pixel, raw_row, body, page_at, answer_of, front, longest_side}
 use Rattle.bitmap_input.specs.Front.Magic.{PlainBits, RawBits}
 use Rattle.bitmap_input.specs.Front.Answer.{Page, Ends}
 use Rattle.bitmap_input.proofs.Bytes.{run_length-le, run_length-append-le, run_length-append, gap_length-le, gap_length-append-le, gap_length-append}
@@ -211,18 +211,17 @@ checked_stays width height bytes more not_end =
     (pick_stays (nat_lt longest_side width || nat_lt longest_side height) (Stops false (Refused TooLarge)) (Takes false (width, height) bytes)
     (Stops false (Refused TooLarge)) (Takes false (width, height) (bytes ++ more)) more (λ _. refl) (λ _. refl)) not_end
 
--- the rest of the header behind the width, and behind the first gap
-height_stays : (width : ℕ) → Stays (λ rest. some_gap BadHeader rest >>= λ _ rest. number BadHeader rest >>= λ height rest. checked width height rest)
-height_stays width bytes more not_end =
-    stays_bind (some_gap BadHeader bytes) (some_gap BadHeader (bytes ++ more)) _ more
-    (λ _ bytes more not_end. stays_bind (number BadHeader bytes) (number BadHeader (bytes ++ more)) _ more (λ height. checked_stays width height) (number_stays BadHeader bytes more) not_end)
+pub side_stays : Stays side
+side_stays bytes more not_end =
+    stays_bind (some_gap BadHeader bytes) (some_gap BadHeader (bytes ++ more)) _ more (λ _. number_stays BadHeader)
     (some_gap_stays BadHeader bytes more) not_end
 
 pub sides_stay : Stays sides
 sides_stay bytes more not_end =
-    stays_bind (some_gap BadHeader bytes) (some_gap BadHeader (bytes ++ more)) _ more
-    (λ _ bytes more not_end. stays_bind (number BadHeader bytes) (number BadHeader (bytes ++ more)) _ more (λ width. height_stays width) (number_stays BadHeader bytes more) not_end)
-    (some_gap_stays BadHeader bytes more) not_end
+    stays_bind (side bytes) (side (bytes ++ more)) _ more
+    (λ width bytes more not_end. stays_bind (side bytes) (side (bytes ++ more)) _ more
+    (λ height. checked_stays width height) (side_stays bytes more) not_end)
+    (side_stays bytes more) not_end
 
 pub plain_pixel_stays : Stays plain_pixel
 plain_pixel_stays bytes more not_end =

@@ -5,3 +5,4 @@ pub mod Telling
 pub mod Places
 pub mod Running
 pub mod Digits
+pub mod Headers

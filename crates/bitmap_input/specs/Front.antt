@@ -45,11 +45,13 @@ checked width height bytes =
     else (if nat_lt longest_side width || nat_lt longest_side height then Stops false (Refused TooLarge)
     else Takes false (width, height) bytes)
 
--- the width and the height, each a number after a gap
+-- a side: a number after a gap
+abbrev pub side : List ℕ → Cut ℕ
+side bytes = some_gap BadHeader bytes >>= λ _ rest. number BadHeader rest
+
+-- the width and the height
 abbrev pub sides : List ℕ → Cut (ℕ × ℕ)
-sides bytes =
-    some_gap BadHeader bytes >>= λ _ rest. number BadHeader rest >>= λ width rest.
-    some_gap BadHeader rest >>= λ _ rest. number BadHeader rest >>= λ height rest. checked width height rest
+sides bytes = side bytes >>= λ width rest. side rest >>= λ height rest. checked width height rest
 
 -- a pixel's character, with whitespace and comments before it or not
 abbrev pub plain_pixel : List ℕ → Cut Bool

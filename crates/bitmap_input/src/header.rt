@@ -1,9 +1,10 @@
 //! The header of a page: its magic and its sides.
-ghost use Rattle.std.specs.Prelude.{◌≡◌, ℕ, ◌≤◌, true, false, IfOk};
+ghost use Rattle.std.specs.Prelude.{◌≡◌, ℕ, ◌≤◌, true, false, IfOk, if◌then◌else◌};
 ghost use Rattle.bitmap_input.specs.Reading.{Reads, Counts, Any};
 ghost use Rattle.bitmap_input.specs.Cut.Kind.{BadHeader as bad_header};
 ghost use Rattle.bitmap_input.specs.Parts.{some_gap, space};
-ghost use Rattle.bitmap_input.specs.Front.{magic, magic_behind, sides};
+ghost use Rattle.bitmap_input.specs.Front.{magic, magic_behind, side, sides};
+ghost use Rattle.bitmap_input.specs.Run.{IsCapped};
 ghost use Rattle.bitmap_input.specs.Header.{IsFormat, IsSides, Checks};
 
 use crate::fault::InFault;
@@ -140,6 +141,17 @@ fn check(width: u32, height: u32) -> Result<Sides, Stop>
     Ok(Sides { width, height })
 }
 
+// A side, behind a gap, or 100000 where it is larger.
+fn read_side<I: Inputs>(window: &mut Window, inputs: &mut I) -> Result<u32, Stop>
+    requires { I.is_opened inputs.old ≡ true }
+    ensures reads { Reads IsCapped side window.old (I.files inputs.old) result window.new (I.files inputs.new) }
+    ensures counts { Counts result (I.faults inputs.old) (I.faults inputs.new) }
+    ensures stays_opened { I.is_opened inputs.new ≡ true }
+{
+    skip_gap(window, inputs)?;
+    read_number(window, inputs)
+}
+
 /// The width and the height, each behind a gap.
 pub(crate) fn read_sides<I: Inputs>(window: &mut Window, inputs: &mut I) -> Result<Sides, Stop>
     requires { I.is_opened inputs.old ≡ true }
@@ -149,9 +161,7 @@ pub(crate) fn read_sides<I: Inputs>(window: &mut Window, inputs: &mut I) -> Resu
     ensures width { IfOk result (λ s. (1 ≤ s.width) × (s.width ≤ LONGEST_SIDE)) }
     ensures height { IfOk result (λ s. (1 ≤ s.height) × (s.height ≤ LONGEST_SIDE)) }
 {
-    skip_gap(window, inputs)?;
-    let width = read_number(window, inputs)?;
-    skip_gap(window, inputs)?;
-    let height = read_number(window, inputs)?;
+    let width = read_side(window, inputs)?;
+    let height = read_side(window, inputs)?;
     check(width, height)
 }

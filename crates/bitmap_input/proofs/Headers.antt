@@ -1,0 +1,97 @@
+-- The parts of a header at their first byte, and the check of its sides.
+use Rattle.std.proofs.Common.{subst, Option, Result, Ok, Err, append-nil, ◌++◌, ◌≡◌, refl, ℕ, zero, suc, ◌≤◌, ◌<◌, Bool, true, false, ◌||◌, min, ◌⊎◌, inl, inr, List, [], ◌∷◌, arith, ap, sym, ◌∙◌}
+use Rattle.std.specs.Prelude.{nat_lt}
+use Rattle.std.proofs.lemmas.Bool.{lt-ltb, le-ltb}
+use Rattle.bitmap_input.specs.Cut.{Kind, Ending, Cut}
+use Rattle.bitmap_input.specs.Cut.Kind.{ZeroSide, TooLarge}
+use Rattle.bitmap_input.specs.Cut.Ending.{Refused}
+use Rattle.bitmap_input.specs.Cut.Cut.{Takes, Stops}
+use Rattle.bitmap_input.specs.Parts.{is_zero, gap_length, gap, some_gap}
+use Rattle.bitmap_input.specs.Front.{Magic, checked, longest_side, magic, magic_behind}
+use Rattle.bitmap_input.specs.Run.{IsCapped}
+use Rattle.bitmap_input.specs.declared.stop.Stop.{Stop}
+use Rattle.bitmap_input.specs.declared.header.Sides.{Sides}
+use Rattle.bitmap_input.specs.Header.{IsSides, Checks}
+use Rattle.pt_base.specs.Files.{Files}
+use Rattle.bitmap_input.specs.Reading.{Held, Cause, cause_of, StopsBy, Reads}
+use Rattle.bitmap_input.proofs.Telling.{not_true, stand}
+use Rattle.bitmap_input.specs.Reading.Cause.{Says}
+
+-- a gap that begins at this byte
+pub some_gap_at : (kind : Kind) (b n : ℕ) (bs : List ℕ) → gap_length false (b ∷ bs) ≡ suc n → some_gap kind (b ∷ bs) ≡ gap (b ∷ bs)
+some_gap_at kind b n bs some = rw (ap is_zero some) refl
+
+pub magic_at : (later : Bool) (a : ℕ) (bs : List ℕ) → magic later (a ∷ bs) ≡ magic_behind later a bs
+magic_at true a bs = refl
+magic_at false a bs = refl
+
+some_zero : (m n : ℕ) → (m ≡ 0) ⊎ (n ≡ 0) → (is_zero m || is_zero n) ≡ true
+some_zero zero n h = refl
+some_zero (suc m) zero h = refl
+some_zero (suc m) (suc n) (inl h) = absurd (omega arith)
+some_zero (suc m) (suc n) (inr h) = absurd (omega arith)
+
+no_zero : (m n : ℕ) → 0 < m → 0 < n → (is_zero m || is_zero n) ≡ false
+no_zero zero n a b = absurd (omega arith)
+no_zero (suc m) zero a b = absurd (omega arith)
+no_zero (suc m) (suc n) a b = refl
+
+or_right : (b : Bool) → (b || true) ≡ true
+or_right true = refl
+or_right false = refl
+
+some_large : (m n : ℕ) → (longest_side < m) ⊎ (longest_side < n) → (nat_lt longest_side m || nat_lt longest_side n) ≡ true
+some_large m n (inl h) = let e : nat_lt longest_side m ≡ true = lt-ltb longest_side m h in rw e refl
+some_large m n (inr h) =
+    let e : nat_lt longest_side n ≡ true = lt-ltb longest_side n h in rw e (or_right (nat_lt longest_side m))
+
+no_large : (m n : ℕ) → m ≤ longest_side → n ≤ longest_side → (nat_lt longest_side m || nat_lt longest_side n) ≡ false
+no_large m n a b =
+    let e : nat_lt longest_side m ≡ false = le-ltb longest_side m a in
+    let f : nat_lt longest_side n ≡ false = le-ltb longest_side n b in rw (e, f) refl
+
+pub checks_zero : (x y : ℕ) → (x ≡ 0) ⊎ (y ≡ 0) → (width height : ℕ) → IsCapped x width → IsCapped y height →
+    (ending : Ending) × (Says (Refused ZeroSide) ≡ Says ending) × ((bytes : List ℕ) → checked width height bytes ≡ Stops false ending)
+checks_zero x y zero_side width height a b =
+    let z : (width ≡ 0) ⊎ (height ≡ 0) = elim zero_side [ inl h ↦ inl (omega arith) | inr h ↦ inr (omega arith) ] in
+    (Refused ZeroSide, refl, λ bytes. rw (some_zero width height z) refl)
+
+pub checks_large : (x y : ℕ) → 0 < x → 0 < y → (longest_side < x) ⊎ (longest_side < y) → (width height : ℕ) →
+    IsCapped x width → IsCapped y height →
+    (ending : Ending) × (Says (Refused TooLarge) ≡ Says ending) × ((bytes : List ℕ) → checked width height bytes ≡ Stops false ending)
+checks_large x y some_x some_y large width height a b =
+    let l : (longest_side < width) ⊎ (longest_side < height) = elim large [ inl h ↦ inl (omega arith) | inr h ↦ inr (omega arith) ] in
+    let w : 0 < width = omega arith in
+    let h : 0 < height = omega arith in
+    (Refused TooLarge, refl, λ bytes. rw (no_zero width height w h, some_large width height l) refl)
+
+pub checks_sides : (x y : ℕ) → 0 < x → 0 < y → x ≤ longest_side → y ≤ longest_side → (width height : ℕ) →
+    IsCapped x width → IsCapped y height →
+    (width ≡ x) × (height ≡ y) × ((bytes : List ℕ) → checked width height bytes ≡ Takes false (width, height) bytes)
+checks_sides x y some_x some_y most_x most_y width height a b =
+    let w : 0 < width = omega arith in
+    let h : 0 < height = omega arith in
+    let w2 : width ≤ longest_side = omega arith in
+    let h2 : height ≤ longest_side = omega arith in
+    (omega arith, omega arith, λ bytes. rw (no_zero width height w h, no_large width height w2 h2) refl)
+
+-- the check of the sides as a step that reads nothing
+pub reads_checked : {x y : ℕ} {held : Held} {files : Option Files} {result : Result Sides Stop} (width height : ℕ) →
+    IsCapped x width → IsCapped y height → Checks x y result →
+    Reads IsSides (λ rest. checked width height rest) held files result held files
+reads_checked {held = held} {files = files} {result = Ok s} width height a b checks =
+    let (w, h, is) = checks width height a b in
+    record {
+      more = [];
+      moves = stand held.ended files;
+      gives = (false, (width, height), (w, h), is (held.bytes ++ []) ∙ ap (Takes false (width, height)) (append-nil held.bytes), λ e. absurd (not_true e));
+    }
+reads_checked {held = held} {files = files} {result = Err stop} width height a b checks =
+    let (ending, cause, is) = checks width height a b in
+    let stops : StopsBy (checked width height (held.bytes ++ [])) (Says ending) held
+              = (false, is (held.bytes ++ []), λ e. absurd (not_true e)) in
+    record {
+      more = [];
+      moves = stand held.ended files;
+      gives = subst (λ why. StopsBy (checked width height (held.bytes ++ [])) why held) (sym cause) stops;
+    }
