@@ -6,3 +6,5 @@ pub mod Places
 pub mod Running
 pub mod Digits
 pub mod Headers
+pub mod Painting
+pub mod Blocks

@@ -7,3 +7,4 @@ pub mod Reading
 pub mod Window
 pub mod Run
 pub mod Header
+pub mod Raster

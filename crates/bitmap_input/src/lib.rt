@@ -4,6 +4,8 @@
 pub mod fault;
 mod header;
 mod number;
+mod plain;
+mod raw;
 mod run;
 mod stop;
 mod window;

@@ -1,0 +1,72 @@
+-- A block that is read piece by piece.
+use Rattle.std.proofs.Common.{subst, ◌≡◌, refl, ℕ, zero, suc, ◌+◌, ◌-◌, ◌≤◌, ◌<◌, Bool, true, false, List, [], ◌∷◌, ◌++◌, length, take, drop, arith, ap, sym, ◌∙◌, Option, Result, Ok, Err, append_assoc, append-nil}
+use Rattle.std.specs.Prelude.{nat_lt}
+use Rattle.std.proofs.lemmas.List.{length-append, length-take, length-take-le, take-append-drop, take-take}
+use Rattle.std.proofs.lemmas.Bool.{lt-ltb, le-ltb}
+use Rattle.std.proofs.Math.Seq.{take-append_seam, drop-append_seam, take-append-add}
+use Rattle.std.proofs.lemmas.Slice.{take-put_mid}
+use borrow.Rule.Slice.PartMut.{put_mid}
+use Rattle.pt_base.specs.Files.{Files}
+use Rattle.bitmap_input.specs.declared.fault.InFault.TheVariants as fault
+use Rattle.bitmap_input.specs.declared.stop.Stop.TheVariants as stop
+use Rattle.bitmap_input.specs.Cut.{Cut, is_by_end}
+use Rattle.bitmap_input.specs.Cut.Kind.{Truncated}
+use Rattle.bitmap_input.specs.Cut.Ending.{Refused}
+use Rattle.bitmap_input.specs.Cut.Cut.{Takes, Stops}
+use Rattle.bitmap_input.specs.Parts.{block}
+use Rattle.bitmap_input.specs.Reading.{Held, Moves, Reads}
+use Rattle.bitmap_input.specs.Window.{ReadsOn}
+use Rattle.bitmap_input.specs.Raster.{IsBlockSoFar}
+use Rattle.bitmap_input.proofs.Telling.{not_true, stand, move_on}
+use Rattle.bitmap_input.proofs.Running.{two_splits}
+
+-- a block that isn't there
+no_block : (n : ℕ) (bytes : List ℕ) → length bytes < n → block n bytes ≡ Stops true (Refused Truncated)
+no_block n bytes less = let test : nat_lt (length bytes) n ≡ true = lt-ltb (length bytes) n less in rw test refl
+
+-- a read gave nothing before all of it was read
+pub block_is_short : {old held new : Held} {before files now : Option Files} (n done : ℕ) (row now_row : List ℕ) →
+    IsBlockSoFar old before done row held files → length row ≡ n → done < n → ReadsOn held files new now →
+    new.bytes ≡ [] → new.ended ≡ true →
+    Reads {X = Unit {0}} (λ _ bytes. bytes ≡ now_row) (block n) old before (Err (stop.Fault fault.Truncated)) new now
+block_is_short {old} {held} {new} n done row now_row s len less on none ended =
+    let all = two_splits old.bytes s.more (take done row) held.bytes on.more new.bytes s.split on.bytes in
+    let whole : old.bytes ++ (s.more ++ on.more) ≡ take done row = all ∙ ap (λ xs. take done row ++ xs) none ∙ append-nil (take done row) in
+    record {
+      more = s.more ++ on.more;
+      moves = move_on s.moves on.moves;
+      gives = (true, rw whole (no_block n (take done row) (rw length-take (omega arith))), λ _. ended);
+    }
+
+-- the row that was filled up to a place, and k bytes further
+row_front : (done k : ℕ) (row sub : List ℕ) → done ≤ length row → k ≤ length sub →
+    take (done + k) (put_mid done (length row - done) row sub) ≡ take done row ++ take k sub
+row_front done k row sub within fits =
+    let n : done + k ≤ done + length sub = omega arith in
+    let len : length (take done row) ≡ done = length-take-le done row within in
+    let whole : take (done + length sub) (put_mid done (length row - done) row sub) ≡ take done row ++ sub
+              = take-put_mid done (length row - done) row sub (done + length sub) refl within in
+    sym (take-take (done + k) (done + length sub) (put_mid done (length row - done) row sub) n) ∙
+    ap (take (done + k)) whole ∙
+    subst (λ m. take (m + k) (take done row ++ sub) ≡ take done row ++ take k sub) len (take-append-add (take done row) sub k)
+
+-- k more bytes were read into the row
+pub block_goes_on : {old held look new : Held} {before files now : Option Files} (done k : ℕ) (row sub : List ℕ) →
+    IsBlockSoFar old before done row held files → ReadsOn held files look now → done ≤ length row → k ≤ length sub →
+    take k sub ≡ take k look.bytes → new.bytes ≡ drop k look.bytes → new.ended ≡ look.ended →
+    IsBlockSoFar old before (done + k) (put_mid done (length row - done) row sub) new now
+block_goes_on {old} {held} {look} {new} done k row sub s on within fits copied bytes ended = record {
+  more = s.more ++ on.more;
+  moves = rw ended (move_on s.moves on.moves);
+  split = two_splits old.bytes s.more (take done row) held.bytes on.more look.bytes s.split on.bytes ∙
+    ap (λ xs. take done row ++ xs) (sym (take-append-drop k look.bytes)) ∙
+    sym (append_assoc (take done row) (take k look.bytes) (drop k look.bytes)) ∙
+    rw (row_front done k row sub within fits, copied, bytes) refl;
+}
+
+pub filled_within : (done k : ℕ) (row sub : List ℕ) → done ≤ length row → k ≤ length sub →
+    done + k ≤ length (put_mid done (length row - done) row sub)
+filled_within done k row sub within fits =
+    let P : List ℕ = put_mid done (length row - done) row sub in
+    let e : length (take (done + k) P) ≡ length (take done row ++ take k sub) = ap length (row_front done k row sub within fits) in
+    omega (arith, e, length-take (done + k) P, length-append (take done row) (take k sub), length-take-le done row within, length-take-le k sub fits)

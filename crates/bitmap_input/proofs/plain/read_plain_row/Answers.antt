@@ -1,0 +1,30 @@
+use Rattle.std.proofs.Common.{◌≡◌, ◌-◌, ◌+◌, suc, arith, rules, refl, sym}
+use Rattle.std.proofs.lemmas.Result.{err_from_is_err_and}
+use Rattle.bit_image.specs.Page.{image_of}
+use Rattle.bitmap_input.specs.Raster.{with_pixels}
+use Rattle.bitmap_input.proofs.Appending.{plain_pixel_stays}
+use Rattle.bitmap_input.proofs.Painting.{painting_begins, painting_goes_on, painting_stops, painting_ends, pixel_painted}
+use Rattle.bitmap_input.proofs.plain.read_plain_row.Goals as goal
+
+pub returns-in_err-black-clause-reads : goal.returns-in_err-black-clause-reads
+returns-in_err-black-clause-reads g c =
+    let p = err_from_is_err_and c.from_residual.result c.from_residual.ensures.1 in
+    let one : c.args.page.now.width - c.loop-x.x ≡ suc (c.args.page.now.width - (c.loop-x.x + 1)) = omega arith in
+    rw (p.1, p.2) (painting_stops (image_of c.loop-x.page) c.loop-x.invariant.so_far one c.in_err-black.ensures.reads)
+
+pub loop-x-preserved : goal.loop-x-preserved
+loop-x-preserved g c =
+    let one : c.args.page.now.width - c.loop-x.x ≡ suc (c.args.page.now.width - (c.loop-x.x + 1)) = omega arith in
+    record {
+      so_far = painting_goes_on (with_pixels (image_of c.set.new.self) c.args.y (c.loop-x.x + 1)) plain_pixel_stays
+        c.loop-x.invariant.so_far one c.in_ok-black.ensures.reads
+        (λ a same. pixel_painted (image_of c.loop-x.page) (image_of c.set.new.self) c.loop-x.x c.args.y c.in_ok-black.black a c.set.ensures.pixels same);
+      sides = search rules;
+      end = search rules;
+      steady = search rules;
+      opened = search rules;
+    }
+
+pub returns-clause-reads : goal.returns-clause-reads
+returns-clause-reads g c =
+    painting_ends (image_of c.loop-x.page) c.loop-x.invariant.so_far (omega arith) refl

@@ -1,0 +1,21 @@
+use Rattle.std.proofs.Common.{arith, rules, ◌≤◌, length, length-drop}
+use Rattle.std.proofs.lemmas.List.{length-take}
+use Rattle.bitmap_input.proofs.Blocks.{block_is_short, block_goes_on, filled_within}
+use Rattle.bitmap_input.proofs.raw.read_block.Goals as goal
+
+pub loop-done-preserved : goal.loop-done-preserved
+loop-done-preserved g c =
+    let look = c.in-Byte.ensures.looks in
+    let fits : c.give-done.result ≤ length c.give-done.new.to = omega (arith, c.give-done.auto.to) in
+    record {
+      so_far = block_goes_on c.loop-done.done c.give-done.result c.loop-done.row c.give-done.new.to c.loop-done.invariant.so_far look.0
+        (omega arith) fits c.give-done.ensures.copied c.give-done.ensures.bytes c.give-done.ensures.ended;
+      within = filled_within c.loop-done.done c.give-done.result c.loop-done.row c.give-done.new.to (omega arith) fits;
+      steady = search rules;
+      opened = search rules;
+    }
+
+pub returns-in-End-clause-reads : goal.returns-in-End-clause-reads
+returns-in-End-clause-reads g c =
+    let look = c.in-End.ensures.looks in
+    block_is_short _ c.loop-done.done c.loop-done.row _ c.loop-done.invariant.so_far c.loop-done.auto.row (omega arith) look.0 look.1.0 look.1.1

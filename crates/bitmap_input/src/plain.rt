@@ -1,0 +1,62 @@
+//! Plain rasters: a character for each pixel.
+ghost use Rattle.std.specs.Prelude.{◌≡◌, ℕ, ◌<◌, ◌≤◌, true, false};
+ghost use Rattle.bit_image.specs.Page.{Page, SameSides, image_of};
+ghost use Rattle.bitmap_input.specs.Reading.{Reads, Counts, Same};
+ghost use Rattle.bitmap_input.specs.Parts.{pixel, times};
+ghost use Rattle.bitmap_input.specs.Front.{plain_pixel};
+ghost use Rattle.bitmap_input.specs.Raster.{with_row, with_rows, with_pixels};
+
+use crate::fault::InFault;
+use crate::run::{Run, skip};
+use crate::stop::Stop;
+use crate::window::{Look, Window};
+use bit_image::bitmap::Bitmap;
+use pt_base::inputs::Inputs;
+
+// The character of a pixel: whether it is black.
+fn read_pixel<I: Inputs>(window: &mut Window, inputs: &mut I) -> Result<bool, Stop>
+    requires { I.is_opened inputs.old ≡ true }
+    ensures reads { Reads Same pixel window.old (I.files inputs.old) result window.new (I.files inputs.new) }
+    ensures counts { Counts result (I.faults inputs.old) (I.faults inputs.new) }
+    ensures stays_opened { I.is_opened inputs.new ≡ true }
+{
+    match window.look(inputs) {
+        Look::Byte(byte) => {
+            window.pass();
+            match byte {
+                b'0' => Ok(false),
+                b'1' => Ok(true),
+                _ => Err(Stop::Fault(InFault::BadRaster)),
+            }
+        }
+        Look::End => Err(Stop::Fault(InFault::Truncated)),
+        Look::Fault => Err(Stop::Fault(InFault::ReadFault)),
+    }
+}
+
+// A pixel, with whitespace and comments before it or not.
+fn read_plain_pixel<I: Inputs>(window: &mut Window, inputs: &mut I) -> Result<bool, Stop>
+    requires { I.is_opened inputs.old ≡ true }
+    ensures reads { Reads Same plain_pixel window.old (I.files inputs.old) result window.new (I.files inputs.new) }
+    ensures counts { Counts result (I.faults inputs.old) (I.faults inputs.new) }
+    ensures stays_opened { I.is_opened inputs.new ≡ true }
+{
+    skip(window, inputs, Run::Gap)?;
+    read_pixel(window, inputs)
+}
+
+// One row of pixels, painted in row y.
+fn read_plain_row<I: Inputs>(window: &mut Window, inputs: &mut I, page: &mut Bitmap, y: u32) -> Result<(), Stop>
+    requires opened { I.is_opened inputs.old ≡ true }
+    requires row { y < page.old.height }
+    ensures reads { Reads (λ _ pixels. image_of page.new ≡ with_pixels (image_of page.old) y 0 pixels) (times plain_pixel page.old.width) window.old (I.files inputs.old) result window.new (I.files inputs.new) }
+    ensures sides { SameSides page.old page.new }
+    ensures counts { Counts result (I.faults inputs.old) (I.faults inputs.new) }
+    ensures stays_opened { I.is_opened inputs.new ≡ true }
+{
+    for x in 0..page.width() {
+        let black = read_plain_pixel(window, inputs)?;
+        page.set(x, y, black);
+    }
+    Ok(())
+}
