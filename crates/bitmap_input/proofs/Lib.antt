@@ -8,3 +8,4 @@ pub mod Digits
 pub mod Headers
 pub mod Painting
 pub mod Blocks
+pub mod Placing

@@ -7,14 +7,14 @@ use Rattle.bitmap_input.specs.Cut.{Cut}
 use Rattle.bitmap_input.specs.Parts.{times}
 use Rattle.bitmap_input.specs.Reading.{Held, Moves, Reads}
 
--- the image with these as the first pixels of row y
-abbrev pub with_row : Image → ℕ → List Bool → Image
-with_row b y pixels u v = cond (nat_eq v y && nat_lt u (length pixels)) (slice_index_or pixels u false) (b u v)
-
 -- the image with these pixels in row y, from column x on, one after another
 abbrev pub with_pixels : Image → ℕ → ℕ → List Bool → Image
 with_pixels b y x [] = b
 with_pixels b y x (p ∷ ps) = with_pixels (with_pixel b x y p) y (suc x) ps
+
+-- the image with these as the first pixels of row y
+abbrev pub with_row : Image → ℕ → List Bool → Image
+with_row b y pixels = with_pixels b y 0 pixels
 
 -- the image with these rows, the first one below row y, and the others downwards
 abbrev pub with_rows : Image → ℕ → List (List Bool) → Image

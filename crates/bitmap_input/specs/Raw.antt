@@ -1,5 +1,7 @@
 -- Raw pages, as a file holds them: rows from the top, each of entries (Netpbm's format page "pbm").
-use Rattle.std.specs.Prelude.{ℕ, ◌+◌, ◌/◌, ◌%◌, Bool, List, [], ◌∷◌, ◌++◌, map, nat_eq}
+use Rattle.std.specs.Prelude.{ℕ, suc, ◌+◌, ◌-◌, ◌/◌, ◌%◌, Bool, false, List, [], ◌∷◌, ◌++◌, map, slice_index_or, if◌then◌else◌, nat_eq, nat_lt}
+use Rattle.bit_image.specs.Image.{Image}
+use Rattle.bit_image.specs.Page.{Page, page_of}
 
 -- what the raster holds for one pixel: in PBM a bit, which is 1 where the pixel is black
 pub data Entry : Type 0 where
@@ -40,3 +42,14 @@ unpacked (b ∷ bs) = bits_of b ++ unpacked bs
 -- whether an entry is a black pixel
 abbrev pub black : Entry → Bool
 black (Bit b) = b
+
+-- the image of a raw page: pixel (x, y) comes from entry x of the row that stands y rows above the
+-- lowest one, and outside of the page all is white
+abbrev pub picture_of : Raw → Image
+picture_of raw x y =
+    if nat_lt y raw.height then slice_index_or (map black (slice_index_or raw.rows (raw.height - suc y) [])) x false
+    else false
+
+-- the page of a raw page
+abbrev pub shown : Raw → Page
+shown raw = page_of raw.width raw.height (picture_of raw)

@@ -49,7 +49,7 @@ fn read_plain_pixel<I: Inputs>(window: &mut Window, inputs: &mut I) -> Result<bo
 fn read_plain_row<I: Inputs>(window: &mut Window, inputs: &mut I, page: &mut Bitmap, y: u32) -> Result<(), Stop>
     requires opened { I.is_opened inputs.old ≡ true }
     requires row { y < page.old.height }
-    ensures reads { Reads (λ _ pixels. image_of page.new ≡ with_pixels (image_of page.old) y 0 pixels) (times plain_pixel page.old.width) window.old (I.files inputs.old) result window.new (I.files inputs.new) }
+    ensures reads { Reads (λ _ pixels. image_of page.new ≡ with_row (image_of page.old) y pixels) (times plain_pixel page.old.width) window.old (I.files inputs.old) result window.new (I.files inputs.new) }
     ensures sides { SameSides page.old page.new }
     ensures counts { Counts result (I.faults inputs.old) (I.faults inputs.new) }
     ensures stays_opened { I.is_opened inputs.new ≡ true }
@@ -57,6 +57,22 @@ fn read_plain_row<I: Inputs>(window: &mut Window, inputs: &mut I, page: &mut Bit
     for x in 0..page.width() {
         let black = read_plain_pixel(window, inputs)?;
         page.set(x, y, black);
+    }
+    Ok(())
+}
+
+/// The rows of a plain raster from the top, painted on the page.
+pub(crate) fn read_plain_rows<I: Inputs>(window: &mut Window, inputs: &mut I, page: &mut Bitmap) -> Result<(), Stop>
+    requires { I.is_opened inputs.old ≡ true }
+    ensures reads { Reads (λ _ rows. image_of page.new ≡ with_rows (image_of page.old) page.old.height rows) (times (times plain_pixel page.old.width) page.old.height) window.old (I.files inputs.old) result window.new (I.files inputs.new) }
+    ensures sides { SameSides page.old page.new }
+    ensures counts { Counts result (I.faults inputs.old) (I.faults inputs.new) }
+    ensures stays_opened { I.is_opened inputs.new ≡ true }
+{
+    let mut y = page.height();
+    while y > 0 {
+        y -= 1;
+        read_plain_row(window, inputs, page, y)?;
     }
     Ok(())
 }

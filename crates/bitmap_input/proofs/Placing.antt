@@ -1,0 +1,169 @@
+-- Pixels that are painted in a row one after another, and rows one below another.
+use Rattle.std.proofs.Common.{◌≡◌, refl, ℕ, zero, suc, ◌+◌, ◌-◌, ◌*◌, ◌≤◌, ◌<◌, ◌⊎◌, inl, inr, Bool, true, false, cond, ◌&&◌, List, [], ◌∷◌, ◌++◌, length, take, get_or, arith, ap, sym, ◌∙◌, subst, add-one, add-zero, append_assoc, append-nil}
+use Rattle.std.specs.Prelude.{nat_eq}
+use Rattle.std.proofs.Math.Path.{fun_ext}
+use Rattle.std.proofs.Math.Seq.{take-suc, take-append-add}
+use Rattle.std.proofs.lemmas.List.{length-append, length-take-le, take-take, take-append-le, take_all}
+use Rattle.std.proofs.lemmas.Bool.{eq-eqb, ne_eqb, cases_eq}
+use Rattle.bit_image.specs.Image.{Image, with_pixel}
+use Rattle.bitmap_input.specs.Raw.{bits_of, unpacked}
+use Rattle.bitmap_input.specs.Raster.{with_pixels, with_row, with_rows}
+
+pub with_pixels-append : (b : Image) (y x : ℕ) (ps qs : List Bool) →
+    with_pixels (with_pixels b y x ps) y (x + length ps) qs ≡ with_pixels b y x (ps ++ qs)
+with_pixels-append b y x [] qs = rw add-zero refl
+with_pixels-append b y x (p ∷ ps) qs =
+    let n : x + suc (length ps) ≡ suc x + length ps = omega arith in
+    rw n (with_pixels-append (with_pixel b x y p) y (suc x) ps qs)
+
+-- a pixel elsewhere
+with_pixel-other : (b : Image) (x y u v : ℕ) (p : Bool) → (x ≡ u → y ≡ v → ⊥) → with_pixel b x y p u v ≡ b u v
+with_pixel-other b x y u v p other = elim (cases_eq x u) [
+  | inl e ↦
+      let f : nat_eq x u ≡ true = eq-eqb x u e in
+      let g : nat_eq y v ≡ false = ne_eqb y v (other e) in
+      rw (f, g) refl
+  | inr e ↦ let f : nat_eq x u ≡ false = ne_eqb x u e in rw f refl ]
+
+pub with_pixels-other : (b : Image) (y x u v : ℕ) (ps : List Bool) → (y ≡ v → x ≤ u → u < x + length ps → ⊥) →
+    with_pixels b y x ps u v ≡ b u v
+with_pixels-other b y x u v [] other = refl
+with_pixels-other b y x u v (p ∷ ps) other =
+    with_pixels-other (with_pixel b x y p) y (suc x) u v ps (λ e f g. other e (omega arith) (omega arith)) ∙
+    with_pixel-other b x y u v p (λ e f. other f (omega arith) (omega arith))
+
+-- one of them
+pub with_pixels-at : (b : Image) (y x u k : ℕ) (ps : List Bool) → u ≡ x + k → k < length ps →
+    with_pixels b y x ps u y ≡ get_or ps k false
+with_pixels-at b y x u k [] at within = absurd (omega arith)
+with_pixels-at b y x u zero (p ∷ ps) at within =
+    let same : x ≡ u = omega arith in
+    let e : nat_eq x u ≡ true = eq-eqb x u same in
+    let f : nat_eq y y ≡ true = eq-eqb y y refl in
+    let here : with_pixel b x y p u y ≡ p = rw (e, f) refl in
+    with_pixels-other (with_pixel b x y p) y (suc x) u y ps (λ _ g h. omega arith) ∙ here
+with_pixels-at b y x u (suc k) (p ∷ ps) at within =
+    with_pixels-at (with_pixel b x y p) y (suc x) u k ps (omega arith) (omega arith)
+
+-- white pixels on white change nothing
+with_pixel-white : (b : Image) (x y : ℕ) → b x y ≡ false → with_pixel b x y false ≡ b
+with_pixel-white b x y white = fun_ext (λ u. fun_ext (λ v. elim (cases_eq x u) [
+  | inl e ↦ elim (cases_eq y v) [
+    | inl f ↦
+        let g : nat_eq x u ≡ true = eq-eqb x u e in
+        let h : nat_eq y v ≡ true = eq-eqb y v f in
+        rw (g, h) (sym white ∙ ap (λ m. b m y) e ∙ ap (λ m. b u m) f)
+    | inr f ↦ with_pixel-other b x y u v false (λ _ h. f h) ]
+  | inr e ↦ with_pixel-other b x y u v false (λ h _. e h) ]))
+
+-- all of them are white
+abbrev pub AllWhite : List Bool → Type 0
+AllWhite [] = Unit {0}
+AllWhite (p ∷ ps) = (p ≡ false) × AllWhite ps
+
+take_white : (n : ℕ) (ps : List Bool) → AllWhite ps → AllWhite (take n ps)
+take_white zero ps h = tt
+take_white (suc n) [] h = tt
+take_white (suc n) (p ∷ ps) h = (h.0, take_white n ps h.1)
+
+with_pixels-white : (b : Image) (y x : ℕ) (ps : List Bool) → AllWhite ps → ((u : ℕ) → x ≤ u → b u y ≡ false) →
+    with_pixels b y x ps ≡ b
+with_pixels-white b y x [] all white = refl
+with_pixels-white b y x (p ∷ ps) all white =
+    let here : with_pixel b x y p ≡ b = ap (with_pixel b x y) all.0 ∙ with_pixel-white b x y (white x (omega arith)) in
+    rw here (with_pixels-white b y (suc x) ps all.1 (λ u h. white u (omega arith)))
+
+-- one more pixel of a byte, where the page reaches so far
+pub bit_placed : (b c d : Image) (y x k w : ℕ) (black : Bool) (bits : List Bool) →
+    c ≡ with_pixels b y x (take (w - x) (take k bits)) → ((u v : ℕ) → d u v ≡ with_pixel c (x + k) y black u v) →
+    black ≡ get_or bits k false → k < length bits → x + k < w →
+    d ≡ with_pixels b y x (take (w - x) (take (k + 1) bits))
+bit_placed b c d y x k w black bits so_far set is within room =
+    let len : length (take k bits) ≡ k = length-take-le k bits (omega arith) in
+    let before : take (w - x) (take k bits) ≡ take k bits = take_all (w - x) (take k bits) (omega arith) in
+    let more : take (suc k) bits ≡ take k bits ++ black ∷ [] = rw is (take-suc bits k false within) in
+    let len_more : length (take k bits ++ black ∷ []) ≡ k + 1 = rw (length-append, len) refl in
+    let all : take (w - x) (take k bits ++ black ∷ []) ≡ take k bits ++ black ∷ [] = take_all (w - x) (take k bits ++ black ∷ []) (omega arith) in
+    let whole : d ≡ with_pixel c (x + k) y black = fun_ext (λ u. fun_ext (λ v. set u v)) in
+    let row : c ≡ with_pixels b y x (take k bits) = so_far ∙ ap (with_pixels b y x) before in
+    let step : with_pixel (with_pixels b y x (take k bits)) (x + length (take k bits)) y black ≡ with_pixels b y x (take k bits ++ black ∷ [])
+             = with_pixels-append b y x (take k bits) (black ∷ []) in
+    let at : with_pixel (with_pixels b y x (take k bits)) (x + k) y black ≡ with_pixels b y x (take k bits ++ black ∷ [])
+           = subst (λ m. with_pixel (with_pixels b y x (take k bits)) (x + m) y black ≡ with_pixels b y x (take k bits ++ black ∷ [])) len step in
+    whole ∙ ap (λ i. with_pixel i (x + k) y black) row ∙ at ∙
+    rw (add-one, more, all) refl
+
+-- a pixel of a byte that the page doesn't reach
+pub bit_past : (b c : Image) (y x k w : ℕ) (bits : List Bool) → c ≡ with_pixels b y x (take (w - x) (take k bits)) → w ≤ x + k →
+    c ≡ with_pixels b y x (take (w - x) (take (k + 1) bits))
+bit_past b c y x k w bits so_far past =
+    let n : w - x ≤ k = omega arith in
+    let m : w - x ≤ k + 1 = omega arith in
+    so_far ∙ rw (take-take (w - x) k bits n, take-take (w - x) (k + 1) bits m) refl
+
+unpacked-append : (xs ys : List ℕ) → unpacked (xs ++ ys) ≡ unpacked xs ++ unpacked ys
+unpacked-append [] ys = refl
+unpacked-append (x ∷ xs) ys =
+    ap (λ zs. bits_of x ++ zs) (unpacked-append xs ys) ∙ sym (append_assoc (bits_of x) (unpacked xs) (unpacked ys))
+
+length-unpacked : (xs : List ℕ) → length (unpacked xs) ≡ 8 * length xs
+length-unpacked [] = refl
+length-unpacked (x ∷ xs) = omega (arith, length-append (bits_of x) (unpacked xs), length-unpacked xs)
+
+module _ (w i byte : ℕ) (bytes : List ℕ) (within : i < length bytes) (reaches : 8 * i ≤ w) where
+  -- the pixels of the bytes before
+  length_before : length (unpacked (take i bytes)) ≡ 8 * i
+  length_before = length-unpacked (take i bytes) ∙ ap (λ n. 8 * n) (length-take-le i bytes (omega arith))
+
+  all_before : take w (unpacked (take i bytes)) ≡ unpacked (take i bytes)
+  all_before = take_all w (unpacked (take i bytes)) (omega (arith, length_before))
+
+  -- the row with one more byte
+  row_more : byte ≡ get_or bytes i 0 →
+      take w (unpacked (take (i + 1) bytes)) ≡ unpacked (take i bytes) ++ take (w - 8 * i) (bits_of byte)
+  row_more is =
+      let xs : List Bool = unpacked (take i bytes) in
+      let one : take (suc i) bytes ≡ take i bytes ++ byte ∷ [] = rw is (take-suc bytes i 0 within) in
+      let n : length xs + (w - 8 * i) ≡ w = omega (arith, length_before) in
+      let more : take (length xs + (w - 8 * i)) (xs ++ bits_of byte) ≡ xs ++ take (w - 8 * i) (bits_of byte)
+               = take-append-add xs (bits_of byte) (w - 8 * i) in
+      let whole : take w (xs ++ bits_of byte) ≡ xs ++ take (w - 8 * i) (bits_of byte)
+                = subst (λ m. take m (xs ++ bits_of byte) ≡ xs ++ take (w - 8 * i) (bits_of byte)) n more in
+      rw (add-one, one, unpacked-append, append-nil) whole
+
+  -- one more byte was painted
+  pub byte_placed : (b c d : Image) (y : ℕ) → byte ≡ get_or bytes i 0 →
+      c ≡ with_row b y (take w (unpacked (take i bytes))) → d ≡ with_pixels c y (8 * i) (take (w - 8 * i) (bits_of byte)) →
+      d ≡ with_row b y (take w (unpacked (take (i + 1) bytes)))
+  byte_placed b c d y is so_far placed =
+      let xs : List Bool = unpacked (take i bytes) in
+      let row : c ≡ with_row b y xs = so_far ∙ ap (with_row b y) all_before in
+      let more : with_pixels (with_pixels b y 0 xs) y (0 + length xs) (take (w - 8 * i) (bits_of byte)) ≡ with_pixels b y 0 (xs ++ take (w - 8 * i) (bits_of byte))
+               = with_pixels-append b y 0 xs (take (w - 8 * i) (bits_of byte)) in
+      let n : 0 + length xs ≡ 8 * i = omega (arith, length_before) in
+      let at : with_pixels (with_pixels b y 0 xs) y (8 * i) (take (w - 8 * i) (bits_of byte)) ≡ with_pixels b y 0 (xs ++ take (w - 8 * i) (bits_of byte))
+             = subst (λ m. with_pixels (with_pixels b y 0 xs) y m (take (w - 8 * i) (bits_of byte)) ≡ with_pixels b y 0 (xs ++ take (w - 8 * i) (bits_of byte))) n more in
+      placed ∙ ap (λ c. with_pixels c y (8 * i) (take (w - 8 * i) (bits_of byte))) row ∙ at ∙ ap (with_row b y) (sym (row_more is))
+
+  -- a byte of white pixels needs no painting on a white row
+  pub byte_left : (b c : Image) (y : ℕ) → byte ≡ get_or bytes i 0 → byte ≡ 0 → ((u : ℕ) → b u y ≡ false) →
+      c ≡ with_row b y (take w (unpacked (take i bytes))) →
+      c ≡ with_row b y (take w (unpacked (take (i + 1) bytes)))
+  byte_left b c y is zero_byte white so_far =
+      let xs : List Bool = unpacked (take i bytes) in
+      let row : c ≡ with_row b y xs = so_far ∙ ap (with_row b y) all_before in
+      let white_here : (u : ℕ) → 8 * i ≤ u → c u y ≡ false
+                     = λ u h. ap (λ (c : Image). c u y) row ∙ with_pixels-other b y 0 u y xs (λ _ _ below. omega (arith, length_before)) ∙ white u in
+      let bits : AllWhite (bits_of byte) = rw zero_byte (refl, (refl, (refl, (refl, (refl, (refl, (refl, (refl, tt)))))))) in
+      byte_placed b c c y is so_far
+      (sym (with_pixels-white c y (8 * i) (take (w - 8 * i) (bits_of byte)) (take_white (w - 8 * i) (bits_of byte) bits) white_here))
+
+-- the next row below
+pub row_painted : (c d : Image) (y below : ℕ) (r : List Bool) → y ≡ suc below → d ≡ with_row c below r → (rs : List (List Bool)) →
+    with_rows d below rs ≡ with_rows c y (r ∷ rs)
+row_painted c d y below r next painted rs = rw (next, painted) refl
+
+-- a painted row leaves the rows below it white
+pub white_below : (c d : Image) (y v u : ℕ) (r : List Bool) → d ≡ with_row c y r → v < y → c u v ≡ false → d u v ≡ false
+white_below c d y v u r painted below white =
+    ap (λ (i : Image). i u v) painted ∙ with_pixels-other c y 0 u v r (λ e _ _. omega arith) ∙ white

@@ -1,0 +1,43 @@
+use Rattle.std.proofs.Common.{sym, false, arith, rules, refl, subst, ap, ◌∙◌, ◌≡◌, ◌-◌, suc, take}
+use Rattle.std.proofs.lemmas.Result.{err_from_is_err_and}
+use Rattle.bit_image.specs.Page.{image_of}
+use Rattle.bitmap_input.specs.Cut.Cut.{Takes}
+use Rattle.bitmap_input.specs.Raw.{row_bytes, unpacked}
+use Rattle.bitmap_input.specs.Raster.{with_row, with_rows}
+use Rattle.bitmap_input.proofs.Appending.{raw_row_stays}
+use Rattle.bitmap_input.proofs.Telling.{reads_map, reads_stop}
+use Rattle.bitmap_input.proofs.Painting.{painting_goes_on, painting_stops, painting_ends}
+use Rattle.bitmap_input.proofs.Placing.{row_painted, white_below}
+use Rattle.bitmap_input.proofs.raw.read_raw_rows.Goals as goal
+
+pub loop-y-preserved : goal.loop-y-preserved
+unfolding image_of
+loop-y-preserved g c =
+    let one : c.loop-y.y ≡ suc (c.loop-y.y - 1) = omega arith in
+    let row = rw c.loop-y.invariant.row at c.in_ok-read_block.ensures.reads in
+    let pixels = rw c.loop-y.invariant.sides.width at c.place_row.ensures.pixels in
+    record {
+      so_far = painting_goes_on (with_rows (image_of c.place_row.new.page) (c.loop-y.y - 1)) (raw_row_stays c.args.page.now.width)
+        c.loop-y.invariant.so_far one (reads_map {js = λ _ pixels. image_of c.place_row.new.page ≡ with_row (image_of c.loop-y.page) (c.loop-y.y - 1) pixels}
+        (λ bytes. take c.args.page.now.width (unpacked bytes))
+        (λ _ bytes same. pixels ∙ ap (λ bytes. with_row (image_of c.loop-y.page) (c.loop-y.y - 1) (take c.args.page.now.width (unpacked bytes))) (sym same)) row)
+        (λ a painted. row_painted (image_of c.loop-y.page) (image_of c.place_row.new.page) c.loop-y.y (c.loop-y.y - 1) a one painted);
+      sides = search rules;
+      white = λ u v below. white_below (image_of c.loop-y.page) (image_of c.place_row.new.page) (c.loop-y.y - 1) v u (take c.loop-y.page.width (unpacked c.read_block.new.row)) c.place_row.ensures.pixels below (c.loop-y.invariant.white u v (omega arith));
+      row = search rules;
+      within = omega arith;
+      steady = search rules;
+      opened = search rules;
+    }
+
+pub returns-in_err-read_block-clause-reads : goal.returns-in_err-read_block-clause-reads
+returns-in_err-read_block-clause-reads g c =
+    let p = err_from_is_err_and c.from_residual.result c.from_residual.ensures.1 in
+    let one : c.loop-y.y ≡ suc (c.loop-y.y - 1) = omega arith in
+    let row = rw c.loop-y.invariant.row at c.in_err-read_block.ensures.reads in
+    rw (p.1, p.2) (painting_stops {X = Unit {0}} {is = λ _ pixels. image_of c.loop-y.page ≡ with_row (image_of c.loop-y.page) (c.loop-y.y - 1) pixels} (image_of c.loop-y.page) c.loop-y.invariant.so_far one
+    (reads_stop (λ bytes rest. Takes false (take c.args.page.now.width (unpacked bytes)) rest) row))
+
+pub returns-clause-reads : goal.returns-clause-reads
+returns-clause-reads g c =
+    painting_ends (image_of c.loop-y.page) c.loop-y.invariant.so_far (omega arith) refl

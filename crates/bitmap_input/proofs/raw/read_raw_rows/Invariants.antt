@@ -1,0 +1,23 @@
+use Rattle.std.proofs.Common.{◌≡◌, ℕ, ◌<◌, ◌≤◌, true, false, length}
+use Rattle.bit_image.specs.Page.{SameSides, image_of}
+use Rattle.bitmap_input.specs.Raw.{row_bytes}
+use Rattle.bitmap_input.specs.Front.{raw_row}
+use Rattle.bitmap_input.specs.Raster.{with_rows, IsPaintedSoFar}
+use Rattle.bitmap_input.proofs.raw.read_raw_rows.Given as goal
+
+abbrev pub invariant-loop-y : goal.invariant-loop-y
+invariant-loop-y g l =
+    let source = g.I.Inputs in
+    record {
+      so_far : IsPaintedSoFar (raw_row l.fn.page.width) l.fn.window (source.files l.fn.inputs) (with_rows (image_of l.fn.page) l.fn.page.height) l.fn.page.height
+        l.window (source.files l.inputs) (with_rows (image_of l.page) l.y) l.y;
+      sides : SameSides l.fn.page l.page;
+      white : (u v : ℕ) → v < l.y → image_of l.page u v ≡ false;
+      row : length l.row ≡ row_bytes l.fn.page.width;
+      within : l.y ≤ l.fn.page.height;
+      steady : source.faults l.inputs ≡ source.faults l.fn.inputs;
+      opened : source.is_opened l.inputs ≡ true;
+    }
+
+abbrev pub decreases-loop-y : goal.decreases-loop-y
+decreases-loop-y g l = l.y
