@@ -9,3 +9,5 @@ pub mod Headers
 pub mod Painting
 pub mod Blocks
 pub mod Placing
+pub mod Showing
+pub mod Bodies

@@ -4,6 +4,8 @@ use Rattle.std.proofs.lemmas.List.{length-append, length-take, length-drop, drop
 use Rattle.std.proofs.Math.Seq.{drop-nil, take-add}
 use Rattle.pt_base.specs.Files.{Files, Opened, taken_of, with_read, unread_of, unread}
 use Rattle.bitmap_input.specs.declared.stop.Stop.{Stop}
+use Rattle.bitmap_input.specs.declared.stop.Stop.TheVariants as stop
+use Rattle.bitmap_input.specs.declared.fault.InFault.TheVariants as fault
 use Rattle.bitmap_input.specs.Cut.{Kind, Ending, Cut, is_by_end, after, with_more, ◌>>=◌}
 use Rattle.bitmap_input.specs.Cut.Cut.{Takes, Stops}
 use Rattle.bitmap_input.specs.Reading.{Held, AtEnd, Moves, Cause, cause_of, StopsBy, Gives, Reads}
@@ -223,3 +225,20 @@ reads_pass {is = is} {part = part} {other = other} {mid = mid} {passed = passed}
     let left : passed.bytes ≡ bs = bytes ∙ ap (drop 1) here in
     let whole : part (mid.bytes ++ r.more) ≡ other (passed.bytes ++ r.more) = rw (here, left) (same (bs ++ r.more)) in
     reads_after on record { more = r.more; moves = rw (← ended) r.moves; gives = rw whole r.gives }
+
+-- a step that makes another value of the one that it read
+pub reads_made : {A B X Y : Type 0} {is : X → A → Type 0} {js : Y → B → Type 0} {part : List ℕ → Cut A}
+    {old new : Held} {files now : Option Files} {x : X} (f : A → B) (y : Y) → ((a : A) → is x a → js y (f a)) →
+    Reads is part old files (Ok x) new now → Reads js (λ bytes. part bytes >>= λ a rest. Takes false (f a) rest) old files (Ok y) new now
+reads_made f y same r =
+    let (e, a, is_x, takes, settled) = r.gives in
+    record {
+      more = r.more;
+      moves = r.moves;
+      gives = (e || false, f a, same a is_x, ap (λ c. c >>= λ a rest. Takes false (f a) rest) takes, λ h. settled (or_false e h));
+    }
+
+-- memory is wanting, and nothing was read
+pub reads_memory : {A X : Type 0} (is : X → A → Type 0) (part : List ℕ → Cut A) (held : Held) (files : Option Files) →
+    Reads is part held files (Err (stop.Fault fault.NoMemory)) held files
+reads_memory is part held files = record { more = []; moves = stand held.ended files; gives = tt }

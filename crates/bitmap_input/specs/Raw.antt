@@ -1,5 +1,5 @@
 -- Raw pages, as a file holds them: rows from the top, each of entries (Netpbm's format page "pbm").
-use Rattle.std.specs.Prelude.{ℕ, suc, ◌+◌, ◌-◌, ◌/◌, ◌%◌, Bool, false, List, [], ◌∷◌, ◌++◌, map, slice_index_or, if◌then◌else◌, nat_eq, nat_lt}
+use Rattle.std.specs.Prelude.{◌≡◌, ℕ, suc, ◌+◌, ◌-◌, ◌/◌, ◌%◌, Bool, false, List, [], ◌∷◌, ◌++◌, map, slice_index_or, if◌then◌else◌, nat_eq, nat_lt}
 use Rattle.bit_image.specs.Image.{Image}
 use Rattle.bit_image.specs.Page.{Page, page_of}
 
@@ -53,3 +53,6 @@ picture_of raw x y =
 -- the page of a raw page
 abbrev pub shown : Raw → Page
 shown raw = page_of raw.width raw.height (picture_of raw)
+
+abbrev pub IsShown : Page → Raw → Type 0
+IsShown page raw = page ≡ shown raw
