@@ -258,7 +258,7 @@ page_stays later bytes more not_end =
 answer_stays : (bytes more : List ℕ) (c : Cut Raw) → answer_of (bytes ++ more) (with_more more c) ≡ answer_of bytes c
 answer_stays bytes more (Takes e raw rest) =
     let a : length (bytes ++ more) - length (rest ++ more) ≡ length bytes - length rest
-          = omega (arith, length-append bytes more, length-append rest more) in
+    = omega (arith, length-append bytes more, length-append rest more) in
     ap (λ n. Page raw n) a
 answer_stays bytes more (Stops e ending) = refl
 

@@ -45,7 +45,7 @@ row_front done k row sub within fits =
     let n : done + k ≤ done + length sub = omega arith in
     let len : length (take done row) ≡ done = length-take-le done row within in
     let whole : take (done + length sub) (put_mid done (length row - done) row sub) ≡ take done row ++ sub
-              = take-put_mid done (length row - done) row sub (done + length sub) refl within in
+    = take-put_mid done (length row - done) row sub (done + length sub) refl within in
     sym (take-take (done + k) (done + length sub) (put_mid done (length row - done) row sub) n) ∙
     ap (take (done + k)) whole ∙
     subst (λ m. take (m + k) (take done row ++ sub) ≡ take done row ++ take k sub) len (take-append-add (take done row) sub k)
@@ -59,9 +59,9 @@ block_goes_on {old} {held} {look} {new} done k row sub s on within fits copied b
   more = s.more ++ on.more;
   moves = rw ended (move_on s.moves on.moves);
   split = two_splits old.bytes s.more (take done row) held.bytes on.more look.bytes s.split on.bytes ∙
-    ap (λ xs. take done row ++ xs) (sym (take-append-drop k look.bytes)) ∙
-    sym (append_assoc (take done row) (take k look.bytes) (drop k look.bytes)) ∙
-    rw (row_front done k row sub within fits, copied, bytes) refl;
+      ap (λ xs. take done row ++ xs) (sym (take-append-drop k look.bytes)) ∙
+      sym (append_assoc (take done row) (take k look.bytes) (drop k look.bytes)) ∙
+      rw (row_front done k row sub within fits, copied, bytes) refl;
 }
 
 pub filled_within : (done k : ℕ) (row sub : List ℕ) → done ≤ length row → k ≤ length sub →

@@ -27,8 +27,8 @@ module _ {mid new : Held} {fmid now : Option Files} (row : ℕ → List ℕ → 
       Reads IsShown (rows_part row a.0 a.1) mid fmid (Ok q) new now
   rows_shown q white sides whole r =
       let at_sides = reads_made {js = IsShown} (bits_page p.width p.height) q
-          (λ rows counted. shown_rows q (image_of p) p.width p.height rows whole sides.width sides.height white counted.1 counted.0)
-          (reads_counted (row p.width) p.height r) in
+      (λ rows counted. shown_rows q (image_of p) p.width p.height rows whole sides.width sides.height white counted.1 counted.0)
+      (reads_counted (row p.width) p.height r) in
       let at_width = subst (λ w. Reads IsShown (rows_part row w p.height) mid fmid (Ok q) new now) (wide ∙ sym is.0) at_sides in
       subst (λ h. Reads IsShown (rows_part row a.0 h) mid fmid (Ok q) new now) (high ∙ sym is.1) at_width
 

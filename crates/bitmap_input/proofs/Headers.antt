@@ -89,7 +89,7 @@ reads_checked {held = held} {files = files} {result = Ok s} width height a b che
 reads_checked {held = held} {files = files} {result = Err stop} width height a b checks =
     let (ending, cause, is) = checks width height a b in
     let stops : StopsBy (checked width height (held.bytes ++ [])) (Says ending) held
-              = (false, is (held.bytes ++ []), λ e. absurd (not_true e)) in
+    = (false, is (held.bytes ++ []), λ e. absurd (not_true e)) in
     record {
       more = [];
       moves = stand held.ended files;

@@ -11,3 +11,5 @@ pub mod Blocks
 pub mod Placing
 pub mod Showing
 pub mod Bodies
+pub mod Keeping
+pub mod Answering

@@ -25,8 +25,8 @@ module _ {A : Type 0} {part : List ℕ → Cut A} {old : Held} {before : Option 
       IsPaintedSoFar part old before whole n mid fmid next fewer
   painting_goes_on {fewer = fewer} next stays s one step same = record {
     then = λ result new now final r. s.then result new now final
-      (subst (λ m. Reads (λ _ xs. final ≡ rest xs) (times part m) held files result new now) (sym one)
-      (reads_on stays step (λ a is_a. reads_map (λ xs. a ∷ xs) (λ _ xs is. is ∙ same a is_a xs) r)));
+        (subst (λ m. Reads (λ _ xs. final ≡ rest xs) (times part m) held files result new now) (sym one)
+        (reads_on stays step (λ a is_a. reads_map (λ xs. a ∷ xs) (λ _ xs is. is ∙ same a is_a xs) r)));
   }
 
   -- the next one could not be read

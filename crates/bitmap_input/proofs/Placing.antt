@@ -23,7 +23,8 @@ with_pixel-other b x y u v p other = elim (cases_eq x u) [
       let f : nat_eq x u ≡ true = eq-eqb x u e in
       let g : nat_eq y v ≡ false = ne_eqb y v (other e) in
       rw (f, g) refl
-  | inr e ↦ let f : nat_eq x u ≡ false = ne_eqb x u e in rw f refl ]
+  | inr e ↦ let f : nat_eq x u ≡ false = ne_eqb x u e in rw f refl
+]
 
 pub with_pixels-other : (b : Image) (y x u v : ℕ) (ps : List Bool) → (y ≡ v → x ≤ u → u < x + length ps → ⊥) →
     with_pixels b y x ps u v ≡ b u v
@@ -53,8 +54,10 @@ with_pixel-white b x y white = fun_ext (λ u. fun_ext (λ v. elim (cases_eq x u)
         let g : nat_eq x u ≡ true = eq-eqb x u e in
         let h : nat_eq y v ≡ true = eq-eqb y v f in
         rw (g, h) (sym white ∙ ap (λ m. b m y) e ∙ ap (λ m. b u m) f)
-    | inr f ↦ with_pixel-other b x y u v false (λ _ h. f h) ]
-  | inr e ↦ with_pixel-other b x y u v false (λ h _. e h) ]))
+    | inr f ↦ with_pixel-other b x y u v false (λ _ h. f h)
+  ]
+  | inr e ↦ with_pixel-other b x y u v false (λ h _. e h)
+]))
 
 -- all of them are white
 abbrev pub AllWhite : List Bool → Type 0
@@ -87,9 +90,9 @@ bit_placed b c d y x k w black bits so_far set is within room =
     let whole : d ≡ with_pixel c (x + k) y black = fun_ext (λ u. fun_ext (λ v. set u v)) in
     let row : c ≡ with_pixels b y x (take k bits) = so_far ∙ ap (with_pixels b y x) before in
     let step : with_pixel (with_pixels b y x (take k bits)) (x + length (take k bits)) y black ≡ with_pixels b y x (take k bits ++ black ∷ [])
-             = with_pixels-append b y x (take k bits) (black ∷ []) in
+    = with_pixels-append b y x (take k bits) (black ∷ []) in
     let at : with_pixel (with_pixels b y x (take k bits)) (x + k) y black ≡ with_pixels b y x (take k bits ++ black ∷ [])
-           = subst (λ m. with_pixel (with_pixels b y x (take k bits)) (x + m) y black ≡ with_pixels b y x (take k bits ++ black ∷ [])) len step in
+    = subst (λ m. with_pixel (with_pixels b y x (take k bits)) (x + m) y black ≡ with_pixels b y x (take k bits ++ black ∷ [])) len step in
     whole ∙ ap (λ i. with_pixel i (x + k) y black) row ∙ at ∙
     rw (add-one, more, all) refl
 
@@ -126,9 +129,9 @@ module _ (w i byte : ℕ) (bytes : List ℕ) (within : i < length bytes) (reache
       let one : take (suc i) bytes ≡ take i bytes ++ byte ∷ [] = rw is (take-suc bytes i 0 within) in
       let n : length xs + (w - 8 * i) ≡ w = omega (arith, length_before) in
       let more : take (length xs + (w - 8 * i)) (xs ++ bits_of byte) ≡ xs ++ take (w - 8 * i) (bits_of byte)
-               = take-append-add xs (bits_of byte) (w - 8 * i) in
+      = take-append-add xs (bits_of byte) (w - 8 * i) in
       let whole : take w (xs ++ bits_of byte) ≡ xs ++ take (w - 8 * i) (bits_of byte)
-                = subst (λ m. take m (xs ++ bits_of byte) ≡ xs ++ take (w - 8 * i) (bits_of byte)) n more in
+      = subst (λ m. take m (xs ++ bits_of byte) ≡ xs ++ take (w - 8 * i) (bits_of byte)) n more in
       rw (add-one, one, unpacked-append, append-nil) whole
 
   -- one more byte was painted
@@ -139,10 +142,10 @@ module _ (w i byte : ℕ) (bytes : List ℕ) (within : i < length bytes) (reache
       let xs : List Bool = unpacked (take i bytes) in
       let row : c ≡ with_row b y xs = so_far ∙ ap (with_row b y) all_before in
       let more : with_pixels (with_pixels b y 0 xs) y (0 + length xs) (take (w - 8 * i) (bits_of byte)) ≡ with_pixels b y 0 (xs ++ take (w - 8 * i) (bits_of byte))
-               = with_pixels-append b y 0 xs (take (w - 8 * i) (bits_of byte)) in
+      = with_pixels-append b y 0 xs (take (w - 8 * i) (bits_of byte)) in
       let n : 0 + length xs ≡ 8 * i = omega (arith, length_before) in
       let at : with_pixels (with_pixels b y 0 xs) y (8 * i) (take (w - 8 * i) (bits_of byte)) ≡ with_pixels b y 0 (xs ++ take (w - 8 * i) (bits_of byte))
-             = subst (λ m. with_pixels (with_pixels b y 0 xs) y m (take (w - 8 * i) (bits_of byte)) ≡ with_pixels b y 0 (xs ++ take (w - 8 * i) (bits_of byte))) n more in
+      = subst (λ m. with_pixels (with_pixels b y 0 xs) y m (take (w - 8 * i) (bits_of byte)) ≡ with_pixels b y 0 (xs ++ take (w - 8 * i) (bits_of byte))) n more in
       placed ∙ ap (λ c. with_pixels c y (8 * i) (take (w - 8 * i) (bits_of byte))) row ∙ at ∙ ap (with_row b y) (sym (row_more is))
 
   -- a byte of white pixels needs no painting on a white row
@@ -153,7 +156,7 @@ module _ (w i byte : ℕ) (bytes : List ℕ) (within : i < length bytes) (reache
       let xs : List Bool = unpacked (take i bytes) in
       let row : c ≡ with_row b y xs = so_far ∙ ap (with_row b y) all_before in
       let white_here : (u : ℕ) → 8 * i ≤ u → c u y ≡ false
-                     = λ u h. ap (λ (c : Image). c u y) row ∙ with_pixels-other b y 0 u y xs (λ _ _ below. omega (arith, length_before)) ∙ white u in
+      = λ u h. ap (λ (c : Image). c u y) row ∙ with_pixels-other b y 0 u y xs (λ _ _ below. omega (arith, length_before)) ∙ white u in
       let bits : AllWhite (bits_of byte) = rw zero_byte (refl, (refl, (refl, (refl, (refl, (refl, (refl, (refl, tt)))))))) in
       byte_placed b c c y is so_far
       (sym (with_pixels-white c y (8 * i) (take (w - 8 * i) (bits_of byte)) (take_white (w - 8 * i) (bits_of byte) bits) white_here))

@@ -54,7 +54,6 @@ pub two_splits : (old more used mid more2 new : List ℕ) → old ++ more ≡ us
 two_splits old more used mid more2 new a b =
     sym (append_assoc old more more2) ∙ ap (λ xs. xs ++ more2) a ∙ append_assoc used mid more2 ∙ ap (λ xs. used ++ xs) (sym b)
 
-
 module _ (len len_now : List ℕ → ℕ) (old mid new : Held) (before f now : Option Files) (n : ℕ) (s : RunSoFar len len_now old before n mid f) where
   -- the run ends before the bytes at hand, or with them where a read gave nothing
   run_ends : {X : Type 0} (x : X) → ReadsOn mid f new now → len_now new.bytes ≡ 0 →
@@ -113,7 +112,7 @@ run_goes_on len len_now len_next old mid look new before f now n m b bs s reads 
       used = s.used ++ b ∷ [];
       moves = rw ended (move_on s.moves reads.moves);
       split = two_splits old.bytes s.more s.used mid.bytes reads.more look.bytes s.split reads.bytes
-        ∙ ap (λ xs. s.used ++ xs) (here ∙ ap (λ xs. b ∷ xs) (sym left)) ∙ sym (append_assoc s.used (b ∷ []) new.bytes);
+          ∙ ap (λ xs. s.used ++ xs) (here ∙ ap (λ xs. b ∷ xs) (sym left)) ∙ sym (append_assoc s.used (b ∷ []) new.bytes);
       count = rw (length-append, one, s.count) refl;
       goes_on = λ tail. rw (append_assoc, s.goes_on (b ∷ tail), step tail, one) (omega arith);
     }

@@ -30,7 +30,8 @@ rows_above b (suc y) u v (r ∷ rs) above =
 row_at : (b : Image) (y u : ℕ) (r : List Bool) → b u y ≡ false → with_row b y r u y ≡ get_or r u false
 row_at b y u r white = elim (cases_lt u (length r)) [
   | inl h ↦ with_pixels-at b y 0 u u r (omega arith) h
-  | inr h ↦ with_pixels-other b y 0 u y r (λ _ _ g. omega arith) ∙ white ∙ sym (get_or_past r u false h) ]
+  | inr h ↦ with_pixels-other b y 0 u y r (λ _ _ g. omega arith) ∙ white ∙ sym (get_or_past r u false h)
+]
 
 -- the rows from the top down
 rows_at : (b : Image) (h u v : ℕ) (rows : List (List Bool)) → ((u v : ℕ) → v < h → b u v ≡ false) → length rows ≡ h → v < h →
@@ -45,7 +46,8 @@ rows_at b (suc y) u v (r ∷ rs) white len within = elim (cases_lt v y) [
   | inr h ↦
       let e : v ≡ y = omega arith in
       let n : suc y - suc v ≡ 0 = omega arith in
-      rw n (rows_above (with_row b y r) y u v rs h ∙ ap (with_row b y r u) e ∙ row_at b y u r (white u y (omega arith))) ]
+      rw n (rows_above (with_row b y r) y u v rs h ∙ ap (with_row b y r u) e ∙ row_at b y u r (white u y (omega arith)))
+]
 
 black-bits : (row : List Bool) → map black (map (λ b. Bit b) row) ≡ row
 black-bits [] = refl
@@ -57,23 +59,24 @@ picture_at b w h u v rows white len = elim (cases_lt v h) [
   | inl within ↦
       let test : nat_lt v h ≡ true = lt-ltb v h within in
       let row : get_or (map (map (λ b. Bit b)) rows) (h - suc v) [] ≡ map (λ b. Bit b) (get_or rows (h - suc v) [])
-              = get_or-map (map (λ b. Bit b)) rows (h - suc v) [] in
+      = get_or-map (map (λ b. Bit b)) rows (h - suc v) [] in
       rw (test, row, black-bits) (rows_at b h u v rows (λ u v _. white u v) len within)
   | inr above ↦
       let test : nat_lt v h ≡ false = le-ltb v h above in
-      rw test (rows_above b h u v rows above ∙ white u v) ]
+      rw test (rows_above b h u v rows above ∙ white u v)
+]
 
 -- the page that was painted
 pub shown_rows : (p : Pixels) (b : Image) (w h : ℕ) (rows : List (List Bool)) → p ≡ page_of p.width p.height (image_of p) →
     p.width ≡ w → p.height ≡ h → IsWhite b → length rows ≡ h → image_of p ≡ with_rows b h rows → p ≡ shown (bits_page w h rows)
 shown_rows p b w h rows whole width height white len painted =
     let image : image_of p ≡ picture_of (bits_page w h rows)
-              = painted ∙ fun_ext (λ u. fun_ext (λ v. picture_at b w h u v rows white len)) in
+    = painted ∙ fun_ext (λ u. fun_ext (λ v. picture_at b w h u v rows white len)) in
     whole ∙ ap (λ w. page_of w p.height (image_of p)) width ∙ ap (λ h. page_of w h (image_of p)) height ∙ ap (page_of w h) image
 
 -- A part that is read so many times has so many values.
 
-after_takes : {A : Type 0} (d e : Bool) (c : Cut A) (x : A) (rest : List ℕ) → after d c ≡ Takes e x rest →
+pub after_takes : {A : Type 0} (d e : Bool) (c : Cut A) (x : A) (rest : List ℕ) → after d c ≡ Takes e x rest →
     (f : Bool) × (c ≡ Takes f x rest)
 after_takes d e (Takes f y r) x rest h = (f, cc)
 after_takes d e (Stops f ending) x rest h = cc

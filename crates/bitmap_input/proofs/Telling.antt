@@ -71,18 +71,20 @@ pub move_on : {e e2 e3 : Bool} {f f2 f3 : Option Files} {more more2 : List ℕ} 
     Moves e f e2 f2 more → Moves e2 f2 e3 f3 more2 → Moves e f e3 f3 (more ++ more2)
 move_on {e} {e2} {e3} {f} {f2} {f3} {more} {more2} a b =
     let both : f3 ≡ with_read f (length more + length more2)
-             = b.files ∙ ap (λ g. with_read g (length more2)) a.files ∙ with_read-with_read (length more) (length more2) f in
+    = b.files ∙ ap (λ g. with_read g (length more2)) a.files ∙ with_read-with_read (length more) (length more2) f in
     record {
       files = rw length-append both;
       told = told_both f more more2 a.told (rw a.files at b.told);
       stopped = λ h. let s = a.stopped h in let t = b.stopped s.1 in (rw (s.0, t.0) refl, t.1);
       end = λ h. elim (b.end h) [
-        inl mid ↦ elim (a.end mid) [
-          inl old ↦ inl old
+        | inl mid ↦ elim (a.end mid) [
+          | inl old ↦ inl old
           | inr at_end ↦ inr (let none = (b.stopped mid).0 in
-            let same : f3 ≡ f2 = b.files ∙ ap (λ (m : List ℕ). with_read f2 (length m)) none ∙ with_read-none f2 in
-            subst AtEnd (sym same) at_end) ]
-        | inr at_end ↦ inr at_end ];
+              let same : f3 ≡ f2 = b.files ∙ ap (λ (m : List ℕ). with_read f2 (length m)) none ∙ with_read-none f2 in
+              subst AtEnd (sym same) at_end)
+        ]
+        | inr at_end ↦ inr at_end
+      ];
     }
 
 -- What a cut gives when the one before it was by the end or not.
@@ -134,7 +136,7 @@ reads_on {js = js} {part = part} {next = next} {old = old} {mid = mid} {new = ne
     let ended : e ≡ true → new.ended ≡ true = λ h. (t.moves.stopped (settled h)).1 in
     let first = first_stays part e a (old.bytes ++ r.more) mid.bytes t.more stays takes none in
     let whole : part (old.bytes ++ (r.more ++ t.more)) ≡ Takes e a (mid.bytes ++ t.more)
-              = ap part (sym (append_assoc old.bytes r.more t.more)) ∙ first in
+    = ap part (sym (append_assoc old.bytes r.more t.more)) ∙ first in
     record {
       more = r.more ++ t.more;
       moves = move_on r.moves t.moves;

@@ -15,5 +15,5 @@ next_begins bytes raw used = max used (run_length is_space bytes + raw.least_len
 pub data FilePages : Bool → List ℕ → List Raw → Ending → Type 0 where
   Ended : {later : Bool} {bytes : List ℕ} {ending : Ending} → front later bytes ≡ Ends ending → FilePages later bytes [] ending
   Next : {later : Bool} {bytes : List ℕ} {raw : Raw} {used : ℕ} {raws : List Raw} {ending : Ending} →
-    front later bytes ≡ Page raw used → FilePages true (drop (next_begins bytes raw used) bytes) raws ending →
-    FilePages later bytes (raw ∷ raws) ending
+      front later bytes ≡ Page raw used → FilePages true (drop (next_begins bytes raw used) bytes) raws ending →
+      FilePages later bytes (raw ∷ raws) ending

@@ -27,8 +27,8 @@ abbrev pub magic_behind : Bool → ℕ → List ℕ → Cut Magic
 magic_behind later a [] = no_magic true later
 magic_behind later a (b ∷ rest) =
     if nat_eq a 80 then
-      (if nat_eq b 49 then Takes false PlainBits rest
-      else (if nat_eq b 52 then Takes false RawBits rest else no_magic false later))
+    (if nat_eq b 49 then Takes false PlainBits rest
+    else (if nat_eq b 52 then Takes false RawBits rest else no_magic false later))
     else no_magic false later
 
 -- two bytes that name the format of the page, where `later` says that a page came before

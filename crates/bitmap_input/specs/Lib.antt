@@ -8,3 +8,4 @@ pub mod Window
 pub mod Run
 pub mod Header
 pub mod Raster
+pub mod Reader

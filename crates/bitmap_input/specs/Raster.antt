@@ -26,8 +26,8 @@ with_rows b (suc y) (r ∷ rs) = with_rows (with_row b y r) y rs
 -- here on is the rest of the whole
 pub record IsPaintedSoFar {A : Type 0} (part : List ℕ → Cut A) (old : Held) (before : Option Files) (whole : List A → Image) (n : ℕ) (held : Held) (files : Option Files) (rest : List A → Image) (left : ℕ) : Type 0 where
   pub then : (result : Result (Unit {0}) Stop) (new : Held) (now : Option Files) (final : Image) →
-    Reads (λ _ xs. final ≡ rest xs) (times part left) held files result new now →
-    Reads (λ _ xs. final ≡ whole xs) (times part n) old before result new now
+      Reads (λ _ xs. final ≡ rest xs) (times part left) held files result new now →
+      Reads (λ _ xs. final ≡ whole xs) (times part n) old before result new now
 
 -- the first bytes of a block were read, `done` of them
 pub record IsBlockSoFar (old : Held) (before : Option Files) (done : ℕ) (row : List ℕ) (held : Held) (files : Option Files) : Type 0 where

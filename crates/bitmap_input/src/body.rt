@@ -27,7 +27,11 @@ fn known(page: &Bitmap)
 }
 
 // A plain page of bits, behind its magic.
-fn read_plain_body<I: Inputs>(alloc: Global, window: &mut Window, inputs: &mut I) -> Result<Bitmap, Stop>
+fn read_plain_body<I: Inputs>(
+    alloc: Global,
+    window: &mut Window,
+    inputs: &mut I,
+) -> Result<Bitmap, Stop>
     requires { I.is_opened inputs.old ≡ true }
     ensures reads { Reads IsShown (body plain_bits) window.old (I.files inputs.old) result window.new (I.files inputs.new) }
     ensures counts { Counts result (I.faults inputs.old) (I.faults inputs.new) }
@@ -44,7 +48,11 @@ fn read_plain_body<I: Inputs>(alloc: Global, window: &mut Window, inputs: &mut I
 }
 
 // A raw page of bits, behind its magic.
-fn read_raw_body<I: Inputs>(alloc: Global, window: &mut Window, inputs: &mut I) -> Result<Bitmap, Stop>
+fn read_raw_body<I: Inputs>(
+    alloc: Global,
+    window: &mut Window,
+    inputs: &mut I,
+) -> Result<Bitmap, Stop>
     requires { I.is_opened inputs.old ≡ true }
     ensures reads { Reads IsShown (body raw_bits) window.old (I.files inputs.old) result window.new (I.files inputs.new) }
     ensures counts { Counts result (I.faults inputs.old) (I.faults inputs.new) }
@@ -62,7 +70,12 @@ fn read_raw_body<I: Inputs>(alloc: Global, window: &mut Window, inputs: &mut I) 
 }
 
 /// The page of this format, behind its magic.
-pub(crate) fn read_body<I: Inputs>(alloc: Global, window: &mut Window, inputs: &mut I, format: Format) -> Result<Bitmap, Stop>
+pub(crate) fn read_body<I: Inputs>(
+    alloc: Global,
+    window: &mut Window,
+    inputs: &mut I,
+    format: Format,
+) -> Result<Bitmap, Stop>
     requires { I.is_opened inputs.old ≡ true }
     ensures reads { Reads IsShown (body (magic_of format)) window.old (I.files inputs.old) result window.new (I.files inputs.new) }
     ensures counts { Counts result (I.faults inputs.old) (I.faults inputs.new) }

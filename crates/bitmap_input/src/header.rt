@@ -45,7 +45,12 @@ fn no_magic(later: bool) -> Stop
 }
 
 // The second byte of a magic, behind the first one.
-fn read_magic_behind<I: Inputs>(window: &mut Window, inputs: &mut I, later: bool, first: u8) -> Result<Format, Stop>
+fn read_magic_behind<I: Inputs>(
+    window: &mut Window,
+    inputs: &mut I,
+    later: bool,
+    first: u8,
+) -> Result<Format, Stop>
     requires { I.is_opened inputs.old ≡ true }
     ensures reads { Reads IsFormat (magic_behind later first) window.old (I.files inputs.old) result window.new (I.files inputs.new) }
     ensures counts { Counts result (I.faults inputs.old) (I.faults inputs.new) }
@@ -66,7 +71,11 @@ fn read_magic_behind<I: Inputs>(window: &mut Window, inputs: &mut I, later: bool
 }
 
 /// The magic of a page, where `later` says that a page of this file came before.
-pub(crate) fn read_magic<I: Inputs>(window: &mut Window, inputs: &mut I, later: bool) -> Result<Format, Stop>
+pub(crate) fn read_magic<I: Inputs>(
+    window: &mut Window,
+    inputs: &mut I,
+    later: bool,
+) -> Result<Format, Stop>
     requires { I.is_opened inputs.old ≡ true }
     ensures reads { Reads IsFormat (magic later) window.old (I.files inputs.old) result window.new (I.files inputs.new) }
     ensures counts { Counts result (I.faults inputs.old) (I.faults inputs.new) }

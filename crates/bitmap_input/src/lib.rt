@@ -4,9 +4,11 @@
 mod body;
 pub mod fault;
 mod header;
+pub mod next;
 mod number;
 mod plain;
 mod raw;
+pub mod reader;
 mod run;
 mod stop;
 mod window;

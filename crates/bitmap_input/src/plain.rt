@@ -46,7 +46,12 @@ fn read_plain_pixel<I: Inputs>(window: &mut Window, inputs: &mut I) -> Result<bo
 }
 
 // One row of pixels, painted in row y.
-fn read_plain_row<I: Inputs>(window: &mut Window, inputs: &mut I, page: &mut Bitmap, y: u32) -> Result<(), Stop>
+fn read_plain_row<I: Inputs>(
+    window: &mut Window,
+    inputs: &mut I,
+    page: &mut Bitmap,
+    y: u32,
+) -> Result<(), Stop>
     requires opened { I.is_opened inputs.old ≡ true }
     requires row { y < page.old.height }
     ensures reads { Reads (λ _ pixels. image_of page.new ≡ with_row (image_of page.old) y pixels) (times plain_pixel page.old.width) window.old (I.files inputs.old) result window.new (I.files inputs.new) }
@@ -62,7 +67,11 @@ fn read_plain_row<I: Inputs>(window: &mut Window, inputs: &mut I, page: &mut Bit
 }
 
 /// The rows of a plain raster from the top, painted on the page.
-pub(crate) fn read_plain_rows<I: Inputs>(window: &mut Window, inputs: &mut I, page: &mut Bitmap) -> Result<(), Stop>
+pub(crate) fn read_plain_rows<I: Inputs>(
+    window: &mut Window,
+    inputs: &mut I,
+    page: &mut Bitmap,
+) -> Result<(), Stop>
     requires { I.is_opened inputs.old ≡ true }
     ensures reads { Reads (λ _ rows. image_of page.new ≡ with_rows (image_of page.old) page.old.height rows) (times (times plain_pixel page.old.width) page.old.height) window.old (I.files inputs.old) result window.new (I.files inputs.new) }
     ensures sides { SameSides page.old page.new }

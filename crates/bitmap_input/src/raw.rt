@@ -86,7 +86,11 @@ fn place_row(page: &mut Bitmap, y: u32, bytes: &[u8])
 const LONGEST_ROW: usize = 2048;
 
 /// The rows of a raw raster from the top, painted on the page, which is white.
-pub(crate) fn read_raw_rows<I: Inputs>(window: &mut Window, inputs: &mut I, page: &mut Bitmap) -> Result<(), Stop>
+pub(crate) fn read_raw_rows<I: Inputs>(
+    window: &mut Window,
+    inputs: &mut I,
+    page: &mut Bitmap,
+) -> Result<(), Stop>
     requires opened { I.is_opened inputs.old ≡ true }
     requires white { IsWhite (image_of page.old) }
     ensures reads { Reads (λ _ rows. image_of page.new ≡ with_rows (image_of page.old) page.old.height rows) (times (raw_row page.old.width) page.old.height) window.old (I.files inputs.old) result window.new (I.files inputs.new) }

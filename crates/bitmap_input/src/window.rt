@@ -64,6 +64,13 @@ impl Window {
         self.ended = false;
     }
 
+    /// No more bytes are held than the buffer has room for.
+    pub(crate) fn bounded(&self)
+        ensures { length self.now.bytes ≤ 65536 }
+    {
+        let _start = &self.start;
+    }
+
     // Takes the next bytes from the inputs, where none are left here.
     fn fill<I: Inputs>(&mut self, inputs: &mut I) -> Result<(), DeviceFault>
         requires opened { I.is_opened inputs.old ≡ true }

@@ -17,8 +17,8 @@ loop-x-preserved g c =
     let one : c.args.page.now.width - c.loop-x.x ≡ suc (c.args.page.now.width - (c.loop-x.x + 1)) = omega arith in
     record {
       so_far = painting_goes_on (with_pixels (image_of c.set.new.self) c.args.y (c.loop-x.x + 1)) plain_pixel_stays
-        c.loop-x.invariant.so_far one c.in_ok-black.ensures.reads
-        (λ a same. pixel_painted (image_of c.loop-x.page) (image_of c.set.new.self) c.loop-x.x c.args.y c.in_ok-black.black a c.set.ensures.pixels same);
+          c.loop-x.invariant.so_far one c.in_ok-black.ensures.reads
+          (λ a same. pixel_painted (image_of c.loop-x.page) (image_of c.set.new.self) c.loop-x.x c.args.y c.in_ok-black.black a c.set.ensures.pixels same);
       sides = search rules;
       end = search rules;
       steady = search rules;

@@ -9,7 +9,7 @@ invariant-loop-x g l =
     let source = g.I.Inputs in
     record {
       so_far : IsPaintedSoFar plain_pixel l.fn.window (source.files l.fn.inputs) (with_pixels (image_of l.fn.page) l.y 0) l.fn.page.width
-        l.window (source.files l.inputs) (with_pixels (image_of l.page) l.y l.x) (l.fn.page.width - l.x);
+          l.window (source.files l.inputs) (with_pixels (image_of l.page) l.y l.x) (l.fn.page.width - l.x);
       sides : SameSides l.fn.page l.page;
       end : l.x-end ≡ l.fn.page.width;
       steady : source.faults l.inputs ≡ source.faults l.fn.inputs;

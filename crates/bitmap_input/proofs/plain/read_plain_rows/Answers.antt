@@ -16,8 +16,8 @@ loop-y-preserved g c =
     let row = rw c.loop-y.invariant.sides.width at c.in_ok-read_plain_row.ensures.reads in
     record {
       so_far = painting_goes_on (with_rows (image_of c.read_plain_row.new.page) (c.loop-y.y - 1)) (times_stay plain_pixel plain_pixel_stays c.args.page.now.width)
-        c.loop-y.invariant.so_far one row
-        (λ a painted. row_painted (image_of c.loop-y.page) (image_of c.read_plain_row.new.page) c.loop-y.y (c.loop-y.y - 1) a one painted);
+          c.loop-y.invariant.so_far one row
+          (λ a painted. row_painted (image_of c.loop-y.page) (image_of c.read_plain_row.new.page) c.loop-y.y (c.loop-y.y - 1) a one painted);
       sides = search rules;
       within = omega arith;
       steady = search rules;

@@ -10,7 +10,7 @@ invariant-loop-y g l =
     let source = g.I.Inputs in
     record {
       so_far : IsPaintedSoFar (times plain_pixel l.fn.page.width) l.fn.window (source.files l.fn.inputs) (with_rows (image_of l.fn.page) l.fn.page.height) l.fn.page.height
-        l.window (source.files l.inputs) (with_rows (image_of l.page) l.y) l.y;
+          l.window (source.files l.inputs) (with_rows (image_of l.page) l.y) l.y;
       sides : SameSides l.fn.page l.page;
       within : l.y ≤ l.fn.page.height;
       steady : source.faults l.inputs ≡ source.faults l.fn.inputs;

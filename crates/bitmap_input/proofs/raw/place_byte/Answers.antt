@@ -8,16 +8,17 @@ use Rattle.bitmap_input.proofs.raw.place_byte.Goals.{then-column-width, else-col
 
 pub loop-k-preserved : goal.loop-k-preserved
 loop-k-preserved c = elim c.if-column-width.branch [
-  then-column-width w ↦ record {
+  | then-column-width w ↦ record {
     pixels = rw w.page-is (bit_placed (image_of c.args.page.now) (image_of c.loop-k.page) (image_of w.set.new.self) c.args.y c.args.x c.loop-k.k
-      c.args.page.now.width (get_or (bits_of c.args.byte) c.loop-k.k false) (bits_of c.args.byte)
-      c.loop-k.invariant.pixels (subst (λ (bits : List Bool). (u v : ℕ) → image_of w.set.new.self u v
+        c.args.page.now.width (get_or (bits_of c.args.byte) c.loop-k.k false) (bits_of c.args.byte)
+        c.loop-k.invariant.pixels (subst (λ (bits : List Bool). (u v : ℕ) → image_of w.set.new.self u v
         ≡ with_pixel (image_of c.loop-k.page) (c.args.x + c.loop-k.k) c.args.y (get_or bits c.loop-k.k false) u v)
         c.bits-bits.ensures w.set.ensures.pixels) refl c.loop-k-test.true (omega arith));
     sides = rw w.page-is (search rules);
   }
   | else-column-width w ↦ record {
     pixels = rw w.page-is (bit_past (image_of c.args.page.now) (image_of c.loop-k.page) c.args.y c.args.x c.loop-k.k c.args.page.now.width (bits_of c.args.byte)
-      c.loop-k.invariant.pixels (omega arith));
+        c.loop-k.invariant.pixels (omega arith));
     sides = rw w.page-is (search rules);
-  } ]
+  }
+]

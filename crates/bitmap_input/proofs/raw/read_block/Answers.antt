@@ -9,7 +9,7 @@ loop-done-preserved g c =
     let fits : c.give-done.result ≤ length c.give-done.new.to = omega (arith, c.give-done.auto.to) in
     record {
       so_far = block_goes_on c.loop-done.done c.give-done.result c.loop-done.row c.give-done.new.to c.loop-done.invariant.so_far look.0
-        (omega arith) fits c.give-done.ensures.copied c.give-done.ensures.bytes c.give-done.ensures.ended;
+          (omega arith) fits c.give-done.ensures.copied c.give-done.ensures.bytes c.give-done.ensures.ended;
       within = filled_within c.loop-done.done c.give-done.result c.loop-done.row c.give-done.new.to (omega arith) fits;
       steady = search rules;
       opened = search rules;

@@ -18,10 +18,10 @@ loop-y-preserved g c =
     let pixels = rw c.loop-y.invariant.sides.width at c.place_row.ensures.pixels in
     record {
       so_far = painting_goes_on (with_rows (image_of c.place_row.new.page) (c.loop-y.y - 1)) (raw_row_stays c.args.page.now.width)
-        c.loop-y.invariant.so_far one (reads_map {js = λ _ pixels. image_of c.place_row.new.page ≡ with_row (image_of c.loop-y.page) (c.loop-y.y - 1) pixels}
-        (λ bytes. take c.args.page.now.width (unpacked bytes))
-        (λ _ bytes same. pixels ∙ ap (λ bytes. with_row (image_of c.loop-y.page) (c.loop-y.y - 1) (take c.args.page.now.width (unpacked bytes))) (sym same)) row)
-        (λ a painted. row_painted (image_of c.loop-y.page) (image_of c.place_row.new.page) c.loop-y.y (c.loop-y.y - 1) a one painted);
+          c.loop-y.invariant.so_far one (reads_map {js = λ _ pixels. image_of c.place_row.new.page ≡ with_row (image_of c.loop-y.page) (c.loop-y.y - 1) pixels}
+          (λ bytes. take c.args.page.now.width (unpacked bytes))
+          (λ _ bytes same. pixels ∙ ap (λ bytes. with_row (image_of c.loop-y.page) (c.loop-y.y - 1) (take c.args.page.now.width (unpacked bytes))) (sym same)) row)
+          (λ a painted. row_painted (image_of c.loop-y.page) (image_of c.place_row.new.page) c.loop-y.y (c.loop-y.y - 1) a one painted);
       sides = search rules;
       white = λ u v below. white_below (image_of c.loop-y.page) (image_of c.place_row.new.page) (c.loop-y.y - 1) v u (take c.loop-y.page.width (unpacked c.read_block.new.row)) c.place_row.ensures.pixels below (c.loop-y.invariant.white u v (omega arith));
       row = search rules;

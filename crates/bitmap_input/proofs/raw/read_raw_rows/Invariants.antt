@@ -10,7 +10,7 @@ invariant-loop-y g l =
     let source = g.I.Inputs in
     record {
       so_far : IsPaintedSoFar (raw_row l.fn.page.width) l.fn.window (source.files l.fn.inputs) (with_rows (image_of l.fn.page) l.fn.page.height) l.fn.page.height
-        l.window (source.files l.inputs) (with_rows (image_of l.page) l.y) l.y;
+          l.window (source.files l.inputs) (with_rows (image_of l.page) l.y) l.y;
       sides : SameSides l.fn.page l.page;
       white : (u v : ℕ) → v < l.y → image_of l.page u v ≡ false;
       row : length l.row ≡ row_bytes l.fn.page.width;

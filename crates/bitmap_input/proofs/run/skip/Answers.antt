@@ -36,8 +36,8 @@ loop-n-preserved g c =
     let look = c.in-Byte.ensures.looks in
     record {
       so_far = run_goes_on (length_of c.args.run) (length_of c.loop-n.run) (length_of c.in-Some.next) c.args.window.now c.loop-n.window c.look.new.self c.pass.new.self
-        (g.I.Inputs.files c.args.inputs.now) (g.I.Inputs.files c.loop-n.inputs) (g.I.Inputs.files c.look.new.inputs) c.loop-n.n _ c.in-Byte.byte look.1.0
-        c.loop-n.invariant.so_far look.0 look.1.1 c.in-Some.ensures c.pass.ensures.bytes c.pass.ensures.ended (omega arith);
+          (g.I.Inputs.files c.args.inputs.now) (g.I.Inputs.files c.loop-n.inputs) (g.I.Inputs.files c.look.new.inputs) c.loop-n.n _ c.in-Byte.byte look.1.0
+          c.loop-n.invariant.so_far look.0 look.1.1 c.in-Some.ensures c.pass.ensures.bytes c.pass.ensures.ended (omega arith);
       most = omega arith;
       steady = search rules;
       opened = search rules;

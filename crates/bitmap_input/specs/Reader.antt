@@ -1,0 +1,106 @@
+-- The reader of a file's pages, and what its answers say of the file.
+use Rattle.std.specs.Prelude.{◌≡◌, ℕ, ◌+◌, Bool, true, false, nat_lt, List, [], ◌++◌, drop, Option, IfSome, Result, Ok, Err}
+use Rattle.pt_base.specs.Files.{Files, unread}
+use Rattle.bit_image.specs.Page.{Page as Pixels}
+use Rattle.bitmap_input.specs.declared.fault.InFault.{InFault}
+use Rattle.bitmap_input.specs.declared.next.Next.{Next}
+use Rattle.bitmap_input.specs.declared.next.Next.TheVariants as next
+use Rattle.bitmap_input.specs.Cut.{Ending, is_by_end}
+use Rattle.bitmap_input.specs.Cut.Ending.{End, Trailing}
+use Rattle.bitmap_input.specs.Raw.{Raw, shown}
+use Rattle.bitmap_input.specs.Front.{Answer, front, page_at}
+use Rattle.bitmap_input.specs.Front.Answer.{Page, Ends}
+use Rattle.bitmap_input.specs.Reading.{Moves, Cause, cause_of_fault}
+use Rattle.bitmap_input.specs.Reading.Cause.{Says, Device, Memory}
+
+-- the bytes that were taken from the file and not used yet, how many bytes are still to be skipped
+-- behind the last page (none, for the formats that are read today), how many pages were given,
+-- whether a read has given nothing, and whether the reader is over
+pub record Reader : Type 0 where
+  pub bytes : List ℕ
+  pub skip : ℕ
+  pub pages : ℕ
+  pub ended : Bool
+  pub over : Bool
+
+-- a reader before the first byte of a file
+abbrev pub at_start : Reader
+at_start = record { bytes = []; skip = 0; pages = 0; ended = false; over = false }
+
+-- a page of this file came before
+abbrev pub is_later : Reader → Bool
+is_later reader = nat_lt 0 reader.pages
+
+-- bytes were taken for this answer, and together with those that were at hand they say it; where they
+-- say it by their end, a read has given nothing
+pub record Answers (old : Reader) (before : Option Files) (answer : Answer) (new : Reader) (now : Option Files) : Type 0 where
+  pub more : List ℕ
+  pub moves : Moves old.ended before new.ended now more
+  pub is : front (is_later old) (old.bytes ++ more) ≡ answer
+  pub settled : is_by_end (page_at (is_later old) (old.bytes ++ more)) ≡ true → new.ended ≡ true
+
+-- the next page was given: the bytes behind those that it takes are left
+pub record GivesPage (old : Reader) (before : Option Files) (page : Pixels) (new : Reader) (now : Option Files) : Type 0 where
+  pub raw : Raw
+  pub used : ℕ
+  pub answers : Answers old before (Page raw used) new now
+  pub shows : page ≡ shown raw
+  pub left : new.bytes ≡ drop used (old.bytes ++ answers.more)
+  pub counted : new.pages ≡ old.pages + 1
+  pub going_on : new.over ≡ false
+
+-- the pages end so, and the reader is over
+pub record GivesEnding (old : Reader) (before : Option Files) (ending : Ending) (new : Reader) (now : Option Files) : Type 0 where
+  pub answers : Answers old before (Ends ending) new now
+  pub over : new.over ≡ true
+
+-- a read failed: the bytes that were taken for this page say what they say by their end alone, and no
+-- read had given nothing
+pub record Breaks (old : Reader) (before : Option Files) (new : Reader) (now : Option Files) : Type 0 where
+  pub more : List ℕ
+  pub moves : Moves old.ended before new.ended now more
+  pub by_end : is_by_end (page_at (is_later old) (old.bytes ++ more)) ≡ true
+  pub going_on : new.ended ≡ false
+  pub over : new.over ≡ true
+
+-- memory is wanting: the inputs stand where the reading left them
+pub record Starves (old : Reader) (before : Option Files) (new : Reader) (now : Option Files) : Type 0 where
+  pub more : List ℕ
+  pub moves : Moves old.ended before new.ended now more
+  pub over : new.over ≡ true
+
+-- whether the answer is Over
+abbrev pub is_over : Result Next InFault → Bool
+is_over (Ok next.Over) = true
+is_over (Ok (next.Page page)) = false
+is_over (Ok next.End) = false
+is_over (Ok next.Trailing) = false
+is_over (Err f) = false
+
+-- this holds of the page, where the answer is one
+abbrev pub IfPage : Result Next InFault → (Pixels → Type 0) → Type 0
+IfPage (Ok (next.Page page)) P = P page
+IfPage (Ok next.Over) P = Unit {0}
+IfPage (Ok next.End) P = Unit {0}
+IfPage (Ok next.Trailing) P = Unit {0}
+IfPage (Err f) P = Unit {0}
+
+abbrev pub IfSays : Cause → (Ending → Type 0) → Type 0
+IfSays (Says ending) P = P ending
+IfSays Device P = Unit {0}
+IfSays Memory P = Unit {0}
+
+-- this holds of the ending, where the answer is End, Trailing or a refusal
+abbrev pub IfEnding : Result Next InFault → (Ending → Type 0) → Type 0
+IfEnding (Ok next.End) P = P End
+IfEnding (Ok next.Trailing) P = P Trailing
+IfEnding (Ok (next.Page page)) P = Unit {0}
+IfEnding (Ok next.Over) P = Unit {0}
+IfEnding (Err f) P = IfSays (cause_of_fault f) P
+
+-- the next page is this one, as the whole rest of the file tells
+pub record TellsPage (old : Reader) (rest : List ℕ) (page : Pixels) : Type 0 where
+  pub raw : Raw
+  pub used : ℕ
+  pub is : front (is_later old) (old.bytes ++ rest) ≡ Page raw used
+  pub shows : page ≡ shown raw

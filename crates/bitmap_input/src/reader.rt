@@ -1,0 +1,139 @@
+//! The reader of the pages of a file.
+ghost use Rattle.std.specs.Prelude.{◌≡◌, ℕ, ◌<◌, ◌≤◌, ◌++◌, true, false, length, IfOk, IfSome, OnOk, IsErrOf};
+ghost use Rattle.pt_base.specs.Counts.{Rose};
+ghost use Rattle.pt_base.specs.Files.{unread};
+ghost use Rattle.bitmap_input.specs.Reading.{AtEnd, Reads, Counts};
+ghost use Rattle.bitmap_input.specs.Raw.{IsShown};
+ghost use Rattle.bitmap_input.specs.Front.{front, page_at};
+ghost use Rattle.bitmap_input.specs.Front.Answer.{Ends};
+ghost use Rattle.bitmap_input.specs.Reader.{at_start, is_later, GivesPage, GivesEnding, Breaks, Starves, TellsPage, is_over, IfPage, IfEnding};
+
+use crate::body::read_body;
+use crate::fault::InFault;
+use crate::header::read_magic;
+use crate::next::Next;
+use crate::run::{Run, skip};
+use crate::stop::Stop;
+use crate::window::Window;
+use bit_image::bitmap::Bitmap;
+use pt_base::fault::NoMemory;
+use pt_base::inputs::Inputs;
+use std::alloc::Global;
+use std::marker::Model;
+
+/// A reader of the pages of the opened file, one after another.
+#[derive(Debug, Drop)]
+pub struct PageReader {
+    window: Window,
+    pages: u32,
+    over: bool,
+}
+
+impl Model for PageReader {
+    ghost use Rattle.std.specs.Prelude.{◌≤◌, length};
+    ghost use Rattle.bitmap_input.specs.Reader.{Reader};
+
+    ghost Value = { Reader };
+
+    ghost view = { λ r. record { bytes = r.window.bytes; skip = 0; pages = r.pages; ended = r.window.ended; over = r.over } };
+
+    ghost invariant = { λ r. length r.window.bytes ≤ 65536 };
+}
+
+// The next page, behind whitespace.
+fn read_page<I: Inputs>(
+    alloc: Global,
+    window: &mut Window,
+    inputs: &mut I,
+    later: bool,
+) -> Result<Bitmap, Stop>
+    requires { I.is_opened inputs.old ≡ true }
+    ensures reads { Reads IsShown (page_at later) window.old (I.files inputs.old) result window.new (I.files inputs.new) }
+    ensures counts { Counts result (I.faults inputs.old) (I.faults inputs.new) }
+    ensures stays_opened { I.is_opened inputs.new ≡ true }
+{
+    skip(window, inputs, Run::Space)?;
+    let format = read_magic(window, inputs, later)?;
+    read_body(alloc, window, inputs, format)
+}
+
+impl PageReader {
+    /// A reader before the first byte of a file, with a buffer of 65,536 bytes.
+    pub fn new(alloc: Global) -> Result<PageReader, NoMemory>
+        ensures { IfOk result (λ reader. reader ≡ at_start) }
+    {
+        let window = Window::new(alloc)?;
+        Ok(PageReader {
+            window,
+            pages: 0,
+            over: false,
+        })
+    }
+
+    /// Makes the reader ready for a file that was opened, and forgets the bytes of the one before.
+    pub fn start(&mut self)
+        ensures { self.new ≡ at_start }
+    {
+        self.window.clear();
+        self.pages = 0;
+        self.over = false;
+    }
+
+    /// How many pages of this file were given.
+    pub fn pages(&self) -> u32
+        ensures { result ≡ self.now.pages }
+    {
+        self.pages
+    }
+
+    /// Reads the next page of the opened file.
+    pub fn next<I: Inputs>(&mut self, alloc: Global, inputs: &mut I) -> Result<Next, InFault>
+        requires opened { I.is_opened inputs.old ≡ true }
+        requires room { self.old.pages < 4294967295 }
+        requires at_end { self.old.ended ≡ true → AtEnd (I.files inputs.old) }
+
+        // The reader is over after the end of a file and after each fault, and then does nothing.
+        ensures over { is_over result ≡ self.old.over }
+        ensures idle { is_over result ≡ true → (self.new ≡ self.old) × (inputs.new ≡ inputs.old) }
+
+        // What each answer says of the bytes that were taken.
+        ensures page { IfPage result (λ page. GivesPage self.old (I.files inputs.old) page self.new (I.files inputs.new)) }
+        ensures ending { IfEnding result (λ ending. GivesEnding self.old (I.files inputs.old) ending self.new (I.files inputs.new)) }
+        ensures read_fault { IsErrOf result InFault.ReadFault → Breaks self.old (I.files inputs.old) self.new (I.files inputs.new) }
+        ensures no_memory { IsErrOf result InFault.NoMemory → Starves self.old (I.files inputs.old) self.new (I.files inputs.new) }
+
+        // The same of the whole rest of the file, where that is told.
+        ensures told_page { IfSome (unread (I.files inputs.old)) (λ rest. IfPage result (λ page. TellsPage self.old rest page)) }
+        ensures told_ending { IfSome (unread (I.files inputs.old)) (λ rest. IfEnding result (λ ending. front (is_later self.old) (self.old.bytes ++ rest) ≡ Ends ending)) }
+
+        // The inputs' count of faults rises with a read fault alone.
+        ensures steady { OnOk result (I.faults inputs.new ≡ I.faults inputs.old) }
+        ensures steady_ending { IfEnding result (λ _. I.faults inputs.new ≡ I.faults inputs.old) }
+        ensures cause { IsErrOf result InFault.ReadFault → Rose (I.faults inputs.old) (I.faults inputs.new) }
+        ensures never_falls { I.faults inputs.old ≤ I.faults inputs.new }
+
+        ensures still_at_end { self.new.ended ≡ true → AtEnd (I.files inputs.new) }
+        ensures within { length self.new.bytes ≤ 65536 }
+        ensures stays_opened { I.is_opened inputs.new ≡ true }
+    {
+        if self.over {
+            return Ok(Next::Over);
+        }
+        let answer = read_page(alloc, &mut self.window, inputs, self.pages > 0);
+        self.window.bounded();
+        match answer {
+            Ok(page) => {
+                self.pages += 1;
+                Ok(Next::Page(page))
+            }
+            Err(stop) => {
+                self.over = true;
+                match stop {
+                    Stop::End => Ok(Next::End),
+                    Stop::Trailing => Ok(Next::Trailing),
+                    Stop::Fault(fault) => Err(fault),
+                }
+            }
+        }
+    }
+}
