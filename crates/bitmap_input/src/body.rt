@@ -36,6 +36,7 @@ fn read_plain_body<I: Inputs>(
     ensures reads { Reads IsShown (body plain_bits) window.old (I.files inputs.old) result window.new (I.files inputs.new) }
     ensures counts { Counts result (I.faults inputs.old) (I.faults inputs.new) }
     ensures stays_opened { I.is_opened inputs.new ≡ true }
+    ensures same_openings { I.openings inputs.new ≡ I.openings inputs.old }
 {
     let sides = read_sides(window, inputs)?;
     let mut page = match Bitmap::new(alloc, sides.width, sides.height) {
@@ -57,6 +58,7 @@ fn read_raw_body<I: Inputs>(
     ensures reads { Reads IsShown (body raw_bits) window.old (I.files inputs.old) result window.new (I.files inputs.new) }
     ensures counts { Counts result (I.faults inputs.old) (I.faults inputs.new) }
     ensures stays_opened { I.is_opened inputs.new ≡ true }
+    ensures same_openings { I.openings inputs.new ≡ I.openings inputs.old }
 {
     let sides = read_sides(window, inputs)?;
     skip_space(window, inputs)?;
@@ -80,6 +82,7 @@ pub(crate) fn read_body<I: Inputs>(
     ensures reads { Reads IsShown (body (magic_of format)) window.old (I.files inputs.old) result window.new (I.files inputs.new) }
     ensures counts { Counts result (I.faults inputs.old) (I.faults inputs.new) }
     ensures stays_opened { I.is_opened inputs.new ≡ true }
+    ensures same_openings { I.openings inputs.new ≡ I.openings inputs.old }
 {
     match format {
         Format::PlainBits => read_plain_body(alloc, window, inputs),

@@ -55,6 +55,7 @@ fn read_magic_behind<I: Inputs>(
     ensures reads { Reads IsFormat (magic_behind later first) window.old (I.files inputs.old) result window.new (I.files inputs.new) }
     ensures counts { Counts result (I.faults inputs.old) (I.faults inputs.new) }
     ensures stays_opened { I.is_opened inputs.new ≡ true }
+    ensures same_openings { I.openings inputs.new ≡ I.openings inputs.old }
 {
     match window.look(inputs) {
         Look::Byte(second) => {
@@ -80,6 +81,7 @@ pub(crate) fn read_magic<I: Inputs>(
     ensures reads { Reads IsFormat (magic later) window.old (I.files inputs.old) result window.new (I.files inputs.new) }
     ensures counts { Counts result (I.faults inputs.old) (I.faults inputs.new) }
     ensures stays_opened { I.is_opened inputs.new ≡ true }
+    ensures same_openings { I.openings inputs.new ≡ I.openings inputs.old }
 {
     match window.look(inputs) {
         Look::Byte(first) => {
@@ -103,6 +105,7 @@ fn skip_gap<I: Inputs>(window: &mut Window, inputs: &mut I) -> Result<(), Stop>
     ensures reads { Reads Any (some_gap bad_header) window.old (I.files inputs.old) result window.new (I.files inputs.new) }
     ensures counts { Counts result (I.faults inputs.old) (I.faults inputs.new) }
     ensures stays_opened { I.is_opened inputs.new ≡ true }
+    ensures same_openings { I.openings inputs.new ≡ I.openings inputs.old }
 {
     match window.look(inputs) {
         Look::Byte(byte) => match behind(Run::Gap, byte) {
@@ -120,6 +123,7 @@ pub(crate) fn skip_space<I: Inputs>(window: &mut Window, inputs: &mut I) -> Resu
     ensures reads { Reads Any space window.old (I.files inputs.old) result window.new (I.files inputs.new) }
     ensures counts { Counts result (I.faults inputs.old) (I.faults inputs.new) }
     ensures stays_opened { I.is_opened inputs.new ≡ true }
+    ensures same_openings { I.openings inputs.new ≡ I.openings inputs.old }
 {
     match window.look(inputs) {
         Look::Byte(byte) => {
@@ -156,6 +160,7 @@ fn read_side<I: Inputs>(window: &mut Window, inputs: &mut I) -> Result<u32, Stop
     ensures reads { Reads IsCapped side window.old (I.files inputs.old) result window.new (I.files inputs.new) }
     ensures counts { Counts result (I.faults inputs.old) (I.faults inputs.new) }
     ensures stays_opened { I.is_opened inputs.new ≡ true }
+    ensures same_openings { I.openings inputs.new ≡ I.openings inputs.old }
 {
     skip_gap(window, inputs)?;
     read_number(window, inputs)
@@ -167,6 +172,7 @@ pub(crate) fn read_sides<I: Inputs>(window: &mut Window, inputs: &mut I) -> Resu
     ensures reads { Reads IsSides sides window.old (I.files inputs.old) result window.new (I.files inputs.new) }
     ensures counts { Counts result (I.faults inputs.old) (I.faults inputs.new) }
     ensures stays_opened { I.is_opened inputs.new ≡ true }
+    ensures same_openings { I.openings inputs.new ≡ I.openings inputs.old }
     ensures width { IfOk result (λ s. (1 ≤ s.width) × (s.width ≤ LONGEST_SIDE)) }
     ensures height { IfOk result (λ s. (1 ≤ s.height) × (s.height ≤ LONGEST_SIDE)) }
 {

@@ -26,6 +26,7 @@ fn read_digits<I: Inputs>(window: &mut Window, inputs: &mut I) -> Result<u32, St
     ensures reads { Reads IsCapped digits window.old (I.files inputs.old) result window.new (I.files inputs.new) }
     ensures counts { Counts result (I.faults inputs.old) (I.faults inputs.new) }
     ensures stays_opened { I.is_opened inputs.new ≡ true }
+    ensures same_openings { I.openings inputs.new ≡ I.openings inputs.old }
 {
     let mut value = 0;
     let mut n = 0;
@@ -52,6 +53,7 @@ pub(crate) fn read_number<I: Inputs>(window: &mut Window, inputs: &mut I) -> Res
     ensures reads { Reads IsCapped (number bad_header) window.old (I.files inputs.old) result window.new (I.files inputs.new) }
     ensures counts { Counts result (I.faults inputs.old) (I.faults inputs.new) }
     ensures stays_opened { I.is_opened inputs.new ≡ true }
+    ensures same_openings { I.openings inputs.new ≡ I.openings inputs.old }
 {
     match window.look(inputs) {
         Look::Byte(byte) => {

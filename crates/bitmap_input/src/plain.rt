@@ -19,6 +19,7 @@ fn read_pixel<I: Inputs>(window: &mut Window, inputs: &mut I) -> Result<bool, St
     ensures reads { Reads Same pixel window.old (I.files inputs.old) result window.new (I.files inputs.new) }
     ensures counts { Counts result (I.faults inputs.old) (I.faults inputs.new) }
     ensures stays_opened { I.is_opened inputs.new ≡ true }
+    ensures same_openings { I.openings inputs.new ≡ I.openings inputs.old }
 {
     match window.look(inputs) {
         Look::Byte(byte) => {
@@ -40,6 +41,7 @@ fn read_plain_pixel<I: Inputs>(window: &mut Window, inputs: &mut I) -> Result<bo
     ensures reads { Reads Same plain_pixel window.old (I.files inputs.old) result window.new (I.files inputs.new) }
     ensures counts { Counts result (I.faults inputs.old) (I.faults inputs.new) }
     ensures stays_opened { I.is_opened inputs.new ≡ true }
+    ensures same_openings { I.openings inputs.new ≡ I.openings inputs.old }
 {
     skip(window, inputs, Run::Gap)?;
     read_pixel(window, inputs)
@@ -58,6 +60,7 @@ fn read_plain_row<I: Inputs>(
     ensures sides { SameSides page.old page.new }
     ensures counts { Counts result (I.faults inputs.old) (I.faults inputs.new) }
     ensures stays_opened { I.is_opened inputs.new ≡ true }
+    ensures same_openings { I.openings inputs.new ≡ I.openings inputs.old }
 {
     for x in 0..page.width() {
         let black = read_plain_pixel(window, inputs)?;
@@ -77,6 +80,7 @@ pub(crate) fn read_plain_rows<I: Inputs>(
     ensures sides { SameSides page.old page.new }
     ensures counts { Counts result (I.faults inputs.old) (I.faults inputs.new) }
     ensures stays_opened { I.is_opened inputs.new ≡ true }
+    ensures same_openings { I.openings inputs.new ≡ I.openings inputs.old }
 {
     let mut y = page.height();
     while y > 0 {

@@ -20,6 +20,7 @@ fn read_block<I: Inputs>(window: &mut Window, inputs: &mut I, row: &mut [u8]) ->
     ensures reads { Reads (λ _ bytes. bytes ≡ row.new) (block (length row.old)) window.old (I.files inputs.old) result window.new (I.files inputs.new) }
     ensures counts { Counts result (I.faults inputs.old) (I.faults inputs.new) }
     ensures stays_opened { I.is_opened inputs.new ≡ true }
+    ensures same_openings { I.openings inputs.new ≡ I.openings inputs.old }
 {
     let mut done = 0;
     while done < row.len() {
@@ -97,6 +98,7 @@ pub(crate) fn read_raw_rows<I: Inputs>(
     ensures sides { SameSides page.old page.new }
     ensures counts { Counts result (I.faults inputs.old) (I.faults inputs.new) }
     ensures stays_opened { I.is_opened inputs.new ≡ true }
+    ensures same_openings { I.openings inputs.new ≡ I.openings inputs.old }
 {
     let mut buffer = [0u8; LONGEST_ROW];
     let row = &mut buffer[..(page.width() as usize + 7) / 8];

@@ -51,6 +51,7 @@ fn read_page<I: Inputs>(
     ensures reads { Reads IsShown (page_at later) window.old (I.files inputs.old) result window.new (I.files inputs.new) }
     ensures counts { Counts result (I.faults inputs.old) (I.faults inputs.new) }
     ensures stays_opened { I.is_opened inputs.new ≡ true }
+    ensures same_openings { I.openings inputs.new ≡ I.openings inputs.old }
 {
     skip(window, inputs, Run::Space)?;
     let format = read_magic(window, inputs, later)?;
@@ -115,6 +116,7 @@ impl PageReader {
         ensures still_at_end { self.new.ended ≡ true → AtEnd (I.files inputs.new) }
         ensures within { length self.new.bytes ≤ 65536 }
         ensures stays_opened { I.is_opened inputs.new ≡ true }
+        ensures same_openings { I.openings inputs.new ≡ I.openings inputs.old }
     {
         if self.over {
             return Ok(Next::Over);

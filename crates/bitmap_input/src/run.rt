@@ -66,6 +66,7 @@ pub(crate) fn skip<I: Inputs>(window: &mut Window, inputs: &mut I, run: Run) -> 
     ensures reads { Reads Any (part_of run) window.old (I.files inputs.old) result window.new (I.files inputs.new) }
     ensures counts { Counts result (I.faults inputs.old) (I.faults inputs.new) }
     ensures stays_opened { I.is_opened inputs.new ≡ true }
+    ensures same_openings { I.openings inputs.new ≡ I.openings inputs.old }
 {
     let mut run = run;
     let mut n = 0;

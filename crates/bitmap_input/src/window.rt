@@ -85,6 +85,7 @@ impl Window {
         ensures cause { OnErr result (Rose (I.faults inputs.old) (I.faults inputs.new)) }
         ensures never_falls { I.faults inputs.old ≤ I.faults inputs.new }
         ensures stays_opened { I.is_opened inputs.new ≡ true }
+        ensures same_openings { I.openings inputs.new ≡ I.openings inputs.old }
     {
         let n = inputs.read(&mut self.buf)?;
         self.start = 0;
@@ -110,6 +111,7 @@ impl Window {
         ensures looks { Looks self.old (I.files inputs.old) result self.new (I.files inputs.new) }
         ensures counts { CountsLook result (I.faults inputs.old) (I.faults inputs.new) }
         ensures stays_opened { I.is_opened inputs.new ≡ true }
+        ensures same_openings { I.openings inputs.new ≡ I.openings inputs.old }
     {
         if let Some(byte) = self.first() {
             return Look::Byte(byte);

@@ -13,6 +13,7 @@ loop-n-init g c = record {
   most = omega arith;
   steady = search rules;
   opened = search rules;
+  openings = search rules;
 }
 
 pub returns-then-not-is_digit-clause-reads : goal.returns-then-not-is_digit-clause-reads
@@ -49,4 +50,5 @@ loop-n-preserved g c =
       most = omega arith;
       steady = search rules;
       opened = search rules;
+      openings = search rules;
     }

@@ -12,6 +12,7 @@ invariant-loop-n g l =
       most : l.n ≤ 1048577;
       steady : source.faults l.inputs ≡ source.faults l.fn.inputs;
       opened : source.is_opened l.inputs ≡ true;
+      openings : source.openings l.inputs ≡ source.openings l.fn.inputs;
     }
 
 abbrev pub decreases-loop-n : goal.decreases-loop-n

@@ -23,6 +23,7 @@ loop-x-preserved g c =
       end = search rules;
       steady = search rules;
       opened = search rules;
+      openings = search rules;
     }
 
 pub returns-clause-reads : goal.returns-clause-reads

@@ -14,4 +14,5 @@ invariant-loop-x g l =
       end : l.x-end ≡ l.fn.page.width;
       steady : source.faults l.inputs ≡ source.faults l.fn.inputs;
       opened : source.is_opened l.inputs ≡ true;
+      openings : source.openings l.inputs ≡ source.openings l.fn.inputs;
     }

@@ -22,6 +22,7 @@ loop-y-preserved g c =
       within = omega arith;
       steady = search rules;
       opened = search rules;
+      openings = search rules;
     }
 
 pub returns-in_err-read_plain_row-clause-reads : goal.returns-in_err-read_plain_row-clause-reads

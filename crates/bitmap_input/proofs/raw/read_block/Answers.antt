@@ -13,6 +13,7 @@ loop-done-preserved g c =
       within = filled_within c.loop-done.done c.give-done.result c.loop-done.row c.give-done.new.to (omega arith) fits;
       steady = search rules;
       opened = search rules;
+      openings = search rules;
     }
 
 pub returns-in-End-clause-reads : goal.returns-in-End-clause-reads

@@ -10,6 +10,7 @@ invariant-loop-done g l =
       within : l.done ≤ length l.row;
       steady : source.faults l.inputs ≡ source.faults l.fn.inputs;
       opened : source.is_opened l.inputs ≡ true;
+      openings : source.openings l.inputs ≡ source.openings l.fn.inputs;
     }
 
 abbrev pub decreases-loop-done : goal.decreases-loop-done

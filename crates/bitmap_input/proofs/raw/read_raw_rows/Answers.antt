@@ -28,6 +28,7 @@ loop-y-preserved g c =
       within = omega arith;
       steady = search rules;
       opened = search rules;
+      openings = search rules;
     }
 
 pub returns-in_err-read_block-clause-reads : goal.returns-in_err-read_block-clause-reads

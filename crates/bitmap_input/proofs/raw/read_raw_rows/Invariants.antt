@@ -17,6 +17,7 @@ invariant-loop-y g l =
       within : l.y ≤ l.fn.page.height;
       steady : source.faults l.inputs ≡ source.faults l.fn.inputs;
       opened : source.is_opened l.inputs ≡ true;
+      openings : source.openings l.inputs ≡ source.openings l.fn.inputs;
     }
 
 abbrev pub decreases-loop-y : goal.decreases-loop-y

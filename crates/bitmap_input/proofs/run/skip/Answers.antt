@@ -11,6 +11,7 @@ loop-n-init g c = record {
   most = omega arith;
   steady = search rules;
   opened = search rules;
+  openings = search rules;
 }
 
 pub returns-in-None-clause-reads : goal.returns-in-None-clause-reads
@@ -41,4 +42,5 @@ loop-n-preserved g c =
       most = omega arith;
       steady = search rules;
       opened = search rules;
+      openings = search rules;
     }
