@@ -3,16 +3,23 @@ use Rattle.std.proofs.Common.{◌⊎◌, inl, inr, option_map, ◌≡◌, refl, 
 use Rattle.std.proofs.lemmas.List.{take-append-drop}
 use Rattle.pt_base.specs.Files.{Files, Opened, unread, unread_of, taken_of, with_read}
 use Rattle.bit_image.specs.Page.{Page as Pixels}
+use Rattle.std.specs.Prelude.{IsErrOf}
+use Rattle.pt_base.specs.Counts.{Rose}
 use Rattle.bitmap_input.specs.declared.stop.Stop.{Stop}
+use Rattle.bitmap_input.specs.declared.fault.InFault.{InFault}
+use Rattle.bitmap_input.specs.declared.fault.InFault.TheVariants as fault
+use Rattle.bitmap_input.specs.declared.next.Next.{Next}
+use Rattle.bitmap_input.specs.declared.next.Next.TheVariants as next
 use Rattle.bitmap_input.specs.Cut.{Ending, is_by_end}
-use Rattle.bitmap_input.specs.Raw.{Raw, IsShown}
+use Rattle.bitmap_input.specs.Cut.Ending.{End, Trailing}
+use Rattle.bitmap_input.specs.Raw.{Raw, shown, IsShown}
 use Rattle.bitmap_input.specs.Front.{Answer, front, page_at, answer_of}
 use Rattle.bitmap_input.specs.Front.Answer.{Page, Ends}
-use Rattle.bitmap_input.specs.Reading.{Held, AtEnd, Moves, Cause, cause_of, StopsBy, Reads}
+use Rattle.bitmap_input.specs.Reading.{Held, AtEnd, Moves, Cause, cause_of, cause_of_fault, StopsBy, Reads, CountsBy}
 use Rattle.bitmap_input.specs.Reading.Cause.{Says, Device, Memory}
-use Rattle.bitmap_input.specs.Reader.{Reader, is_later, Answers, GivesPage, GivesEnding, Breaks, Starves, TellsPage, IfSays}
+use Rattle.bitmap_input.specs.Reader.{Reader, is_later, Answers, GivesPage, GivesEnding, Breaks, Starves, TellsPage, IfSays, IsAnswer}
 use Rattle.bitmap_input.proofs.Appending.{front_stays}
-use Rattle.bitmap_input.proofs.Telling.{stand}
+use Rattle.bitmap_input.proofs.Telling.{not_true}
 use Rattle.bitmap_input.proofs.Keeping.{rest_behind}
 
 -- what the reader holds
@@ -138,3 +145,48 @@ pub told_says : {before now : Option Files} (old new : Reader) (why : Cause) →
 told_says old new (Says ending) at_end gives = told_ending old new at_end (gives ending refl)
 told_says {before = before} old new Device at_end gives = if_nothing (unread before)
 told_says {before = before} old new Memory at_end gives = if_nothing (unread before)
+
+-- Where no read failed, the answer comes.
+
+-- what is owed where the rest is told: the answer that it gives, or that memory is wanting
+abbrev pub Comes : Result Next InFault → Reader → Option (List ℕ) → ℕ → ℕ → Type 0
+Comes result old rest_of before now = IfSome rest_of (λ rest. old.over ≡ false → (Rose before now → ⊥) →
+    IsAnswer result (front (is_later old) (old.bytes ++ rest)) ⊎ IsErrOf result fault.NoMemory)
+
+pub over_comes : (old : Reader) (o : Option (List ℕ)) (m n : ℕ) → old.over ≡ true → Comes (Ok next.Over) old o m n
+over_comes old None m n over = tt
+over_comes old (Some rest) m n over = λ going_on _. absurd (not_true (sym going_on ∙ over))
+
+page_is : (page : Pixels) (answer : Answer) (raw : Raw) (used : ℕ) → answer ≡ Page raw used → page ≡ shown raw → IsAnswer (Ok (next.Page page)) answer
+page_is page answer raw used is shows = rw is shows
+
+pub page_comes : (old : Reader) (page : Pixels) (o : Option (List ℕ)) (m n : ℕ) → IfSome o (λ rest. TellsPage old rest page) →
+    Comes (Ok (next.Page page)) old o m n
+page_comes old page None m n told = tt
+page_comes old page (Some rest) m n told = λ _ _. inl (page_is page (front (is_later old) (old.bytes ++ rest)) told.raw told.used told.is told.shows)
+
+pub end_comes : (old : Reader) (o : Option (List ℕ)) (m n : ℕ) → IfSome o (λ rest. front (is_later old) (old.bytes ++ rest) ≡ Ends End) →
+    Comes (Ok next.End) old o m n
+end_comes old None m n told = tt
+end_comes old (Some rest) m n told = λ _ _. inl told
+
+pub trailing_comes : (old : Reader) (o : Option (List ℕ)) (m n : ℕ) → IfSome o (λ rest. front (is_later old) (old.bytes ++ rest) ≡ Ends Trailing) →
+    Comes (Ok next.Trailing) old o m n
+trailing_comes old None m n told = tt
+trailing_comes old (Some rest) m n told = λ _ _. inl told
+
+pub fault_comes : (f : InFault) (old : Reader) (o : Option (List ℕ)) (m n : ℕ) →
+    IfSome o (λ rest. IfSays (cause_of_fault f) (λ ending. front (is_later old) (old.bytes ++ rest) ≡ Ends ending)) →
+    CountsBy (cause_of_fault f) m n → Comes (Err f) old o m n
+fault_comes f old None m n told counts = tt
+fault_comes fault.UnknownFormat old (Some rest) m n told counts = λ _ _. inl told
+fault_comes fault.BadHeader old (Some rest) m n told counts = λ _ _. inl told
+fault_comes fault.ZeroSide old (Some rest) m n told counts = λ _ _. inl told
+fault_comes fault.TooLarge old (Some rest) m n told counts = λ _ _. inl told
+fault_comes fault.Truncated old (Some rest) m n told counts = λ _ _. inl told
+fault_comes fault.BadRaster old (Some rest) m n told counts = λ _ _. inl told
+fault_comes fault.BmpKind old (Some rest) m n told counts = λ _ _. inl told
+fault_comes fault.BadOffset old (Some rest) m n told counts = λ _ _. inl told
+fault_comes fault.TooLong old (Some rest) m n told counts = λ _ _. inl told
+fault_comes fault.ReadFault old (Some rest) m n told counts = λ _ no_rise. absurd (no_rise counts.0)
+fault_comes fault.NoMemory old (Some rest) m n told counts = λ _ _. inr refl

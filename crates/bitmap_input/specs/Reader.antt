@@ -104,3 +104,17 @@ pub record TellsPage (old : Reader) (rest : List ℕ) (page : Pixels) : Type 0 w
   pub used : ℕ
   pub is : front (is_later old) (old.bytes ++ rest) ≡ Page raw used
   pub shows : page ≡ shown raw
+
+-- the answer is the one that the bytes give
+abbrev pub IsCauseOf : Cause → Answer → Type 0
+IsCauseOf (Says ending) answer = answer ≡ Ends ending
+IsCauseOf Device answer = ⊥
+IsCauseOf Memory answer = ⊥
+
+abbrev pub IsAnswer : Result Next InFault → Answer → Type 0
+IsAnswer (Ok (next.Page page)) (Page raw used) = page ≡ shown raw
+IsAnswer (Ok (next.Page page)) (Ends ending) = ⊥
+IsAnswer (Ok next.End) answer = answer ≡ Ends End
+IsAnswer (Ok next.Trailing) answer = answer ≡ Ends Trailing
+IsAnswer (Ok next.Over) answer = ⊥
+IsAnswer (Err f) answer = IsCauseOf (cause_of_fault f) answer
