@@ -13,3 +13,4 @@ pub mod Showing
 pub mod Bodies
 pub mod Keeping
 pub mod Answering
+pub mod Longest

@@ -1,5 +1,6 @@
 pub mod Cut
 pub mod Parts
+pub mod Sets
 pub mod Raw
 pub mod Front
 pub mod FilePages

@@ -1,0 +1,26 @@
+-- The parts of a page as sets of byte lists (Netpbm's format page "pbm"), beside the lengths that cut
+-- them off the front of a list.
+use Rattle.std.specs.Prelude.{◌≡◌, ℕ, Bool, true, not, List, [], ◌∷◌, ◌++◌}
+use Rattle.bitmap_input.specs.Parts.{is_space, ends_line}
+
+-- each byte passes the test: digits, or whitespace
+abbrev pub IsRun : (ℕ → Bool) → List ℕ → Type 0
+IsRun p [] = Unit {0}
+IsRun p (b ∷ bs) = (p b ≡ true) × IsRun p bs
+
+-- a byte inside of a comment
+abbrev pub is_quiet : ℕ → Bool
+is_quiet b = not (ends_line b)
+
+-- nothing follows a comment, or the byte that ends its line
+abbrev pub EndsComment : List ℕ → Type 0
+EndsComment [] = Unit {0}
+EndsComment (b ∷ bs) = ends_line b ≡ true
+
+-- whitespace and comments: nothing; or a byte of whitespace and then a gap; or `#`, bytes that end no
+-- line, and then a gap that is empty or begins with the end of that line
+pub data IsGap : List ℕ → Type 0 where
+  Nothing : IsGap []
+  Space : {b : ℕ} {bs : List ℕ} → is_space b ≡ true → IsGap bs → IsGap (b ∷ bs)
+  Comment : {h : ℕ} {bs : List ℕ} (text rest : List ℕ) → h ≡ 35 → bs ≡ text ++ rest → IsRun is_quiet text →
+    EndsComment rest → IsGap rest → IsGap (h ∷ bs)
