@@ -1,7 +1,7 @@
 -- What a part leaves is the end of what it was given.
-use Rattle.std.proofs.Common.{◌≡◌, refl, ℕ, zero, suc, ◌+◌, ◌-◌, ◌≤◌, Bool, true, false, cond, ◌||◌, List, [], ◌∷◌, ◌++◌, length, take, drop, arith, ap, sym, ◌∙◌, append_assoc}
+use Rattle.std.proofs.Common.{subst, ◌≡◌, refl, ℕ, zero, suc, ◌+◌, ◌-◌, ◌≤◌, Bool, true, false, cond, ◌||◌, List, [], ◌∷◌, ◌++◌, length, take, drop, arith, ap, sym, ◌∙◌, append_assoc}
 use Rattle.std.specs.Prelude.{nat_eq, nat_lt}
-use Rattle.std.proofs.lemmas.List.{take-append-drop, length-append}
+use Rattle.std.proofs.lemmas.List.{take-append-drop, length-append, length-drop}
 use Rattle.std.proofs.Math.Seq.{drop-append_seam}
 use Rattle.bitmap_input.specs.Cut.{Kind, Ending, Cut, after, ◌>>=◌}
 use Rattle.bitmap_input.specs.Cut.Kind.{BadHeader, BadRaster, Truncated, TooLong, ZeroSide, TooLarge, UnknownFormat}
@@ -9,8 +9,11 @@ use Rattle.bitmap_input.specs.Cut.Ending.{End, Trailing, Refused}
 use Rattle.bitmap_input.specs.Cut.Cut.{Takes, Stops}
 use Rattle.bitmap_input.specs.Parts.{longest, is_zero, is_empty, is_space, is_digit, run_length, gap_length, missing, run_of, spaces, gap, some_gap, value, number, space, pixel, block, times}
 use Rattle.bitmap_input.specs.Raw.{Raw, bits_page, row_bytes, unpacked}
-use Rattle.bitmap_input.specs.Front.{Magic, no_magic, magic_behind, magic, checked, longest_side, side, sides, plain_pixel, raw_row, body, page_at}
+use Rattle.bitmap_input.specs.Front.{Magic, no_magic, magic_behind, magic, checked, longest_side, side, sides, plain_pixel, raw_row, body, page_at, answer_of, front}
+use Rattle.bitmap_input.specs.Front.Answer.{Page}
 use Rattle.bitmap_input.specs.Front.Magic.{PlainBits, RawBits}
+use Rattle.bitmap_input.specs.FilePages.{next_begins}
+use Rattle.bitmap_input.proofs.Bytes.{run_length-le}
 use Rattle.bitmap_input.proofs.Showing.{after_takes}
 
 -- a list ends with this one
@@ -170,3 +173,71 @@ behind_front front rest bytes is =
 pub rest_behind : (later : Bool) (bytes : List ℕ) (e : Bool) (raw : Raw) (rest : List ℕ) → page_at later bytes ≡ Takes e raw rest →
     rest ≡ drop (length bytes - length rest) bytes
 rest_behind later bytes e raw rest h = let p = keeps_page later bytes e raw rest h in behind_front p.0 rest bytes p.1
+
+-- Today's pages claim no bytes behind those that they take.
+
+-- the value of the cut meets this
+abbrev pub HasValue : {A : Type 0} → (A → Type 0) → Cut A → Type 0
+HasValue {A = A} P c = (e : Bool) (a : A) (rest : List ℕ) → c ≡ Takes e a rest → P a
+
+value_bind : {A B : Type 0} (P : B → Type 0) (c : Cut A) (g : A → List ℕ → Cut B) → ((x : A) (rest : List ℕ) → HasValue P (g x rest)) →
+    HasValue P (c >>= g)
+value_bind P (Takes d x mid) g parts e b rest h = let p = after_takes d e (g x mid) b rest h in parts x mid p.0 b rest p.1
+value_bind P (Stops d ending) g parts e b rest h = cc
+
+claims_none : (width height : ℕ) (rows : List (List Bool)) (bytes : List ℕ) →
+    HasValue (λ (raw : Raw). raw.least_length ≡ 0) (Takes false (bits_page width height rows) bytes)
+claims_none width height rows bytes e raw rest h =
+    let same : bits_page width height rows ≡ raw = cc in ap (λ (raw : Raw). raw.least_length) (sym same)
+
+body_claims_none : (m : Magic) (bytes : List ℕ) → HasValue (λ (raw : Raw). raw.least_length ≡ 0) (body m bytes)
+body_claims_none PlainBits bytes =
+    value_bind (λ (raw : Raw). raw.least_length ≡ 0) (sides bytes) (λ s rest. times (times plain_pixel s.0) s.1 rest >>= λ rows rest. Takes false (bits_page s.0 s.1 rows) rest)
+    (λ s rest. value_bind (λ (raw : Raw). raw.least_length ≡ 0) (times (times plain_pixel s.0) s.1 rest) (λ rows rest. Takes false (bits_page s.0 s.1 rows) rest)
+    (claims_none s.0 s.1))
+body_claims_none RawBits bytes =
+    value_bind (λ (raw : Raw). raw.least_length ≡ 0) (sides bytes) (λ s rest. space rest >>= λ _ rest. times (raw_row s.0) s.1 rest >>= λ rows rest. Takes false (bits_page s.0 s.1 rows) rest)
+    (λ s rest. value_bind (λ (raw : Raw). raw.least_length ≡ 0) (space rest) (λ _ rest. times (raw_row s.0) s.1 rest >>= λ rows rest. Takes false (bits_page s.0 s.1 rows) rest)
+    (λ _ rest. value_bind (λ (raw : Raw). raw.least_length ≡ 0) (times (raw_row s.0) s.1 rest) (λ rows rest. Takes false (bits_page s.0 s.1 rows) rest)
+    (claims_none s.0 s.1)))
+
+page_claims_none : (later : Bool) (bytes : List ℕ) → HasValue (λ (raw : Raw). raw.least_length ≡ 0) (page_at later bytes)
+page_claims_none later bytes =
+    value_bind (λ (raw : Raw). raw.least_length ≡ 0) (spaces bytes) (λ _ rest. magic later rest >>= λ m rest. body m rest)
+    (λ _ rest. value_bind (λ (raw : Raw). raw.least_length ≡ 0) (magic later rest) (λ m rest. body m rest) body_claims_none)
+
+-- what comes behind a run of n bytes leaves an end of what stands behind them
+behind_run : {B : Type 0} (t : Bool) (n : ℕ) (bytes : List ℕ) (g : List ℕ → List ℕ → Cut B) (e : Bool) (b : B) (rest : List ℕ) →
+    nat_lt longest n ≡ t → ((x rest : List ℕ) → Keeps rest (g x rest)) → (run_of n bytes >>= g) ≡ Takes e b rest → IsRest rest (drop n bytes)
+behind_run true n bytes g e b rest test parts h = let k = rw test at h in cc
+behind_run false n bytes g e b rest test parts h =
+    let k = rw test at h in
+    let p = after_takes (is_empty (drop n bytes)) e (g (take n bytes) (drop n bytes)) b rest k in
+    parts (take n bytes) (drop n bytes) p.0 b rest p.1
+
+-- the next page begins behind the bytes that this one takes
+pub next_begins-used : (later : Bool) (bytes : List ℕ) (e : Bool) (raw : Raw) (rest : List ℕ) → page_at later bytes ≡ Takes e raw rest →
+    next_begins bytes raw (length bytes - length rest) ≡ length bytes - length rest
+next_begins-used later bytes e raw rest h =
+    let none = page_claims_none later bytes e raw rest h in
+    let s : ℕ = run_length is_space bytes in
+    let p = behind_run (nat_lt longest s) s bytes (λ _ rest. magic later rest >>= λ m rest. body m rest) e raw rest refl
+        (λ _ rest. keeps_bind rest (magic later rest) (λ m rest. body m rest) (keeps_magic later rest) keeps_body) h in
+    let len : length (drop s bytes) ≡ length p.0 + length rest = ap length p.1 ∙ length-append p.0 rest in
+    omega (arith, none, len, length-drop s bytes, run_length-le is_space bytes)
+
+-- the same of a front
+front_at : (later : Bool) (bytes : List ℕ) (c : Cut Raw) (raw : Raw) (used : ℕ) → page_at later bytes ≡ c → answer_of bytes c ≡ Page raw used →
+    (used ≤ length bytes) × (next_begins bytes raw used ≡ used)
+front_at later bytes (Takes e raw2 rest) raw used is h =
+    let same : raw2 ≡ raw = cc in
+    let n : length bytes - length rest ≡ used = cc in
+    let begins : next_begins bytes raw2 (length bytes - length rest) ≡ length bytes - length rest = next_begins-used later bytes e raw2 rest is in
+    (omega arith, subst (λ (r : Raw). next_begins bytes r used ≡ used) same (subst (λ m. next_begins bytes raw2 m ≡ m) n begins))
+front_at later bytes (Stops e ending) raw used is h = cc
+
+pub front_used : (later : Bool) (bytes : List ℕ) (raw : Raw) (used : ℕ) → front later bytes ≡ Page raw used → used ≤ length bytes
+front_used later bytes raw used h = (front_at later bytes (page_at later bytes) raw used refl h).0
+
+pub front_begins : (later : Bool) (bytes : List ℕ) (raw : Raw) (used : ℕ) → front later bytes ≡ Page raw used → next_begins bytes raw used ≡ used
+front_begins later bytes raw used h = (front_at later bytes (page_at later bytes) raw used refl h).1

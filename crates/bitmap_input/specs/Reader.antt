@@ -1,5 +1,5 @@
 -- The reader of a file's pages, and what its answers say of the file.
-use Rattle.std.specs.Prelude.{◌≡◌, ℕ, ◌+◌, Bool, true, false, nat_lt, List, [], ◌++◌, drop, Option, IfSome, Result, Ok, Err}
+use Rattle.std.specs.Prelude.{◌≡◌, ℕ, ◌+◌, ◌-◌, Bool, true, false, nat_lt, List, [], ◌++◌, drop, Option, IfSome, Result, Ok, Err}
 use Rattle.pt_base.specs.Files.{Files, unread}
 use Rattle.bit_image.specs.Page.{Page as Pixels}
 use Rattle.bitmap_input.specs.declared.fault.InFault.{InFault}
@@ -10,6 +10,7 @@ use Rattle.bitmap_input.specs.Cut.Ending.{End, Trailing}
 use Rattle.bitmap_input.specs.Raw.{Raw, shown}
 use Rattle.bitmap_input.specs.Front.{Answer, front, page_at}
 use Rattle.bitmap_input.specs.Front.Answer.{Page, Ends}
+use Rattle.bitmap_input.specs.FilePages.{next_begins}
 use Rattle.bitmap_input.specs.Reading.{Moves, Cause, cause_of_fault}
 use Rattle.bitmap_input.specs.Reading.Cause.{Says, Device, Memory}
 
@@ -31,21 +32,28 @@ at_start = record { bytes = []; skip = 0; pages = 0; ended = false; over = false
 abbrev pub is_later : Reader → Bool
 is_later reader = nat_lt 0 reader.pages
 
+-- the bytes of which the next page is one: those at hand and those behind them, without those that are
+-- still to be skipped
+abbrev pub ahead : Reader → List ℕ → List ℕ
+ahead reader more = drop reader.skip (reader.bytes ++ more)
+
 -- bytes were taken for this answer, and together with those that were at hand they say it; where they
 -- say it by their end, a read has given nothing
 pub record Answers (old : Reader) (before : Option Files) (answer : Answer) (new : Reader) (now : Option Files) : Type 0 where
   pub more : List ℕ
   pub moves : Moves old.ended before new.ended now more
-  pub is : front (is_later old) (old.bytes ++ more) ≡ answer
-  pub settled : is_by_end (page_at (is_later old) (old.bytes ++ more)) ≡ true → new.ended ≡ true
+  pub is : front (is_later old) (ahead old more) ≡ answer
+  pub settled : is_by_end (page_at (is_later old) (ahead old more)) ≡ true → new.ended ≡ true
 
--- the next page was given: the bytes behind those that it takes are left
+-- the next page was given: the bytes behind those that it takes are left, and of them are to be skipped
+-- those that it claims
 pub record GivesPage (old : Reader) (before : Option Files) (page : Pixels) (new : Reader) (now : Option Files) : Type 0 where
   pub raw : Raw
   pub used : ℕ
   pub answers : Answers old before (Page raw used) new now
   pub shows : page ≡ shown raw
-  pub left : new.bytes ≡ drop used (old.bytes ++ answers.more)
+  pub left : new.bytes ≡ drop used (ahead old answers.more)
+  pub skipped : new.skip ≡ next_begins (ahead old answers.more) raw used - used
   pub counted : new.pages ≡ old.pages + 1
   pub going_on : new.over ≡ false
 
@@ -59,7 +67,7 @@ pub record GivesEnding (old : Reader) (before : Option Files) (ending : Ending) 
 pub record Breaks (old : Reader) (before : Option Files) (new : Reader) (now : Option Files) : Type 0 where
   pub more : List ℕ
   pub moves : Moves old.ended before new.ended now more
-  pub by_end : is_by_end (page_at (is_later old) (old.bytes ++ more)) ≡ true
+  pub by_end : is_by_end (page_at (is_later old) (ahead old more)) ≡ true
   pub going_on : new.ended ≡ false
   pub over : new.over ≡ true
 
@@ -98,12 +106,14 @@ IfEnding (Ok (next.Page page)) P = Unit {0}
 IfEnding (Ok next.Over) P = Unit {0}
 IfEnding (Err f) P = IfSays (cause_of_fault f) P
 
--- the next page is this one, as the whole rest of the file tells
-pub record TellsPage (old : Reader) (rest : List ℕ) (page : Pixels) : Type 0 where
+-- the next page is this one, as the whole rest of the file tells, and the page behind it is looked for
+-- where this one ends
+pub record TellsPage (old : Reader) (rest : List ℕ) (page : Pixels) (new : Reader) (now : Option Files) : Type 0 where
   pub raw : Raw
   pub used : ℕ
-  pub is : front (is_later old) (old.bytes ++ rest) ≡ Page raw used
+  pub is : front (is_later old) (ahead old rest) ≡ Page raw used
   pub shows : page ≡ shown raw
+  pub left : IfSome (unread now) (λ more. ahead new more ≡ drop (next_begins (ahead old rest) raw used) (ahead old rest))
 
 -- the answer is the one that the bytes give
 abbrev pub IsCauseOf : Cause → Answer → Type 0

@@ -1,12 +1,12 @@
 //! The reader of the pages of a file.
-ghost use Rattle.std.specs.Prelude.{◌≡◌, ℕ, ◌<◌, ◌≤◌, ◌++◌, ◌⊎◌, true, false, length, IfOk, IfSome, OnOk, IsErrOf};
+ghost use Rattle.std.specs.Prelude.{◌≡◌, ℕ, ◌<◌, ◌≤◌, ◌⊎◌, true, false, length, IfOk, IfSome, OnOk, IsErrOf};
 ghost use Rattle.pt_base.specs.Counts.{Rose};
 ghost use Rattle.pt_base.specs.Files.{unread};
 ghost use Rattle.bitmap_input.specs.Reading.{AtEnd, Reads, Counts};
 ghost use Rattle.bitmap_input.specs.Raw.{IsShown};
 ghost use Rattle.bitmap_input.specs.Front.{front, page_at};
 ghost use Rattle.bitmap_input.specs.Front.Answer.{Ends};
-ghost use Rattle.bitmap_input.specs.Reader.{at_start, is_later, GivesPage, GivesEnding, Breaks, Starves, TellsPage, is_over, IfPage, IfEnding, IsAnswer};
+ghost use Rattle.bitmap_input.specs.Reader.{at_start, is_later, ahead, GivesPage, GivesEnding, Breaks, Starves, TellsPage, is_over, IfPage, IfEnding, IsAnswer};
 
 use crate::body::read_body;
 use crate::fault::InFault;
@@ -104,13 +104,13 @@ impl PageReader {
         ensures no_memory { IsErrOf result InFault.NoMemory → Starves self.old (I.files inputs.old) self.new (I.files inputs.new) }
 
         // The same of the whole rest of the file, where that is told.
-        ensures told_page { IfSome (unread (I.files inputs.old)) (λ rest. IfPage result (λ page. TellsPage self.old rest page)) }
-        ensures told_ending { IfSome (unread (I.files inputs.old)) (λ rest. IfEnding result (λ ending. front (is_later self.old) (self.old.bytes ++ rest) ≡ Ends ending)) }
+        ensures told_page { IfSome (unread (I.files inputs.old)) (λ rest. IfPage result (λ page. TellsPage self.old rest page self.new (I.files inputs.new))) }
+        ensures told_ending { IfSome (unread (I.files inputs.old)) (λ rest. IfEnding result (λ ending. front (is_later self.old) (ahead self.old rest) ≡ Ends ending)) }
 
         // Where no read failed and memory is there, the answer is what the rest of the file gives.
         ensures always { IfSome (unread (I.files inputs.old)) (λ rest. self.old.over ≡ false
             → (Rose (I.faults inputs.old) (I.faults inputs.new) → ⊥)
-            → IsAnswer result (front (is_later self.old) (self.old.bytes ++ rest)) ⊎ IsErrOf result InFault.NoMemory) }
+            → IsAnswer result (front (is_later self.old) (ahead self.old rest)) ⊎ IsErrOf result InFault.NoMemory) }
 
         // The inputs' count of faults rises with a read fault alone.
         ensures steady { OnOk result (I.faults inputs.new ≡ I.faults inputs.old) }
