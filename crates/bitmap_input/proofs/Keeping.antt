@@ -1,5 +1,5 @@
 -- What a part leaves is the end of what it was given.
-use Rattle.std.proofs.Common.{subst, ◌≡◌, refl, ℕ, zero, suc, ◌+◌, ◌-◌, ◌≤◌, Bool, true, false, cond, ◌||◌, List, [], ◌∷◌, ◌++◌, length, take, drop, arith, ap, sym, ◌∙◌, append_assoc}
+use Rattle.std.proofs.Common.{subst, ◌≡◌, refl, ℕ, zero, suc, ◌+◌, ◌-◌, ◌≤◌, ◌<◌, Bool, true, false, cond, ◌||◌, List, [], ◌∷◌, ◌++◌, length, take, drop, arith, ap, sym, ◌∙◌, append_assoc}
 use Rattle.std.specs.Prelude.{nat_eq, nat_lt}
 use Rattle.std.proofs.lemmas.List.{take-append-drop, length-append, length-drop}
 use Rattle.std.proofs.Math.Seq.{drop-append_seam}
@@ -241,3 +241,51 @@ front_used later bytes raw used h = (front_at later bytes (page_at later bytes) 
 
 pub front_begins : (later : Bool) (bytes : List ℕ) (raw : Raw) (used : ℕ) → front later bytes ≡ Page raw used → next_begins bytes raw used ≡ used
 front_begins later bytes raw used h = (front_at later bytes (page_at later bytes) raw used refl h).1
+
+-- A page takes a byte at least.
+
+-- what the cut leaves is shorter than this
+abbrev pub Shortens : {A : Type 0} → List ℕ → Cut A → Type 0
+Shortens {A = A} bytes c = (e : Bool) (a : A) (rest : List ℕ) → c ≡ Takes e a rest → length rest < length bytes
+
+shorter_rest : (a b c : List ℕ) → IsRest b c → length a < length b → length a < length c
+shorter_rest a b c (front, is) less = omega (arith, ap length is, length-append front b)
+
+rest_of_shorter : (a b c : List ℕ) → length b < length c → IsRest a b → length a < length c
+rest_of_shorter a b c less (front, is) = omega (arith, ap length is, length-append front a)
+
+magic_shortens : (later : Bool) (bytes : List ℕ) → Shortens bytes (magic later bytes)
+magic_shortens true [] e m rest h = cc
+magic_shortens false [] e m rest h = cc
+magic_shortens true (a ∷ bs) e m rest h = rest_of_shorter rest bs (a ∷ bs) (omega arith) (keeps_magic_behind true a bs e m rest h)
+magic_shortens false (a ∷ bs) e m rest h = rest_of_shorter rest bs (a ∷ bs) (omega arith) (keeps_magic_behind false a bs e m rest h)
+
+bind_shortens : {A B : Type 0} (bytes : List ℕ) (c : Cut A) (g : A → List ℕ → Cut B) → Shortens bytes c →
+    ((x : A) (rest : List ℕ) → Keeps rest (g x rest)) → Shortens bytes (c >>= g)
+bind_shortens bytes (Takes d x mid) g first parts e b rest h =
+    let p = after_takes d e (g x mid) b rest h in
+    rest_of_shorter rest mid bytes (first d x mid refl) (parts x mid p.0 b rest p.1)
+bind_shortens bytes (Stops d ending) g first parts e b rest h = cc
+
+keeps_shortens : {A B : Type 0} (bytes : List ℕ) (c : Cut A) (g : A → List ℕ → Cut B) → Keeps bytes c →
+    ((x : A) (rest : List ℕ) → Shortens rest (g x rest)) → Shortens bytes (c >>= g)
+keeps_shortens bytes (Takes d x mid) g first parts e b rest h =
+    let p = after_takes d e (g x mid) b rest h in
+    shorter_rest rest mid bytes (first d x mid refl) (parts x mid p.0 b rest p.1)
+keeps_shortens bytes (Stops d ending) g first parts e b rest h = cc
+
+page_shortens : (later : Bool) (bytes : List ℕ) → Shortens bytes (page_at later bytes)
+page_shortens later bytes =
+    keeps_shortens bytes (spaces bytes) (λ _ rest. magic later rest >>= λ m rest. body m rest) (keeps_run (run_length is_space bytes) bytes)
+    (λ _ rest. bind_shortens rest (magic later rest) (λ m rest. body m rest) (magic_shortens later rest) keeps_body)
+
+takes_some : (later : Bool) (bytes : List ℕ) (c : Cut Raw) (raw : Raw) (used : ℕ) → page_at later bytes ≡ c → answer_of bytes c ≡ Page raw used →
+    (0 < used) × (used ≤ length bytes)
+takes_some later bytes (Takes e raw2 rest) raw used is h =
+    let n : length bytes - length rest ≡ used = cc in
+    let less = page_shortens later bytes e raw2 rest is in (omega arith, omega arith)
+takes_some later bytes (Stops e ending) raw used is h = cc
+
+pub front_takes_some : (later : Bool) (bytes : List ℕ) (raw : Raw) (used : ℕ) → front later bytes ≡ Page raw used →
+    (0 < used) × (used ≤ length bytes)
+front_takes_some later bytes raw used h = takes_some later bytes (page_at later bytes) raw used refl h

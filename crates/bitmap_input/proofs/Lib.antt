@@ -14,3 +14,4 @@ pub mod Bodies
 pub mod Keeping
 pub mod Answering
 pub mod Longest
+pub mod Files

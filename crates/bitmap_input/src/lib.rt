@@ -5,6 +5,7 @@ mod body;
 pub mod fault;
 mod header;
 pub mod next;
+pub mod laws;
 mod number;
 mod plain;
 mod raw;

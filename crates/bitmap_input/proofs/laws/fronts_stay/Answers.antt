@@ -1,0 +1,5 @@
+use Rattle.bitmap_input.proofs.Appending.{front_stays}
+use Rattle.bitmap_input.proofs.laws.fronts_stay.Goals as goal
+
+pub returns : goal.returns
+returns c = front_stays

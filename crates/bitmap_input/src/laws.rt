@@ -1,0 +1,36 @@
+//! Laws of the pages of a file, which callers and readers of the definitions rest on.
+ghost use Rattle.std.specs.Prelude.{◌≡◌, ℕ, ◌≤◌, Bool, false, List, ◌++◌, length, take};
+ghost use Rattle.bitmap_input.specs.Cut.{Ending, is_by_end};
+ghost use Rattle.bitmap_input.specs.Parts.{run_length, gap_length};
+ghost use Rattle.bitmap_input.specs.Sets.{IsRun, IsGap};
+ghost use Rattle.bitmap_input.specs.Raw.{Raw};
+ghost use Rattle.bitmap_input.specs.Front.{Answer, front, page_at};
+ghost use Rattle.bitmap_input.specs.FilePages.{FilePages};
+
+/// What is cut off the front of a list of bytes is the longest member of its set: a run of
+/// whitespace or of digits, and a gap.
+pub fn cuts_are_longest()
+    ensures run { (p : ℕ → Bool) (bytes : List ℕ) → IsRun p (take (run_length p bytes) bytes) }
+    ensures longest_run { (p : ℕ → Bool) (bytes : List ℕ) (n : ℕ) → n ≤ length bytes → IsRun p (take n bytes) → n ≤ run_length p bytes }
+    ensures gap { (bytes : List ℕ) → IsGap (take (gap_length false bytes) bytes) }
+    ensures longest_gap { (bytes : List ℕ) (n : ℕ) → n ≤ length bytes → IsGap (take n bytes) → n ≤ gap_length false bytes }
+{}
+
+/// A list of bytes has exactly one front.
+pub fn fronts_are_one()
+    ensures { (later : Bool) (bytes : List ℕ) → (answer : Answer) × (front later bytes ≡ answer)
+        × ((other : Answer) → front later bytes ≡ other → other ≡ answer) }
+{}
+
+/// A front that isn't by the end of the bytes stays the same where bytes are added.
+pub fn fronts_stay()
+    ensures { (later : Bool) (bytes more : List ℕ) → is_by_end (page_at later bytes) ≡ false
+        → front later (bytes ++ more) ≡ front later bytes }
+{}
+
+/// A file has one list of pages, and one ending.
+pub fn file_pages_are_one()
+    ensures some { (later : Bool) (bytes : List ℕ) → (raws : List Raw) × (ending : Ending) × FilePages later bytes raws ending }
+    ensures same { (later : Bool) (bytes : List ℕ) (raws others : List Raw) (ending other : Ending)
+        → FilePages later bytes raws ending → FilePages later bytes others other → (others ≡ raws) × (other ≡ ending) }
+{}
