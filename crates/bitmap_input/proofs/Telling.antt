@@ -244,3 +244,14 @@ reads_made f y same r =
 pub reads_memory : {A X : Type 0} (is : X → A → Type 0) (part : List ℕ → Cut A) (held : Held) (files : Option Files) →
     Reads is part held files (Err (stop.Fault fault.NoMemory)) held files
 reads_memory is part held files = record { more = []; moves = stand held.ended files; gives = tt }
+
+-- a read failed where no byte was left, and the part is by the end of nothing
+pub reads_fault : {A X : Type 0} {is : X → A → Type 0} {part : List ℕ → Cut A} {old new : Held} {files now : Option Files} →
+    is_by_end (part []) ≡ true → new ≡ old → now ≡ files → old.bytes ≡ [] → old.ended ≡ false →
+    Reads is part old files (Err (stop.Fault fault.ReadFault)) new now
+reads_fault {part = part} {old = old} {files = files} by_end same same_files none going_on =
+    rw (same, same_files) record {
+      more = [];
+      moves = stand old.ended files;
+      gives = (ap (λ bytes. is_by_end (part (bytes ++ []))) none ∙ by_end, going_on);
+    }

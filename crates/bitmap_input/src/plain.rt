@@ -43,8 +43,23 @@ fn read_plain_pixel<I: Inputs>(window: &mut Window, inputs: &mut I) -> Result<bo
     ensures stays_opened { I.is_opened inputs.new ≡ true }
     ensures same_openings { I.openings inputs.new ≡ I.openings inputs.old }
 {
-    skip(window, inputs, Run::Gap)?;
-    read_pixel(window, inputs)
+    match window.look(inputs) {
+        // Most pixels stand right behind one another.
+        Look::Byte(b'0') => {
+            window.pass();
+            Ok(false)
+        }
+        Look::Byte(b'1') => {
+            window.pass();
+            Ok(true)
+        }
+        Look::Byte(_) => {
+            skip(window, inputs, Run::Gap)?;
+            read_pixel(window, inputs)
+        }
+        Look::End => Err(Stop::Fault(InFault::Truncated)),
+        Look::Fault => Err(Stop::Fault(InFault::ReadFault)),
+    }
 }
 
 // One row of pixels, painted in row y.

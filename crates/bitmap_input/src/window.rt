@@ -72,6 +72,8 @@ impl Window {
     }
 
     // Takes the next bytes from the inputs, where none are left here.
+    #[cold]
+    #[inline(never)]
     fn fill<I: Inputs>(&mut self, inputs: &mut I) -> Result<(), DeviceFault>
         requires opened { I.is_opened inputs.old ≡ true }
         requires none_left { self.old.bytes ≡ [] }
@@ -106,6 +108,7 @@ impl Window {
     }
 
     /// The next byte, which stays where it is.
+    #[inline(always)]
     pub(crate) fn look<I: Inputs>(&mut self, inputs: &mut I) -> Look
         requires { I.is_opened inputs.old ≡ true }
         ensures looks { Looks self.old (I.files inputs.old) result self.new (I.files inputs.new) }
