@@ -89,9 +89,9 @@ module _ (h h2 : Held) (pages pages2 : ℕ) (was over : Bool) (before now : Opti
         going_on = going_on;
       }
 
-  pub gives_ending : (stop : Stop) → Reads IsShown (page_at (is_later old)) h before (Err stop) h2 now → over ≡ true → (ending : Ending) →
+  pub gives_ending : (stop : Stop) → Reads IsShown (page_at (is_later old)) h before (Err stop) h2 now → pages2 ≡ pages → over ≡ true → (ending : Ending) →
       cause_of stop ≡ Says ending → GivesEnding old before ending new now
-  gives_ending stop r is_over ending why =
+  gives_ending stop r counted is_over ending why =
       let (e, is, settled) = subst (λ why. StopsBy (page_at (is_later old) (h.bytes ++ r.more)) why h2) why r.gives in
       record {
         answers = record {
@@ -100,6 +100,7 @@ module _ (h h2 : Held) (pages pages2 : ℕ) (was over : Bool) (before now : Opti
           is = ap (answer_of (h.bytes ++ r.more)) is;
           settled = λ end. settled (sym (ap is_by_end is) ∙ end);
         };
+        counted = counted;
         over = is_over;
       }
 

@@ -60,6 +60,7 @@ pub record GivesPage (old : Reader) (before : Option Files) (page : Pixels) (new
 -- the pages end so, and the reader is over
 pub record GivesEnding (old : Reader) (before : Option Files) (ending : Ending) (new : Reader) (now : Option Files) : Type 0 where
   pub answers : Answers old before (Ends ending) new now
+  pub counted : new.pages ≡ old.pages
   pub over : new.over ≡ true
 
 -- a read failed: the bytes that were taken for this page say what they say by their end alone, and no
@@ -69,12 +70,14 @@ pub record Breaks (old : Reader) (before : Option Files) (new : Reader) (now : O
   pub moves : Moves old.ended before new.ended now more
   pub by_end : is_by_end (page_at (is_later old) (ahead old more)) ≡ true
   pub going_on : new.ended ≡ false
+  pub counted : new.pages ≡ old.pages
   pub over : new.over ≡ true
 
 -- memory is wanting: the inputs stand where the reading left them
 pub record Starves (old : Reader) (before : Option Files) (new : Reader) (now : Option Files) : Type 0 where
   pub more : List ℕ
   pub moves : Moves old.ended before new.ended now more
+  pub counted : new.pages ≡ old.pages
   pub over : new.over ≡ true
 
 -- whether the answer is Over

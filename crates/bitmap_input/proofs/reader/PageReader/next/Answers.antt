@@ -20,7 +20,7 @@ pub returns-after-stop-clause-told_ending : goal.returns-after-stop-clause-told_
 returns-after-stop-clause-told_ending g c =
     let at_end = rw (← c.self.view_is) at c.requires.at_end in
     let gives = gives_ending c.self.inside.window c.read_page-answer.new.window c.self.inside.pages c.self.inside.pages c.self.inside.over true
-        (g.I.Inputs.files c.args.inputs.now) (g.I.Inputs.files c.read_page-answer.new.inputs) c.in-Err.stop c.in-Err.ensures.reads refl in
+        (g.I.Inputs.files c.args.inputs.now) (g.I.Inputs.files c.read_page-answer.new.inputs) c.in-Err.stop c.in-Err.ensures.reads refl refl in
     let told = told_says c.self.inside.window c.read_page-answer.new.window c.self.inside.pages c.self.inside.pages c.self.inside.over true
         (g.I.Inputs.files c.args.inputs.now) (g.I.Inputs.files c.read_page-answer.new.inputs) (cause_of c.in-Err.stop) at_end gives in
     rw (← c.self.view_is) (elim c.match-stop.branch [
@@ -44,7 +44,7 @@ returns-after-stop-clause-always g c =
     let reader : Reader = reader_of c.self.inside.window c.self.inside.pages c.self.inside.over in
     let at_end = rw (← c.self.view_is) at c.requires.at_end in
     let gives = gives_ending c.self.inside.window c.read_page-answer.new.window c.self.inside.pages c.self.inside.pages c.self.inside.over true
-        (g.I.Inputs.files c.args.inputs.now) (g.I.Inputs.files c.read_page-answer.new.inputs) c.in-Err.stop c.in-Err.ensures.reads refl in
+        (g.I.Inputs.files c.args.inputs.now) (g.I.Inputs.files c.read_page-answer.new.inputs) c.in-Err.stop c.in-Err.ensures.reads refl refl in
     let told = told_says c.self.inside.window c.read_page-answer.new.window c.self.inside.pages c.self.inside.pages c.self.inside.over true
         (g.I.Inputs.files c.args.inputs.now) (g.I.Inputs.files c.read_page-answer.new.inputs) (cause_of c.in-Err.stop) at_end gives in
     rw (← c.self.view_is) (elim c.match-stop.branch [
