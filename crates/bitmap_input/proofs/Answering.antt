@@ -113,16 +113,18 @@ module _ (h h2 : Held) (pages pages2 : ℕ) (was over : Bool) (before now : Opti
         (moves.stopped was_ended).0 ∙ sym end
     | inr now_end ↦
         let end : drop (length more) rest ≡ [] = end_after before (length more) rest is (subst AtEnd moves.files now_end) in
-        front_of ∙ sym (append-nil (take (length more) rest)) ∙ ap (λ xs. take (length more) rest ++ xs) (sym end) ∙ take-append-drop (length more) rest ]
+        front_of ∙ sym (append-nil (take (length more) rest)) ∙ ap (λ xs. take (length more) rest ++ xs) (sym end) ∙ take-append-drop (length more) rest
+  ]
 
   -- the bytes that were taken are a front of the rest
   taken_first : {more : List ℕ} (rest : List ℕ) → unread before ≡ Some rest → Moves h.ended before h2.ended now more →
       (more ≡ take (length more) rest) × (h.bytes ++ rest ≡ (h.bytes ++ more) ++ drop (length more) rest)
   taken_first {more} rest is moves =
-      let front_of = subst (λ (o : Option (List ℕ)). IfSome o (λ rest. more ≡ take (length more) rest)) is moves.told in
-      (front_of,
-       ap (λ xs. h.bytes ++ xs) (sym (take-append-drop (length more) rest) ∙ ap (λ xs. xs ++ drop (length more) rest) (sym front_of)) ∙
-       sym (append_assoc h.bytes more (drop (length more) rest)))
+      let front_of = subst (λ (o : Option (List ℕ)). IfSome o (λ rest. more ≡ take (length more) rest)) is moves.told in (
+        front_of,
+        ap (λ xs. h.bytes ++ xs) (sym (take-append-drop (length more) rest) ∙ ap (λ xs. xs ++ drop (length more) rest) (sym front_of)) ∙
+            sym (append_assoc h.bytes more (drop (length more) rest)),
+      )
 
   -- what the bytes that were taken say, the whole rest says
   answer_told : {answer : Answer} (t : Bool) (rest : List ℕ) → (h.ended ≡ true → AtEnd before) → unread before ≡ Some rest →
@@ -141,18 +143,18 @@ module _ (h h2 : Held) (pages pages2 : ℕ) (was over : Bool) (before now : Opti
       where_told (unread before) (λ rest. TellsPage old rest page new now) (λ rest is.
       let answers = gives.answers in
       let tells : front (is_later old) (h.bytes ++ rest) ≡ Page gives.raw gives.used
-                = answer_told (is_by_end (page_at (is_later old) (h.bytes ++ answers.more))) rest at_end is answers refl in
+      = answer_told (is_by_end (page_at (is_later old) (h.bytes ++ answers.more))) rest at_end is answers refl in
       record {
         raw = gives.raw;
         used = gives.used;
         is = tells;
         shows = gives.shows;
         left = where_told (unread now) (λ more. h2.bytes ++ more ≡ drop (next_begins (h.bytes ++ rest) gives.raw gives.used) (h.bytes ++ rest)) (λ more now_is.
-          let behind : more ≡ drop (length answers.more) rest
-                     = rest_after before (length answers.more) rest more is (subst (λ (f : Option Files). unread f ≡ Some more) answers.moves.files now_is) in
-          let within : gives.used ≤ length (h.bytes ++ answers.more) = front_used (is_later old) (h.bytes ++ answers.more) gives.raw gives.used answers.is in
-          let begins : next_begins (h.bytes ++ rest) gives.raw gives.used ≡ gives.used = front_begins (is_later old) (h.bytes ++ rest) gives.raw gives.used tells in
-          rw (begins, gives.left, behind, (taken_first rest is answers.moves).1, drop-append-le gives.used (h.bytes ++ answers.more) (drop (length answers.more) rest) within) refl);
+            let behind : more ≡ drop (length answers.more) rest
+            = rest_after before (length answers.more) rest more is (subst (λ (f : Option Files). unread f ≡ Some more) answers.moves.files now_is) in
+            let within : gives.used ≤ length (h.bytes ++ answers.more) = front_used (is_later old) (h.bytes ++ answers.more) gives.raw gives.used answers.is in
+            let begins : next_begins (h.bytes ++ rest) gives.raw gives.used ≡ gives.used = front_begins (is_later old) (h.bytes ++ rest) gives.raw gives.used tells in
+            rw (begins, gives.left, behind, (taken_first rest is answers.moves).1, drop-append-le gives.used (h.bytes ++ answers.more) (drop (length answers.more) rest) within) refl);
       })
 
   pub told_ending : {ending : Ending} → (h.ended ≡ true → AtEnd before) → GivesEnding old before ending new now →

@@ -222,7 +222,7 @@ next_begins-used later bytes e raw rest h =
     let none = page_claims_none later bytes e raw rest h in
     let s : ℕ = run_length is_space bytes in
     let p = behind_run (nat_lt longest s) s bytes (λ _ rest. magic later rest >>= λ m rest. body m rest) e raw rest refl
-        (λ _ rest. keeps_bind rest (magic later rest) (λ m rest. body m rest) (keeps_magic later rest) keeps_body) h in
+    (λ _ rest. keeps_bind rest (magic later rest) (λ m rest. body m rest) (keeps_magic later rest) keeps_body) h in
     let len : length (drop s bytes) ≡ length p.0 + length rest = ap length p.1 ∙ length-append p.0 rest in
     omega (arith, none, len, length-drop s bytes, run_length-le is_space bytes)
 

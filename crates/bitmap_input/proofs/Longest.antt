@@ -25,7 +25,8 @@ run_is_longest p (b ∷ bs) (suc n) within run =
 ends_line-is_space : (b : ℕ) → ends_line b ≡ true → is_space b ≡ true
 ends_line-is_space b h = elim (or_cases (nat_eq b 10) (nat_eq b 13) h) [
   | inl e ↦ let same : b ≡ 10 = eqb-true b 10 e in rw same refl
-  | inr e ↦ let same : b ≡ 13 = eqb-true b 13 e in rw same refl ]
+  | inr e ↦ let same : b ≡ 13 = eqb-true b 13 e in rw same refl
+]
 
 -- what stands behind a `#`
 pub record IsCommented (bytes : List ℕ) : Type 0 where

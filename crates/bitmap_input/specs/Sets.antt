@@ -23,4 +23,4 @@ pub data IsGap : List ℕ → Type 0 where
   Nothing : IsGap []
   Space : {b : ℕ} {bs : List ℕ} → is_space b ≡ true → IsGap bs → IsGap (b ∷ bs)
   Comment : {h : ℕ} {bs : List ℕ} (text rest : List ℕ) → h ≡ 35 → bs ≡ text ++ rest → IsRun is_quiet text →
-    EndsComment rest → IsGap rest → IsGap (h ∷ bs)
+      EndsComment rest → IsGap rest → IsGap (h ∷ bs)

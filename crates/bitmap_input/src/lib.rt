@@ -4,12 +4,14 @@
 mod body;
 pub mod fault;
 mod header;
-pub mod next;
 pub mod laws;
+pub mod next;
 mod number;
 mod plain;
 mod raw;
 pub mod reader;
 mod run;
 mod stop;
+#[cfg(test)]
+mod tests;
 mod window;

@@ -20,13 +20,14 @@ pub returns-after-stop-clause-told_ending : goal.returns-after-stop-clause-told_
 returns-after-stop-clause-told_ending g c =
     let at_end = rw (← c.self.view_is) at c.requires.at_end in
     let gives = gives_ending c.self.inside.window c.read_page-answer.new.window c.self.inside.pages c.self.inside.pages c.self.inside.over true
-        (g.I.Inputs.files c.args.inputs.now) (g.I.Inputs.files c.read_page-answer.new.inputs) c.in-Err.stop c.in-Err.ensures.reads refl refl in
+    (g.I.Inputs.files c.args.inputs.now) (g.I.Inputs.files c.read_page-answer.new.inputs) c.in-Err.stop c.in-Err.ensures.reads refl refl in
     let told = told_says c.self.inside.window c.read_page-answer.new.window c.self.inside.pages c.self.inside.pages c.self.inside.over true
-        (g.I.Inputs.files c.args.inputs.now) (g.I.Inputs.files c.read_page-answer.new.inputs) (cause_of c.in-Err.stop) at_end gives in
+    (g.I.Inputs.files c.args.inputs.now) (g.I.Inputs.files c.read_page-answer.new.inputs) (cause_of c.in-Err.stop) at_end gives in
     rw (← c.self.view_is) (elim c.match-stop.branch [
-      in-End w ↦ rw w.result-is (rw w.in-End.is at told)
+      | in-End w ↦ rw w.result-is (rw w.in-End.is at told)
       | in-Trailing w ↦ rw w.result-is (rw w.in-Trailing.is at told)
-      | in-Fault w ↦ rw w.result-is (rw w.in-Fault.is at told) ])
+      | in-Fault w ↦ rw w.result-is (rw w.in-Fault.is at told)
+    ])
 
 pub returns-then-self-clause-always : goal.returns-then-self-clause-always
 returns-then-self-clause-always g c =
@@ -44,10 +45,11 @@ returns-after-stop-clause-always g c =
     let reader : Reader = reader_of c.self.inside.window c.self.inside.pages c.self.inside.over in
     let at_end = rw (← c.self.view_is) at c.requires.at_end in
     let gives = gives_ending c.self.inside.window c.read_page-answer.new.window c.self.inside.pages c.self.inside.pages c.self.inside.over true
-        (g.I.Inputs.files c.args.inputs.now) (g.I.Inputs.files c.read_page-answer.new.inputs) c.in-Err.stop c.in-Err.ensures.reads refl refl in
+    (g.I.Inputs.files c.args.inputs.now) (g.I.Inputs.files c.read_page-answer.new.inputs) c.in-Err.stop c.in-Err.ensures.reads refl refl in
     let told = told_says c.self.inside.window c.read_page-answer.new.window c.self.inside.pages c.self.inside.pages c.self.inside.over true
-        (g.I.Inputs.files c.args.inputs.now) (g.I.Inputs.files c.read_page-answer.new.inputs) (cause_of c.in-Err.stop) at_end gives in
+    (g.I.Inputs.files c.args.inputs.now) (g.I.Inputs.files c.read_page-answer.new.inputs) (cause_of c.in-Err.stop) at_end gives in
     rw (← c.self.view_is) (elim c.match-stop.branch [
-      in-End w ↦ rw w.result-is (end_comes reader _ _ _ (rw w.in-End.is at told))
+      | in-End w ↦ rw w.result-is (end_comes reader _ _ _ (rw w.in-End.is at told))
       | in-Trailing w ↦ rw w.result-is (trailing_comes reader _ _ _ (rw w.in-Trailing.is at told))
-      | in-Fault w ↦ rw w.result-is (fault_comes w.in-Fault.fault reader _ _ _ (rw w.in-Fault.is at told) (rw w.in-Fault.is at c.in-Err.ensures.counts)) ])
+      | in-Fault w ↦ rw w.result-is (fault_comes w.in-Fault.fault reader _ _ _ (rw w.in-Fault.is at told) (rw w.in-Fault.is at c.in-Err.ensures.counts))
+    ])
