@@ -1,12 +1,14 @@
 -- The definitions on small files, most of them made by hand for a format's edge.
-use Rattle.std.proofs.Common.{◌≡◌, refl, ℕ, suc, Bool, true, false, List, [], ◌∷◌, ◌++◌, replicate}
+use Rattle.std.proofs.Common.{◌≡◌, refl, ℕ, suc, Bool, true, false, List, [], ◌∷◌, ◌++◌, replicate, arith}
 use Rattle.std.specs.Prelude.{codes}
 use Rattle.bitmap_input.specs.Cut.{Kind, Ending, Cut, is_by_end}
 use Rattle.bitmap_input.specs.Cut.Kind.{UnknownFormat, BadHeader, ZeroSide, TooLarge, Truncated, BadRaster, TooLong}
 use Rattle.bitmap_input.specs.Cut.Ending.{End, Trailing, Refused}
 use Rattle.bitmap_input.specs.Cut.Cut.{Takes, Stops}
-use Rattle.bitmap_input.specs.Parts.{number, gap, some_gap, block, run_of}
-use Rattle.bitmap_input.specs.Raw.{Raw, bits_page, bits_of}
+use Rattle.bitmap_input.specs.Parts.{number, gap, gap_length, some_gap, block, run_of}
+use Rattle.bitmap_input.specs.Sets.{IsGap}
+use Rattle.bitmap_input.specs.Sets.IsGap.{Nothing, Space, Comment}
+use Rattle.bitmap_input.specs.Raw.{Raw, bits_page, bits_of, picture_of}
 use Rattle.bitmap_input.specs.Front.{Answer, front, page_at}
 use Rattle.bitmap_input.specs.Front.Answer.{Page, Ends}
 use Rattle.bitmap_input.specs.FilePages.{FilePages}
@@ -27,6 +29,19 @@ two_rows =
 padding : front false (codes "P4\n9 2\n" ++ 0x7f ∷ 0x7f ∷ 0x80 ∷ 0x7f ∷ []) ≡ Page (bits_page 9 2 two_rows) 11
 unfolding two_rows
 padding = refl
+
+-- Row 0 is the lowest: of the two rows above, the first one is row 1, and outside all is white.
+upper_left : picture_of (bits_page 9 2 two_rows) 0 1 ≡ false
+unfolding two_rows
+upper_left = refl
+
+lower_left : picture_of (bits_page 9 2 two_rows) 0 0 ≡ true
+unfolding two_rows
+lower_left = refl
+
+right_of_the_page : picture_of (bits_page 9 2 two_rows) 9 0 ≡ false
+unfolding two_rows
+right_of_the_page = refl
 
 -- comments in the header and in the raster
 comments : front false (codes "P1 # c\n2 #d\n1\n1#x\n0") ≡ Page (bits_page 2 1 ((true ∷ false ∷ []) ∷ [])) 19
@@ -106,3 +121,19 @@ longest_gap = refl
 
 gap_too_long : (bytes : List ℕ) → run_of 1048577 bytes ≡ Stops false (Refused TooLong)
 gap_too_long bytes = refl
+
+-- a gap of a blank, a comment and the end of its line; its length is not that of the list
+blank_and_comment : IsGap (32 ∷ 35 ∷ 120 ∷ 10 ∷ [])
+blank_and_comment = Space refl (Comment (120 ∷ []) (10 ∷ []) refl refl (refl, tt) refl (Space refl Nothing))
+
+its_length : gap_length false (32 ∷ 35 ∷ 120 ∷ 10 ∷ 49 ∷ 32 ∷ []) ≡ 4
+its_length = refl
+
+-- a comment that ends with the bytes
+open_comment : IsGap (35 ∷ 35 ∷ [])
+open_comment = Comment (35 ∷ []) [] refl refl (refl, tt) tt Nothing
+
+-- `1` is no gap
+no_gap_at_all : IsGap (49 ∷ []) → ⊥
+no_gap_at_all (Space h gap) = cc
+no_gap_at_all (Comment text rest h split quiet ends gap) = absurd (omega arith)

@@ -18,9 +18,11 @@ abbrev pub magic_of : Format → Magic
 magic_of format.PlainBits = PlainBits
 magic_of format.RawBits = RawBits
 
+-- the magic names this format
 abbrev pub IsFormat : Format → Magic → Type 0
 IsFormat x a = a ≡ magic_of x
 
+-- the two numbers are these sides
 abbrev pub IsSides : Sides → ℕ × ℕ → Type 0
 IsSides x a = (a.0 ≡ x.width) × (a.1 ≡ x.height)
 

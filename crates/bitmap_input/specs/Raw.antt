@@ -54,5 +54,6 @@ picture_of raw x y =
 abbrev pub shown : Raw → Page
 shown raw = page_of raw.width raw.height (picture_of raw)
 
+-- the bitmap is the page that the raw page shows
 abbrev pub IsShown : Page → Raw → Type 0
 IsShown page raw = page ≡ shown raw

@@ -65,7 +65,7 @@ pub record GivesEnding (old : Reader) (before : Option Files) (ending : Ending) 
 
 -- a read failed: the bytes that were taken for this page say what they say by their end alone, and no
 -- read had given nothing
-pub record Breaks (old : Reader) (before : Option Files) (new : Reader) (now : Option Files) : Type 0 where
+pub record ReadFails (old : Reader) (before : Option Files) (new : Reader) (now : Option Files) : Type 0 where
   pub more : List ℕ
   pub moves : Moves old.ended before new.ended now more
   pub by_end : is_by_end (page_at (is_later old) (ahead old more)) ≡ true
@@ -74,7 +74,7 @@ pub record Breaks (old : Reader) (before : Option Files) (new : Reader) (now : O
   pub over : new.over ≡ true
 
 -- memory is wanting: the inputs stand where the reading left them
-pub record Starves (old : Reader) (before : Option Files) (new : Reader) (now : Option Files) : Type 0 where
+pub record MemoryFails (old : Reader) (before : Option Files) (new : Reader) (now : Option Files) : Type 0 where
   pub more : List ℕ
   pub moves : Moves old.ended before new.ended now more
   pub counted : new.pages ≡ old.pages
@@ -96,6 +96,7 @@ IfPage (Ok next.End) P = Unit {0}
 IfPage (Ok next.Trailing) P = Unit {0}
 IfPage (Err f) P = Unit {0}
 
+-- this holds of the ending, where the bytes say one
 abbrev pub IfSays : Cause → (Ending → Type 0) → Type 0
 IfSays (Says ending) P = P ending
 IfSays Device P = Unit {0}
@@ -118,12 +119,13 @@ pub record TellsPage (old : Reader) (rest : List ℕ) (page : Pixels) (new : Rea
   pub shows : page ≡ shown raw
   pub left : IfSome (unread now) (λ more. ahead new more ≡ drop (next_begins (ahead old rest) raw used) (ahead old rest))
 
--- the answer is the one that the bytes give
+-- the fault is what the bytes say
 abbrev pub IsCauseOf : Cause → Answer → Type 0
 IsCauseOf (Says ending) answer = answer ≡ Ends ending
 IsCauseOf Device answer = ⊥
 IsCauseOf Memory answer = ⊥
 
+-- the reader's answer is the one that the bytes give
 abbrev pub IsAnswer : Result Next InFault → Answer → Type 0
 IsAnswer (Ok (next.Page page)) (Page raw used) = page ≡ shown raw
 IsAnswer (Ok (next.Page page)) (Ends ending) = ⊥

@@ -35,6 +35,7 @@ pub data Cause : Type 0 where
   Device : Cause
   Memory : Cause
 
+-- the cause that a fault tells
 abbrev pub cause_of_fault : InFault → Cause
 cause_of_fault fault.UnknownFormat = Says (Refused UnknownFormat)
 cause_of_fault fault.BadHeader = Says (Refused BadHeader)
@@ -48,6 +49,7 @@ cause_of_fault fault.TooLong = Says (Refused TooLong)
 cause_of_fault fault.ReadFault = Device
 cause_of_fault fault.NoMemory = Memory
 
+-- the cause that an end of reading tells
 abbrev pub cause_of : Stop → Cause
 cause_of stop.End = Says End
 cause_of stop.Trailing = Says Trailing
@@ -87,6 +89,7 @@ CountsBy (Says ending) before now = now ≡ before
 CountsBy Device before now = Rose before now × (before ≤ now)
 CountsBy Memory before now = now ≡ before
 
+-- the same after a step, which reads with no fault where it gives a value
 abbrev pub Counts : {X : Type 0} → Result X Stop → ℕ → ℕ → Type 0
 Counts (Ok x) before now = now ≡ before
 Counts (Err s) before now = CountsBy (cause_of s) before now

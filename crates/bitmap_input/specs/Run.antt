@@ -31,6 +31,7 @@ digits bytes = run_of (run_length is_digit bytes) bytes >>= λ ds rest. Takes fa
 abbrev pub cap : ℕ
 cap = 100000
 
+-- the number, cut where it is larger
 abbrev pub IsCapped : ℕ → ℕ → Type 0
 IsCapped x a = x ≡ min a cap
 

@@ -1,4 +1,16 @@
-//! The pages of a file: what is read from it, and where and why it is refused.
+//! The pages of a file: what each shows, how they end, and where and why a page is refused.
+//!
+//! A file holds pages one behind another, with whitespace before each or not. Plain and raw PBM
+//! (Netpbm's format page "pbm") are read.
+//!
+//! ```text
+//! P1             the magic: plain PBM (raw PBM is P4, with eight pixels in a byte)
+//! # two by one   a comment, up to the end of its line
+//! 2 1            the width and the height
+//! 1 0            the pixels of each row from the left, the top row first; 1 is black
+//! ```
+//!
+//! `reader` has the reader, `next` and `fault` its answers, and `laws` what its definitions keep.
 #![tactic(auto)]
 
 mod body;

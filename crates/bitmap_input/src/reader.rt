@@ -6,7 +6,7 @@ ghost use Rattle.bitmap_input.specs.Reading.{AtEnd, Reads, Counts};
 ghost use Rattle.bitmap_input.specs.Raw.{IsShown};
 ghost use Rattle.bitmap_input.specs.Front.{front, page_at};
 ghost use Rattle.bitmap_input.specs.Front.Answer.{Ends};
-ghost use Rattle.bitmap_input.specs.Reader.{at_start, is_later, ahead, GivesPage, GivesEnding, Breaks, Starves, TellsPage, is_over, IfPage, IfEnding, IsAnswer};
+ghost use Rattle.bitmap_input.specs.Reader.{at_start, is_later, ahead, GivesPage, GivesEnding, ReadFails, MemoryFails, TellsPage, is_over, IfPage, IfEnding, IsAnswer};
 
 use crate::body::read_body;
 use crate::fault::InFault;
@@ -100,8 +100,8 @@ impl PageReader {
         // What each answer says of the bytes that were taken.
         ensures page { IfPage result (λ page. GivesPage self.old (I.files inputs.old) page self.new (I.files inputs.new)) }
         ensures ending { IfEnding result (λ ending. GivesEnding self.old (I.files inputs.old) ending self.new (I.files inputs.new)) }
-        ensures read_fault { IsErrOf result InFault.ReadFault → Breaks self.old (I.files inputs.old) self.new (I.files inputs.new) }
-        ensures no_memory { IsErrOf result InFault.NoMemory → Starves self.old (I.files inputs.old) self.new (I.files inputs.new) }
+        ensures read_fault { IsErrOf result InFault.ReadFault → ReadFails self.old (I.files inputs.old) self.new (I.files inputs.new) }
+        ensures no_memory { IsErrOf result InFault.NoMemory → MemoryFails self.old (I.files inputs.old) self.new (I.files inputs.new) }
 
         // The same of the whole rest of the file, where that is told.
         ensures told_page { IfSome (unread (I.files inputs.old)) (λ rest. IfPage result (λ page. TellsPage self.old rest page self.new (I.files inputs.new))) }
