@@ -1,23 +1,22 @@
 -- A block that is read piece by piece.
-use Rattle.std.proofs.Common.{subst, ◌≡◌, refl, ℕ, zero, suc, ◌+◌, ◌-◌, ◌≤◌, ◌<◌, Bool, true, false, List, [], ◌∷◌, ◌++◌, length, take, drop, arith, ap, sym, ◌∙◌, Option, Result, Ok, Err, append_assoc, append-nil}
+use Rattle.std.proofs.Common.{subst, ◌≡◌, refl, ℕ, ◌+◌, ◌-◌, ◌≤◌, ◌<◌, true, List, [], ◌++◌, length, take, drop, arith, ap, sym, ◌∙◌, Option, Err, append_assoc, append-nil}
 use Rattle.std.specs.Prelude.{nat_lt}
 use Rattle.std.proofs.lemmas.List.{length-append, length-take, length-take-le, take-append-drop, take-take}
-use Rattle.std.proofs.lemmas.Bool.{lt-ltb, le-ltb}
-use Rattle.std.proofs.Math.Seq.{take-append_seam, drop-append_seam, take-append-add}
+use Rattle.std.proofs.lemmas.Bool.{lt-ltb}
+use Rattle.std.proofs.Math.Seq.{take-append-add}
 use Rattle.std.proofs.lemmas.Slice.{take-put_mid}
 use borrow.Rule.Slice.PartMut.{put_mid}
 use Rattle.pt_base.specs.Files.{Files}
 use Rattle.bitmap_input.specs.declared.fault.InFault.TheVariants as fault
 use Rattle.bitmap_input.specs.declared.stop.Stop.TheVariants as stop
-use Rattle.bitmap_input.specs.Cut.{Cut, is_by_end}
 use Rattle.bitmap_input.specs.Cut.Kind.{Truncated}
 use Rattle.bitmap_input.specs.Cut.Ending.{Refused}
-use Rattle.bitmap_input.specs.Cut.Cut.{Takes, Stops}
+use Rattle.bitmap_input.specs.Cut.Cut.{Stops}
 use Rattle.bitmap_input.specs.Parts.{block}
-use Rattle.bitmap_input.specs.Reading.{Held, Moves, Reads}
+use Rattle.bitmap_input.specs.Reading.{Held, Reads}
 use Rattle.bitmap_input.specs.Window.{ReadsOn}
 use Rattle.bitmap_input.specs.Raster.{IsBlockSoFar}
-use Rattle.bitmap_input.proofs.Telling.{not_true, stand, move_on}
+use Rattle.bitmap_input.proofs.Telling.{move_on}
 use Rattle.bitmap_input.proofs.Running.{two_splits}
 
 -- a block that isn't there

@@ -1,5 +1,5 @@
 -- The rows behind a header, read into a page of its sides.
-use Rattle.std.proofs.Common.{◌≡◌, ℕ, List, ◌∙◌, sym, subst, length, Bool, false, Option, Result, Ok, Err}
+use Rattle.std.proofs.Common.{◌≡◌, ℕ, List, ◌∙◌, sym, subst, Bool, false, Option, Ok, Err}
 use Rattle.pt_base.specs.Files.{Files}
 use Rattle.bit_image.specs.Image.{IsWhite}
 use Rattle.bit_image.specs.Page.{Page as Pixels, SameSides, image_of, page_of}

@@ -1,8 +1,7 @@
 -- Lengths of runs at the front of a list of bytes: within the list, no shorter where bytes are added,
 -- and the same where the run ends before the list does.
-use Rattle.std.proofs.Common.{◌≡◌, refl, ℕ, zero, suc, ◌+◌, ◌≤◌, ◌<◌, Bool, true, false, cond, not, List, [], ◌∷◌, ◌++◌, length, take, drop, arith, ap, sym}
-use Rattle.std.specs.Prelude.{nat_eq, if◌then◌else◌}
-use Rattle.std.proofs.lemmas.List.{take-append-le, drop-append-le}
+use Rattle.std.proofs.Common.{◌≡◌, refl, ℕ, suc, ◌≤◌, Bool, true, false, cond, not, List, [], ◌∷◌, ◌++◌, length, drop, arith, ap}
+use Rattle.std.specs.Prelude.{nat_eq}
 use Rattle.bitmap_input.specs.Parts.{is_empty, run_length, gap_length, ends_line, is_space}
 
 -- the run takes the byte or not, and is within the list

@@ -1,7 +1,7 @@
 -- Numbers that are read one digit after another.
-use Rattle.std.proofs.Common.{◌≡◌, refl, ℕ, suc, ◌+◌, ◌-◌, ◌*◌, ◌≤◌, true, false, min, List, [], ◌∷◌, ◌++◌, arith, ap, sym, ◌∙◌}
-use Rattle.bitmap_input.specs.Cut.{Kind, Cut}
-use Rattle.bitmap_input.specs.Parts.{is_digit, run_length, value, number, some_gap, gap, gap_length}
+use Rattle.std.proofs.Common.{◌≡◌, refl, ℕ, ◌+◌, ◌-◌, ◌*◌, true, min, List, [], ◌∷◌, ◌++◌, arith}
+use Rattle.bitmap_input.specs.Cut.{Kind}
+use Rattle.bitmap_input.specs.Parts.{is_digit, value, number}
 use Rattle.bitmap_input.specs.Run.{cap, IsCapped, digits}
 
 -- one more digit

@@ -1,16 +1,16 @@
 -- The definitions on small files, most of them made by hand for a format's edge.
-use Rattle.std.proofs.Common.{◌≡◌, refl, ℕ, suc, Bool, true, false, List, [], ◌∷◌, ◌++◌, replicate, arith}
+use Rattle.std.proofs.Common.{◌≡◌, refl, ℕ, Bool, true, false, List, [], ◌∷◌, ◌++◌, arith}
 use Rattle.std.specs.Prelude.{codes}
-use Rattle.bitmap_input.specs.Cut.{Kind, Ending, Cut, is_by_end}
+use Rattle.bitmap_input.specs.Cut.{is_by_end}
 use Rattle.bitmap_input.specs.Cut.Kind.{UnknownFormat, BadHeader, ZeroSide, TooLarge, Truncated, BadRaster, TooLong}
 use Rattle.bitmap_input.specs.Cut.Ending.{End, Trailing, Refused}
 use Rattle.bitmap_input.specs.Cut.Cut.{Takes, Stops}
-use Rattle.bitmap_input.specs.Parts.{number, gap, gap_length, some_gap, block, run_of}
+use Rattle.bitmap_input.specs.Parts.{number, gap, gap_length, run_of}
 use Rattle.bitmap_input.specs.Sets.{IsGap}
 use Rattle.bitmap_input.specs.Sets.IsGap.{Nothing, Space, Comment}
 use Rattle.bitmap_input.specs.Raw.{Raw, bits_page, bits_of, picture_of}
-use Rattle.bitmap_input.specs.Front.{Answer, front, page_at}
-use Rattle.bitmap_input.specs.Front.Answer.{Page, Ends}
+use Rattle.bitmap_input.specs.Front.{front, page_at}
+use Rattle.bitmap_input.specs.Front.Answer.{Page}
 use Rattle.bitmap_input.specs.FilePages.{FilePages}
 use Rattle.bitmap_input.specs.FilePages.FilePages.{Ended, Next}
 

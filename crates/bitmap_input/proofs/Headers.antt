@@ -1,19 +1,19 @@
 -- The parts of a header at their first byte, and the check of its sides.
-use Rattle.std.proofs.Common.{subst, Option, Result, Ok, Err, append-nil, ◌++◌, ◌≡◌, refl, ℕ, zero, suc, ◌≤◌, ◌<◌, Bool, true, false, ◌||◌, min, ◌⊎◌, inl, inr, List, [], ◌∷◌, arith, ap, sym, ◌∙◌}
+use Rattle.std.proofs.Common.{subst, Option, Result, Ok, Err, append-nil, ◌++◌, ◌≡◌, refl, ℕ, zero, suc, ◌≤◌, ◌<◌, Bool, true, false, ◌||◌, ◌⊎◌, inl, inr, List, [], ◌∷◌, arith, ap, sym, ◌∙◌}
 use Rattle.std.specs.Prelude.{nat_lt}
 use Rattle.std.proofs.lemmas.Bool.{lt-ltb, le-ltb}
-use Rattle.bitmap_input.specs.Cut.{Kind, Ending, Cut}
+use Rattle.bitmap_input.specs.Cut.{Kind, Ending}
 use Rattle.bitmap_input.specs.Cut.Kind.{ZeroSide, TooLarge}
 use Rattle.bitmap_input.specs.Cut.Ending.{Refused}
 use Rattle.bitmap_input.specs.Cut.Cut.{Takes, Stops}
 use Rattle.bitmap_input.specs.Parts.{is_zero, gap_length, gap, some_gap}
-use Rattle.bitmap_input.specs.Front.{Magic, checked, longest_side, magic, magic_behind}
+use Rattle.bitmap_input.specs.Front.{checked, longest_side, magic, magic_behind}
 use Rattle.bitmap_input.specs.Run.{IsCapped}
 use Rattle.bitmap_input.specs.declared.stop.Stop.{Stop}
 use Rattle.bitmap_input.specs.declared.header.Sides.{Sides}
 use Rattle.bitmap_input.specs.Header.{IsSides, Checks}
 use Rattle.pt_base.specs.Files.{Files}
-use Rattle.bitmap_input.specs.Reading.{Held, Cause, cause_of, StopsBy, Reads}
+use Rattle.bitmap_input.specs.Reading.{Held, StopsBy, Reads}
 use Rattle.bitmap_input.proofs.Telling.{not_true, stand}
 use Rattle.bitmap_input.specs.Reading.Cause.{Says}
 

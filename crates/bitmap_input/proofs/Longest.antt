@@ -1,6 +1,6 @@
 -- The lengths of runs and gaps cut the longest members of their sets.
-use Rattle.std.proofs.Common.{◌≡◌, refl, ℕ, zero, suc, ◌+◌, ◌≤◌, Bool, true, false, cond, not, ◌||◌, ◌&&◌, List, [], ◌∷◌, ◌++◌, inl, inr, append_assoc, length, take, drop, arith, ap, sym, ◌∙◌, subst}
-use Rattle.std.specs.Prelude.{nat_eq, nat_le, if◌then◌else◌}
+use Rattle.std.proofs.Common.{◌≡◌, refl, ℕ, zero, suc, ◌+◌, ◌≤◌, Bool, true, false, cond, not, List, [], ◌∷◌, ◌++◌, inl, inr, append_assoc, length, take, drop, arith, ap, sym, ◌∙◌}
+use Rattle.std.specs.Prelude.{nat_eq}
 use Rattle.std.proofs.lemmas.List.{length-append, length-take-le, take-append-drop}
 use Rattle.std.proofs.lemmas.Bool.{not-true, eqb-true, eq-eqb, ne_eqb, both_ways, or_cases}
 use Rattle.bitmap_input.specs.Parts.{is_space, ends_line, run_length, gap_length}

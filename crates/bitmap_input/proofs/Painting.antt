@@ -1,5 +1,5 @@
 -- A raster is read and painted part by part.
-use Rattle.std.proofs.Common.{◌≡◌, refl, ℕ, zero, suc, ◌+◌, ◌-◌, ◌≤◌, ◌<◌, Bool, true, false, cond, ◌&&◌, List, [], ◌∷◌, ◌++◌, length, get_or, arith, ap, sym, ◌∙◌, subst, Option, Result, Ok, Err}
+use Rattle.std.proofs.Common.{◌≡◌, refl, ℕ, suc, ◌+◌, Bool, false, List, [], ◌∷◌, ap, sym, ◌∙◌, subst, Option, Ok, Err}
 use Rattle.std.proofs.Common.{add-one}
 use Rattle.std.proofs.Math.Path.{fun_ext}
 use Rattle.pt_base.specs.Files.{Files}
@@ -9,7 +9,7 @@ use Rattle.bitmap_input.specs.Cut.{Cut, ◌>>=◌}
 use Rattle.bitmap_input.specs.Cut.Cut.{Takes}
 use Rattle.bitmap_input.specs.Parts.{times}
 use Rattle.bitmap_input.specs.Reading.{Held, Reads}
-use Rattle.bitmap_input.specs.Raster.{with_row, with_pixels, with_rows, IsPaintedSoFar}
+use Rattle.bitmap_input.specs.Raster.{with_pixels, IsPaintedSoFar}
 use Rattle.bitmap_input.proofs.Appending.{Stays}
 use Rattle.bitmap_input.proofs.Telling.{reads_on, reads_stop, reads_map, reads_value}
 

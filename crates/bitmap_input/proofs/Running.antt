@@ -1,19 +1,16 @@
 -- A run that is read one byte after another: how it begins, goes on and ends.
-use Rattle.std.proofs.Common.{◌≡◌, refl, ℕ, zero, suc, ◌+◌, ◌-◌, ◌≤◌, ◌<◌, Bool, true, false, cond, List, [], ◌∷◌, ◌++◌, length, take, drop, arith, ap, sym, ◌∙◌, subst, Option, Some, None, Result, Ok, Err, append_assoc, append-nil}
+use Rattle.std.proofs.Common.{◌≡◌, refl, ℕ, suc, ◌+◌, ◌≤◌, ◌<◌, true, false, List, [], ◌∷◌, ◌++◌, length, drop, arith, ap, sym, ◌∙◌, Option, Ok, Err, append_assoc, append-nil}
 use Rattle.std.specs.Prelude.{nat_lt}
-use Rattle.std.proofs.lemmas.List.{length-append, drop_all}
+use Rattle.std.proofs.lemmas.List.{length-append}
 use Rattle.std.proofs.lemmas.Bool.{lt-ltb, le-ltb}
 use Rattle.std.proofs.Math.Seq.{take-append_seam, drop-append_seam}
 use Rattle.pt_base.specs.Files.{Files}
 use Rattle.bitmap_input.specs.declared.fault.InFault.TheVariants as fault
-use Rattle.bitmap_input.specs.declared.stop.Stop.{Stop}
 use Rattle.bitmap_input.specs.declared.stop.Stop.TheVariants as stop
-use Rattle.bitmap_input.specs.Cut.{Cut, is_by_end}
-use Rattle.bitmap_input.specs.Cut.Kind.{TooLong}
-use Rattle.bitmap_input.specs.Cut.Ending.{Refused}
-use Rattle.bitmap_input.specs.Cut.Cut.{Takes, Stops}
+use Rattle.bitmap_input.specs.Cut.{is_by_end}
+use Rattle.bitmap_input.specs.Cut.Cut.{Takes}
 use Rattle.bitmap_input.specs.Parts.{longest, is_empty, run_of}
-use Rattle.bitmap_input.specs.Reading.{Held, Moves, Reads}
+use Rattle.bitmap_input.specs.Reading.{Held, Reads}
 use Rattle.bitmap_input.specs.Window.{ReadsOn}
 use Rattle.bitmap_input.specs.Run.{length_of, RunSoFar}
 use Rattle.bitmap_input.specs.declared.run.Run.{Run}

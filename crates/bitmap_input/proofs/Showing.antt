@@ -1,5 +1,5 @@
 -- The rows of a raster, painted on a white page, are the page that the raw page shows.
-use Rattle.std.proofs.Common.{◌≡◌, refl, ℕ, zero, suc, ◌+◌, ◌-◌, ◌≤◌, ◌<◌, ◌⊎◌, inl, inr, Bool, true, false, cond, ◌||◌, List, [], ◌∷◌, ◌++◌, length, map, get_or, arith, ap, sym, ◌∙◌, subst, Option, Result, Ok, Err}
+use Rattle.std.proofs.Common.{◌≡◌, refl, ℕ, zero, suc, ◌-◌, ◌≤◌, ◌<◌, inl, inr, Bool, true, false, List, [], ◌∷◌, ◌++◌, length, map, get_or, arith, ap, sym, ◌∙◌, Option, Result, Ok, Err}
 use Rattle.std.specs.Prelude.{nat_lt}
 use Rattle.std.proofs.Math.Path.{fun_ext}
 use Rattle.std.proofs.Math.ListN.{get_or-map}
@@ -12,9 +12,9 @@ use Rattle.bitmap_input.specs.declared.stop.Stop.{Stop}
 use Rattle.bitmap_input.specs.Cut.{Cut, after, ◌>>=◌}
 use Rattle.bitmap_input.specs.Cut.Cut.{Takes, Stops}
 use Rattle.bitmap_input.specs.Parts.{times}
-use Rattle.bitmap_input.specs.Raw.{Entry, Raw, bits_page, black, picture_of, shown}
+use Rattle.bitmap_input.specs.Raw.{bits_page, black, picture_of, shown}
 use Rattle.bitmap_input.specs.Raw.Entry.{Bit}
-use Rattle.bitmap_input.specs.Raster.{with_pixels, with_row, with_rows}
+use Rattle.bitmap_input.specs.Raster.{with_row, with_rows}
 use Rattle.bitmap_input.specs.Reading.{Held, Reads}
 use Rattle.bitmap_input.proofs.Placing.{with_pixels-at, with_pixels-other}
 

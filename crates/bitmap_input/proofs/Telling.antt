@@ -1,17 +1,17 @@
 -- How steps of the reader compose: one after another, and what stops the first stops both.
-use Rattle.std.proofs.Common.{◌≡◌, refl, ℕ, zero, suc, ◌+◌, ◌-◌, ◌*◌, ◌≤◌, ◌<◌, Bool, true, false, cond, not, ◌||◌, ◌&&◌, ◌⊎◌, inl, inr, List, [], ◌∷◌, ◌++◌, length, take, drop, map, arith, ap, sym, ◌∙◌, subst, Option, Some, None, IfSome, option_map, Result, Ok, Err, append_assoc, append-nil}
-use Rattle.std.proofs.lemmas.List.{length-append, length-take, length-drop, drop-drop, drop_all}
-use Rattle.std.proofs.Math.Seq.{drop-nil, take-add}
+use Rattle.std.proofs.Common.{◌≡◌, refl, ℕ, ◌+◌, Bool, true, false, ◌||◌, inl, inr, List, [], ◌∷◌, ◌++◌, length, take, drop, ap, sym, ◌∙◌, subst, Option, Some, None, IfSome, option_map, Result, Ok, Err, append_assoc, append-nil}
+use Rattle.std.proofs.lemmas.List.{length-append, drop-drop}
+use Rattle.std.proofs.Math.Seq.{take-add}
 use Rattle.pt_base.specs.Files.{Files, Opened, taken_of, with_read, unread_of, unread}
 use Rattle.bitmap_input.specs.declared.stop.Stop.{Stop}
 use Rattle.bitmap_input.specs.declared.stop.Stop.TheVariants as stop
 use Rattle.bitmap_input.specs.declared.fault.InFault.TheVariants as fault
-use Rattle.bitmap_input.specs.Cut.{Kind, Ending, Cut, is_by_end, after, with_more, ◌>>=◌}
+use Rattle.bitmap_input.specs.Cut.{Cut, is_by_end, after, with_more, ◌>>=◌}
 use Rattle.bitmap_input.specs.Cut.Cut.{Takes, Stops}
 use Rattle.bitmap_input.specs.Reading.{Held, AtEnd, Moves, Cause, cause_of, StopsBy, Gives, Reads}
 use Rattle.bitmap_input.specs.Reading.Cause.{Says, Device, Memory}
 use Rattle.bitmap_input.specs.Window.{ReadsOn}
-use Rattle.bitmap_input.proofs.Appending.{Stays, after-false, is_by_end-after}
+use Rattle.bitmap_input.proofs.Appending.{Stays, is_by_end-after}
 
 -- Reading twice is reading both.
 

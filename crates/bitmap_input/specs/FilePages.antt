@@ -3,7 +3,7 @@ use Rattle.std.specs.Prelude.{ℕ, ◌+◌, ◌≡◌, Bool, true, max, List, []
 use Rattle.bitmap_input.specs.Cut.{Ending}
 use Rattle.bitmap_input.specs.Parts.{run_length, is_space}
 use Rattle.bitmap_input.specs.Raw.{Raw}
-use Rattle.bitmap_input.specs.Front.{Answer, front}
+use Rattle.bitmap_input.specs.Front.{front}
 use Rattle.bitmap_input.specs.Front.Answer.{Page, Ends}
 
 -- where the next page begins: behind the bytes that this one takes, and behind those that it claims

@@ -1,11 +1,11 @@
 -- The first page of a list of bytes, or what stands there in place of one (Netpbm's format page
 -- "pbm"): the parts of a page one after another, as far as each is there and passes its checks.
-use Rattle.std.specs.Prelude.{ℕ, ◌+◌, ◌-◌, Bool, true, false, ◌||◌, List, [], ◌∷◌, length, take, map, if◌then◌else◌, nat_eq, nat_lt}
-use Rattle.bitmap_input.specs.Cut.{Kind, Ending, Cut, ◌>>=◌}
+use Rattle.std.specs.Prelude.{ℕ, ◌-◌, Bool, true, false, ◌||◌, List, [], ◌∷◌, length, take, if◌then◌else◌, nat_eq, nat_lt}
+use Rattle.bitmap_input.specs.Cut.{Ending, Cut, ◌>>=◌}
 use Rattle.bitmap_input.specs.Cut.Kind.{UnknownFormat, BadHeader, ZeroSide, TooLarge}
 use Rattle.bitmap_input.specs.Cut.Ending.{End, Trailing, Refused}
 use Rattle.bitmap_input.specs.Cut.Cut.{Takes, Stops}
-use Rattle.bitmap_input.specs.Parts.{is_zero, run_length, is_space, spaces, gap, some_gap, number, space, pixel, block, times}
+use Rattle.bitmap_input.specs.Parts.{is_zero, spaces, gap, some_gap, number, space, pixel, block, times}
 use Rattle.bitmap_input.specs.Raw.{Raw, bits_page, row_bytes, unpacked}
 
 -- the known formats: plain and raw PBM

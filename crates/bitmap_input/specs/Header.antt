@@ -1,6 +1,5 @@
 -- The header of a page in the program: its format and its sides.
-use Rattle.std.specs.Prelude.{◌≡◌, ℕ, Bool, false, List, Result, Ok, Err}
-use Rattle.bitmap_input.specs.Cut.{Cut}
+use Rattle.std.specs.Prelude.{◌≡◌, ℕ, false, List, Result, Ok, Err}
 use Rattle.bitmap_input.specs.Cut.Cut.{Takes, Stops}
 use Rattle.bitmap_input.specs.Cut.{Ending}
 use Rattle.bitmap_input.specs.Front.{Magic, checked}

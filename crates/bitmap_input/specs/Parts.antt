@@ -1,7 +1,7 @@
 -- The parts of a PBM page (Netpbm's format page "pbm"): whitespace, gaps with comments, decimal
 -- numbers, the characters of a plain raster, and blocks of a stated length.
 use Rattle.std.specs.Prelude.{ℕ, zero, suc, ◌+◌, ◌-◌, ◌*◌, Bool, true, false, not, ◌&&◌, ◌||◌, List, [], ◌∷◌, length, take, drop, if◌then◌else◌, nat_eq, nat_lt, nat_le}
-use Rattle.bitmap_input.specs.Cut.{Kind, Ending, Cut}
+use Rattle.bitmap_input.specs.Cut.{Kind, Cut}
 use Rattle.bitmap_input.specs.Cut.Kind.{Truncated, TooLong, BadRaster, BadHeader}
 use Rattle.bitmap_input.specs.Cut.Ending.{Refused}
 use Rattle.bitmap_input.specs.Cut.Cut.{Takes, Stops}

@@ -1,5 +1,5 @@
 -- Painting the rows of a raster on a white page.
-use Rattle.std.specs.Prelude.{◌≡◌, ℕ, zero, suc, ◌+◌, ◌-◌, Bool, false, cond, ◌&&◌, nat_eq, nat_lt, List, [], ◌∷◌, ◌++◌, length, take, slice_index_or, Option, Result}
+use Rattle.std.specs.Prelude.{◌≡◌, ℕ, zero, suc, Bool, List, [], ◌∷◌, ◌++◌, take, Option, Result}
 use Rattle.pt_base.specs.Files.{Files}
 use Rattle.bit_image.specs.Image.{Image, with_pixel}
 use Rattle.bitmap_input.specs.declared.stop.Stop.{Stop}

@@ -7,7 +7,7 @@ use Rattle.bitmap_input.specs.declared.fault.InFault.{InFault}
 use Rattle.bitmap_input.specs.declared.fault.InFault.TheVariants as fault
 use Rattle.bitmap_input.specs.declared.stop.Stop.{Stop}
 use Rattle.bitmap_input.specs.declared.stop.Stop.TheVariants as stop
-use Rattle.bitmap_input.specs.Cut.{Kind, Ending, Cut, is_by_end}
+use Rattle.bitmap_input.specs.Cut.{Ending, Cut, is_by_end}
 use Rattle.bitmap_input.specs.Cut.Kind.{UnknownFormat, BadHeader, ZeroSide, TooLarge, Truncated, BadRaster, BmpKind, BadOffset, TooLong}
 use Rattle.bitmap_input.specs.Cut.Ending.{End, Trailing, Refused}
 use Rattle.bitmap_input.specs.Cut.Cut.{Takes, Stops}

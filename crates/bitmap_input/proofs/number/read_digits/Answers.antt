@@ -1,6 +1,5 @@
-use Rattle.std.proofs.Common.{true, false, arith, rules, List, ℕ, ◌≡◌, suc, ◌∷◌, [], Ok, Err, sym, ◌∙◌, ap, refl}
-use Rattle.bitmap_input.specs.Parts.{run_length, is_digit, run_of, value}
-use Rattle.bitmap_input.specs.Run.{IsCapped, digits}
+use Rattle.std.proofs.Common.{true, false, arith, rules, ◌≡◌, refl}
+use Rattle.bitmap_input.specs.Parts.{run_length, is_digit, value}
 use Rattle.bitmap_input.proofs.Telling.{reads_map}
 use Rattle.bitmap_input.proofs.Running.{run_begins, run_ends_at, run_ends_last, run_goes_on}
 use Rattle.bitmap_input.proofs.Digits.{value_more, capped_more}

@@ -1,7 +1,6 @@
-use Rattle.std.proofs.Common.{arith, rules, List, ℕ, ◌≡◌, true}
+use Rattle.std.proofs.Common.{rules, ◌≡◌, true}
 use Rattle.bitmap_input.specs.Cut.Kind.{BadHeader}
-use Rattle.bitmap_input.specs.Parts.{is_digit, number}
-use Rattle.bitmap_input.specs.Run.{IsCapped, digits}
+use Rattle.bitmap_input.specs.Parts.{is_digit}
 use Rattle.bitmap_input.proofs.Telling.{reads_look}
 use Rattle.bitmap_input.proofs.Digits.{number_at}
 use Rattle.bitmap_input.proofs.number.read_number.Goals as goal

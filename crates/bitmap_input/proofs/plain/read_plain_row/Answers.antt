@@ -1,9 +1,9 @@
-use Rattle.std.proofs.Common.{◌≡◌, ◌-◌, ◌+◌, suc, arith, rules, refl, sym}
+use Rattle.std.proofs.Common.{◌≡◌, ◌-◌, ◌+◌, suc, arith, rules, refl}
 use Rattle.std.proofs.lemmas.Result.{err_from_is_err_and}
 use Rattle.bit_image.specs.Page.{image_of}
 use Rattle.bitmap_input.specs.Raster.{with_pixels}
 use Rattle.bitmap_input.proofs.Appending.{plain_pixel_stays}
-use Rattle.bitmap_input.proofs.Painting.{painting_begins, painting_goes_on, painting_stops, painting_ends, pixel_painted}
+use Rattle.bitmap_input.proofs.Painting.{painting_goes_on, painting_stops, painting_ends, pixel_painted}
 use Rattle.bitmap_input.proofs.plain.read_plain_row.Goals as goal
 
 pub returns-in_err-black-clause-reads : goal.returns-in_err-black-clause-reads

@@ -1,9 +1,8 @@
-use Rattle.std.proofs.Common.{arith, rules, refl, subst, ◌≡◌, ◌-◌, suc}
+use Rattle.std.proofs.Common.{arith, rules, refl, ◌≡◌, ◌-◌, suc}
 use Rattle.std.proofs.lemmas.Result.{err_from_is_err_and}
 use Rattle.bit_image.specs.Page.{image_of}
-use Rattle.bitmap_input.specs.Parts.{times}
 use Rattle.bitmap_input.specs.Front.{plain_pixel}
-use Rattle.bitmap_input.specs.Raster.{with_row, with_rows}
+use Rattle.bitmap_input.specs.Raster.{with_rows}
 use Rattle.bitmap_input.proofs.Appending.{times_stay, plain_pixel_stays}
 use Rattle.bitmap_input.proofs.Painting.{painting_goes_on, painting_stops, painting_ends}
 use Rattle.bitmap_input.proofs.Placing.{row_painted}

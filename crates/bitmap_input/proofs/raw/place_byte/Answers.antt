@@ -1,4 +1,4 @@
-use Rattle.std.proofs.Common.{ℕ, Bool, List, subst, arith, rules, refl, sym, ◌∙◌, ap, ◌≡◌, ◌<◌, ◌+◌, false, get_or, length}
+use Rattle.std.proofs.Common.{ℕ, Bool, List, subst, arith, rules, refl, ◌≡◌, ◌+◌, false, get_or}
 use Rattle.bit_image.specs.Page.{image_of}
 use Rattle.bit_image.specs.Image.{with_pixel}
 use Rattle.bitmap_input.specs.Raw.{bits_of}

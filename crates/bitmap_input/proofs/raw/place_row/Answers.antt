@@ -1,6 +1,5 @@
-use Rattle.std.proofs.Common.{arith, rules, refl, ◌≡◌, ◌<◌, ◌≤◌, ◌*◌, ◌+◌, get_or, length}
+use Rattle.std.proofs.Common.{arith, rules, refl, ◌≤◌, ◌*◌, get_or}
 use Rattle.bit_image.specs.Page.{image_of}
-use Rattle.bitmap_input.specs.Raw.{row_bytes}
 use Rattle.bitmap_input.proofs.Placing.{byte_placed, byte_left}
 use Rattle.bitmap_input.proofs.raw.place_row.Goals as goal
 use Rattle.bitmap_input.proofs.raw.place_row.Goals.{then-byte-ne0, else-byte-ne0}

@@ -1,4 +1,4 @@
-use Rattle.std.proofs.Common.{◌≡◌, ◌-◌, take}
+use Rattle.std.proofs.Common.{◌≡◌, take}
 use Rattle.bit_image.specs.Page.{SameSides, image_of}
 use Rattle.bitmap_input.specs.Raw.{unpacked}
 use Rattle.bitmap_input.specs.Raster.{with_row}

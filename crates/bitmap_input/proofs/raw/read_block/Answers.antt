@@ -1,5 +1,4 @@
-use Rattle.std.proofs.Common.{arith, rules, ◌≤◌, length, length-drop}
-use Rattle.std.proofs.lemmas.List.{length-take}
+use Rattle.std.proofs.Common.{arith, rules, ◌≤◌, length}
 use Rattle.bitmap_input.proofs.Blocks.{block_is_short, block_goes_on, filled_within}
 use Rattle.bitmap_input.proofs.raw.read_block.Goals as goal
 

@@ -1,8 +1,8 @@
-use Rattle.std.proofs.Common.{sym, false, arith, rules, refl, subst, ap, ◌∙◌, ◌≡◌, ◌-◌, suc, take}
+use Rattle.std.proofs.Common.{sym, false, arith, rules, refl, ap, ◌∙◌, ◌≡◌, ◌-◌, suc, take}
 use Rattle.std.proofs.lemmas.Result.{err_from_is_err_and}
 use Rattle.bit_image.specs.Page.{image_of}
 use Rattle.bitmap_input.specs.Cut.Cut.{Takes}
-use Rattle.bitmap_input.specs.Raw.{row_bytes, unpacked}
+use Rattle.bitmap_input.specs.Raw.{unpacked}
 use Rattle.bitmap_input.specs.Raster.{with_row, with_rows}
 use Rattle.bitmap_input.proofs.Appending.{raw_row_stays}
 use Rattle.bitmap_input.proofs.Telling.{reads_map, reads_stop}

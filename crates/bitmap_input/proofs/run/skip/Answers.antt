@@ -1,6 +1,5 @@
-use Rattle.std.proofs.Common.{arith, rules, List, ℕ, ◌≡◌, Ok, Err}
-use Rattle.bitmap_input.specs.Reading.{Any}
-use Rattle.bitmap_input.specs.Run.{length_of, part_of}
+use Rattle.std.proofs.Common.{arith, rules}
+use Rattle.bitmap_input.specs.Run.{length_of}
 use Rattle.bitmap_input.proofs.Telling.{reads_weaken}
 use Rattle.bitmap_input.proofs.Running.{length_of-nil, run_begins, run_ends_at, run_ends_last, run_goes_on}
 use Rattle.bitmap_input.proofs.run.skip.Goals as goal

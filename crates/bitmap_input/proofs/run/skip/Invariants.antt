@@ -1,4 +1,4 @@
-use Rattle.std.proofs.Common.{◌+◌, ◌-◌, ◌≡◌, true, ◌≤◌}
+use Rattle.std.proofs.Common.{◌-◌, ◌≡◌, true, ◌≤◌}
 use Rattle.bitmap_input.specs.Run.{length_of, RunSoFar}
 use Rattle.bitmap_input.proofs.run.skip.Given as goal
 

@@ -1,4 +1,4 @@
-use Rattle.std.proofs.Common.{◌≡◌, ◌≤◌, true, is_some, Some}
+use Rattle.std.proofs.Common.{◌≡◌, true, is_some, Some}
 use Rattle.bitmap_input.specs.Reading.{AtEnd}
 use Rattle.bitmap_input.proofs.tests.answers.Given as goal
 

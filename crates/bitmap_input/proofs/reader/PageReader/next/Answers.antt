@@ -1,8 +1,7 @@
-use Rattle.std.proofs.Common.{◌≡◌, ◌+◌, true, refl, ap, sym, ◌∙◌}
-use Rattle.bitmap_input.specs.Cut.Ending.{End, Trailing}
-use Rattle.bitmap_input.specs.Reading.{cause_of, cause_of_fault}
+use Rattle.std.proofs.Common.{true, refl}
+use Rattle.bitmap_input.specs.Reading.{cause_of}
 use Rattle.bitmap_input.specs.Reader.{Reader}
-use Rattle.bitmap_input.proofs.Answering.{reader_of, gives_page, gives_ending, told_page, told_ending, told_says, over_comes, page_comes, end_comes, trailing_comes, fault_comes}
+use Rattle.bitmap_input.proofs.Answering.{reader_of, gives_page, gives_ending, told_page, told_says, over_comes, page_comes, end_comes, trailing_comes, fault_comes}
 use Rattle.bitmap_input.proofs.reader.PageReader.next.Goals as goal
 use Rattle.bitmap_input.proofs.reader.PageReader.next.Goals.{in-End, in-Trailing, in-Fault}
 
