@@ -1,0 +1,5 @@
+pub mod Line
+pub mod Walk
+pub mod Inside
+pub mod Decomposition
+pub mod Sums

@@ -1,0 +1,7 @@
+//! Splits a page into boundary paths: closed walks along pixel edges, black on the left.
+//!
+//! A path starts at the leftmost black pixel of the uppermost row that has one, goes down that
+//! pixel's left side, and follows the edges between black and white pixels until it comes to its
+//! first edge again. The pixels inside are then inverted, and the next path starts from what is
+//! black now, until the page is white.
+#![tactic(auto)]
