@@ -1,0 +1,61 @@
+-- That one of two holds and not both: the laws of `differ`.
+use Rattle.std.proofs.Common.{◌≡◌, Bool, true, false, not, cond, refl}
+use Rattle.bit_image.specs.Image.{differ}
+
+pub differ-false : (a : Bool) → differ a false ≡ a
+differ-false true = refl
+differ-false false = refl
+
+pub differ_same : (a : Bool) → differ a a ≡ false
+differ_same true = refl
+differ_same false = refl
+
+pub differ_comm : (a b : Bool) → differ a b ≡ differ b a
+differ_comm true true = refl
+differ_comm true false = refl
+differ_comm false true = refl
+differ_comm false false = refl
+
+pub differ_assoc : (a b c : Bool) → differ (differ a b) c ≡ differ a (differ b c)
+differ_assoc true true true = refl
+differ_assoc true true false = refl
+differ_assoc true false c = refl
+differ_assoc false b c = refl
+
+-- what differs between a and b, and between b and c, is what differs between a and c
+pub differ_link : (a b c : Bool) → differ (differ a b) (differ b c) ≡ differ a c
+differ_link true true c = refl
+differ_link true false c = refl
+differ_link false true true = refl
+differ_link false true false = refl
+differ_link false false c = refl
+
+-- two pairs of differences, taken the other way
+pub differ_swap : (a b c d : Bool) → differ (differ a b) (differ c d) ≡ differ (differ a c) (differ b d)
+differ_swap true true true d = refl
+differ_swap true true false true = refl
+differ_swap true true false false = refl
+differ_swap true false true true = refl
+differ_swap true false true false = refl
+differ_swap true false false d = refl
+differ_swap false true true true = refl
+differ_swap false true true false = refl
+differ_swap false true false d = refl
+differ_swap false false c d = refl
+
+-- what differs from nothing is the same
+pub same_from_differ : (a b : Bool) → differ a b ≡ false → a ≡ b
+same_from_differ true true e = refl
+same_from_differ true false e = cc
+same_from_differ false true e = cc
+same_from_differ false false e = refl
+
+pub differ_solve : (a b c : Bool) → differ a (differ b c) ≡ false → differ b a ≡ c
+differ_solve true true true e = cc
+differ_solve true true false e = refl
+differ_solve true false true e = refl
+differ_solve true false false e = cc
+differ_solve false true true e = refl
+differ_solve false true false e = cc
+differ_solve false false true e = cc
+differ_solve false false false e = refl
