@@ -59,3 +59,13 @@ differ_solve false true true e = refl
 differ_solve false true false e = cc
 differ_solve false false true e = cc
 differ_solve false false false e = refl
+
+pub differ_back : (a b c : Bool) → differ a b ≡ c → a ≡ differ b c
+differ_back true true true e = cc
+differ_back true true false e = refl
+differ_back true false true e = refl
+differ_back true false false e = cc
+differ_back false true true e = refl
+differ_back false true false e = cc
+differ_back false false true e = cc
+differ_back false false false e = refl

@@ -6,4 +6,10 @@ pub mod EdgeLine
 pub mod Cut
 pub mod Round
 pub mod Once
+pub mod OnPage
+pub mod Start
+pub mod Beyond
+pub mod NextPath
+pub mod Sums
+pub mod Unique
 mod Examples

@@ -44,7 +44,7 @@ edge_along-line_along b (suc x) y West black white = rw black refl
 edge_along-line_of : (b : Image) (e : Edge) → IsBoundary b e → edge_along b (line_of e) ≡ e
 edge_along-line_of b e h = edge_along-line_along b e.x e.y e.heading h.black_left h.white_right
 
-none_passes : {A : Type 0} (f : A → Bool) (es : List A) → All (λ e. f e ≡ false) es → (odd_by f es ≡ false) × (count_by f es ≡ 0)
+pub none_passes : {A : Type 0} (f : A → Bool) (es : List A) → All (λ e. f e ≡ false) es → (odd_by f es ≡ false) × (count_by f es ≡ 0)
 none_passes f [] h = (refl, refl)
 none_passes f (e ∷ es) h =
     let no : f e ≡ false = All-head (λ w. f w ≡ false) e es h in

@@ -1,7 +1,8 @@
 -- Whether an odd number of a list's elements pass a test, and how often a test changes along a walk.
-use Rattle.std.proofs.Common.{◌≡◌, ℕ, ◌+◌, Bool, true, false, not, cond, List, [], ◌∷◌, count_by, refl, ap, sym, subst, ◌∙◌, arith}
+use Rattle.std.proofs.Common.{◌≡◌, ℕ, ◌+◌, Bool, true, false, not, cond, List, [], ◌∷◌, count_by, All, refl, ap, sym, subst, ◌∙◌, arith}
 use Rattle.std.proofs.lemmas.Bool.Decides.{nat_tests}
 use Rattle.std.proofs.lemmas.List.Sums.{sum_by-cons}
+use Rattle.std.proofs.lemmas.List.Elements.{All-head, All-tail}
 use Rattle.bit_image.specs.Image.{differ}
 use Rattle.turn_policies.specs.declared.edge.Edge.{Edge}
 use Rattle.path_decompose.specs.Walk.{IsRun}
@@ -34,6 +35,13 @@ pub odd_by-same : {A : Type 0} (f g : A → Bool) → ((x : A) → f x ≡ g x) 
 odd_by-same f g h [] = refl
 odd_by-same f g h (x ∷ xs) =
     ap (λ b. differ b (odd_by f xs)) (h x) ∙ ap (differ (g x)) (odd_by-same f g h xs)
+
+-- tests that agree on a list's elements
+pub odd_by-agree : {A : Type 0} (f g : A → Bool) (xs : List A) → All (λ x. f x ≡ g x) xs → odd_by f xs ≡ odd_by g xs
+odd_by-agree f g [] h = refl
+odd_by-agree f g (x ∷ xs) h =
+    ap (λ b. differ b (odd_by f xs)) (All-head (λ y. f y ≡ g y) x xs h)
+    ∙ ap (differ (g x)) (odd_by-agree f g xs (All-tail (λ y. f y ≡ g y) x xs h))
 
 -- Along a run, a test f that tells whether S changes at a step holds an odd number of times exactly where S
 -- differs between the run's ends.

@@ -1,0 +1,49 @@
+-- The path that comes next, by its edges.
+use Rattle.std.proofs.Common.{◌≡◌, ℕ, Bool, List, map, refl, ap, sym, subst, ◌∙◌}
+use Rattle.std.proofs.Math.Path.{fun_ext}
+use Rattle.pt_base.specs.declared.path.Path.{Path}
+use Rattle.pt_base.specs.declared.policy.Policy.{Policy}
+use Rattle.bit_image.specs.Image.{Image, Fits, differ}
+use Rattle.bit_image.specs.Page.{Page}
+use Rattle.turn_policies.specs.declared.edge.Edge.{Edge}
+use Rattle.turn_policies.specs.Turn.{next}
+use Rattle.path_decompose.specs.Line.{Line, is_edge, same_line}
+use Rattle.path_decompose.specs.Walk.{start_of, first_edge}
+use Rattle.path_decompose.specs.Inside.{lines_of, inside}
+use Rattle.path_decompose.specs.Decomposition.{inverted, IsNextPath}
+use Rattle.path_decompose.proofs.Parity.{odd_by}
+use Rattle.path_decompose.proofs.EdgeLine.{line_of, lines_of-run, within, inside-run}
+use Rattle.path_decompose.proofs.Cut.{is_edge-within, is_edge-differ}
+use Rattle.path_decompose.proofs.Round.{IsCircuit, circuit_of}
+use Rattle.path_decompose.proofs.Beyond.{fits_within, fits_differ}
+
+pub next_circuit : (page : Page) (policy : Policy) (b : Image) (path : Path) → (n : IsNextPath page policy b path) → IsCircuit b policy path.sign (first_edge n.x n.y) n.walk.edges
+next_circuit page policy b path n = circuit_of b policy path.sign n.x n.y n.walk.edges n.first n.walk.round
+
+pub next_lines : (page : Page) (policy : Policy) (b : Image) (path : Path) → (n : IsNextPath page policy b path) → lines_of path.points ≡ map line_of n.walk.edges
+next_lines page policy b path n =
+    let c = next_circuit page policy b path n in
+    ap lines_of n.walk.starts ∙ lines_of-run b policy path.sign (first_edge n.x n.y) n.walk.edges c.boundary c.closes
+
+pub next_inside : (page : Page) (policy : Policy) (b : Image) (path : Path) → (n : IsNextPath page policy b path) → inside path.points ≡ within n.walk.edges
+next_inside page policy b path n =
+    let c = next_circuit page policy b path n in
+    fun_ext (λ x. fun_ext (λ y. ap (λ points. inside points x y) n.walk.starts ∙ inside-run b policy path.sign (first_edge n.x n.y) n.walk.edges c.boundary c.closes x y))
+
+-- the inside of a path lies on the page, and so does what is black after it
+pub next_fits : (page : Page) (policy : Policy) (b : Image) (path : Path) (width height : ℕ) → (n : IsNextPath page policy b path) → Fits b width height → Fits (inside path.points) width height
+next_fits page policy b path width height n fits =
+    subst (λ c. Fits c width height) (sym (next_inside page policy b path n))
+    (fits_within b policy path.sign (first_edge n.x n.y) n.walk.edges (next_circuit page policy b path n) width height fits)
+
+pub fits_inverted : (page : Page) (policy : Policy) (b : Image) (path : Path) (width height : ℕ) → IsNextPath page policy b path → Fits b width height → Fits (inverted b path.points) width height
+fits_inverted page policy b path width height n fits =
+    fits_differ b (inside path.points) width height fits (next_fits page policy b path width height n fits)
+
+-- what the path leaves of the lines between black and white
+pub is_edge-inverted : (page : Page) (policy : Policy) (b : Image) (path : Path) → (n : IsNextPath page policy b path) → (l : Line) → is_edge (inverted b path.points) l ≡ differ (is_edge b l) (odd_by (λ e. same_line l (line_of e)) n.walk.edges)
+is_edge-inverted page policy b path n l =
+    let c = next_circuit page policy b path n in
+    is_edge-differ b (inside path.points) l
+    ∙ ap (λ i. differ (is_edge b l) (is_edge i l)) (next_inside page policy b path n)
+    ∙ ap (differ (is_edge b l)) (is_edge-within b policy path.sign (first_edge n.x n.y) n.walk.edges c.boundary c.closes l)
