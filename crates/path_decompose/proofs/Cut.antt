@@ -16,7 +16,7 @@ use Rattle.path_decompose.specs.Walk.{IsRun}
 use Rattle.path_decompose.specs.Inside.{is_crossed}
 use Rattle.path_decompose.proofs.Differ.{differ_swap, differ_solve}
 use Rattle.path_decompose.proofs.Parity.{odd_by, odd_by-differ, odd_by-same, odd_by-closed}
-use Rattle.path_decompose.proofs.Turning.{next_boundary}
+use Rattle.turn_policies.proofs.Turning.{next_boundary}
 use Rattle.path_decompose.proofs.EdgeLine.{line_along, line_of, within}
 
 -- the line is upright, in row y

@@ -16,7 +16,7 @@ use Rattle.path_decompose.specs.Line.{Line, upright, level}
 use Rattle.path_decompose.specs.Walk.{IsRun, start_of}
 use Rattle.path_decompose.specs.Inside.{line_at, line_between, lines_to, lines_of, is_crossed, is_odd, inside}
 use Rattle.path_decompose.proofs.Parity.{odd_by, is_odd-count}
-use Rattle.path_decompose.proofs.Turning.{next_boundary}
+use Rattle.turn_policies.proofs.Turning.{next_boundary}
 
 -- the line along which a step leaves corner (x, y)
 abbrev pub line_along : ℕ → ℕ → Dir → Line

@@ -1,7 +1,6 @@
 pub mod Differ
 pub mod Parity
 pub mod Orbit
-pub mod Turning
 pub mod EdgeLine
 pub mod Cut
 pub mod Round

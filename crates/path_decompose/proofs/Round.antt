@@ -10,7 +10,7 @@ use Rattle.turn_policies.specs.Boundary.{IsBoundary}
 use Rattle.turn_policies.specs.Turn.{next}
 use Rattle.path_decompose.specs.Walk.{IsRun, IsRound, first_edge}
 use Rattle.path_decompose.proofs.Orbit.{nth_after, orbit, run-orbit, get_or-orbit, length-orbit}
-use Rattle.path_decompose.proofs.Turning.{next_boundary}
+use Rattle.turn_policies.proofs.Turning.{next_boundary}
 
 -- the edges go once round in the image, from a boundary edge
 pub record IsCircuit (b : Image) (policy : Policy) (sign : Sign) (s : Edge) (es : List Edge) : Type 0 where

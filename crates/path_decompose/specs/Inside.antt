@@ -1,24 +1,19 @@
 -- The pixels inside a path, by the even-odd rule of vector graphics (Selinger, "Potrace", 2003, section
 -- 2.1.1). The rule looks along the row to the left and not along any ray, and an edge at column x
 -- counts, since it is the pixel's own left side.
-use Rattle.std.specs.Prelude.{ℕ, ◌%◌, min, Bool, false, cond, nat_eq, ℤ, pos, negsuc, List, [], ◌∷◌, count_by}
+use Rattle.std.specs.Prelude.{ℕ, ◌%◌, min, Bool, false, cond, nat_eq, nat_abs, List, [], ◌∷◌, count_by}
 use Rattle.pt_base.specs.declared.point.Point.{Point}
 use Rattle.bit_image.specs.Image.{Image, is_from}
 use Rattle.turn_policies.specs.Majority.{count_below, sum_below}
 use Rattle.path_decompose.specs.Line.{Line, upright, level}
 
--- a coordinate as a place on the grid; no path has one below 0
-abbrev pub place_of : ℤ → ℕ
-place_of (pos n) = n
-place_of (negsuc n) = 0
-
 -- the line between corners (x, y) and (u, v), which are one step apart
 abbrev pub line_at : ℕ → ℕ → ℕ → ℕ → Line
 line_at x y u v = cond (nat_eq x u) (upright x (min y v)) (level (min x u) y)
 
--- the line between two points that are one step apart
+-- the line between two points that are one step apart (no path has a coordinate below 0)
 abbrev pub line_between : Point → Point → Line
-line_between p q = line_at (place_of p.x) (place_of p.y) (place_of q.x) (place_of q.y)
+line_between p q = line_at (nat_abs p.x) (nat_abs p.y) (nat_abs q.x) (nat_abs q.y)
 
 -- the lines from each point to the next, and from the last one to `end`
 abbrev pub lines_to : Point → Point → List Point → List Line
