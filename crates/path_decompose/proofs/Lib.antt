@@ -11,4 +11,5 @@ pub mod Beyond
 pub mod NextPath
 pub mod Sums
 pub mod Unique
+pub mod ClosedWalk
 mod Examples

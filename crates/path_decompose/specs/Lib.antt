@@ -1,5 +1,6 @@
 pub mod Line
 pub mod Walk
 pub mod Inside
+pub mod Bounds
 pub mod Decomposition
 pub mod Sums
