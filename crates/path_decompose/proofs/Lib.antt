@@ -12,4 +12,5 @@ pub mod NextPath
 pub mod Sums
 pub mod Unique
 pub mod ClosedWalk
+pub mod Own
 mod Examples

@@ -68,7 +68,7 @@ crossed_at_start b x y (upright a c) first edge =
       | inr right ↦ grind (arith, nat_tests)
     ]
 
-odd_from_some : (o : Bool) → 1 ≤ cond o 1 0 → o ≡ true
+pub odd_from_some : (o : Bool) → 1 ≤ cond o 1 0 → o ≡ true
 odd_from_some true h = refl
 odd_from_some false h = absurd (omega arith)
 
