@@ -120,10 +120,10 @@ own_line : (b : Image) (policy : Policy) (sign : Sign) (s : Edge) (es : List Edg
 own_line b policy sign s es c k d short =
     let l : Line = line_of (get_or es k d) in
     let f : Edge → Bool = λ e. same_line l (line_of e) in
-    let here : cond (f (get_or es k d)) 1 0 ≡ 1 = ap (λ t. cond t 1 0) (same_line_itself l) in
-    let least : cond (f (get_or es k d)) 1 0 ≤ count_by f es = get_or-le-sum_by (λ e. cond (f e) 1 0) es k d short in
-    let once : count_by f es ≡ cond (odd_by f es) 1 0 = count_by-line b policy sign s es c l in
-    is_edge-within b policy sign s es c.boundary c.closes l ∙ odd_from_some (odd_by f es) (omega arith)
+    let g : Edge → ℕ = λ e. cond (f e) 1 0 in
+    let here : g (get_or es k d) ≡ 1 = ap (λ t. cond t 1 0) (same_line_itself l) in
+    let some : 1 ≤ count_by f es = subst (λ n. n ≤ count_by f es) here (get_or-le-sum_by g es k d short) in
+    is_edge-within b policy sign s es c.boundary c.closes l ∙ odd_from_some (odd_by f es) (subst (λ n. 1 ≤ n) (count_by-line b policy sign s es c l) some)
 
 -- each edge of a path has the inside on its left and the outside on its right
 pub own_boundary : (b : Image) (policy : Policy) (sign : Sign) (x y : ℕ) (es : List Edge) → IsFirstBlack b x y → IsCircuit b policy sign (first_edge x y) es → All (IsBoundary (within es)) es
