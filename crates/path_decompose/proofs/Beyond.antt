@@ -6,14 +6,14 @@ use Rattle.pt_base.specs.declared.path.Sign.{Sign}
 use Rattle.pt_base.specs.declared.policy.Policy.{Policy}
 use Rattle.bit_image.specs.Image.{Image, Fits, differ}
 use Rattle.turn_policies.specs.declared.edge.Edge.{Edge}
-use Rattle.path_decompose.specs.Line.{Line, upright, level}
+use Rattle.path_decompose.specs.Line.{Line, upright, level, IsLineOn}
 use Rattle.path_decompose.specs.Inside.{is_crossed}
 use Rattle.path_decompose.proofs.Parity.{odd_by, odd_by-agree}
 use Rattle.path_decompose.proofs.EdgeLine.{line_of, within}
 use Rattle.path_decompose.proofs.Cut.{is_in_row, row_even}
 use Rattle.path_decompose.proofs.Round.{IsCircuit, all_boundary}
 use Rattle.path_decompose.proofs.Once.{none_passes}
-use Rattle.path_decompose.proofs.OnPage.{IsLineOn, edge_on}
+use Rattle.path_decompose.proofs.OnPage.{edge_on}
 
 pub all_lines_on : (b : Image) (policy : Policy) (sign : Sign) (s : Edge) (es : List Edge) → IsCircuit b policy sign s es → (width height : ℕ) → Fits b width height → All (λ e. IsLineOn width height (line_of e)) es
 all_lines_on b policy sign s es c width height fits =

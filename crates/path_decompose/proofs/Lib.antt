@@ -13,4 +13,6 @@ pub mod Sums
 pub mod Unique
 pub mod ClosedWalk
 pub mod Own
+pub mod Steps
+pub mod Flips
 mod Examples

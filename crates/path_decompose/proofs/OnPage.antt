@@ -14,13 +14,8 @@ use Rattle.turn_policies.specs.declared.heading.Dir.TheVariants.{North, East, So
 use Rattle.turn_policies.specs.declared.edge.Edge.{Edge}
 use Rattle.turn_policies.specs.Heading.{end_x, end_y}
 use Rattle.turn_policies.specs.Boundary.{IsBoundary, left_pixel}
-use Rattle.path_decompose.specs.Line.{Line, upright, level}
+use Rattle.path_decompose.specs.Line.{Line, upright, level, IsLineOn}
 use Rattle.path_decompose.proofs.EdgeLine.{line_along, line_of}
-
--- the line is a side of a pixel of a page of this width and height
-abbrev pub IsLineOn : ℕ → ℕ → Line → Type 0
-IsLineOn width height (upright x y) = (x ≤ width) × (y < height)
-IsLineOn width height (level x y) = (x < width) × (y ≤ height)
 
 -- a step and its line stay on the page
 pub record IsStepOn (width height x y : ℕ) (d : Dir) : Type 0 where

@@ -5,3 +5,6 @@
 //! first edge again. The pixels inside are then inverted, and the next path starts from what is
 //! black now, until the page is white.
 #![tactic(auto)]
+
+mod interior;
+mod walk;

@@ -1,0 +1,18 @@
+use Rattle.std.proofs.Common.{suc, ◌-◌, ◌*◌, vec_len}
+use Rattle.bit_image.specs.Page.{image_of}
+use Rattle.turn_policies.specs.Boundary.{IsBoundary}
+use Rattle.turn_policies.specs.Turn.{next}
+use Rattle.path_decompose.specs.Walk.{first_edge}
+use Rattle.path_decompose.proofs.Steps.{IsPartWalk}
+use Rattle.path_decompose.proofs.walk.walk_from.Given as goal
+
+abbrev pub invariant-steps : goal.invariant-steps
+invariant-steps l =
+    record {
+      part : IsPartWalk (next (image_of l.page) l.policy l.sign) (first_edge l.x l.y) (vec_len l.points) l.points.items l.here;
+      boundary : IsBoundary (image_of l.page) l.here;
+    }
+
+-- the edges that the page has more than the walk so far
+abbrev pub decreases-steps : goal.decreases-steps
+decreases-steps l = suc l.page.width * suc l.page.height * 4 - vec_len l.points
