@@ -2,5 +2,6 @@ pub mod Line
 pub mod Walk
 pub mod Inside
 pub mod Bounds
+pub mod Area
 pub mod Decomposition
 pub mod Sums

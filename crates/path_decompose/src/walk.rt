@@ -1,7 +1,8 @@
 //! The walk along a boundary, once round.
-ghost use Rattle.std.specs.Prelude.{◌≡◌, ◌≢◌, IfOk, MatchBool, ◌^◌, ◌<◌};
+ghost use Rattle.std.specs.Prelude.{◌≡◌, ◌≢◌, IfOk, MatchBool, ◌^◌, ◌<◌, ◌≤◌};
 ghost use Rattle.bit_image.specs.FirstBlack.{IsFirstBlack};
 ghost use Rattle.bit_image.specs.Page.{image_of};
+ghost use Rattle.path_decompose.specs.Area.{right_of_down, right_of_up};
 ghost use Rattle.path_decompose.specs.Walk.{start_of, first_edge, IsWalk};
 
 use bit_image::bitmap::Bitmap;
@@ -14,14 +15,29 @@ use turn_policies::edge::Edge;
 use turn_policies::heading::Dir;
 use turn_policies::rule::next;
 
-/// Walks once round the boundary that starts at the first black pixel, pixel (x, y), and gives the
-/// corners on the way.
-pub fn walk_from(alloc: Global, page: &Bitmap, x: u32, y: u32, policy: Policy, sign: Sign) -> Result<Vec<Point>, NoMemory>
+/// The corners of a walk once round a boundary, and how many pixels it has inside.
+#[derive(Debug, Drop)]
+pub struct Round {
+    pub points: Vec<Point>,
+    pub area: u64,
+}
+
+/// Walks once round the boundary that starts at the first black pixel, pixel (x, y).
+pub fn walk_round(
+    alloc: Global,
+    page: &Bitmap,
+    x: u32,
+    y: u32,
+    policy: Policy,
+    sign: Sign,
+) -> Result<Round, NoMemory>
     requires { IsFirstBlack (image_of page.now) x y }
-    ensures { IfOk result (λ points. IsWalk (image_of page.now) policy sign x y points.items) }
+    ensures { IfOk result (λ round. IsWalk (image_of page.now) policy sign x y round.points.items) }
 {
-    let _height = page.height();
+    let width = page.width();
     let mut points = Vec::new(alloc);
+    let mut down = 0;
+    let mut up = 0;
     let mut here = Edge {
         x,
         y: y + 1,
@@ -29,9 +45,14 @@ pub fn walk_from(alloc: Global, page: &Bitmap, x: u32, y: u32, policy: Policy, s
     };
     'steps: loop {
         points.push(corner_of(here))?;
+        down += right_of_down(width, here);
+        up += right_of_up(width, here);
         here = next(page, here, policy, sign);
         if is_first(here, x, y) {
-            return Ok(points);
+            return Ok(Round {
+                points,
+                area: down.saturating_sub(up),
+            });
         }
     }
 }
@@ -54,4 +75,26 @@ fn is_first(edge: Edge, x: u32, y: u32) -> bool
     ensures { MatchBool result (edge ≡ first_edge x y) (edge ≢ first_edge x y) }
 {
     edge.x == x && edge.y == y + 1 && matches!(edge.heading, Dir::South)
+}
+
+/// How many pixels of a row of this width lie to the right of an edge that is walked down.
+fn right_of_down(width: u32, edge: Edge) -> u64
+    requires { edge.x ≤ width }
+    ensures { result ≡ right_of_down width edge }
+{
+    match edge.heading {
+        Dir::South => u64::from(width - edge.x),
+        _ => 0,
+    }
+}
+
+/// How many pixels of a row of this width lie to the right of an edge that is walked up.
+fn right_of_up(width: u32, edge: Edge) -> u64
+    requires { edge.x ≤ width }
+    ensures { result ≡ right_of_up width edge }
+{
+    match edge.heading {
+        Dir::North => u64::from(width - edge.x),
+        _ => 0,
+    }
 }
