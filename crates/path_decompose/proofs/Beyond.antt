@@ -37,13 +37,14 @@ inside_right b policy sign s es c width height fits x y right =
 inside_above : (b : Image) (policy : Policy) (sign : Sign) (s : Edge) (es : List Edge) → IsCircuit b policy sign s es → (width height : ℕ) → Fits b width height → (x y : ℕ) → height ≤ y → within es x y ≡ false
 inside_above b policy sign s es c width height fits x y above =
     (none_passes (λ e. is_crossed x y (line_of e)) es
-      (λ k d short. not_crossed_above width height x y (line_of (get_or es k d)) (all_lines_on b policy sign s es c width height fits k d short) above)).0
+    (λ k d short. not_crossed_above width height x y (line_of (get_or es k d)) (all_lines_on b policy sign s es c width height fits k d short) above)).0
 
 -- the inside lies on each page that the image fits
 pub fits_within : (b : Image) (policy : Policy) (sign : Sign) (s : Edge) (es : List Edge) → IsCircuit b policy sign s es → (width height : ℕ) → Fits b width height → Fits (within es) width height
-fits_within b policy sign s es c width height fits = λ x y black.
-    (elim (cases_lt x width) [ inl on ↦ on | inr right ↦ absurd (false≢true (sym (inside_right b policy sign s es c width height fits x y right) ∙ black)) ],
-      elim (cases_lt y height) [ inl on ↦ on | inr above ↦ absurd (false≢true (sym (inside_above b policy sign s es c width height fits x y above) ∙ black)) ])
+fits_within b policy sign s es c width height fits = λ x y black. (
+  elim (cases_lt x width) [ inl on ↦ on | inr right ↦ absurd (false≢true (sym (inside_right b policy sign s es c width height fits x y right) ∙ black)) ],
+  elim (cases_lt y height) [ inl on ↦ on | inr above ↦ absurd (false≢true (sym (inside_above b policy sign s es c width height fits x y above) ∙ black)) ],
+)
 
 -- an image that fits is white off the page
 pub white_off : (b : Image) (width height x y : ℕ) → Fits b width height → width ≤ x → b x y ≡ false

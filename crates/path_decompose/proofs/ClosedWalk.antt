@@ -81,8 +81,8 @@ elsewhere b policy sign e h back =
     let y : ℕ = end_y e.y e.heading in
     onwards _ _ (goes_right policy sign (major b x y)) e.heading
     (turned_back b e.x e.y e.heading heading h.black_left (next_boundary b policy sign e h).black_left
-      (nat_from_pos e.x (end_x x heading) (ap (λ p. p.x) back))
-      (nat_from_pos e.y (end_y y heading) (ap (λ p. p.y) back)))
+    (nat_from_pos e.x (end_x x heading) (ap (λ p. p.x) back))
+    (nat_from_pos e.y (end_y y heading) (ap (λ p. p.y) back)))
 
 -- point k of a walk once round, counted on over its end
 point_of_round : (b : Image) (policy : Policy) (sign : Sign) (s : Edge) (es : List Edge) → IsCircuit b policy sign s es → (k : ℕ) → point_at (map start_of es) k ≡ start_of (nth_after (next b policy sign) k s)
@@ -141,7 +141,7 @@ closed_walk b policy sign s es c width height fits w h =
       least = omega (arith, length-map es start_of, length-round b policy sign s es c);
       most = omega (arith, length-map es start_of, most_edges width height (length es) w h (length-le b policy sign s es c width height fits));
       steps = λ k. subst (λ p. IsUnitStep p (point_at points (suc k))) (sym (at k)) (subst (λ q. IsUnitStep (start_of (nth_after f k s)) q) (sym (at (suc k)))
-        (let e : Edge = nth_after f k s in unit_step b e.x e.y e.heading (boundary k).black_left));
+          (let e : Edge = nth_after f k s in unit_step b e.x e.y e.heading (boundary k).black_left));
       onwards = λ k same. elsewhere b policy sign (nth_after f k s) (boundary k) (sym (at k) ∙ same ∙ at (suc (suc k)));
     }
 
@@ -150,8 +150,8 @@ pub corners : (b : Image) (policy : Policy) (sign : Sign) (s : Edge) (es : List 
 corners b policy sign s es c width height fits =
     All-map (IsCornerOf width height) start_of es
     (λ k d short.
-      let e : Edge = get_or es k d in
-      let on = edge_on b width height fits e (all_boundary b policy sign s es c k d short) in
-      let column : e.x ≤ width = on.column in
-      let row : e.y ≤ height = on.row in
-      record { from_left = omega (arith, ints); to_right = omega (arith, ints); from_bottom = omega (arith, ints); to_top = omega (arith, ints) })
+    let e : Edge = get_or es k d in
+    let on = edge_on b width height fits e (all_boundary b policy sign s es c k d short) in
+    let column : e.x ≤ width = on.column in
+    let row : e.y ≤ height = on.row in
+    record { from_left = omega (arith, ints); to_right = omega (arith, ints); from_bottom = omega (arith, ints); to_top = omega (arith, ints) })

@@ -100,10 +100,10 @@ level_cut b policy sign s es h run x y =
     let below : Edge → Bool = λ e. is_crossed_below x y (line_of e) in
     let same : Edge → Bool = λ e. same_line (level x y) (line_of e) in
     let even : odd_by (λ e. differ (crossed e) (differ (below e) (same e))) es ≡ false =
-      odd_by-closed (next b policy sign) (IsBoundary b) (next_boundary b policy sign) (λ e. is_at_height x y e.x e.y) (λ e. differ (crossed e) (differ (below e) (same e)))
-      (λ e p. height_step b x y e.x e.y e.heading p.black_left) es s h run in
+    odd_by-closed (next b policy sign) (IsBoundary b) (next_boundary b policy sign) (λ e. is_at_height x y e.x e.y) (λ e. differ (crossed e) (differ (below e) (same e)))
+    (λ e p. height_step b x y e.x e.y e.heading p.black_left) es s h run in
     let parts : odd_by (λ e. differ (crossed e) (differ (below e) (same e))) es ≡ differ (odd_by crossed es) (differ (odd_by below es) (odd_by same es)) =
-      odd_by-differ crossed (λ e. differ (below e) (same e)) es ∙ ap (differ (odd_by crossed es)) (odd_by-differ below same es) in
+    odd_by-differ crossed (λ e. differ (below e) (same e)) es ∙ ap (differ (odd_by crossed es)) (odd_by-differ below same es) in
     ap (λ p. differ p (within es x y)) (pixel_below es x y)
     ∙ differ_solve (odd_by crossed es) (odd_by below es) (odd_by same es) (sym parts ∙ even)
 

@@ -8,7 +8,9 @@ pub mod Once
 pub mod OnPage
 pub mod Start
 pub mod Beyond
+pub mod Walked
 pub mod NextPath
+pub mod Scan
 pub mod Sums
 pub mod Unique
 pub mod ClosedWalk

@@ -1,6 +1,5 @@
 -- The path that comes next, by its edges.
 use Rattle.std.proofs.Common.{◌≡◌, ℕ, Bool, List, map, refl, ap, sym, subst, ◌∙◌}
-use Rattle.std.proofs.Math.Path.{fun_ext}
 use Rattle.pt_base.specs.declared.path.Path.{Path}
 use Rattle.pt_base.specs.declared.policy.Policy.{Policy}
 use Rattle.bit_image.specs.Image.{Image, Fits, differ}
@@ -12,29 +11,24 @@ use Rattle.path_decompose.specs.Walk.{start_of, first_edge}
 use Rattle.path_decompose.specs.Inside.{lines_of, inside}
 use Rattle.path_decompose.specs.Decomposition.{inverted, IsNextPath}
 use Rattle.path_decompose.proofs.Parity.{odd_by}
-use Rattle.path_decompose.proofs.EdgeLine.{line_of, lines_of-run, within, inside-run}
+use Rattle.path_decompose.proofs.EdgeLine.{line_of, within}
 use Rattle.path_decompose.proofs.Cut.{is_edge-within, is_edge-differ}
-use Rattle.path_decompose.proofs.Round.{IsCircuit, circuit_of}
-use Rattle.path_decompose.proofs.Beyond.{fits_within, fits_differ}
+use Rattle.path_decompose.proofs.Round.{IsCircuit}
+use Rattle.path_decompose.proofs.Walked.{walk_circuit, walk_lines, walk_inside, walk_fits}
+use Rattle.path_decompose.proofs.Beyond.{fits_differ}
 
 pub next_circuit : (page : Page) (policy : Policy) (b : Image) (path : Path) → (n : IsNextPath page policy b path) → IsCircuit b policy path.sign (first_edge n.x n.y) n.walk.edges
-next_circuit page policy b path n = circuit_of b policy path.sign n.x n.y n.walk.edges n.first n.walk.round
+next_circuit page policy b path n = walk_circuit b policy path.sign n.x n.y path.points n.first n.walk
 
 pub next_lines : (page : Page) (policy : Policy) (b : Image) (path : Path) → (n : IsNextPath page policy b path) → lines_of path.points ≡ map line_of n.walk.edges
-next_lines page policy b path n =
-    let c = next_circuit page policy b path n in
-    ap lines_of n.walk.starts ∙ lines_of-run b policy path.sign (first_edge n.x n.y) n.walk.edges c.boundary c.closes
+next_lines page policy b path n = walk_lines b policy path.sign n.x n.y path.points n.first n.walk
 
 pub next_inside : (page : Page) (policy : Policy) (b : Image) (path : Path) → (n : IsNextPath page policy b path) → inside path.points ≡ within n.walk.edges
-next_inside page policy b path n =
-    let c = next_circuit page policy b path n in
-    fun_ext (λ x. fun_ext (λ y. ap (λ points. inside points x y) n.walk.starts ∙ inside-run b policy path.sign (first_edge n.x n.y) n.walk.edges c.boundary c.closes x y))
+next_inside page policy b path n = walk_inside b policy path.sign n.x n.y path.points n.first n.walk
 
 -- the inside of a path lies on the page, and so does what is black after it
 pub next_fits : (page : Page) (policy : Policy) (b : Image) (path : Path) (width height : ℕ) → (n : IsNextPath page policy b path) → Fits b width height → Fits (inside path.points) width height
-next_fits page policy b path width height n fits =
-    subst (λ c. Fits c width height) (sym (next_inside page policy b path n))
-    (fits_within b policy path.sign (first_edge n.x n.y) n.walk.edges (next_circuit page policy b path n) width height fits)
+next_fits page policy b path width height n fits = walk_fits b policy path.sign n.x n.y path.points width height n.first n.walk fits
 
 pub fits_inverted : (page : Page) (policy : Policy) (b : Image) (path : Path) (width height : ℕ) → IsNextPath page policy b path → Fits b width height → Fits (inverted b path.points) width height
 fits_inverted page policy b path width height n fits =

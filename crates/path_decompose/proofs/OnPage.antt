@@ -102,7 +102,7 @@ below_from_any : (n q : ℕ) (xs : List ℕ) → All (λ x. x < n) xs → list_a
 below_from_any n q [] all any = cc
 below_from_any n q (x ∷ xs) all any =
     elim (or_cases (eqb q x) (list_any (eqb q) xs) any) [
-      inl here ↦ let e = eqb-true q x here in let first = All-head (λ y. y < n) x xs all in omega arith
+      | inl here ↦ let e = eqb-true q x here in let first = All-head (λ y. y < n) x xs all in omega arith
       | inr later ↦ below_from_any n q xs (All-tail (λ y. y < n) x xs all) later
     ]
 
@@ -112,11 +112,11 @@ length-distinct width height es on distinct =
     let numbers : List ℕ = map (edge_number width) es in
     let some : Edge = record { x = 0; y = 0; heading = North } in
     let apart : AllPairs (λ m n. m ≢ n) numbers =
-      λ i j n before below same.
-      let j_in : j < length es = omega (arith, length-map es (edge_number width)) in
-      let i_in : i < length es = omega arith in
-      distinct i j some before j_in
-      (edge_back width (get_or es i some) (get_or es j some) (on i some i_in).0 (on j some j_in).0
-        (sym (get_or-map (edge_number width) es i some n i_in) ∙ same ∙ get_or-map (edge_number width) es j some n j_in)) in
+    λ i j n before below same.
+    let j_in : j < length es = omega (arith, length-map es (edge_number width)) in
+    let i_in : i < length es = omega arith in
+    distinct i j some before j_in
+    (edge_back width (get_or es i some) (get_or es j some) (on i some i_in).0 (on j some j_in).0
+    (sym (get_or-map (edge_number width) es i some n i_in) ∙ same ∙ get_or-map (edge_number width) es j some n j_in)) in
     let below : All (λ n. n < suc width * suc height * 4) numbers = All-map (λ n. n < suc width * suc height * 4) (edge_number width) es (λ k d short. edge_number_below width height (get_or es k d) (on k d short).0 (on k d short).1) in
     omega (arith, length-map es (edge_number width), length-le_from_distinct_below numbers (suc width * suc height * 4) (IsDistinct-from_AllPairs Decides-eqb numbers apart) (λ q any. below_from_any (suc width * suc height * 4) q numbers below any))

@@ -93,7 +93,7 @@ is_edge-line_of b e h = is_edge-along b e.x e.y e.heading h.black_left h.white_r
 pub odd_by-no_edge : (b : Image) (policy : Policy) (sign : Sign) (s : Edge) (es : List Edge) → IsCircuit b policy sign s es → (l : Line) → is_edge b l ≡ false → odd_by (λ e. same_line l (line_of e)) es ≡ false
 odd_by-no_edge b policy sign s es c l white =
     (none_passes (λ e. same_line l (line_of e)) es
-      (λ k d below. elim (cases_Bool (same_line l (line_of (get_or es k d)))) [
-        inl t ↦ absurd (false≢true (sym white ∙ ap (is_edge b) (same_line-true l (line_of (get_or es k d)) t) ∙ is_edge-line_of b (get_or es k d) (all_boundary b policy sign s es c k d below)))
-        | inr n ↦ n
-      ])).0
+    (λ k d below. elim (cases_Bool (same_line l (line_of (get_or es k d)))) [
+      | inl t ↦ absurd (false≢true (sym white ∙ ap (is_edge b) (same_line-true l (line_of (get_or es k d)) t) ∙ is_edge-line_of b (get_or es k d) (all_boundary b policy sign s es c k d below)))
+      | inr n ↦ n
+    ])).0

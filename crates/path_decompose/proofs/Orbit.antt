@@ -45,8 +45,8 @@ cancel f g P keeps undoes s p zero m e = e ∙ ap (λ k. nth_after f k s) (add-z
 cancel f g P keeps undoes s p (suc i) m e =
     cancel f g P keeps undoes s p i m
     (sym (undoes _ (nth_after-keeps f P keeps s p i))
-      ∙ ap g (e ∙ ap (λ k. nth_after f k s) (add-suc m i))
-      ∙ undoes _ (nth_after-keeps f P keeps s p (m + i)))
+    ∙ ap g (e ∙ ap (λ k. nth_after f k s) (add-suc m i))
+    ∙ undoes _ (nth_after-keeps f P keeps s p (m + i)))
 
 -- Where f can be undone, an orbit that doesn't come back to its beginning has no element twice.
 pub distinct_orbit : {A : Type 0} (f g : A → A) (P : A → Type 0) → ((e : A) → P e → P (f e)) → ((e : A) → P e → g (f e) ≡ e) → (n : ℕ) (s : A) → P s → NoReturn f n s → AllPairs (λ d e. d ≢ e) (orbit f (suc n) s)
@@ -55,7 +55,7 @@ distinct_orbit f g P keeps undoes n s p h = λ i j d below within e.
     let k : ℕ = j - suc i in
     let at : suc k + i ≡ j = omega arith in
     let same : nth_after f i s ≡ nth_after f (suc k + i) s =
-      sym (get_or-orbit f (suc n) i s d (omega arith)) ∙ e ∙ get_or-orbit f (suc n) j s d short ∙ ap (λ m. nth_after f m s) (sym at) in
+    sym (get_or-orbit f (suc n) i s d (omega arith)) ∙ e ∙ get_or-orbit f (suc n) j s d short ∙ ap (λ m. nth_after f m s) (sym at) in
     h k (omega arith) (sym (cancel f g P keeps undoes s p i (suc k) same))
 
 -- a run is an orbit

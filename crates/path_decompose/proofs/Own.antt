@@ -89,11 +89,11 @@ own_step b i policy sign e where_ h own edge =
     let right : Bool = goes_right policy sign (major b x y) in
     let follows : Edge = next b policy sign e in
     let both =
-      turned b i where_ x y _ _ right e.heading refl refl
-      (left_behind-end b e.x e.y e.heading h.black_left ∙ h.black_left)
-      (left_behind-end i e.x e.y e.heading own.black_left ∙ own.black_left)
-      (right_behind-end i e.x e.y e.heading own.black_left ∙ own.white_right)
-      (sym (differ-beside b i x y follows.heading (next_boundary b policy sign e h).black_left) ∙ edge) in
+    turned b i where_ x y _ _ right e.heading refl refl
+    (left_behind-end b e.x e.y e.heading h.black_left ∙ h.black_left)
+    (left_behind-end i e.x e.y e.heading own.black_left ∙ own.black_left)
+    (right_behind-end i e.x e.y e.heading own.black_left ∙ own.white_right)
+    (sym (differ-beside b i x y follows.heading (next_boundary b policy sign e h).black_left) ∙ edge) in
     record { black_left = both.0; white_right = both.1 }
 
 own_rest : (b i : Image) (policy : Policy) (sign : Sign) → ChangesWhere b i → (es : List Edge) (e z : Edge) → IsBoundary b e → IsBoundary i e → IsRun (next b policy sign) (next b policy sign e) es z → All (λ d. is_edge i (line_of d) ≡ true) es → All (IsBoundary i) es
@@ -136,7 +136,7 @@ own_boundary b policy sign x y es first c =
     let both = left_in _ _ (sym (differ-beside b i s.x s.y s.heading c.boundary.black_left) ∙ first_line) (inside_start b policy sign x y es first c) in
     let own : IsBoundary i s = record { black_left = both.0; white_right = both.1 } in
     own_run b i policy sign where_ es s s c.boundary own c.closes edges
-    where
-      first_own : (b : Image) (policy : Policy) (sign : Sign) (s : Edge) (es : List Edge) → IsCircuit b policy sign s es → is_edge (within es) (line_of s) ≡ true
-      first_own b policy sign s [] c = absurd (let h = c.some in omega arith)
-      first_own b policy sign s (e ∷ es) c = ap (λ w. is_edge (within (e ∷ es)) (line_of w)) (sym (c.closes.0)) ∙ own_line b policy sign s (e ∷ es) c 0 e (omega arith)
+  where
+    first_own : (b : Image) (policy : Policy) (sign : Sign) (s : Edge) (es : List Edge) → IsCircuit b policy sign s es → is_edge (within es) (line_of s) ≡ true
+    first_own b policy sign s [] c = absurd (let h = c.some in omega arith)
+    first_own b policy sign s (e ∷ es) c = ap (λ w. is_edge (within (e ∷ es)) (line_of w)) (sym (c.closes.0)) ∙ own_line b policy sign s (e ∷ es) c 0 e (omega arith)

@@ -46,7 +46,7 @@ short_of_other : (f : Edge → Edge) (s : Edge) (es ds : List Edge) → 1 ≤ le
 short_of_other f s es ds some run other distinct shorter =
     let at_start : get_or ds 0 s ≡ s = ap (λ l. get_or l 0 s) ((run-orbit f ds s s other).0) ∙ get_or-orbit f (length ds) 0 s s (omega arith) in
     let at_end : get_or ds (length es) s ≡ s =
-      ap (λ l. get_or l (length es) s) ((run-orbit f ds s s other).0) ∙ get_or-orbit f (length ds) (length es) s s shorter ∙ (run-orbit f es s s run).1 in
+    ap (λ l. get_or l (length es) s) ((run-orbit f ds s s other).0) ∙ get_or-orbit f (length ds) (length es) s s shorter ∙ (run-orbit f es s s run).1 in
     distinct 0 (length es) s some shorter (at_start ∙ sym at_end)
 
 pub one_circuit : (b : Image) (policy : Policy) (sign : Sign) (s : Edge) (es ds : List Edge) → IsCircuit b policy sign s es → IsCircuit b policy sign s ds → es ≡ ds

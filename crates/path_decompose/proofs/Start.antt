@@ -37,32 +37,32 @@ not_crossed_before : (b : Image) (x y u v : ℕ) (l : Line) → IsFirstBlack b x
 not_crossed_before b x y u v (level a c) first before edge = refl
 not_crossed_before b x y u v (upright a c) first before edge =
     elim (cases_Bool (is_crossed u v (upright a c))) [
-      inl crossed ↦
-      let parts = and_parts (nat_le a u) (nat_eq c v) crossed in
-      let column : a ≤ u = leb-true a u parts.0 in
-      let row : c ≡ v = eqb-true c v parts.1 in
-      let here : IsBefore a c x y = elim before [ inl above ↦ inl (omega arith) | inr left ↦ inr (row ∙ left.0, omega (arith, left.1)) ] in
-      let west : south_west b a (suc c) ≡ false = white_left b x y a c first (elim before [ inl above ↦ inl (omega arith) | inr left ↦ inr (row ∙ left.0, omega (arith, left.1)) ]) in
-      let white : is_edge b (upright a c) ≡ false = ap (λ p. differ p (b a c)) west ∙ white_before b x y a c first here in
-      absurd (false≢true (sym white ∙ edge))
+      | inl crossed ↦
+          let parts = and_parts (nat_le a u) (nat_eq c v) crossed in
+          let column : a ≤ u = leb-true a u parts.0 in
+          let row : c ≡ v = eqb-true c v parts.1 in
+          let here : IsBefore a c x y = elim before [ inl above ↦ inl (omega arith) | inr left ↦ inr (row ∙ left.0, omega (arith, left.1)) ] in
+          let west : south_west b a (suc c) ≡ false = white_left b x y a c first (elim before [ inl above ↦ inl (omega arith) | inr left ↦ inr (row ∙ left.0, omega (arith, left.1)) ]) in
+          let white : is_edge b (upright a c) ≡ false = ap (λ p. differ p (b a c)) west ∙ white_before b x y a c first here in
+          absurd (false≢true (sym white ∙ edge))
       | inr not_crossed ↦ not_crossed
     ]
 
 pub inside_before : (b : Image) (policy : Policy) (sign : Sign) (x y u v : ℕ) (es : List Edge) → IsFirstBlack b x y → IsCircuit b policy sign (first_edge x y) es → IsBefore u v x y → within es u v ≡ false
 inside_before b policy sign x y u v es first c before =
     (none_passes (λ e. is_crossed u v (line_of e)) es
-      (λ k d short. not_crossed_before b x y u v (line_of (get_or es k d)) first before (is_edge-line_of b (get_or es k d) (all_boundary b policy sign (first_edge x y) es c k d short)))).0
+    (λ k d short. not_crossed_before b x y u v (line_of (get_or es k d)) first before (is_edge-line_of b (get_or es k d) (all_boundary b policy sign (first_edge x y) es c k d short)))).0
 
 -- of the lines between a black and a white pixel only its own left side is crossed on the way to the first black pixel
 crossed_at_start : (b : Image) (x y : ℕ) (l : Line) → IsFirstBlack b x y → is_edge b l ≡ true → is_crossed x y l ≡ same_line (upright x y) l
 crossed_at_start b x y (level a c) first edge = refl
 crossed_at_start b x y (upright a c) first edge =
     elim (cases_lt a x) [
-      inl left ↦ elim (cases_eq c y) [
-        inl row ↦
-        let west : south_west b a (suc c) ≡ false = white_left b x y a c first (inr (row, omega arith)) in
-        let white : is_edge b (upright a c) ≡ false = ap (λ p. differ p (b a c)) west ∙ white_before b x y a c first (inr (row, left)) in
-        absurd (false≢true (sym white ∙ edge))
+      | inl left ↦ elim (cases_eq c y) [
+        | inl row ↦
+            let west : south_west b a (suc c) ≡ false = white_left b x y a c first (inr (row, omega arith)) in
+            let white : is_edge b (upright a c) ≡ false = ap (λ p. differ p (b a c)) west ∙ white_before b x y a c first (inr (row, left)) in
+            absurd (false≢true (sym white ∙ edge))
         | inr elsewhere ↦ grind (arith, nat_tests)
       ]
       | inr right ↦ grind (arith, nat_tests)
@@ -86,8 +86,8 @@ some_at_start f x y (e ∷ es) some run = first_passes x y e es run.0
 pub inside_start : (b : Image) (policy : Policy) (sign : Sign) (x y : ℕ) (es : List Edge) → IsFirstBlack b x y → IsCircuit b policy sign (first_edge x y) es → within es x y ≡ true
 inside_start b policy sign x y es first c =
     let agree : within es x y ≡ odd_by (λ e. same_line (upright x y) (line_of e)) es =
-      odd_by-agree (λ e. is_crossed x y (line_of e)) (λ e. same_line (upright x y) (line_of e)) es
-      (λ k d short. crossed_at_start b x y (line_of (get_or es k d)) first (is_edge-line_of b (get_or es k d) (all_boundary b policy sign (first_edge x y) es c k d short))) in
+    odd_by-agree (λ e. is_crossed x y (line_of e)) (λ e. same_line (upright x y) (line_of e)) es
+    (λ k d short. crossed_at_start b x y (line_of (get_or es k d)) first (is_edge-line_of b (get_or es k d) (all_boundary b policy sign (first_edge x y) es c k d short))) in
     let once = count_by-line b policy sign (first_edge x y) es c (upright x y) in
     let some = some_at_start (next b policy sign) x y es c.some c.closes in
     agree ∙ odd_from_some (odd_by (λ e. same_line (upright x y) (line_of e)) es) (omega arith)

@@ -51,7 +51,7 @@ sum_push g f s n here total so_far at =
 no_return_more : (f : Edge → Edge) (s : Edge) (n : ℕ) → NoReturn f n s → nth_after f (suc n) s ≢ s → NoReturn f (suc n) s
 no_return_more f s n before here k below e =
     elim (cases_order k n) [
-      inl same ↦ here (ap (λ m. f (nth_after f m s)) (sym same) ∙ e)
+      | inl same ↦ here (ap (λ m. f (nth_after f m s)) (sym same) ∙ e)
       | inr (inl earlier) ↦ before k earlier e
       | inr (inr later) ↦ absurd (omega arith)
     ]
@@ -79,11 +79,11 @@ part_short b policy sign x y w n points down up here width height first fits p =
     let s : Edge = first_edge x y in
     let boundary : IsBoundary b s = first_boundary b x y first in
     let on : All (λ e. (e.x ≤ width) × (e.y ≤ height)) (orbit f (suc n) s) =
-      λ k d short.
-      let below : k < suc n = omega (arith, length-orbit f (suc n) s) in
-      let hk : IsBoundary b (get_or (orbit f (suc n) s) k d) = subst (IsBoundary b) (sym (get_or-orbit f (suc n) k s d below)) (nth_after-keeps f (IsBoundary b) (next_boundary b policy sign) s boundary k) in
-      let on_page = edge_on b width height fits (get_or (orbit f (suc n) s) k d) hk in
-      (on_page.column, on_page.row) in
+    λ k d short.
+    let below : k < suc n = omega (arith, length-orbit f (suc n) s) in
+    let hk : IsBoundary b (get_or (orbit f (suc n) s) k d) = subst (IsBoundary b) (sym (get_or-orbit f (suc n) k s d below)) (nth_after-keeps f (IsBoundary b) (next_boundary b policy sign) s boundary k) in
+    let on_page = edge_on b width height fits (get_or (orbit f (suc n) s) k d) hk in
+    (on_page.column, on_page.row) in
     omega (arith, length-orbit f (suc n) s, length-distinct width height (orbit f (suc n) s) on (part_distinct b policy sign s n boundary p.no_return))
 
 -- once the first edge comes again, the walk is whole

@@ -55,7 +55,7 @@ edges_once page policy b (path ∷ paths) d l =
     let c = next_circuit page policy b path n in
     let used : Bool = odd_by (λ e. same_line l (line_of e)) n.walk.edges in
     let here : count_by (same_line l) (lines_of path.points) ≡ cond used 1 0 =
-      ap (count_by (same_line l)) (next_lines page policy b path n) ∙ count_by-map (same_line l) line_of n.walk.edges ∙ count_by-line b policy path.sign (first_edge n.x n.y) n.walk.edges c l in
+    ap (count_by (same_line l)) (next_lines page policy b path n) ∙ count_by-map (same_line l) line_of n.walk.edges ∙ count_by-line b policy path.sign (first_edge n.x n.y) n.walk.edges c l in
     sum_by-cons (λ p. count_by (same_line l) (lines_of p.points)) path paths
     ∙ ap (λ k. k + sum_by (λ p. count_by (same_line l) (lines_of p.points)) paths) here
     ∙ ap (λ k. cond used 1 0 + k) (edges_once page policy (inverted b path.points) paths d.1 l)

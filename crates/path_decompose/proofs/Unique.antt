@@ -24,7 +24,7 @@ one_column b x y u first other left = false≢true (sym (first.left u left) ∙ 
 first_row : (b : Image) (x y u v : ℕ) → IsFirstBlack b x y → IsFirstBlack b u v → y ≡ v
 first_row b x y u v first other =
     elim (cases_order y v) [
-      inl same ↦ same
+      | inl same ↦ same
       | inr (inl above) ↦ absurd (one_row b x y u v first other above)
       | inr (inr below) ↦ absurd (one_row b u v x y other first below)
     ]
@@ -32,7 +32,7 @@ first_row b x y u v first other =
 first_column : (b : Image) (x y u : ℕ) → IsFirstBlack b x y → IsFirstBlack b u y → x ≡ u
 first_column b x y u first other =
     elim (cases_order x u) [
-      inl same ↦ same
+      | inl same ↦ same
       | inr (inl right) ↦ absurd (one_column b u y x other first right)
       | inr (inr left) ↦ absurd (one_column b x y u first other left)
     ]
@@ -52,7 +52,7 @@ one_next page policy b p q n m =
     let signs : p.sign ≡ q.sign = n.sign ∙ ap (λ x. sign_at (image_of page) x n.y) columns ∙ ap (sign_at (image_of page) m.x) rows ∙ sym m.sign in
     let starts : first_edge n.x n.y ≡ first_edge m.x m.y = ap (λ x. first_edge x n.y) columns ∙ ap (first_edge m.x) rows in
     let circuit : IsCircuit b policy q.sign (first_edge m.x m.y) n.walk.edges =
-      subst (λ s. IsCircuit b policy q.sign s n.walk.edges) starts (subst (λ sign. IsCircuit b policy sign (first_edge n.x n.y) n.walk.edges) signs (next_circuit page policy b p n)) in
+    subst (λ s. IsCircuit b policy q.sign s n.walk.edges) starts (subst (λ sign. IsCircuit b policy sign (first_edge n.x n.y) n.walk.edges) signs (next_circuit page policy b p n)) in
     let edges : n.walk.edges ≡ m.walk.edges = one_circuit b policy q.sign (first_edge m.x m.y) n.walk.edges m.walk.edges circuit (next_circuit page policy b q m) in
     let points : p.points ≡ q.points = n.walk.starts ∙ ap (map start_of) edges ∙ sym m.walk.starts in
     same_path p q signs (n.area ∙ ap (λ ps. black_count (inside ps) page.width page.height) points ∙ sym m.area) points

@@ -3,5 +3,6 @@ pub mod Walk
 pub mod Inside
 pub mod Bounds
 pub mod Area
+pub mod Start
 pub mod Decomposition
 pub mod Sums

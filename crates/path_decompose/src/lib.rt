@@ -6,5 +6,6 @@
 //! black now, until the page is white.
 #![tactic(auto)]
 
+pub mod decomposition;
 mod interior;
 mod walk;

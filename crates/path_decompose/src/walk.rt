@@ -1,8 +1,10 @@
 //! The walk along a boundary, once round.
-ghost use Rattle.std.specs.Prelude.{◌≡◌, ◌≢◌, IfOk, MatchBool, ◌^◌, ◌<◌, ◌≤◌};
+ghost use Rattle.std.specs.Prelude.{◌≡◌, ◌≢◌, IfOk, All, MatchBool, ◌^◌, ◌<◌, ◌≤◌};
 ghost use Rattle.bit_image.specs.FirstBlack.{IsFirstBlack};
 ghost use Rattle.bit_image.specs.Page.{image_of};
 ghost use Rattle.path_decompose.specs.Area.{right_of_down, right_of_up};
+ghost use Rattle.path_decompose.specs.Inside.{lines_of};
+ghost use Rattle.path_decompose.specs.Line.{IsLineOn};
 ghost use Rattle.path_decompose.specs.Walk.{start_of, first_edge, IsWalk};
 
 use bit_image::bitmap::Bitmap;
@@ -32,7 +34,9 @@ pub fn walk_round(
     sign: Sign,
 ) -> Result<Round, NoMemory>
     requires { IsFirstBlack (image_of page.now) x y }
-    ensures { IfOk result (λ round. IsWalk (image_of page.now) policy sign x y round.points.items) }
+    ensures walk { IfOk result (λ round. IsWalk (image_of page.now) policy sign x y round.points.items) }
+    ensures lines { IfOk result
+        (λ round. All (IsLineOn page.now.width page.now.height) (lines_of round.points.items)) }
 {
     let width = page.width();
     let mut points = Vec::new(alloc);

@@ -2,12 +2,19 @@
 use Rattle.std.proofs.Common.{◌≡◌, ◌∙◌, ◌<◌, ◌*◌, suc, sym, arith, add-one, vec_len}
 use Rattle.bit_image.specs.Page.{IsPage}
 use Rattle.path_decompose.proofs.Steps.{part_more, part_closed, part_short, part_small}
+use Rattle.path_decompose.proofs.Walked.{walk_lines_on}
 use Rattle.path_decompose.proofs.walk.walk_round.Goals as goal
 
-pub returns-then-is_first : goal.returns-then-is_first
-returns-then-is_first c =
+pub returns-then-is_first-clause-walk : goal.returns-then-is_first-clause-walk
+returns-then-is_first-clause-walk c =
     rw (c.in_ok-push.ensures.items, c.corner_of.ensures)
     (part_closed _ _ _ _ _ _ _ _ _ _ _ c.requires c.steps.invariant.part (sym c.next-here.ensures.value ∙ c.if-is_first.ensures))
+
+pub returns-then-is_first-clause-lines : goal.returns-then-is_first-clause-lines
+returns-then-is_first-clause-lines c =
+    let walk = part_closed _ _ _ _ _ _ _ _ _ _ _ c.requires c.steps.invariant.part (sym c.next-here.ensures.value ∙ c.if-is_first.ensures) in
+    rw (c.in_ok-push.ensures.items, c.corner_of.ensures)
+    (walk_lines_on _ _ _ _ _ _ _ _ c.requires walk c.width-width.ensures.fits)
 
 pub overflow_add-down : goal.overflow_add-down
 overflow_add-down c =
@@ -29,7 +36,7 @@ pub steps-smaller : goal.steps-smaller
 steps-smaller c =
     let page = c.args.page.now in
     let more : vec_len c.steps.points < suc page.width * suc page.height * 4 =
-      part_short _ _ _ _ _ _ _ _ _ _ _ page.width page.height c.requires c.width-width.ensures.fits c.steps.invariant.part in
+    part_short _ _ _ _ _ _ _ _ _ _ _ page.width page.height c.requires c.width-width.ensures.fits c.steps.invariant.part in
     omega (arith, more, c.in_ok-push.ensures.len)
 
 pub steps-preserved : goal.steps-preserved

@@ -1,0 +1,84 @@
+//! The paths of a page, one after another.
+ghost use Rattle.std.specs.Prelude.{◌≡◌, ℕ, ◌<◌, OnOk, IfOk};
+ghost use Rattle.bit_image.specs.FirstBlack.{IsFirstBlack};
+ghost use Rattle.bit_image.specs.Image.{Fits};
+ghost use Rattle.bit_image.specs.Page.{SameSides, image_of};
+ghost use Rattle.path_decompose.specs.Decomposition.{sign_at};
+ghost use Rattle.path_decompose.specs.Start.{IsWhiteThrough, IsStart};
+
+use crate::interior::invert;
+use crate::walk::walk_round;
+use bit_image::bitmap::Bitmap;
+use pt_base::fault::NoMemory;
+use pt_base::path::{Path, Points, Sign};
+use pt_base::policy::Policy;
+use std::alloc::Global;
+
+/// All paths of a page, in the order in which they are found.
+pub fn decompose(alloc: Global, page: &Bitmap, policy: Policy) -> Result<Vec<Path>, NoMemory> {
+    let mut rest = page.copy(alloc)?;
+    let mut paths = Vec::new(alloc);
+    let mut start = rest.first_black(rest.height() - 1);
+    'paths: while let Some((x, y)) = start {
+        let path = next_path(alloc, page, &mut rest, x, y, policy)?;
+        paths.push(path)?;
+        start = start_after(&rest, x, y);
+    }
+    Ok(paths)
+}
+
+/// The path from the first black pixel, pixel (x, y); its inside is inverted in `rest`.
+fn next_path(
+    alloc: Global,
+    page: &Bitmap,
+    rest: &mut Bitmap,
+    x: u32,
+    y: u32,
+    policy: Policy,
+) -> Result<Path, NoMemory>
+    requires first { IsFirstBlack (image_of rest.old) x y }
+    requires column { x < rest.old.width }
+    ensures sides { SameSides rest.old rest.new }
+    ensures white { OnOk result (IsWhiteThrough (image_of rest.new) rest.new.width x y) }
+{
+    let sign = sign_at(page, x, y);
+    let round = walk_round(alloc, rest, x, y, policy, sign)?;
+    invert(rest, &round.points);
+    Ok(Path {
+        sign,
+        area: round.area,
+        points: Points::from_vec(round.points),
+    })
+}
+
+/// Whether a path that starts at pixel (x, y) bounds a black shape or a hole.
+fn sign_at(page: &Bitmap, x: u32, y: u32) -> Sign
+    ensures { result ≡ sign_at (image_of page.now) x y }
+{
+    if page.is_black(x, y) {
+        Sign::Plus
+    } else {
+        Sign::Minus
+    }
+}
+
+/// The first black pixel, where all is white up to pixel (x, y).
+fn start_after(page: &Bitmap, x: u32, y: u32) -> Option<(u32, u32)>
+    requires white { IsWhiteThrough (image_of page.now) page.now.width x y }
+    requires row { y < page.now.height }
+    requires column { x < page.now.width }
+    ensures start { IsStart (image_of page.now) result }
+    ensures fits { Fits (image_of page.now) page.now.width page.now.height }
+{
+    let width = page.width();
+    for column in x + 1..width {
+        if page.is_black(column, y) {
+            return Some((column, y));
+        }
+    }
+    if y == 0 {
+        None
+    } else {
+        page.first_black(y - 1)
+    }
+}
