@@ -17,4 +17,6 @@ pub mod ClosedWalk
 pub mod Own
 pub mod Steps
 pub mod Flips
+pub mod Counting
+pub mod Area
 mod Examples
