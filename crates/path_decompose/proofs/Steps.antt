@@ -17,9 +17,11 @@ use Rattle.turn_policies.specs.Turn.{next}
 use Rattle.turn_policies.proofs.Turning.{next_boundary}
 use Rattle.turn_policies.proofs.Back.{previous, previous-next}
 use Rattle.path_decompose.specs.Walk.{IsRound, IsWalk, first_edge, start_of}
+use Rattle.path_decompose.specs.Inside.{inside, black_count}
 use Rattle.path_decompose.specs.Area.{if_down, if_up, right_of_down, right_of_up}
 use Rattle.path_decompose.proofs.Orbit.{nth_after, orbit, NoReturn, nth_after-keeps, length-orbit, orbit_push, orbit_run, get_or-orbit, distinct_orbit}
 use Rattle.path_decompose.proofs.Round.{first_boundary}
+use Rattle.path_decompose.proofs.Walked.{walk_area}
 use Rattle.path_decompose.proofs.OnPage.{edge_on, length-distinct}
 
 -- After n steps from s the walk is at an edge; it has passed these points, with so many pixels right of edges walked
@@ -140,3 +142,21 @@ part_small f s width n points down up here w h p short most_width most_height sa
     let downs : sum_by (right_of_down width) (orbit f n s) ≤ 2 ^ 45 = sum_small (right_of_down width) (orbit f n s) width (right_of_down_le width) long narrow in
     let ups : sum_by (right_of_up width) (orbit f n s) ≤ 2 ^ 45 = sum_small (right_of_up width) (orbit f n s) width (right_of_up_le width) long narrow in
     (omega (arith, p.down_sum, right_of_down_le width here), omega (arith, p.up_sum, right_of_up_le width here))
+
+-- and the walk once round has so many pixels inside
+pub part_area : (b : Image) (policy : Policy) (sign : Sign) (x y width n : ℕ) (points : List Point) (down up : ℕ) (here : Edge) (w h : ℕ) → IsFirstBlack b x y → Fits b w h → IsPartWalk (next b policy sign) (first_edge x y) width n points down up here → next b policy sign here ≡ first_edge x y → width ≡ w
+    → black_count (inside (points ++ start_of here ∷ [])) w h + (up + right_of_up width here) ≡ down + right_of_down width here
+part_area b policy sign x y width n points down up here w h first fits p closed same =
+    let f : Edge → Edge = next b policy sign in
+    let s : Edge = first_edge x y in
+    let es : List Edge = orbit f (suc n) s in
+    let walk : IsWalk b policy sign x y (points ++ start_of here ∷ []) = record {
+      edges = es;
+      round = part_round b policy sign x y n first p.no_return (sym (ap f p.at) ∙ closed);
+      starts = points_push f s n points here p.passed p.at;
+    } in
+    let ups : up + right_of_up width here ≡ sum_by (right_of_up w) es = sum_push (right_of_up width) f s n here up p.up_sum p.at ∙ ap (λ k. sum_by (right_of_up k) es) same in
+    let downs : down + right_of_down width here ≡ sum_by (right_of_down w) es = sum_push (right_of_down width) f s n here down p.down_sum p.at ∙ ap (λ k. sum_by (right_of_down k) es) same in
+    ap (λ k. black_count (inside (points ++ start_of here ∷ [])) w h + k) ups
+    ∙ walk_area b policy sign x y (points ++ start_of here ∷ []) w h first walk fits
+    ∙ sym downs

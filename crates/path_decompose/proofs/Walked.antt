@@ -1,5 +1,5 @@
 -- The points of a walk, by the edges that it goes along.
-use Rattle.std.proofs.Common.{◌≡◌, ℕ, ◌<◌, ◌≤◌, ◌⊎◌, Bool, true, false, List, All, map, refl, ap, sym, subst, ◌∙◌, inl, inr, arith}
+use Rattle.std.proofs.Common.{◌≡◌, ℕ, ◌+◌, ◌<◌, ◌≤◌, ◌⊎◌, Bool, true, false, List, All, map, sum_by, refl, ap, sym, subst, ◌∙◌, inl, inr, arith}
 use Rattle.std.proofs.Math.Path.{fun_ext}
 use Rattle.std.proofs.lemmas.Bool.{cases_order, cases_lt}
 use Rattle.std.proofs.lemmas.List.Elements.{All-map}
@@ -10,11 +10,13 @@ use Rattle.bit_image.specs.Image.{Image, Fits, differ}
 use Rattle.bit_image.specs.FirstBlack.{IsFirstBlack}
 use Rattle.path_decompose.specs.Line.{IsLineOn}
 use Rattle.path_decompose.specs.Walk.{start_of, first_edge, IsWalk}
-use Rattle.path_decompose.specs.Inside.{lines_of, inside}
+use Rattle.path_decompose.specs.Inside.{lines_of, inside, black_count}
+use Rattle.path_decompose.specs.Area.{right_of_down, right_of_up}
 use Rattle.path_decompose.specs.Start.{IsWhiteThrough}
 use Rattle.path_decompose.proofs.Differ.{differ_same}
 use Rattle.path_decompose.proofs.EdgeLine.{line_of, lines_of-run, within, inside-run}
 use Rattle.path_decompose.proofs.Round.{IsCircuit, circuit_of}
+use Rattle.path_decompose.proofs.Area.{area}
 use Rattle.path_decompose.proofs.Start.{inside_before, inside_start}
 use Rattle.path_decompose.proofs.Beyond.{all_lines_on, fits_within}
 
@@ -67,3 +69,10 @@ white_through b c policy sign x y width points first w on_page flipped =
             ∙ both_black (b x y) (inside points x y) first.black (to_edges x y ∙ inside_start b policy sign x y w.edges first circuit)
       ];
     }
+
+-- the pixels inside, by the edges
+pub walk_area : (b : Image) (policy : Policy) (sign : Sign) (x y : ℕ) (points : List Point) (width height : ℕ) → IsFirstBlack b x y → (w : IsWalk b policy sign x y points) → Fits b width height
+    → black_count (inside points) width height + sum_by (right_of_up width) w.edges ≡ sum_by (right_of_down width) w.edges
+walk_area b policy sign x y points width height first w fits =
+    ap (λ i. black_count i width height + sum_by (right_of_up width) w.edges) (walk_inside b policy sign x y points first w)
+    ∙ area b policy sign x y w.edges width height first (walk_circuit b policy sign x y points first w) fits

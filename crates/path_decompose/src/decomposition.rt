@@ -3,7 +3,7 @@ ghost use Rattle.std.specs.Prelude.{◌≡◌, ℕ, ◌<◌, OnOk, IfOk};
 ghost use Rattle.bit_image.specs.FirstBlack.{IsFirstBlack};
 ghost use Rattle.bit_image.specs.Image.{Fits};
 ghost use Rattle.bit_image.specs.Page.{SameSides, image_of};
-ghost use Rattle.path_decompose.specs.Decomposition.{sign_at};
+ghost use Rattle.path_decompose.specs.Decomposition.{sign_at, inverted, IsNextPath};
 ghost use Rattle.path_decompose.specs.Start.{IsWhiteThrough, IsStart};
 
 use crate::interior::invert;
@@ -38,7 +38,11 @@ fn next_path(
 ) -> Result<Path, NoMemory>
     requires first { IsFirstBlack (image_of rest.old) x y }
     requires column { x < rest.old.width }
+    requires sides { SameSides page.now rest.old }
     ensures sides { SameSides rest.old rest.new }
+    ensures path { IfOk result (λ path. IsNextPath page.now policy (image_of rest.old) path) }
+    ensures inverted { IfOk result (λ path. (u v : ℕ) → u < rest.old.width
+        → image_of rest.new u v ≡ inverted (image_of rest.old) path.points u v) }
     ensures white { OnOk result (IsWhiteThrough (image_of rest.new) rest.new.width x y) }
 {
     let sign = sign_at(page, x, y);

@@ -3,7 +3,7 @@ ghost use Rattle.std.specs.Prelude.{◌≡◌, ◌≢◌, IfOk, All, MatchBool, 
 ghost use Rattle.bit_image.specs.FirstBlack.{IsFirstBlack};
 ghost use Rattle.bit_image.specs.Page.{image_of};
 ghost use Rattle.path_decompose.specs.Area.{right_of_down, right_of_up};
-ghost use Rattle.path_decompose.specs.Inside.{lines_of};
+ghost use Rattle.path_decompose.specs.Inside.{lines_of, inside, black_count};
 ghost use Rattle.path_decompose.specs.Line.{IsLineOn};
 ghost use Rattle.path_decompose.specs.Walk.{start_of, first_edge, IsWalk};
 
@@ -35,6 +35,8 @@ pub fn walk_round(
 ) -> Result<Round, NoMemory>
     requires { IsFirstBlack (image_of page.now) x y }
     ensures walk { IfOk result (λ round. IsWalk (image_of page.now) policy sign x y round.points.items) }
+    ensures area { IfOk result
+        (λ round. round.area ≡ black_count (inside round.points.items) page.now.width page.now.height) }
     ensures lines { IfOk result
         (λ round. All (IsLineOn page.now.width page.now.height) (lines_of round.points.items)) }
 {
@@ -55,7 +57,7 @@ pub fn walk_round(
         if is_first(here, x, y) {
             return Ok(Round {
                 points,
-                area: down.saturating_sub(up),
+                area: down - up,
             });
         }
     }

@@ -1,7 +1,7 @@
 -- Each push is one more step of the walk; the first edge comes again before the page has no more edges.
 use Rattle.std.proofs.Common.{◌≡◌, ◌∙◌, ◌<◌, ◌*◌, suc, sym, arith, add-one, vec_len}
 use Rattle.bit_image.specs.Page.{IsPage}
-use Rattle.path_decompose.proofs.Steps.{part_more, part_closed, part_short, part_small}
+use Rattle.path_decompose.proofs.Steps.{part_more, part_closed, part_short, part_small, part_area}
 use Rattle.path_decompose.proofs.Walked.{walk_lines_on}
 use Rattle.path_decompose.proofs.walk.walk_round.Goals as goal
 
@@ -15,6 +15,18 @@ returns-then-is_first-clause-lines c =
     let walk = part_closed _ _ _ _ _ _ _ _ _ _ _ c.requires c.steps.invariant.part (sym c.next-here.ensures.value ∙ c.if-is_first.ensures) in
     rw (c.in_ok-push.ensures.items, c.corner_of.ensures)
     (walk_lines_on _ _ _ _ _ _ _ _ c.requires walk c.width-width.ensures.fits)
+
+pub returns-then-is_first-clause-area : goal.returns-then-is_first-clause-area
+returns-then-is_first-clause-area c =
+    let page = c.args.page.now in
+    let area = part_area _ _ _ _ _ _ _ _ _ _ _ page.width page.height c.requires c.width-width.ensures.fits c.steps.invariant.part (sym c.next-here.ensures.value ∙ c.if-is_first.ensures) c.width-width.ensures.value in
+    rw (c.in_ok-push.ensures.items, c.corner_of.ensures) (omega (arith, area, c.right_of_down-down.ensures, c.right_of_up-up.ensures))
+
+pub overflow_sub-result : goal.overflow_sub-result
+overflow_sub-result c =
+    let page = c.args.page.now in
+    let area = part_area _ _ _ _ _ _ _ _ _ _ _ page.width page.height c.requires c.width-width.ensures.fits c.steps.invariant.part (sym c.next-here.ensures.value ∙ c.if-is_first.ensures) c.width-width.ensures.value in
+    omega (arith, area, c.right_of_down-down.ensures, c.right_of_up-up.ensures)
 
 pub overflow_add-down : goal.overflow_add-down
 overflow_add-down c =
