@@ -85,7 +85,7 @@ elsewhere b policy sign e h back =
     (nat_from_pos e.y (end_y y heading) (ap (λ p. p.y) back)))
 
 -- point k of a walk once round, counted on over its end
-point_of_round : (b : Image) (policy : Policy) (sign : Sign) (s : Edge) (es : List Edge) → IsCircuit b policy sign s es → (k : ℕ) → point_at (map start_of es) k ≡ start_of (nth_after (next b policy sign) k s)
+pub point_of_round : (b : Image) (policy : Policy) (sign : Sign) (s : Edge) (es : List Edge) → IsCircuit b policy sign s es → (k : ℕ) → point_at (map start_of es) k ≡ start_of (nth_after (next b policy sign) k s)
 point_of_round b policy sign s es c k =
     let f : Edge → Edge = next b policy sign in
     let n : ℕ = length es in

@@ -19,4 +19,6 @@ pub mod Steps
 pub mod Flips
 pub mod Counting
 pub mod Area
+pub mod Prefix
+pub mod PathOn
 mod Examples

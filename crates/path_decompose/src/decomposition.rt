@@ -1,10 +1,14 @@
 //! The paths of a page, one after another.
-ghost use Rattle.std.specs.Prelude.{◌≡◌, ℕ, ◌<◌, OnOk, IfOk};
+ghost use Rattle.std.specs.Prelude.{◌≡◌, ℕ, ◌*◌, ◌<◌, ◌≤◌, ◌≤ℤ◌, pos, All, length, OnOk, IfOk};
+ghost use Rattle.pt_base.specs.ClosedWalk.{point_at, IsClosedWalk};
 ghost use Rattle.bit_image.specs.FirstBlack.{IsFirstBlack};
 ghost use Rattle.bit_image.specs.Image.{Fits};
 ghost use Rattle.bit_image.specs.Page.{SameSides, image_of};
-ghost use Rattle.path_decompose.specs.Decomposition.{sign_at, inverted, IsNextPath};
+ghost use Rattle.path_decompose.specs.Bounds.{IsCornerOf};
+ghost use Rattle.path_decompose.specs.Decomposition.{sign_at, inverted, IsNextPath, IsDecomposition};
+ghost use Rattle.path_decompose.specs.Inside.{inside};
 ghost use Rattle.path_decompose.specs.Start.{IsWhiteThrough, IsStart};
+ghost use Rattle.path_decompose.specs.Sums.{IsEvenOdd, IsEdgesOnce};
 
 use crate::interior::invert;
 use crate::walk::walk_round;
@@ -15,7 +19,23 @@ use pt_base::policy::Policy;
 use std::alloc::Global;
 
 /// All paths of a page, in the order in which they are found.
-pub fn decompose(alloc: Global, page: &Bitmap, policy: Policy) -> Result<Vec<Path>, NoMemory> {
+pub fn decompose(alloc: Global, page: &Bitmap, policy: Policy) -> Result<Vec<Path>, NoMemory>
+    ensures decomposed { IfOk result (λ paths. IsDecomposition page.now policy paths.items) }
+
+    // Each path is a closed walk over the page's corners, and lies below the lowest row at no start.
+    ensures closed { IfOk result (λ paths. All (λ path. IsClosedWalk path.points) paths.items) }
+    ensures corners { IfOk result
+        (λ paths. All (λ path. All (IsCornerOf page.now.width page.now.height) path.points) paths.items) }
+    ensures starts { IfOk result
+        (λ paths. All (λ path. pos 1 ≤ℤ (point_at path.points 0).y) paths.items) }
+    ensures insides { IfOk result
+        (λ paths. All (λ path. Fits (inside path.points) page.now.width page.now.height) paths.items) }
+    ensures few { IfOk result (λ paths. length paths.items ≤ page.now.width * page.now.height) }
+
+    // Together they come to the page, and use each of its edges once.
+    ensures even_odd { IfOk result (λ paths. IsEvenOdd (image_of page.now) paths.items) }
+    ensures edges_once { IfOk result (λ paths. IsEdgesOnce (image_of page.now) paths.items) }
+{
     let mut rest = page.copy(alloc)?;
     let mut paths = Vec::new(alloc);
     let mut start = rest.first_black(rest.height() - 1);

@@ -1,0 +1,52 @@
+-- What each path of a page is.
+use Rattle.std.proofs.Common.{◌≡◌, ℕ, suc, ◌≤◌, ◌≤ℤ◌, pos, List, [], ◌∷◌, All, map, refl, ap, sym, subst, ◌∙◌, arith}
+use Rattle.std.proofs.lemmas.Int.{ints}
+use Rattle.std.proofs.lemmas.List.Elements.{All-nil, All-cons}
+use Rattle.pt_base.specs.ClosedWalk.{point_at, IsClosedWalk}
+use Rattle.pt_base.specs.declared.path.Path.{Path}
+use Rattle.pt_base.specs.declared.policy.Policy.{Policy}
+use Rattle.pt_base.specs.declared.point.Point.{Point}
+use Rattle.bit_image.specs.Image.{Image, Fits}
+use Rattle.bit_image.specs.Page.{Page, IsPage, image_of}
+use Rattle.path_decompose.specs.Bounds.{IsCornerOf}
+use Rattle.path_decompose.specs.Decomposition.{inverted, IsNextPath, IsDecomposed, IsDecomposition}
+use Rattle.path_decompose.specs.Inside.{inside}
+use Rattle.path_decompose.specs.Walk.{start_of, first_edge}
+use Rattle.path_decompose.proofs.ClosedWalk.{closed_walk, corners, point_of_round}
+use Rattle.path_decompose.proofs.NextPath.{next_circuit, next_fits, fits_inverted}
+
+-- a closed walk over the corners of a page of this width and height, that starts above row 0's lower sides, with
+-- nothing inside that lies off the page
+pub record IsPathOn (width height : ℕ) (path : Path) : Type 0 where
+  pub closed : IsClosedWalk path.points
+  pub on_page : All (IsCornerOf width height) path.points
+  pub starts_above : pos 1 ≤ℤ (point_at path.points 0).y
+  pub inside_on_page : Fits (inside path.points) width height
+
+one_above : (points : List Point) (x y : ℕ) → point_at points 0 ≡ start_of (first_edge x y) → pos 1 ≤ℤ (point_at points 0).y
+one_above points x y at =
+    let row : (point_at points 0).y ≡ pos (suc y) = ap (λ p. p.y) at in
+    rw row (omega (arith, ints))
+
+path_on : (page : Page) (policy : Policy) (b : Image) (path : Path) (width height : ℕ) → IsNextPath page policy b path → Fits b width height → width ≤ 16384 → height ≤ 16384 → IsPathOn width height path
+path_on page policy b path width height n fits w h =
+    let c = next_circuit page policy b path n in
+    let s = first_edge n.x n.y in
+    record {
+      closed = subst IsClosedWalk (sym n.walk.starts) (closed_walk b policy path.sign s n.walk.edges c width height fits w h);
+      on_page = subst (All (IsCornerOf width height)) (sym n.walk.starts) (corners b policy path.sign s n.walk.edges c width height fits);
+      starts_above = one_above path.points n.x n.y (ap (λ points. point_at points 0) n.walk.starts ∙ point_of_round b policy path.sign s n.walk.edges c 0);
+      inside_on_page = next_fits page policy b path width height n fits;
+    }
+
+pub paths_on : (page : Page) (policy : Policy) (b : Image) (paths : List Path) (width height : ℕ) → IsDecomposed page policy b paths → Fits b width height → width ≤ 16384 → height ≤ 16384 → All (IsPathOn width height) paths
+paths_on page policy b [] width height d fits w h = All-nil (IsPathOn width height)
+paths_on page policy b (path ∷ paths) width height d fits w h =
+    All-cons (IsPathOn width height) path paths (path_on page policy b path width height d.0 fits w h)
+    (paths_on page policy (inverted b path.points) paths width height d.1 (fits_inverted page policy b path width height d.0 fits) w h)
+
+-- the paths of a page, of which a copy is known to be one
+pub page_paths_on : (page copy : Page) (policy : Policy) (paths : List Path) → copy ≡ page → IsPage copy → Fits (image_of copy) copy.width copy.height → IsDecomposition page policy paths → All (IsPathOn page.width page.height) paths
+page_paths_on page copy policy paths same is_page fits d =
+    let page_is : IsPage page = subst IsPage same is_page in
+    paths_on page policy (image_of page) paths page.width page.height d (subst (λ p. Fits (image_of p) p.width p.height) same fits) page_is.most_width page_is.most_height
