@@ -6,11 +6,11 @@ use Rattle.pt_base.specs.declared.path.Sign.{Sign}
 use Rattle.pt_base.specs.declared.policy.Policy.{Policy}
 use Rattle.bit_image.specs.Image.{Image, Fits, differ}
 use Rattle.turn_policies.specs.declared.edge.Edge.{Edge}
-use Rattle.path_decompose.specs.Line.{Line, upright, level, IsLineOn}
+use Rattle.path_decompose.specs.Line.{Line, upright, level, IsLineOn, is_in_row}
 use Rattle.path_decompose.specs.Inside.{is_crossed}
 use Rattle.path_decompose.proofs.Parity.{odd_by, odd_by-agree}
 use Rattle.path_decompose.proofs.EdgeLine.{line_of, within}
-use Rattle.path_decompose.proofs.Cut.{is_in_row, row_even}
+use Rattle.path_decompose.proofs.Cut.{row_even}
 use Rattle.path_decompose.proofs.Round.{IsCircuit, all_boundary}
 use Rattle.path_decompose.proofs.Once.{none_passes}
 use Rattle.path_decompose.proofs.OnPage.{edge_on}

@@ -11,18 +11,13 @@ use Rattle.turn_policies.specs.declared.edge.Edge.{Edge}
 use Rattle.turn_policies.specs.Heading.{end_x, end_y}
 use Rattle.turn_policies.specs.Boundary.{IsBoundary, left_pixel}
 use Rattle.turn_policies.specs.Turn.{next}
-use Rattle.path_decompose.specs.Line.{Line, upright, level, same_line, is_edge}
+use Rattle.path_decompose.specs.Line.{Line, upright, level, same_line, is_edge, is_in_row}
 use Rattle.path_decompose.specs.Walk.{IsRun}
 use Rattle.path_decompose.specs.Inside.{is_crossed}
 use Rattle.path_decompose.proofs.Differ.{differ_swap, differ_solve}
 use Rattle.path_decompose.proofs.Parity.{odd_by, odd_by-differ, odd_by-same, odd_by-closed}
 use Rattle.turn_policies.proofs.Turning.{next_boundary}
 use Rattle.path_decompose.proofs.EdgeLine.{line_along, line_of, within}
-
--- the line is upright, in row y
-abbrev pub is_in_row : ℕ → Line → Bool
-is_in_row y (upright u v) = nat_eq v y
-is_in_row y (level u v) = false
 
 -- a step changes whether the walk is above the bottom of row y exactly where it goes through row y
 row_step : (b : Image) (y u v : ℕ) (d : Dir) → left_pixel (south_west b) u v d ≡ true → is_in_row y (line_along u v d) ≡ differ (nat_lt y v) (nat_lt y (end_y v d))

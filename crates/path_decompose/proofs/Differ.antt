@@ -1,5 +1,6 @@
 -- That one of two holds and not both: the laws of `differ`.
 use Rattle.std.proofs.Common.{◌≡◌, Bool, true, false, not, cond, refl}
+use mathlib.Core.Bool.{beq}
 use Rattle.bit_image.specs.Image.{differ}
 
 pub differ-false : (a : Bool) → differ a false ≡ a
@@ -69,3 +70,10 @@ differ_back false true true e = refl
 differ_back false true false e = cc
 differ_back false false true e = cc
 differ_back false false false e = refl
+
+-- the code's way to say it
+pub not-beq : (a b : Bool) → not (beq a b) ≡ differ a b
+not-beq true true = refl
+not-beq true false = refl
+not-beq false true = refl
+not-beq false false = refl

@@ -21,4 +21,5 @@ pub mod Counting
 pub mod Area
 pub mod Prefix
 pub mod PathOn
+pub mod Rows
 mod Examples

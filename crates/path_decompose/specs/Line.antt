@@ -24,6 +24,11 @@ abbrev pub IsLineOn : ℕ → ℕ → Line → Type 0
 IsLineOn width height (upright x y) = (x ≤ width) × (y < height)
 IsLineOn width height (level x y) = (x < width) × (y ≤ height)
 
+-- the line is upright, in row y
+abbrev pub is_in_row : ℕ → Line → Bool
+is_in_row y (upright u v) = nat_eq v y
+is_in_row y (level u v) = false
+
 -- the column and the row of an upright line
 abbrev pub place_of : Line → Option (ℕ × ℕ)
 place_of (upright x y) = Some (x, y)

@@ -1,12 +1,36 @@
 //! The pixels inside a path.
 ghost use Rattle.std.specs.Prelude.{◌≡◌, ℕ, ◌<◌, All};
+ghost use Rattle.pt_base.specs.ClosedWalk.{IsClosedWalk};
 ghost use Rattle.bit_image.specs.Image.{differ};
 ghost use Rattle.bit_image.specs.Page.{SameSides, image_of};
+ghost use Rattle.path_decompose.specs.Bounds.{IsCornerOf};
 ghost use Rattle.path_decompose.specs.Line.{IsLineOn, place_of};
 ghost use Rattle.path_decompose.specs.Inside.{line_between, lines_of, is_crossed, inside};
 
 use bit_image::bitmap::Bitmap;
+use pt_base::path::Path;
 use pt_base::point::Point;
+
+/// Whether pixel (x, y) is inside a path.
+///
+/// This is the even-odd rule of vector graphics, with two differences. It looks along the row to the
+/// left and not along any ray, and an edge at column `x` counts, since it is the pixel's own left side.
+pub fn inside(path: &Path, x: u32, y: u32) -> bool
+    requires closed { IsClosedWalk path.now.points }
+    requires corners { All (IsCornerOf 32767 32767) path.now.points }
+    ensures { result ≡ inside path.now.points x y }
+{
+    let mut odd = false;
+    if let Some((first, rest)) = path.points.as_slice().split_first() {
+        let mut from = *first;
+        'corners: for to in rest {
+            odd = odd != is_crossed(from, *to, x, y);
+            from = *to;
+        }
+        odd = odd != is_crossed(from, *first, x, y);
+    }
+    odd
+}
 
 /// Inverts the pixels inside a path of these points.
 pub fn invert(page: &mut Bitmap, points: &[Point])
@@ -34,6 +58,17 @@ fn flip_along(page: &mut Bitmap, from: Point, to: Point)
 {
     if let Some((x, y)) = upright_between(from, to) {
         page.flip_from(x, y);
+    }
+}
+
+/// Whether the line between two corners one step apart is crossed on the way along row `y` from the left
+/// into pixel (x, y).
+fn is_crossed(from: Point, to: Point, x: u32, y: u32) -> bool
+    ensures { result ≡ is_crossed x y (line_between from to) }
+{
+    match upright_between(from, to) {
+        Some((column, row)) => column <= x && row == y,
+        None => false,
     }
 }
 

@@ -7,5 +7,7 @@
 #![tactic(auto)]
 
 pub mod decomposition;
-mod interior;
+pub mod interior;
+pub mod laws;
+pub mod speckle;
 mod walk;
