@@ -10,7 +10,7 @@ ghost use Rattle.path_decompose.specs.Inside.{inside};
 ghost use Rattle.path_decompose.specs.Start.{IsWhiteThrough, IsStart};
 ghost use Rattle.path_decompose.specs.Sums.{IsEvenOdd, IsEdgesOnce};
 
-use crate::interior::invert;
+use crate::inversion::invert;
 use crate::walk::walk_round;
 use bit_image::bitmap::Bitmap;
 use pt_base::fault::NoMemory;

@@ -8,6 +8,8 @@
 
 pub mod decomposition;
 pub mod interior;
+mod inversion;
 pub mod laws;
+mod line;
 pub mod speckle;
 mod walk;

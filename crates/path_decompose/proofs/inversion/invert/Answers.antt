@@ -2,7 +2,7 @@
 use Rattle.std.proofs.Common.{subst}
 use Rattle.path_decompose.specs.Inside.{lines_of, inside}
 use Rattle.path_decompose.proofs.Flips.{IsPartFlip, flip_none, flip_line, flip_more, flip_all, lines_to-drop, lines_to-end}
-use Rattle.path_decompose.proofs.interior.invert.Goals as goal
+use Rattle.path_decompose.proofs.inversion.invert.Goals as goal
 
 pub corners-init : goal.corners-init
 corners-init c =
