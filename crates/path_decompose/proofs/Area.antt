@@ -1,6 +1,6 @@
 -- The area of a path from its edges: along each row the number of edges walked down is that of edges walked up, and
 -- one more where a pixel is inside.
-use Rattle.std.proofs.Common.{◌≡◌, ℕ, zero, suc, pred, ◌+◌, ◌-◌, ◌<◌, ◌≤◌, Bool, true, false, cond, ◌&&◌, nat_eq, nat_le, List, [], ◌∷◌, All, get_or, sum_by, count_by, refl, ap, sym, ◌∙◌, inl, inr, arith}
+use Rattle.std.proofs.Common.{◌≡◌, ℕ, zero, suc, pred, ◌+◌, ◌-◌, ◌<◌, Bool, true, false, cond, ◌&&◌, nat_eq, nat_le, List, All, get_or, sum_by, count_by, refl, ap, sym, ◌∙◌, arith}
 use Rattle.std.proofs.lemmas.Bool.{and_parts, eqb-true, lt-leb, false≢true}
 use Rattle.std.proofs.lemmas.Bool.Decides.{nat_tests}
 use Rattle.pt_base.specs.declared.path.Sign.{Sign}
@@ -16,11 +16,10 @@ use Rattle.path_decompose.specs.Line.{Line, upright, level, IsLineOn, same_line,
 use Rattle.path_decompose.specs.Walk.{first_edge}
 use Rattle.path_decompose.specs.Inside.{is_crossed, black_count}
 use Rattle.path_decompose.specs.Area.{if_down, if_up, right_of_down, right_of_up}
-use Rattle.path_decompose.proofs.Parity.{odd_by}
 use Rattle.path_decompose.proofs.EdgeLine.{line_along, line_of, within}
 use Rattle.path_decompose.proofs.Cut.{is_edge-within}
-use Rattle.path_decompose.proofs.Round.{IsCircuit, all_boundary}
-use Rattle.path_decompose.proofs.Once.{count_by-line, same_line-true}
+use Rattle.path_decompose.proofs.Round.{IsCircuit}
+use Rattle.path_decompose.proofs.Once.{count_by-line}
 use Rattle.path_decompose.proofs.Beyond.{all_lines_on}
 use Rattle.path_decompose.proofs.Own.{own_boundary}
 use Rattle.path_decompose.proofs.Counting.{sum_by-agree, sum_by-add, count_by-if, sum_below-same, sum_below-add, sum_below-zero, count_below-sum, sum_below-sum_by, sum_below-from, sum_below-at, sum_below-if}
@@ -64,16 +63,16 @@ down_more : (x y : ℕ) (es : List Edge) → sum_by (down_to (suc x) y) es ≡ s
 down_more x y es =
     sum_by-agree (down_to (suc x) y) (λ e. down_to x y e + down_on (upright (suc x) y) e) es
     (λ k d short.
-      let e : Edge = get_or es k d in
-      ap (if_down e.heading) (crossed_more x y (line_of e)) ∙ if_down-add e.heading (cond (is_crossed x y (line_of e)) 1 0) (cond (same_line (upright (suc x) y) (line_of e)) 1 0))
+    let e : Edge = get_or es k d in
+    ap (if_down e.heading) (crossed_more x y (line_of e)) ∙ if_down-add e.heading (cond (is_crossed x y (line_of e)) 1 0) (cond (same_line (upright (suc x) y) (line_of e)) 1 0))
     ∙ sum_by-add (down_to x y) (down_on (upright (suc x) y)) es
 
 up_more : (x y : ℕ) (es : List Edge) → sum_by (up_to (suc x) y) es ≡ sum_by (up_to x y) es + sum_by (up_on (upright (suc x) y)) es
 up_more x y es =
     sum_by-agree (up_to (suc x) y) (λ e. up_to x y e + up_on (upright (suc x) y) e) es
     (λ k d short.
-      let e : Edge = get_or es k d in
-      ap (if_up e.heading) (crossed_more x y (line_of e)) ∙ if_up-add e.heading (cond (is_crossed x y (line_of e)) 1 0) (cond (same_line (upright (suc x) y) (line_of e)) 1 0))
+    let e : Edge = get_or es k d in
+    ap (if_up e.heading) (crossed_more x y (line_of e)) ∙ if_up-add e.heading (cond (is_crossed x y (line_of e)) 1 0) (cond (same_line (upright (suc x) y) (line_of e)) 1 0))
     ∙ sum_by-add (up_to x y) (up_on (upright (suc x) y)) es
 
 down_none : (y : ℕ) (es : List Edge) → sum_by (down_to zero y) es ≡ sum_by (down_on (upright zero y)) es

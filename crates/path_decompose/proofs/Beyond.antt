@@ -1,5 +1,5 @@
 -- No pixel off the page is inside a path.
-use Rattle.std.proofs.Common.{◌≡◌, ◌≢◌, ℕ, zero, suc, ◌<◌, ◌≤◌, Bool, true, false, nat_eq, nat_le, ◌&&◌, List, [], ◌∷◌, get_or, All, refl, ap, sym, ◌∙◌, inl, inr, arith}
+use Rattle.std.proofs.Common.{◌≡◌, ℕ, ◌≤◌, false, List, get_or, All, refl, ap, sym, ◌∙◌, inl, inr, arith}
 use Rattle.std.proofs.lemmas.Bool.{cases_Bool, cases_lt, false≢true}
 use Rattle.std.proofs.lemmas.Bool.Decides.{nat_tests}
 use Rattle.pt_base.specs.declared.path.Sign.{Sign}
@@ -8,7 +8,7 @@ use Rattle.bit_image.specs.Image.{Image, Fits, differ}
 use Rattle.turn_policies.specs.declared.edge.Edge.{Edge}
 use Rattle.path_decompose.specs.Line.{Line, upright, level, IsLineOn, is_in_row}
 use Rattle.path_decompose.specs.Inside.{is_crossed}
-use Rattle.path_decompose.proofs.Parity.{odd_by, odd_by-agree}
+use Rattle.path_decompose.proofs.Parity.{odd_by-agree}
 use Rattle.path_decompose.proofs.EdgeLine.{line_of, within}
 use Rattle.path_decompose.proofs.Cut.{row_even}
 use Rattle.path_decompose.proofs.Round.{IsCircuit, all_boundary}

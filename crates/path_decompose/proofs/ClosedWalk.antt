@@ -1,5 +1,5 @@
 -- The points of a walk once round are a closed walk over the corners of the page.
-use Rattle.std.proofs.Common.{◌≡◌, ◌≢◌, ℕ, zero, suc, pred, ◌+◌, ◌*◌, ◌%◌, ◌^◌, ◌<◌, ◌≤◌, ◌⊎◌, Bool, true, false, not, pos, ◌+ℤ◌, ◌≤ℤ◌, List, [], ◌∷◌, map, length, get_or, All, refl, ap, sym, subst, ◌∙◌, inl, inr, arith, add-one}
+use Rattle.std.proofs.Common.{◌≡◌, ◌≢◌, ℕ, zero, suc, ◌+◌, ◌*◌, ◌%◌, ◌^◌, ◌<◌, ◌≤◌, true, false, pos, List, [], ◌∷◌, map, length, get_or, All, refl, ap, sym, subst, ◌∙◌, inl, inr, arith, add-one}
 use Rattle.std.proofs.lemmas.Bool.{false≢true}
 use Rattle.std.proofs.lemmas.Bool.Decides.{nat_tests}
 use Rattle.std.proofs.lemmas.Int.{ints}
@@ -15,7 +15,7 @@ use Rattle.turn_policies.specs.declared.heading.Dir.{Dir}
 use Rattle.turn_policies.specs.declared.heading.Dir.TheVariants.{North, East, South, West}
 use Rattle.turn_policies.specs.declared.edge.Edge.{Edge}
 use Rattle.turn_policies.specs.Heading.{opposite_of, end_x, end_y}
-use Rattle.turn_policies.specs.Boundary.{IsBoundary, left_pixel, right_pixel}
+use Rattle.turn_policies.specs.Boundary.{IsBoundary, left_pixel}
 use Rattle.turn_policies.specs.Majority.{major}
 use Rattle.turn_policies.specs.Turn.{goes_right, next}
 use Rattle.turn_policies.proofs.Turning.{next_boundary, onwards}
@@ -23,7 +23,7 @@ use Rattle.path_decompose.specs.Walk.{IsRun, start_of}
 use Rattle.path_decompose.specs.Inside.{is_odd}
 use Rattle.path_decompose.specs.Bounds.{IsCornerOf}
 use Rattle.path_decompose.proofs.Parity.{odd_by, odd_by-closed}
-use Rattle.path_decompose.proofs.Orbit.{nth_after, nth_after-keeps, nth_after-mod, orbit, run-orbit, get_or-orbit}
+use Rattle.path_decompose.proofs.Orbit.{nth_after, nth_after-keeps, nth_after-mod, run-orbit, get_or-orbit}
 use Rattle.path_decompose.proofs.Round.{IsCircuit, all_boundary}
 use Rattle.path_decompose.proofs.OnPage.{edge_on, length-distinct}
 

@@ -1,6 +1,5 @@
 -- Sums over numbers and over lists.
-use Rattle.std.proofs.Common.{◌≡◌, ℕ, zero, suc, ◌+◌, ◌-◌, ◌*◌, ◌<◌, ◌≤◌, Bool, true, false, cond, ◌&&◌, nat_eq, nat_le, List, [], ◌∷◌, All, sum_by, count_by, refl, ap, sym, ◌∙◌, inl, inr, arith}
-use Rattle.std.proofs.lemmas.Bool.{cases_lt}
+use Rattle.std.proofs.Common.{◌≡◌, ℕ, zero, suc, ◌+◌, ◌-◌, ◌<◌, Bool, true, false, cond, ◌&&◌, nat_eq, nat_le, List, [], ◌∷◌, All, sum_by, count_by, refl, ap, sym, ◌∙◌, arith}
 use Rattle.std.proofs.lemmas.Bool.Decides.{nat_tests}
 use Rattle.std.proofs.lemmas.List.Elements.{All-head, All-tail}
 use Rattle.std.proofs.lemmas.List.Sums.{sum_by-cons}
@@ -54,10 +53,10 @@ count_below-sum zero f = refl
 count_below-sum (suc n) f =
     let rest : count_below n f ≡ sum_below n (λ k. cond (f k) 1 0) = count_below-sum n f in
     one_more (f n) (count_below n f) (sum_below n (λ k. cond (f k) 1 0)) rest
-    where
-      one_more : (t : Bool) (a b : ℕ) → a ≡ b → cond t (suc a) a ≡ b + cond t 1 0
-      one_more true a b e = omega arith
-      one_more false a b e = omega arith
+  where
+    one_more : (t : Bool) (a b : ℕ) → a ≡ b → cond t (suc a) a ≡ b + cond t 1 0
+    one_more true a b e = omega arith
+    one_more false a b e = omega arith
 
 -- sums over numbers and over a list change places
 pub sum_below-sum_by : {A : Type 0} (n : ℕ) (g : ℕ → A → ℕ) (xs : List A) → sum_below n (λ k. sum_by (g k) xs) ≡ sum_by (λ x. sum_below n (λ k. g k x)) xs

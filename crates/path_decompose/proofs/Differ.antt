@@ -1,5 +1,5 @@
 -- That one of two holds and not both: the laws of `differ`.
-use Rattle.std.proofs.Common.{◌≡◌, Bool, true, false, not, cond, refl}
+use Rattle.std.proofs.Common.{◌≡◌, Bool, true, false, not, refl}
 use mathlib.Core.Bool.{beq}
 use Rattle.bit_image.specs.Image.{differ}
 

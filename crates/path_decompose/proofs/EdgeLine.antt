@@ -1,8 +1,6 @@
 -- The lines that the edges of a walk run along.
-use Rattle.std.proofs.Common.{◌≡◌, ℕ, zero, suc, pred, ◌≤◌, Bool, true, false, cond, min, List, [], ◌∷◌, map, length, eqb, refl, ap, sym, subst, ◌∙◌, arith}
+use Rattle.std.proofs.Common.{◌≡◌, ℕ, zero, suc, pred, Bool, true, List, [], ◌∷◌, map, refl, ap, sym, subst, ◌∙◌, arith}
 use Rattle.std.proofs.lemmas.Bool.Decides.{nat_tests}
-use Rattle.std.proofs.lemmas.Bool.{eq-eqb, ne_eqb}
-use Rattle.pt_base.specs.declared.point.Point.{Point}
 use Rattle.pt_base.specs.declared.path.Sign.{Sign}
 use Rattle.pt_base.specs.declared.policy.Policy.{Policy}
 use Rattle.bit_image.specs.Image.{Image, south_west, differ}
@@ -10,11 +8,11 @@ use Rattle.turn_policies.specs.declared.heading.Dir.{Dir}
 use Rattle.turn_policies.specs.declared.heading.Dir.TheVariants.{North, East, South, West}
 use Rattle.turn_policies.specs.declared.edge.Edge.{Edge}
 use Rattle.turn_policies.specs.Heading.{end_x, end_y}
-use Rattle.turn_policies.specs.Boundary.{IsBoundary, left_pixel, right_pixel}
+use Rattle.turn_policies.specs.Boundary.{IsBoundary, left_pixel}
 use Rattle.turn_policies.specs.Turn.{next}
 use Rattle.path_decompose.specs.Line.{Line, upright, level}
 use Rattle.path_decompose.specs.Walk.{IsRun, start_of}
-use Rattle.path_decompose.specs.Inside.{line_at, line_between, lines_to, lines_of, is_crossed, is_odd, inside}
+use Rattle.path_decompose.specs.Inside.{line_at, line_between, lines_to, lines_of, is_crossed, inside}
 use Rattle.path_decompose.proofs.Parity.{odd_by, is_odd-count}
 use Rattle.turn_policies.proofs.Turning.{next_boundary}
 

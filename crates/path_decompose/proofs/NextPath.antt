@@ -1,13 +1,11 @@
 -- The path that comes next, by its edges.
-use Rattle.std.proofs.Common.{◌≡◌, ℕ, Bool, List, map, refl, ap, sym, subst, ◌∙◌}
+use Rattle.std.proofs.Common.{◌≡◌, ℕ, map, ap, ◌∙◌}
 use Rattle.pt_base.specs.declared.path.Path.{Path}
 use Rattle.pt_base.specs.declared.policy.Policy.{Policy}
 use Rattle.bit_image.specs.Image.{Image, Fits, differ}
 use Rattle.bit_image.specs.Page.{Page}
-use Rattle.turn_policies.specs.declared.edge.Edge.{Edge}
-use Rattle.turn_policies.specs.Turn.{next}
 use Rattle.path_decompose.specs.Line.{Line, is_edge, same_line}
-use Rattle.path_decompose.specs.Walk.{start_of, first_edge}
+use Rattle.path_decompose.specs.Walk.{first_edge}
 use Rattle.path_decompose.specs.Inside.{lines_of, inside}
 use Rattle.path_decompose.specs.Decomposition.{inverted, IsNextPath}
 use Rattle.path_decompose.proofs.Parity.{odd_by}

@@ -1,10 +1,10 @@
 -- A boundary edge lies on the page, and a page has only so many.
-use Rattle.std.proofs.Common.{◌≡◌, ◌≢◌, ℕ, zero, suc, pred, ◌+◌, ◌*◌, ◌<◌, ◌≤◌, ◌||◌, Bool, true, false, eqb, List, [], ◌∷◌, map, length, get_or, AllPairs, All, refl, ap, sym, subst, ◌∙◌, inl, inr, arith}
+use Rattle.std.proofs.Common.{◌≡◌, ◌≢◌, ℕ, zero, suc, ◌+◌, ◌*◌, ◌<◌, ◌≤◌, true, eqb, List, [], ◌∷◌, map, length, get_or, AllPairs, All, refl, sym, ◌∙◌, inl, inr, arith}
 use Rattle.std.specs.List.{list_any}
-use Rattle.std.proofs.lemmas.Bool.{or_cases, eqb-true, false≢true}
+use Rattle.std.proofs.lemmas.Bool.{or_cases, eqb-true}
 use Rattle.std.proofs.lemmas.Bool.Decides.{Decides-eqb}
 use Rattle.std.proofs.lemmas.List.{length-map, get_or-map}
-use Rattle.std.proofs.lemmas.List.Elements.{All-map, All-weaker, All-head, All-tail}
+use Rattle.std.proofs.lemmas.List.Elements.{All-map, All-head, All-tail}
 use Rattle.std.proofs.lemmas.Map.Made.{IsDistinct-from_AllPairs}
 use Rattle.std.proofs.lemmas.Map.Steps.{length-le_from_distinct_below}
 use Rattle.std.proofs.lemmas.Nat.{same_from_place, mul-add-lt}
@@ -14,8 +14,8 @@ use Rattle.turn_policies.specs.declared.heading.Dir.TheVariants.{North, East, So
 use Rattle.turn_policies.specs.declared.edge.Edge.{Edge}
 use Rattle.turn_policies.specs.Heading.{end_x, end_y}
 use Rattle.turn_policies.specs.Boundary.{IsBoundary, left_pixel}
-use Rattle.path_decompose.specs.Line.{Line, upright, level, IsLineOn}
-use Rattle.path_decompose.proofs.EdgeLine.{line_along, line_of}
+use Rattle.path_decompose.specs.Line.{IsLineOn}
+use Rattle.path_decompose.proofs.EdgeLine.{line_along}
 
 -- a step and its line stay on the page
 pub record IsStepOn (width height x y : ℕ) (d : Dir) : Type 0 where

@@ -1,5 +1,5 @@
 -- Each edge of a path is a boundary edge of its own inside: it has the inside on its left.
-use Rattle.std.proofs.Common.{◌≡◌, ◌≢◌, ℕ, zero, suc, ◌+◌, ◌<◌, ◌≤◌, Bool, true, false, cond, not, List, [], ◌∷◌, length, get_or, All, count_by, refl, ap, sym, subst, ◌∙◌, inl, inr, arith}
+use Rattle.std.proofs.Common.{◌≡◌, ℕ, zero, suc, ◌<◌, ◌≤◌, Bool, true, false, cond, List, [], ◌∷◌, length, get_or, All, count_by, refl, ap, sym, subst, ◌∙◌, arith}
 use Rattle.std.proofs.lemmas.Bool.{false≢true, and_from, eq-eqb}
 use Rattle.std.proofs.lemmas.List.Elements.{All-nil, All-cons, All-head, All-tail}
 use Rattle.std.proofs.lemmas.List.Sums.{get_or-le-sum_by}
@@ -10,7 +10,7 @@ use Rattle.bit_image.specs.FirstBlack.{IsFirstBlack}
 use Rattle.turn_policies.specs.declared.heading.Dir.{Dir}
 use Rattle.turn_policies.specs.declared.heading.Dir.TheVariants.{North, East, South, West}
 use Rattle.turn_policies.specs.declared.edge.Edge.{Edge}
-use Rattle.turn_policies.specs.Heading.{left_of, right_of, end_x, end_y}
+use Rattle.turn_policies.specs.Heading.{end_x, end_y}
 use Rattle.turn_policies.specs.Boundary.{IsBoundary, left_pixel, right_pixel}
 use Rattle.turn_policies.specs.Majority.{major}
 use Rattle.turn_policies.specs.Turn.{goes_right, turn_of, next}
@@ -21,7 +21,7 @@ use Rattle.path_decompose.proofs.Differ.{differ_same, differ_comm, same_from_dif
 use Rattle.path_decompose.proofs.Parity.{odd_by}
 use Rattle.path_decompose.proofs.EdgeLine.{line_along, line_of, within}
 use Rattle.path_decompose.proofs.Cut.{is_edge-within}
-use Rattle.path_decompose.proofs.Round.{IsCircuit, all_boundary}
+use Rattle.path_decompose.proofs.Round.{IsCircuit}
 use Rattle.path_decompose.proofs.Once.{count_by-line, odd_by-no_edge}
 use Rattle.path_decompose.proofs.Start.{odd_from_some, inside_start}
 

@@ -1,5 +1,5 @@
 -- The paths found so far, and the image that they leave.
-use Rattle.std.proofs.Common.{◌≡◌, ℕ, ◌<◌, ◌≤◌, Bool, List, [], ◌∷◌, ◌++◌, Option, None, refl, ap, sym, subst, ◌∙◌, inl, inr}
+use Rattle.std.proofs.Common.{◌≡◌, ℕ, ◌<◌, List, [], ◌∷◌, ◌++◌, Option, None, ap, sym, subst, ◌∙◌, inl, inr}
 use Rattle.std.proofs.Math.Path.{fun_ext}
 use Rattle.std.proofs.lemmas.Bool.{cases_lt}
 use Rattle.pt_base.specs.declared.path.Path.{Path}
@@ -28,11 +28,11 @@ decomposed_all page policy b (p ∷ ps) c so_far white = (so_far.0, decomposed_a
 inverted_is : (page : Page) (policy : Policy) (c d : Image) (path : Path) (width height : ℕ) → IsNextPath page policy c path → Fits c width height → Fits d width height → ((u v : ℕ) → u < width → d u v ≡ inverted c path.points u v) → inverted c path.points ≡ d
 inverted_is page policy c d path width height n fits fits_new flipped =
     fun_ext (λ u. fun_ext (λ v. elim (cases_lt u width) [
-          inl left ↦ sym (flipped u v left)
-          | inr right ↦
+      | inl left ↦ sym (flipped u v left)
+      | inr right ↦
           white_off (inverted c path.points) width height u v (fits_inverted page policy c path width height n fits) right
           ∙ sym (white_off d width height u v fits_new right)
-        ]))
+    ]))
 
 -- one more path
 pub decomposed_push : (page : Page) (policy : Policy) (b : Image) (paths : List Path) (c d : Image) (path : Path) (width height : ℕ) → IsDecomposedTo page policy b paths c → IsNextPath page policy c path → Fits c width height → Fits d width height → ((u v : ℕ) → u < width → d u v ≡ inverted c path.points u v) → IsDecomposedTo page policy b (paths ++ path ∷ []) d

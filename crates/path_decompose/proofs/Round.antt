@@ -1,6 +1,6 @@
 -- A walk once round: what all that follows knows of the edges of a path.
-use Rattle.std.proofs.Common.{◌≡◌, ◌≢◌, ℕ, zero, suc, ◌<◌, ◌≤◌, Bool, true, false, List, [], ◌∷◌, length, map, AllPairs, All, get_or, refl, ap, sym, subst, ◌∙◌, arith}
-use Rattle.std.proofs.lemmas.List.Elements.{All-nil, All-cons, All-tail, All-head}
+use Rattle.std.proofs.Common.{◌≡◌, ◌≢◌, ℕ, zero, suc, ◌<◌, ◌≤◌, false, List, [], ◌∷◌, length, AllPairs, All, get_or, refl, ap, sym, subst, ◌∙◌, arith}
+use Rattle.std.proofs.lemmas.List.Elements.{All-nil, All-cons}
 use Rattle.pt_base.specs.declared.path.Sign.{Sign}
 use Rattle.pt_base.specs.declared.policy.Policy.{Policy}
 use Rattle.bit_image.specs.Image.{Image, south_west}
@@ -9,7 +9,7 @@ use Rattle.turn_policies.specs.declared.edge.Edge.{Edge}
 use Rattle.turn_policies.specs.Boundary.{IsBoundary}
 use Rattle.turn_policies.specs.Turn.{next}
 use Rattle.path_decompose.specs.Walk.{IsRun, IsRound, first_edge}
-use Rattle.path_decompose.proofs.Orbit.{nth_after, orbit, run-orbit, get_or-orbit, length-orbit}
+use Rattle.path_decompose.proofs.Orbit.{orbit, run-orbit, get_or-orbit}
 use Rattle.turn_policies.proofs.Turning.{next_boundary}
 
 -- the edges go once round in the image, from a boundary edge

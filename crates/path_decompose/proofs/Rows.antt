@@ -1,5 +1,5 @@
 -- A closed walk has an even number of upright lines in each row, since it changes sides of the row at each.
-use Rattle.std.proofs.Common.{◌≡◌, ℕ, zero, suc, ◌+◌, ◌%◌, ◌<◌, ◌≤◌, Bool, true, false, ℤ, pos, negsuc, ◌+ℤ◌, ◌≤ℤ◌, nat_abs, nat_eq, nat_lt, min, cond, ◌⊎◌, List, [], ◌∷◌, length, get_or, drop, All, count_by, refl, ap, sym, subst, ◌∙◌, inl, inr, arith, add-one}
+use Rattle.std.proofs.Common.{◌≡◌, ℕ, zero, suc, ◌+◌, ◌%◌, ◌<◌, Bool, false, ℤ, pos, negsuc, ◌≤ℤ◌, nat_abs, nat_eq, nat_lt, min, cond, ◌⊎◌, List, [], ◌∷◌, length, get_or, drop, All, count_by, refl, ap, sym, subst, ◌∙◌, inl, inr, arith}
 use Rattle.std.proofs.Math.Seq.{drop-cons}
 use Rattle.std.proofs.Math.Nat.{mod-eq_of_lt, mod-lt, mod_self}
 use Rattle.std.proofs.lemmas.Bool.{eq-eqb, ne_eqb}
@@ -27,11 +27,12 @@ upwards : (y a c b d : ℕ) → a ≡ c → (b ≡ suc d) ⊎ (d ≡ suc b) → 
 upwards y a c b d same next =
     ap (λ t. is_in_row y (cond t (upright a (min b d)) (level (min a c) b))) (eq-eqb a c same)
     ∙ elim next [ inl down ↦ through y b d down | inr up ↦ back y b d up ]
-    where
-      through : (y b d : ℕ) → b ≡ suc d → nat_eq (min b d) y ≡ differ (nat_lt y b) (nat_lt y d)
-      through y b d e = grind (arith, nat_tests)
-      back : (y b d : ℕ) → d ≡ suc b → nat_eq (min b d) y ≡ differ (nat_lt y b) (nat_lt y d)
-      back y b d e = grind (arith, nat_tests)
+  where
+    through : (y b d : ℕ) → b ≡ suc d → nat_eq (min b d) y ≡ differ (nat_lt y b) (nat_lt y d)
+    through y b d e = grind (arith, nat_tests)
+
+    back : (y b d : ℕ) → d ≡ suc b → nat_eq (min b d) y ≡ differ (nat_lt y b) (nat_lt y d)
+    back y b d e = grind (arith, nat_tests)
 
 next_natural : (a c : ℤ) → pos 0 ≤ℤ a → pos 0 ≤ℤ c → IsNextTo a c → (nat_abs a ≡ suc (nat_abs c)) ⊎ (nat_abs c ≡ suc (nat_abs a))
 next_natural (pos a) (pos c) ha hc (inl right) = inr (omega (arith, ints))
@@ -55,13 +56,13 @@ chain f S points h zero k last =
     let n : ℕ = length points in
     let whole : suc k ≡ n = omega arith in
     let around : point_at points (suc k) ≡ point_at points 0 =
-      ap (λ j. get_or points j origin) (ap (λ j. j % n) whole ∙ mod_self n ∙ sym (mod-eq_of_lt {n = 0} {m = n} (omega arith))) in
+    ap (λ j. get_or points j origin) (ap (λ j. j % n) whole ∙ mod_self n ∙ sym (mod-eq_of_lt {n = 0} {m = n} (omega arith))) in
     ap (λ qs. odd_by f (lines_to (point_at points 0) (point_at points k) qs)) (drop_all (suc k) points (omega arith))
     ∙ differ-false (f (line_between (point_at points k) (point_at points 0)))
     ∙ subst (λ q. f (line_between (point_at points k) q) ≡ differ (S (point_at points k)) (S q)) around (h k)
 chain f S points h (suc m) k last =
     let next : get_or points (suc k) origin ≡ point_at points (suc k) =
-      ap (λ j. get_or points j origin) (sym (mod-eq_of_lt {n = suc k} {m = length points} (omega arith))) in
+    ap (λ j. get_or points j origin) (sym (mod-eq_of_lt {n = suc k} {m = length points} (omega arith))) in
     let rest = chain f S points h m (suc k) (omega arith) in
     ap (λ qs. odd_by f (lines_to (point_at points 0) (point_at points k) qs)) (drop-cons points (suc k) origin (omega arith))
     ∙ ap (λ q. odd_by f (line_between (point_at points k) q ∷ lines_to (point_at points 0) q (drop (suc (suc k)) points))) next
@@ -79,7 +80,7 @@ closed_row_even width height (p ∷ qs) closed corners y =
     let first : p ≡ point_at points 0 = ap (λ j. get_or points j origin) (sym (mod-eq_of_lt {n = 0} {m = length points} some)) in
     let corner : (k : ℕ) → IsCornerOf width height (point_at points k) = λ k. corners (k % length points) origin (mod-lt k some) in
     let step : (k : ℕ) → is_in_row y (line_between (point_at points k) (point_at points (suc k))) ≡ differ (S (point_at points k)) (S (point_at points (suc k))) =
-      λ k. unit_line y width height (point_at points k) (point_at points (suc k)) (corner k) (corner (suc k)) (closed.steps k) in
+    λ k. unit_line y width height (point_at points k) (point_at points (suc k)) (corner k) (corner (suc k)) (closed.steps k) in
     is_odd-count (is_in_row y) (lines_of points)
     ∙ ap (λ q. odd_by (is_in_row y) (lines_to q q qs)) first
     ∙ chain (is_in_row y) S points step (length qs) 0 (omega arith)

@@ -1,9 +1,9 @@
 -- From each start the search goes on to later places of the page.
-use Rattle.std.proofs.Common.{◌≡◌, ℕ, zero, suc, ◌+◌, ◌-◌, ◌*◌, ◌<◌, ◌≤◌, Bool, true, false, Option, Some, None, refl, ap, sym, ◌∙◌, inl, inr, arith}
+use Rattle.std.proofs.Common.{◌≡◌, ℕ, suc, ◌+◌, ◌-◌, ◌*◌, ◌<◌, ◌≤◌, Option, Some, None, ap, sym, ◌∙◌, inl, inr, arith}
 use Rattle.std.proofs.lemmas.Bool.{cases_order, false≢true, cases_lt}
 use Rattle.std.proofs.lemmas.Nat.{mul-le}
-use Rattle.bit_image.specs.Image.{Image, IsWhite, IsWhiteTo, Fits}
-use Rattle.bit_image.specs.FirstBlack.{IsFirstBlack, IsFirstBlackFrom}
+use Rattle.bit_image.specs.Image.{Image, Fits}
+use Rattle.bit_image.specs.FirstBlack.{IsFirstBlack}
 use Rattle.path_decompose.specs.Start.{IsWhiteThrough, IsStart}
 
 -- how many places of a page of this width a search has to look at, from the start of a path on

@@ -1,12 +1,10 @@
 -- The paths of a decomposition come to the page, and use each of its edges once.
-use Rattle.std.proofs.Common.{◌≡◌, ℕ, zero, suc, ◌+◌, Bool, true, false, cond, List, [], ◌∷◌, map, count_by, sum_by, refl, ap, sym, ◌∙◌, inl, inr, arith}
-use Rattle.std.proofs.lemmas.Bool.{cases_Bool}
+use Rattle.std.proofs.Common.{◌≡◌, ℕ, zero, suc, ◌+◌, Bool, true, false, cond, List, [], ◌∷◌, map, count_by, sum_by, refl, ap, sym, ◌∙◌}
 use Rattle.std.proofs.lemmas.List.Sums.{sum_by-cons}
 use Rattle.pt_base.specs.declared.path.Path.{Path}
 use Rattle.pt_base.specs.declared.policy.Policy.{Policy}
 use Rattle.bit_image.specs.Image.{Image, IsWhite, differ}
-use Rattle.bit_image.specs.Page.{Page, image_of}
-use Rattle.turn_policies.specs.declared.edge.Edge.{Edge}
+use Rattle.bit_image.specs.Page.{Page}
 use Rattle.path_decompose.specs.Line.{Line, upright, level, same_line, is_edge}
 use Rattle.path_decompose.specs.Walk.{first_edge}
 use Rattle.path_decompose.specs.Inside.{lines_of, inside}

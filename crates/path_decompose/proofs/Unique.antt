@@ -1,5 +1,5 @@
 -- A page has one decomposition under a policy.
-use Rattle.std.proofs.Common.{◌≡◌, ℕ, ◌<◌, Bool, true, false, List, [], ◌∷◌, map, refl, ap, sym, subst, ◌∙◌, inl, inr, arith}
+use Rattle.std.proofs.Common.{◌≡◌, ℕ, ◌<◌, List, [], ◌∷◌, map, refl, ap, sym, subst, ◌∙◌, inl, inr}
 use Rattle.std.proofs.lemmas.Bool.{cases_order, false≢true}
 use Rattle.pt_base.specs.declared.point.Point.{Point}
 use Rattle.pt_base.specs.declared.path.Path.{Path}
@@ -8,7 +8,6 @@ use Rattle.pt_base.specs.declared.policy.Policy.{Policy}
 use Rattle.bit_image.specs.Image.{Image}
 use Rattle.bit_image.specs.Page.{Page, image_of}
 use Rattle.bit_image.specs.FirstBlack.{IsFirstBlack}
-use Rattle.turn_policies.specs.declared.edge.Edge.{Edge}
 use Rattle.path_decompose.specs.Walk.{start_of, first_edge}
 use Rattle.path_decompose.specs.Inside.{inside, black_count}
 use Rattle.path_decompose.specs.Decomposition.{sign_at, inverted, IsNextPath, IsDecomposed}

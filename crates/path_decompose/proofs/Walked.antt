@@ -1,7 +1,7 @@
 -- The points of a walk, by the edges that it goes along.
-use Rattle.std.proofs.Common.{◌≡◌, ℕ, ◌+◌, ◌<◌, ◌≤◌, ◌⊎◌, Bool, true, false, List, All, map, sum_by, refl, ap, sym, subst, ◌∙◌, inl, inr, arith}
+use Rattle.std.proofs.Common.{◌≡◌, ℕ, ◌+◌, ◌<◌, Bool, true, false, List, All, map, sum_by, refl, ap, sym, subst, ◌∙◌, inl, inr, arith}
 use Rattle.std.proofs.Math.Path.{fun_ext}
-use Rattle.std.proofs.lemmas.Bool.{cases_order, cases_lt}
+use Rattle.std.proofs.lemmas.Bool.{cases_lt}
 use Rattle.std.proofs.lemmas.List.Elements.{All-map}
 use Rattle.pt_base.specs.declared.point.Point.{Point}
 use Rattle.pt_base.specs.declared.path.Sign.{Sign}
@@ -9,11 +9,10 @@ use Rattle.pt_base.specs.declared.policy.Policy.{Policy}
 use Rattle.bit_image.specs.Image.{Image, Fits, differ}
 use Rattle.bit_image.specs.FirstBlack.{IsFirstBlack}
 use Rattle.path_decompose.specs.Line.{IsLineOn}
-use Rattle.path_decompose.specs.Walk.{start_of, first_edge, IsWalk}
+use Rattle.path_decompose.specs.Walk.{first_edge, IsWalk}
 use Rattle.path_decompose.specs.Inside.{lines_of, inside, black_count}
 use Rattle.path_decompose.specs.Area.{right_of_down, right_of_up}
 use Rattle.path_decompose.specs.Start.{IsWhiteThrough}
-use Rattle.path_decompose.proofs.Differ.{differ_same}
 use Rattle.path_decompose.proofs.EdgeLine.{line_of, lines_of-run, within, inside-run}
 use Rattle.path_decompose.proofs.Round.{IsCircuit, circuit_of}
 use Rattle.path_decompose.proofs.Area.{area}

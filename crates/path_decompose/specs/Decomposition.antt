@@ -1,6 +1,6 @@
 -- The decomposition of a page into paths (Selinger, "Potrace", 2003, section 2.1.1), and the removal of
 -- speckles (section 2.1.3).
-use Rattle.std.specs.Prelude.{◌≡◌, ℕ, Bool, cond, List, [], ◌∷◌, filter, nat_lt}
+use Rattle.std.specs.Prelude.{◌≡◌, ℕ, cond, List, [], ◌∷◌, filter, nat_lt}
 use Rattle.pt_base.specs.declared.point.Point.{Point}
 use Rattle.pt_base.specs.declared.path.Path.{Path}
 use Rattle.pt_base.specs.declared.path.Sign.{Sign}

@@ -106,3 +106,6 @@ fn start_after(page: &Bitmap, x: u32, y: u32) -> Option<(u32, u32)>
         page.first_black(y - 1)
     }
 }
+
+#[cfg(test)]
+mod tests;

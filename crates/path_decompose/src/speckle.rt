@@ -8,8 +8,10 @@ use pt_base::path::Path;
 pub fn keep(mut paths: Vec<Path>, most: u32) -> Vec<Path>
     ensures { result.items ≡ kept most paths.items }
 {
-    paths.retain(|path| -> bool
-        ensures { result ≡ nat_lt most path.now.area }
-    { path.area > u64::from(most) });
+    paths.retain(
+        |path| -> bool
+            ensures { result ≡ nat_lt most path.now.area }
+        { path.area > u64::from(most) },
+    );
     paths
 }

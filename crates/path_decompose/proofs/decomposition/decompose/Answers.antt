@@ -32,7 +32,7 @@ paths-preserved c =
     let fewer : places_left page.width c.start_after-start.result < places_left page.width c.paths.start = paths-smaller c in
     let sides : SameSides before rest = c.in_ok-path.ensures.sides in
     let fits : Fits (image_of rest) before.width before.height =
-      subst (λ width. Fits (image_of rest) width before.height) sides.width (subst (λ height. Fits (image_of rest) rest.width height) sides.height c.start_after-start.ensures.fits) in
+    subst (λ width. Fits (image_of rest) width before.height) sides.width (subst (λ height. Fits (image_of rest) rest.width height) sides.height c.start_after-start.ensures.fits) in
     record {
       sides = record {
         width = sides.width ∙ c.paths.invariant.sides.width;
@@ -43,7 +43,7 @@ paths-preserved c =
       paths =
           rw c.in_ok-push.ensures.items
           (decomposed_push page c.args.policy (image_of page) c.paths.paths.items (image_of before) (image_of rest) c.in_ok-path.path before.width before.height
-            c.paths.invariant.paths c.in_ok-path.ensures.path c.paths.invariant.fits fits c.in_ok-path.ensures.inverted);
+          c.paths.invariant.paths c.in_ok-path.ensures.path c.paths.invariant.fits fits c.in_ok-path.ensures.inverted);
       few = omega (arith, fewer, c.in_ok-push.ensures.len, c.paths.invariant.few);
     }
 

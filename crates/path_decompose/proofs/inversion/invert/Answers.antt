@@ -1,7 +1,7 @@
 -- Each turn of the loop takes one line off those that are still to come, and the last call takes the last one.
 use Rattle.std.proofs.Common.{subst}
 use Rattle.path_decompose.specs.Inside.{lines_of, inside}
-use Rattle.path_decompose.proofs.Flips.{IsPartFlip, flip_none, flip_line, flip_more, flip_all, lines_to-drop, lines_to-end}
+use Rattle.path_decompose.proofs.Flips.{IsPartFlip, flip_none, flip_line, flip_more, lines_to-drop, lines_to-end}
 use Rattle.path_decompose.proofs.inversion.invert.Goals as goal
 
 pub corners-init : goal.corners-init

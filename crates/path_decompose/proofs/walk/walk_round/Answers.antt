@@ -1,5 +1,5 @@
 -- Each push is one more step of the walk; the first edge comes again before the page has no more edges.
-use Rattle.std.proofs.Common.{◌≡◌, ◌∙◌, ◌<◌, ◌*◌, suc, sym, arith, add-one, vec_len}
+use Rattle.std.proofs.Common.{◌∙◌, ◌<◌, ◌*◌, suc, sym, arith, add-one, vec_len}
 use Rattle.bit_image.specs.Page.{IsPage}
 use Rattle.path_decompose.proofs.Steps.{part_more, part_closed, part_short, part_small, part_area}
 use Rattle.path_decompose.proofs.Walked.{walk_lines_on}
