@@ -22,7 +22,8 @@ use std::alloc::Global;
 pub fn decompose(alloc: Global, page: &Bitmap, policy: Policy) -> Result<Vec<Path>, NoMemory>
     ensures decomposed { IfOk result (λ paths. IsDecomposition page.now policy paths.items) }
 
-    // Each path is a closed walk over the page's corners, and lies below the lowest row at no start.
+    // Each path is a closed walk over corners of the page, starts above row 0's lower sides, and has only
+    // pixels of the page inside.
     ensures closed { IfOk result (λ paths. All (λ path. IsClosedWalk path.points) paths.items) }
     ensures corners { IfOk result
         (λ paths. All (λ path. All (IsCornerOf page.now.width page.now.height) path.points) paths.items) }

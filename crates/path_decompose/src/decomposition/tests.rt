@@ -58,7 +58,7 @@ fn shown(alloc: Global, paths: &[Path]) -> Result<String, Fail> {
 
 #[test]
 fn paths_of_small_pages(rt: HostRuntime) -> Result<(), Fail> {
-    let cases: [(&[&str], Policy, &str); 9] = [
+    let cases: [(&[&str], Policy, &str); 12] = [
         (&["."], Policy::Left, ""),
         (&["#"], Policy::Left, "+ 1 0,1 0,0 1,0 1,1\n"),
         (&["##"], Policy::Minority, "+ 2 0,1 0,0 1,0 2,0 2,1 1,1\n"),
@@ -92,23 +92,27 @@ fn paths_of_small_pages(rt: HostRuntime) -> Result<(), Fail> {
             Policy::Minority,
             "+ 1 0,1 0,0 1,0 1,1\n",
         ),
+        (
+            &["#.#", ".#.", "#.#"],
+            Policy::Left,
+            "+ 1 0,3 0,2 1,2 1,3\n+ 1 2,3 2,2 3,2 3,3\n+ 1 1,2 1,1 2,1 2,2\n\
+             + 1 0,1 0,0 1,0 1,1\n+ 1 2,1 2,0 3,0 3,1\n",
+        ),
+        (
+            &["#.#", ".#.", "#.#"],
+            Policy::Right,
+            "+ 5 0,3 0,2 1,2 1,1 0,1 0,0 1,0 1,1 2,1 2,0 3,0 3,1 2,1 2,2 3,2 3,3 2,3 2,2 1,2 1,3\n",
+        ),
+        // Black has the majority around corner (2, 2) of the page, and not once the first path is gone.
+        (
+            &["#.##", ".#.#", "####"],
+            Policy::Majority,
+            "+ 1 0,3 0,2 1,2 1,3\n\
+             + 8 2,3 2,2 3,2 3,1 2,1 2,2 1,2 1,1 0,1 0,0 1,0 2,0 3,0 4,0 4,1 4,2 4,3 3,3\n",
+        ),
     ];
     for (rows, policy, want) in cases {
         let page = drawn(&rt, rt.alloc(), rows)?;
-        let paths = decompose(rt.alloc(), &page, policy)?;
-        assert_eq!(rt; shown(rt.alloc(), &paths)?.as_str(), want, "{policy:?}");
-    }
-    Ok(())
-}
-
-#[test]
-fn paths_of_the_quincunx(rt: HostRuntime) -> Result<(), Fail> {
-    let page = drawn(&rt, rt.alloc(), &["#.#", ".#.", "#.#"])?;
-    let apart = "+ 1 0,3 0,2 1,2 1,3\n+ 1 2,3 2,2 3,2 3,3\n+ 1 1,2 1,1 2,1 2,2\n\
-                 + 1 0,1 0,0 1,0 1,1\n+ 1 2,1 2,0 3,0 3,1\n";
-    let joined =
-        "+ 5 0,3 0,2 1,2 1,1 0,1 0,0 1,0 1,1 2,1 2,0 3,0 3,1 2,1 2,2 3,2 3,3 2,3 2,2 1,2 1,3\n";
-    for (policy, want) in [(Policy::Left, apart), (Policy::Right, joined)] {
         let paths = decompose(rt.alloc(), &page, policy)?;
         assert_eq!(rt; shown(rt.alloc(), &paths)?.as_str(), want, "{policy:?}");
     }
