@@ -1,5 +1,5 @@
 -- Pieces of a message, written one after another.
-use Rattle.std.proofs.Common.{◌≡◌, ◌≤◌, ◌<◌, ℕ, ◌+◌, List, [], ◌∷◌, ◌++◌, length, map, take, drop, get_or, Option, inr, refl, sym, ◌∙◌, ap, append_assoc, add-one, length-append, arith}
+use Rattle.std.proofs.Common.{◌≡◌, ◌≤◌, ◌<◌, ℕ, ◌+◌, List, [], ◌∷◌, ◌++◌, length, map, take, drop, get_or, Option, inr, sym, ◌∙◌, ap, append_assoc, add-one, length-append, arith}
 use Rattle.std.specs.List.{concat}
 use Rattle.std.proofs.Math.Seq.{take-append-add, take-suc}
 use Rattle.std.proofs.lemmas.List.Folds.{concat-append}

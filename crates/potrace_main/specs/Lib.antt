@@ -1,2 +1,7 @@
 pub mod Messages
 pub mod Asked
+pub mod PageText
+pub mod Items
+pub mod Outcome
+pub mod Progress
+pub mod Run

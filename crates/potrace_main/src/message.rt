@@ -2,7 +2,7 @@
 ghost use Rattle.std.specs.Prelude.{◌≡◌, ◌≤◌, true, map};
 ghost use Rattle.std.specs.List.{concat};
 ghost use Rattle.pt_base.specs.Documents.{IsSaid};
-ghost use Rattle.potrace_main.specs.Messages.{bad_words, not_opened, not_written, out_of_memory, page_line};
+ghost use Rattle.potrace_main.specs.Messages.{bad_words, not_opened, not_written, out_of_memory, page_line, trailing_line};
 
 use itoa::Buffer;
 use pt_base::sink::Sink;
@@ -69,6 +69,27 @@ pub fn say_of_page<E: Sink>(errs: &mut E, name: &str, page: u64, text: &str)
             page,
             b": ",
             text.as_bytes(),
+            b"\n",
+        ],
+    )
+}
+
+/// Says that bytes after so many pages of a file begin no page.
+pub fn say_trailing<E: Sink>(errs: &mut E, name: &str, pages: u64)
+    requires { E.is_ready errs.old ≡ true }
+    ensures said { IsSaid (E.documents errs.old) (E.documents errs.new) (E.faults errs.old) (E.faults errs.new) (trailing_line name.now pages) }
+    ensures never_falls { E.faults errs.old ≤ E.faults errs.new }
+    ensures stays_ready { E.is_ready errs.new ≡ true }
+{
+    let mut digits = Buffer::new();
+    let pages = digits.format(pages).as_bytes();
+    say(
+        errs,
+        &[
+            b"potrace: ",
+            name.as_bytes(),
+            b": trailing bytes after page ",
+            pages,
             b"\n",
         ],
     )

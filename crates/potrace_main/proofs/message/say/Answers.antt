@@ -1,4 +1,4 @@
-use Rattle.std.proofs.Common.{◌≡◌, List, ℕ, Bor, ◌∙◌}
+use Rattle.std.proofs.Common.{List, ℕ, Bor, ◌∙◌}
 use Rattle.potrace_main.proofs.Saying.{cut_said, piece_said}
 use Rattle.potrace_main.proofs.message.say.Goals as goal
 

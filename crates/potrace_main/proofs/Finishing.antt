@@ -1,0 +1,339 @@
+-- What the end of the pages means for the run.
+use Rattle.std.proofs.Common.{◌≡◌, ◌≤◌, ◌<◌, ◌≢◌, ◌⊎◌, ℕ, ◌+◌, Bool, false, List, [], ◌∷◌, ◌++◌, length, Option, None, Some, IfSome, inl, inr, refl, sym, ◌∙◌, ap, subst, option_map, arith}
+use Rattle.std.proofs.lemmas.List.{append-nil}
+use Rattle.std.specs.FinMap.{get}
+use Rattle.pt_base.specs.Files.{Files, Lacks, unread, unread_of, with_file}
+use Rattle.pt_base.specs.Documents.{Documents, IsCutOff, IsSaid}
+use Rattle.bitmap_input.specs.Cut.{Ending, Kind}
+use Rattle.bitmap_input.specs.Cut.Kind.{UnknownFormat, BadHeader, ZeroSide, TooLarge, Truncated, BadRaster, BmpKind, BadOffset, TooLong}
+use Rattle.bitmap_input.specs.Cut.Ending.{End, Trailing, Refused}
+use Rattle.bitmap_input.specs.Reading.{cause_of_fault}
+use Rattle.bitmap_input.specs.Reading.Cause.{Says}
+use Rattle.bitmap_input.specs.Raw.{Raw}
+use Rattle.bitmap_input.specs.Front.{front}
+use Rattle.bitmap_input.specs.Front.Answer.{Page as Gives, Ends}
+use Rattle.bitmap_input.specs.FilePages.{FilePages}
+use Rattle.bitmap_input.specs.FilePages.FilePages.{Ended, Next}
+use Rattle.bitmap_input.proofs.Files.{file_pages_some}
+use Rattle.bitmap_input.specs.declared.fault.InFault.{InFault}
+use Rattle.bitmap_input.specs.declared.fault.InFault.TheVariants as fault
+use Rattle.potrace_main.specs.Messages.{dash, not_written, out_of_memory, page_line, trailing_line}
+use Rattle.potrace_main.specs.Items.{Item, AreInputItems, AreItems, kind_text, most_pages, too_many}
+use Rattle.potrace_main.specs.Items.Item.{Doc, Note, Stop}
+use Rattle.potrace_main.specs.Outcome.{AreSaid, GoesOn, IsDone, IsOutOfMemory, IsRefused, IsUnwritten, notes, with_items}
+use Rattle.potrace_main.specs.Progress.{AreTraced, BeginsWith, EndsBy, Traces, docs, is_later}
+use Rattle.potrace_main.specs.Run.{IsOutcome, IsToldBy, IsWritten, SaysEnd, fault_text, status_of}
+use Rattle.potrace_main.specs.declared.ask.Tracing.{Tracing}
+use Rattle.potrace_main.specs.declared.pages.PagesEnd.{PagesEnd}
+use Rattle.potrace_main.specs.declared.pages.PagesEnd.TheVariants as why
+use Rattle.potrace_main.proofs.Outcomes.{IsLeft, goes_on-docs, left_at_end, left_too_many, left_with_page, none_said, notes-docs, one_said, what_is_left, with_items-docs}
+use Rattle.potrace_main.proofs.Paging.{items_of, items_too_many, pages_after, pages_are}
+
+-- the message of a fault tells the kind of the refusal
+fault_text-kind : (f : InFault) (kind : Kind) → cause_of_fault f ≡ Says (Refused kind) → fault_text f ≡ kind_text kind
+fault_text-kind fault.UnknownFormat kind e = let same : UnknownFormat ≡ kind = cc in ap kind_text same
+fault_text-kind fault.BadHeader kind e = let same : BadHeader ≡ kind = cc in ap kind_text same
+fault_text-kind fault.ZeroSide kind e = let same : ZeroSide ≡ kind = cc in ap kind_text same
+fault_text-kind fault.TooLarge kind e = let same : TooLarge ≡ kind = cc in ap kind_text same
+fault_text-kind fault.Truncated kind e = let same : Truncated ≡ kind = cc in ap kind_text same
+fault_text-kind fault.BadRaster kind e = let same : BadRaster ≡ kind = cc in ap kind_text same
+fault_text-kind fault.BmpKind kind e = let same : BmpKind ≡ kind = cc in ap kind_text same
+fault_text-kind fault.BadOffset kind e = let same : BadOffset ≡ kind = cc in ap kind_text same
+fault_text-kind fault.TooLong kind e = let same : TooLong ≡ kind = cc in ap kind_text same
+fault_text-kind fault.ReadFault kind e = cc
+fault_text-kind fault.NoMemory kind e = cc
+
+no_items-docs : (texts : List (List ℕ)) → docs texts ++ [] ≡ docs texts
+no_items-docs texts = append-nil (docs texts)
+
+-- all is done: the documents of the texts, and then these items, which add no document
+done_with : (items : List Item) (texts : List (List ℕ)) (last : List Item) (outs outs_now errs errs_now : Option Documents) (faults faults_now : ℕ)
+    → items ≡ docs texts ++ last → GoesOn last → outs_now ≡ with_items outs (docs texts)
+    → with_items outs_now last ≡ outs_now → AreSaid errs errs_now faults faults_now (notes last)
+    → IsDone items outs outs_now errs errs_now faults faults_now
+done_with items texts last outs outs_now errs errs_now faults faults_now split goes documents none said = record {
+  goes_on = subst GoesOn (sym split) (goes_on-docs texts last goes);
+  documents = sym none ∙ ap (λ o. with_items o last) documents ∙ sym (with_items-docs outs texts last) ∙ ap (with_items outs) (sym split);
+  messages = subst (AreSaid errs errs_now faults faults_now) (sym (ap notes split ∙ notes-docs texts last)) said;
+}
+
+notes-only : (texts : List (List ℕ)) → notes (docs texts) ≡ []
+notes-only texts = ap notes (sym (no_items-docs texts)) ∙ notes-docs texts []
+
+goes_on-only : (texts : List (List ℕ)) → GoesOn (docs texts)
+goes_on-only texts = subst GoesOn (no_items-docs texts) (goes_on-docs texts [] tt)
+
+refused_with : (items : List Item) (texts : List (List ℕ)) (message : List ℕ) (outs outs_now errs errs_now : Option Documents) (faults faults_now : ℕ)
+    → items ≡ docs texts ++ Stop message ∷ [] → outs_now ≡ with_items outs (docs texts) → IsSaid errs errs_now faults faults_now message
+    → IsRefused items outs outs_now errs errs_now faults faults_now
+refused_with items texts message outs outs_now errs errs_now faults faults_now split documents said = record {
+  before = docs texts;
+  message = message;
+  last = split;
+  goes_on = goes_on-only texts;
+  documents = documents;
+  messages = subst (λ ms. AreSaid errs errs_now faults faults_now (ms ++ message ∷ [])) (sym (notes-only texts)) (one_said errs errs_now faults faults_now message said);
+}
+
+out_of_memory_with : (items : List Item) (texts : List (List ℕ)) (after : List Item) (outs outs_now errs errs_now : Option Documents) (faults faults_now : ℕ)
+    → items ≡ docs texts ++ after → outs_now ≡ with_items outs (docs texts) → IsSaid errs errs_now faults faults_now out_of_memory
+    → IsOutOfMemory items outs outs_now errs errs_now faults faults_now
+out_of_memory_with items texts after outs outs_now errs errs_now faults faults_now split documents said = record {
+  before = docs texts;
+  after = after;
+  split = split;
+  goes_on = goes_on-only texts;
+  documents = documents;
+  messages = subst (λ ms. AreSaid errs errs_now faults faults_now (ms ++ out_of_memory ∷ [])) (sym (notes-only texts)) (one_said errs errs_now faults faults_now out_of_memory said);
+}
+
+unwritten_with : (items : List Item) (texts : List (List ℕ)) (text : List ℕ) (after : List Item) (outs outs_now errs errs_now : Option Documents) (faults faults_now : ℕ)
+    → items ≡ docs texts ++ Doc dash text ∷ after → IsCutOff (with_items outs (docs texts)) outs_now dash text → IsSaid errs errs_now faults faults_now (not_written dash)
+    → IsUnwritten items outs outs_now errs errs_now faults faults_now
+unwritten_with items texts text after outs outs_now errs errs_now faults faults_now split cut said = record {
+  before = docs texts;
+  name = dash;
+  text = text;
+  after = after;
+  split = split;
+  goes_on = goes_on-only texts;
+  cut_off = cut;
+  messages = subst (λ ms. AreSaid errs errs_now faults faults_now (ms ++ not_written dash ∷ [])) (sym (notes-only texts)) (one_said errs errs_now faults faults_now (not_written dash) said);
+}
+
+nothing_said : (errs errs_now : Option Documents) (faults faults_now : ℕ) → errs_now ≡ errs → faults_now ≡ faults → AreSaid errs errs_now faults faults_now []
+nothing_said errs errs_now faults faults_now e f =
+    subst (λ o. AreSaid errs o faults faults_now []) (sym e) (subst (λ n. AreSaid errs errs faults n []) (sym f) (none_said errs faults))
+
+-- how the run ended, against the items
+pub outcome_left : (tracing : Tracing) (later : Bool) (rest : List ℕ) (k : ℕ) (texts : List (List ℕ)) (items : List Item)
+    (outs outs_now errs errs_now : Option Documents) (faults faults_now : ℕ) (end : PagesEnd)
+    → IsLeft tracing later rest k texts items → EndsBy tracing later (Some rest) (with_items outs (docs texts)) outs_now end
+    → (end ≡ why.TooMany → most_pages ≤ k) → (end ≡ why.Unwritten → k < most_pages) → SaysEnd end k errs errs_now faults faults_now
+    → IsOutcome (status_of end) items outs outs_now errs errs_now faults faults_now
+outcome_left tracing later rest k texts items outs outs_now errs errs_now faults faults_now why.End left ends full not_full said = record {
+  done = λ _. done_with items texts [] outs outs_now errs errs_now faults faults_now
+      (left_at_end tracing later rest k texts items End left ends.1) tt ends.0 refl (nothing_said errs errs_now faults faults_now said.0 said.1);
+  refused = λ e. absurd (omega (arith, e));
+  unwritten = λ e. absurd (omega (arith, e));
+  out_of_memory = λ e. absurd (omega (arith, e));
+}
+outcome_left tracing later rest k texts items outs outs_now errs errs_now faults faults_now why.Trailing left ends full not_full said = record {
+  done = λ _. done_with items texts (Note (trailing_line dash k) ∷ []) outs outs_now errs errs_now faults faults_now
+      (left_at_end tracing later rest k texts items Trailing left ends.1) tt ends.0 refl (one_said errs errs_now faults faults_now (trailing_line dash k) said);
+  refused = λ e. absurd (omega (arith, e));
+  unwritten = λ e. absurd (omega (arith, e));
+  out_of_memory = λ e. absurd (omega (arith, e));
+}
+outcome_left tracing later rest k texts items outs outs_now errs errs_now faults faults_now (why.Refused f) left (documents, (kind, cause, here)) full not_full said = record {
+  done = λ e. absurd (omega (arith, e));
+  refused = λ _. refused_with items texts (page_line dash (k + 1) (kind_text kind)) outs outs_now errs errs_now faults faults_now
+      (left_at_end tracing later rest k texts items (Refused kind) left here) documents
+      (subst (λ text. IsSaid errs errs_now faults faults_now (page_line dash (k + 1) text)) (fault_text-kind f kind cause) said);
+  unwritten = λ e. absurd (omega (arith, e));
+  out_of_memory = λ e. absurd (omega (arith, e));
+}
+outcome_left tracing later rest k texts items outs outs_now errs errs_now faults faults_now why.TooMany left (documents, (raw, used, here)) full not_full said = record {
+  done = λ e. absurd (omega (arith, e));
+  refused = λ _. refused_with items texts (page_line dash (k + 1) too_many) outs outs_now errs errs_now faults faults_now
+      (left_too_many tracing later rest k texts items raw used left here (full refl)) documents said;
+  unwritten = λ e. absurd (omega (arith, e));
+  out_of_memory = λ e. absurd (omega (arith, e));
+}
+outcome_left tracing later rest k texts items outs outs_now errs errs_now faults faults_now why.Unread left ends full not_full said = record {
+  done = λ e. absurd (omega (arith, e));
+  refused = λ e. absurd (omega (arith, e));
+  unwritten = λ e. absurd (omega (arith, e));
+  out_of_memory = λ e. absurd (omega (arith, e));
+}
+outcome_left tracing later rest k texts items outs outs_now errs errs_now faults faults_now why.Unwritten left (raw, used, text, is_text, here, cut) full not_full said =
+    let (after, split) = left_with_page tracing later rest k texts items raw used text left here (not_full refl) is_text in
+    record {
+      done = λ e. absurd (omega (arith, e));
+      refused = λ e. absurd (omega (arith, e));
+      unwritten = λ _. unwritten_with items texts text after outs outs_now errs errs_now faults faults_now split cut said;
+      out_of_memory = λ e. absurd (omega (arith, e));
+    }
+outcome_left tracing later rest k texts items outs outs_now errs errs_now faults faults_now why.OutOfMemory left ends full not_full said = record {
+  done = λ e. absurd (omega (arith, e));
+  refused = λ e. absurd (omega (arith, e));
+  unwritten = λ e. absurd (omega (arith, e));
+  out_of_memory = λ _. out_of_memory_with items texts left.after outs outs_now errs errs_now faults faults_now left.split ends said;
+}
+
+-- the opened file's bytes are unread
+unread_opened : (files : Files) (bytes : List ℕ) → get files.contents dash ≡ Some bytes → unread (with_file (Some files) dash) ≡ Some bytes
+unread_opened files bytes is = ap (λ o. option_map unread_of (option_map (λ (b : List ℕ). record { name = dash; rest = b }) o)) is
+
+-- the outcome of a run that read its pages
+pub run_outcome : (one tracing : Tracing) → one ≡ tracing → (told mid : Option Files) (outs outs_now errs errs_now : Option Documents) (faults faults_now k : ℕ) (end : PagesEnd)
+    → mid ≡ with_file told dash → (Lacks told dash → ⊥) → Traces one (unread mid) outs outs_now k end → SaysEnd end k errs errs_now faults faults_now
+    → IfSome told (λ files. (items : List Item) → AreInputItems tracing files items → IsOutcome (status_of end) items outs outs_now errs errs_now faults faults_now)
+run_outcome one tracing same None mid outs outs_now errs errs_now faults faults_now k end opened there t said = tt
+run_outcome one tracing same (Some files) mid outs outs_now errs errs_now faults faults_now k end opened there traced said = by_bytes (get files.contents dash) refl where
+  t : Traces tracing (unread mid) outs outs_now k end
+  t = subst (λ x. Traces x (unread mid) outs outs_now k end) same traced
+
+  by_bytes : (o : Option (List ℕ)) → get files.contents dash ≡ o
+      → (items : List Item) → AreInputItems tracing files items → IsOutcome (status_of end) items outs outs_now errs errs_now faults faults_now
+  by_bytes None is items are = absurd (there is)
+  by_bytes (Some bytes) is items are =
+      let here : unread mid ≡ Some bytes = ap unread opened ∙ unread_opened files bytes is in
+      let (left, rest_is, begins) = subst (λ (o : Option (List ℕ)). IfSome o (λ all. (left : List ℕ) × (t.rest ≡ Some left) × BeginsWith false all t.raws left)) here t.begins in
+      outcome_left tracing (is_later false t.raws) left k t.texts items outs outs_now errs errs_now faults faults_now end
+      (what_is_left tracing files bytes k t.raws left t.texts items is begins t.traced t.count t.few are)
+      (subst (λ o. EndsBy tracing (is_later false t.raws) o (with_items outs (docs t.texts)) outs_now end) rest_is t.ends)
+      t.full t.not_full said
+
+no_end : (A : Type 0) (later : Bool) (rest : List ℕ) (ending : Ending) (raw : _) (used : ℕ) → front later rest ≡ Gives raw used → front later rest ≡ Ends ending → A
+no_end A later rest ending raw used e f = absurd (let clash : Gives raw used ≡ Ends ending = sym e ∙ f in cc)
+
+-- the items of an input of these bytes
+abbrev pub KnownItems : Tracing → List ℕ → Type 0
+KnownItems tracing bytes = (items : List Item) × (raws : List Raw) × (ending : Ending) × FilePages false bytes raws ending × AreItems tracing 0 raws ending items
+
+known_too_many : (tracing : Tracing) (bytes : List ℕ) (raws : List Raw) (texts : List (List ℕ)) (left : List ℕ) (raw : Raw) (used : ℕ)
+    → AreTraced tracing raws texts → length raws ≡ most_pages → front (is_later false raws) left ≡ Gives raw used
+    → (all more : List Raw) (ending : Ending) → FilePages false bytes all ending → all ≡ raws ++ more → FilePages (is_later false raws) left more ending
+    → KnownItems tracing bytes
+known_too_many tracing bytes raws texts left raw used traced count here all [] ending pages split (Ended f) = no_end _ (is_later false raws) left ending raw used here f
+known_too_many tracing bytes raws texts left raw used traced count here all (r ∷ more) ending pages split (Next f p) = (
+  docs texts ++ Stop (page_line dash (most_pages + 1) too_many) ∷ [],
+  raws ++ r ∷ more,
+  ending,
+  subst (λ rs. FilePages false bytes rs ending) split pages,
+  items_too_many tracing 0 raws texts r more ending traced (omega (arith, count)),
+)
+
+known_left : (tracing : Tracing) (bytes : List ℕ) (raws : List Raw) (texts : List (List ℕ)) (left : List ℕ) (k : ℕ) (outs outs_now : Option Documents) (end : PagesEnd)
+    → BeginsWith false bytes raws left → AreTraced tracing raws texts → k ≡ length raws → k ≤ most_pages
+    → EndsBy tracing (is_later false raws) (Some left) outs outs_now end → (end ≡ why.TooMany → most_pages ≤ k)
+    → (status_of end ≡ 0) ⊎ (status_of end ≡ 2) → KnownItems tracing bytes
+known_left tracing bytes raws texts left k outs outs_now why.End begins traced count few ends full status =
+    (_, raws, End, pages_are false bytes raws left End begins ends.1, items_of tracing 0 k raws texts End traced (omega (arith, count)) few)
+known_left tracing bytes raws texts left k outs outs_now why.Trailing begins traced count few ends full status =
+    (_, raws, Trailing, pages_are false bytes raws left Trailing begins ends.1, items_of tracing 0 k raws texts Trailing traced (omega (arith, count)) few)
+known_left tracing bytes raws texts left k outs outs_now (why.Refused f) begins traced count few (documents, (kind, cause, here)) full status =
+    (_, raws, Refused kind, pages_are false bytes raws left (Refused kind) begins here, items_of tracing 0 k raws texts (Refused kind) traced (omega (arith, count)) few)
+known_left tracing bytes raws texts left k outs outs_now why.TooMany begins traced count few (documents, (raw, used, here)) full status =
+    let (all, ending, pages) = file_pages_some false bytes in
+    let (more, split, behind) = pages_after false bytes raws left all ending begins pages in
+    let at_most : most_pages ≤ k = full refl in
+    known_too_many tracing bytes raws texts left raw used traced (omega (arith, count, few, at_most)) here all more ending pages split behind
+known_left tracing bytes raws texts left k outs outs_now why.Unread begins traced count few ends full status =
+    absurd (elim status [ inl e ↦ omega (arith, e) | inr e ↦ omega (arith, e) ])
+known_left tracing bytes raws texts left k outs outs_now why.Unwritten begins traced count few ends full status =
+    absurd (elim status [ inl e ↦ omega (arith, e) | inr e ↦ omega (arith, e) ])
+known_left tracing bytes raws texts left k outs outs_now why.OutOfMemory begins traced count few ends full status =
+    absurd (elim status [ inl e ↦ omega (arith, e) | inr e ↦ omega (arith, e) ])
+
+-- what there was to write is known where the run came to its end
+pub run_known : (one tracing : Tracing) → one ≡ tracing → (told mid : Option Files) (outs outs_now : Option Documents) (k : ℕ) (end : PagesEnd)
+    → mid ≡ with_file told dash → (Lacks told dash → ⊥) → Traces one (unread mid) outs outs_now k end
+    → IfSome told (λ files. (status_of end ≡ 0) ⊎ (status_of end ≡ 2) → (items : List Item) × AreInputItems tracing files items)
+run_known one tracing same None mid outs outs_now k end opened there t = tt
+run_known one tracing same (Some files) mid outs outs_now k end opened there traced = by_bytes (get files.contents dash) refl where
+  t : Traces tracing (unread mid) outs outs_now k end
+  t = subst (λ x. Traces x (unread mid) outs outs_now k end) same traced
+
+  by_bytes : (o : Option (List ℕ)) → get files.contents dash ≡ o
+      → (status_of end ≡ 0) ⊎ (status_of end ≡ 2) → (items : List Item) × AreInputItems tracing files items
+  by_bytes None is status = absurd (there is)
+  by_bytes (Some bytes) is status =
+      let here : unread mid ≡ Some bytes = ap unread opened ∙ unread_opened files bytes is in
+      let (left, rest_is, begins) = subst (λ (o : Option (List ℕ)). IfSome o (λ all. (left : List ℕ) × (t.rest ≡ Some left) × BeginsWith false all t.raws left)) here t.begins in
+      let (items, raws, ending, pages, are) = known_left tracing bytes t.raws t.texts left k (with_items outs (docs t.texts)) outs_now end begins t.traced t.count t.few
+      (subst (λ o. EndsBy tracing (is_later false t.raws) o (with_items outs (docs t.texts)) outs_now end) rest_is t.ends) t.full status in
+      (items, inr (bytes, raws, ending, is, pages, are))
+
+-- the message that belongs to the status
+pub told_by : (end : PagesEnd) (k : ℕ) (errs errs_now : Option Documents) (faults faults_now : ℕ)
+    → SaysEnd end k errs errs_now faults faults_now → IsToldBy (status_of end) errs errs_now faults faults_now
+told_by why.End k errs errs_now faults faults_now said = record {
+  done = λ _. inl said;
+  bad_words = λ e. absurd (omega (arith, e));
+  refused = λ e. absurd (omega (arith, e));
+  unread = λ e. absurd (omega (arith, e));
+  unwritten = λ e. absurd (omega (arith, e));
+  out_of_memory = λ e. absurd (omega (arith, e));
+}
+told_by why.Trailing k errs errs_now faults faults_now said = record {
+  done = λ _. inr (k, said);
+  bad_words = λ e. absurd (omega (arith, e));
+  refused = λ e. absurd (omega (arith, e));
+  unread = λ e. absurd (omega (arith, e));
+  unwritten = λ e. absurd (omega (arith, e));
+  out_of_memory = λ e. absurd (omega (arith, e));
+}
+told_by (why.Refused f) k errs errs_now faults faults_now said = record {
+  done = λ e. absurd (omega (arith, e));
+  bad_words = λ e. absurd (omega (arith, e));
+  refused = λ _. (k + 1, fault_text f, said);
+  unread = λ e. absurd (omega (arith, e));
+  unwritten = λ e. absurd (omega (arith, e));
+  out_of_memory = λ e. absurd (omega (arith, e));
+}
+told_by why.TooMany k errs errs_now faults faults_now said = record {
+  done = λ e. absurd (omega (arith, e));
+  bad_words = λ e. absurd (omega (arith, e));
+  refused = λ _. (k + 1, too_many, said);
+  unread = λ e. absurd (omega (arith, e));
+  unwritten = λ e. absurd (omega (arith, e));
+  out_of_memory = λ e. absurd (omega (arith, e));
+}
+told_by why.Unread k errs errs_now faults faults_now said = record {
+  done = λ e. absurd (omega (arith, e));
+  bad_words = λ e. absurd (omega (arith, e));
+  refused = λ e. absurd (omega (arith, e));
+  unread = λ _. inr (k + 1, said);
+  unwritten = λ e. absurd (omega (arith, e));
+  out_of_memory = λ e. absurd (omega (arith, e));
+}
+told_by why.Unwritten k errs errs_now faults faults_now said = record {
+  done = λ e. absurd (omega (arith, e));
+  bad_words = λ e. absurd (omega (arith, e));
+  refused = λ e. absurd (omega (arith, e));
+  unread = λ e. absurd (omega (arith, e));
+  unwritten = λ _. said;
+  out_of_memory = λ e. absurd (omega (arith, e));
+}
+told_by why.OutOfMemory k errs errs_now faults faults_now said = record {
+  done = λ e. absurd (omega (arith, e));
+  bad_words = λ e. absurd (omega (arith, e));
+  refused = λ e. absurd (omega (arith, e));
+  unread = λ e. absurd (omega (arith, e));
+  unwritten = λ e. absurd (omega (arith, e));
+  out_of_memory = λ _. said;
+}
+
+-- the documents are those of the pages that were traced
+pub run_written : (tracing : Tracing) (bytes : Option (List ℕ)) (outs outs_now : Option Documents) (k : ℕ) (end : PagesEnd)
+    → Traces tracing bytes outs outs_now k end → IsWritten tracing (status_of end) outs outs_now
+run_written tracing bytes outs outs_now k end t = by_end end t.ends where
+  by_end : (e : PagesEnd) → EndsBy tracing (is_later false t.raws) t.rest (with_items outs (docs t.texts)) outs_now e → IsWritten tracing (status_of e) outs outs_now
+  by_end why.End ends = record { raws = t.raws; texts = t.texts; traced = t.traced; whole = λ _. ends.0; cut_off = λ e. absurd (omega (arith, e)) }
+  by_end why.Trailing ends = record { raws = t.raws; texts = t.texts; traced = t.traced; whole = λ _. ends.0; cut_off = λ e. absurd (omega (arith, e)) }
+  by_end (why.Refused f) ends = record { raws = t.raws; texts = t.texts; traced = t.traced; whole = λ _. ends.0; cut_off = λ e. absurd (omega (arith, e)) }
+  by_end why.TooMany ends = record { raws = t.raws; texts = t.texts; traced = t.traced; whole = λ _. ends.0; cut_off = λ e. absurd (omega (arith, e)) }
+  by_end why.Unread ends = record { raws = t.raws; texts = t.texts; traced = t.traced; whole = λ _. ends; cut_off = λ e. absurd (omega (arith, e)) }
+  by_end why.OutOfMemory ends = record { raws = t.raws; texts = t.texts; traced = t.traced; whole = λ _. ends; cut_off = λ e. absurd (omega (arith, e)) }
+  by_end why.Unwritten (raw, used, text, is_text, here, cut) = record { raws = t.raws; texts = t.texts; traced = t.traced; whole = λ n. absurd (n refl); cut_off = λ _. (text, cut) }
+
+-- nothing was written
+pub none_written_at : (tracing : Tracing) (status : ℕ) (outs : Option Documents) → status ≢ 4 → IsWritten tracing status outs outs
+none_written_at tracing status outs other = record { raws = []; texts = []; traced = tt; whole = λ _. refl; cut_off = λ e. absurd (other e) }
+
+-- memory ran out before the first page
+pub out_of_memory_at_once : (items : List Item) (outs errs errs_now : Option Documents) (faults faults_now : ℕ)
+    → IsSaid errs errs_now faults faults_now out_of_memory → IsOutcome 5 items outs outs errs errs_now faults faults_now
+out_of_memory_at_once items outs errs errs_now faults faults_now said = record {
+  done = λ e. absurd (omega (arith, e));
+  refused = λ e. absurd (omega (arith, e));
+  unwritten = λ e. absurd (omega (arith, e));
+  out_of_memory = λ _. out_of_memory_with items [] items outs outs errs errs_now faults faults_now refl refl said;
+}
+
+-- what holds for all files holds where they are told
+pub IfSome-all : (A : Type 0) (o : Option A) (P : A → Type 0) → ((a : A) → P a) → IfSome o P
+IfSome-all A None P all = tt
+IfSome-all A (Some a) P all = all a

@@ -1,0 +1,24 @@
+use Rattle.std.proofs.Common.{◌≡◌, ◌≤◌, ◌-◌, false, true}
+use Rattle.pt_base.specs.Files.{unread}
+use Rattle.bitmap_input.specs.Reading.{AtEnd}
+use Rattle.potrace_main.specs.Items.{most_pages}
+use Rattle.potrace_main.specs.Progress.{IsTraced}
+use Rattle.potrace_main.proofs.pages.trace_pages.Given as goal
+
+-- the first pages are traced, and their documents written
+abbrev pub invariant-loop-pages : goal.invariant-loop-pages
+invariant-loop-pages g l =
+    let inputs = g.I.Inputs in
+    let outs = g.O.Sink in
+    record {
+      most : l.pages ≤ most_pages;
+      traced : IsTraced l.tracing (unread (inputs.files l.fn.inputs)) (outs.documents l.fn.outs) l.reader (inputs.files l.inputs) (outs.documents l.outs) l.pages;
+      at_end : l.reader.ended ≡ true → AtEnd (inputs.files l.inputs);
+      opened : inputs.is_opened l.inputs ≡ true;
+      closed : outs.is_ready l.outs ≡ false;
+      input : inputs.faults l.inputs ≡ inputs.faults l.fn.inputs;
+      output : outs.faults l.outs ≡ outs.faults l.fn.outs;
+    }
+
+abbrev pub decreases-loop-pages : goal.decreases-loop-pages
+decreases-loop-pages g l = most_pages - l.pages

@@ -1,0 +1,38 @@
+use Rattle.std.proofs.Common.{arith}
+use Rattle.pt_base.specs.Files.{Files}
+use Rattle.potrace_main.proofs.Asking.{one_asked}
+use Rattle.potrace_main.proofs.Finishing.{IfSome-all, none_written_at, out_of_memory_at_once, run_known, run_outcome, told_by}
+use Rattle.potrace_main.proofs.top.run.Goals as goal
+
+pub returns-in_default-clause-absent : goal.returns-in_default-clause-absent
+returns-in_default-clause-absent g c = λ tracing asked lacking. absurd (c.in_default.ensures.refused tracing asked)
+
+pub returns-in_default-clause-written : goal.returns-in_default-clause-written
+returns-in_default-clause-written g c = λ tracing asked. absurd (c.in_default.ensures.refused tracing asked)
+
+pub returns-in_default-new-clause-outcome : goal.returns-in_default-new-clause-outcome
+returns-in_default-new-clause-outcome g c = λ tracing asked.
+    IfSome-all Files (g.I.Inputs.files c.args.inputs.now) _ (λ files items are. out_of_memory_at_once items _ _ _ _ _ c.say_out_of_memory.ensures.said)
+
+pub returns-in_default-new-clause-written : goal.returns-in_default-new-clause-written
+returns-in_default-new-clause-written g c = λ tracing asked. none_written_at tracing 5 _ (λ e. omega (arith, e))
+
+pub returns-in-Ok-open-clause-outcome : goal.returns-in-Ok-open-clause-outcome
+returns-in-Ok-open-clause-outcome g c = λ tracing asked.
+    let same = one_asked _ c.in-Some.tracing tracing c.in-Some.ensures.asked asked in
+    rw c.finish.ensures.status
+    (run_outcome _ _ same (g.I.Inputs.files c.args.inputs.now) _ _ _ _ _ _ _ _ c.trace_pages-traced.result.end c.in-Ok-open.ensures.file
+    (λ lacking. let clash = c.in-Ok-open.ensures.absent.1 lacking in cc) c.trace_pages-traced.ensures.traced c.finish.ensures.said)
+
+pub returns-in-Ok-open-clause-known : goal.returns-in-Ok-open-clause-known
+returns-in-Ok-open-clause-known g c = λ tracing asked.
+    let same = one_asked _ c.in-Some.tracing tracing c.in-Some.ensures.asked asked in
+    rw c.finish.ensures.status
+    (run_known _ _ same (g.I.Inputs.files c.args.inputs.now) _ _ _ _ c.trace_pages-traced.result.end c.in-Ok-open.ensures.file
+    (λ lacking. let clash = c.in-Ok-open.ensures.absent.1 lacking in cc) c.trace_pages-traced.ensures.traced)
+
+pub returns-in-Ok-open-clause-said : goal.returns-in-Ok-open-clause-said
+returns-in-Ok-open-clause-said g c = rw c.finish.ensures.status (told_by c.trace_pages-traced.result.end _ _ _ _ _ c.finish.ensures.said)
+
+pub returns-clause-written : goal.returns-clause-written
+returns-clause-written g c = λ tracing asked. none_written_at tracing 3 _ (λ e. omega (arith, e))

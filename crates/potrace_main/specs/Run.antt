@@ -1,0 +1,74 @@
+-- What the top call promises, by its status.
+use Rattle.std.specs.Prelude.{◌≡◌, ◌≢◌, ℕ, ◌+◌, ◌⊎◌, List, Option, codes}
+use Rattle.pt_base.specs.Documents.{Documents, IsCutOff, IsSaid}
+use Rattle.bitmap_input.specs.Raw.{Raw}
+use Rattle.bitmap_input.specs.declared.fault.InFault.{InFault}
+use Rattle.bitmap_input.specs.declared.fault.InFault.TheVariants as fault
+use Rattle.potrace_main.specs.Messages.{dash, bad_words, not_opened, not_written, out_of_memory, page_line, trailing_line, read_fault}
+use Rattle.potrace_main.specs.Items.{Item, too_many}
+use Rattle.potrace_main.specs.Outcome.{IsDone, IsRefused, IsUnwritten, IsOutOfMemory, with_items}
+use Rattle.potrace_main.specs.Progress.{AreTraced, docs}
+use Rattle.potrace_main.specs.declared.ask.Tracing.{Tracing}
+use Rattle.potrace_main.specs.declared.pages.PagesEnd.{PagesEnd}
+use Rattle.potrace_main.specs.declared.pages.PagesEnd.TheVariants as why
+
+-- what was written and said, against the items that there were to write
+pub record IsOutcome (status : ℕ) (items : List Item) (outs outs_now errs errs_now : Option Documents) (faults faults_now : ℕ) : Type 0 where
+  pub done : status ≡ 0 → IsDone items outs outs_now errs errs_now faults faults_now
+  pub refused : status ≡ 2 → IsRefused items outs outs_now errs errs_now faults faults_now
+  pub unwritten : status ≡ 4 → IsUnwritten items outs outs_now errs errs_now faults faults_now
+  pub out_of_memory : status ≡ 5 → IsOutOfMemory items outs outs_now errs errs_now faults faults_now
+
+-- the documents are the texts of some pages, in order; at status 4 one more is cut off
+pub record IsWritten (tracing : Tracing) (status : ℕ) (outs outs_now : Option Documents) : Type 0 where
+  pub raws : List Raw
+  pub texts : List (List ℕ)
+  pub traced : AreTraced tracing raws texts
+  pub whole : status ≢ 4 → outs_now ≡ with_items outs (docs texts)
+  pub cut_off : status ≡ 4 → (text : List ℕ) × IsCutOff (with_items outs (docs texts)) outs_now dash text
+
+-- the message that belongs to the status; at status 0 none, or a note of trailing bytes
+pub record IsToldBy (status : ℕ) (errs errs_now : Option Documents) (faults faults_now : ℕ) : Type 0 where
+  pub done : status ≡ 0 → ((errs_now ≡ errs) × (faults_now ≡ faults))
+      ⊎ ((pages : ℕ) × IsSaid errs errs_now faults faults_now (trailing_line dash pages))
+  pub bad_words : status ≡ 1 → IsSaid errs errs_now faults faults_now bad_words
+  pub refused : status ≡ 2 → (page : ℕ) × (text : List ℕ) × IsSaid errs errs_now faults faults_now (page_line dash page text)
+  pub unread : status ≡ 3 → IsSaid errs errs_now faults faults_now (not_opened dash)
+      ⊎ ((page : ℕ) × IsSaid errs errs_now faults faults_now (page_line dash page read_fault))
+  pub unwritten : status ≡ 4 → IsSaid errs errs_now faults faults_now (not_written dash)
+  pub out_of_memory : status ≡ 5 → IsSaid errs errs_now faults faults_now out_of_memory
+
+-- the status with which the run ends
+abbrev pub status_of : PagesEnd → ℕ
+status_of why.End = 0
+status_of why.Trailing = 0
+status_of (why.Refused fault) = 2
+status_of why.TooMany = 2
+status_of why.Unread = 3
+status_of why.Unwritten = 4
+status_of why.OutOfMemory = 5
+
+-- why a page can't be read, as the message tells it
+abbrev pub fault_text : InFault → List ℕ
+fault_text fault.UnknownFormat = codes "unknown format"
+fault_text fault.BadHeader = codes "bad header"
+fault_text fault.ZeroSide = codes "zero side"
+fault_text fault.TooLarge = codes "side too large"
+fault_text fault.Truncated = codes "truncated"
+fault_text fault.BadRaster = codes "bad raster"
+fault_text fault.BmpKind = codes "unsupported BMP kind"
+fault_text fault.BadOffset = codes "bad BMP offset"
+fault_text fault.TooLong = codes "gap too long"
+fault_text fault.ReadFault = codes "read fault"
+fault_text fault.NoMemory = codes "out of memory"
+
+-- what is said where the run ends so after k pages
+abbrev pub SaysEnd : PagesEnd → ℕ → Option Documents → Option Documents → ℕ → ℕ → Type 0
+SaysEnd why.End k errs errs_now faults faults_now = (errs_now ≡ errs) × (faults_now ≡ faults)
+SaysEnd why.Trailing k errs errs_now faults faults_now = IsSaid errs errs_now faults faults_now (trailing_line dash k)
+SaysEnd (why.Refused fault) k errs errs_now faults faults_now =
+    IsSaid errs errs_now faults faults_now (page_line dash (k + 1) (fault_text fault))
+SaysEnd why.TooMany k errs errs_now faults faults_now = IsSaid errs errs_now faults faults_now (page_line dash (k + 1) too_many)
+SaysEnd why.Unread k errs errs_now faults faults_now = IsSaid errs errs_now faults faults_now (page_line dash (k + 1) read_fault)
+SaysEnd why.Unwritten k errs errs_now faults faults_now = IsSaid errs errs_now faults faults_now (not_written dash)
+SaysEnd why.OutOfMemory k errs errs_now faults faults_now = IsSaid errs errs_now faults faults_now out_of_memory

@@ -1,0 +1,200 @@
+//! The pages of standard input, traced one after another.
+ghost use Rattle.std.specs.Prelude.{◌≡◌, ◌≢◌, ◌+◌, ◌<◌, ◌≤◌, true, false, List, ℕ, Option, IfOk, IfErr, OnOk};
+ghost use Rattle.pt_base.specs.Documents.{Documents, with_whole};
+ghost use Rattle.pt_base.specs.Files.{unread};
+ghost use Rattle.bitmap_input.specs.Reading.{AtEnd};
+ghost use Rattle.bitmap_input.specs.Reader.{at_start, is_later as reader_is_later};
+ghost use Rattle.potrace_main.specs.Messages.{dash};
+ghost use Rattle.potrace_main.specs.PageText.{IsPageText};
+ghost use Rattle.potrace_main.specs.Progress.{EndsBy, EndsReading, EndsWriting, InputCount, OutputCount, ReadsPage, Traces, TracesPage, ahead, end_of_fault};
+ghost use Rattle.potrace_main.specs.declared.ask.Tracing.{Tracing};
+
+use crate::ask::Tracing;
+use crate::document::write_document;
+use bit_image::bitmap::Bitmap;
+use bitmap_input::fault::InFault;
+use bitmap_input::next::Next;
+use bitmap_input::reader::PageReader;
+use path_decompose::decomposition::decompose;
+use path_decompose::speckle::keep;
+use pt_base::fault::NoMemory;
+use pt_base::inputs::Inputs;
+use pt_base::list_text::points;
+use pt_base::sink::Outputs;
+use std::alloc::Global;
+
+/// How many pages a run accepts.
+pub const MOST_PAGES: u32 = 65536;
+
+/// Why no further page was traced.
+#[derive(Clone, Copy, Debug, PartialEq, Eq)]
+pub enum PagesEnd {
+    /// The input ends where a page may end.
+    End,
+    /// Bytes that begin no page follow.
+    Trailing,
+    /// The page is refused.
+    Refused(InFault),
+    /// The page is one more than a run accepts.
+    TooMany,
+    /// A read failed.
+    Unread,
+    /// The page's document couldn't be written.
+    Unwritten,
+    /// Memory ran out.
+    OutOfMemory,
+}
+
+/// How many pages were traced, and why no further one was.
+#[derive(Clone, Copy, Debug)]
+pub struct Traced {
+    pub pages: u32,
+    pub end: PagesEnd,
+}
+
+/// Traces the pages of the opened input, and writes a document for each.
+pub fn trace_pages<I: Inputs, O: Outputs>(
+    alloc: Global,
+    tracing: Tracing,
+    reader: &mut PageReader,
+    inputs: &mut I,
+    outs: &mut O,
+) -> Traced
+    requires opened { I.is_opened inputs.old ≡ true }
+    requires fresh { reader.old ≡ at_start }
+    requires closed { O.is_ready outs.old ≡ false }
+    ensures traced { Traces tracing (unread (I.files inputs.old)) (O.documents outs.old) (O.documents outs.new) result.pages result.end }
+    ensures few { result.pages ≤ MOST_PAGES }
+    ensures input { InputCount result.end (I.faults inputs.old) (I.faults inputs.new) }
+    ensures output { OutputCount result.end (O.faults outs.old) (O.faults outs.new) (O.is_ready outs.new) }
+    ensures inputs_never_fall { I.faults inputs.old ≤ I.faults inputs.new }
+    ensures outputs_never_fall { O.faults outs.old ≤ O.faults outs.new }
+{
+    let mut pages = 0;
+    while pages < MOST_PAGES {
+        match trace_next(alloc, tracing, reader, inputs, outs) {
+            Ok(()) => pages += 1,
+            Err(end) => return Traced { pages, end },
+        }
+    }
+    let end = end_after_most(alloc, reader, inputs);
+    Traced { pages, end }
+}
+
+/// Traces the next page, and writes its document.
+fn trace_next<I: Inputs, O: Outputs>(
+    alloc: Global,
+    tracing: Tracing,
+    reader: &mut PageReader,
+    inputs: &mut I,
+    outs: &mut O,
+) -> Result<(), PagesEnd>
+    requires opened { I.is_opened inputs.old ≡ true }
+    requires room { reader.old.pages < 4294967295 }
+    requires at_end { reader.old.ended ≡ true → AtEnd (I.files inputs.old) }
+    requires going_on { reader.old.over ≡ false }
+    requires closed { O.is_ready outs.old ≡ false }
+    ensures traced { OnOk result (TracesPage tracing reader.old (I.files inputs.old) (O.documents outs.old) reader.new (I.files inputs.new) (O.documents outs.new)) }
+    ensures ends { IfErr result (EndsBy tracing (reader_is_later reader.old) (ahead reader.old (I.files inputs.old)) (O.documents outs.old) (O.documents outs.new)) }
+    ensures not_full { IfErr result (λ end. end ≢ PagesEnd.TooMany) }
+    ensures steady_input { OnOk result (I.faults inputs.new ≡ I.faults inputs.old) }
+    ensures steady_output { OnOk result ((O.faults outs.new ≡ O.faults outs.old) × (O.is_ready outs.new ≡ false)) }
+    ensures input { IfErr result (λ end. InputCount end (I.faults inputs.old) (I.faults inputs.new)) }
+    ensures output { IfErr result (λ end. OutputCount end (O.faults outs.old) (O.faults outs.new) (O.is_ready outs.new)) }
+    ensures inputs_never_fall { I.faults inputs.old ≤ I.faults inputs.new }
+    ensures outputs_never_fall { O.faults outs.old ≤ O.faults outs.new }
+    ensures still_at_end { reader.new.ended ≡ true → AtEnd (I.files inputs.new) }
+    ensures stays_opened { I.is_opened inputs.new ≡ true }
+{
+    match read_next(alloc, reader, inputs) {
+        Ok(page) => write_page(alloc, tracing, &page, outs),
+        Err(end) => Err(end),
+    }
+}
+
+/// Reads the next page.
+fn read_next<I: Inputs>(
+    alloc: Global,
+    reader: &mut PageReader,
+    inputs: &mut I,
+) -> Result<Bitmap, PagesEnd>
+    requires opened { I.is_opened inputs.old ≡ true }
+    requires room { reader.old.pages < 4294967295 }
+    requires at_end { reader.old.ended ≡ true → AtEnd (I.files inputs.old) }
+    requires going_on { reader.old.over ≡ false }
+    ensures reads { IfOk result (λ page. ReadsPage reader.old (I.files inputs.old) page reader.new (I.files inputs.new)) }
+    ensures ends { IfErr result (EndsReading (reader_is_later reader.old) (ahead reader.old (I.files inputs.old))) }
+    ensures steady { OnOk result (I.faults inputs.new ≡ I.faults inputs.old) }
+    ensures input { IfErr result (λ end. InputCount end (I.faults inputs.old) (I.faults inputs.new)) }
+    ensures never_falls { I.faults inputs.old ≤ I.faults inputs.new }
+    ensures still_at_end { reader.new.ended ≡ true → AtEnd (I.files inputs.new) }
+    ensures stays_opened { I.is_opened inputs.new ≡ true }
+{
+    match reader.next(alloc, inputs) {
+        Ok(Next::Page(page)) => Ok(page),
+        Ok(Next::End) => Err(PagesEnd::End),
+        Ok(Next::Trailing) => Err(PagesEnd::Trailing),
+        Ok(Next::Over) => unreachable!(),
+        Err(fault) => Err(end_of(fault)),
+    }
+}
+
+/// Why no further page is traced, where the reader tells of a fault.
+fn end_of(fault: InFault) -> PagesEnd
+    ensures { result ≡ end_of_fault fault }
+{
+    match fault {
+        InFault::ReadFault => PagesEnd::Unread,
+        InFault::NoMemory => PagesEnd::OutOfMemory,
+        _ => PagesEnd::Refused(fault),
+    }
+}
+
+/// Writes the document of a page. All memory is taken before the document begins.
+fn write_page<O: Outputs>(
+    alloc: Global,
+    tracing: Tracing,
+    page: &Bitmap,
+    outs: &mut O,
+) -> Result<(), PagesEnd>
+    requires { O.is_ready outs.old ≡ false }
+    ensures written { OnOk result ((text : List ℕ) × IsPageText tracing page.now text × (O.documents outs.new ≡ with_whole (O.documents outs.old) dash text)) }
+    ensures ends { IfErr result (EndsWriting tracing page.now (O.documents outs.old) (O.documents outs.new)) }
+    ensures steady { OnOk result ((O.faults outs.new ≡ O.faults outs.old) × (O.is_ready outs.new ≡ false)) }
+    ensures output { IfErr result (λ end. OutputCount end (O.faults outs.old) (O.faults outs.new) (O.is_ready outs.new)) }
+    ensures never_falls { O.faults outs.old ≤ O.faults outs.new }
+{
+    match page_text(alloc, tracing, page) {
+        Ok(text) => match write_document(outs, "-", &text) {
+            Ok(()) => Ok(()),
+            Err(_) => Err(PagesEnd::Unwritten),
+        },
+        Err(_) => Err(PagesEnd::OutOfMemory),
+    }
+}
+
+/// The text of a page's document.
+fn page_text(alloc: Global, tracing: Tracing, page: &Bitmap) -> Result<Vec<u8>, NoMemory>
+    ensures { IfOk result (λ text. IsPageText tracing page.now text.items) }
+{
+    let paths = decompose(alloc, page, tracing.policy)?;
+    let paths = keep(paths, tracing.speckle);
+    points(alloc, page.width(), page.height(), &paths)
+}
+
+/// What follows the last page that a run accepts.
+fn end_after_most<I: Inputs>(alloc: Global, reader: &mut PageReader, inputs: &mut I) -> PagesEnd
+    requires opened { I.is_opened inputs.old ≡ true }
+    requires room { reader.old.pages < 4294967295 }
+    requires at_end { reader.old.ended ≡ true → AtEnd (I.files inputs.old) }
+    requires going_on { reader.old.over ≡ false }
+    ensures ends { (tracing : Tracing) (outs : Option Documents) → EndsBy tracing (reader_is_later reader.old) (ahead reader.old (I.files inputs.old)) outs outs result }
+    ensures input { InputCount result (I.faults inputs.old) (I.faults inputs.new) }
+    ensures never_falls { I.faults inputs.old ≤ I.faults inputs.new }
+    ensures nothing_unwritten { result ≢ PagesEnd.Unwritten }
+{
+    match read_next(alloc, reader, inputs) {
+        Ok(_page) => PagesEnd::TooMany,
+        Err(end) => end,
+    }
+}

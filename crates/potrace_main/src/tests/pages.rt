@@ -1,0 +1,156 @@
+//! Worked pages, and what is refused.
+
+use crate::tests::files::{Case, expect};
+use std::test::Fail;
+
+const PIXEL: &str = "points 1 1 1\n+ 1 0,1 0,0 1,0 1,1\n";
+
+const LEFT: &str = "-b points -z left -t 0";
+
+#[test]
+fn worked_pages(rt: HostRuntime) -> Result<(), Fail> {
+    let squares = "points 2 2 2\n+ 1 0,2 0,1 1,1 1,2\n+ 1 1,1 1,0 2,0 2,1\n";
+    let joined = "points 2 2 1\n+ 2 0,2 0,1 1,1 1,0 2,0 2,1 1,1 1,2\n";
+    let ring =
+        "points 3 3 2\n+ 9 0,3 0,2 0,1 0,0 1,0 2,0 3,0 3,1 3,2 3,3 2,3 1,3\n- 1 1,2 1,1 2,1 2,2\n";
+    let five =
+        "points 3 3 5\n+ 1 0,3 0,2 1,2 1,3\n+ 1 2,3 2,2 3,2 3,3\n+ 1 1,2 1,1 2,1 2,2\n+ 1 0,1 0,0 1,0 1,1\n+ 1 2,1 2,0 3,0 3,1\n";
+    let one =
+        "points 3 3 1\n+ 5 0,3 0,2 1,2 1,1 0,1 0,0 1,0 1,1 2,1 2,0 3,0 3,1 2,1 2,2 3,2 3,3 2,3 2,2 1,2 1,3\n";
+    let cases: [(&str, &[u8], &str); 15] = [
+        (LEFT, b"P1 1 1 1\n", PIXEL),
+        (LEFT, b"P1 1 1 0", "points 1 1 0\n"),
+        ("-b points -z left -t 2", b"P1 1 1 1\n", "points 1 1 0\n"),
+        ("-b points -z left -t 2", b"P1 2 1 11", "points 2 1 0\n"),
+        (
+            "-b points -z left -t 1",
+            b"P1 2 1 11",
+            "points 2 1 1\n+ 2 0,1 0,0 1,0 2,0 2,1 1,1\n",
+        ),
+        (LEFT, b"P1 2 2 10 01\n", squares),
+        ("-b points -z majority -t 0", b"P1 2 2 10 01\n", squares),
+        ("-b points -z right -t 0", b"P1 2 2 10 01\n", joined),
+        ("-b points -z minority -t 0", b"P1 2 2 10 01\n", joined),
+        (
+            "-b points -z black -t 007",
+            b"P1 2 2 10 01\n",
+            "points 2 2 0\n",
+        ),
+        (LEFT, b"P1 3 3 111 101 111\n", ring),
+        (
+            LEFT,
+            b"P4\n9 2\n\x00\x7f\x80\x7f",
+            "points 9 2 1\n+ 1 0,1 0,0 1,0 1,1\n",
+        ),
+        (
+            LEFT,
+            b"P1 # c\n2 #d\n1\n1#x\n0",
+            "points 2 1 1\n+ 1 0,1 0,0 1,0 1,1\n",
+        ),
+        (LEFT, b"P1 3 3 101 010 101\n", five),
+        ("-b points -z right -t 0", b"P1 3 3 101 010 101\n", one),
+    ];
+    for (words, input, text) in cases {
+        let done = Case::new(words, input).run(&rt, rt.alloc())?;
+        expect(&rt, &done, 0, &[text], "");
+    }
+    Ok(())
+}
+
+#[test]
+fn refusals(rt: HostRuntime) -> Result<(), Fail> {
+    let cases: [(&[u8], &str); 8] = [
+        (b"", "unknown format"),
+        (b"P6 1 1 255\n", "unknown format"),
+        (b"P4 16385 1\n", "side too large"),
+        (b"P4 0 99999\n", "zero side"),
+        (b"P1 2 1 12", "bad raster"),
+        (b"P1 1 1 x", "bad raster"),
+        (b"P1 2 1 1", "truncated"),
+        (b"P1 1 x 1", "bad header"),
+    ];
+    for (input, text) in cases {
+        let message = format!(in rt.alloc(); "potrace: -: page 1: {text}\n")?;
+        let done = Case::new(LEFT, input).run(&rt, rt.alloc())?;
+        expect(&rt, &done, 2, &[], message.as_str());
+    }
+    Ok(())
+}
+
+#[test]
+fn gaps_have_a_limit(rt: HostRuntime) -> Result<(), Fail> {
+    for (spaces, status, documents, message) in [
+        (1_048_576, 0, [PIXEL].as_slice(), ""),
+        (
+            1_048_577,
+            2,
+            [].as_slice(),
+            "potrace: -: page 1: gap too long\n",
+        ),
+    ] {
+        let mut input = Vec::from_slice(rt.alloc(), b"P1")?;
+        input.resize(2 + spaces, b' ')?;
+        input.extend_from_slice(b"1 1 1")?;
+        let done = Case::new(LEFT, &input).run(&rt, rt.alloc())?;
+        expect(&rt, &done, status, documents, message);
+    }
+    Ok(())
+}
+
+#[test]
+fn several_pages(rt: HostRuntime) -> Result<(), Fail> {
+    let done = Case::new(LEFT, b"P4 1 1\n\x80P4 1 1\n\x80xyz").run(&rt, rt.alloc())?;
+    expect(
+        &rt,
+        &done,
+        0,
+        &[PIXEL, PIXEL],
+        "potrace: -: trailing bytes after page 2\n",
+    );
+    let wide = "points 2 1 1\n+ 2 0,1 0,0 1,0 2,0 2,1 1,1\n";
+    let done = Case::new(LEFT, b"P1 1 1 1 P1 2 1 11 P1 1 1 0\n").run(&rt, rt.alloc())?;
+    expect(&rt, &done, 0, &[PIXEL, wide, "points 1 1 0\n"], "");
+    let done = Case::new(LEFT, b"P4 1 1\n\x80P4 8 2\n\xff").run(&rt, rt.alloc())?;
+    expect(&rt, &done, 2, &[PIXEL], "potrace: -: page 2: truncated\n");
+    Ok(())
+}
+
+#[test]
+fn pages_have_a_limit(rt: HostRuntime) -> Result<(), Fail> {
+    let mut input = Vec::new(rt.alloc());
+    for _ in 0..65_537 {
+        input.extend_from_slice(b"P1 1 1 1\n")?;
+    }
+    let done = Case::new("-b points -z left -t 2", &input).run(&rt, rt.alloc())?;
+    assert_eq!(rt; done.status, 2);
+    assert_eq!(rt; done.outs.count(), 65_536);
+    assert_eq!(rt;
+        done.errs.text(),
+        b"potrace: -: page 65537: too many pages\n".as_slice()
+    );
+    Ok(())
+}
+
+#[test]
+fn other_words(rt: HostRuntime) -> Result<(), Fail> {
+    for words in [
+        "-b points -z left",
+        "-b points -z left -t 0 x",
+        "-z left -b points -t 0",
+        "-b svg -z left -t 0",
+        "-b points -z random -t 0",
+        "-b points -z left -t 1000000001",
+        "-b points -z left -t -1",
+        "",
+    ] {
+        let done = Case::new(words, b"P1 1 1 1").run(&rt, rt.alloc())?;
+        expect(
+            &rt,
+            &done,
+            1,
+            &[],
+            "potrace: bad arguments, see potrace -h\n",
+        );
+    }
+    Ok(())
+}
