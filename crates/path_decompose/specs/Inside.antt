@@ -30,6 +30,7 @@ abbrev pub is_crossed : ℕ → ℕ → Line → Bool
 is_crossed x y (upright u v) = is_from u v x y
 is_crossed x y (level u v) = false
 
+-- the number is odd
 abbrev pub is_odd : ℕ → Bool
 is_odd n = nat_eq (n % 2) 1
 
