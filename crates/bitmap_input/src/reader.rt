@@ -87,7 +87,10 @@ impl PageReader {
         self.pages
     }
 
-    /// Reads the next page of the opened file.
+    /// Reads the next page of the opened file, at most 65,536 bytes ahead of what it uses.
+    ///
+    /// A page that can't be read is refused by its first offending place. After the end of the
+    /// file, trailing bytes or any fault the answer is `Over` until `start`.
     pub fn next<I: Inputs>(&mut self, alloc: Global, inputs: &mut I) -> Result<Next, InFault>
         requires opened { I.is_opened inputs.old ≡ true }
         requires room { self.old.pages < 4294967295 }
