@@ -2,6 +2,7 @@
 use Rattle.std.proofs.Common.{◌≡◌, ◌≤◌, ◌<◌, ◌≢◌, ◌⊎◌, ℕ, ◌+◌, Bool, false, List, [], ◌∷◌, ◌++◌, length, Option, None, Some, IfSome, inl, inr, refl, sym, ◌∙◌, ap, subst, option_map, arith}
 use Rattle.std.proofs.lemmas.List.{append-nil}
 use Rattle.std.specs.FinMap.{get}
+use Rattle.pt_base.specs.Counts.{Rose}
 use Rattle.pt_base.specs.Files.{Files, Lacks, unread, unread_of, with_file}
 use Rattle.pt_base.specs.Documents.{Documents, IsCutOff, IsSaid}
 use Rattle.bitmap_input.specs.Cut.{Ending, Kind}
@@ -19,10 +20,10 @@ use Rattle.bitmap_input.specs.declared.fault.InFault.{InFault}
 use Rattle.bitmap_input.specs.declared.fault.InFault.TheVariants as fault
 use Rattle.potrace_main.specs.Messages.{dash, not_written, out_of_memory, page_line, trailing_line}
 use Rattle.potrace_main.specs.Items.{Item, AreInputItems, AreItems, kind_text, most_pages, too_many}
-use Rattle.potrace_main.specs.Items.Item.{Doc, Note, Stop}
+use Rattle.potrace_main.specs.Items.Item.{Doc, Missing, Note, Stop}
 use Rattle.potrace_main.specs.Outcome.{AreSaid, GoesOn, IsDone, IsOutOfMemory, IsRefused, IsUnwritten, notes, with_items}
-use Rattle.potrace_main.specs.Progress.{AreTraced, BeginsWith, EndsBy, Traces, docs, is_later}
-use Rattle.potrace_main.specs.Run.{IsOutcome, IsToldBy, IsWritten, SaysEnd, fault_text, status_of}
+use Rattle.potrace_main.specs.Progress.{InputCount, OutputCount, AreTraced, BeginsWith, EndsBy, Traces, docs, is_later}
+use Rattle.potrace_main.specs.Run.{EndsRefused, IsComplete, IsOutcome, IsToldBy, IsWritten, SaysEnd, fault_text, status_of}
 use Rattle.potrace_main.specs.declared.ask.Tracing.{Tracing}
 use Rattle.potrace_main.specs.declared.pages.PagesEnd.{PagesEnd}
 use Rattle.potrace_main.specs.declared.pages.PagesEnd.TheVariants as why
@@ -337,3 +338,68 @@ out_of_memory_at_once items outs errs errs_now faults faults_now said = record {
 pub IfSome-all : (A : Type 0) (o : Option A) (P : A → Type 0) → ((a : A) → P a) → IfSome o P
 IfSome-all A None P all = tt
 IfSome-all A (Some a) P all = all a
+
+-- a run doesn't go on after a refusal
+no_stop : (before : List Item) (message : List ℕ) → GoesOn (before ++ Stop message ∷ []) → ⊥
+no_stop [] message h = h
+no_stop (Doc name text ∷ before) message h = no_stop before message h
+no_stop (Note note ∷ before) message h = no_stop before message h
+no_stop (Stop other ∷ before) message h = h
+no_stop (Missing name ∷ before) message h = h
+
+-- what is missing is no refusal
+not_missing : (name : List ℕ) (before : List Item) (message : List ℕ) → Missing name ∷ [] ≡ before ++ Stop message ∷ [] → ⊥
+not_missing name [] message e = cc
+not_missing name (item ∷ []) message e = cc
+not_missing name (item ∷ other ∷ before) message e = cc
+
+never_refused : (items : List Item) → GoesOn items → EndsRefused items → ⊥
+never_refused items goes (before, message, is) = no_stop before message (subst GoesOn is goes)
+
+-- the status where no device failed
+pub complete_at : (end : PagesEnd) (items : List Item) (outs outs_now errs errs_now : Option Documents) (faults faults_now : ℕ)
+    (read read_now written written_now : ℕ) (ready : Bool)
+    → IsOutcome (status_of end) items outs outs_now errs errs_now faults faults_now
+    → InputCount end read read_now → OutputCount end written written_now ready
+    → (Rose read read_now → ⊥) → (Rose written written_now → ⊥) → IsComplete (status_of end) items
+complete_at why.End items outs outs_now errs errs_now faults faults_now read read_now written written_now ready o i w no_read no_write =
+    record { all = λ _. inl refl; refusal = λ r. absurd (never_refused items (o.done refl).goes_on r) }
+complete_at why.Trailing items outs outs_now errs errs_now faults faults_now read read_now written written_now ready o i w no_read no_write =
+    record { all = λ _. inl refl; refusal = λ r. absurd (never_refused items (o.done refl).goes_on r) }
+complete_at (why.Refused f) items outs outs_now errs errs_now faults faults_now read read_now written written_now ready o i w no_read no_write =
+    let r = o.refused refl in
+    record { all = λ goes. absurd (never_refused items goes (r.before, r.message, r.last)); refusal = λ _. inl refl }
+complete_at why.TooMany items outs outs_now errs errs_now faults faults_now read read_now written written_now ready o i w no_read no_write =
+    let r = o.refused refl in
+    record { all = λ goes. absurd (never_refused items goes (r.before, r.message, r.last)); refusal = λ _. inl refl }
+complete_at why.Unread items outs outs_now errs errs_now faults faults_now read read_now written written_now ready o i w no_read no_write = absurd (no_read i)
+complete_at why.Unwritten items outs outs_now errs errs_now faults faults_now read read_now written written_now ready o i w no_read no_write = absurd (no_write w)
+complete_at why.OutOfMemory items outs outs_now errs errs_now faults faults_now read read_now written written_now ready o i w no_read no_write =
+    record { all = λ _. inr refl; refusal = λ _. inr refl }
+
+-- the same where the files are told
+pub run_complete : (tracing : Tracing) (told : Option Files) (end : PagesEnd) (outs outs_now errs errs_now : Option Documents) (faults faults_now : ℕ)
+    (read mid read_now written written_now : ℕ) (ready : Bool)
+    → IfSome told (λ files. (items : List Item) → AreInputItems tracing files items
+    → IsOutcome (status_of end) items outs outs_now errs errs_now faults faults_now)
+    → mid ≡ read → InputCount end mid read_now → OutputCount end written written_now ready
+    → IfSome told (λ files. (items : List Item) → AreInputItems tracing files items
+    → (Rose read read_now → ⊥) → (Rose written written_now → ⊥) → IsComplete (status_of end) items)
+run_complete tracing None end outs outs_now errs errs_now faults faults_now read mid read_now written written_now ready o same i w = tt
+run_complete tracing (Some files) end outs outs_now errs errs_now faults faults_now read mid read_now written written_now ready o same i w =
+    λ items are no_read no_write. complete_at end items outs outs_now errs errs_now faults faults_now read read_now written written_now ready
+    (o items are) (subst (λ n. InputCount end n read_now) same i) w no_read no_write
+
+-- an input that can't be opened is missing, or a device failed
+pub complete_unopened : (tracing : Tracing) (told : Option Files) (read read_now written written_now : ℕ) → Rose read read_now ⊎ Lacks told dash
+    → IfSome told (λ files. (items : List Item) → AreInputItems tracing files items
+    → (Rose read read_now → ⊥) → (Rose written written_now → ⊥) → IsComplete 3 items)
+complete_unopened tracing None read read_now written written_now cause = tt
+complete_unopened tracing (Some files) read read_now written written_now (inl rose) = λ items are no_read no_write. absurd (no_read rose)
+complete_unopened tracing (Some files) read read_now written written_now (inr lacking) = by_items where
+  by_items : (items : List Item) → AreInputItems tracing files items → (Rose read read_now → ⊥) → (Rose written written_now → ⊥) → IsComplete 3 items
+  by_items items (inl (none, e)) no_read no_write = record {
+    all = λ goes. absurd (subst GoesOn e goes);
+    refusal = λ r. absurd (not_missing dash r.0 r.1 (sym e ∙ r.2));
+  }
+  by_items items (inr (bytes, raws, ending, is, pages, are)) no_read no_write = absurd (let clash : Some bytes ≡ None = sym is ∙ lacking in cc)

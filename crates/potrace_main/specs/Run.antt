@@ -1,12 +1,13 @@
 -- What the top call promises, by its status.
-use Rattle.std.specs.Prelude.{◌≡◌, ◌≢◌, ℕ, ◌+◌, ◌⊎◌, List, Option, codes}
+use Rattle.std.specs.Prelude.{◌≡◌, ◌≢◌, ℕ, ◌+◌, ◌⊎◌, List, [], ◌∷◌, ◌++◌, Option, codes}
 use Rattle.pt_base.specs.Documents.{Documents, IsCutOff, IsSaid}
 use Rattle.bitmap_input.specs.Raw.{Raw}
 use Rattle.bitmap_input.specs.declared.fault.InFault.{InFault}
 use Rattle.bitmap_input.specs.declared.fault.InFault.TheVariants as fault
 use Rattle.potrace_main.specs.Messages.{dash, bad_words, not_opened, not_written, out_of_memory, page_line, trailing_line, read_fault}
 use Rattle.potrace_main.specs.Items.{Item, too_many}
-use Rattle.potrace_main.specs.Outcome.{IsDone, IsRefused, IsUnwritten, IsOutOfMemory, with_items}
+use Rattle.potrace_main.specs.Items.Item.{Stop}
+use Rattle.potrace_main.specs.Outcome.{GoesOn, IsDone, IsRefused, IsUnwritten, IsOutOfMemory, with_items}
 use Rattle.potrace_main.specs.Progress.{AreTraced, docs}
 use Rattle.potrace_main.specs.declared.ask.Tracing.{Tracing}
 use Rattle.potrace_main.specs.declared.pages.PagesEnd.{PagesEnd}
@@ -18,6 +19,15 @@ pub record IsOutcome (status : ℕ) (items : List Item) (outs outs_now errs errs
   pub refused : status ≡ 2 → IsRefused items outs outs_now errs errs_now faults faults_now
   pub unwritten : status ≡ 4 → IsUnwritten items outs outs_now errs errs_now faults faults_now
   pub out_of_memory : status ≡ 5 → IsOutOfMemory items outs outs_now errs errs_now faults faults_now
+
+-- the last of the items is a refusal
+abbrev pub EndsRefused : List Item → Type 0
+EndsRefused items = (before : List Item) × (message : List ℕ) × (items ≡ before ++ Stop message ∷ [])
+
+-- what the status is where no device failed: all is done, or the run ends with the refusal, unless memory ran out
+pub record IsComplete (status : ℕ) (items : List Item) : Type 0 where
+  pub all : GoesOn items → (status ≡ 0) ⊎ (status ≡ 5)
+  pub refusal : EndsRefused items → (status ≡ 2) ⊎ (status ≡ 5)
 
 -- the documents are the texts of some pages, in order; at status 4 one more is cut off
 pub record IsWritten (tracing : Tracing) (status : ℕ) (outs outs_now : Option Documents) : Type 0 where

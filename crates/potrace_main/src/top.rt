@@ -5,7 +5,7 @@ ghost use Rattle.pt_base.specs.Files.{Lacks};
 ghost use Rattle.potrace_main.specs.Asked.{IsAsked};
 ghost use Rattle.potrace_main.specs.Items.{Item, AreInputItems};
 ghost use Rattle.potrace_main.specs.Messages.{dash};
-ghost use Rattle.potrace_main.specs.Run.{IsOutcome, IsToldBy, IsWritten, SaysEnd, fault_text, status_of};
+ghost use Rattle.potrace_main.specs.Run.{IsComplete, IsOutcome, IsToldBy, IsWritten, SaysEnd, fault_text, status_of};
 ghost use Rattle.potrace_main.specs.declared.ask.Tracing.{Tracing};
 
 use crate::ask::ask;
@@ -45,6 +45,13 @@ pub fn run<R: Threads + Sync, I: Inputs, O: Outputs, E: Sink, G: Gate + Sync>(
         → IsOutcome result items (O.documents outs.old) (O.documents outs.new) (E.documents errs.old) (E.documents errs.new) (E.faults errs.old) (E.faults errs.new)) }
     ensures known { (tracing : Tracing) → IsAsked (map string_bytes words.now) tracing
         → IfSome (I.files inputs.old) (λ files. (result ≡ 0) ⊎ (result ≡ 2) → (items : List Item) × AreInputItems tracing files items) }
+
+    // Where no device failed, all is done, or the run ends with the refusal, want of memory aside.
+    ensures complete { (tracing : Tracing) → IsAsked (map string_bytes words.now) tracing
+        → IfSome (I.files inputs.old) (λ files. (items : List Item) → AreInputItems tracing files items
+        → (Rose (I.faults inputs.old) (I.faults inputs.new) → ⊥)
+        → (Rose (O.faults outs.old) (O.faults outs.new) → ⊥)
+        → IsComplete result items) }
 
     // Each fault has its cause.
     ensures unread { result ≡ 3 → Rose (I.faults inputs.old) (I.faults inputs.new) ⊎ Lacks (I.files inputs.old) dash }

@@ -1,7 +1,11 @@
-use Rattle.std.proofs.Common.{arith}
-use Rattle.pt_base.specs.Files.{Files}
+use Rattle.std.proofs.Common.{◌≡◌, ◌⊎◌, Err, ap, inl, inr, refl, sym, arith}
+use Rattle.pt_base.specs.Counts.{Rose}
+use Rattle.pt_base.specs.Files.{Files, Lacks}
+use Rattle.pt_base.specs.declared.fault.OpenFault.{OpenFault}
+use Rattle.pt_base.specs.declared.fault.OpenFault.TheVariants as opening
+use Rattle.potrace_main.specs.Messages.{dash}
 use Rattle.potrace_main.proofs.Asking.{one_asked}
-use Rattle.potrace_main.proofs.Finishing.{IfSome-all, none_written_at, out_of_memory_at_once, run_known, run_outcome, told_by}
+use Rattle.potrace_main.proofs.Finishing.{IfSome-all, complete_unopened, none_written_at, out_of_memory_at_once, run_complete, run_known, run_outcome, told_by}
 use Rattle.potrace_main.proofs.top.run.Goals as goal
 
 pub returns-in_default-clause-absent : goal.returns-in_default-clause-absent
@@ -36,3 +40,22 @@ returns-in-Ok-open-clause-said g c = rw c.finish.ensures.status (told_by c.trace
 
 pub returns-clause-written : goal.returns-clause-written
 returns-clause-written g c = λ tracing asked. none_written_at tracing 3 _ (λ e. omega (arith, e))
+
+pub returns-in_default-clause-complete : goal.returns-in_default-clause-complete
+returns-in_default-clause-complete g c = λ tracing asked. absurd (c.in_default.ensures.refused tracing asked)
+
+pub returns-in-Ok-open-clause-complete : goal.returns-in-Ok-open-clause-complete
+returns-in-Ok-open-clause-complete g c = λ tracing asked.
+    let same = one_asked _ c.in-Some.tracing tracing c.in-Some.ensures.asked asked in
+    let outcome = run_outcome _ _ same (g.I.Inputs.files c.args.inputs.now) _ _ _ _ _ _ _ _ c.trace_pages-traced.result.end c.in-Ok-open.ensures.file
+    (λ lacking. let clash = c.in-Ok-open.ensures.absent.1 lacking in cc) c.trace_pages-traced.ensures.traced c.finish.ensures.said in
+    rw c.finish.ensures.status
+    (run_complete tracing (g.I.Inputs.files c.args.inputs.now) c.trace_pages-traced.result.end _ _ _ _ _ _ _ _ _ _ _ _ outcome
+    c.in-Ok-open.ensures.steady c.trace_pages-traced.ensures.input c.trace_pages-traced.ensures.output)
+
+pub returns-clause-complete : goal.returns-clause-complete
+returns-clause-complete g c = λ tracing asked.
+    complete_unopened tracing (g.I.Inputs.files c.args.inputs.now) _ _ _ _ (by_fault c.in-Err.field-0 refl) where
+      by_fault : (f : OpenFault) → f ≡ c.in-Err.field-0 → Rose (g.I.Inputs.faults c.args.inputs.now) (g.I.Inputs.faults c.open.new.self) ⊎ Lacks (g.I.Inputs.files c.args.inputs.now) dash
+      by_fault opening.Absent e = inr (c.in-Err.ensures.absent.0 (ap Err (sym e)))
+      by_fault opening.Device e = inl (c.in-Err.ensures.cause (ap Err (sym e)))
