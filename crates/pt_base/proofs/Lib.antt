@@ -1,4 +1,5 @@
 pub mod Finding
 pub mod Places
+pub mod Roots
 pub mod Shelving
 pub mod Writing

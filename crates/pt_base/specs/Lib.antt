@@ -8,3 +8,4 @@ pub mod MemOutputs
 pub mod MemInputs
 pub mod PointsText
 pub mod Whole
+pub mod Root

@@ -15,6 +15,7 @@ pub mod mem_sink;
 pub mod path;
 pub mod point;
 pub mod policy;
+pub mod root;
 mod shelf;
 pub mod sink;
 #[cfg(test)]
