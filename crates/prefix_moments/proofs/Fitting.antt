@@ -1,0 +1,129 @@
+-- Numbers that fit their types.
+use Rattle.std.proofs.Common.{◌≡◌, ℕ, ◌*◌, ◌<◌, ◌≤◌, ◌^◌, ℤ, pos, ◌+ℤ◌, ◌-ℤ◌, ◌*ℤ◌, ◌≤ℤ◌, w32, w64, to_z, of_z, refl, sym, ap, ◌∙◌, arith}
+use Rattle.std.proofs.lemmas.Int.{ints, unsigned_abs-mul, to_z-of_z, fits_signed_from_abs}
+use Rattle.std.specs.Prelude.{unsigned_abs}
+use Rattle.std.specs.Int.RustNames.{FitsSigned}
+use mir.Syntax.{w128}
+use Rattle.prefix_moments.specs.declared.TheConstants.{LONGEST_SIDE}
+use Rattle.std.proofs.lemmas.Nat.{mul-le}
+
+-- the size of a product
+pub product_most : (a b : ℤ) (m n : ℕ) → unsigned_abs a ≤ m → unsigned_abs b ≤ n → unsigned_abs (a *ℤ b) ≤ m * n
+product_most a b m n h k = omega (arith, unsigned_abs-mul a b, mul-le (unsigned_abs a) (unsigned_abs b) m n h k)
+
+-- a number of 64 bits comes back from its bits
+pub back : (a : ℤ) → unsigned_abs a < 2 ^ 63 → to_z w64 (of_z w64 a) ≡ a
+back a h = to_z-of_z w64 a (fits_signed_from_abs w64 a h)
+
+-- the value of a sum
+pub sum_back : (a b s : ℤ) → unsigned_abs a < 2 ^ 62 → unsigned_abs b < 2 ^ 62 → b ≡ s
+    → to_z w64 (of_z w64 (to_z w64 (of_z w64 a) +ℤ to_z w64 (of_z w64 b))) ≡ a +ℤ s
+sum_back a b s h k e =
+    rw (back a (omega arith), back b (omega arith), back (a +ℤ b) (omega (arith, ints))) (ap (λ n. a +ℤ n) e)
+
+-- the value of a difference
+pub difference_back : (a b s : ℤ) → unsigned_abs a < 2 ^ 62 → unsigned_abs b < 2 ^ 62 → b ≡ s
+    → to_z w64 (of_z w64 (to_z w64 (of_z w64 a) -ℤ to_z w64 (of_z w64 b))) ≡ a -ℤ s
+difference_back a b s h k e =
+    rw (back a (omega arith), back b (omega arith), back (a -ℤ b) (omega (arith, ints))) (ap (λ n. a -ℤ n) e)
+
+-- so it is where one more number is taken away
+pub differences_back : (a b c s t : ℤ) → unsigned_abs a < 2 ^ 61 → unsigned_abs b < 2 ^ 61 → unsigned_abs c < 2 ^ 61 → b ≡ s → c ≡ t
+    → to_z w64 (of_z w64 (to_z w64 (of_z w64 (to_z w64 (of_z w64 a) -ℤ to_z w64 (of_z w64 b))) -ℤ to_z w64 (of_z w64 c))) ≡ (a -ℤ s) -ℤ t
+differences_back a b c s t h k l e f =
+    rw (
+      difference_back a b s (omega arith) (omega arith) e,
+      back c (omega arith),
+      back ((a -ℤ s) -ℤ c) (let same : unsigned_abs b ≡ unsigned_abs s = ap unsigned_abs e in omega (arith, ints)),
+    )
+    (ap (λ n. (a -ℤ s) -ℤ n) f)
+
+pub differences_fit : (a b c : ℤ) → unsigned_abs a < 2 ^ 61 → unsigned_abs b < 2 ^ 61 → unsigned_abs c < 2 ^ 61
+    → FitsSigned w64 (to_z w64 (of_z w64 (to_z w64 (of_z w64 a) -ℤ to_z w64 (of_z w64 b))) -ℤ to_z w64 (of_z w64 c))
+differences_fit a b c h k l =
+    rw (difference_back a b b (omega arith) (omega arith) refl, back c (omega arith))
+    (fits_signed_from_abs w64 ((a -ℤ b) -ℤ c) (omega (arith, ints)))
+
+-- a number of 128 bits comes back from its bits
+pub long_back : (a : ℤ) → unsigned_abs a < 2 ^ 127 → to_z w128 (of_z w128 a) ≡ a
+long_back a h = to_z-of_z w128 a (fits_signed_from_abs w128 a h)
+
+twice_most : (b : ℤ) (n : ℕ) → unsigned_abs b ≤ n → unsigned_abs (pos 2 *ℤ b) ≤ 2 * n
+twice_most b n h = product_most (pos 2) b 2 n (omega arith) h
+
+-- the value of what `spread` works out
+pub spread_back : (a b c : ℤ) → unsigned_abs a ≤ 2 ^ 107 → unsigned_abs b ≤ 2 ^ 107 → unsigned_abs c ≤ 2 ^ 107
+    → to_z w128 (of_z w128 (to_z w128 (of_z w128 (to_z w128 (of_z w128 a) -ℤ to_z w128 (of_z w128 (pos 2 *ℤ to_z w128 (of_z w128 b))))) +ℤ to_z w128 (of_z w128 c)))
+    ≡ (a -ℤ pos 2 *ℤ b) +ℤ c
+spread_back a b c h k l =
+    let twice : unsigned_abs (pos 2 *ℤ b) ≤ 2 * 2 ^ 107 = twice_most b (2 ^ 107) k in
+    rw (
+      long_back a (omega arith),
+      long_back b (omega arith),
+      long_back c (omega arith),
+      long_back (pos 2 *ℤ b) (omega arith),
+      long_back (a -ℤ pos 2 *ℤ b) (omega (arith, ints)),
+      long_back ((a -ℤ pos 2 *ℤ b) +ℤ c) (omega (arith, ints)),
+    )
+    refl
+
+-- what a call that was passed two numbers of 64 bits says of their product
+pub product_value : (r a b a' b' : ℤ) → to_z w64 (of_z w64 a) ≡ a' → to_z w64 (of_z w64 b) ≡ b' → r ≡ to_z w64 (of_z w64 a) *ℤ to_z w64 (of_z w64 b) → r ≡ a' *ℤ b'
+product_value r a b a' b' e f g = cc
+
+pub spread_fits_at_first : (a b : ℤ) → unsigned_abs a ≤ 2 ^ 107 → unsigned_abs b ≤ 2 ^ 107
+    → FitsSigned w128 (to_z w128 (of_z w128 a) -ℤ to_z w128 (of_z w128 (pos 2 *ℤ to_z w128 (of_z w128 b))))
+spread_fits_at_first a b h k =
+    let twice : unsigned_abs (pos 2 *ℤ b) ≤ 2 * 2 ^ 107 = twice_most b (2 ^ 107) k in
+    rw (long_back a (omega arith), long_back b (omega arith), long_back (pos 2 *ℤ b) (omega arith))
+    (fits_signed_from_abs w128 (a -ℤ pos 2 *ℤ b) (omega (arith, ints)))
+
+pub spread_fits : (a b c : ℤ) → unsigned_abs a ≤ 2 ^ 107 → unsigned_abs b ≤ 2 ^ 107 → unsigned_abs c ≤ 2 ^ 107
+    → FitsSigned w128 (to_z w128 (of_z w128 (to_z w128 (of_z w128 a) -ℤ to_z w128 (of_z w128 (pos 2 *ℤ to_z w128 (of_z w128 b))))) +ℤ to_z w128 (of_z w128 c))
+spread_fits a b c h k l =
+    let twice : unsigned_abs (pos 2 *ℤ b) ≤ 2 * 2 ^ 107 = twice_most b (2 ^ 107) k in
+    rw (
+      long_back a (omega arith),
+      long_back b (omega arith),
+      long_back c (omega arith),
+      long_back (pos 2 *ℤ b) (omega arith),
+      long_back (a -ℤ pos 2 *ℤ b) (omega (arith, ints)),
+    )
+    (fits_signed_from_abs w128 ((a -ℤ pos 2 *ℤ b) +ℤ c) (omega (arith, ints)))
+
+pub spread_value : (a b c q m p qq pq pp xx xy yy : ℤ) → unsigned_abs a ≤ 2 ^ 107 → unsigned_abs b ≤ 2 ^ 107 → unsigned_abs c ≤ 2 ^ 107
+    → a ≡ q *ℤ xx → b ≡ m *ℤ xy → c ≡ p *ℤ yy → q ≡ qq → m ≡ pq → p ≡ pp
+    → to_z w128 (of_z w128 (to_z w128 (of_z w128 (to_z w128 (of_z w128 a) -ℤ to_z w128 (of_z w128 (pos 2 *ℤ to_z w128 (of_z w128 b))))) +ℤ to_z w128 (of_z w128 c)))
+    ≡ (qq *ℤ xx -ℤ pos 2 *ℤ (pq *ℤ xy)) +ℤ pp *ℤ yy
+spread_value a b c q m p qq pq pp xx xy yy h k l ea eb ec eq em ep =
+    rw (spread_back a b c h k l, ea, eb, ec, eq, em, ep) refl
+
+pub spread_most : (a b c : ℤ) → unsigned_abs a ≤ 2 ^ 107 → unsigned_abs b ≤ 2 ^ 107 → unsigned_abs c ≤ 2 ^ 107
+    → unsigned_abs (to_z w128 (of_z w128 (to_z w128 (of_z w128 (to_z w128 (of_z w128 a) -ℤ to_z w128 (of_z w128 (pos 2 *ℤ to_z w128 (of_z w128 b))))) +ℤ to_z w128 (of_z w128 c))))
+    < 2 ^ 110
+spread_most a b c h k l =
+    let twice : unsigned_abs (pos 2 *ℤ b) ≤ 2 * 2 ^ 107 = twice_most b (2 ^ 107) k in
+    rw (spread_back a b c h k l) (omega (arith, ints))
+
+-- what a call of `moved` gives
+pub moved_value : (r s f : ℤ) (n : ℕ) → unsigned_abs r ≤ 2 ^ 30 → unsigned_abs s ≤ 2 ^ 29 → unsigned_abs f ≤ 2 ^ 14
+    → r ≡ to_z w64 (of_z w64 s) -ℤ pos n *ℤ to_z w64 (of_z w64 f) → to_z w64 (of_z w64 r) ≡ s -ℤ pos n *ℤ f
+moved_value r s f n hr hs hf e =
+    rw (back r (omega arith)) (rw (back s (omega arith), back f (omega arith)) at e)
+
+-- what a call of `moved_products` gives
+pub moved_products_value : (r p a o b f g : ℤ) → unsigned_abs p ≤ 2 ^ 43 → unsigned_abs a ≤ 2 ^ 14 → unsigned_abs o ≤ 2 ^ 29 → unsigned_abs b ≤ 2 ^ 14
+    → unsigned_abs f ≤ 2 ^ 30 → to_z w64 (of_z w64 f) ≡ g
+    → r ≡ (to_z w64 (of_z w64 p) -ℤ to_z w64 (of_z w64 a) *ℤ to_z w64 (of_z w64 o)) -ℤ to_z w64 (of_z w64 b) *ℤ to_z w64 (of_z w64 f)
+    → to_z w64 (of_z w64 r) ≡ (p -ℤ a *ℤ o) -ℤ b *ℤ g
+moved_products_value r p a o b f g hp ha ho hb hf eg e =
+    let ao = product_most a o (2 ^ 14) (2 ^ 29) ha ho in
+    let bf = product_most b f (2 ^ 14) (2 ^ 30) hb hf in
+    let is_f : f ≡ g = sym (back f (omega arith)) ∙ eg in
+    let is_r : r ≡ (p -ℤ a *ℤ o) -ℤ b *ℤ f =
+    e ∙ rw (back p (omega arith), back a (omega arith), back o (omega arith), back b (omega arith), back f (omega arith)) refl in
+    rw (back r (omega (arith, ints))) (is_r ∙ ap (λ v. (p -ℤ a *ℤ o) -ℤ b *ℤ v) is_f)
+
+-- a coordinate in 64 bits
+pub coordinate_is : (z r : ℤ) → pos 0 ≤ℤ z → z ≤ℤ pos LONGEST_SIDE → r ≡ to_z w32 (of_z w32 z) → to_z w64 (of_z w64 r) ≡ z
+coordinate_is z r low high e = omega (arith, ints)

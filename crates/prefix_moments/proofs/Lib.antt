@@ -1,0 +1,6 @@
+pub mod Fitting
+pub mod Integers
+pub mod Rows
+pub mod Summing
+pub mod Terms
+pub mod Totals

@@ -1,0 +1,50 @@
+-- The total under a penalty.
+use Rattle.std.proofs.Common.{◌≡◌, ℕ, ◌*◌, ◌/◌, ◌<◌, ◌≤◌, ◌^◌, ℤ, pos, ◌-ℤ◌, ◌≤ℤ◌, List, w32, w64, to_z, of_z, sym, ap, ◌∙◌, subst, arith}
+use Rattle.std.proofs.lemmas.Int.{ints, to_z-of_z}
+use Rattle.std.specs.Prelude.{unsigned_abs}
+use Rattle.std.specs.Int.RustNames.{FitsSigned}
+use mir.Syntax.{w128}
+use Rattle.pt_base.specs.declared.point.Point.{Point}
+use Rattle.pt_base.specs.ClosedWalk.{point_at}
+use Rattle.pt_base.specs.Root.{IsRoot}
+use Rattle.prefix_moments.specs.declared.TheConstants.{LONGEST_SIDE}
+use Rattle.prefix_moments.specs.declared.sums.Sums.{Sums}
+use Rattle.prefix_moments.specs.Sums.{IsOnPage, sums_of, spread_of, right_of, above_of, IsPenalty}
+use Rattle.prefix_moments.specs.Table.{spread_by}
+use Rattle.prefix_moments.proofs.Fitting.{back, long_back}
+use Rattle.prefix_moments.proofs.Rows.{total_is, spread_at_least}
+
+between_is : (r a b : ℤ) → pos 0 ≤ℤ a → a ≤ℤ pos LONGEST_SIDE → pos 0 ≤ℤ b → b ≤ℤ pos LONGEST_SIDE
+    → r ≡ to_z w32 (of_z w32 b) -ℤ to_z w32 (of_z w32 a) → r ≡ b -ℤ a
+between_is r a b al ah bl bh e = omega (arith, ints)
+
+-- what a call of `spread` on a segment's sums gives
+pub total_from : (points : List Point) (i j : ℕ) (s : Sums) (first last : Point) (right above t : ℤ)
+    → IsOnPage first → IsOnPage last → first ≡ point_at points i → last ≡ point_at points j → s ≡ sums_of points i j
+    → FitsSigned w64 s.xx → FitsSigned w64 s.xy → FitsSigned w64 s.yy → unsigned_abs right ≤ 2 ^ 14 → unsigned_abs above ≤ 2 ^ 14
+    → right ≡ to_z w32 (of_z w32 last.x) -ℤ to_z w32 (of_z w32 first.x) → above ≡ to_z w32 (of_z w32 last.y) -ℤ to_z w32 (of_z w32 first.y)
+    → t ≡ spread_by (to_z w64 (of_z w64 s.xx)) (to_z w64 (of_z w64 s.xy)) (to_z w64 (of_z w64 s.yy)) (to_z w64 (of_z w64 right)) (to_z w64 (of_z w64 above))
+    → t ≡ spread_of points i j
+total_from points i j s first last right above t pf pl ef el es fxx fxy fyy hr ha er ea et =
+    let r : right ≡ right_of points i j =
+    between_is right first.x last.x pf.left pf.right pl.left pl.right er
+    ∙ ap (λ v. v.x -ℤ first.x) el ∙ ap (λ v. (point_at points j).x -ℤ v.x) ef in
+    let a : above ≡ above_of points i j =
+    between_is above first.y last.y pf.bottom pf.top pl.bottom pl.top ea
+    ∙ ap (λ v. v.y -ℤ first.y) el ∙ ap (λ v. (point_at points j).y -ℤ v.y) ef in
+    total_is points i j s right above t es r a
+    (rw (to_z-of_z w64 s.xx fxx, to_z-of_z w64 s.xy fxy, to_z-of_z w64 s.yy fyy, back right (omega arith), back above (omega arith)) at et)
+
+-- the total isn't below zero
+pub total_at_least : (points : List Point) (i j : ℕ) (t : ℤ) → t ≡ spread_of points i j → pos 0 ≤ℤ t
+total_at_least points i j t e =
+    let P : ℤ → Type 0 = λ v. pos 0 ≤ℤ v in
+    subst P (sym e) (spread_at_least points i j)
+
+-- the root of the mean of the total
+pub penalty_is : (points : List Point) (i j : ℕ) (s : Sums) (t : ℤ) (r : ℕ) → s ≡ sums_of points i j → t ≡ spread_of points i j → unsigned_abs t < 2 ^ 110
+    → IsRoot (65536 * unsigned_abs (to_z w128 (of_z w128 t)) / s.count) r → IsPenalty points i j r
+penalty_is points i j s t r es et most root =
+    let P : ℤ → Type 0 = λ v. IsRoot (65536 * unsigned_abs v / s.count) r in
+    let Q : Sums → Type 0 = λ v. IsRoot (65536 * unsigned_abs (spread_of points i j) / v.count) r in
+    subst Q es (subst P (long_back t (omega arith) ∙ et) root)

@@ -1,0 +1,61 @@
+-- Sums over the points of a segment, and the segment's penalty (Selinger, "Potrace", 2003, sections
+-- 2.2.1 and 2.2.3). The points are numbered round the path: after the last one comes the first again.
+use Rattle.std.specs.Prelude.{ℕ, zero, suc, ◌+◌, ◌-◌, ◌*◌, ◌/◌, ℤ, pos, ◌+ℤ◌, ◌-ℤ◌, ◌*ℤ◌, ◌≤ℤ◌, unsigned_abs, List}
+use Rattle.pt_base.specs.declared.point.Point.{Point}
+use Rattle.pt_base.specs.ClosedWalk.{point_at}
+use Rattle.pt_base.specs.Root.{IsRoot}
+use Rattle.prefix_moments.specs.declared.TheConstants.{LONGEST_SIDE}
+use Rattle.prefix_moments.specs.declared.sums.Sums.{Sums}
+
+-- both coordinates are 0 to `LONGEST_SIDE`
+pub record IsOnPage (p : Point) : Type 0 where
+  pub left : pos 0 ≤ℤ p.x
+  pub right : p.x ≤ℤ pos LONGEST_SIDE
+  pub bottom : pos 0 ≤ℤ p.y
+  pub top : p.y ≤ℤ pos LONGEST_SIDE
+
+-- so are those of each point
+abbrev pub AreOnPage : List Point → Type 0
+AreOnPage points = (k : ℕ) → IsOnPage (point_at points k)
+
+-- f(0) + f(1) + .., which are `count` numbers
+abbrev pub sum_of : (ℕ → ℤ) → ℕ → ℤ
+sum_of f zero = pos 0
+sum_of f (suc count) = sum_of f count +ℤ f count
+
+-- the sum of f(k) for all k from i to j
+abbrev pub sum_over : ℕ → ℕ → (ℕ → ℤ) → ℤ
+sum_over i j f = sum_of (λ d. f (i + d)) (j - i + 1)
+
+-- how many columns point number k lies to the right of point number i
+abbrev pub right_of : List Point → ℕ → ℕ → ℤ
+right_of points i k = (point_at points k).x -ℤ (point_at points i).x
+
+-- how many rows point number k lies above point number i
+abbrev pub above_of : List Point → ℕ → ℕ → ℤ
+above_of points i k = (point_at points k).y -ℤ (point_at points i).y
+
+-- the number of points from number i to number j, and the sums of their offsets from number i, of
+-- the offsets' squares and of their products
+abbrev pub sums_of : List Point → ℕ → ℕ → Sums
+sums_of points i j = record {
+  count = j - i + 1;
+  x = sum_over i j (λ k. right_of points i k);
+  y = sum_over i j (λ k. above_of points i k);
+  xx = sum_over i j (λ k. right_of points i k *ℤ right_of points i k);
+  xy = sum_over i j (λ k. right_of points i k *ℤ above_of points i k);
+  yy = sum_over i j (λ k. above_of points i k *ℤ above_of points i k);
+}
+
+-- the cross product of the offsets of points number k and j from point number i: the distance of
+-- point number k from the line through the other two, times the length between these
+abbrev pub cross_of : List Point → ℕ → ℕ → ℕ → ℤ
+cross_of points i j k = right_of points i k *ℤ above_of points i j -ℤ above_of points i k *ℤ right_of points i j
+
+-- the sum of the squared cross products of the points from number i to number j
+abbrev pub spread_of : List Point → ℕ → ℕ → ℤ
+spread_of points i j = sum_over i j (λ k. cross_of points i j k *ℤ cross_of points i j k)
+
+-- the penalty is the root of the mean squared cross product, in units of 1/256, rounded down
+abbrev pub IsPenalty : List Point → ℕ → ℕ → ℕ → Type 0
+IsPenalty points i j penalty = IsRoot (65536 * unsigned_abs (spread_of points i j) / (j - i + 1)) penalty

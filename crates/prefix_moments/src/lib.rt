@@ -1,0 +1,15 @@
+//! Sums over the points of a segment of a path, and the segment's penalty, in constant time.
+//!
+//! A path is a closed walk, and its points are numbered round it: after the last one comes
+//! the first again. A segment from point number i to point number j runs along the path.
+#![tactic(auto)]
+
+pub mod moments;
+mod raw;
+pub mod sums;
+
+/// The longest side of a page in pixels: no coordinate of a path is greater.
+pub const LONGEST_SIDE: u32 = 16384;
+
+/// The longest segment, in steps of one pixel.
+pub const MOST_STEPS: u32 = 32767;

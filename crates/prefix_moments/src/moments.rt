@@ -1,0 +1,174 @@
+//! The table of a path's sums.
+ghost use Rattle.std.specs.Prelude.{◌≡◌, ℕ, pos, unsigned_abs, ◌-ℤ◌, ◌≤ℤ◌, ◌+◌, ◌-◌, ◌*◌, ◌/◌, ◌<◌, ◌≤◌, ◌^◌, List, length, IfOk};
+ghost use Rattle.pt_base.specs.ClosedWalk.{IsClosedWalk, point_at};
+ghost use Rattle.pt_base.specs.Root.{IsRoot};
+ghost use Rattle.prefix_moments.specs.Sums.{AreOnPage, IsOnPage, sums_of, IsPenalty};
+ghost use Rattle.prefix_moments.specs.Table.{raw_of, IsRawOf, IsTable, offsets_of};
+
+use crate::raw::{Raw, moved, moved_products, spread};
+use crate::sums::Sums;
+use crate::{LONGEST_SIDE, MOST_STEPS};
+use pt_base::fault::NoMemory;
+use pt_base::point::Point;
+use pt_base::root::isqrt;
+use std::alloc::Global;
+use std::marker::Model;
+
+/// A path's sums, for any segment of at most one lap. Contracts see the path's points.
+#[derive(Debug, Drop)]
+pub struct Moments {
+    points: Vec<Point>,
+    /// For two laps: the sums over the points before each one.
+    rows: Vec<Raw>,
+}
+
+impl Model for Moments {
+    ghost use Rattle.std.specs.Prelude.{List};
+    ghost use Rattle.pt_base.specs.declared.point.Point.{Point};
+    ghost use Rattle.prefix_moments.specs.Table.{IsTable};
+
+    ghost Value = { List Point };
+
+    ghost view = { λ moments. moments.points.items };
+
+    ghost invariant = { λ moments. IsTable moments.points.items moments.rows.items };
+}
+
+impl Moments {
+    /// Sums up a closed walk on a page.
+    pub fn of(alloc: Global, points: &[Point]) -> Result<Moments, NoMemory>
+        requires closed { IsClosedWalk points.now }
+        requires on_page { AreOnPage points.now }
+        ensures { IfOk result (λ moments. moments ≡ points.now) }
+    {
+        let rows = table(alloc, points)?;
+        let mut copy = Vec::new(alloc);
+        copy.extend_from_slice(points)?;
+        Ok(Moments { points: copy, rows })
+    }
+
+    /// The sums over the points from number `i` to number `j`.
+    pub fn sums(&self, i: u32, j: u32) -> Sums
+        requires start { i < length self.now }
+        requires onwards { i < j }
+        requires steps { j - i ≤ MOST_STEPS }
+        requires lap { j - i ≤ length self.now }
+        ensures { result ≡ sums_of self.now i j }
+    {
+        let first = self.place(i);
+        let raw = self.segment(i, j);
+        offsets(raw, j - i + 1, i64::from(first.x), i64::from(first.y))
+    }
+
+    /// Point number `k`, in the first lap or in the second.
+    fn place(&self, k: u32) -> Point
+        requires { k < 2 * length self.now }
+        ensures value { result ≡ point_at self.now k }
+        ensures on_page { IsOnPage result }
+    {
+        numbered(self.points.as_slice(), k as usize)
+    }
+
+    /// The coordinates' own sums over the points from number `i` to number `j`.
+    fn segment(&self, i: u32, j: u32) -> Raw
+        requires start { i < length self.now }
+        requires onwards { i < j }
+        requires steps { j - i ≤ MOST_STEPS }
+        requires lap { j - i ≤ length self.now }
+        ensures value { result ≡ raw_of (λ d. point_at self.now (i + d)) (j - i + 1) }
+        ensures most { IsRawOf (2 ^ 15) result }
+    {
+        self.rows[j as usize + 1].minus(self.rows[i as usize])
+    }
+
+    /// The penalty of the straight segment from point number `i` to number `j` in place of the
+    /// path's run between them, in units of 1/256.
+    pub fn penalty(&self, i: u32, j: u32) -> u64
+        requires start { i < length self.now }
+        requires onwards { i < j }
+        requires steps { j - i ≤ MOST_STEPS }
+        requires lap { j - i ≤ length self.now }
+        ensures { IsPenalty self.now i j result }
+    {
+        let sums = self.sums(i, j);
+        let first = self.place(i);
+        let last = self.place(j);
+        let right = between(first.x, last.x);
+        let above = between(first.y, last.y);
+        let total = spread(sums.xx, sums.xy, sums.yy, right, above);
+        root_of_mean(total as u128, sums.count)
+    }
+}
+
+/// The rows of two laps.
+fn table(alloc: Global, points: &[Point]) -> Result<Vec<Raw>, NoMemory>
+    requires closed { IsClosedWalk points.now }
+    requires on_page { AreOnPage points.now }
+    ensures { IfOk result (λ rows. IsTable points.now rows.items) }
+{
+    let mut rows = Vec::new(alloc);
+    let mut sums = Raw::none();
+    for k in 0..2 * points.len() {
+        rows.push(sums)?;
+        sums = sums.with(numbered(points, k));
+    }
+    rows.push(sums)?;
+    Ok(rows)
+}
+
+/// Point number `k`, in the first lap or in the second.
+fn numbered(points: &[Point], k: usize) -> Point
+    requires { k < 2 * length points.now }
+    ensures { result ≡ point_at points.now k }
+{
+    if k < points.len() {
+        points[k]
+    } else {
+        points[k - points.len()]
+    }
+}
+
+/// How far one coordinate lies from another.
+fn between(from: i32, to: i32) -> i64
+    requires from_low { pos 0 ≤ℤ from }
+    requires from_high { from ≤ℤ pos LONGEST_SIDE }
+    requires to_low { pos 0 ≤ℤ to }
+    requires to_high { to ≤ℤ pos LONGEST_SIDE }
+    ensures value { result ≡ to -ℤ from }
+    ensures most { unsigned_abs result ≤ 2 ^ 14 }
+{
+    i64::from(to) - i64::from(from)
+}
+
+/// The sums of the offsets of `count` points from the first of them, which is at (`x0`, `y0`).
+fn offsets(raw: Raw, count: u32, x0: i64, y0: i64) -> Sums
+    requires count { count ≤ 2 ^ 15 }
+    requires raw { IsRawOf (2 ^ 15) raw }
+    requires x0 { unsigned_abs x0 ≤ 2 ^ 14 }
+    requires y0 { unsigned_abs y0 ≤ 2 ^ 14 }
+    ensures { result ≡ offsets_of raw count x0 y0 }
+{
+    let x = moved(count, raw.x, x0);
+    let y = moved(count, raw.y, y0);
+    Sums {
+        count,
+        x,
+        y,
+        xx: moved_products(raw.xx, x0, raw.x, x0, x),
+        xy: moved_products(raw.xy, x0, raw.y, y0, x),
+        yy: moved_products(raw.yy, y0, raw.y, y0, y),
+    }
+}
+
+/// The root of 65536 times the mean of `count` numbers.
+fn root_of_mean(total: u128, count: u32) -> u64
+    requires some { 0 < count }
+    requires total { total < 2 ^ 110 }
+    ensures { IsRoot (65536 * total / count) result }
+{
+    if total < 1 << 48 {
+        isqrt(u128::from(total as u64 * 65536 / u64::from(count)))
+    } else {
+        isqrt(65536 * total / u128::from(count))
+    }
+}
