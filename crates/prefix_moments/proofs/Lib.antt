@@ -4,3 +4,4 @@ pub mod Rows
 pub mod Summing
 pub mod Terms
 pub mod Totals
+pub mod Walking

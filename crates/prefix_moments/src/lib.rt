@@ -7,6 +7,10 @@
 pub mod moments;
 mod raw;
 pub mod sums;
+#[cfg(test)]
+mod tests;
+#[cfg(test)]
+mod walks;
 
 /// The longest side of a page in pixels: no coordinate of a path is greater.
 pub const LONGEST_SIDE: u32 = 16384;
