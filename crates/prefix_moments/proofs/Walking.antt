@@ -1,5 +1,5 @@
 -- A closed walk, told point by point.
-use Rattle.std.proofs.Common.{◌≡◌, ◌≢◌, ℕ, zero, suc, ◌+◌, ◌*◌, ◌/◌, ◌%◌, ◌^◌, ◌<◌, ◌≤◌, List, length, get_or, sym, ap, ◌∙◌, subst, add-one, arith}
+use Rattle.std.proofs.Common.{◌≡◌, ◌≢◌, ℕ, suc, ◌+◌, ◌*◌, ◌/◌, ◌%◌, ◌<◌, ◌≤◌, List, length, get_or, sym, ap, ◌∙◌, subst, add-one, arith}
 use Rattle.std.proofs.Math.Nat.{mod-lt, div-add-mod, add-mul-mod_self_left}
 use Rattle.pt_base.specs.declared.point.Point.{Point}
 use Rattle.pt_base.specs.ClosedWalk.{origin, point_at, IsUnitStep, IsClosedWalk}
