@@ -1,0 +1,15 @@
+pub mod Ahead
+pub mod Around
+pub mod Bounds
+pub mod Clear
+pub mod Cyclic
+pub mod Ends
+pub mod Far
+pub mod Keeping
+pub mod Narrowing
+pub mod Nearness
+pub mod Pieces
+pub mod Places
+pub mod Signs
+pub mod Terms
+pub mod Turning

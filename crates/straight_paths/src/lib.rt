@@ -1,0 +1,26 @@
+//! Straight subpaths of a closed walk, and the segments that may stand for them.
+//!
+//! A subpath is straight if it looks like a line drawn in pixels: not all four directions occur in
+//! it, and seen from each of its points, each later point is within 1 of the half-line through each
+//! point that is later still.
+//!
+//! ```text
+//!          __|
+//!     ____|          straight: from any point, the others lie along a narrowing cone
+//! ```
+#![tactic(auto)]
+
+mod cone;
+mod first;
+mod laps;
+mod offset;
+pub mod reach;
+mod tail;
+#[cfg(test)]
+mod tests;
+
+/// The greatest coordinate of a point, in pixels.
+pub const SIDE: u32 = 16384;
+
+/// The greatest number of steps that one segment stands for.
+pub const LONGEST: u32 = 32767;
