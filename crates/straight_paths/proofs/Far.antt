@@ -8,7 +8,7 @@ use Rattle.straight_paths.specs.Straight.{offset_of, IsNear, IsWithin, Takes, Ta
 use Rattle.straight_paths.specs.Cones.{IsSmall}
 use Rattle.straight_paths.specs.Tails.{IsStraightFor, limit_of}
 use Rattle.straight_paths.specs.declared.offset.Offset.{Offset}
-use Rattle.straight_paths.specs.declared.TheConstants.{LONGEST}
+use Rattle.straight_paths.specs.declared.TheConstants.{MOST_STEPS}
 use Rattle.straight_paths.proofs.Cyclic.{path_lap_on}
 use Rattle.straight_paths.proofs.Nearness.{small_is_near}
 use Rattle.straight_paths.proofs.Pieces.{shorter}

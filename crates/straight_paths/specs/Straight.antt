@@ -5,7 +5,7 @@ use Rattle.std.specs.Prelude.{◌≡◌, ℕ, suc, ◌+◌, ◌-◌, ◌<◌, �
 use Rattle.pt_base.specs.ClosedWalk.{point_at}
 use Rattle.pt_base.specs.declared.point.Point.{Point}
 use Rattle.straight_paths.specs.declared.offset.Offset.{Offset}
-use Rattle.straight_paths.specs.declared.TheConstants.{LONGEST, SIDE}
+use Rattle.straight_paths.specs.declared.TheConstants.{LONGEST_SIDE, MOST_STEPS}
 
 -- how far the second point is from the first
 abbrev pub offset_of : Point → Point → Offset
@@ -66,7 +66,7 @@ path_from points start k = point_at points (k + start)
 pub record IsPossible (points : List Point) (i j : ℕ) : Type 0 where
   pub rises : i < j
   pub leaves_three : j - i + 3 ≤ length points
-  pub short : j - i ≤ LONGEST
+  pub short : j - i ≤ MOST_STEPS
   pub straight : IsStraight (path_from points (i + (length points - 1))) (j - i + 2)
 
 -- d is the greatest number of steps that a possible segment from point i has
@@ -74,12 +74,13 @@ pub record IsFarthest (points : List Point) (i d : ℕ) : Type 0 where
   pub reached : IsPossible points i (i + d)
   pub greatest : (e : ℕ) → IsPossible points i (i + e) → e ≤ d
 
--- the number is a coordinate on a page: from 0 to the longest side
-pub record IsOnSide (z : ℤ) : Type 0 where
-  pub low : pos 0 ≤ℤ z
-  pub high : z ≤ℤ pos SIDE
+-- both coordinates are 0 to `LONGEST_SIDE`
+pub record IsOnPage (p : Point) : Type 0 where
+  pub left : pos 0 ≤ℤ p.x
+  pub right : p.x ≤ℤ pos LONGEST_SIDE
+  pub bottom : pos 0 ≤ℤ p.y
+  pub top : p.y ≤ℤ pos LONGEST_SIDE
 
--- each point's coordinates are on a page
-pub record IsOnPage (points : List Point) : Type 0 where
-  pub x : (k : ℕ) → IsOnSide (point_at points k).x
-  pub y : (k : ℕ) → IsOnSide (point_at points k).y
+-- so are those of each point
+abbrev pub AreOnPage : List Point → Type 0
+AreOnPage points = (k : ℕ) → IsOnPage (point_at points k)

@@ -6,11 +6,11 @@ use Rattle.straight_paths.specs.Cones.{IsClear}
 use Rattle.straight_paths.specs.declared.offset.Offset.{Offset}
 use Rattle.straight_paths.specs.declared.tail.Ahead.{Ahead}
 use Rattle.straight_paths.specs.declared.tail.Tail.{Tail}
-use Rattle.straight_paths.specs.declared.TheConstants.{LONGEST}
+use Rattle.straight_paths.specs.declared.TheConstants.{MOST_STEPS}
 
 -- the most steps that matter: those of a possible segment, one before it and one after it
 abbrev pub limit_of : List Point → ℕ
-limit_of points = min (length points - 1) (LONGEST + 2)
+limit_of points = min (length points - 1) (MOST_STEPS + 2)
 
 -- the last index of two laps
 abbrev pub last_of : List Point → ℕ

@@ -1,6 +1,6 @@
 //! How far the cones from one point hold.
 ghost use Rattle.std.specs.Prelude.{◌<◌, ◌≤◌, length};
-ghost use Rattle.straight_paths.specs.Straight.{IsOnPage};
+ghost use Rattle.straight_paths.specs.Straight.{AreOnPage};
 ghost use Rattle.straight_paths.specs.Tails.{IsClearFor};
 
 use crate::cone::Cone;
@@ -14,7 +14,7 @@ use crate::offset::Offset;
 pub(crate) fn clear_steps(laps: &Laps, first: usize) -> usize
     requires first { first < length laps.now }
     requires size { length laps.now ≤ 2147483648 }
-    requires on_page { IsOnPage laps.now }
+    requires on_page { AreOnPage laps.now }
     ensures { IsClearFor laps.now first result }
 {
     let limit = laps.limit();

@@ -5,7 +5,7 @@ ghost use Rattle.pt_base.specs.ClosedWalk.{point_at};
 ghost use Rattle.straight_paths.specs.Straight.{offset_of};
 ghost use Rattle.straight_paths.specs.Tails.{limit_of};
 
-use crate::LONGEST;
+use crate::MOST_STEPS;
 use crate::offset::Offset;
 use pt_base::fault::NoMemory;
 use pt_base::point::Point;
@@ -71,7 +71,7 @@ impl Laps {
         ensures value { result ≡ limit_of self.now }
         ensures most { result < length self.now }
     {
-        min(self.size - 1, LONGEST as usize + 2)
+        min(self.size - 1, MOST_STEPS as usize + 2)
     }
 
     /// The step from this index to the next one.

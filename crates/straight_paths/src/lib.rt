@@ -19,8 +19,8 @@ mod tail;
 #[cfg(test)]
 mod tests;
 
-/// The greatest coordinate of a point, in pixels.
-pub const SIDE: u32 = 16384;
+/// The longest side of a page in pixels: no coordinate of a path is greater.
+pub const LONGEST_SIDE: u32 = 16384;
 
-/// The greatest number of steps that one segment stands for.
-pub const LONGEST: u32 = 32767;
+/// The longest segment, in steps of one pixel.
+pub const MOST_STEPS: u32 = 32767;

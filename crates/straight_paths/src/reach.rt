@@ -1,7 +1,7 @@
 //! How far the possible segments from each point reach.
 ghost use Rattle.std.specs.Prelude.{◌≡◌, ◌↔◌, ◌+◌, ◌<◌, ◌≤◌, ℕ, length, slice_index, IfOk, IsTrue};
 ghost use Rattle.pt_base.specs.ClosedWalk.{IsClosedWalk};
-ghost use Rattle.straight_paths.specs.Straight.{IsOnPage, IsPossible, IsFarthest};
+ghost use Rattle.straight_paths.specs.Straight.{AreOnPage, IsPossible, IsFarthest};
 ghost use Rattle.straight_paths.specs.Tails.{IsTail, IsClearFor, IsStraightFor};
 
 use crate::first::clear_steps;
@@ -38,12 +38,10 @@ impl Model for Reach {
 }
 
 impl Reach {
-    /// Measures a closed walk on a page: the points' coordinates are from 0 to [`SIDE`].
-    ///
-    /// [`SIDE`]: crate::SIDE
+    /// Measures a closed walk on a page.
     pub fn of(alloc: Global, points: &[Point]) -> Result<Reach, NoMemory>
         requires closed { IsClosedWalk points.now }
-        requires on_page { IsOnPage points.now }
+        requires on_page { AreOnPage points.now }
         ensures { IfOk result (λ reach. reach ≡ points.now) }
     {
         let laps = Laps::of(alloc, points)?;
@@ -77,7 +75,7 @@ impl Reach {
 
 /// Writes down for how many steps the cones from each point hold.
 fn fill_clear(laps: &Laps, steps: &mut [u32])
-    requires on_page { IsOnPage laps.now }
+    requires on_page { AreOnPage laps.now }
     requires places { length steps.old ≡ length laps.now }
     ensures { (i : ℕ) → i < length laps.now → IsClearFor laps.now i (slice_index steps.new i) }
 {

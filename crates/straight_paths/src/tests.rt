@@ -1,1 +1,63 @@
-//! Tests.
+//! Reaches that were found by hand, and by the criterion over all triples.
+
+mod plain;
+mod walks;
+
+use crate::reach::Reach;
+use plain::is_possible;
+use pt_base::point::Point;
+use std::test::Fail;
+use walks::{draw, is_walk_on_page};
+
+#[test]
+fn round_nine_pixels(rt: HostRuntime) -> Result<(), Fail> {
+    let points = [
+        Point { x: 0, y: 3 },
+        Point { x: 0, y: 2 },
+        Point { x: 0, y: 1 },
+        Point { x: 0, y: 0 },
+        Point { x: 1, y: 0 },
+        Point { x: 2, y: 0 },
+        Point { x: 3, y: 0 },
+        Point { x: 3, y: 1 },
+        Point { x: 3, y: 2 },
+        Point { x: 3, y: 3 },
+        Point { x: 2, y: 3 },
+        Point { x: 1, y: 3 },
+    ];
+    assert!(rt; is_walk_on_page(&points));
+    let reach = Reach::of(rt.alloc(), &points)?;
+    for (i, far) in [(0u32, 3), (1, 2), (2, 2), (3, 3)] {
+        assert!(rt; i < 12);
+        assert_eq!(rt; reach.far(i), far, "from {i}");
+    }
+    // At point 3 the distance is exactly 1. Point 5 is beyond the corner.
+    assert!(rt; reach.possible(2, 4));
+    assert!(rt; !reach.possible(1, 4));
+    Ok(())
+}
+
+#[test]
+fn all_walks_of_twelve_steps(rt: HostRuntime) -> Result<(), Fail> {
+    let mut found = 0u32;
+    for (size, codes) in [(4usize, 256u32), (6, 4096), (8, 65536), (10, 1 << 20), (12, 1 << 24)] {
+        for code in 0..codes {
+            let mut points = [Point { x: 0, y: 0 }; 12];
+            assert!(rt; size <= points.len());
+            let points = &mut points[..size];
+            if !draw(code, points) || !is_walk_on_page(points) {
+                continue;
+            }
+            found = found.wrapping_add(1);
+            let reach = Reach::of(rt.alloc(), points)?;
+            for i in 0..size as u32 {
+                for j in i + 1..i + size as u32 {
+                    let wanted = is_possible(points, i as usize, j as usize);
+                    assert_eq!(rt; reach.possible(i, j), wanted, "{code}, {i} to {j}");
+                }
+            }
+        }
+    }
+    assert_eq!(rt; found, 13848);
+    Ok(())
+}
