@@ -137,3 +137,24 @@ possible_up_to points i j d f h =
         let e : j ≡ i + (j - i) = omega arith in
         let P : ℕ → Type 0 = IsPossible points i in
         f.greatest (j - i) (subst P e p))
+
+pub step_possible : (points : List Point) (i : ℕ) → IsClosedWalk points → IsPossible points i (i + 1)
+step_possible points i closed =
+    let least = closed.least in
+    let before = i + (length points - 1) in
+    let e : 3 ≡ i + 1 - i + 2 = omega arith in
+    record {
+      rises = omega arith;
+      leaves_three = omega arith;
+      short = omega arith;
+      straight = subst (λ (c : ℕ). IsStraight (path_from points before) c) e
+          (three_straight (path_from points before) (walk_small points closed before));
+    }
+
+pub shorter_possible : (points : List Point) (i j k : ℕ) → IsPossible points i k → i < j → j ≤ k → IsPossible points i j
+shorter_possible points i j k p h l = record {
+  rises = h;
+  leaves_three = omega (arith, p.leaves_three);
+  short = omega (arith, p.short);
+  straight = shorter (path_from points (i + (length points - 1))) (j - i + 2) (k - i + 2) (omega arith) p.straight;
+}

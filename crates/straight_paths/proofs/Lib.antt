@@ -4,6 +4,7 @@ pub mod Bounds
 pub mod Clear
 pub mod Cyclic
 pub mod Ends
+pub mod Examples
 pub mod Far
 pub mod Keeping
 pub mod Narrowing

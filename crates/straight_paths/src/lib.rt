@@ -13,6 +13,7 @@
 mod cone;
 mod first;
 mod laps;
+pub mod laws;
 mod offset;
 pub mod reach;
 mod tail;

@@ -9,6 +9,10 @@ use pt_base::point::Point;
 use std::test::Fail;
 use walks::{draw, is_walk_on_page};
 
+/// The sides of a page of 297 by 210 millimetres at 300 pixels an inch.
+const WIDTH: i32 = 2480;
+const HEIGHT: i32 = 3508;
+
 #[test]
 fn round_nine_pixels(rt: HostRuntime) -> Result<(), Fail> {
     let points = [
@@ -34,6 +38,31 @@ fn round_nine_pixels(rt: HostRuntime) -> Result<(), Fail> {
     // At point 3 the distance is exactly 1. Point 5 is beyond the corner.
     assert!(rt; reach.possible(2, 4));
     assert!(rt; !reach.possible(1, 4));
+    Ok(())
+}
+
+#[test]
+fn round_a_page(rt: HostRuntime) -> Result<(), Fail> {
+    let mut points = Vec::new(rt.alloc());
+    for y in 0..HEIGHT {
+        points.push(Point { x: 0, y: HEIGHT.wrapping_sub(y) })?;
+    }
+    for x in 0..WIDTH {
+        points.push(Point { x, y: 0 })?;
+    }
+    for y in 0..HEIGHT {
+        points.push(Point { x: WIDTH, y })?;
+    }
+    for x in 0..WIDTH {
+        points.push(Point { x: WIDTH.wrapping_sub(x), y: HEIGHT })?;
+    }
+    let points = points.as_slice();
+    assert!(rt; points.len() == 11_976 && is_walk_on_page(points));
+    let reach = Reach::of(rt.alloc(), points)?;
+    for (i, far) in [(0, 3508), (1, 3506), (3508, 2480), (5988, 3508), (11_975, 2)] {
+        assert!(rt; i < 11_976);
+        assert_eq!(rt; reach.far(i), far, "from {i}");
+    }
     Ok(())
 }
 
