@@ -59,7 +59,7 @@ fn round_a_page(rt: HostRuntime) -> Result<(), Fail> {
     let points = points.as_slice();
     assert!(rt; points.len() == 11_976 && is_walk_on_page(points));
     let reach = Reach::of(rt.alloc(), points)?;
-    for (i, far) in [(0, 3508), (1, 3506), (3508, 2480), (5988, 3508), (11_975, 2)] {
+    for (i, far) in [(0, 3508), (1, 3507), (3508, 2480), (5988, 3508), (11_975, 2)] {
         assert!(rt; i < 11_976);
         assert_eq!(rt; reach.far(i), far, "from {i}");
     }
