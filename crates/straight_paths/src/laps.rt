@@ -1,7 +1,6 @@
 //! Two laps of a closed walk, so that indices need no wrapping round.
 ghost use Rattle.std.specs.Prelude.{◌≡◌, ◌+◌, ◌*◌, ◌<◌, ◌≤◌, length, IfOk};
 ghost use Rattle.pt_base.specs.ClosedWalk.{point_at};
-
 ghost use Rattle.straight_paths.specs.Straight.{offset_of};
 ghost use Rattle.straight_paths.specs.Tails.{limit_of};
 
@@ -79,6 +78,7 @@ impl Laps {
         requires { index + 1 < 2 * length self.now }
         ensures { result ≡ offset_of (point_at self.now index) (point_at self.now (index + 1)) }
     {
+        // The proof reads here how many points there are at most.
         let _ = &self.size;
         Offset::between(self.at(index), self.at(index + 1))
     }

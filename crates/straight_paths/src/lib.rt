@@ -5,8 +5,9 @@
 //! point that is later still.
 //!
 //! ```text
-//!          __|
-//!     ____|          straight: from any point, the others lie along a narrowing cone
+//!             ___|         straight, as any steps along a line are: seen from the lower left end,
+//!      ______|             the half-lines that come near all points so far are a narrow cone, and
+//!     |                    the next point lies in it
 //! ```
 #![tactic(auto)]
 

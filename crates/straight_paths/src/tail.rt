@@ -84,8 +84,8 @@ impl Tail {
 
     /// The same from one index earlier, from which the cones hold for so many steps.
     //
-    // A subpath is straight if it is without its first step, if the cones from its first point hold
-    // to its end, and if it ends before the last of the four directions is taken.
+    // A subpath is straight if the rest after its first step is, if the cones from its first point
+    // hold to its end, and if it ends before the last of the four directions is taken.
     pub(crate) fn earlier(self, laps: &Laps, index: usize, clear: usize) -> Tail
         requires size { length laps.now ≤ 2147483648 }
         requires index { index + 1 < 2 * length laps.now }
