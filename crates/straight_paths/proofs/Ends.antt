@@ -1,5 +1,5 @@
 -- Where straight subpaths end, from one index earlier.
-use Rattle.std.proofs.Common.{◌≡◌, ◌⊎◌, inl, inr, ℕ, zero, suc, ◌+◌, ◌-◌, ◌*◌, ◌<◌, ◌≤◌, min, max, List, length, sym, subst, arith}
+use Rattle.std.proofs.Common.{◌≡◌, inl, inr, ℕ, zero, suc, ◌+◌, ◌-◌, ◌<◌, ◌≤◌, min, max, List, length, sym, subst, arith}
 use Rattle.std.proofs.lemmas.Bool.{cases_lt}
 use Rattle.pt_base.specs.declared.point.Point.{Point}
 use Rattle.straight_paths.specs.Straight.{TakesAllFour, IsStraight, path_from}
@@ -7,9 +7,8 @@ use Rattle.straight_paths.specs.Cones.{IsClear}
 use Rattle.straight_paths.specs.Tails.{IsAhead, IsTail, IsClearFor, IsStraightFor, last_of, limit_of}
 use Rattle.straight_paths.specs.declared.tail.Ahead.{Ahead}
 use Rattle.straight_paths.specs.declared.tail.Tail.{Tail}
-use Rattle.straight_paths.proofs.Ahead.{next_at_last}
 use Rattle.straight_paths.proofs.Cyclic.{rest_is, path_lap_on}
-use Rattle.straight_paths.proofs.Pieces.{rest_of, without_first, with_first, is_clear, none_is_straight}
+use Rattle.straight_paths.proofs.Pieces.{without_first, with_first, is_clear, none_is_straight}
 
 -- where the last of the four directions is taken first
 abbrev pub all_of : Ahead → ℕ
@@ -18,7 +17,6 @@ all_of a = max (max a.east a.north) (max a.west a.south)
 module _ (points : List Point) (at : ℕ) (tail : Tail) (ahead : Ahead) (clear end : ℕ)
     (later : IsTail points (at + 1) tail) (next : IsAhead points at ahead) (clear_for : IsClearFor points at clear)
     (end_is : end ≡ min (min tail.end (at + clear)) (all_of ahead)) where
-
   not_four : (c : ℕ) → at + c ≤ last_of points → at + c ≤ end → ¬ TakesAllFour (path_from points at) c
   not_four c h l t =
       let e = next.east.first c h t.east in

@@ -1,14 +1,14 @@
 -- The cone around a way that leaves the square within 1 of the start holds exactly the half-lines
 -- that come near its end.
-use Rattle.std.proofs.Common.{◌≡◌, ℕ, zero, suc, ◌+◌, ◌≤◌, ◌⊎◌, inl, inr, ◌↔◌, ℤ, pos, negsuc, ◌+ℤ◌, ◌-ℤ◌, ◌*ℤ◌, neg_ℤ, ◌≤ℤ◌, ◌<ℤ◌, unsigned_abs, refl, sym, subst, ◌∙◌, ap, arith}
+use Rattle.std.proofs.Common.{◌≡◌, ℕ, zero, suc, ◌+◌, ◌≤◌, ◌⊎◌, inl, inr, ◌↔◌, ℤ, pos, negsuc, ◌+ℤ◌, ◌-ℤ◌, ◌*ℤ◌, neg_ℤ, ◌≤ℤ◌, ◌<ℤ◌, unsigned_abs, refl, subst, ap, arith}
 use Rattle.std.proofs.lemmas.Int.{ints}
 use Rattle.std.proofs.lemmas.Bool.{cases_lt}
 use Rattle.straight_paths.specs.Straight.{IsWithin, IsNear}
-use Rattle.straight_paths.specs.Cones.{cross_of, nowhere, low_of, high_of, lead_of, IsBetween, IsSmall}
+use Rattle.straight_paths.specs.Cones.{cross_of, nowhere, low_of, high_of, IsBetween, IsSmall}
 use Rattle.straight_paths.specs.declared.offset.Offset.{Offset}
 use Rattle.straight_paths.proofs.Around.{IsSigned, IsCorners, corners, far_out, left_of_low}
 use Rattle.straight_paths.proofs.Signs.{product_at_least, product_of_low, factor_at_least}
-use Rattle.straight_paths.proofs.Terms.{Term, value, same_value}
+use Rattle.straight_paths.proofs.Terms.{same_value}
 use Rattle.straight_paths.proofs.Terms.Term.{num, plus, less, times, opposite}
 use Rattle.straight_paths.proofs.Turning.{cross_term}
 
@@ -48,11 +48,11 @@ goes_somewhere p q d e far h wx wy is = far (record {
 signed_product : (a z w : ℤ) (q : ℕ) → IsSigned a z → IsWithin q w → pos 0 ≤ℤ (z *ℤ (pos q *ℤ a +ℤ w))
 signed_product a z w q signed within = elim signed [
   | inl h ↦
-    let e = h.0 in
-    product_at_least z (pos q *ℤ a +ℤ w) h.1 (rw e (omega (arith, ints)))
+      let e = h.0 in
+      product_at_least z (pos q *ℤ a +ℤ w) h.1 (rw e (omega (arith, ints)))
   | inr h ↦
-    let e = h.0 in
-    product_of_low z (pos q *ℤ a +ℤ w) h.1 (rw e (omega (arith, ints)))
+      let e = h.0 in
+      product_of_low z (pos q *ℤ a +ℤ w) h.1 (rw e (omega (arith, ints)))
 ]
 
 low_sum : (p q x y a b ex ey : ℤ)
@@ -159,10 +159,10 @@ near_by_parts way l h e a b c d α β κ ua ub uc ud goes some is_x is_y = elim 
     in_y = near_coordinate α β κ way.y b d e.y ub ud is_y;
   }
   | inr none ↦
-    let z : α + β ≡ 0 = omega arith in
-    absurd (goes (both_zero e
-    (no_product κ e.x some (nothing α β _ _ _ z is_x))
-    (no_product κ e.y some (nothing α β _ _ _ z is_y))))
+      let z : α + β ≡ 0 = omega arith in
+      absurd (goes (both_zero e
+      (no_product κ e.x some (nothing α β _ _ _ z is_x))
+      (no_product κ e.y some (nothing α β _ _ _ z is_y))))
 ]
 
 -- a number that isn't negative, as a natural number

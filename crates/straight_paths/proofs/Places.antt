@@ -1,5 +1,5 @@
 -- What holds of each place of a list, after one more is written.
-use Rattle.std.proofs.Common.{◌≡◌, ◌≢◌, ℕ, suc, ◌+◌, ◌-◌, ◌<◌, ◌≤◌, ◌⊎◌, inl, inr, List, length, set, get_or, get_or-set_other, get_or-set_same, below_more, subst, arith}
+use Rattle.std.proofs.Common.{◌≡◌, ◌≢◌, ℕ, ◌+◌, ◌<◌, ◌≤◌, inl, inr, List, length, set, get_or, get_or-set_other, get_or-set_same, below_more, subst, arith}
 use Rattle.std.proofs.lemmas.Bool.{cases_lt}
 
 pub one_more : (P : ℕ → ℕ → Type 0) (xs : List ℕ) (i v : ℕ) → i < length xs
@@ -24,8 +24,8 @@ one_more_down P xs i v n within above here k h l =
     elim (cases_lt i k) [
       | inl more ↦ let ne : k ≢ i = omega arith in rw get_or-set_other (above k (omega arith) l)
       | inr same ↦
-        let e : i ≡ k = omega arith in
-        let Q : ℕ → Type 0 = λ m. P m (get_or (set xs i v) m 0) in
-        let f : Q i = rw get_or-set_same here in
-        subst Q e f
+          let e : i ≡ k = omega arith in
+          let Q : ℕ → Type 0 = λ m. P m (get_or (set xs i v) m 0) in
+          let f : Q i = rw get_or-set_same here in
+          subst Q e f
     ]

@@ -28,11 +28,12 @@ impl Model for Laps {
     ghost view = { λ laps. take laps.size laps.points.items };
 
     ghost invariant = { λ laps. record {
-        some : 1 ≤ laps.size;
-        most : laps.size ≤ 2147483648;
-        one_lap : length (take laps.size laps.points.items) ≡ laps.size;
-        two_laps : laps.points.items
-            ≡ take laps.size laps.points.items ++ take laps.size laps.points.items } };
+      some : 1 ≤ laps.size;
+      most : laps.size ≤ 2147483648;
+      one_lap : length (take laps.size laps.points.items) ≡ laps.size;
+      two_laps : laps.points.items
+          ≡ take laps.size laps.points.items ++ take laps.size laps.points.items;
+    } };
 }
 
 impl Laps {

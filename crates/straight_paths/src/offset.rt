@@ -93,5 +93,9 @@ impl Offset {
 fn lead(first: i64, second: i64) -> i64
     ensures { result ≡ lead_of first second }
 {
-    if first > 0 || first == 0 && second > 0 { 1 } else { -1 }
+    if first > 0 || first == 0 && second > 0 {
+        1
+    } else {
+        -1
+    }
 }

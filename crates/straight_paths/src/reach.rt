@@ -31,10 +31,11 @@ impl Model for Reach {
     ghost view = { λ reach. reach.laps };
 
     ghost invariant = { λ reach. record {
-        closed : IsClosedWalk reach.laps;
-        places : length reach.straight.items ≡ length reach.laps;
-        straight : (i : ℕ) → i < length reach.laps
-            → IsStraightFor reach.laps i (slice_index reach.straight.items i) } };
+      closed : IsClosedWalk reach.laps;
+      places : length reach.straight.items ≡ length reach.laps;
+      straight : (i : ℕ) → i < length reach.laps
+          → IsStraightFor reach.laps i (slice_index reach.straight.items i);
+    } };
 }
 
 impl Reach {
@@ -58,7 +59,11 @@ impl Reach {
         ensures farthest { IsFarthest self.now i result }
         ensures some { 1 ≤ result }
     {
-        let before = if i == 0 { self.laps.size() - 1 } else { i as usize - 1 };
+        let before = if i == 0 {
+            self.laps.size() - 1
+        } else {
+            i as usize - 1
+        };
         self.straight[before] - 2
     }
 

@@ -11,6 +11,7 @@ use walks::{draw, is_walk_on_page};
 
 /// The sides of a page of 297 by 210 millimetres at 300 pixels an inch.
 const WIDTH: i32 = 2480;
+
 const HEIGHT: i32 = 3508;
 
 #[test]
@@ -45,7 +46,10 @@ fn round_nine_pixels(rt: HostRuntime) -> Result<(), Fail> {
 fn round_a_page(rt: HostRuntime) -> Result<(), Fail> {
     let mut points = Vec::new(rt.alloc());
     for y in 0..HEIGHT {
-        points.push(Point { x: 0, y: HEIGHT.wrapping_sub(y) })?;
+        points.push(Point {
+            x: 0,
+            y: HEIGHT.wrapping_sub(y),
+        })?;
     }
     for x in 0..WIDTH {
         points.push(Point { x, y: 0 })?;
@@ -54,12 +58,21 @@ fn round_a_page(rt: HostRuntime) -> Result<(), Fail> {
         points.push(Point { x: WIDTH, y })?;
     }
     for x in 0..WIDTH {
-        points.push(Point { x: WIDTH.wrapping_sub(x), y: HEIGHT })?;
+        points.push(Point {
+            x: WIDTH.wrapping_sub(x),
+            y: HEIGHT,
+        })?;
     }
     let points = points.as_slice();
     assert!(rt; points.len() == 11_976 && is_walk_on_page(points));
     let reach = Reach::of(rt.alloc(), points)?;
-    for (i, far) in [(0, 3508), (1, 3507), (3508, 2480), (5988, 3508), (11_975, 2)] {
+    for (i, far) in [
+        (0, 3508),
+        (1, 3507),
+        (3508, 2480),
+        (5988, 3508),
+        (11_975, 2),
+    ] {
         assert!(rt; i < 11_976);
         assert_eq!(rt; reach.far(i), far, "from {i}");
     }
@@ -69,7 +82,13 @@ fn round_a_page(rt: HostRuntime) -> Result<(), Fail> {
 #[test]
 fn all_walks_of_twelve_steps(rt: HostRuntime) -> Result<(), Fail> {
     let mut found = 0u32;
-    for (size, codes) in [(4usize, 256u32), (6, 4096), (8, 65536), (10, 1 << 20), (12, 1 << 24)] {
+    for (size, codes) in [
+        (4usize, 256u32),
+        (6, 4096),
+        (8, 65536),
+        (10, 1 << 20),
+        (12, 1 << 24),
+    ] {
         for code in 0..codes {
             let mut points = [Point { x: 0, y: 0 }; 12];
             assert!(rt; size <= points.len());

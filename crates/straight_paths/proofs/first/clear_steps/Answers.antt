@@ -1,7 +1,7 @@
-use Rattle.std.proofs.Common.{◌≡◌, ℕ, suc, ◌+◌, ◌≤◌, subst, rules, arith}
-use Rattle.straight_paths.specs.Straight.{offset_of, path_from}
+use Rattle.std.proofs.Common.{◌≡◌, ℕ, suc, ◌+◌, subst, rules, arith}
+use Rattle.straight_paths.specs.Straight.{path_from}
 use Rattle.straight_paths.specs.Cones.{HoldsNear, Holds, IsClear}
-use Rattle.straight_paths.proofs.Clear.{open_holds, nothing_clear, narrowed_holds, next_clear, not_clear, way_is_next}
+use Rattle.straight_paths.proofs.Clear.{narrowed_holds, next_clear, not_clear, way_is_next}
 use Rattle.straight_paths.proofs.first.clear_steps.Goals as goal
 
 pub loop-steps-preserved : goal.loop-steps-preserved

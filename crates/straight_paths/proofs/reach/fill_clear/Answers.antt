@@ -1,4 +1,4 @@
-use Rattle.std.proofs.Common.{◌<◌, length, arith}
+use Rattle.std.proofs.Common.{arith}
 use Rattle.straight_paths.specs.Tails.{IsClearFor}
 use Rattle.straight_paths.proofs.Places.{one_more}
 use Rattle.straight_paths.proofs.reach.fill_clear.Goals as goal

@@ -1,4 +1,4 @@
-use Rattle.std.proofs.Common.{◌≡◌, ℕ, ◌<◌, ◌≤◌, length, get_or}
+use Rattle.std.proofs.Common.{ℕ, ◌<◌, get_or}
 use Rattle.straight_paths.specs.Tails.{IsClearFor}
 use Rattle.straight_paths.proofs.reach.fill_clear.Given as goal
 

@@ -1,4 +1,4 @@
-use Rattle.std.proofs.Common.{◌≡◌, ℕ, ◌+◌, ◌-◌, ◌≤◌, length, get_or, sym, subst, arith}
+use Rattle.std.proofs.Common.{◌≡◌, ℕ, ◌+◌, ◌-◌, length, get_or, sym, subst, arith}
 use Rattle.straight_paths.specs.Tails.{IsClearFor, IsTail}
 use Rattle.straight_paths.proofs.Ends.{clear_lap_on}
 use Rattle.straight_paths.proofs.reach.first_lap.Goals as goal

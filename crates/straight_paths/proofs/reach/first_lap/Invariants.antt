@@ -1,4 +1,4 @@
-use Rattle.std.proofs.Common.{◌≡◌, ◌+◌, ◌≤◌, length}
+use Rattle.std.proofs.Common.{◌+◌, length}
 use Rattle.straight_paths.specs.Tails.{IsTail}
 use Rattle.straight_paths.proofs.reach.first_lap.Given as goal
 

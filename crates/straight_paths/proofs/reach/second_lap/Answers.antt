@@ -1,4 +1,4 @@
-use Rattle.std.proofs.Common.{◌≡◌, ℕ, ◌+◌, ◌-◌, ◌<◌, ◌≤◌, length, get_or, subst, arith}
+use Rattle.std.proofs.Common.{◌-◌, length, arith}
 use Rattle.straight_paths.specs.Tails.{IsClearFor, IsStraightFor}
 use Rattle.straight_paths.proofs.Ends.{straight_for}
 use Rattle.straight_paths.proofs.Places.{still_below, one_more_down}

@@ -1,4 +1,4 @@
-use Rattle.std.proofs.Common.{◌≡◌, ℕ, ◌<◌, ◌≤◌, length, get_or}
+use Rattle.std.proofs.Common.{ℕ, ◌<◌, ◌≤◌, length, get_or}
 use Rattle.straight_paths.specs.Tails.{IsTail, IsClearFor, IsStraightFor}
 use Rattle.straight_paths.proofs.reach.second_lap.Given as goal
 

@@ -1,10 +1,9 @@
-use Rattle.std.proofs.Common.{◌≡◌, ◌≢◌, ℕ, suc, ◌+◌, ◌*◌, ◌/◌, ◌%◌, ◌<◌, ◌≤◌, ◌^◌, List, length, get_or, below_more, sym, ◌∙◌, ap, subst, arith, rules}
+use Rattle.std.proofs.Common.{◌≡◌, ◌≢◌, ℕ, suc, ◌+◌, ◌*◌, ◌/◌, ◌%◌, ◌<◌, ◌≤◌, List, length, get_or, below_more, sym, ◌∙◌, ap, subst, arith, rules}
 use Rattle.std.proofs.Math.Nat.{mod-add-div, add-mul-mod_self_left}
 use Rattle.std.proofs.lemmas.Nat.{mod_below}
-use Rattle.std.proofs.lemmas.List.{get_or_default}
-use Rattle.pt_base.specs.ClosedWalk.{origin, point_at, IsUnitStep, IsClosedWalk}
+use Rattle.pt_base.specs.ClosedWalk.{origin, IsUnitStep, IsClosedWalk}
 use Rattle.pt_base.specs.declared.point.Point.{Point}
-use Rattle.straight_paths.specs.Straight.{IsOnPage, AreOnPage}
+use Rattle.straight_paths.specs.Straight.{IsOnPage}
 use Rattle.straight_paths.proofs.tests.walks.is_walk_on_page.Goals as goal
 
 -- some steps on round the walk, counted from the same point of the first lap

@@ -1,4 +1,4 @@
-use Rattle.std.proofs.Common.{◌≡◌, ◌≢◌, ℕ, ◌+◌, ◌%◌, ◌<◌, length, get_or}
+use Rattle.std.proofs.Common.{◌≢◌, ℕ, ◌+◌, ◌%◌, ◌<◌, length, get_or}
 use Rattle.pt_base.specs.ClosedWalk.{origin, IsUnitStep}
 use Rattle.straight_paths.specs.Straight.{IsOnPage}
 use Rattle.straight_paths.proofs.tests.walks.is_walk_on_page.Given as goal
