@@ -43,6 +43,26 @@ fn round_nine_pixels(rt: HostRuntime) -> Result<(), Fail> {
 }
 
 #[test]
+fn round_two_pixels(rt: HostRuntime) -> Result<(), Fail> {
+    let points = [
+        Point { x: 0, y: 1 },
+        Point { x: 0, y: 0 },
+        Point { x: 1, y: 0 },
+        Point { x: 2, y: 0 },
+        Point { x: 2, y: 1 },
+        Point { x: 1, y: 1 },
+    ];
+    assert!(rt; is_walk_on_page(&points));
+    let reach = Reach::of(rt.alloc(), &points)?;
+    // A triangle through every second point, from the first one or from the next.
+    for (i, j) in [(0u32, 2u32), (2, 4), (4, 6), (1, 3), (3, 5), (5, 7)] {
+        assert!(rt; i < 6 && i < j);
+        assert!(rt; reach.possible(i, j), "{i} to {j}");
+    }
+    Ok(())
+}
+
+#[test]
 fn round_a_page(rt: HostRuntime) -> Result<(), Fail> {
     let mut points = Vec::new(rt.alloc());
     for y in 0..HEIGHT {
