@@ -63,6 +63,43 @@ fn round_two_pixels(rt: HostRuntime) -> Result<(), Fail> {
 }
 
 #[test]
+fn in_rows_of_pixels(rt: HostRuntime) -> Result<(), Fail> {
+    // A row of so many pixels; a segment, and whether it is possible.
+    let table = [
+        (3, 0u32, 2u32, true),
+        (3, 2, 5, true),
+        (3, 5, 8, true),
+        (3, 0, 3, true),
+        (3, 3, 5, true),
+        (40, 0, 21, true),
+        (40, 21, 42, true),
+        (40, 42, 82, true),
+        (40, 0, 40, true),
+        (40, 0, 41, false),
+        (40, 41, 82, false),
+    ];
+    for (width, i, j, wanted) in table {
+        let mut points = Vec::new(rt.alloc());
+        points.push(Point { x: 0, y: 1 })?;
+        for x in 0..width {
+            points.push(Point { x, y: 0 })?;
+        }
+        points.push(Point { x: width, y: 0 })?;
+        for x in 0..width {
+            points.push(Point {
+                x: width.wrapping_sub(x),
+                y: 1,
+            })?;
+        }
+        assert!(rt; is_walk_on_page(points.as_slice()));
+        assert!(rt; (i as usize) < points.len() && i < j);
+        let reach = Reach::of(rt.alloc(), points.as_slice())?;
+        assert_eq!(rt; reach.possible(i, j), wanted, "{width}: {i} to {j}");
+    }
+    Ok(())
+}
+
+#[test]
 fn round_a_page(rt: HostRuntime) -> Result<(), Fail> {
     let mut points = Vec::new(rt.alloc());
     for y in 0..HEIGHT {
