@@ -7,9 +7,10 @@ use mir.Syntax.{w128}
 use Rattle.pt_base.specs.declared.point.Point.{Point}
 use Rattle.pt_base.specs.ClosedWalk.{point_at}
 use Rattle.pt_base.specs.Root.{IsRoot}
-use Rattle.prefix_moments.specs.declared.TheConstants.{LONGEST_SIDE}
+use Rattle.pt_base.specs.declared.limits.TheConstants.{LONGEST_SIDE}
 use Rattle.prefix_moments.specs.declared.sums.Sums.{Sums}
-use Rattle.prefix_moments.specs.Sums.{IsOnPage, sums_of, spread_of, right_of, above_of, IsPenalty}
+use Rattle.pt_base.specs.OnPage.{IsOnPage}
+use Rattle.prefix_moments.specs.Sums.{sums_of, spread_of, right_of, above_of, IsPenalty}
 use Rattle.prefix_moments.specs.Table.{spread_by}
 use Rattle.prefix_moments.proofs.Fitting.{back, long_back}
 use Rattle.prefix_moments.proofs.Rows.{total_is, spread_at_least}

@@ -3,7 +3,7 @@ use Rattle.std.proofs.Common.{◌≡◌, ◌≢◌, ℕ, suc, ◌+◌, ◌*◌, 
 use Rattle.std.proofs.Math.Nat.{mod-lt, div-add-mod, add-mul-mod_self_left}
 use Rattle.pt_base.specs.declared.point.Point.{Point}
 use Rattle.pt_base.specs.ClosedWalk.{origin, point_at, IsUnitStep, IsClosedWalk}
-use Rattle.prefix_moments.specs.Sums.{IsOnPage, AreOnPage}
+use Rattle.pt_base.specs.OnPage.{IsOnPage, AreOnPage}
 
 -- a point, the next one, and the one after next
 pub record GoesOn (a b c : Point) : Type 0 where

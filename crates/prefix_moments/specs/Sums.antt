@@ -4,19 +4,9 @@ use Rattle.std.specs.Prelude.{ℕ, zero, suc, ◌+◌, ◌-◌, ◌*◌, ◌/◌
 use Rattle.pt_base.specs.declared.point.Point.{Point}
 use Rattle.pt_base.specs.ClosedWalk.{point_at}
 use Rattle.pt_base.specs.Root.{IsRoot}
-use Rattle.prefix_moments.specs.declared.TheConstants.{LONGEST_SIDE}
+use Rattle.pt_base.specs.declared.limits.TheConstants.{LONGEST_SIDE}
 use Rattle.prefix_moments.specs.declared.sums.Sums.{Sums}
 
--- both coordinates are 0 to `LONGEST_SIDE`
-pub record IsOnPage (p : Point) : Type 0 where
-  pub left : pos 0 ≤ℤ p.x
-  pub right : p.x ≤ℤ pos LONGEST_SIDE
-  pub bottom : pos 0 ≤ℤ p.y
-  pub top : p.y ≤ℤ pos LONGEST_SIDE
-
--- so are those of each point
-abbrev pub AreOnPage : List Point → Type 0
-AreOnPage points = (k : ℕ) → IsOnPage (point_at points k)
 
 -- f(0) + f(1) + .., which are `count` numbers
 abbrev pub sum_of : (ℕ → ℤ) → ℕ → ℤ

@@ -11,9 +11,3 @@ pub mod sums;
 mod tests;
 #[cfg(test)]
 mod walks;
-
-/// The longest side of a page in pixels: no coordinate of a path is greater.
-pub const LONGEST_SIDE: u32 = 16384;
-
-/// The longest segment, in steps of one pixel.
-pub const MOST_STEPS: u32 = 32767;

@@ -2,12 +2,13 @@
 ghost use Rattle.std.specs.Prelude.{◌≡◌, ℕ, pos, unsigned_abs, ◌-ℤ◌, ◌≤ℤ◌, ◌+◌, ◌-◌, ◌*◌, ◌/◌, ◌<◌, ◌≤◌, ◌^◌, List, length, IfOk};
 ghost use Rattle.pt_base.specs.ClosedWalk.{IsClosedWalk, point_at};
 ghost use Rattle.pt_base.specs.Root.{IsRoot};
-ghost use Rattle.prefix_moments.specs.Sums.{AreOnPage, IsOnPage, sums_of, IsPenalty};
+ghost use Rattle.pt_base.specs.OnPage.{AreOnPage, IsOnPage};
+ghost use Rattle.prefix_moments.specs.Sums.{sums_of, IsPenalty};
 ghost use Rattle.prefix_moments.specs.Table.{raw_of, IsRawOf, IsTable, offsets_of};
 
 use crate::raw::{Raw, moved, moved_products, spread};
 use crate::sums::Sums;
-use crate::{LONGEST_SIDE, MOST_STEPS};
+use pt_base::limits::{LONGEST_SIDE, MOST_STEPS};
 use pt_base::fault::NoMemory;
 use pt_base::point::Point;
 use pt_base::root::isqrt;

@@ -1,6 +1,6 @@
 //! Sums of coordinates as they stand.
 ghost use Rattle.std.specs.Prelude.{◌≡◌, ◌+◌, ◌*◌, ◌<◌, ◌≤◌, ◌^◌, ℕ, ◌+ℤ◌, ◌-ℤ◌, ◌*ℤ◌, unsigned_abs, pos};
-ghost use Rattle.prefix_moments.specs.Sums.{IsOnPage};
+ghost use Rattle.pt_base.specs.OnPage.{IsOnPage};
 ghost use Rattle.prefix_moments.specs.Table.{IsRawOf, difference_of, no_sums, spread_by};
 
 use pt_base::point::Point;

@@ -1,7 +1,7 @@
 //! Closed walks for tests.
 ghost use Rattle.std.specs.Prelude.{◌≢◌, IsTrue};
 ghost use Rattle.pt_base.specs.ClosedWalk.{IsClosedWalk, IsUnitStep, IsNextTo};
-ghost use Rattle.prefix_moments.specs.Sums.{IsOnPage, AreOnPage};
+ghost use Rattle.pt_base.specs.OnPage.{IsOnPage, AreOnPage};
 
 use pt_base::point::Point;
 

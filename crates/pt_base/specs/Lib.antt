@@ -1,4 +1,8 @@
 pub mod ClosedWalk
+pub mod OnPage
+pub mod Floor
+pub mod PolygonsText
+pub mod Micro
 pub mod Counts
 pub mod Documents
 pub mod Files

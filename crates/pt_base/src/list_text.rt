@@ -1,10 +1,13 @@
 //! The texts of a page's paths as plain lists, one line for each path.
 ghost use Rattle.std.specs.Prelude.{◌≡◌, ◌++◌, length, codes, decimal, flat_map, IfOk, OnOk};
 ghost use Rattle.pt_base.specs.PointsText.{path_text, point_text, points_text, sign_text};
+ghost use Rattle.pt_base.specs.PolygonsText.{index_text, polygon_text, polygons_text};
 
 use crate::fault::NoMemory;
 use crate::path::{Path, Sign};
 use crate::point::Point;
+use crate::polygon::Polygon;
+use crate::trace::Trace;
 use itoa::{Buffer, Integer};
 use std::alloc::Global;
 
@@ -14,18 +17,36 @@ pub fn points(alloc: Global, width: u32, height: u32, paths: &[Path]) -> Result<
     ensures { IfOk result (λ text. text.items ≡ points_text width height paths.now) }
 {
     let mut out = Vec::new(alloc);
-    put_head(&mut out, width, height, paths.len())?;
+    out.extend_from_slice(b"points ")?;
+    put_sides(&mut out, width, height, paths.len())?;
     for path in paths {
         put_path(&mut out, path)?;
     }
     Ok(out)
 }
 
-/// Appends the first line.
-fn put_head(out: &mut Vec<u8>, width: u32, height: u32, count: usize) -> Result<(), NoMemory>
-    ensures { OnOk result (out.new.items ≡ out.old.items ++ (codes "points " ++ decimal width ++ codes " " ++ decimal height ++ codes " " ++ decimal count ++ codes "\n")) }
+/// The polygons text of a page: a line `polygons WIDTH HEIGHT PATHS`, and then a line for each path
+/// with its sign, its area, the number of its points, that of its polygon's segments, their penalty,
+/// a colon, and the indices of the polygon's vertices.
+pub fn polygons(alloc: Global, trace: &Trace) -> Result<Vec<u8>, NoMemory>
+    requires { length trace.now.polygons ≡ length trace.now.paths }
+    ensures { IfOk result (λ text. text.items ≡ polygons_text trace.now) }
 {
-    out.extend_from_slice(b"points ")?;
+    let paths = trace.paths.as_slice();
+    let polygons = trace.polygons.as_slice();
+    let mut out = Vec::new(alloc);
+    out.extend_from_slice(b"polygons ")?;
+    put_sides(&mut out, trace.width, trace.height, paths.len())?;
+    for k in 0..paths.len() {
+        put_polygon(&mut out, &paths[k], &polygons[k])?;
+    }
+    Ok(out)
+}
+
+/// Appends the rest of the first line.
+fn put_sides(out: &mut Vec<u8>, width: u32, height: u32, count: usize) -> Result<(), NoMemory>
+    ensures { OnOk result (out.new.items ≡ out.old.items ++ (decimal width ++ codes " " ++ decimal height ++ codes " " ++ decimal count ++ codes "\n")) }
+{
     put_number(out, width)?;
     out.extend_from_slice(b" ")?;
     put_number(out, height)?;
@@ -76,6 +97,37 @@ fn put_point(out: &mut Vec<u8>, point: Point) -> Result<(), NoMemory>
     put_number(out, point.x)?;
     out.extend_from_slice(b",")?;
     put_number(out, point.y)?;
+    Ok(())
+}
+
+/// Appends the line of a path's polygon.
+fn put_polygon(out: &mut Vec<u8>, path: &Path, polygon: &Polygon) -> Result<(), NoMemory>
+    ensures { OnOk result (out.new.items ≡ out.old.items ++ polygon_text (path.now, polygon.now)) }
+{
+    let at = polygon.at.as_slice();
+    put_sign(out, path.sign)?;
+    out.extend_from_slice(b" ")?;
+    put_number(out, path.area)?;
+    out.extend_from_slice(b" ")?;
+    put_number(out, path.points.as_slice().len())?;
+    out.extend_from_slice(b" ")?;
+    put_number(out, at.len())?;
+    out.extend_from_slice(b" ")?;
+    put_number(out, polygon.cost)?;
+    out.extend_from_slice(b":")?;
+    put_indices(out, at)?;
+    out.extend_from_slice(b"\n")?;
+    Ok(())
+}
+
+/// Appends the indices, a space before each.
+fn put_indices(out: &mut Vec<u8>, at: &[u32]) -> Result<(), NoMemory>
+    ensures { OnOk result (out.new.items ≡ out.old.items ++ flat_map index_text at.now) }
+{
+    for index in at {
+        out.extend_from_slice(b" ")?;
+        put_number(out, *index)?;
+    }
     Ok(())
 }
 

@@ -5,7 +5,7 @@ use Rattle.std.specs.Prelude.{◌≡◌, ℕ, suc, ◌+◌, ◌-◌, ◌<◌, �
 use Rattle.pt_base.specs.ClosedWalk.{point_at}
 use Rattle.pt_base.specs.declared.point.Point.{Point}
 use Rattle.straight_paths.specs.declared.offset.Offset.{Offset}
-use Rattle.straight_paths.specs.declared.TheConstants.{LONGEST_SIDE, MOST_STEPS}
+use Rattle.pt_base.specs.declared.limits.TheConstants.{LONGEST_SIDE, MOST_STEPS}
 
 -- how far the second point is from the first
 abbrev pub offset_of : Point → Point → Offset
@@ -74,13 +74,3 @@ pub record IsFarthest (points : List Point) (i d : ℕ) : Type 0 where
   pub reached : IsPossible points i (i + d)
   pub greatest : (e : ℕ) → IsPossible points i (i + e) → e ≤ d
 
--- both coordinates are 0 to `LONGEST_SIDE`
-pub record IsOnPage (p : Point) : Type 0 where
-  pub left : pos 0 ≤ℤ p.x
-  pub right : p.x ≤ℤ pos LONGEST_SIDE
-  pub bottom : pos 0 ≤ℤ p.y
-  pub top : p.y ≤ℤ pos LONGEST_SIDE
-
--- so are those of each point
-abbrev pub AreOnPage : List Point → Type 0
-AreOnPage points = (k : ℕ) → IsOnPage (point_at points k)

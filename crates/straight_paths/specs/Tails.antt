@@ -6,7 +6,7 @@ use Rattle.straight_paths.specs.Cones.{IsClear}
 use Rattle.straight_paths.specs.declared.offset.Offset.{Offset}
 use Rattle.straight_paths.specs.declared.tail.Ahead.{Ahead}
 use Rattle.straight_paths.specs.declared.tail.Tail.{Tail}
-use Rattle.straight_paths.specs.declared.TheConstants.{MOST_STEPS}
+use Rattle.pt_base.specs.declared.limits.TheConstants.{MOST_STEPS}
 
 -- the most steps that matter: those of a possible segment, one before it and one after it
 abbrev pub limit_of : List Point → ℕ

@@ -1,6 +1,6 @@
 //! How far the cones from one point hold.
 ghost use Rattle.std.specs.Prelude.{◌<◌, ◌≤◌, length};
-ghost use Rattle.straight_paths.specs.Straight.{AreOnPage};
+ghost use Rattle.pt_base.specs.OnPage.{AreOnPage};
 ghost use Rattle.straight_paths.specs.Tails.{IsClearFor};
 
 use crate::cone::Cone;

@@ -4,7 +4,7 @@ ghost use Rattle.pt_base.specs.ClosedWalk.{point_at};
 ghost use Rattle.straight_paths.specs.Straight.{offset_of};
 ghost use Rattle.straight_paths.specs.Tails.{limit_of};
 
-use crate::MOST_STEPS;
+use pt_base::limits::MOST_STEPS;
 use crate::offset::Offset;
 use pt_base::fault::NoMemory;
 use pt_base::point::Point;

@@ -20,9 +20,3 @@ pub mod reach;
 mod tail;
 #[cfg(test)]
 mod tests;
-
-/// The longest side of a page in pixels: no coordinate of a path is greater.
-pub const LONGEST_SIDE: u32 = 16384;
-
-/// The longest segment, in steps of one pixel.
-pub const MOST_STEPS: u32 = 32767;

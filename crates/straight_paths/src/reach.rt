@@ -1,7 +1,8 @@
 //! How far the possible segments from each point reach.
 ghost use Rattle.std.specs.Prelude.{◌≡◌, ◌↔◌, ◌+◌, ◌<◌, ◌≤◌, ℕ, length, slice_index, IfOk, IsTrue};
 ghost use Rattle.pt_base.specs.ClosedWalk.{IsClosedWalk};
-ghost use Rattle.straight_paths.specs.Straight.{AreOnPage, IsPossible, IsFarthest};
+ghost use Rattle.pt_base.specs.OnPage.{AreOnPage};
+ghost use Rattle.straight_paths.specs.Straight.{IsPossible, IsFarthest};
 ghost use Rattle.straight_paths.specs.Tails.{IsTail, IsClearFor, IsStraightFor};
 
 use crate::first::clear_steps;

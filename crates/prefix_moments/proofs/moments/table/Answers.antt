@@ -2,7 +2,7 @@ use Rattle.std.proofs.Common.{◌^◌, sym, subst, arith}
 use Rattle.pt_base.specs.declared.point.Point.{Point}
 use Rattle.pt_base.specs.ClosedWalk.{point_at}
 use Rattle.prefix_moments.specs.declared.raw.Raw.{Raw}
-use Rattle.prefix_moments.specs.Sums.{IsOnPage}
+use Rattle.pt_base.specs.OnPage.{IsOnPage}
 use Rattle.prefix_moments.specs.Table.{IsRawOf}
 use Rattle.prefix_moments.proofs.Rows.{raw_more, raw_most, next_row, push_row}
 use Rattle.prefix_moments.proofs.moments.table.Goals as goal

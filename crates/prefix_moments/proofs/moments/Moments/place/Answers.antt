@@ -1,7 +1,7 @@
 use Rattle.std.proofs.Common.{ap, sym, ◌∙◌, subst}
 use Rattle.pt_base.specs.declared.point.Point.{Point}
 use Rattle.pt_base.specs.ClosedWalk.{point_at}
-use Rattle.prefix_moments.specs.Sums.{IsOnPage}
+use Rattle.pt_base.specs.OnPage.{IsOnPage}
 use Rattle.prefix_moments.proofs.moments.Moments.place.Goals as goal
 
 pub returns-clause-value : goal.returns-clause-value
