@@ -10,7 +10,6 @@
 //! ```
 #![tactic(auto)]
 
-pub mod indices;
 pub mod laws;
 pub mod steps;
 mod suffixes;

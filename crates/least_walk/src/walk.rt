@@ -3,7 +3,7 @@ ghost use Rattle.std.specs.Prelude.{◌≡◌, ◌+◌, length, IfOk};
 ghost use Rattle.least_walk.specs.LeastWalk.{IsLeast, walk_from, step_count, total_cost};
 ghost use Rattle.least_walk.specs.Suffix.{HasFewest, HasCosts, HasNexts};
 
-use crate::indices::Indices;
+use pt_base::indices::Indices;
 use crate::steps::Steps;
 use crate::suffixes::{fill_costs, fill_counts};
 use pt_base::fault::NoMemory;

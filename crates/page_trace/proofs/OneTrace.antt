@@ -1,0 +1,72 @@
+-- A page has one trace, and one document.
+use Rattle.std.proofs.Common.{◌≡◌, ℕ, List, [], ◌∷◌, refl, sym, ap, ◌∙◌, subst}
+use Rattle.std.specs.List.{AllZip}
+use Rattle.pt_base.specs.PointsText.{points_text}
+use Rattle.pt_base.specs.PolygonsText.{polygons_text}
+use Rattle.pt_base.specs.declared.path.Path.{Path}
+use Rattle.pt_base.specs.declared.polygon.Polygon.{Polygon}
+use Rattle.pt_base.specs.declared.settings.Backend.{Backend}
+use Rattle.pt_base.specs.declared.settings.Backend.TheVariants.{Eps, Svg, Dxf, GeoJson, Points, Polygons}
+use Rattle.pt_base.specs.declared.settings.Settings.{Settings}
+use Rattle.pt_base.specs.declared.trace.Trace.{Trace}
+use Rattle.bit_image.specs.Page.{Page, image_of}
+use Rattle.path_decompose.specs.Decomposition.{kept}
+use Rattle.path_decompose.proofs.Unique.{one_decomposition}
+use Rattle.polygon_optimal.specs.Polygon.{total_penalty}
+use Rattle.polygon_optimal.proofs.Best.{one_best}
+use Rattle.page_trace.specs.Trace.{ArePaths, IsPolygonOf, IsTrace}
+use Rattle.page_trace.specs.Document.{IsDocumentUnder, text_under}
+
+pub one_list_of_paths : (page : Page) (settings : Settings) (paths others : List Path) → ArePaths page settings paths → ArePaths page settings others → paths ≡ others
+one_list_of_paths page settings paths others these those =
+    these.no_speckles
+    ∙ ap (kept settings.turd) (one_decomposition page settings.policy (image_of page) these.all those.all these.decomposed those.decomposed)
+    ∙ sym those.no_speckles
+
+one_polygon : (path : Path) (polygon other : Polygon) → IsPolygonOf path polygon → IsPolygonOf path other → polygon ≡ other
+one_polygon path polygon other this that =
+    let at = one_best path.points polygon.at other.at this.best that.best in
+    let cost = this.cost ∙ ap (total_penalty path.points) at ∙ sym that.cost in
+    ap (λ v. record polygon { at = v }) at ∙ ap (λ v. record other { cost = v }) cost
+
+one_list_of_polygons : (paths : List Path) (polygons others : List Polygon) → AllZip IsPolygonOf paths polygons → AllZip IsPolygonOf paths others → polygons ≡ others
+one_list_of_polygons [] [] [] these those = refl
+one_list_of_polygons [] [] (other ∷ others) these those = absurd those
+one_list_of_polygons [] (polygon ∷ polygons) others these those = absurd these
+one_list_of_polygons (path ∷ paths) [] others these those = absurd these
+one_list_of_polygons (path ∷ paths) (polygon ∷ polygons) [] these those = absurd those
+one_list_of_polygons (path ∷ paths) (polygon ∷ polygons) (other ∷ others) these those =
+    ap (λ p. p ∷ polygons) (one_polygon path polygon other these.0 those.0)
+    ∙ ap (λ ps. other ∷ ps) (one_list_of_polygons paths polygons others these.1 those.1)
+
+same_trace : (t o : Trace) → t.width ≡ o.width → t.height ≡ o.height → t.paths ≡ o.paths → t.polygons ≡ o.polygons → t.vertices ≡ o.vertices
+    → t.outlines ≡ o.outlines → t.groups ≡ o.groups → t ≡ o
+same_trace t o width height paths polygons vertices outlines groups =
+    ap (λ v. record t { width = v }) width
+    ∙ ap (λ v. record t { width = o.width; height = v }) height
+    ∙ ap (λ v. record t { width = o.width; height = o.height; paths = v }) paths
+    ∙ ap (λ v. record o { polygons = v; vertices = t.vertices; outlines = t.outlines; groups = t.groups }) polygons
+    ∙ ap (λ v. record o { vertices = v; outlines = t.outlines; groups = t.groups }) vertices
+    ∙ ap (λ v. record o { outlines = v; groups = t.groups }) outlines
+    ∙ ap (λ v. record o { groups = v }) groups
+
+pub one_trace : (page : Page) (settings : Settings) (trace other : Trace) → IsTrace page settings trace → IsTrace page settings other → trace ≡ other
+one_trace page settings trace other this that =
+    let paths = one_list_of_paths page settings trace.paths other.paths this.paths that.paths in
+    same_trace trace other (this.width ∙ sym that.width) (this.height ∙ sym that.height) paths
+    (one_list_of_polygons other.paths trace.polygons other.polygons (subst (λ ps. AllZip IsPolygonOf ps trace.polygons) paths this.polygons) that.polygons)
+    (this.vertices ∙ sym that.vertices) (this.outlines ∙ sym that.outlines) (this.groups ∙ sym that.groups)
+
+-- a document is the text of the trace
+pub text_is : (backend : Backend) (page : Page) (settings : Settings) (trace : Trace) (text : List ℕ) → IsTrace page settings trace
+    → IsDocumentUnder backend page settings text → text ≡ text_under backend trace
+text_is Points page settings trace text is document =
+    document.2
+    ∙ ap (points_text page.width page.height) (one_list_of_paths page settings document.0 trace.paths document.1 is.paths)
+    ∙ ap (λ v. points_text v page.height trace.paths) (sym is.width)
+    ∙ ap (λ v. points_text trace.width v trace.paths) (sym is.height)
+text_is Polygons page settings trace text is document = document.2 ∙ ap polygons_text (one_trace page settings document.0 trace document.1 is)
+text_is Eps page settings trace text is document = absurd document
+text_is Svg page settings trace text is document = absurd document
+text_is Dxf page settings trace text is document = absurd document
+text_is GeoJson page settings trace text is document = absurd document

@@ -1,0 +1,8 @@
+use Rattle.std.proofs.lemmas.Slice.Zip.{AllZip-long}
+use Rattle.page_trace.specs.Trace.{IsPolygonOf}
+use Rattle.page_trace.proofs.document.document.Goals as goal
+
+pub polygons-requires : goal.polygons-requires
+polygons-requires c =
+    let trace = c.in_ok-trace-in_default.trace in
+    AllZip-long IsPolygonOf trace.paths trace.polygons c.in_ok-trace-in_default.ensures.polygons

@@ -1,0 +1,36 @@
+-- What is traced of a page: its paths without the speckles (Selinger, "Potrace", 2003, section 2.1), and the
+-- best polygon of each (section 2.2).
+use Rattle.std.specs.Prelude.{◌≡◌, ℕ, List, []}
+use Rattle.std.specs.List.{AllZip}
+use Rattle.pt_base.specs.declared.path.Path.{Path}
+use Rattle.pt_base.specs.declared.polygon.Polygon.{Polygon}
+use Rattle.pt_base.specs.declared.settings.Settings.{Settings}
+use Rattle.pt_base.specs.declared.trace.Trace.{Trace}
+use Rattle.bit_image.specs.Page.{Page, image_of}
+use Rattle.path_decompose.specs.Decomposition.{IsDecomposition, kept}
+use Rattle.path_decompose.specs.Sums.{IsEvenOdd, IsEdgesOnce}
+use Rattle.polygon_optimal.specs.Polygon.{IsBestPolygon, total_penalty}
+
+-- These are the page's paths which are no speckles. All its boundaries together sum even-odd to the page,
+-- and run along each edge between a black and a white pixel once.
+pub record ArePaths (page : Page) (settings : Settings) (paths : List Path) : Type 0 where
+  pub all : List Path
+  pub decomposed : IsDecomposition page settings.policy all
+  pub even_odd : IsEvenOdd (image_of page) all
+  pub edges_once : IsEdgesOnce (image_of page) all
+  pub no_speckles : paths ≡ kept settings.turd all
+
+-- the polygon is the best one of a path, with the penalty of all its segments
+pub record IsPolygonOf (path : Path) (polygon : Polygon) : Type 0 where
+  pub best : IsBestPolygon path.points polygon.at
+  pub cost : polygon.cost ≡ total_penalty path.points polygon.at
+
+-- a trace has the page's sides, its paths, and the best polygon of each
+pub record IsTrace (page : Page) (settings : Settings) (trace : Trace) : Type 0 where
+  pub width : trace.width ≡ page.width
+  pub height : trace.height ≡ page.height
+  pub paths : ArePaths page settings trace.paths
+  pub polygons : AllZip IsPolygonOf trace.paths trace.polygons
+  pub vertices : trace.vertices ≡ []
+  pub outlines : trace.outlines ≡ []
+  pub groups : trace.groups ≡ []

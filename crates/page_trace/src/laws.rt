@@ -1,0 +1,19 @@
+//! What follows from the definitions alone.
+ghost use Rattle.std.specs.Prelude.{◌≡◌, ℕ, List};
+ghost use Rattle.pt_base.specs.declared.settings.Settings.{Settings};
+ghost use Rattle.pt_base.specs.declared.trace.Trace.{Trace};
+ghost use Rattle.bit_image.specs.Page.{Page};
+ghost use Rattle.page_trace.specs.Document.{IsDocument, text_of};
+ghost use Rattle.page_trace.specs.Trace.{IsTrace};
+
+/// A page has at most one trace under some settings.
+pub fn traces_are_one()
+    ensures { (page : Page) (settings : Settings) (trace other : Trace)
+        → IsTrace page settings trace → IsTrace page settings other → trace ≡ other }
+{}
+
+/// A page's document is the text of its trace.
+pub fn documents_are_texts_of_traces()
+    ensures { (page : Page) (settings : Settings) (trace : Trace) (text : List ℕ)
+        → IsTrace page settings trace → IsDocument page settings text → text ≡ text_of settings trace }
+{}

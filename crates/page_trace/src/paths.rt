@@ -1,0 +1,29 @@
+//! The paths of a page that are no speckles.
+ghost use Rattle.std.specs.Prelude.{All, IfOk};
+ghost use Rattle.pt_base.specs.ClosedWalk.{IsClosedWalk};
+ghost use Rattle.pt_base.specs.OnPage.{AreOnPage};
+ghost use Rattle.page_trace.specs.Trace.{ArePaths};
+
+use bit_image::bitmap::Bitmap;
+use path_decompose::decomposition::decompose;
+use path_decompose::speckle::keep;
+use pt_base::fault::NoMemory;
+use pt_base::path::Path;
+use pt_base::settings::Settings;
+use std::alloc::Global;
+
+/// The paths of a page, in the order in which they are found, but for the speckles.
+pub(crate) fn kept_paths(
+    alloc: Global,
+    page: &Bitmap,
+    settings: &Settings,
+) -> Result<Vec<Path>, NoMemory>
+    ensures paths { IfOk result (λ paths. ArePaths page.now settings.now paths.items) }
+    ensures closed { IfOk result (λ paths. All (λ path. IsClosedWalk path.points) paths.items) }
+    ensures on_page { IfOk result (λ paths. All (λ path. AreOnPage path.points) paths.items) }
+{
+    let paths = decompose(alloc, page, settings.policy)?;
+    // The proof reads here how long the page's sides are at most.
+    let _ = page.width();
+    Ok(keep(paths, settings.turd))
+}

@@ -1,0 +1,29 @@
+//! The trace of a page.
+ghost use Rattle.std.specs.Prelude.{IfOk};
+ghost use Rattle.page_trace.specs.Trace.{IsTrace};
+
+use crate::paths::kept_paths;
+use crate::polygons::best_polygons;
+use bit_image::bitmap::Bitmap;
+use pt_base::fault::NoMemory;
+use pt_base::sequence::Sequence;
+use pt_base::settings::Settings;
+use pt_base::trace::Trace;
+use std::alloc::Global;
+
+/// The paths of a page that are no speckles, and the best polygon of each.
+pub fn trace(alloc: Global, page: &Bitmap, settings: &Settings) -> Result<Trace, NoMemory>
+    ensures { IfOk result (λ trace. IsTrace page.now settings.now trace) }
+{
+    let paths = kept_paths(alloc, page, settings)?;
+    let polygons = best_polygons(alloc, &paths)?;
+    Ok(Trace {
+        width: page.width(),
+        height: page.height(),
+        paths: Sequence::from_vec(paths),
+        polygons: Sequence::from_vec(polygons),
+        vertices: Sequence::from_vec(Vec::new(alloc)),
+        outlines: Sequence::from_vec(Vec::new(alloc)),
+        groups: Sequence::from_vec(Vec::new(alloc)),
+    })
+}

@@ -1,0 +1,18 @@
+//! What follows from the definitions alone.
+ghost use Rattle.std.specs.Prelude.{◌≡◌, ℕ, List};
+ghost use Rattle.pt_base.specs.declared.point.Point.{Point};
+ghost use Rattle.prefix_moments.specs.Sums.{IsPenalty};
+ghost use Rattle.polygon_optimal.specs.Polygon.{IsBestPolygon, penalty_of};
+
+/// A path has at most one best polygon.
+pub fn best_polygons_are_one()
+    ensures { (points : List Point) (at other : List ℕ)
+        → IsBestPolygon points at → IsBestPolygon points other → at ≡ other }
+{}
+
+/// The penalty of a segment is the one number that the sums over its points give.
+pub fn penalties_are_one()
+    ensures is { (points : List Point) (i j : ℕ) → IsPenalty points i j (penalty_of points i j) }
+    ensures one { (points : List Point) (i j penalty : ℕ)
+        → IsPenalty points i j penalty → penalty ≡ penalty_of points i j }
+{}

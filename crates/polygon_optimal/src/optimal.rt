@@ -1,0 +1,27 @@
+//! The best polygon of a path.
+ghost use Rattle.std.specs.Prelude.{◌≡◌, IfOk};
+ghost use Rattle.pt_base.specs.ClosedWalk.{IsClosedWalk};
+ghost use Rattle.pt_base.specs.OnPage.{AreOnPage};
+ghost use Rattle.polygon_optimal.specs.Polygon.{IsBestPolygon, total_penalty};
+
+use crate::segments::Segments;
+use least_walk::walk::least;
+use pt_base::fault::NoMemory;
+use pt_base::point::Point;
+use pt_base::polygon::Polygon;
+use std::alloc::Global;
+
+/// The best polygon through the first point of a closed walk on a page.
+pub fn polygon(alloc: Global, points: &[Point]) -> Result<Polygon, NoMemory>
+    requires closed { IsClosedWalk points.now }
+    requires on_page { AreOnPage points.now }
+    ensures best { IfOk result (λ polygon. IsBestPolygon points.now polygon.at) }
+    ensures cost { IfOk result (λ polygon. polygon.cost ≡ total_penalty points.now polygon.at) }
+{
+    let segments = Segments::of(alloc, points)?;
+    let walk = least(alloc, &segments)?;
+    Ok(Polygon {
+        at: walk.at,
+        cost: walk.cost,
+    })
+}

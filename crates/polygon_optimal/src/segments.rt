@@ -1,0 +1,112 @@
+//! The segments that a polygon may have, as steps from one point of its path to another.
+ghost use Rattle.std.specs.Prelude.{◌≡◌, ℕ, ◌+◌, ◌<◌, ◌≤◌, ◌^◌, List, length, slice_index, IfOk};
+ghost use Rattle.pt_base.specs.ClosedWalk.{IsClosedWalk};
+ghost use Rattle.pt_base.specs.OnPage.{AreOnPage};
+ghost use Rattle.polygon_optimal.specs.Polygon.{penalty_of};
+ghost use Rattle.polygon_optimal.specs.Lasts.{IsLast, HasLasts, LeadsOn, IsUpToLast};
+
+use least_walk::steps::Steps;
+use prefix_moments::moments::Moments;
+use pt_base::fault::NoMemory;
+use pt_base::point::Point;
+use std::alloc::Global;
+use straight_paths::reach::Reach;
+
+/// The segments of a closed walk's polygons, and their penalties.
+#[derive(Drop)]
+pub(crate) struct Segments {
+    moments: Moments,
+    /// For each point, where the longest segment from it leads.
+    lasts: Vec<u32>,
+    ghost some: { 1 ≤ length moments },
+    ghost few: { length moments ≤ 2 ^ 31 },
+    ghost on_page: { AreOnPage moments },
+    ghost places: { length lasts.items ≡ length moments },
+    ghost onwards: { (i : ℕ) → i < length moments
+        → LeadsOn (length moments) i (slice_index lasts.items i) },
+}
+
+impl Segments {
+    /// Measures a closed walk on a page.
+    pub(crate) fn of(alloc: Global, points: &[Point]) -> Result<Segments, NoMemory>
+        requires closed { IsClosedWalk points.now }
+        requires on_page { AreOnPage points.now }
+        ensures points { IfOk result (λ segments. segments.moments ≡ points.now) }
+        ensures lasts { IfOk result (λ segments. HasLasts points.now segments.lasts.items) }
+    {
+        let lasts = lasts(alloc, points)?;
+        let moments = Moments::of(alloc, points)?;
+        Ok(Segments { moments, lasts })
+    }
+}
+
+/// For each point of a walk, where the longest segment from it leads.
+fn lasts(alloc: Global, points: &[Point]) -> Result<Vec<u32>, NoMemory>
+    requires closed { IsClosedWalk points.now }
+    requires on_page { AreOnPage points.now }
+    ensures { IfOk result (λ lasts. HasLasts points.now lasts.items) }
+{
+    let reach = Reach::of(alloc, points)?;
+    let size = points.len() as u32;
+    let mut lasts = Vec::with_capacity(alloc, points.len())?;
+    for i in 0..size {
+        lasts.push(last_from(&reach, i, size))?;
+    }
+    Ok(lasts)
+}
+
+/// Where the longest segment from point `i` leads, of a walk of so many points.
+fn last_from(reach: &Reach, i: u32, size: u32) -> u32
+    requires size { size ≡ length reach.now }
+    requires most { size ≤ 2 ^ 31 }
+    requires point { i < size }
+    ensures { IsLast reach.now i result }
+{
+    size.min(i + reach.far(i))
+}
+
+impl Steps for Segments {
+    ghost use Rattle.std.proofs.Common.{arith};
+    ghost use Rattle.polygon_optimal.specs.OnePenalty.{penalty_most};
+
+    ghost size_of = { λ s. length s.moments };
+
+    ghost last_of = { λ s i. slice_index s.lasts.items i };
+
+    ghost is_allowed = { λ s i j. IsUpToLast s.lasts.items i j };
+
+    ghost cost_of = { λ s i j. penalty_of s.moments i j };
+
+    fn size(&self) -> u32 {
+        self.lasts.len() as u32
+    }
+
+    fn last(&self, from: u32) -> u32 {
+        self.lasts[from as usize]
+    }
+
+    fn allowed(&self, from: u32, to: u32) -> bool {
+        to <= self.lasts[from as usize]
+    }
+
+    fn cost(&self, from: u32, to: u32) -> u64 {
+        self.moments.penalty(from, to)
+    }
+
+    ghost least_size = { λ s. s.some };
+
+    ghost greatest_size = { λ s. s.few };
+
+    ghost last_is_beyond = { λ s i below. (s.onwards i below).beyond };
+
+    ghost last_is_within = { λ s i below. (s.onwards i below).within };
+
+    ghost next_is_allowed = { λ s i below.
+        (Prim.omega arith, Prim.omega (arith, (s.onwards i below).beyond)) };
+
+    ghost allowed_goes_up = { λ s i j below allowed. allowed.0 };
+
+    ghost allowed_ends_at_last = { λ s i j below allowed. allowed.1 };
+
+    ghost greatest_cost = { λ s i j below allowed. penalty_most s.moments s.on_page i j };
+}
