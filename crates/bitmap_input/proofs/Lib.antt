@@ -9,6 +9,7 @@ pub mod Headers
 pub mod Painting
 pub mod Blocks
 pub mod Placing
+pub mod Graying
 pub mod Showing
 pub mod Bodies
 pub mod Keeping
