@@ -9,8 +9,8 @@ pub returns-in-Ok-clause-page : goal.returns-in-Ok-clause-page
 returns-in-Ok-clause-page g c =
     rw (← c.self.view_is) (gives_page c.args.level.now c.args.invert c.self.inside.window c.read_page-answer.new.window _ _ _ _ _ _ c.in-Ok.ensures.reads refl c.if-self.false)
 
-pub returns-in-Ok-clause-told_page c.args.level.now c.args.invert : goal.returns-in-Ok-clause-told_page
-returns-in-Ok-clause-told_page c.args.level.now c.args.invert g c =
+pub returns-in-Ok-clause-told_page : goal.returns-in-Ok-clause-told_page
+returns-in-Ok-clause-told_page g c =
     let at_end = rw (← c.self.view_is) at c.requires.at_end in
     rw (← c.self.view_is) (told_page c.args.level.now c.args.invert c.self.inside.window c.read_page-answer.new.window _ _ _ _ _ _ at_end
     (gives_page c.args.level.now c.args.invert c.self.inside.window c.read_page-answer.new.window _ _ _ _ _ _ c.in-Ok.ensures.reads refl c.if-self.false))
