@@ -1,4 +1,5 @@
 mod Examples
+mod GrayExamples
 pub mod Bytes
 pub mod Appending
 pub mod Telling
