@@ -1,5 +1,5 @@
 -- What a part leaves is the end of what it was given.
-use Rattle.std.proofs.Common.{subst, ◌≡◌, refl, ℕ, zero, suc, ◌+◌, ◌-◌, ◌≤◌, ◌<◌, Bool, true, false, cond, ◌||◌, List, [], ◌∷◌, ◌++◌, length, take, drop, arith, ap, sym, ◌∙◌, append_assoc}
+use Rattle.std.proofs.Common.{subst, ◌≡◌, refl, ℕ, zero, suc, ◌+◌, ◌-◌, ◌≤◌, ◌<◌, Bool, true, false, cond, ◌||◌, List, [], ◌∷◌, ◌++◌, length, take, drop, arith, ap, sym, ◌∙◌, append_assoc, Option, Some, None}
 use Rattle.std.specs.Prelude.{nat_eq, nat_lt}
 use Rattle.std.proofs.lemmas.List.{take-append-drop, length-append, length-drop}
 use Rattle.std.proofs.Math.Seq.{drop-append_seam}
@@ -7,11 +7,12 @@ use Rattle.bitmap_input.specs.Cut.{Kind, Ending, Cut, ◌>>=◌}
 use Rattle.bitmap_input.specs.Cut.Kind.{BadHeader, BadRaster, Truncated, TooLong, ZeroSide, TooLarge, UnknownFormat}
 use Rattle.bitmap_input.specs.Cut.Ending.{End, Trailing, Refused}
 use Rattle.bitmap_input.specs.Cut.Cut.{Takes, Stops}
-use Rattle.bitmap_input.specs.Parts.{longest, is_zero, is_empty, is_space, is_digit, run_length, gap_length, missing, run_of, spaces, gap, some_gap, value, number, space, pixel, block, times}
-use Rattle.bitmap_input.specs.Raw.{Raw, bits_page, row_bytes, unpacked}
-use Rattle.bitmap_input.specs.Front.{Magic, no_magic, magic_behind, magic, checked, longest_side, side, sides, plain_pixel, raw_row, body, page_at, answer_of, front}
+use Rattle.bitmap_input.specs.Parts.{longest, is_zero, is_empty, is_space, is_digit, run_length, gap_length, missing, run_of, spaces, gap, some_gap, value, number, number_behind_gap, space, pixel, block, times}
+use Rattle.bitmap_input.specs.Raw.{Raw, Entry, entries_page, row_bytes, unpacked, samples}
+use Rattle.bitmap_input.specs.Raw.Entry.{Bit, Sample}
+use Rattle.bitmap_input.specs.Front.{Magic, no_magic, magic_of_name, magic_named, magic_behind, magic, checked, longest_side, sides, checked_maxval, maxval, greatest_maxval, plain_pixel, raw_row, plain_sample, is_wide, gray_row_bytes, raw_gray_row, raster, body, page_at, answer_of, front}
 use Rattle.bitmap_input.specs.Front.Answer.{Page}
-use Rattle.bitmap_input.specs.Front.Magic.{PlainBits, RawBits}
+use Rattle.bitmap_input.specs.Front.Magic.{PlainBits, RawBits, PlainGray, RawGray}
 use Rattle.bitmap_input.specs.FilePages.{next_begins}
 use Rattle.bitmap_input.proofs.Bytes.{run_length-le}
 use Rattle.bitmap_input.proofs.Showing.{after_takes}
@@ -105,14 +106,13 @@ keeps_no_magic : (bytes : List ℕ) (e later : Bool) → Keeps bytes (no_magic e
 keeps_no_magic bytes e true = keeps_stop bytes e Trailing
 keeps_no_magic bytes e false = keeps_stop bytes e (Refused UnknownFormat)
 
+keeps_magic_of_name : (b : ℕ) (bs : List ℕ) (later : Bool) (named : Option Magic) → Keeps (b ∷ bs) (magic_of_name later named bs)
+keeps_magic_of_name b bs later (Some m) = keeps_take (b ∷ bs) false m bs (one_off b bs)
+keeps_magic_of_name b bs later None = keeps_no_magic (b ∷ bs) false later
+
 keeps_magic_behind : (later : Bool) (a : ℕ) (bytes : List ℕ) → Keeps bytes (magic_behind later a bytes)
 keeps_magic_behind later a [] = keeps_no_magic [] true later
-keeps_magic_behind later a (b ∷ bs) =
-    let none = keeps_no_magic (b ∷ bs) false later in
-    keeps_pick (b ∷ bs) (nat_eq a 80) (cond (nat_eq b 49) (Takes false PlainBits bs) (cond (nat_eq b 52) (Takes false RawBits bs) (no_magic false later))) (no_magic false later)
-    (keeps_pick (b ∷ bs) (nat_eq b 49) (Takes false PlainBits bs) (cond (nat_eq b 52) (Takes false RawBits bs) (no_magic false later))
-    (keeps_take (b ∷ bs) false PlainBits bs (one_off b bs))
-    (keeps_pick (b ∷ bs) (nat_eq b 52) (Takes false RawBits bs) (no_magic false later) (keeps_take (b ∷ bs) false RawBits bs (one_off b bs)) none)) none
+keeps_magic_behind later a (b ∷ bs) = keeps_magic_of_name b bs later (magic_named a b)
 
 keeps_magic : (later : Bool) (bytes : List ℕ) → Keeps bytes (magic later bytes)
 keeps_magic true [] = keeps_stop [] true End
@@ -128,13 +128,19 @@ keeps_checked width height bytes =
     (keeps_pick bytes (nat_lt longest_side width || nat_lt longest_side height) (Stops false (Refused TooLarge)) (Takes false (width, height) bytes)
     (keeps_stop bytes false (Refused TooLarge)) (keeps_take bytes false (width, height) bytes (all_rest bytes)))
 
-keeps_side : (bytes : List ℕ) → Keeps bytes (side bytes)
-keeps_side bytes = keeps_bind bytes (some_gap BadHeader bytes) (λ _ rest. number BadHeader rest) (keeps_some_gap BadHeader bytes) (λ _ rest. keeps_number BadHeader rest)
+keeps_number_behind_gap : (kind : Kind) (bytes : List ℕ) → Keeps bytes (number_behind_gap kind bytes)
+keeps_number_behind_gap kind bytes = keeps_bind bytes (some_gap kind bytes) (λ _ rest. number kind rest) (keeps_some_gap kind bytes) (λ _ rest. keeps_number kind rest)
 
 keeps_sides : (bytes : List ℕ) → Keeps bytes (sides bytes)
 keeps_sides bytes =
-    keeps_bind bytes (side bytes) (λ width rest. side rest >>= λ height rest. checked width height rest) (keeps_side bytes)
-    (λ width rest. keeps_bind rest (side rest) (λ height rest. checked width height rest) (keeps_side rest) (keeps_checked width))
+    keeps_bind bytes (number_behind_gap BadHeader bytes) (λ width rest. number_behind_gap BadHeader rest >>= λ height rest. checked width height rest) (keeps_number_behind_gap BadHeader bytes)
+    (λ width rest. keeps_bind rest (number_behind_gap BadHeader rest) (λ height rest. checked width height rest) (keeps_number_behind_gap BadHeader rest) (keeps_checked width))
+
+keeps_maxval : (bytes : List ℕ) → Keeps bytes (maxval bytes)
+keeps_maxval bytes =
+    keeps_bind bytes (number_behind_gap BadHeader bytes) (λ n rest. checked_maxval n rest) (keeps_number_behind_gap BadHeader bytes)
+    (λ n rest. keeps_pick rest (is_zero n || nat_lt greatest_maxval n) (Stops false (Refused BadHeader)) (Takes false n rest)
+    (keeps_stop rest false (Refused BadHeader)) (keeps_take rest false n rest (all_rest rest)))
 
 keeps_plain_pixel : (bytes : List ℕ) → Keeps bytes (plain_pixel bytes)
 keeps_plain_pixel bytes = keeps_bind bytes (gap bytes) (λ _ rest. pixel rest) (keeps_run (gap_length false bytes) bytes) (λ _ rest. keeps_pixel rest)
@@ -144,20 +150,34 @@ keeps_raw_row width bytes =
     keeps_bind bytes (block (row_bytes width) bytes) (λ row rest. Takes false (take width (unpacked row)) rest) (keeps_block (row_bytes width) bytes)
     (λ row rest. keeps_take rest false (take width (unpacked row)) rest (all_rest rest))
 
-keeps_rows : (row : List ℕ → Cut (List Bool)) → ((bytes : List ℕ) → Keeps bytes (row bytes)) → (width height : ℕ) (bytes : List ℕ) →
-    Keeps bytes (times row height bytes >>= λ rows rest. Takes false (bits_page width height rows) rest)
-keeps_rows row keeps width height bytes =
-    keeps_bind bytes (times row height bytes) (λ rows rest. Takes false (bits_page width height rows) rest) (keeps_times row keeps height bytes)
-    (λ rows rest. keeps_take rest false (bits_page width height rows) rest (all_rest rest))
+keeps_raw_gray_row : (white width : ℕ) (bytes : List ℕ) → Keeps bytes (raw_gray_row white width bytes)
+keeps_raw_gray_row white width bytes =
+    keeps_bind bytes (block (gray_row_bytes white width) bytes) (λ row rest. Takes false (samples (is_wide white) row) rest) (keeps_block (gray_row_bytes white width) bytes)
+    (λ row rest. keeps_take rest false (samples (is_wide white) row) rest (all_rest rest))
+
+keeps_rows : {A : Type 0} (entry : A → Entry) (row : List ℕ → Cut (List A)) → ((bytes : List ℕ) → Keeps bytes (row bytes)) →
+    (width height : ℕ) (bytes : List ℕ) → Keeps bytes (raster entry row width height bytes)
+keeps_rows entry row keeps width height bytes =
+    keeps_bind bytes (times row height bytes) (λ rows rest. Takes false (entries_page entry width height rows) rest) (keeps_times row keeps height bytes)
+    (λ rows rest. keeps_take rest false (entries_page entry width height rows) rest (all_rest rest))
 
 keeps_body : (m : Magic) (bytes : List ℕ) → Keeps bytes (body m bytes)
 keeps_body PlainBits bytes =
-    keeps_bind bytes (sides bytes) (λ s rest. times (times plain_pixel s.0) s.1 rest >>= λ rows rest. Takes false (bits_page s.0 s.1 rows) rest) (keeps_sides bytes)
-    (λ s. keeps_rows (times plain_pixel s.0) (keeps_times plain_pixel keeps_plain_pixel s.0) s.0 s.1)
+    keeps_bind bytes (sides bytes) (λ s rest. raster (λ b. Bit b) (times plain_pixel s.0) s.0 s.1 rest) (keeps_sides bytes)
+    (λ s. keeps_rows (λ b. Bit b) (times plain_pixel s.0) (keeps_times plain_pixel keeps_plain_pixel s.0) s.0 s.1)
 keeps_body RawBits bytes =
-    keeps_bind bytes (sides bytes) (λ s rest. space rest >>= λ _ rest. times (raw_row s.0) s.1 rest >>= λ rows rest. Takes false (bits_page s.0 s.1 rows) rest) (keeps_sides bytes)
-    (λ s rest. keeps_bind rest (space rest) (λ _ rest. times (raw_row s.0) s.1 rest >>= λ rows rest. Takes false (bits_page s.0 s.1 rows) rest) (keeps_space rest)
-    (λ _ rest. keeps_rows (raw_row s.0) (keeps_raw_row s.0) s.0 s.1 rest))
+    keeps_bind bytes (sides bytes) (λ s rest. space rest >>= λ _ rest. raster (λ b. Bit b) (raw_row s.0) s.0 s.1 rest) (keeps_sides bytes)
+    (λ s rest. keeps_bind rest (space rest) (λ _ rest. raster (λ b. Bit b) (raw_row s.0) s.0 s.1 rest) (keeps_space rest)
+    (λ _. keeps_rows (λ b. Bit b) (raw_row s.0) (keeps_raw_row s.0) s.0 s.1))
+keeps_body PlainGray bytes =
+    keeps_bind bytes (sides bytes) (λ s rest. maxval rest >>= λ white rest. raster (λ v. Sample v white) (times plain_sample s.0) s.0 s.1 rest) (keeps_sides bytes)
+    (λ s rest. keeps_bind rest (maxval rest) (λ white rest. raster (λ v. Sample v white) (times plain_sample s.0) s.0 s.1 rest) (keeps_maxval rest)
+    (λ white. keeps_rows (λ v. Sample v white) (times plain_sample s.0) (keeps_times plain_sample (keeps_number_behind_gap BadRaster) s.0) s.0 s.1))
+keeps_body RawGray bytes =
+    keeps_bind bytes (sides bytes) (λ s rest. maxval rest >>= λ white rest. space rest >>= λ _ rest. raster (λ v. Sample v white) (raw_gray_row white s.0) s.0 s.1 rest) (keeps_sides bytes)
+    (λ s rest. keeps_bind rest (maxval rest) (λ white rest. space rest >>= λ _ rest. raster (λ v. Sample v white) (raw_gray_row white s.0) s.0 s.1 rest) (keeps_maxval rest)
+    (λ white rest. keeps_bind rest (space rest) (λ _ rest. raster (λ v. Sample v white) (raw_gray_row white s.0) s.0 s.1 rest) (keeps_space rest)
+    (λ _. keeps_rows (λ v. Sample v white) (raw_gray_row white s.0) (keeps_raw_gray_row white s.0) s.0 s.1)))
 
 keeps_page : (later : Bool) (bytes : List ℕ) → Keeps bytes (page_at later bytes)
 keeps_page later bytes =
@@ -185,26 +205,38 @@ value_bind : {A B : Type 0} (P : B → Type 0) (c : Cut A) (g : A → List ℕ �
 value_bind P (Takes d x mid) g parts e b rest h = let p = after_takes d e (g x mid) b rest h in parts x mid p.0 b rest p.1
 value_bind P (Stops d ending) g parts e b rest h = cc
 
-claims_none : (width height : ℕ) (rows : List (List Bool)) (bytes : List ℕ) →
-    HasValue (λ (raw : Raw). raw.least_length ≡ 0) (Takes false (bits_page width height rows) bytes)
-claims_none width height rows bytes e raw rest h =
-    let same : bits_page width height rows ≡ raw = cc in ap (λ (raw : Raw). raw.least_length) (sym same)
+-- the page claims no bytes behind those that it takes
+abbrev ClaimsNone : Raw → Type 0
+ClaimsNone raw = raw.least_length ≡ 0
 
-body_claims_none : (m : Magic) (bytes : List ℕ) → HasValue (λ (raw : Raw). raw.least_length ≡ 0) (body m bytes)
+rows_claim_none : {A : Type 0} (entry : A → Entry) (row : List ℕ → Cut (List A)) (width height : ℕ) (bytes : List ℕ) →
+    HasValue ClaimsNone (raster entry row width height bytes)
+rows_claim_none entry row width height bytes =
+    value_bind ClaimsNone (times row height bytes) (λ rows rest. Takes false (entries_page entry width height rows) rest)
+    (λ rows rest e raw left h. let same : entries_page entry width height rows ≡ raw = cc in ap (λ (raw : Raw). raw.least_length) (sym same))
+
+body_claims_none : (m : Magic) (bytes : List ℕ) → HasValue ClaimsNone (body m bytes)
 body_claims_none PlainBits bytes =
-    value_bind (λ (raw : Raw). raw.least_length ≡ 0) (sides bytes) (λ s rest. times (times plain_pixel s.0) s.1 rest >>= λ rows rest. Takes false (bits_page s.0 s.1 rows) rest)
-    (λ s rest. value_bind (λ (raw : Raw). raw.least_length ≡ 0) (times (times plain_pixel s.0) s.1 rest) (λ rows rest. Takes false (bits_page s.0 s.1 rows) rest)
-    (claims_none s.0 s.1))
+    value_bind ClaimsNone (sides bytes) (λ s rest. raster (λ b. Bit b) (times plain_pixel s.0) s.0 s.1 rest)
+    (λ s. rows_claim_none (λ b. Bit b) (times plain_pixel s.0) s.0 s.1)
 body_claims_none RawBits bytes =
-    value_bind (λ (raw : Raw). raw.least_length ≡ 0) (sides bytes) (λ s rest. space rest >>= λ _ rest. times (raw_row s.0) s.1 rest >>= λ rows rest. Takes false (bits_page s.0 s.1 rows) rest)
-    (λ s rest. value_bind (λ (raw : Raw). raw.least_length ≡ 0) (space rest) (λ _ rest. times (raw_row s.0) s.1 rest >>= λ rows rest. Takes false (bits_page s.0 s.1 rows) rest)
-    (λ _ rest. value_bind (λ (raw : Raw). raw.least_length ≡ 0) (times (raw_row s.0) s.1 rest) (λ rows rest. Takes false (bits_page s.0 s.1 rows) rest)
-    (claims_none s.0 s.1)))
+    value_bind ClaimsNone (sides bytes) (λ s rest. space rest >>= λ _ rest. raster (λ b. Bit b) (raw_row s.0) s.0 s.1 rest)
+    (λ s rest. value_bind ClaimsNone (space rest) (λ _ rest. raster (λ b. Bit b) (raw_row s.0) s.0 s.1 rest)
+    (λ _. rows_claim_none (λ b. Bit b) (raw_row s.0) s.0 s.1))
+body_claims_none PlainGray bytes =
+    value_bind ClaimsNone (sides bytes) (λ s rest. maxval rest >>= λ white rest. raster (λ v. Sample v white) (times plain_sample s.0) s.0 s.1 rest)
+    (λ s rest. value_bind ClaimsNone (maxval rest) (λ white rest. raster (λ v. Sample v white) (times plain_sample s.0) s.0 s.1 rest)
+    (λ white. rows_claim_none (λ v. Sample v white) (times plain_sample s.0) s.0 s.1))
+body_claims_none RawGray bytes =
+    value_bind ClaimsNone (sides bytes) (λ s rest. maxval rest >>= λ white rest. space rest >>= λ _ rest. raster (λ v. Sample v white) (raw_gray_row white s.0) s.0 s.1 rest)
+    (λ s rest. value_bind ClaimsNone (maxval rest) (λ white rest. space rest >>= λ _ rest. raster (λ v. Sample v white) (raw_gray_row white s.0) s.0 s.1 rest)
+    (λ white rest. value_bind ClaimsNone (space rest) (λ _ rest. raster (λ v. Sample v white) (raw_gray_row white s.0) s.0 s.1 rest)
+    (λ _. rows_claim_none (λ v. Sample v white) (raw_gray_row white s.0) s.0 s.1)))
 
-page_claims_none : (later : Bool) (bytes : List ℕ) → HasValue (λ (raw : Raw). raw.least_length ≡ 0) (page_at later bytes)
+page_claims_none : (later : Bool) (bytes : List ℕ) → HasValue ClaimsNone (page_at later bytes)
 page_claims_none later bytes =
-    value_bind (λ (raw : Raw). raw.least_length ≡ 0) (spaces bytes) (λ _ rest. magic later rest >>= λ m rest. body m rest)
-    (λ _ rest. value_bind (λ (raw : Raw). raw.least_length ≡ 0) (magic later rest) (λ m rest. body m rest) body_claims_none)
+    value_bind ClaimsNone (spaces bytes) (λ _ rest. magic later rest >>= λ m rest. body m rest)
+    (λ _ rest. value_bind ClaimsNone (magic later rest) (λ m rest. body m rest) body_claims_none)
 
 -- what comes behind a run of n bytes leaves an end of what stands behind them
 behind_run : {B : Type 0} (t : Bool) (n : ℕ) (bytes : List ℕ) (g : List ℕ → List ℕ → Cut B) (e : Bool) (b : B) (rest : List ℕ) →

@@ -1,4 +1,5 @@
 mod Examples
+mod GrayExamples
 pub mod Bytes
 pub mod Appending
 pub mod Telling
@@ -9,6 +10,7 @@ pub mod Headers
 pub mod Painting
 pub mod Blocks
 pub mod Placing
+pub mod Graying
 pub mod Showing
 pub mod Bodies
 pub mod Keeping
