@@ -70,3 +70,15 @@ text_is Eps page settings trace text is document = absurd document
 text_is Svg page settings trace text is document = absurd document
 text_is Dxf page settings trace text is document = absurd document
 text_is GeoJson page settings trace text is document = absurd document
+
+-- a page has one document under some settings
+pub one_document : (backend : Backend) (page : Page) (settings : Settings) (text other : List ℕ) → IsDocumentUnder backend page settings text
+    → IsDocumentUnder backend page settings other → text ≡ other
+one_document Points page settings text other this that =
+    this.2 ∙ ap (points_text page.width page.height) (one_list_of_paths page settings this.0 that.0 this.1 that.1) ∙ sym that.2
+one_document Polygons page settings text other this that =
+    this.2 ∙ ap polygons_text (one_trace page settings this.0 that.0 this.1 that.1) ∙ sym that.2
+one_document Eps page settings text other this that = absurd this
+one_document Svg page settings text other this that = absurd this
+one_document Dxf page settings text other this that = absurd this
+one_document GeoJson page settings text other this that = absurd this

@@ -17,3 +17,9 @@ pub fn documents_are_texts_of_traces()
     ensures { (page : Page) (settings : Settings) (trace : Trace) (text : List ℕ)
         → IsTrace page settings trace → IsDocument page settings text → text ≡ text_of settings trace }
 {}
+
+/// A page has at most one document under some settings.
+pub fn documents_are_one()
+    ensures { (page : Page) (settings : Settings) (text other : List ℕ)
+        → IsDocument page settings text → IsDocument page settings other → text ≡ other }
+{}

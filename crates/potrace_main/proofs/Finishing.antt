@@ -24,7 +24,7 @@ use Rattle.potrace_main.specs.Items.Item.{Doc, Missing, Note, Stop}
 use Rattle.potrace_main.specs.Outcome.{AreSaid, GoesOn, IsDone, IsOutOfMemory, IsRefused, IsUnwritten, notes, with_items}
 use Rattle.potrace_main.specs.Progress.{InputCount, OutputCount, AreTraced, BeginsWith, EndsBy, Traces, docs, is_later}
 use Rattle.potrace_main.specs.Run.{EndsRefused, IsComplete, IsOutcome, IsToldBy, IsWritten, SaysEnd, fault_text, status_of}
-use Rattle.potrace_main.specs.declared.ask.Tracing.{Tracing}
+use Rattle.pt_base.specs.declared.settings.Settings.{Settings}
 use Rattle.potrace_main.specs.declared.pages.PagesEnd.{PagesEnd}
 use Rattle.potrace_main.specs.declared.pages.PagesEnd.TheVariants as why
 use Rattle.potrace_main.proofs.Outcomes.{IsLeft, goes_on-docs, left_at_end, left_too_many, left_with_page, none_said, notes-docs, one_said, what_is_left, with_items-docs}
@@ -107,55 +107,55 @@ nothing_said errs errs_now faults faults_now e f =
     subst (λ o. AreSaid errs o faults faults_now []) (sym e) (subst (λ n. AreSaid errs errs faults n []) (sym f) (none_said errs faults))
 
 -- how the run ended, against the items
-pub outcome_left : (tracing : Tracing) (later : Bool) (rest : List ℕ) (k : ℕ) (texts : List (List ℕ)) (items : List Item)
+pub outcome_left : (settings : Settings) (later : Bool) (rest : List ℕ) (k : ℕ) (texts : List (List ℕ)) (items : List Item)
     (outs outs_now errs errs_now : Option Documents) (faults faults_now : ℕ) (end : PagesEnd)
-    → IsLeft tracing later rest k texts items → EndsBy tracing later (Some rest) (with_items outs (docs texts)) outs_now end
+    → IsLeft settings later rest k texts items → EndsBy settings later (Some rest) (with_items outs (docs texts)) outs_now end
     → (end ≡ why.TooMany → most_pages ≤ k) → (end ≡ why.Unwritten → k < most_pages) → SaysEnd end k errs errs_now faults faults_now
     → IsOutcome (status_of end) items outs outs_now errs errs_now faults faults_now
-outcome_left tracing later rest k texts items outs outs_now errs errs_now faults faults_now why.End left ends full not_full said = record {
+outcome_left settings later rest k texts items outs outs_now errs errs_now faults faults_now why.End left ends full not_full said = record {
   done = λ _. done_with items texts [] outs outs_now errs errs_now faults faults_now
-      (left_at_end tracing later rest k texts items End left ends.1) tt ends.0 refl (nothing_said errs errs_now faults faults_now said.0 said.1);
+      (left_at_end settings later rest k texts items End left ends.1) tt ends.0 refl (nothing_said errs errs_now faults faults_now said.0 said.1);
   refused = λ e. absurd (omega (arith, e));
   unwritten = λ e. absurd (omega (arith, e));
   out_of_memory = λ e. absurd (omega (arith, e));
 }
-outcome_left tracing later rest k texts items outs outs_now errs errs_now faults faults_now why.Trailing left ends full not_full said = record {
+outcome_left settings later rest k texts items outs outs_now errs errs_now faults faults_now why.Trailing left ends full not_full said = record {
   done = λ _. done_with items texts (Note (trailing_line dash k) ∷ []) outs outs_now errs errs_now faults faults_now
-      (left_at_end tracing later rest k texts items Trailing left ends.1) tt ends.0 refl (one_said errs errs_now faults faults_now (trailing_line dash k) said);
+      (left_at_end settings later rest k texts items Trailing left ends.1) tt ends.0 refl (one_said errs errs_now faults faults_now (trailing_line dash k) said);
   refused = λ e. absurd (omega (arith, e));
   unwritten = λ e. absurd (omega (arith, e));
   out_of_memory = λ e. absurd (omega (arith, e));
 }
-outcome_left tracing later rest k texts items outs outs_now errs errs_now faults faults_now (why.Refused f) left (documents, (kind, cause, here)) full not_full said = record {
+outcome_left settings later rest k texts items outs outs_now errs errs_now faults faults_now (why.Refused f) left (documents, (kind, cause, here)) full not_full said = record {
   done = λ e. absurd (omega (arith, e));
   refused = λ _. refused_with items texts (page_line dash (k + 1) (kind_text kind)) outs outs_now errs errs_now faults faults_now
-      (left_at_end tracing later rest k texts items (Refused kind) left here) documents
+      (left_at_end settings later rest k texts items (Refused kind) left here) documents
       (subst (λ text. IsSaid errs errs_now faults faults_now (page_line dash (k + 1) text)) (fault_text-kind f kind cause) said);
   unwritten = λ e. absurd (omega (arith, e));
   out_of_memory = λ e. absurd (omega (arith, e));
 }
-outcome_left tracing later rest k texts items outs outs_now errs errs_now faults faults_now why.TooMany left (documents, (raw, used, here)) full not_full said = record {
+outcome_left settings later rest k texts items outs outs_now errs errs_now faults faults_now why.TooMany left (documents, (raw, used, here)) full not_full said = record {
   done = λ e. absurd (omega (arith, e));
   refused = λ _. refused_with items texts (page_line dash (k + 1) too_many) outs outs_now errs errs_now faults faults_now
-      (left_too_many tracing later rest k texts items raw used left here (full refl)) documents said;
+      (left_too_many settings later rest k texts items raw used left here (full refl)) documents said;
   unwritten = λ e. absurd (omega (arith, e));
   out_of_memory = λ e. absurd (omega (arith, e));
 }
-outcome_left tracing later rest k texts items outs outs_now errs errs_now faults faults_now why.Unread left ends full not_full said = record {
+outcome_left settings later rest k texts items outs outs_now errs errs_now faults faults_now why.Unread left ends full not_full said = record {
   done = λ e. absurd (omega (arith, e));
   refused = λ e. absurd (omega (arith, e));
   unwritten = λ e. absurd (omega (arith, e));
   out_of_memory = λ e. absurd (omega (arith, e));
 }
-outcome_left tracing later rest k texts items outs outs_now errs errs_now faults faults_now why.Unwritten left (raw, used, text, is_text, here, cut) full not_full said =
-    let (after, split) = left_with_page tracing later rest k texts items raw used text left here (not_full refl) is_text in
+outcome_left settings later rest k texts items outs outs_now errs errs_now faults faults_now why.Unwritten left (raw, used, text, is_text, here, cut) full not_full said =
+    let (after, split) = left_with_page settings later rest k texts items raw used text left here (not_full refl) is_text in
     record {
       done = λ e. absurd (omega (arith, e));
       refused = λ e. absurd (omega (arith, e));
       unwritten = λ _. unwritten_with items texts text after outs outs_now errs errs_now faults faults_now split cut said;
       out_of_memory = λ e. absurd (omega (arith, e));
     }
-outcome_left tracing later rest k texts items outs outs_now errs errs_now faults faults_now why.OutOfMemory left ends full not_full said = record {
+outcome_left settings later rest k texts items outs outs_now errs errs_now faults faults_now why.OutOfMemory left ends full not_full said = record {
   done = λ e. absurd (omega (arith, e));
   refused = λ e. absurd (omega (arith, e));
   unwritten = λ e. absurd (omega (arith, e));
@@ -167,84 +167,84 @@ unread_opened : (files : Files) (bytes : List ℕ) → get files.contents dash �
 unread_opened files bytes is = ap (λ o. option_map unread_of (option_map (λ (b : List ℕ). record { name = dash; rest = b }) o)) is
 
 -- the outcome of a run that read its pages
-pub run_outcome : (one tracing : Tracing) → one ≡ tracing → (told mid : Option Files) (outs outs_now errs errs_now : Option Documents) (faults faults_now k : ℕ) (end : PagesEnd)
+pub run_outcome : (one settings : Settings) → one ≡ settings → (told mid : Option Files) (outs outs_now errs errs_now : Option Documents) (faults faults_now k : ℕ) (end : PagesEnd)
     → mid ≡ with_file told dash → (Lacks told dash → ⊥) → Traces one (unread mid) outs outs_now k end → SaysEnd end k errs errs_now faults faults_now
-    → IfSome told (λ files. (items : List Item) → AreInputItems tracing files items → IsOutcome (status_of end) items outs outs_now errs errs_now faults faults_now)
-run_outcome one tracing same None mid outs outs_now errs errs_now faults faults_now k end opened there t said = tt
-run_outcome one tracing same (Some files) mid outs outs_now errs errs_now faults faults_now k end opened there traced said = by_bytes (get files.contents dash) refl where
-  t : Traces tracing (unread mid) outs outs_now k end
+    → IfSome told (λ files. (items : List Item) → AreInputItems settings files items → IsOutcome (status_of end) items outs outs_now errs errs_now faults faults_now)
+run_outcome one settings same None mid outs outs_now errs errs_now faults faults_now k end opened there t said = tt
+run_outcome one settings same (Some files) mid outs outs_now errs errs_now faults faults_now k end opened there traced said = by_bytes (get files.contents dash) refl where
+  t : Traces settings (unread mid) outs outs_now k end
   t = subst (λ x. Traces x (unread mid) outs outs_now k end) same traced
 
   by_bytes : (o : Option (List ℕ)) → get files.contents dash ≡ o
-      → (items : List Item) → AreInputItems tracing files items → IsOutcome (status_of end) items outs outs_now errs errs_now faults faults_now
+      → (items : List Item) → AreInputItems settings files items → IsOutcome (status_of end) items outs outs_now errs errs_now faults faults_now
   by_bytes None is items are = absurd (there is)
   by_bytes (Some bytes) is items are =
       let here : unread mid ≡ Some bytes = ap unread opened ∙ unread_opened files bytes is in
       let (left, rest_is, begins) = subst (λ (o : Option (List ℕ)). IfSome o (λ all. (left : List ℕ) × (t.rest ≡ Some left) × BeginsWith false all t.raws left)) here t.begins in
-      outcome_left tracing (is_later false t.raws) left k t.texts items outs outs_now errs errs_now faults faults_now end
-      (what_is_left tracing files bytes k t.raws left t.texts items is begins t.traced t.count t.few are)
-      (subst (λ o. EndsBy tracing (is_later false t.raws) o (with_items outs (docs t.texts)) outs_now end) rest_is t.ends)
+      outcome_left settings (is_later false t.raws) left k t.texts items outs outs_now errs errs_now faults faults_now end
+      (what_is_left settings files bytes k t.raws left t.texts items is begins t.traced t.count t.few are)
+      (subst (λ o. EndsBy settings (is_later false t.raws) o (with_items outs (docs t.texts)) outs_now end) rest_is t.ends)
       t.full t.not_full said
 
 no_end : (A : Type 0) (later : Bool) (rest : List ℕ) (ending : Ending) (raw : _) (used : ℕ) → front later rest ≡ Gives raw used → front later rest ≡ Ends ending → A
 no_end A later rest ending raw used e f = absurd (let clash : Gives raw used ≡ Ends ending = sym e ∙ f in cc)
 
 -- the items of an input of these bytes
-abbrev pub KnownItems : Tracing → List ℕ → Type 0
-KnownItems tracing bytes = (items : List Item) × (raws : List Raw) × (ending : Ending) × FilePages false bytes raws ending × AreItems tracing 0 raws ending items
+abbrev pub KnownItems : Settings → List ℕ → Type 0
+KnownItems settings bytes = (items : List Item) × (raws : List Raw) × (ending : Ending) × FilePages false bytes raws ending × AreItems settings 0 raws ending items
 
-known_too_many : (tracing : Tracing) (bytes : List ℕ) (raws : List Raw) (texts : List (List ℕ)) (left : List ℕ) (raw : Raw) (used : ℕ)
-    → AreTraced tracing raws texts → length raws ≡ most_pages → front (is_later false raws) left ≡ Gives raw used
+known_too_many : (settings : Settings) (bytes : List ℕ) (raws : List Raw) (texts : List (List ℕ)) (left : List ℕ) (raw : Raw) (used : ℕ)
+    → AreTraced settings raws texts → length raws ≡ most_pages → front (is_later false raws) left ≡ Gives raw used
     → (all more : List Raw) (ending : Ending) → FilePages false bytes all ending → all ≡ raws ++ more → FilePages (is_later false raws) left more ending
-    → KnownItems tracing bytes
-known_too_many tracing bytes raws texts left raw used traced count here all [] ending pages split (Ended f) = no_end _ (is_later false raws) left ending raw used here f
-known_too_many tracing bytes raws texts left raw used traced count here all (r ∷ more) ending pages split (Next f p) = (
+    → KnownItems settings bytes
+known_too_many settings bytes raws texts left raw used traced count here all [] ending pages split (Ended f) = no_end _ (is_later false raws) left ending raw used here f
+known_too_many settings bytes raws texts left raw used traced count here all (r ∷ more) ending pages split (Next f p) = (
   docs texts ++ Stop (page_line dash (most_pages + 1) too_many) ∷ [],
   raws ++ r ∷ more,
   ending,
   subst (λ rs. FilePages false bytes rs ending) split pages,
-  items_too_many tracing 0 raws texts r more ending traced (omega (arith, count)),
+  items_too_many settings 0 raws texts r more ending traced (omega (arith, count)),
 )
 
-known_left : (tracing : Tracing) (bytes : List ℕ) (raws : List Raw) (texts : List (List ℕ)) (left : List ℕ) (k : ℕ) (outs outs_now : Option Documents) (end : PagesEnd)
-    → BeginsWith false bytes raws left → AreTraced tracing raws texts → k ≡ length raws → k ≤ most_pages
-    → EndsBy tracing (is_later false raws) (Some left) outs outs_now end → (end ≡ why.TooMany → most_pages ≤ k)
-    → (status_of end ≡ 0) ⊎ (status_of end ≡ 2) → KnownItems tracing bytes
-known_left tracing bytes raws texts left k outs outs_now why.End begins traced count few ends full status =
-    (_, raws, End, pages_are false bytes raws left End begins ends.1, items_of tracing 0 k raws texts End traced (omega (arith, count)) few)
-known_left tracing bytes raws texts left k outs outs_now why.Trailing begins traced count few ends full status =
-    (_, raws, Trailing, pages_are false bytes raws left Trailing begins ends.1, items_of tracing 0 k raws texts Trailing traced (omega (arith, count)) few)
-known_left tracing bytes raws texts left k outs outs_now (why.Refused f) begins traced count few (documents, (kind, cause, here)) full status =
-    (_, raws, Refused kind, pages_are false bytes raws left (Refused kind) begins here, items_of tracing 0 k raws texts (Refused kind) traced (omega (arith, count)) few)
-known_left tracing bytes raws texts left k outs outs_now why.TooMany begins traced count few (documents, (raw, used, here)) full status =
+known_left : (settings : Settings) (bytes : List ℕ) (raws : List Raw) (texts : List (List ℕ)) (left : List ℕ) (k : ℕ) (outs outs_now : Option Documents) (end : PagesEnd)
+    → BeginsWith false bytes raws left → AreTraced settings raws texts → k ≡ length raws → k ≤ most_pages
+    → EndsBy settings (is_later false raws) (Some left) outs outs_now end → (end ≡ why.TooMany → most_pages ≤ k)
+    → (status_of end ≡ 0) ⊎ (status_of end ≡ 2) → KnownItems settings bytes
+known_left settings bytes raws texts left k outs outs_now why.End begins traced count few ends full status =
+    (_, raws, End, pages_are false bytes raws left End begins ends.1, items_of settings 0 k raws texts End traced (omega (arith, count)) few)
+known_left settings bytes raws texts left k outs outs_now why.Trailing begins traced count few ends full status =
+    (_, raws, Trailing, pages_are false bytes raws left Trailing begins ends.1, items_of settings 0 k raws texts Trailing traced (omega (arith, count)) few)
+known_left settings bytes raws texts left k outs outs_now (why.Refused f) begins traced count few (documents, (kind, cause, here)) full status =
+    (_, raws, Refused kind, pages_are false bytes raws left (Refused kind) begins here, items_of settings 0 k raws texts (Refused kind) traced (omega (arith, count)) few)
+known_left settings bytes raws texts left k outs outs_now why.TooMany begins traced count few (documents, (raw, used, here)) full status =
     let (all, ending, pages) = file_pages_some false bytes in
     let (more, split, behind) = pages_after false bytes raws left all ending begins pages in
     let at_most : most_pages ≤ k = full refl in
-    known_too_many tracing bytes raws texts left raw used traced (omega (arith, count, few, at_most)) here all more ending pages split behind
-known_left tracing bytes raws texts left k outs outs_now why.Unread begins traced count few ends full status =
+    known_too_many settings bytes raws texts left raw used traced (omega (arith, count, few, at_most)) here all more ending pages split behind
+known_left settings bytes raws texts left k outs outs_now why.Unread begins traced count few ends full status =
     absurd (elim status [ inl e ↦ omega (arith, e) | inr e ↦ omega (arith, e) ])
-known_left tracing bytes raws texts left k outs outs_now why.Unwritten begins traced count few ends full status =
+known_left settings bytes raws texts left k outs outs_now why.Unwritten begins traced count few ends full status =
     absurd (elim status [ inl e ↦ omega (arith, e) | inr e ↦ omega (arith, e) ])
-known_left tracing bytes raws texts left k outs outs_now why.OutOfMemory begins traced count few ends full status =
+known_left settings bytes raws texts left k outs outs_now why.OutOfMemory begins traced count few ends full status =
     absurd (elim status [ inl e ↦ omega (arith, e) | inr e ↦ omega (arith, e) ])
 
 -- what there was to write is known where the run came to its end
-pub run_known : (one tracing : Tracing) → one ≡ tracing → (told mid : Option Files) (outs outs_now : Option Documents) (k : ℕ) (end : PagesEnd)
+pub run_known : (one settings : Settings) → one ≡ settings → (told mid : Option Files) (outs outs_now : Option Documents) (k : ℕ) (end : PagesEnd)
     → mid ≡ with_file told dash → (Lacks told dash → ⊥) → Traces one (unread mid) outs outs_now k end
-    → IfSome told (λ files. (status_of end ≡ 0) ⊎ (status_of end ≡ 2) → (items : List Item) × AreInputItems tracing files items)
-run_known one tracing same None mid outs outs_now k end opened there t = tt
-run_known one tracing same (Some files) mid outs outs_now k end opened there traced = by_bytes (get files.contents dash) refl where
-  t : Traces tracing (unread mid) outs outs_now k end
+    → IfSome told (λ files. (status_of end ≡ 0) ⊎ (status_of end ≡ 2) → (items : List Item) × AreInputItems settings files items)
+run_known one settings same None mid outs outs_now k end opened there t = tt
+run_known one settings same (Some files) mid outs outs_now k end opened there traced = by_bytes (get files.contents dash) refl where
+  t : Traces settings (unread mid) outs outs_now k end
   t = subst (λ x. Traces x (unread mid) outs outs_now k end) same traced
 
   by_bytes : (o : Option (List ℕ)) → get files.contents dash ≡ o
-      → (status_of end ≡ 0) ⊎ (status_of end ≡ 2) → (items : List Item) × AreInputItems tracing files items
+      → (status_of end ≡ 0) ⊎ (status_of end ≡ 2) → (items : List Item) × AreInputItems settings files items
   by_bytes None is status = absurd (there is)
   by_bytes (Some bytes) is status =
       let here : unread mid ≡ Some bytes = ap unread opened ∙ unread_opened files bytes is in
       let (left, rest_is, begins) = subst (λ (o : Option (List ℕ)). IfSome o (λ all. (left : List ℕ) × (t.rest ≡ Some left) × BeginsWith false all t.raws left)) here t.begins in
-      let (items, raws, ending, pages, are) = known_left tracing bytes t.raws t.texts left k (with_items outs (docs t.texts)) outs_now end begins t.traced t.count t.few
-      (subst (λ o. EndsBy tracing (is_later false t.raws) o (with_items outs (docs t.texts)) outs_now end) rest_is t.ends) t.full status in
+      let (items, raws, ending, pages, are) = known_left settings bytes t.raws t.texts left k (with_items outs (docs t.texts)) outs_now end begins t.traced t.count t.few
+      (subst (λ o. EndsBy settings (is_later false t.raws) o (with_items outs (docs t.texts)) outs_now end) rest_is t.ends) t.full status in
       (items, inr (bytes, raws, ending, is, pages, are))
 
 -- the message that belongs to the status
@@ -308,10 +308,10 @@ told_by why.OutOfMemory k errs errs_now faults faults_now said = record {
 }
 
 -- the documents are those of the pages that were traced
-pub run_written : (tracing : Tracing) (bytes : Option (List ℕ)) (outs outs_now : Option Documents) (k : ℕ) (end : PagesEnd)
-    → Traces tracing bytes outs outs_now k end → IsWritten tracing (status_of end) outs outs_now
-run_written tracing bytes outs outs_now k end t = by_end end t.ends where
-  by_end : (e : PagesEnd) → EndsBy tracing (is_later false t.raws) t.rest (with_items outs (docs t.texts)) outs_now e → IsWritten tracing (status_of e) outs outs_now
+pub run_written : (settings : Settings) (bytes : Option (List ℕ)) (outs outs_now : Option Documents) (k : ℕ) (end : PagesEnd)
+    → Traces settings bytes outs outs_now k end → IsWritten settings (status_of end) outs outs_now
+run_written settings bytes outs outs_now k end t = by_end end t.ends where
+  by_end : (e : PagesEnd) → EndsBy settings (is_later false t.raws) t.rest (with_items outs (docs t.texts)) outs_now e → IsWritten settings (status_of e) outs outs_now
   by_end why.End ends = record { raws = t.raws; texts = t.texts; traced = t.traced; whole = λ _. ends.0; cut_off = λ e. absurd (omega (arith, e)) }
   by_end why.Trailing ends = record { raws = t.raws; texts = t.texts; traced = t.traced; whole = λ _. ends.0; cut_off = λ e. absurd (omega (arith, e)) }
   by_end (why.Refused f) ends = record { raws = t.raws; texts = t.texts; traced = t.traced; whole = λ _. ends.0; cut_off = λ e. absurd (omega (arith, e)) }
@@ -321,8 +321,8 @@ run_written tracing bytes outs outs_now k end t = by_end end t.ends where
   by_end why.Unwritten (raw, used, text, is_text, here, cut) = record { raws = t.raws; texts = t.texts; traced = t.traced; whole = λ n. absurd (n refl); cut_off = λ _. (text, cut) }
 
 -- nothing was written
-pub none_written_at : (tracing : Tracing) (status : ℕ) (outs : Option Documents) → status ≢ 4 → IsWritten tracing status outs outs
-none_written_at tracing status outs other = record { raws = []; texts = []; traced = tt; whole = λ _. refl; cut_off = λ e. absurd (other e) }
+pub none_written_at : (settings : Settings) (status : ℕ) (outs : Option Documents) → status ≢ 4 → IsWritten settings status outs outs
+none_written_at settings status outs other = record { raws = []; texts = []; traced = tt; whole = λ _. refl; cut_off = λ e. absurd (other e) }
 
 -- memory ran out before the first page
 pub out_of_memory_at_once : (items : List Item) (outs errs errs_now : Option Documents) (faults faults_now : ℕ)
@@ -378,26 +378,26 @@ complete_at why.OutOfMemory items outs outs_now errs errs_now faults faults_now 
     record { all = λ _. inr refl; refusal = λ _. inr refl }
 
 -- the same where the files are told
-pub run_complete : (tracing : Tracing) (told : Option Files) (end : PagesEnd) (outs outs_now errs errs_now : Option Documents) (faults faults_now : ℕ)
+pub run_complete : (settings : Settings) (told : Option Files) (end : PagesEnd) (outs outs_now errs errs_now : Option Documents) (faults faults_now : ℕ)
     (read mid read_now written written_now : ℕ) (ready : Bool)
-    → IfSome told (λ files. (items : List Item) → AreInputItems tracing files items
+    → IfSome told (λ files. (items : List Item) → AreInputItems settings files items
     → IsOutcome (status_of end) items outs outs_now errs errs_now faults faults_now)
     → mid ≡ read → InputCount end mid read_now → OutputCount end written written_now ready
-    → IfSome told (λ files. (items : List Item) → AreInputItems tracing files items
+    → IfSome told (λ files. (items : List Item) → AreInputItems settings files items
     → (Rose read read_now → ⊥) → (Rose written written_now → ⊥) → IsComplete (status_of end) items)
-run_complete tracing None end outs outs_now errs errs_now faults faults_now read mid read_now written written_now ready o same i w = tt
-run_complete tracing (Some files) end outs outs_now errs errs_now faults faults_now read mid read_now written written_now ready o same i w =
+run_complete settings None end outs outs_now errs errs_now faults faults_now read mid read_now written written_now ready o same i w = tt
+run_complete settings (Some files) end outs outs_now errs errs_now faults faults_now read mid read_now written written_now ready o same i w =
     λ items are no_read no_write. complete_at end items outs outs_now errs errs_now faults faults_now read read_now written written_now ready
     (o items are) (subst (λ n. InputCount end n read_now) same i) w no_read no_write
 
 -- an input that can't be opened is missing, or a device failed
-pub complete_unopened : (tracing : Tracing) (told : Option Files) (read read_now written written_now : ℕ) → Rose read read_now ⊎ Lacks told dash
-    → IfSome told (λ files. (items : List Item) → AreInputItems tracing files items
+pub complete_unopened : (settings : Settings) (told : Option Files) (read read_now written written_now : ℕ) → Rose read read_now ⊎ Lacks told dash
+    → IfSome told (λ files. (items : List Item) → AreInputItems settings files items
     → (Rose read read_now → ⊥) → (Rose written written_now → ⊥) → IsComplete 3 items)
-complete_unopened tracing None read read_now written written_now cause = tt
-complete_unopened tracing (Some files) read read_now written written_now (inl rose) = λ items are no_read no_write. absurd (no_read rose)
-complete_unopened tracing (Some files) read read_now written written_now (inr lacking) = by_items where
-  by_items : (items : List Item) → AreInputItems tracing files items → (Rose read read_now → ⊥) → (Rose written written_now → ⊥) → IsComplete 3 items
+complete_unopened settings None read read_now written written_now cause = tt
+complete_unopened settings (Some files) read read_now written written_now (inl rose) = λ items are no_read no_write. absurd (no_read rose)
+complete_unopened settings (Some files) read read_now written written_now (inr lacking) = by_items where
+  by_items : (items : List Item) → AreInputItems settings files items → (Rose read read_now → ⊥) → (Rose written written_now → ⊥) → IsComplete 3 items
   by_items items (inl (none, e)) no_read no_write = record {
     all = λ goes. absurd (subst GoesOn e goes);
     refusal = λ r. absurd (not_missing dash r.0 r.1 (sym e ∙ r.2));

@@ -12,12 +12,12 @@ use Rattle.bitmap_input.specs.Front.Answer.{Page as Gives, Ends}
 use Rattle.bitmap_input.specs.FilePages.{FilePages}
 use Rattle.bitmap_input.specs.FilePages.FilePages.{Ended, Next}
 use Rattle.potrace_main.specs.Messages.{dash, page_line}
-use Rattle.potrace_main.specs.PageText.{IsPageText}
+use Rattle.page_trace.specs.Document.{IsDocument}
 use Rattle.potrace_main.specs.Items.{Item, AreInputItems, AreItems, end_items, most_pages, too_many}
 use Rattle.potrace_main.specs.Items.Item.{Doc, Stop}
 use Rattle.potrace_main.specs.Outcome.{AreSaid, GoesOn, notes, with_items}
 use Rattle.potrace_main.specs.Progress.{AreTraced, BeginsWith, docs, is_later}
-use Rattle.potrace_main.specs.declared.ask.Tracing.{Tracing}
+use Rattle.pt_base.specs.declared.settings.Settings.{Settings}
 use Rattle.potrace_main.proofs.Paging.{items_after, one_text, pages_after}
 
 -- nothing was said
@@ -63,25 +63,25 @@ with_docs-more told [] text = refl
 with_docs-more told (t ∷ texts) text = with_docs-more (with_whole told dash t) texts text
 
 -- The items, given what of them was done: the documents of the first pages, and then what follows those.
-pub record IsLeft (tracing : Tracing) (later : Bool) (rest : List ℕ) (k : ℕ) (texts : List (List ℕ)) (items : List Item) : Type 0 where
+pub record IsLeft (settings : Settings) (later : Bool) (rest : List ℕ) (k : ℕ) (texts : List (List ℕ)) (items : List Item) : Type 0 where
   pub more : List Raw
   pub ending : Ending
   pub pages : FilePages later rest more ending
   pub after : List Item
   pub split : items ≡ docs texts ++ after
-  pub behind : AreItems tracing k more ending after
+  pub behind : AreItems settings k more ending after
 
-pub what_is_left : (tracing : Tracing) (files : Files) (bytes : List ℕ) (k : ℕ) (raws : List Raw) (rest : List ℕ) (texts : List (List ℕ)) (items : List Item)
-    → get files.contents dash ≡ Some bytes → BeginsWith false bytes raws rest → AreTraced tracing raws texts → k ≡ length raws → k ≤ most_pages
-    → AreInputItems tracing files items → IsLeft tracing (is_later false raws) rest k texts items
-what_is_left tracing files bytes k raws rest texts items there begins traced count few (inl (none, e)) =
+pub what_is_left : (settings : Settings) (files : Files) (bytes : List ℕ) (k : ℕ) (raws : List Raw) (rest : List ℕ) (texts : List (List ℕ)) (items : List Item)
+    → get files.contents dash ≡ Some bytes → BeginsWith false bytes raws rest → AreTraced settings raws texts → k ≡ length raws → k ≤ most_pages
+    → AreInputItems settings files items → IsLeft settings (is_later false raws) rest k texts items
+what_is_left settings files bytes k raws rest texts items there begins traced count few (inl (none, e)) =
     absurd (let clash : Some bytes ≡ None = sym there ∙ none in cc)
-what_is_left tracing files bytes k raws rest texts items there begins traced count few (inr (all_bytes, all, ending, is, pages, are)) =
+what_is_left settings files bytes k raws rest texts items there begins traced count few (inr (all_bytes, all, ending, is, pages, are)) =
     let same : all_bytes ≡ bytes = let clash : Some all_bytes ≡ Some bytes = sym is ∙ there in cc in
     let P : List ℕ → Type 0 = λ bs. FilePages false bs all ending in
     let (more, split, behind) = pages_after false bytes raws rest all ending begins (subst P same pages) in
-    let Q : List Raw → Type 0 = λ rs. AreItems tracing 0 rs ending items in
-    let (after, items_split, items_behind) = items_after tracing 0 k raws more ending texts items traced (omega arith) few (subst Q split are) in
+    let Q : List Raw → Type 0 = λ rs. AreItems settings 0 rs ending items in
+    let (after, items_split, items_behind) = items_after settings 0 k raws more ending texts items traced (omega arith) few (subst Q split are) in
     record { more = more; ending = ending; pages = behind; after = after; split = items_split; behind = items_behind }
 
 no_both : (A : Type 0) (later : Bool) (rest : List ℕ) (raw : Raw) (used : ℕ) (ending : Ending)
@@ -91,47 +91,47 @@ no_both A later rest raw used ending e f = absurd (let clash : Gives raw used �
 same_end : (later : Bool) (rest : List ℕ) (one other : Ending) → front later rest ≡ Ends one → front later rest ≡ Ends other → one ≡ other
 same_end later rest one other e f = let same : Ends one ≡ Ends other = sym e ∙ f in cc
 
-items_at_end : (tracing : Tracing) (later : Bool) (rest : List ℕ) (k : ℕ) (more : List Raw) (ending last : Ending) (after : List Item)
-    → FilePages later rest more last → AreItems tracing k more last after → front later rest ≡ Ends ending → after ≡ end_items k ending
-items_at_end tracing later rest k [] ending last after (Ended f) are e = are ∙ ap (end_items k) (same_end later rest last ending f e)
-items_at_end tracing later rest k (raw ∷ more) ending last after (Next {used = used} f p) are e = no_both _ later rest raw used ending f e
+items_at_end : (settings : Settings) (later : Bool) (rest : List ℕ) (k : ℕ) (more : List Raw) (ending last : Ending) (after : List Item)
+    → FilePages later rest more last → AreItems settings k more last after → front later rest ≡ Ends ending → after ≡ end_items k ending
+items_at_end settings later rest k [] ending last after (Ended f) are e = are ∙ ap (end_items k) (same_end later rest last ending f e)
+items_at_end settings later rest k (raw ∷ more) ending last after (Next {used = used} f p) are e = no_both _ later rest raw used ending f e
 
-items_at_page : (tracing : Tracing) (later : Bool) (rest : List ℕ) (k : ℕ) (more : List Raw) (last : Ending) (after : List Item) (raw : Raw) (used : ℕ)
-    → FilePages later rest more last → AreItems tracing k more last after → front later rest ≡ Gives raw used
-    → ((k < most_pages) × ((text : List ℕ) × (behind : List Item) × IsPageText tracing (shown raw) text × (after ≡ Doc dash text ∷ behind)))
+items_at_page : (settings : Settings) (later : Bool) (rest : List ℕ) (k : ℕ) (more : List Raw) (last : Ending) (after : List Item) (raw : Raw) (used : ℕ)
+    → FilePages later rest more last → AreItems settings k more last after → front later rest ≡ Gives raw used
+    → ((k < most_pages) × ((text : List ℕ) × (behind : List Item) × IsDocument (shown settings.level settings.invert raw) settings text × (after ≡ Doc dash text ∷ behind)))
     ⊎ ((most_pages ≤ k) × (after ≡ Stop (page_line dash (k + 1) too_many) ∷ []))
-items_at_page tracing later rest k [] last after raw used (Ended f) are e = no_both _ later rest raw used last e f
-items_at_page tracing later rest k (r ∷ more) last after raw used (Next {used = n} f p) (inl (few, (text, behind, is, split, h))) e =
+items_at_page settings later rest k [] last after raw used (Ended f) are e = no_both _ later rest raw used last e f
+items_at_page settings later rest k (r ∷ more) last after raw used (Next {used = n} f p) (inl (few, (text, behind, is, split, h))) e =
     let same : Gives r n ≡ Gives raw used = sym f ∙ e in
     let same_raw : r ≡ raw = cc in
-    let P : Raw → Type 0 = λ x. IsPageText tracing (shown x) text in
+    let P : Raw → Type 0 = λ x. IsDocument (shown settings.level settings.invert x) settings text in
     inl (few, (text, behind, subst P same_raw is, split))
-items_at_page tracing later rest k (r ∷ more) last after raw used (Next f p) (inr full) e = inr full
+items_at_page settings later rest k (r ∷ more) last after raw used (Next f p) (inr full) e = inr full
 
 -- the pages end here
-pub left_at_end : (tracing : Tracing) (later : Bool) (rest : List ℕ) (k : ℕ) (texts : List (List ℕ)) (items : List Item) (ending : Ending)
-    → IsLeft tracing later rest k texts items → front later rest ≡ Ends ending → items ≡ docs texts ++ end_items k ending
-left_at_end tracing later rest k texts items ending left e =
-    left.split ∙ ap (λ r. docs texts ++ r) (items_at_end tracing later rest k left.more ending left.ending left.after left.pages left.behind e)
+pub left_at_end : (settings : Settings) (later : Bool) (rest : List ℕ) (k : ℕ) (texts : List (List ℕ)) (items : List Item) (ending : Ending)
+    → IsLeft settings later rest k texts items → front later rest ≡ Ends ending → items ≡ docs texts ++ end_items k ending
+left_at_end settings later rest k texts items ending left e =
+    left.split ∙ ap (λ r. docs texts ++ r) (items_at_end settings later rest k left.more ending left.ending left.after left.pages left.behind e)
 
 -- one page more is too many
-pub left_too_many : (tracing : Tracing) (later : Bool) (rest : List ℕ) (k : ℕ) (texts : List (List ℕ)) (items : List Item) (raw : Raw) (used : ℕ)
-    → IsLeft tracing later rest k texts items → front later rest ≡ Gives raw used → most_pages ≤ k
+pub left_too_many : (settings : Settings) (later : Bool) (rest : List ℕ) (k : ℕ) (texts : List (List ℕ)) (items : List Item) (raw : Raw) (used : ℕ)
+    → IsLeft settings later rest k texts items → front later rest ≡ Gives raw used → most_pages ≤ k
     → items ≡ docs texts ++ Stop (page_line dash (k + 1) too_many) ∷ []
-left_too_many tracing later rest k texts items raw used left e full =
+left_too_many settings later rest k texts items raw used left e full =
     left.split ∙ ap (λ r. docs texts ++ r)
-    (elim (items_at_page tracing later rest k left.more left.ending left.after raw used left.pages left.behind e) [
+    (elim (items_at_page settings later rest k left.more left.ending left.after raw used left.pages left.behind e) [
       | inl (few, h) ↦ absurd (omega arith)
       | inr (over, split) ↦ split
     ])
 
 -- the document of one page more
-pub left_with_page : (tracing : Tracing) (later : Bool) (rest : List ℕ) (k : ℕ) (texts : List (List ℕ)) (items : List Item) (raw : Raw) (used : ℕ) (text : List ℕ)
-    → IsLeft tracing later rest k texts items → front later rest ≡ Gives raw used → k < most_pages → IsPageText tracing (shown raw) text
+pub left_with_page : (settings : Settings) (later : Bool) (rest : List ℕ) (k : ℕ) (texts : List (List ℕ)) (items : List Item) (raw : Raw) (used : ℕ) (text : List ℕ)
+    → IsLeft settings later rest k texts items → front later rest ≡ Gives raw used → k < most_pages → IsDocument (shown settings.level settings.invert raw) settings text
     → (after : List Item) × (items ≡ docs texts ++ Doc dash text ∷ after)
-left_with_page tracing later rest k texts items raw used text left e few is =
-    elim (items_at_page tracing later rest k left.more left.ending left.after raw used left.pages left.behind e) [
+left_with_page settings later rest k texts items raw used text left e few is =
+    elim (items_at_page settings later rest k left.more left.ending left.after raw used left.pages left.behind e) [
       | inl (fewer, (other, behind, is_other, split)) ↦
-          (behind, left.split ∙ ap (λ r. docs texts ++ r) (split ∙ ap (λ t. Doc dash t ∷ behind) (one_text tracing (shown raw) other text is_other is)))
+          (behind, left.split ∙ ap (λ r. docs texts ++ r) (split ∙ ap (λ t. Doc dash t ∷ behind) (one_text settings (shown settings.level settings.invert raw) other text is_other is)))
       | inr (over, split) ↦ absurd (omega arith)
     ]

@@ -11,6 +11,7 @@ use Rattle.bitmap_input.specs.Front.Answer.{Page, Ends}
 use Rattle.bitmap_input.specs.FilePages.{next_begins}
 use Rattle.bitmap_input.specs.Reading.{cause_of_fault}
 use Rattle.bitmap_input.specs.Reader.{Reader, ahead as reader_ahead, is_later, GivesPage, IfSays, TellsPage}
+use Rattle.pt_base.specs.declared.settings.Settings.{Settings}
 use Rattle.potrace_main.specs.Progress.{EndsReading, ReadsPage, ahead, end_of_fault}
 
 mapped : (o : Option (List ℕ)) (f : List ℕ → List ℕ) (P : List ℕ → Type 0) → IfSome o (λ rest. P (f rest)) → IfSome (option_map f o) P
@@ -27,10 +28,11 @@ unread-with_read : (before : Option Files) (n : ℕ) (rest : List ℕ) → unrea
 unread-with_read None n rest h = cc
 unread-with_read (Some files) n rest h = unread_after files.opened n rest h
 
-pub reads_page : (old new : Reader) (before now : Option Files) (page : Pixels) → GivesPage old before page new now
-    → IfSome (unread before) (λ rest. TellsPage old rest page new now) → ReadsPage old before page new now
-reads_page old new before now page gives tells = by_told (unread before) refl tells where
-  by_told : (o : Option (List ℕ)) → unread before ≡ o → IfSome o (λ rest. TellsPage old rest page new now) → ReadsPage old before page new now
+pub reads_page : (settings : Settings) (old new : Reader) (before now : Option Files) (page : Pixels)
+    → GivesPage settings.level settings.invert old before page new now
+    → IfSome (unread before) (λ rest. TellsPage settings.level settings.invert old rest page new now) → ReadsPage settings old before page new now
+reads_page settings old new before now page gives tells = by_told (unread before) refl tells where
+  by_told : (o : Option (List ℕ)) → unread before ≡ o → IfSome o (λ rest. TellsPage settings.level settings.invert old rest page new now) → ReadsPage settings old before page new now
   by_told None is h = record {
     raw = gives.raw;
     used = gives.used;

@@ -10,18 +10,18 @@ use Rattle.bitmap_input.specs.Front.Answer.{Page}
 use Rattle.bitmap_input.specs.FilePages.{next_begins}
 use Rattle.bitmap_input.specs.Reader.{Reader, ahead as reader_ahead, at_start, is_later as reader_is_later}
 use Rattle.potrace_main.specs.Messages.{dash}
-use Rattle.potrace_main.specs.PageText.{IsPageText}
+use Rattle.page_trace.specs.Document.{IsDocument}
 use Rattle.potrace_main.specs.Items.{most_pages}
 use Rattle.potrace_main.specs.Progress.{BeginsWith, EndsBy, IsTraced, Traces, TracesPage, ahead, is_later}
-use Rattle.potrace_main.specs.declared.ask.Tracing.{Tracing}
+use Rattle.pt_base.specs.declared.settings.Settings.{Settings}
 use Rattle.potrace_main.specs.declared.pages.PagesEnd.{PagesEnd}
 use Rattle.potrace_main.specs.declared.pages.PagesEnd.TheVariants as why
 use Rattle.potrace_main.proofs.Outcomes.{with_docs-more}
 use Rattle.potrace_main.proofs.Paging.{AreTraced-more, BeginsWith-more}
 
 -- nothing is traced yet
-pub none_traced : (tracing : Tracing) (files : Option Files) (outs : Option Documents) → IsTraced tracing (unread files) outs at_start files outs 0
-none_traced tracing files outs = record {
+pub none_traced : (settings : Settings) (files : Option Files) (outs : Option Documents) → IsTraced settings (unread files) outs at_start files outs 0
+none_traced settings files outs = record {
   raws = [];
   texts = [];
   count = refl;
@@ -52,13 +52,13 @@ begins_more (Some all) before now raws raw used later same (left, is, b) told =
     (drop (next_begins left raw used) left, here.1, BeginsWith-more false all raws left raw used b (ap (λ l. front l left) (sym same) ∙ here.0))
 
 -- one page more is traced
-pub one_more : (tracing : Tracing) (bytes : Option (List ℕ)) (outs mid now : Option Documents) (old new : Reader) (before after : Option Files) (k : ℕ)
-    → IsTraced tracing bytes outs old before mid k → TracesPage tracing old before mid new after now → IsTraced tracing bytes outs new after now (k + 1)
-one_more tracing bytes outs mid now old new before after k t p = record {
+pub one_more : (settings : Settings) (bytes : Option (List ℕ)) (outs mid now : Option Documents) (old new : Reader) (before after : Option Files) (k : ℕ)
+    → IsTraced settings bytes outs old before mid k → TracesPage settings old before mid new after now → IsTraced settings bytes outs new after now (k + 1)
+one_more settings bytes outs mid now old new before after k t p = record {
   raws = t.raws ++ p.reads.raw ∷ [];
   texts = t.texts ++ p.text ∷ [];
   count = rw length-append (omega (arith, t.count));
-  traced = AreTraced-more tracing t.raws t.texts p.reads.raw p.text t.traced (subst (λ page. IsPageText tracing page p.text) p.reads.shows p.is_text);
+  traced = AreTraced-more settings t.raws t.texts p.reads.raw p.text t.traced (subst (λ page. IsDocument page settings p.text) p.reads.shows p.is_text);
   begins = begins_more bytes (ahead old before) (ahead new after) t.raws p.reads.raw p.reads.used (reader_is_later old)
       (later_is old t.raws k t.counted t.count) t.begins p.reads.told;
   documents = p.documents ∙ ap (λ o. with_whole o dash p.text) t.documents ∙ sym (with_docs-more outs t.texts p.text);
@@ -67,11 +67,11 @@ one_more tracing bytes outs mid now old new before after k t p = record {
 }
 
 -- no page more is traced
-pub no_more : (tracing : Tracing) (bytes : Option (List ℕ)) (outs mid now : Option Documents) (reader : Reader) (files : Option Files) (k : ℕ) (end : PagesEnd)
-    → IsTraced tracing bytes outs reader files mid k → EndsBy tracing (reader_is_later reader) (ahead reader files) mid now end
+pub no_more : (settings : Settings) (bytes : Option (List ℕ)) (outs mid now : Option Documents) (reader : Reader) (files : Option Files) (k : ℕ) (end : PagesEnd)
+    → IsTraced settings bytes outs reader files mid k → EndsBy settings (reader_is_later reader) (ahead reader files) mid now end
     → k ≤ most_pages → (end ≡ why.TooMany → most_pages ≤ k) → (end ≡ why.Unwritten → k < most_pages)
-    → Traces tracing bytes outs now k end
-no_more tracing bytes outs mid now reader files k end t ends few full not_full = record {
+    → Traces settings bytes outs now k end
+no_more settings bytes outs mid now reader files k end t ends few full not_full = record {
   raws = t.raws;
   texts = t.texts;
   count = t.count;
@@ -79,8 +79,8 @@ no_more tracing bytes outs mid now reader files k end t ends few full not_full =
   traced = t.traced;
   rest = ahead reader files;
   begins = t.begins;
-  ends = subst (λ o. EndsBy tracing (is_later false t.raws) (ahead reader files) o now end) t.documents
-      (subst (λ l. EndsBy tracing l (ahead reader files) mid now end) (later_is reader t.raws k t.counted t.count) ends);
+  ends = subst (λ o. EndsBy settings (is_later false t.raws) (ahead reader files) o now end) t.documents
+      (subst (λ l. EndsBy settings l (ahead reader files) mid now end) (later_is reader t.raws k t.counted t.count) ends);
   full = full;
   not_full = not_full;
 }

@@ -1,9 +1,14 @@
 -- What the words of the command line ask for.
-use Rattle.std.specs.Prelude.{◌≡◌, ℕ, ◌≤◌, List, [], ◌∷◌, codes}
+use Rattle.std.specs.Prelude.{◌≡◌, ◌≢◌, ℕ, ◌≤◌, ◌⊎◌, Bool, true, false, List, [], ◌∷◌, codes}
+use Rattle.pt_base.specs.Micro.{IsMicro}
 use Rattle.pt_base.specs.Whole.{IsWhole}
 use Rattle.pt_base.specs.declared.policy.Policy.{Policy}
 use Rattle.pt_base.specs.declared.policy.Policy.TheVariants.{Left, Right, Black, White, Majority, Minority}
-use Rattle.potrace_main.specs.declared.ask.Tracing.{Tracing}
+use Rattle.pt_base.specs.declared.settings.Backend.{Backend}
+use Rattle.pt_base.specs.declared.settings.Backend.TheVariants.{Eps, Svg, Dxf, GeoJson, Points, Polygons}
+use Rattle.pt_base.specs.declared.settings.Settings.{Settings}
+use Rattle.page_trace.specs.Document.{IsList}
+use Rattle.potrace_main.specs.declared.ask.Head.{Head}
 
 -- the word of a policy (the potrace manual page, option "turnpolicy")
 abbrev pub policy_word : Policy → List ℕ
@@ -14,23 +19,75 @@ policy_word White = codes "white"
 policy_word Majority = codes "majority"
 policy_word Minority = codes "minority"
 
+-- the word of a backend
+abbrev pub backend_word : Backend → List ℕ
+backend_word Eps = codes "eps"
+backend_word Svg = codes "svg"
+backend_word Dxf = codes "dxf"
+backend_word GeoJson = codes "geojson"
+backend_word Points = codes "points"
+backend_word Polygons = codes "polygons"
+
 -- the greatest speckle limit
 abbrev pub greatest_speckle : ℕ
 greatest_speckle = 1000000000
 
--- the words `-b points -z POLICY -t N`
-abbrev pub form : List ℕ → List ℕ → List (List ℕ)
-form policy number = codes "-b" ∷ codes "points" ∷ codes "-z" ∷ policy ∷ codes "-t" ∷ number ∷ []
+-- the words `-b BACKEND -z POLICY -t N`, and then others
+abbrev pub form : List ℕ → List ℕ → List ℕ → List (List ℕ) → List (List ℕ)
+form backend policy number options =
+    codes "-b" ∷ backend ∷ codes "-z" ∷ policy ∷ codes "-t" ∷ number ∷ options
 
--- the two values name this policy and this limit
-pub record IsValued (policy number : List ℕ) (tracing : Tracing) : Type 0 where
-  pub named : policy ≡ policy_word tracing.policy
-  pub numbered : IsWhole number tracing.speckle
-  pub within : tracing.speckle ≤ greatest_speckle
+-- the three values name a backend of lists, a policy and a speckle limit
+pub record IsValued (backend policy number : List ℕ) (head : Head) : Type 0 where
+  pub format : backend ≡ backend_word head.backend
+  pub list : IsList head.backend
+  pub named : policy ≡ policy_word head.policy
+  pub numbered : IsWhole number head.turd
+  pub within : head.turd ≤ greatest_speckle
 
--- the words ask for pages to be traced so
-pub record IsAsked (words : List (List ℕ)) (tracing : Tracing) : Type 0 where
+-- the words begin with these values, and the options follow
+pub record Begins (words : List (List ℕ)) (head : Head) (options : List (List ℕ)) : Type 0 where
+  pub backend : List ℕ
   pub policy : List ℕ
   pub number : List ℕ
-  pub formed : words ≡ form policy number
-  pub valued : IsValued policy number tracing
+  pub formed : words ≡ form backend policy number options
+  pub valued : IsValued backend policy number head
+
+-- the words don't begin with this one
+abbrev pub LacksWord : List ℕ → List (List ℕ) → Type 0
+LacksWord name words = (rest : List (List ℕ)) → words ≢ name ∷ rest
+
+-- where the words begin with this name, the next word is a decimal number of n millionths, at most so many;
+-- where they don't, the number is the default
+abbrev pub TakesNumber : List ℕ → ℕ → ℕ → List (List ℕ) → ℕ → List (List ℕ) → Type 0
+TakesNumber name default most words n rest =
+    (LacksWord name words × (words ≡ rest) × (n ≡ default))
+    ⊎ ((text : List ℕ) × (words ≡ name ∷ text ∷ rest) × IsMicro text n × (n ≤ most))
+
+-- whether the words begin with this one
+abbrev pub TakesWord : List ℕ → List (List ℕ) → Bool → List (List ℕ) → Type 0
+TakesWord name words given rest =
+    (LacksWord name words × (words ≡ rest) × (given ≡ false)) ⊎ ((words ≡ name ∷ rest) × (given ≡ true))
+
+-- the settings that no word changes
+pub record IsDefault (settings : Settings) : Type 0 where
+  pub alphamax : settings.alphamax ≡ 1000000
+  pub long_curve : settings.long_curve ≡ false
+  pub tolerance : settings.tolerance ≡ 200000
+  pub unit : settings.unit ≡ 10
+  pub flat : settings.flat ≡ false
+
+-- the words ask for pages to be read, traced and written so: the values, then `-k D` or not, then `-i` or
+-- not, and nothing else
+pub record IsAsked (words : List (List ℕ)) (settings : Settings) : Type 0 where
+  pub options : List (List ℕ)
+  pub after_level : List (List ℕ)
+  pub begins : Begins words (record { backend = settings.backend; policy = settings.policy; turd = settings.turd }) options
+  pub level : TakesNumber (codes "-k") 500000 1000000 options settings.level after_level
+  pub invert : TakesWord (codes "-i") after_level settings.invert []
+  pub others : IsDefault settings
+
+-- the program can do what the settings say
+pub record IsOffered (settings : Settings) : Type 0 where
+  pub list : IsList settings.backend
+  pub level : settings.level ≤ 1000000

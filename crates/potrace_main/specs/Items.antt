@@ -8,8 +8,8 @@ use Rattle.bitmap_input.specs.Cut.Ending.{End, Trailing, Refused}
 use Rattle.bitmap_input.specs.Raw.{Raw, shown}
 use Rattle.bitmap_input.specs.FilePages.{FilePages}
 use Rattle.potrace_main.specs.Messages.{dash, page_line, trailing_line}
-use Rattle.potrace_main.specs.PageText.{IsPageText}
-use Rattle.potrace_main.specs.declared.ask.Tracing.{Tracing}
+use Rattle.page_trace.specs.Document.{IsDocument}
+use Rattle.pt_base.specs.declared.settings.Settings.{Settings}
 
 -- one thing to write: a document of a name and a text; a message after which the run goes on; a message
 -- with which it ends; or that a file isn't there, with which it ends too
@@ -47,16 +47,16 @@ end_items pages (Refused kind) = Stop (page_line dash (pages + 1) (kind_text kin
 
 -- These are the items of the pages of a file, after so many pages before: a document for each page with
 -- its text, and then what follows the file's end. With the first page that is too many the run ends.
-abbrev pub AreItems : Tracing → ℕ → List Raw → Ending → List Item → Type 0
-AreItems tracing before [] ending items = items ≡ end_items before ending
-AreItems tracing before (raw ∷ raws) ending items =
-    ((before < most_pages) × ((text : List ℕ) × (rest : List Item) × IsPageText tracing (shown raw) text
-    × (items ≡ Doc dash text ∷ rest) × AreItems tracing (suc before) raws ending rest))
+abbrev pub AreItems : Settings → ℕ → List Raw → Ending → List Item → Type 0
+AreItems settings before [] ending items = items ≡ end_items before ending
+AreItems settings before (raw ∷ raws) ending items =
+    ((before < most_pages) × ((text : List ℕ) × (rest : List Item) × IsDocument (shown settings.level settings.invert raw) settings text
+    × (items ≡ Doc dash text ∷ rest) × AreItems settings (suc before) raws ending rest))
     ⊎ ((most_pages ≤ before) × (items ≡ Stop (page_line dash (before + 1) too_many) ∷ []))
 
 -- the items of standard input, as the files are told: those of its pages, or that it isn't there
-abbrev pub AreInputItems : Tracing → Files → List Item → Type 0
-AreInputItems tracing files items =
+abbrev pub AreInputItems : Settings → Files → List Item → Type 0
+AreInputItems settings files items =
     ((get files.contents dash ≡ None) × (items ≡ Missing dash ∷ []))
     ⊎ ((bytes : List ℕ) × (raws : List Raw) × (ending : Ending) × (get files.contents dash ≡ Some bytes)
-    × FilePages false bytes raws ending × AreItems tracing 0 raws ending items)
+    × FilePages false bytes raws ending × AreItems settings 0 raws ending items)

@@ -1,6 +1,5 @@
 pub mod Messages
 pub mod Asked
-pub mod PageText
 pub mod Items
 pub mod Outcome
 pub mod Progress

@@ -16,11 +16,11 @@ use Rattle.bitmap_input.specs.Reading.{cause_of_fault}
 use Rattle.bitmap_input.specs.Reading.Cause.{Says}
 use Rattle.bitmap_input.specs.Reader.{Reader, ahead as reader_ahead, is_later as reader_is_later}
 use Rattle.potrace_main.specs.Messages.{dash}
-use Rattle.potrace_main.specs.PageText.{IsPageText}
+use Rattle.page_trace.specs.Document.{IsDocument}
 use Rattle.potrace_main.specs.Items.{Item, most_pages}
 use Rattle.potrace_main.specs.Items.Item.{Doc}
 use Rattle.potrace_main.specs.Outcome.{with_items}
-use Rattle.potrace_main.specs.declared.ask.Tracing.{Tracing}
+use Rattle.pt_base.specs.declared.settings.Settings.{Settings}
 use Rattle.potrace_main.specs.declared.pages.PagesEnd.{PagesEnd}
 use Rattle.potrace_main.specs.declared.pages.PagesEnd.TheVariants as why
 
@@ -31,11 +31,11 @@ BeginsWith later bytes (raw ∷ raws) rest =
     (used : ℕ) × (front later bytes ≡ Page raw used) × BeginsWith true (drop (next_begins bytes raw used) bytes) raws rest
 
 -- these are the texts of these pages, in order
-abbrev pub AreTraced : Tracing → List Raw → List (List ℕ) → Type 0
-AreTraced tracing [] [] = Unit {0}
-AreTraced tracing (raw ∷ raws) (text ∷ texts) = IsPageText tracing (shown raw) text × AreTraced tracing raws texts
-AreTraced tracing [] (text ∷ texts) = ⊥
-AreTraced tracing (raw ∷ raws) [] = ⊥
+abbrev pub AreTraced : Settings → List Raw → List (List ℕ) → Type 0
+AreTraced settings [] [] = Unit {0}
+AreTraced settings (raw ∷ raws) (text ∷ texts) = IsDocument (shown settings.level settings.invert raw) settings text × AreTraced settings raws texts
+AreTraced settings [] (text ∷ texts) = ⊥
+AreTraced settings (raw ∷ raws) [] = ⊥
 
 -- a page came before, or one of these did
 abbrev pub is_later : Bool → List Raw → Bool
@@ -52,10 +52,10 @@ abbrev pub ahead : Reader → Option Files → Option (List ℕ)
 ahead reader files = option_map (reader_ahead reader) (unread files)
 
 -- the next page of what is ahead was read
-pub record ReadsPage (old : Reader) (before : Option Files) (page : Pixels) (new : Reader) (now : Option Files) : Type 0 where
+pub record ReadsPage (settings : Settings) (old : Reader) (before : Option Files) (page : Pixels) (new : Reader) (now : Option Files) : Type 0 where
   pub raw : Raw
   pub used : ℕ
-  pub shows : page ≡ shown raw
+  pub shows : page ≡ shown settings.level settings.invert raw
   pub told : IfSome (ahead old before) (λ bytes. (front (reader_is_later old) bytes ≡ Page raw used)
       × (ahead new now ≡ Some (drop (next_begins bytes raw used) bytes)))
   pub counted : new.pages ≡ old.pages + 1
@@ -74,36 +74,36 @@ EndsReading later rest why.TooMany = ⊥
 EndsReading later rest why.Unwritten = ⊥
 
 -- the page wasn't written for this reason: its document was cut off, or memory ran out before
-abbrev pub EndsWriting : Tracing → Pixels → Option Documents → Option Documents → PagesEnd → Type 0
-EndsWriting tracing page outs outs_now why.Unwritten =
-    (text : List ℕ) × IsPageText tracing page text × IsCutOff outs outs_now dash text
-EndsWriting tracing page outs outs_now why.OutOfMemory = outs_now ≡ outs
-EndsWriting tracing page outs outs_now why.End = ⊥
-EndsWriting tracing page outs outs_now why.Trailing = ⊥
-EndsWriting tracing page outs outs_now (why.Refused fault) = ⊥
-EndsWriting tracing page outs outs_now why.Unread = ⊥
-EndsWriting tracing page outs outs_now why.TooMany = ⊥
+abbrev pub EndsWriting : Settings → Pixels → Option Documents → Option Documents → PagesEnd → Type 0
+EndsWriting settings page outs outs_now why.Unwritten =
+    (text : List ℕ) × IsDocument page settings text × IsCutOff outs outs_now dash text
+EndsWriting settings page outs outs_now why.OutOfMemory = outs_now ≡ outs
+EndsWriting settings page outs outs_now why.End = ⊥
+EndsWriting settings page outs outs_now why.Trailing = ⊥
+EndsWriting settings page outs outs_now (why.Refused fault) = ⊥
+EndsWriting settings page outs outs_now why.Unread = ⊥
+EndsWriting settings page outs outs_now why.TooMany = ⊥
 
 -- the next page was traced, and its document written
-pub record TracesPage (tracing : Tracing) (old : Reader) (before : Option Files) (outs : Option Documents) (new : Reader) (now : Option Files) (outs_now : Option Documents) : Type 0 where
+pub record TracesPage (settings : Settings) (old : Reader) (before : Option Files) (outs : Option Documents) (new : Reader) (now : Option Files) (outs_now : Option Documents) : Type 0 where
   pub page : Pixels
-  pub reads : ReadsPage old before page new now
+  pub reads : ReadsPage settings old before page new now
   pub text : List ℕ
-  pub is_text : IsPageText tracing page text
+  pub is_text : IsDocument page settings text
   pub documents : outs_now ≡ with_whole outs dash text
 
 -- no further page was traced for this reason
-abbrev pub EndsBy : Tracing → Bool → Option (List ℕ) → Option Documents → Option Documents → PagesEnd → Type 0
-EndsBy tracing later rest outs outs_now why.Unwritten =
-    (raw : Raw) × (used : ℕ) × (text : List ℕ) × IsPageText tracing (shown raw) text
+abbrev pub EndsBy : Settings → Bool → Option (List ℕ) → Option Documents → Option Documents → PagesEnd → Type 0
+EndsBy settings later rest outs outs_now why.Unwritten =
+    (raw : Raw) × (used : ℕ) × (text : List ℕ) × IsDocument (shown settings.level settings.invert raw) settings text
     × IfSome rest (λ bytes. front later bytes ≡ Page raw used) × IsCutOff outs outs_now dash text
-EndsBy tracing later rest outs outs_now why.TooMany =
+EndsBy settings later rest outs outs_now why.TooMany =
     (outs_now ≡ outs) × ((raw : Raw) × (used : ℕ) × IfSome rest (λ bytes. front later bytes ≡ Page raw used))
-EndsBy tracing later rest outs outs_now why.End = (outs_now ≡ outs) × EndsReading later rest why.End
-EndsBy tracing later rest outs outs_now why.Trailing = (outs_now ≡ outs) × EndsReading later rest why.Trailing
-EndsBy tracing later rest outs outs_now (why.Refused fault) = (outs_now ≡ outs) × EndsReading later rest (why.Refused fault)
-EndsBy tracing later rest outs outs_now why.Unread = outs_now ≡ outs
-EndsBy tracing later rest outs outs_now why.OutOfMemory = outs_now ≡ outs
+EndsBy settings later rest outs outs_now why.End = (outs_now ≡ outs) × EndsReading later rest why.End
+EndsBy settings later rest outs outs_now why.Trailing = (outs_now ≡ outs) × EndsReading later rest why.Trailing
+EndsBy settings later rest outs outs_now (why.Refused fault) = (outs_now ≡ outs) × EndsReading later rest (why.Refused fault)
+EndsBy settings later rest outs outs_now why.Unread = outs_now ≡ outs
+EndsBy settings later rest outs outs_now why.OutOfMemory = outs_now ≡ outs
 
 -- why no further page is traced, where the reader tells of a fault
 abbrev pub end_of_fault : InFault → PagesEnd
@@ -141,25 +141,25 @@ OutputCount why.Unread before now ready = (now ≡ before) × (ready ≡ false)
 OutputCount why.OutOfMemory before now ready = (now ≡ before) × (ready ≡ false)
 
 -- the first k pages were traced, and their documents written; the reader stands behind them
-pub record IsTraced (tracing : Tracing) (bytes : Option (List ℕ)) (outs : Option Documents) (reader : Reader) (files : Option Files) (outs_now : Option Documents) (k : ℕ) : Type 0 where
+pub record IsTraced (settings : Settings) (bytes : Option (List ℕ)) (outs : Option Documents) (reader : Reader) (files : Option Files) (outs_now : Option Documents) (k : ℕ) : Type 0 where
   pub raws : List Raw
   pub texts : List (List ℕ)
   pub count : k ≡ length raws
-  pub traced : AreTraced tracing raws texts
+  pub traced : AreTraced settings raws texts
   pub begins : IfSome bytes (λ all. (left : List ℕ) × (ahead reader files ≡ Some left) × BeginsWith false all raws left)
   pub documents : outs_now ≡ with_items outs (docs texts)
   pub counted : reader.pages ≡ k
   pub going_on : reader.over ≡ false
 
 -- k pages were traced, and then the run ended so
-pub record Traces (tracing : Tracing) (bytes : Option (List ℕ)) (outs outs_now : Option Documents) (k : ℕ) (end : PagesEnd) : Type 0 where
+pub record Traces (settings : Settings) (bytes : Option (List ℕ)) (outs outs_now : Option Documents) (k : ℕ) (end : PagesEnd) : Type 0 where
   pub raws : List Raw
   pub texts : List (List ℕ)
   pub count : k ≡ length raws
   pub few : k ≤ most_pages
-  pub traced : AreTraced tracing raws texts
+  pub traced : AreTraced settings raws texts
   pub rest : Option (List ℕ)
   pub begins : IfSome bytes (λ all. (left : List ℕ) × (rest ≡ Some left) × BeginsWith false all raws left)
-  pub ends : EndsBy tracing (is_later false raws) rest (with_items outs (docs texts)) outs_now end
+  pub ends : EndsBy settings (is_later false raws) rest (with_items outs (docs texts)) outs_now end
   pub full : end ≡ why.TooMany → most_pages ≤ k
   pub not_full : end ≡ why.Unwritten → k < most_pages

@@ -9,7 +9,7 @@ use Rattle.potrace_main.specs.Items.{Item, too_many}
 use Rattle.potrace_main.specs.Items.Item.{Stop}
 use Rattle.potrace_main.specs.Outcome.{GoesOn, IsDone, IsRefused, IsUnwritten, IsOutOfMemory, with_items}
 use Rattle.potrace_main.specs.Progress.{AreTraced, docs}
-use Rattle.potrace_main.specs.declared.ask.Tracing.{Tracing}
+use Rattle.pt_base.specs.declared.settings.Settings.{Settings}
 use Rattle.potrace_main.specs.declared.pages.PagesEnd.{PagesEnd}
 use Rattle.potrace_main.specs.declared.pages.PagesEnd.TheVariants as why
 
@@ -30,10 +30,10 @@ pub record IsComplete (status : ℕ) (items : List Item) : Type 0 where
   pub refusal : EndsRefused items → (status ≡ 2) ⊎ (status ≡ 5)
 
 -- the documents are the texts of some pages, in order; at status 4 one more is cut off
-pub record IsWritten (tracing : Tracing) (status : ℕ) (outs outs_now : Option Documents) : Type 0 where
+pub record IsWritten (settings : Settings) (status : ℕ) (outs outs_now : Option Documents) : Type 0 where
   pub raws : List Raw
   pub texts : List (List ℕ)
-  pub traced : AreTraced tracing raws texts
+  pub traced : AreTraced settings raws texts
   pub whole : status ≢ 4 → outs_now ≡ with_items outs (docs texts)
   pub cut_off : status ≡ 4 → (text : List ℕ) × IsCutOff (with_items outs (docs texts)) outs_now dash text
 

@@ -1,46 +1,84 @@
 //! Reading the words of the command line.
-ghost use Rattle.std.specs.Prelude.{◌≡◌, ◌≤◌, ◌↔◌, [], map, string_bytes, slice_index_or, IfSome, IfNone, IsTrue};
-ghost use Rattle.potrace_main.specs.Asked.{IsAsked, IsValued, form, policy_word};
-ghost use Rattle.potrace_main.specs.declared.ask.Tracing.{Tracing};
+ghost use Rattle.std.specs.Prelude.{◌≡◌, ◌≤◌, ◌↔◌, ◌*◌, ◌^◌, ℕ, List, [], map, drop, string_bytes, slice_index_or, IfSome, IfNone, IsTrue};
+ghost use Rattle.potrace_main.specs.Asked.{Begins, IsAsked, IsOffered, IsValued, TakesNumber, TakesWord, backend_word, form, policy_word};
+ghost use Rattle.potrace_main.specs.declared.ask.Head.{Head};
+ghost use Rattle.page_trace.specs.Document.{IsList};
+ghost use Rattle.pt_base.specs.Micro.{IsMicro};
 ghost use Rattle.pt_base.specs.declared.policy.Policy.{Policy};
+ghost use Rattle.pt_base.specs.declared.settings.Backend.{Backend};
+ghost use Rattle.pt_base.specs.declared.settings.Settings.{Settings};
 
-use pt_base::decimal::read_whole;
+use pt_base::decimal::{read_micro, read_whole};
 use pt_base::policy::Policy;
+use pt_base::settings::{Backend, Settings};
 
 /// The greatest speckle limit, in pixels.
 const GREATEST_SPECKLE: u32 = 1_000_000_000;
 
-/// How pages are to be traced.
+/// The black level where no word says one, in millionths.
+const DEFAULT_LEVEL: u32 = 500_000;
+
+/// The greatest black level, in millionths.
+const GREATEST_LEVEL: u32 = 1_000_000;
+
+/// What the words that are always there ask for.
 #[derive(Clone, Copy, Debug)]
-pub struct Tracing {
+pub struct Head {
+    pub backend: Backend,
     pub policy: Policy,
     /// Paths of at most this area, in pixels, are dropped.
-    pub speckle: u32,
+    pub turd: u32,
 }
 
-/// What the words ask for, if they are the program's: `-b points -z POLICY -t N`.
-pub fn ask(words: &[String]) -> Option<Tracing>
+/// What the words ask for, if they are the program's: `-b BACKEND -z POLICY -t N`, then `-k D` or not,
+/// then `-i` or not.
+pub fn ask(words: &[String]) -> Option<Settings>
     ensures asked { IfSome result (IsAsked (map string_bytes words.now)) }
-    ensures refused { IfNone result ((tracing : Tracing) → IsAsked (map string_bytes words.now) tracing → ⊥) }
+    ensures refused { IfNone result ((settings : Settings) → IsAsked (map string_bytes words.now) settings → ⊥) }
+    ensures offered { IfSome result IsOffered }
+{
+    let (head, options) = head_of(words)?;
+    let (level, options) = number_after(options, "-k", DEFAULT_LEVEL, GREATEST_LEVEL)?;
+    let (invert, options) = word_after(options, "-i");
+    if !options.is_empty() {
+        return None;
+    }
+    Some(Settings {
+        backend: head.backend,
+        policy: head.policy,
+        turd: head.turd,
+        alphamax: 1_000_000,
+        long_curve: false,
+        tolerance: 200_000,
+        unit: 10,
+        flat: false,
+        level,
+        invert,
+    })
+}
+
+/// The words that are always there, and those behind them.
+fn head_of(words: &[String]) -> Option<(Head, &[String])>
+    ensures begins { IfSome result (λ p. Begins (map string_bytes words.now) p.0 (map string_bytes p.1.now)) }
+    ensures refused { IfNone result ((head : Head) (options : List (List ℕ)) → Begins (map string_bytes words.now) head options → ⊥) }
 {
     if !has_form(words) {
         return None;
     }
-    values_of(words[3].as_str(), words[5].as_str())
+    let head = values_of(words[1].as_str(), words[3].as_str(), words[5].as_str())?;
+    Some((head, &words[6..]))
 }
 
-/// Whether the words are `-b points -z .. -t ..`.
+/// Whether the words begin like `-b .. -z .. -t ..`.
 fn has_form(words: &[String]) -> bool
     ensures { IsTrue result ↔ (map string_bytes words.now ≡
-        form (slice_index_or (map string_bytes words.now) 3 []) (slice_index_or (map string_bytes words.now) 5 [])) }
+        form (slice_index_or (map string_bytes words.now) 1 []) (slice_index_or (map string_bytes words.now) 3 [])
+        (slice_index_or (map string_bytes words.now) 5 []) (drop 6 (map string_bytes words.now))) }
 {
-    let [b, points, z, _, t, _] = words else {
+    let [b, _, z, _, t, _, ..] = words else {
         return false;
     };
     if !is_word(b, "-b") {
-        return false;
-    }
-    if !is_word(points, "points") {
         return false;
     }
     if !is_word(z, "-z") {
@@ -49,15 +87,66 @@ fn has_form(words: &[String]) -> bool
     is_word(t, "-t")
 }
 
-/// What the two values ask for.
-fn values_of(policy: &str, number: &str) -> Option<Tracing>
-    ensures asked { IfSome result (IsValued policy.now number.now) }
-    ensures refused { IfNone result ((tracing : Tracing) → IsValued policy.now number.now tracing → ⊥) }
+/// What the three values ask for.
+fn values_of(backend: &str, policy: &str, number: &str) -> Option<Head>
+    ensures asked { IfSome result (IsValued backend.now policy.now number.now) }
+    ensures refused { IfNone result ((head : Head) → IsValued backend.now policy.now number.now head → ⊥) }
 {
+    let backend = backend_of(backend)?;
     let policy = policy_of(policy)?;
     match read_whole(number, 0, GREATEST_SPECKLE) {
-        Ok(speckle) => Some(Tracing { policy, speckle }),
+        Ok(turd) => Some(Head {
+            backend,
+            policy,
+            turd,
+        }),
         Err(_) => None,
+    }
+}
+
+/// The decimal number behind a name, in millionths, if the words begin with the name, and else the
+/// default; and the words behind that.
+fn number_after<'a>(
+    words: &'a [String],
+    name: &str,
+    default: u32,
+    most: u32,
+) -> Option<(u32, &'a [String])>
+    requires { most ≤ 1000 * 10 ^ 6 }
+    ensures taken { IfSome result (λ p. TakesNumber name.now default most (map string_bytes words.now) p.0 (map string_bytes p.1.now)) }
+    ensures refused { IfNone result ((n : ℕ) (rest : List (List ℕ))
+        → TakesNumber name.now default most (map string_bytes words.now) n rest → ⊥) }
+{
+    let Some((first, rest)) = words.split_first() else {
+        return Some((default, words));
+    };
+    if !is_word(first, name) {
+        return Some((default, words));
+    }
+    let (text, rest) = rest.split_first()?;
+    let n = number_of(text.as_str(), most)?;
+    Some((n, rest))
+}
+
+/// The millionths of a decimal number, if they are at most so many.
+fn number_of(text: &str, most: u32) -> Option<u32>
+    requires { most ≤ 1000 * 10 ^ 6 }
+    ensures read { IfSome result (λ n. IsMicro text.now n × (n ≤ most)) }
+    ensures refused { IfNone result ((n : ℕ) → IsMicro text.now n → n ≤ most → ⊥) }
+{
+    let Ok(n) = read_micro(text) else {
+        return None;
+    };
+    if n <= most { Some(n) } else { None }
+}
+
+/// Whether the words begin with this one, and the words behind it.
+fn word_after<'a>(words: &'a [String], name: &str) -> (bool, &'a [String])
+    ensures { TakesWord name.now (map string_bytes words.now) result.0 (map string_bytes result.1.now) }
+{
+    match words.split_first() {
+        Some((first, rest)) if is_word(first, name) => (true, rest),
+        _ => (false, words),
     }
 }
 
@@ -65,6 +154,19 @@ fn is_word(word: &String, text: &str) -> bool
     ensures { IsTrue result ↔ (string_bytes word.now ≡ text.now) }
 {
     word.as_str() == text
+}
+
+/// The backend of this word, if it is one of those that the program has.
+fn backend_of(word: &str) -> Option<Backend>
+    ensures named { IfSome result (λ backend. word.now ≡ backend_word backend) }
+    ensures list { IfSome result IsList }
+    ensures unnamed { IfNone result ((backend : Backend) → word.now ≡ backend_word backend → IsList backend → ⊥) }
+{
+    match word {
+        "points" => Some(Backend::Points),
+        "polygons" => Some(Backend::Polygons),
+        _ => None,
+    }
 }
 
 /// The policy of this word.

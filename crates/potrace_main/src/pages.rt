@@ -4,24 +4,24 @@ ghost use Rattle.pt_base.specs.Documents.{Documents, with_whole};
 ghost use Rattle.pt_base.specs.Files.{unread};
 ghost use Rattle.bitmap_input.specs.Reading.{AtEnd};
 ghost use Rattle.bitmap_input.specs.Reader.{at_start, is_later as reader_is_later};
+ghost use Rattle.potrace_main.specs.Asked.{IsOffered};
 ghost use Rattle.potrace_main.specs.Messages.{dash};
-ghost use Rattle.potrace_main.specs.PageText.{IsPageText};
+ghost use Rattle.page_trace.specs.Document.{IsDocument, IsList};
 ghost use Rattle.potrace_main.specs.Progress.{EndsBy, EndsReading, EndsWriting, InputCount, OutputCount, ReadsPage, Traces, TracesPage, ahead, end_of_fault};
-ghost use Rattle.potrace_main.specs.declared.ask.Tracing.{Tracing};
+ghost use Rattle.pt_base.specs.declared.settings.Settings.{Settings};
 
-use crate::ask::Tracing;
 use crate::document::write_document;
 use bit_image::bitmap::Bitmap;
 use bitmap_input::fault::InFault;
 use bitmap_input::next::Next;
 use bitmap_input::reader::PageReader;
-use path_decompose::decomposition::decompose;
-use path_decompose::speckle::keep;
+use page_trace::document::document;
 use pt_base::fault::NoMemory;
 use pt_base::inputs::Inputs;
-use pt_base::list_text::points;
+use pt_base::settings::Settings;
 use pt_base::sink::Outputs;
 use std::alloc::Global;
+use threshold_map::level::Level;
 
 /// How many pages a run accepts.
 pub const MOST_PAGES: u32 = 65536;
@@ -55,15 +55,16 @@ pub struct Traced {
 /// Traces the pages of the opened input, and writes a document for each.
 pub fn trace_pages<I: Inputs, O: Outputs>(
     alloc: Global,
-    tracing: Tracing,
+    settings: Settings,
     reader: &mut PageReader,
     inputs: &mut I,
     outs: &mut O,
 ) -> Traced
+    requires offered { IsOffered settings }
     requires opened { I.is_opened inputs.old ≡ true }
     requires fresh { reader.old ≡ at_start }
     requires closed { O.is_ready outs.old ≡ false }
-    ensures traced { Traces tracing (unread (I.files inputs.old)) (O.documents outs.old) (O.documents outs.new) result.pages result.end }
+    ensures traced { Traces settings (unread (I.files inputs.old)) (O.documents outs.old) (O.documents outs.new) result.pages result.end }
     ensures few { result.pages ≤ MOST_PAGES }
     ensures input { InputCount result.end (I.faults inputs.old) (I.faults inputs.new) }
     ensures output { OutputCount result.end (O.faults outs.old) (O.faults outs.new) (O.is_ready outs.new) }
@@ -72,30 +73,31 @@ pub fn trace_pages<I: Inputs, O: Outputs>(
 {
     let mut pages = 0;
     while pages < MOST_PAGES {
-        match trace_next(alloc, tracing, reader, inputs, outs) {
+        match trace_next(alloc, settings, reader, inputs, outs) {
             Ok(()) => pages += 1,
             Err(end) => return Traced { pages, end },
         }
     }
-    let end = end_after_most(alloc, reader, inputs);
+    let end = end_after_most(alloc, settings, reader, inputs);
     Traced { pages, end }
 }
 
 /// Traces the next page, and writes its document.
 fn trace_next<I: Inputs, O: Outputs>(
     alloc: Global,
-    tracing: Tracing,
+    settings: Settings,
     reader: &mut PageReader,
     inputs: &mut I,
     outs: &mut O,
 ) -> Result<(), PagesEnd>
+    requires offered { IsOffered settings }
     requires opened { I.is_opened inputs.old ≡ true }
     requires room { reader.old.pages < 4294967295 }
     requires at_end { reader.old.ended ≡ true → AtEnd (I.files inputs.old) }
     requires going_on { reader.old.over ≡ false }
     requires closed { O.is_ready outs.old ≡ false }
-    ensures traced { OnOk result (TracesPage tracing reader.old (I.files inputs.old) (O.documents outs.old) reader.new (I.files inputs.new) (O.documents outs.new)) }
-    ensures ends { IfErr result (EndsBy tracing (reader_is_later reader.old) (ahead reader.old (I.files inputs.old)) (O.documents outs.old) (O.documents outs.new)) }
+    ensures traced { OnOk result (TracesPage settings reader.old (I.files inputs.old) (O.documents outs.old) reader.new (I.files inputs.new) (O.documents outs.new)) }
+    ensures ends { IfErr result (EndsBy settings (reader_is_later reader.old) (ahead reader.old (I.files inputs.old)) (O.documents outs.old) (O.documents outs.new)) }
     ensures not_full { IfErr result (λ end. end ≢ PagesEnd.TooMany) }
     ensures steady_input { OnOk result (I.faults inputs.new ≡ I.faults inputs.old) }
     ensures steady_output { OnOk result ((O.faults outs.new ≡ O.faults outs.old) × (O.is_ready outs.new ≡ false)) }
@@ -106,8 +108,8 @@ fn trace_next<I: Inputs, O: Outputs>(
     ensures still_at_end { reader.new.ended ≡ true → AtEnd (I.files inputs.new) }
     ensures stays_opened { I.is_opened inputs.new ≡ true }
 {
-    match read_next(alloc, reader, inputs) {
-        Ok(page) => write_page(alloc, tracing, &page, outs),
+    match read_next(alloc, settings, reader, inputs) {
+        Ok(page) => write_page(alloc, settings, &page, outs),
         Err(end) => Err(end),
     }
 }
@@ -115,14 +117,16 @@ fn trace_next<I: Inputs, O: Outputs>(
 /// Reads the next page.
 fn read_next<I: Inputs>(
     alloc: Global,
+    settings: Settings,
     reader: &mut PageReader,
     inputs: &mut I,
 ) -> Result<Bitmap, PagesEnd>
+    requires level { settings.level ≤ 1000000 }
     requires opened { I.is_opened inputs.old ≡ true }
     requires room { reader.old.pages < 4294967295 }
     requires at_end { reader.old.ended ≡ true → AtEnd (I.files inputs.old) }
     requires going_on { reader.old.over ≡ false }
-    ensures reads { IfOk result (λ page. ReadsPage reader.old (I.files inputs.old) page reader.new (I.files inputs.new)) }
+    ensures reads { IfOk result (λ page. ReadsPage settings reader.old (I.files inputs.old) page reader.new (I.files inputs.new)) }
     ensures ends { IfErr result (EndsReading (reader_is_later reader.old) (ahead reader.old (I.files inputs.old))) }
     ensures steady { OnOk result (I.faults inputs.new ≡ I.faults inputs.old) }
     ensures input { IfErr result (λ end. InputCount end (I.faults inputs.old) (I.faults inputs.new)) }
@@ -130,7 +134,8 @@ fn read_next<I: Inputs>(
     ensures still_at_end { reader.new.ended ≡ true → AtEnd (I.files inputs.new) }
     ensures stays_opened { I.is_opened inputs.new ≡ true }
 {
-    match reader.next(alloc, inputs) {
+    let level = Level::from_micro(settings.level);
+    match reader.next(alloc, inputs, &level, settings.invert) {
         Ok(Next::Page(page)) => Ok(page),
         Ok(Next::End) => Err(PagesEnd::End),
         Ok(Next::Trailing) => Err(PagesEnd::Trailing),
@@ -153,18 +158,19 @@ fn end_of(fault: InFault) -> PagesEnd
 /// Writes the document of a page. All memory is taken before the document begins.
 fn write_page<O: Outputs>(
     alloc: Global,
-    tracing: Tracing,
+    settings: Settings,
     page: &Bitmap,
     outs: &mut O,
 ) -> Result<(), PagesEnd>
-    requires { O.is_ready outs.old ≡ false }
-    ensures written { OnOk result ((text : List ℕ) × IsPageText tracing page.now text × (O.documents outs.new ≡ with_whole (O.documents outs.old) dash text)) }
-    ensures ends { IfErr result (EndsWriting tracing page.now (O.documents outs.old) (O.documents outs.new)) }
+    requires list { IsList settings.backend }
+    requires closed { O.is_ready outs.old ≡ false }
+    ensures written { OnOk result ((text : List ℕ) × IsDocument page.now settings text × (O.documents outs.new ≡ with_whole (O.documents outs.old) dash text)) }
+    ensures ends { IfErr result (EndsWriting settings page.now (O.documents outs.old) (O.documents outs.new)) }
     ensures steady { OnOk result ((O.faults outs.new ≡ O.faults outs.old) × (O.is_ready outs.new ≡ false)) }
     ensures output { IfErr result (λ end. OutputCount end (O.faults outs.old) (O.faults outs.new) (O.is_ready outs.new)) }
     ensures never_falls { O.faults outs.old ≤ O.faults outs.new }
 {
-    match page_text(alloc, tracing, page) {
+    match document(alloc, page, &settings) {
         Ok(text) => match write_document(outs, "-", &text) {
             Ok(()) => Ok(()),
             Err(_) => Err(PagesEnd::Unwritten),
@@ -173,27 +179,24 @@ fn write_page<O: Outputs>(
     }
 }
 
-/// The text of a page's document.
-fn page_text(alloc: Global, tracing: Tracing, page: &Bitmap) -> Result<Vec<u8>, NoMemory>
-    ensures { IfOk result (λ text. IsPageText tracing page.now text.items) }
-{
-    let paths = decompose(alloc, page, tracing.policy)?;
-    let paths = keep(paths, tracing.speckle);
-    points(alloc, page.width(), page.height(), &paths)
-}
-
 /// What follows the last page that a run accepts.
-fn end_after_most<I: Inputs>(alloc: Global, reader: &mut PageReader, inputs: &mut I) -> PagesEnd
+fn end_after_most<I: Inputs>(
+    alloc: Global,
+    settings: Settings,
+    reader: &mut PageReader,
+    inputs: &mut I,
+) -> PagesEnd
+    requires level { settings.level ≤ 1000000 }
     requires opened { I.is_opened inputs.old ≡ true }
     requires room { reader.old.pages < 4294967295 }
     requires at_end { reader.old.ended ≡ true → AtEnd (I.files inputs.old) }
     requires going_on { reader.old.over ≡ false }
-    ensures ends { (tracing : Tracing) (outs : Option Documents) → EndsBy tracing (reader_is_later reader.old) (ahead reader.old (I.files inputs.old)) outs outs result }
+    ensures ends { (outs : Option Documents) → EndsBy settings (reader_is_later reader.old) (ahead reader.old (I.files inputs.old)) outs outs result }
     ensures input { InputCount result (I.faults inputs.old) (I.faults inputs.new) }
     ensures never_falls { I.faults inputs.old ≤ I.faults inputs.new }
     ensures nothing_unwritten { result ≢ PagesEnd.Unwritten }
 {
-    match read_next(alloc, reader, inputs) {
+    match read_next(alloc, settings, reader, inputs) {
         Ok(_page) => PagesEnd::TooMany,
         Err(end) => end,
     }

@@ -6,7 +6,7 @@ ghost use Rattle.potrace_main.specs.Asked.{IsAsked};
 ghost use Rattle.potrace_main.specs.Items.{Item, AreInputItems};
 ghost use Rattle.potrace_main.specs.Messages.{dash};
 ghost use Rattle.potrace_main.specs.Run.{IsComplete, IsOutcome, IsToldBy, IsWritten, SaysEnd, fault_text, status_of};
-ghost use Rattle.potrace_main.specs.declared.ask.Tracing.{Tracing};
+ghost use Rattle.pt_base.specs.declared.settings.Settings.{Settings};
 
 use crate::ask::ask;
 use crate::message::{
@@ -37,25 +37,25 @@ pub fn run<R: Threads + Sync, I: Inputs, O: Outputs, E: Sink, G: Gate + Sync>(
     requires ready { E.is_ready errs.old ≡ true }
 
     // Other words than the program's, exactly, are status 1.
-    ensures bad_words { (result ≡ 1) ↔ ((tracing : Tracing) → IsAsked (map string_bytes words.now) tracing → ⊥) }
+    ensures bad_words { (result ≡ 1) ↔ ((settings : Settings) → IsAsked (map string_bytes words.now) settings → ⊥) }
 
     // What the words and the told files give to be written is written, as far as the status says.
-    ensures outcome { (tracing : Tracing) → IsAsked (map string_bytes words.now) tracing
-        → IfSome (I.files inputs.old) (λ files. (items : List Item) → AreInputItems tracing files items
+    ensures outcome { (settings : Settings) → IsAsked (map string_bytes words.now) settings
+        → IfSome (I.files inputs.old) (λ files. (items : List Item) → AreInputItems settings files items
         → IsOutcome result items (O.documents outs.old) (O.documents outs.new) (E.documents errs.old) (E.documents errs.new) (E.faults errs.old) (E.faults errs.new)) }
-    ensures known { (tracing : Tracing) → IsAsked (map string_bytes words.now) tracing
-        → IfSome (I.files inputs.old) (λ files. (result ≡ 0) ⊎ (result ≡ 2) → (items : List Item) × AreInputItems tracing files items) }
+    ensures known { (settings : Settings) → IsAsked (map string_bytes words.now) settings
+        → IfSome (I.files inputs.old) (λ files. (result ≡ 0) ⊎ (result ≡ 2) → (items : List Item) × AreInputItems settings files items) }
 
     // Where no device failed, all is done, or the run ends with the refusal, want of memory aside.
-    ensures complete { (tracing : Tracing) → IsAsked (map string_bytes words.now) tracing
-        → IfSome (I.files inputs.old) (λ files. (items : List Item) → AreInputItems tracing files items
+    ensures complete { (settings : Settings) → IsAsked (map string_bytes words.now) settings
+        → IfSome (I.files inputs.old) (λ files. (items : List Item) → AreInputItems settings files items
         → (Rose (I.faults inputs.old) (I.faults inputs.new) → ⊥)
         → (Rose (O.faults outs.old) (O.faults outs.new) → ⊥)
         → IsComplete result items) }
 
     // Each fault has its cause.
     ensures unread { result ≡ 3 → Rose (I.faults inputs.old) (I.faults inputs.new) ⊎ Lacks (I.files inputs.old) dash }
-    ensures absent { (tracing : Tracing) → IsAsked (map string_bytes words.now) tracing
+    ensures absent { (settings : Settings) → IsAsked (map string_bytes words.now) settings
         → Lacks (I.files inputs.old) dash → (result ≡ 3) ⊎ (result ≡ 5) }
     ensures read { (result ≡ 0) ⊎ (result ≡ 1) ⊎ (result ≡ 2) → I.faults inputs.new ≡ I.faults inputs.old }
     ensures unwritten { result ≡ 4 → Rose (O.faults outs.old) (O.faults outs.new) }
@@ -63,15 +63,15 @@ pub fn run<R: Threads + Sync, I: Inputs, O: Outputs, E: Sink, G: Gate + Sync>(
     ensures known_statuses { result ≤ 5 }
 
     // Each document is a page's text, and none stays open but for a fault of the outputs.
-    ensures written { (tracing : Tracing) → IsAsked (map string_bytes words.now) tracing
-        → IsWritten tracing result (O.documents outs.old) (O.documents outs.new) }
+    ensures written { (settings : Settings) → IsAsked (map string_bytes words.now) settings
+        → IsWritten settings result (O.documents outs.old) (O.documents outs.new) }
     ensures closed { result ≢ 4 → O.is_ready outs.new ≡ false }
     ensures nothing { result ≡ 1 → O.documents outs.new ≡ O.documents outs.old }
 
     // The message that belongs to the status is said, and a failing one changes no status.
     ensures said { IsToldBy result (E.documents errs.old) (E.documents errs.new) (E.faults errs.old) (E.faults errs.new) }
 {
-    let Some(tracing) = ask(words) else {
+    let Some(settings) = ask(words) else {
         say_bad_words(errs);
         return 1;
     };
@@ -81,7 +81,7 @@ pub fn run<R: Threads + Sync, I: Inputs, O: Outputs, E: Sink, G: Gate + Sync>(
     };
     match inputs.open("-") {
         Ok(()) => {
-            let traced = trace_pages(alloc, tracing, &mut reader, inputs, outs);
+            let traced = trace_pages(alloc, settings, &mut reader, inputs, outs);
             finish(errs, traced)
         }
         Err(_) => {

@@ -170,3 +170,13 @@ four_appended out a b c d w x y z ew ex ey ez = rw (ez, ey, ex, ew) (simp append
 -- what stands behind place i
 pub behind : (text : List ℕ) (i : ℕ) → take (length text - (i + 1)) (drop (i + 1) text) ≡ drop (suc i) text
 behind text i = rw add-one (take_all (length text - suc i) (drop (suc i) text) (omega (arith, length-drop (suc i) text)))
+
+one_value : (whole fraction : List ℕ) (n m : ℕ) → IsMicroOf whole fraction n → IsMicroOf whole fraction m → n ≡ m
+one_value whole fraction n m a b = a.value ∙ sym b.value
+
+-- a text is one decimal number
+pub one_micro : (text : List ℕ) (n m : ℕ) → IsMicro text n → IsMicro text m → n ≡ m
+one_micro text n m a b = at_point (position (λ b. b == 46) text) refl where
+  at_point : (point : Option ℕ) → position (λ b. b == 46) text ≡ point → n ≡ m
+  at_point (Some i) here = one_value (take i text) (drop (suc i) text) n m (parted text i n here a) (parted text i m here b)
+  at_point None none = one_value text [] n m (whole_alone text n none a) (whole_alone text m none b)

@@ -58,9 +58,62 @@ fn worked_pages(rt: HostRuntime) -> Result<(), Fail> {
 }
 
 #[test]
+fn worked_polygons(rt: HostRuntime) -> Result<(), Fail> {
+    let white = "-b polygons -z minority -t 2";
+    let all = "-b polygons -z left -t 0";
+    let row = "P1 40 1 1111111111111111111111111111111111111111";
+    let target =
+        "polygons 5 5 3\n+ 25 20 4 0: 0 5 10 15\n- 9 12 4 0: 0 3 6 9\n+ 1 4 4 0: 0 1 2 3\n";
+    let cases: [(&str, &str, &str); 6] = [
+        (all, "P1 1 1 1\n", "polygons 1 1 1\n+ 1 4 4 0: 0 1 2 3\n"),
+        (white, "P1 1 1 1\n", "polygons 1 1 0\n"),
+        (
+            "-b polygons -z white -t 1",
+            "P1 2 1 11",
+            "polygons 2 1 1\n+ 2 6 3 294: 0 2 4\n",
+        ),
+        (all, "P1 5 5 11111 10001 10101 10001 11111\n", target),
+        (white, row, "polygons 40 1 1\n+ 40 82 3 5846: 0 21 42\n"),
+        (all, "P1 3 1 111", "polygons 3 1 1\n+ 3 8 3 433: 0 2 5\n"),
+    ];
+    for (words, input, text) in cases {
+        let done = Case::new(words, input.as_bytes()).run(&rt, rt.alloc())?;
+        expect(&rt, &done, 0, &[text], "");
+    }
+    Ok(())
+}
+
+#[test]
+fn levels_and_inversion(rt: HostRuntime) -> Result<(), Fail> {
+    let white = "points 2 1 0\n";
+    let left = "points 2 1 1\n+ 1 0,1 0,0 1,0 1,1\n";
+    let both = "points 2 1 1\n+ 2 0,1 0,0 1,0 2,0 2,1 1,1\n";
+    let right = "points 2 1 1\n+ 1 1,1 1,0 2,0 2,1\n";
+    let two = b"P5\n2 1\n65535\n\x7f\xff\x80\x00";
+    let cases: [(&str, &[u8], &str); 9] = [
+        ("-b points -z left -t 0", two, left),
+        ("-b points -z left -t 0 -i", two, right),
+        ("-b points -z left -t 0 -k 0.499992", two, white),
+        ("-b points -z left -t 0 -k 0.500008", two, both),
+        ("-b points -z left -t 0 -k 1 -i", two, white),
+        ("-b points -z left -t 0 -k .2", b"P2 2 1 10 2 3", left),
+        ("-b points -z left -t 0 -k 0", b"P2 2 1 10 0 1", left),
+        ("-b points -z left -t 0 -k 0", b"P1 2 1 10", left),
+        ("-b points -z left -t 0 -i", b"P1 2 1 01", left),
+    ];
+    for (words, input, text) in cases {
+        let done = Case::new(words, input).run(&rt, rt.alloc())?;
+        expect(&rt, &done, 0, &[text], "");
+    }
+    Ok(())
+}
+
+#[test]
 fn refusals(rt: HostRuntime) -> Result<(), Fail> {
-    let cases: [(&[u8], &str); 8] = [
+    let cases: [(&[u8], &str); 10] = [
         (b"", "unknown format"),
+        (b"P5 1 1 0\n", "bad header"),
+        (b"P2 1 1 255x", "bad raster"),
         (b"P6 1 1 255\n", "unknown format"),
         (b"P4 16385 1\n", "side too large"),
         (b"P4 0 99999\n", "zero side"),
@@ -141,6 +194,12 @@ fn other_words(rt: HostRuntime) -> Result<(), Fail> {
         "-b points -z random -t 0",
         "-b points -z left -t 1000000001",
         "-b points -z left -t -1",
+        "-b points -z left -t 0 -k 1.000001",
+        "-b points -z left -t 0 -k .",
+        "-b points -z left -t 0 -k",
+        "-b points -z left -t 0 -i -k 0.5",
+        "-b points -z left -t 0 -i -i",
+        "-b polygon -z left -t 0",
         "",
     ] {
         let done = Case::new(words, b"P1 1 1 1").run(&rt, rt.alloc())?;

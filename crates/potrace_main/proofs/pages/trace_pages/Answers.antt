@@ -5,7 +5,7 @@ use Rattle.potrace_main.proofs.pages.trace_pages.Goals as goal
 pub loop-pages-init : goal.loop-pages-init
 loop-pages-init g c = record {
   most = omega arith;
-  traced = rw c.requires.fresh (none_traced c.args.tracing _ _);
+  traced = rw c.requires.fresh (none_traced c.args.settings _ _);
   at_end = λ e. absurd (let clash : false ≡ true = ap (λ r. r.ended) (sym c.requires.fresh) ∙ e in cc);
   opened = c.requires.opened;
   closed = c.requires.closed;
@@ -31,5 +31,5 @@ returns-in-Err-clause-traced g c =
 
 pub returns-clause-traced : goal.returns-clause-traced
 returns-clause-traced g c =
-    no_more _ _ _ _ _ _ _ _ _ c.loop-pages.invariant.traced (c.end_after_most-end.ensures.ends _ _) c.loop-pages.invariant.most
+    no_more _ _ _ _ _ _ _ _ _ c.loop-pages.invariant.traced (c.end_after_most-end.ensures.ends _) c.loop-pages.invariant.most
     (λ _. c.loop-pages-test.false) (λ e. absurd (c.end_after_most-end.ensures.nothing_unwritten e))

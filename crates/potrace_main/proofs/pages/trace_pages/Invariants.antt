@@ -12,7 +12,7 @@ invariant-loop-pages g l =
     let outs = g.O.Sink in
     record {
       most : l.pages ≤ most_pages;
-      traced : IsTraced l.tracing (unread (inputs.files l.fn.inputs)) (outs.documents l.fn.outs) l.reader (inputs.files l.inputs) (outs.documents l.outs) l.pages;
+      traced : IsTraced l.settings (unread (inputs.files l.fn.inputs)) (outs.documents l.fn.outs) l.reader (inputs.files l.inputs) (outs.documents l.outs) l.pages;
       at_end : l.reader.ended ≡ true → AtEnd (inputs.files l.inputs);
       opened : inputs.is_opened l.inputs ≡ true;
       closed : outs.is_ready l.outs ≡ false;

@@ -1,36 +1,44 @@
-use Rattle.std.proofs.Common.{◌≡◌, ◌⊎◌, Err, ap, inl, inr, refl, sym, arith}
+use Rattle.std.proofs.Common.{◌≡◌, ◌⊎◌, Err, ap, inl, inr, refl, subst, sym, arith}
 use Rattle.pt_base.specs.Counts.{Rose}
 use Rattle.pt_base.specs.Files.{Files, Lacks}
 use Rattle.pt_base.specs.declared.fault.OpenFault.{OpenFault}
 use Rattle.pt_base.specs.declared.fault.OpenFault.TheVariants as opening
 use Rattle.potrace_main.specs.Messages.{dash}
+use Rattle.pt_base.specs.declared.settings.Settings.{Settings}
+use Rattle.potrace_main.specs.Run.{IsWritten, status_of}
 use Rattle.potrace_main.proofs.Asking.{one_asked}
-use Rattle.potrace_main.proofs.Finishing.{IfSome-all, complete_unopened, none_written_at, out_of_memory_at_once, run_complete, run_known, run_outcome, told_by}
+use Rattle.potrace_main.proofs.Finishing.{IfSome-all, complete_unopened, none_written_at, out_of_memory_at_once, run_complete, run_known, run_outcome, run_written, told_by}
 use Rattle.potrace_main.proofs.top.run.Goals as goal
 
 pub returns-in_default-clause-absent : goal.returns-in_default-clause-absent
-returns-in_default-clause-absent g c = λ tracing asked lacking. absurd (c.in_default.ensures.refused tracing asked)
+returns-in_default-clause-absent g c = λ settings asked lacking. absurd (c.in_default.ensures.refused settings asked)
 
 pub returns-in_default-clause-written : goal.returns-in_default-clause-written
-returns-in_default-clause-written g c = λ tracing asked. absurd (c.in_default.ensures.refused tracing asked)
+returns-in_default-clause-written g c = λ settings asked. absurd (c.in_default.ensures.refused settings asked)
 
 pub returns-in_default-new-clause-outcome : goal.returns-in_default-new-clause-outcome
-returns-in_default-new-clause-outcome g c = λ tracing asked.
+returns-in_default-new-clause-outcome g c = λ settings asked.
     IfSome-all Files (g.I.Inputs.files c.args.inputs.now) _ (λ files items are. out_of_memory_at_once items _ _ _ _ _ c.say_out_of_memory.ensures.said)
 
 pub returns-in_default-new-clause-written : goal.returns-in_default-new-clause-written
-returns-in_default-new-clause-written g c = λ tracing asked. none_written_at tracing 5 _ (λ e. omega (arith, e))
+returns-in_default-new-clause-written g c = λ settings asked. none_written_at settings 5 _ (λ e. omega (arith, e))
 
 pub returns-in-Ok-open-clause-outcome : goal.returns-in-Ok-open-clause-outcome
-returns-in-Ok-open-clause-outcome g c = λ tracing asked.
-    let same = one_asked _ c.in-Some.tracing tracing c.in-Some.ensures.asked asked in
+returns-in-Ok-open-clause-outcome g c = λ settings asked.
+    let same = one_asked _ c.in-Some.settings settings c.in-Some.ensures.asked asked in
     rw c.finish.ensures.status
     (run_outcome _ _ same (g.I.Inputs.files c.args.inputs.now) _ _ _ _ _ _ _ _ c.trace_pages-traced.result.end c.in-Ok-open.ensures.file
     (λ lacking. let clash = c.in-Ok-open.ensures.absent.1 lacking in cc) c.trace_pages-traced.ensures.traced c.finish.ensures.said)
 
+pub returns-in-Ok-open-clause-written : goal.returns-in-Ok-open-clause-written
+returns-in-Ok-open-clause-written g c = λ settings asked.
+    let same = one_asked _ c.in-Some.settings settings c.in-Some.ensures.asked asked in
+    let P : Settings → Type 0 = λ s. IsWritten s (status_of c.trace_pages-traced.result.end) (g.O.Sink.documents c.args.outs.now) (g.O.Sink.documents c.trace_pages-traced.new.outs) in
+    rw c.finish.ensures.status (subst P same (run_written c.in-Some.settings _ _ _ _ _ c.trace_pages-traced.ensures.traced))
+
 pub returns-in-Ok-open-clause-known : goal.returns-in-Ok-open-clause-known
-returns-in-Ok-open-clause-known g c = λ tracing asked.
-    let same = one_asked _ c.in-Some.tracing tracing c.in-Some.ensures.asked asked in
+returns-in-Ok-open-clause-known g c = λ settings asked.
+    let same = one_asked _ c.in-Some.settings settings c.in-Some.ensures.asked asked in
     rw c.finish.ensures.status
     (run_known _ _ same (g.I.Inputs.files c.args.inputs.now) _ _ _ _ c.trace_pages-traced.result.end c.in-Ok-open.ensures.file
     (λ lacking. let clash = c.in-Ok-open.ensures.absent.1 lacking in cc) c.trace_pages-traced.ensures.traced)
@@ -39,23 +47,23 @@ pub returns-in-Ok-open-clause-said : goal.returns-in-Ok-open-clause-said
 returns-in-Ok-open-clause-said g c = rw c.finish.ensures.status (told_by c.trace_pages-traced.result.end _ _ _ _ _ c.finish.ensures.said)
 
 pub returns-clause-written : goal.returns-clause-written
-returns-clause-written g c = λ tracing asked. none_written_at tracing 3 _ (λ e. omega (arith, e))
+returns-clause-written g c = λ settings asked. none_written_at settings 3 _ (λ e. omega (arith, e))
 
 pub returns-in_default-clause-complete : goal.returns-in_default-clause-complete
-returns-in_default-clause-complete g c = λ tracing asked. absurd (c.in_default.ensures.refused tracing asked)
+returns-in_default-clause-complete g c = λ settings asked. absurd (c.in_default.ensures.refused settings asked)
 
 pub returns-in-Ok-open-clause-complete : goal.returns-in-Ok-open-clause-complete
-returns-in-Ok-open-clause-complete g c = λ tracing asked.
-    let same = one_asked _ c.in-Some.tracing tracing c.in-Some.ensures.asked asked in
+returns-in-Ok-open-clause-complete g c = λ settings asked.
+    let same = one_asked _ c.in-Some.settings settings c.in-Some.ensures.asked asked in
     let outcome = run_outcome _ _ same (g.I.Inputs.files c.args.inputs.now) _ _ _ _ _ _ _ _ c.trace_pages-traced.result.end c.in-Ok-open.ensures.file
     (λ lacking. let clash = c.in-Ok-open.ensures.absent.1 lacking in cc) c.trace_pages-traced.ensures.traced c.finish.ensures.said in
     rw c.finish.ensures.status
-    (run_complete tracing (g.I.Inputs.files c.args.inputs.now) c.trace_pages-traced.result.end _ _ _ _ _ _ _ _ _ _ _ _ outcome
+    (run_complete settings (g.I.Inputs.files c.args.inputs.now) c.trace_pages-traced.result.end _ _ _ _ _ _ _ _ _ _ _ _ outcome
     c.in-Ok-open.ensures.steady c.trace_pages-traced.ensures.input c.trace_pages-traced.ensures.output)
 
 pub returns-clause-complete : goal.returns-clause-complete
-returns-clause-complete g c = λ tracing asked.
-    complete_unopened tracing (g.I.Inputs.files c.args.inputs.now) _ _ _ _ (by_fault c.in-Err.field-0 refl) where
+returns-clause-complete g c = λ settings asked.
+    complete_unopened settings (g.I.Inputs.files c.args.inputs.now) _ _ _ _ (by_fault c.in-Err.field-0 refl) where
       by_fault : (f : OpenFault) → f ≡ c.in-Err.field-0 → Rose (g.I.Inputs.faults c.args.inputs.now) (g.I.Inputs.faults c.open.new.self) ⊎ Lacks (g.I.Inputs.files c.args.inputs.now) dash
       by_fault opening.Absent e = inr (c.in-Err.ensures.absent.0 (ap Err (sym e)))
       by_fault opening.Device e = inl (c.in-Err.ensures.cause (ap Err (sym e)))
