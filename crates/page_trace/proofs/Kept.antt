@@ -7,7 +7,6 @@ use Rattle.std.proofs.lemmas.List.Elements.{All-filter}
 use Rattle.std.proofs.Math.Nat.{mod-lt}
 use Rattle.pt_base.specs.ClosedWalk.{IsClosedWalk, origin}
 use Rattle.pt_base.specs.OnPage.{AreOnPage}
-use Rattle.pt_base.specs.declared.limits.TheConstants.{LONGEST_SIDE}
 use Rattle.pt_base.specs.declared.path.Path.{Path}
 use Rattle.pt_base.specs.declared.point.Point.{Point}
 use Rattle.path_decompose.specs.Bounds.{IsCornerOf}

@@ -1,6 +1,6 @@
 -- What is traced of a page: its paths without the speckles (Selinger, "Potrace", 2003, section 2.1), and the
 -- best polygon of each (section 2.2).
-use Rattle.std.specs.Prelude.{◌≡◌, ℕ, List, []}
+use Rattle.std.specs.Prelude.{◌≡◌, List, []}
 use Rattle.std.specs.List.{AllZip}
 use Rattle.pt_base.specs.declared.path.Path.{Path}
 use Rattle.pt_base.specs.declared.polygon.Polygon.{Polygon}

@@ -1,5 +1,5 @@
 -- A path has one best polygon.
-use Rattle.std.proofs.Common.{◌≡◌, ℕ, List, [], ◌∷◌, ◌++◌, length, sym, ap, arith}
+use Rattle.std.proofs.Common.{◌≡◌, ℕ, List, [], ◌∷◌, length}
 use Rattle.std.proofs.lemmas.List.{append_cancel_right}
 use Rattle.pt_base.specs.declared.point.Point.{Point}
 use Rattle.least_walk.specs.LeastWalk.{walk_from}

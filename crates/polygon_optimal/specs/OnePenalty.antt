@@ -1,12 +1,10 @@
 -- A segment has one penalty, and it is small.
-use Rattle.std.proofs.Common.{◌≡◌, ℕ, ◌+◌, ◌-◌, ◌*◌, ◌/◌, ◌<◌, ◌≤◌, ◌^◌, ℤ, pos, ◌-ℤ◌, ◌*ℤ◌, ◌≤ℤ◌, List, length, sym, ap, arith}
+use Rattle.std.proofs.Common.{◌≡◌, ℕ, ◌+◌, ◌-◌, ◌*◌, ◌/◌, ◌<◌, ◌≤◌, ◌^◌, ℤ, ◌-ℤ◌, ◌*ℤ◌, List, arith}
 use Rattle.std.proofs.lemmas.Int.{ints}
 use Rattle.std.specs.Prelude.{unsigned_abs}
 use Rattle.std.proofs.Math.Nat.{div-le_of_le-mul}
 use Rattle.pt_base.specs.declared.point.Point.{Point}
-use Rattle.pt_base.specs.ClosedWalk.{point_at}
-use Rattle.pt_base.specs.OnPage.{IsOnPage, AreOnPage}
-use Rattle.pt_base.specs.Root.{IsRoot, root_of}
+use Rattle.pt_base.specs.OnPage.{AreOnPage}
 use Rattle.pt_base.proofs.Roots.{root_is, root_is_one, root_below}
 use Rattle.prefix_moments.specs.Sums.{IsPenalty, spread_of, cross_of, right_of, above_of}
 use Rattle.prefix_moments.proofs.Fitting.{product_most}

@@ -1,4 +1,4 @@
-use Rattle.std.proofs.Common.{ℕ, List, subst, arith}
+use Rattle.std.proofs.Common.{List, subst, arith}
 use Rattle.pt_base.specs.declared.point.Point.{Point}
 use Rattle.polygon_optimal.specs.Lasts.{IsLast}
 use Rattle.polygon_optimal.proofs.Reaching.{lasts_more}
