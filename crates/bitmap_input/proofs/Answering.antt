@@ -19,7 +19,7 @@ use Rattle.bitmap_input.specs.FilePages.{next_begins}
 use Rattle.bitmap_input.specs.Reading.{Held, AtEnd, Moves, Cause, cause_of, cause_of_fault, StopsBy, Reads, CountsBy}
 use Rattle.bitmap_input.specs.Reading.Cause.{Says, Device, Memory}
 use Rattle.bitmap_input.specs.Reader.{Reader, is_later, ahead, Answers, GivesPage, GivesEnding, TellsPage, IfSays, IsAnswer}
-use Rattle.bitmap_input.proofs.Appending.{front_stays}
+use Rattle.bitmap_input.proofs.FrontStays.{front_stays}
 use Rattle.bitmap_input.proofs.Telling.{not_true}
 use Rattle.bitmap_input.proofs.Keeping.{rest_behind, next_begins-used, front_begins, front_used}
 

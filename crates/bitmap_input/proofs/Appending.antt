@@ -1,6 +1,6 @@
--- An answer that isn't by the end of the bytes stays the same where bytes are added: of each part,
--- and so of the page.
-use Rattle.std.proofs.Common.{◌≡◌, refl, ℕ, zero, suc, ◌-◌, ◌≤◌, ◌<◌, Bool, true, false, cond, ◌||◌, List, [], ◌∷◌, ◌++◌, length, take, drop, arith, ap, ◌∙◌}
+-- An answer that isn't by the end of the bytes stays the same where bytes are added: of each part of
+-- a page.
+use Rattle.std.proofs.Common.{◌≡◌, refl, ℕ, zero, suc, ◌≤◌, ◌<◌, Bool, true, false, cond, ◌&&◌, ◌||◌, List, [], ◌∷◌, ◌++◌, length, take, drop, arith, ap}
 use Rattle.std.specs.Prelude.{nat_eq, nat_lt}
 use Rattle.std.proofs.lemmas.List.{take-append-le, drop-append-le, length-append}
 use Rattle.std.proofs.lemmas.Bool.{ltb-true, lt-ltb, le-ltb, ltb-false}
@@ -9,10 +9,9 @@ use Rattle.bitmap_input.specs.Cut.Kind.{BadHeader, ZeroSide, TooLarge, BadRaster
 use Rattle.bitmap_input.specs.Cut.Ending.{Refused}
 use Rattle.bitmap_input.specs.Cut.Cut.{Takes, Stops}
 use Rattle.bitmap_input.specs.Parts.{longest, is_zero, is_empty, is_space, is_digit, run_length, gap_length, missing, run_of, spaces, gap, some_gap, value, number, space, pixel, block, times}
-use Rattle.bitmap_input.specs.Raw.{Raw, bits_page, row_bytes, unpacked}
-use Rattle.bitmap_input.specs.Front.{Magic, no_magic, magic_behind, magic, checked, side, sides, plain_pixel, raw_row, body, page_at, answer_of, front, longest_side}
-use Rattle.bitmap_input.specs.Front.Magic.{PlainBits, RawBits}
-use Rattle.bitmap_input.specs.Front.Answer.{Page}
+use Rattle.bitmap_input.specs.Raw.{row_bytes, unpacked}
+use Rattle.bitmap_input.specs.Front.{Magic, no_magic, picture_magic, magic_behind, magic, checked, side, sides, plain_pixel, raw_row, longest_side}
+use Rattle.bitmap_input.specs.Front.Magic.{PlainBits, RawBits, Picture}
 use Rattle.bitmap_input.proofs.Bytes.{run_length-le, run_length-append-le, run_length-append, gap_length-le, gap_length-append-le, gap_length-append}
 
 -- where it isn't by the end, the part is the same where bytes are added
@@ -182,18 +181,23 @@ no_magic_stays : (e later : Bool) (more : List ℕ) → no_magic e later ≡ wit
 no_magic_stays e true more = refl
 no_magic_stays e false more = refl
 
+picture_magic_stays : (later : Bool) (a b : ℕ) → Stays (picture_magic later a b)
+picture_magic_stays later a b bytes more not_end =
+    pick_stays (nat_eq a 66 && nat_eq b 77) (Takes false Picture bytes) (no_magic false later) (Takes false Picture (bytes ++ more)) (no_magic false later) more
+    (λ _. refl) (λ _. no_magic_stays false later more) not_end
+
 pub magic_behind_stays : (later : Bool) (a : ℕ) → Stays (magic_behind later a)
 magic_behind_stays later a [] more not_end = let e = rw is_by_end-no_magic at not_end in cc
 magic_behind_stays later a (b ∷ rest) more not_end =
     let none : no_magic false later ≡ with_more more (no_magic false later) = no_magic_stays false later more in
     pick_stays (nat_eq a 80) (cond (nat_eq b 49) (Takes false PlainBits rest) (cond (nat_eq b 52) (Takes false RawBits rest) (no_magic false later)))
-    (no_magic false later)
+    (picture_magic later a b rest)
     (cond (nat_eq b 49) (Takes false PlainBits (rest ++ more)) (cond (nat_eq b 52) (Takes false RawBits (rest ++ more)) (no_magic false later)))
-    (no_magic false later) more
+    (picture_magic later a b (rest ++ more)) more
     (pick_stays (nat_eq b 49) (Takes false PlainBits rest) (cond (nat_eq b 52) (Takes false RawBits rest) (no_magic false later))
     (Takes false PlainBits (rest ++ more)) (cond (nat_eq b 52) (Takes false RawBits (rest ++ more)) (no_magic false later)) more (λ _. refl)
     (pick_stays (nat_eq b 52) (Takes false RawBits rest) (no_magic false later) (Takes false RawBits (rest ++ more)) (no_magic false later) more (λ _. refl) (λ _. none)))
-    (λ _. none) not_end
+    (picture_magic_stays later a b rest more) not_end
 
 pub magic_stays : (later : Bool) → Stays (magic later)
 magic_stays true [] more not_end = cc
@@ -232,38 +236,3 @@ raw_row_stays width bytes more not_end =
     stays_bind (block (row_bytes width) bytes) (block (row_bytes width) (bytes ++ more))
     (λ row rest. Takes false (take width (unpacked row)) rest) more
     (λ row. take_stays false (take width (unpacked row))) (block_stays (row_bytes width) bytes more) not_end
-
-pub body_stays : (m : Magic) → Stays (body m)
-body_stays PlainBits bytes more not_end =
-    stays_bind (sides bytes) (sides (bytes ++ more)) _ more
-    (λ s bytes more not_end. stays_bind (times (times plain_pixel s.0) s.1 bytes) (times (times plain_pixel s.0) s.1 (bytes ++ more)) _ more
-    (λ rows. take_stays false (bits_page s.0 s.1 rows))
-    (times_stay (times plain_pixel s.0) (times_stay plain_pixel plain_pixel_stays s.0) s.1 bytes more) not_end)
-    (sides_stay bytes more) not_end
-body_stays RawBits bytes more not_end =
-    stays_bind (sides bytes) (sides (bytes ++ more)) _ more
-    (λ s bytes more not_end. stays_bind (space bytes) (space (bytes ++ more)) _ more
-    (λ _ bytes more not_end. stays_bind (times (raw_row s.0) s.1 bytes) (times (raw_row s.0) s.1 (bytes ++ more)) _ more
-    (λ rows. take_stays false (bits_page s.0 s.1 rows)) (times_stay (raw_row s.0) (raw_row_stays s.0) s.1 bytes more) not_end)
-    (space_stays bytes more) not_end)
-    (sides_stay bytes more) not_end
-
--- a page's answer that isn't by the end of the bytes stays where bytes are added
-pub page_stays : (later : Bool) → Stays (page_at later)
-page_stays later bytes more not_end =
-    stays_bind (spaces bytes) (spaces (bytes ++ more)) _ more
-    (λ _ bytes more not_end. stays_bind (magic later bytes) (magic later (bytes ++ more)) _ more body_stays (magic_stays later bytes more) not_end)
-    (spaces_stay bytes more) not_end
-
-answer_stays : (bytes more : List ℕ) (c : Cut Raw) → answer_of (bytes ++ more) (with_more more c) ≡ answer_of bytes c
-answer_stays bytes more (Takes e raw rest) =
-    let a : length (bytes ++ more) - length (rest ++ more) ≡ length bytes - length rest
-    = omega (arith, length-append bytes more, length-append rest more) in
-    ap (λ n. Page raw n) a
-answer_stays bytes more (Stops e ending) = refl
-
-pub front_stays : (later : Bool) (bytes more : List ℕ) → is_by_end (page_at later bytes) ≡ false →
-    front later (bytes ++ more) ≡ front later bytes
-front_stays later bytes more not_end =
-    let e = page_stays later bytes more not_end in
-    ap (answer_of (bytes ++ more)) e ∙ answer_stays bytes more (page_at later bytes)

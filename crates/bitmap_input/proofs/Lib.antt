@@ -1,6 +1,9 @@
 mod Examples
+pub mod BmpExamples
 pub mod Bytes
 pub mod Appending
+pub mod BmpStays
+pub mod FrontStays
 pub mod Telling
 pub mod Places
 pub mod Running
@@ -12,6 +15,8 @@ pub mod Placing
 pub mod Showing
 pub mod Bodies
 pub mod Keeping
+pub mod BmpKeeps
+pub mod BmpLengths
 pub mod Answering
 pub mod Longest
 pub mod Files

@@ -1,26 +1,30 @@
 -- The first page of a list of bytes, or what stands there in place of one (Netpbm's format page
 -- "pbm"): the parts of a page one after another, as far as each is there and passes its checks.
-use Rattle.std.specs.Prelude.{ℕ, ◌-◌, Bool, true, false, ◌||◌, List, [], ◌∷◌, length, take, if◌then◌else◌, nat_eq, nat_lt}
+use Rattle.std.specs.Prelude.{ℕ, ◌-◌, Bool, true, false, ◌&&◌, List, [], ◌∷◌, length, take, if◌then◌else◌, nat_eq}
 use Rattle.bitmap_input.specs.Cut.{Ending, Cut, ◌>>=◌}
-use Rattle.bitmap_input.specs.Cut.Kind.{UnknownFormat, BadHeader, ZeroSide, TooLarge}
+use Rattle.bitmap_input.specs.Cut.Kind.{UnknownFormat, BadHeader}
 use Rattle.bitmap_input.specs.Cut.Ending.{End, Trailing, Refused}
 use Rattle.bitmap_input.specs.Cut.Cut.{Takes, Stops}
-use Rattle.bitmap_input.specs.Parts.{is_zero, spaces, gap, some_gap, number, space, pixel, block, times}
+use Rattle.bitmap_input.specs.Parts.{spaces, gap, some_gap, number, space, pixel, block, times}
+pub use Rattle.bitmap_input.specs.Sides.{longest_side, checked}
 use Rattle.bitmap_input.specs.Raw.{Raw, bits_page, row_bytes, unpacked}
+use Rattle.bitmap_input.specs.Bmp.{bmp}
 
--- the known formats: plain and raw PBM
+-- the known formats: plain and raw PBM, and BMP
 pub data Magic : Type 0 where
   PlainBits : Magic
   RawBits : Magic
-
--- the greatest side of a page
-abbrev pub longest_side : ℕ
-longest_side = 16384
+  Picture : Magic
 
 -- no known magic stands there: a first page is of an unknown format, and after a page the file ends
 abbrev pub no_magic : Bool → Bool → Cut Magic
 no_magic e true = Stops e Trailing
 no_magic e false = Stops e (Refused UnknownFormat)
+
+-- the two bytes `BM`
+abbrev pub picture_magic : Bool → ℕ → ℕ → List ℕ → Cut Magic
+picture_magic later a b rest =
+    if nat_eq a 66 && nat_eq b 77 then Takes false Picture rest else no_magic false later
 
 -- the second byte of a magic, behind the first one
 abbrev pub magic_behind : Bool → ℕ → List ℕ → Cut Magic
@@ -29,7 +33,7 @@ magic_behind later a (b ∷ rest) =
     if nat_eq a 80 then
     (if nat_eq b 49 then Takes false PlainBits rest
     else (if nat_eq b 52 then Takes false RawBits rest else no_magic false later))
-    else no_magic false later
+    else picture_magic later a b rest
 
 -- two bytes that name the format of the page, where `later` says that a page came before
 abbrev pub magic : Bool → List ℕ → Cut Magic
@@ -37,13 +41,6 @@ magic true [] = Stops true End
 magic false [] = Stops true (Refused UnknownFormat)
 magic true (a ∷ rest) = magic_behind true a rest
 magic false (a ∷ rest) = magic_behind false a rest
-
--- both sides are in range: first none is 0, and then none is too large
-abbrev pub checked : ℕ → ℕ → List ℕ → Cut (ℕ × ℕ)
-checked width height bytes =
-    if is_zero width || is_zero height then Stops false (Refused ZeroSide)
-    else (if nat_lt longest_side width || nat_lt longest_side height then Stops false (Refused TooLarge)
-    else Takes false (width, height) bytes)
 
 -- a side: a number after a gap
 abbrev pub side : List ℕ → Cut ℕ
@@ -69,6 +66,7 @@ body PlainBits bytes =
 body RawBits bytes =
     sides bytes >>= λ s rest. space rest >>= λ _ rest. times (raw_row s.0) s.1 rest >>= λ rows rest.
     Takes false (bits_page s.0 s.1 rows) rest
+body Picture bytes = bmp bytes
 
 -- the page that stands at the front of the bytes, with whitespace before its magic or not
 abbrev pub page_at : Bool → List ℕ → Cut Raw

@@ -2,6 +2,10 @@ pub mod Cut
 pub mod Parts
 pub mod Sets
 pub mod Raw
+pub mod Sides
+pub mod BmpHeader
+pub mod BmpRaster
+pub mod Bmp
 pub mod Front
 pub mod FilePages
 pub mod Reading
