@@ -1,19 +1,21 @@
--- The first page of a list of bytes, or what stands there in place of one (Netpbm's format page
--- "pbm"): the parts of a page one after another, as far as each is there and passes its checks.
-use Rattle.std.specs.Prelude.{ℕ, ◌-◌, Bool, true, false, ◌&&◌, List, [], ◌∷◌, length, take, if◌then◌else◌, nat_eq}
+-- The first page of a list of bytes, or what stands there in place of one (Netpbm's format pages
+-- "pbm" and "pgm"): the parts of a page one after another, as far as each is there and passes its checks.
+use Rattle.std.specs.Prelude.{ℕ, ◌-◌, ◌*◌, Bool, true, false, ◌&&◌, ◌||◌, List, [], ◌∷◌, length, take, if◌then◌else◌, nat_eq, nat_lt, Option, Some, None}
 use Rattle.bitmap_input.specs.Cut.{Ending, Cut, ◌>>=◌}
-use Rattle.bitmap_input.specs.Cut.Kind.{UnknownFormat, BadHeader}
+use Rattle.bitmap_input.specs.Cut.Kind.{UnknownFormat, BadHeader, ZeroSide, TooLarge, BadRaster}
 use Rattle.bitmap_input.specs.Cut.Ending.{End, Trailing, Refused}
 use Rattle.bitmap_input.specs.Cut.Cut.{Takes, Stops}
-use Rattle.bitmap_input.specs.Parts.{spaces, gap, some_gap, number, space, pixel, block, times}
+use Rattle.bitmap_input.specs.Parts.{is_zero, spaces, gap, number_behind_gap, space, pixel, block, times}
 pub use Rattle.bitmap_input.specs.Sides.{longest_side, checked}
-use Rattle.bitmap_input.specs.Raw.{Raw, bits_page, row_bytes, unpacked}
 use Rattle.bitmap_input.specs.Bmp.{bmp}
+use Rattle.bitmap_input.specs.Raw.{Raw, bits_page, gray_page, row_bytes, unpacked, samples}
 
--- the known formats: plain and raw PBM, and BMP
+-- the known formats: plain and raw PBM, plain and raw PGM, and BMP
 pub data Magic : Type 0 where
   PlainBits : Magic
   RawBits : Magic
+  PlainGray : Magic
+  RawGray : Magic
   Picture : Magic
 
 -- no known magic stands there: a first page is of an unknown format, and after a page the file ends
@@ -21,19 +23,25 @@ abbrev pub no_magic : Bool → Bool → Cut Magic
 no_magic e true = Stops e Trailing
 no_magic e false = Stops e (Refused UnknownFormat)
 
--- the two bytes `BM`
-abbrev pub picture_magic : Bool → ℕ → ℕ → List ℕ → Cut Magic
-picture_magic later a b rest =
-    if nat_eq a 66 && nat_eq b 77 then Takes false Picture rest else no_magic false later
+-- the format that two bytes name: `P` and then `1`, `2`, `4` or `5`, or `BM`
+abbrev pub magic_named : ℕ → ℕ → Option Magic
+magic_named a b =
+    if nat_eq a 80 then
+    (if nat_eq b 49 then Some PlainBits
+    else (if nat_eq b 50 then Some PlainGray
+    else (if nat_eq b 52 then Some RawBits
+    else (if nat_eq b 53 then Some RawGray else None))))
+    else (if nat_eq a 66 && nat_eq b 77 then Some Picture else None)
+
+-- a magic where its two bytes name a format
+abbrev pub magic_of_name : Bool → Option Magic → List ℕ → Cut Magic
+magic_of_name later (Some m) rest = Takes false m rest
+magic_of_name later None rest = no_magic false later
 
 -- the second byte of a magic, behind the first one
 abbrev pub magic_behind : Bool → ℕ → List ℕ → Cut Magic
 magic_behind later a [] = no_magic true later
-magic_behind later a (b ∷ rest) =
-    if nat_eq a 80 then
-    (if nat_eq b 49 then Takes false PlainBits rest
-    else (if nat_eq b 52 then Takes false RawBits rest else no_magic false later))
-    else picture_magic later a b rest
+magic_behind later a (b ∷ rest) = magic_of_name later (magic_named a b) rest
 
 -- two bytes that name the format of the page, where `later` says that a page came before
 abbrev pub magic : Bool → List ℕ → Cut Magic
@@ -42,13 +50,22 @@ magic false [] = Stops true (Refused UnknownFormat)
 magic true (a ∷ rest) = magic_behind true a rest
 magic false (a ∷ rest) = magic_behind false a rest
 
--- a side: a number after a gap
-abbrev pub side : List ℕ → Cut ℕ
-side bytes = some_gap BadHeader bytes >>= λ _ rest. number BadHeader rest
-
 -- the width and the height
 abbrev pub sides : List ℕ → Cut (ℕ × ℕ)
-sides bytes = side bytes >>= λ width rest. side rest >>= λ height rest. checked width height rest
+sides bytes = number_behind_gap BadHeader bytes >>= λ width rest. number_behind_gap BadHeader rest >>= λ height rest. checked width height rest
+
+-- the greatest value that the sample for white may have
+abbrev pub greatest_maxval : ℕ
+greatest_maxval = 65535
+
+-- the sample for white is in range
+abbrev pub checked_maxval : ℕ → List ℕ → Cut ℕ
+checked_maxval n bytes =
+    if is_zero n || nat_lt greatest_maxval n then Stops false (Refused BadHeader) else Takes false n bytes
+
+-- the sample for white
+abbrev pub maxval : List ℕ → Cut ℕ
+maxval bytes = number_behind_gap BadHeader bytes >>= λ n rest. checked_maxval n rest
 
 -- a pixel's character, with whitespace and comments before it or not
 abbrev pub plain_pixel : List ℕ → Cut Bool
@@ -58,6 +75,23 @@ plain_pixel bytes = gap bytes >>= λ _ rest. pixel rest
 abbrev pub raw_row : ℕ → List ℕ → Cut (List Bool)
 raw_row width bytes = block (row_bytes width) bytes >>= λ row rest. Takes false (take width (unpacked row)) rest
 
+-- a gray sample as a number, with a gap before it
+abbrev pub plain_sample : List ℕ → Cut ℕ
+plain_sample bytes = number_behind_gap BadRaster bytes
+
+-- whether samples are wide: of two bytes each, where one byte has no room for the sample for white
+abbrev pub is_wide : ℕ → Bool
+is_wide white = nat_lt 255 white
+
+-- the bytes of a row of samples
+abbrev pub gray_row_bytes : ℕ → ℕ → ℕ
+gray_row_bytes white width = if is_wide white then 2 * width else width
+
+-- the samples of a row, where `white` is the sample for white; one above it is read as it stands
+abbrev pub raw_gray_row : ℕ → ℕ → List ℕ → Cut (List ℕ)
+raw_gray_row white width bytes =
+    block (gray_row_bytes white width) bytes >>= λ row rest. Takes false (samples (is_wide white) row) rest
+
 -- what follows the magic, to the end of the page
 abbrev pub body : Magic → List ℕ → Cut Raw
 body PlainBits bytes =
@@ -66,6 +100,12 @@ body PlainBits bytes =
 body RawBits bytes =
     sides bytes >>= λ s rest. space rest >>= λ _ rest. times (raw_row s.0) s.1 rest >>= λ rows rest.
     Takes false (bits_page s.0 s.1 rows) rest
+body PlainGray bytes =
+    sides bytes >>= λ s rest. maxval rest >>= λ white rest. times (times plain_sample s.0) s.1 rest >>= λ rows rest.
+    Takes false (gray_page white s.0 s.1 rows) rest
+body RawGray bytes =
+    sides bytes >>= λ s rest. maxval rest >>= λ white rest. space rest >>= λ _ rest.
+    times (raw_gray_row white s.0) s.1 rest >>= λ rows rest. Takes false (gray_page white s.0 s.1 rows) rest
 body Picture bytes = bmp bytes
 
 -- the page that stands at the front of the bytes, with whitespace before its magic or not

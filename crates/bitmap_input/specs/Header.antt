@@ -1,9 +1,9 @@
--- The header of a page in the program: its format and its sides.
+-- The header of a page in the program: its format, its sides and its sample for white.
 use Rattle.std.specs.Prelude.{◌≡◌, ℕ, false, List, Result, Ok, Err}
 use Rattle.bitmap_input.specs.Cut.Cut.{Takes, Stops}
 use Rattle.bitmap_input.specs.Cut.{Ending}
-use Rattle.bitmap_input.specs.Front.{Magic, checked}
-use Rattle.bitmap_input.specs.Front.Magic.{PlainBits, RawBits}
+use Rattle.bitmap_input.specs.Front.{Magic, checked, checked_maxval}
+use Rattle.bitmap_input.specs.Front.Magic.{PlainBits, RawBits, PlainGray, RawGray}
 use Rattle.bitmap_input.specs.Run.{IsCapped}
 use Rattle.bitmap_input.specs.Reading.{cause_of}
 use Rattle.bitmap_input.specs.Reading.Cause.{Says}
@@ -16,6 +16,8 @@ use Rattle.bitmap_input.specs.declared.header.Sides.{Sides}
 abbrev pub magic_of : Format → Magic
 magic_of format.PlainBits = PlainBits
 magic_of format.RawBits = RawBits
+magic_of format.PlainGray = PlainGray
+magic_of format.RawGray = RawGray
 
 -- the magic names this format
 abbrev pub IsFormat : Format → Magic → Type 0
@@ -34,3 +36,12 @@ Checks x y (Ok s) =
 Checks x y (Err stop) =
     (width height : ℕ) → IsCapped x width → IsCapped y height →
     (ending : Ending) × (cause_of stop ≡ Says ending) × ((bytes : List ℕ) → checked width height bytes ≡ Stops false ending)
+
+-- a number of a header, maybe cut where it is too large, is the sample for white of a page or not, as
+-- the number itself is
+abbrev pub ChecksMaxval : ℕ → Result ℕ Stop → Type 0
+ChecksMaxval x (Ok white) =
+    (n : ℕ) → IsCapped x n → (n ≡ white) × ((bytes : List ℕ) → checked_maxval n bytes ≡ Takes false n bytes)
+ChecksMaxval x (Err stop) =
+    (n : ℕ) → IsCapped x n →
+    (ending : Ending) × (cause_of stop ≡ Says ending) × ((bytes : List ℕ) → checked_maxval n bytes ≡ Stops false ending)

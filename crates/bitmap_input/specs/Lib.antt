@@ -11,6 +11,8 @@ pub mod FilePages
 pub mod Reading
 pub mod Window
 pub mod Run
+pub mod Number
 pub mod Header
+pub mod Shading
 pub mod Raster
 pub mod Reader

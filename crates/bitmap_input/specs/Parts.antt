@@ -1,4 +1,4 @@
--- The parts of a PBM page (Netpbm's format page "pbm"): whitespace, gaps with comments, decimal
+-- The parts of a PBM or PGM page (Netpbm's format pages "pbm" and "pgm"): whitespace, gaps with comments, decimal
 -- numbers, the characters of a plain raster, and blocks of a stated length.
 use Rattle.std.specs.Prelude.{ℕ, zero, suc, ◌+◌, ◌-◌, ◌*◌, Bool, true, false, not, ◌&&◌, ◌||◌, List, [], ◌∷◌, length, take, drop, if◌then◌else◌, nat_eq, nat_lt, nat_le}
 use Rattle.bitmap_input.specs.Cut.{Kind, Cut}
@@ -80,6 +80,10 @@ abbrev pub number : Kind → List ℕ → Cut ℕ
 number kind bytes =
     if is_zero (run_length is_digit bytes) then missing kind bytes
     else (run_of (run_length is_digit bytes) bytes >>= λ digits rest. Takes false (value 0 digits) rest)
+
+-- a decimal number behind a gap of at least one byte
+abbrev pub number_behind_gap : Kind → List ℕ → Cut ℕ
+number_behind_gap kind bytes = some_gap kind bytes >>= λ _ rest. number kind rest
 
 -- one byte of whitespace
 abbrev pub space : List ℕ → Cut (List ℕ)

@@ -1,11 +1,16 @@
--- Raw pages, as a file holds them: rows from the top, each of entries (Netpbm's format page "pbm").
-use Rattle.std.specs.Prelude.{◌≡◌, ℕ, suc, ◌+◌, ◌-◌, ◌/◌, ◌%◌, Bool, false, List, [], ◌∷◌, ◌++◌, map, slice_index_or, if◌then◌else◌, nat_eq, nat_lt}
-use Rattle.bit_image.specs.Image.{Image}
+-- Raw pages, as a file holds them: rows from the top, each of entries (Netpbm's format pages "pbm" and
+-- "pgm"), and the page of black and white pixels that one shows at a level.
+use Rattle.std.specs.Prelude.{◌≡◌, ℕ, suc, ◌+◌, ◌-◌, ◌*◌, ◌/◌, ◌%◌, Bool, true, false, List, [], ◌∷◌, ◌++◌, map, slice_index_or, if◌then◌else◌, nat_eq, nat_lt}
+use Rattle.bit_image.specs.Image.{Image, differ}
+use Rattle.threshold_map.specs.Levels.{is_gray_black, is_color_black}
 use Rattle.bit_image.specs.Page.{Page, page_of}
 
--- what the raster holds for one pixel: in PBM a bit, which is 1 where the pixel is black
+-- what the raster holds for one pixel: a bit, which is 1 where the pixel is black; a gray sample, with
+-- the sample that is white; or the red, green and blue of a colour, each from 0 to 255
 pub data Entry : Type 0 where
   Bit : Bool → Entry
+  Sample : ℕ → ℕ → Entry
+  Color : ℕ → ℕ → ℕ → Entry
 
 -- a page as the file holds it, with its rows from the top, and the least number of bytes that it
 -- claims from its magic on, which is 0 where the header says nothing of it
@@ -15,10 +20,18 @@ pub record Raw : Type 0 where
   pub rows : List (List Entry)
   pub least_length : ℕ
 
+-- a page whose rows hold values that each stand for an entry
+abbrev pub entries_page : {A : Type 0} → (A → Entry) → ℕ → ℕ → List (List A) → Raw
+entries_page entry width height rows =
+    record { width = width; height = height; rows = map (map entry) rows; least_length = 0 }
+
 -- a page of bits
 abbrev pub bits_page : ℕ → ℕ → List (List Bool) → Raw
-bits_page width height rows =
-    record { width = width; height = height; rows = map (map (λ b. Bit b)) rows; least_length = 0 }
+bits_page width height rows = entries_page (λ b. Bit b) width height rows
+
+-- a page of gray samples, of which `maxval` is white
+abbrev pub gray_page : ℕ → ℕ → ℕ → List (List ℕ) → Raw
+gray_page maxval width height rows = entries_page (λ v. Sample v maxval) width height rows
 
 -- the bytes of a row that holds eight pixels in a byte
 abbrev pub row_bytes : ℕ → ℕ
@@ -39,21 +52,37 @@ abbrev pub unpacked : List ℕ → List Bool
 unpacked [] = []
 unpacked (b ∷ bs) = bits_of b ++ unpacked bs
 
--- whether an entry is a black pixel
-abbrev pub black : Entry → Bool
-black (Bit b) = b
+-- the samples of a row of bytes: of a byte each, or where they are wide of two, the most significant
+-- byte first
+abbrev pub samples : Bool → List ℕ → List ℕ
+samples false bytes = bytes
+samples true [] = []
+samples true (a ∷ []) = []
+samples true (a ∷ b ∷ bs) = (256 * a + b) ∷ samples true bs
+
+-- whether an entry is a black pixel at a level, in millionths, before any inversion: a bit is black
+-- whatever the level
+abbrev pub is_dark : ℕ → Entry → Bool
+is_dark level (Bit b) = b
+is_dark level (Sample v maxval) = is_gray_black level v maxval
+is_dark level (Color r g b) = is_color_black level r g b
+
+-- whether an entry is a black pixel at a level, in millionths, on a page that is then inverted or not
+abbrev pub black : ℕ → Bool → Entry → Bool
+black level invert entry = differ invert (is_dark level entry)
 
 -- the image of a raw page: pixel (x, y) comes from entry x of the row that stands y rows above the
--- lowest one, and outside of the page all is white
-abbrev pub picture_of : Raw → Image
-picture_of raw x y =
-    if nat_lt y raw.height then slice_index_or (map black (slice_index_or raw.rows (raw.height - suc y) [])) x false
+-- lowest one
+abbrev pub picture_of : ℕ → Bool → Raw → Image
+picture_of level invert raw x y =
+    if nat_lt y raw.height
+    then slice_index_or (map (black level invert) (slice_index_or raw.rows (raw.height - suc y) [])) x false
     else false
 
--- the page of a raw page
-abbrev pub shown : Raw → Page
-shown raw = page_of raw.width raw.height (picture_of raw)
+-- the page of a raw page, at a level and inverted or not
+abbrev pub shown : ℕ → Bool → Raw → Page
+shown level invert raw = page_of raw.width raw.height (picture_of level invert raw)
 
--- the bitmap is the page that the raw page shows
-abbrev pub IsShown : Page → Raw → Type 0
-IsShown page raw = page ≡ shown raw
+-- the bitmap is the page that the raw page shows, at a level and inverted or not
+abbrev pub IsShown : ℕ → Bool → Page → Raw → Type 0
+IsShown level invert page raw = page ≡ shown level invert raw

@@ -45,13 +45,13 @@ pub record Answers (old : Reader) (before : Option Files) (answer : Answer) (new
   pub is : front (is_later old) (ahead old more) ≡ answer
   pub settled : is_by_end (page_at (is_later old) (ahead old more)) ≡ true → new.ended ≡ true
 
--- the next page was given: the bytes behind those that it takes are left, and of them are to be skipped
--- those that it claims
-pub record GivesPage (old : Reader) (before : Option Files) (page : Pixels) (new : Reader) (now : Option Files) : Type 0 where
+-- the next page was given, at this level and inverted or not: the bytes behind those that it takes are
+-- left, and of them are to be skipped those that it claims
+pub record GivesPage (level : ℕ) (invert : Bool) (old : Reader) (before : Option Files) (page : Pixels) (new : Reader) (now : Option Files) : Type 0 where
   pub raw : Raw
   pub used : ℕ
   pub answers : Answers old before (Page raw used) new now
-  pub shows : page ≡ shown raw
+  pub shows : page ≡ shown level invert raw
   pub left : new.bytes ≡ drop used (ahead old answers.more)
   pub skipped : new.skip ≡ next_begins (ahead old answers.more) raw used - used
   pub counted : new.pages ≡ old.pages + 1
@@ -110,13 +110,13 @@ IfEnding (Ok (next.Page page)) P = Unit {0}
 IfEnding (Ok next.Over) P = Unit {0}
 IfEnding (Err f) P = IfSays (cause_of_fault f) P
 
--- the next page is this one, as the whole rest of the file tells, and the page behind it is looked for
--- where this one ends
-pub record TellsPage (old : Reader) (rest : List ℕ) (page : Pixels) (new : Reader) (now : Option Files) : Type 0 where
+-- the next page is this one, at this level and inverted or not, as the whole rest of the file tells, and
+-- the page behind it is looked for where this one ends
+pub record TellsPage (level : ℕ) (invert : Bool) (old : Reader) (rest : List ℕ) (page : Pixels) (new : Reader) (now : Option Files) : Type 0 where
   pub raw : Raw
   pub used : ℕ
   pub is : front (is_later old) (ahead old rest) ≡ Page raw used
-  pub shows : page ≡ shown raw
+  pub shows : page ≡ shown level invert raw
   pub left : IfSome (unread now) (λ more. ahead new more ≡ drop (next_begins (ahead old rest) raw used) (ahead old rest))
 
 -- the fault is what the bytes say
@@ -125,11 +125,11 @@ IsCauseOf (Says ending) answer = answer ≡ Ends ending
 IsCauseOf Device answer = ⊥
 IsCauseOf Memory answer = ⊥
 
--- the reader's answer is the one that the bytes give
-abbrev pub IsAnswer : Result Next InFault → Answer → Type 0
-IsAnswer (Ok (next.Page page)) (Page raw used) = page ≡ shown raw
-IsAnswer (Ok (next.Page page)) (Ends ending) = ⊥
-IsAnswer (Ok next.End) answer = answer ≡ Ends End
-IsAnswer (Ok next.Trailing) answer = answer ≡ Ends Trailing
-IsAnswer (Ok next.Over) answer = ⊥
-IsAnswer (Err f) answer = IsCauseOf (cause_of_fault f) answer
+-- the reader's answer is the one that the bytes give, at this level and inverted or not
+abbrev pub IsAnswer : ℕ → Bool → Result Next InFault → Answer → Type 0
+IsAnswer level invert (Ok (next.Page page)) (Page raw used) = page ≡ shown level invert raw
+IsAnswer level invert (Ok (next.Page page)) (Ends ending) = ⊥
+IsAnswer level invert (Ok next.End) answer = answer ≡ Ends End
+IsAnswer level invert (Ok next.Trailing) answer = answer ≡ Ends Trailing
+IsAnswer level invert (Ok next.Over) answer = ⊥
+IsAnswer level invert (Err f) answer = IsCauseOf (cause_of_fault f) answer

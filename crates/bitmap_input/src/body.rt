@@ -3,12 +3,13 @@ ghost use Rattle.std.specs.Prelude.{◌≡◌, ℕ, true};
 ghost use Rattle.bit_image.specs.Page.{Page, image_of, page_of};
 ghost use Rattle.bitmap_input.specs.Reading.{Reads, Counts};
 ghost use Rattle.bitmap_input.specs.Front.{body};
-ghost use Rattle.bitmap_input.specs.Front.Magic.{PlainBits as plain_bits, RawBits as raw_bits};
+ghost use Rattle.bitmap_input.specs.Front.Magic.{PlainBits as plain_bits, RawBits as raw_bits, PlainGray as plain_gray, RawGray as raw_gray};
 ghost use Rattle.bitmap_input.specs.Header.{magic_of};
 ghost use Rattle.bitmap_input.specs.Raw.{IsShown};
 
 use crate::fault::InFault;
-use crate::header::{Format, read_sides, skip_space};
+use crate::gray::{Shading, read_plain_gray_rows, read_raw_gray_rows, row_bytes};
+use crate::header::{Format, read_maxval, read_sides, skip_space};
 use crate::plain::read_plain_rows;
 use crate::raw::read_raw_rows;
 use crate::stop::Stop;
@@ -17,6 +18,7 @@ use bit_image::bitmap::Bitmap;
 use bit_image::laws::pages_are_known_by_pixels;
 use pt_base::inputs::Inputs;
 use std::alloc::Global;
+use threshold_map::level::Level;
 
 // A page is known by its pixels.
 fn known(page: &Bitmap)
@@ -31,9 +33,10 @@ fn read_plain_body<I: Inputs>(
     alloc: Global,
     window: &mut Window,
     inputs: &mut I,
+    invert: bool,
 ) -> Result<Bitmap, Stop>
     requires { I.is_opened inputs.old ≡ true }
-    ensures reads { Reads IsShown (body plain_bits) window.old (I.files inputs.old) result window.new (I.files inputs.new) }
+    ensures reads { (level : ℕ) → Reads (IsShown level invert) (body plain_bits) window.old (I.files inputs.old) result window.new (I.files inputs.new) }
     ensures counts { Counts result (I.faults inputs.old) (I.faults inputs.new) }
     ensures stays_opened { I.is_opened inputs.new ≡ true }
     ensures same_openings { I.openings inputs.new ≡ I.openings inputs.old }
@@ -43,7 +46,7 @@ fn read_plain_body<I: Inputs>(
         Ok(page) => page,
         Err(_) => return Err(Stop::Fault(InFault::NoMemory)),
     };
-    read_plain_rows(window, inputs, &mut page)?;
+    read_plain_rows(window, inputs, &mut page, invert)?;
     known(&page);
     Ok(page)
 }
@@ -53,9 +56,10 @@ fn read_raw_body<I: Inputs>(
     alloc: Global,
     window: &mut Window,
     inputs: &mut I,
+    invert: bool,
 ) -> Result<Bitmap, Stop>
     requires { I.is_opened inputs.old ≡ true }
-    ensures reads { Reads IsShown (body raw_bits) window.old (I.files inputs.old) result window.new (I.files inputs.new) }
+    ensures reads { (level : ℕ) → Reads (IsShown level invert) (body raw_bits) window.old (I.files inputs.old) result window.new (I.files inputs.new) }
     ensures counts { Counts result (I.faults inputs.old) (I.faults inputs.new) }
     ensures stays_opened { I.is_opened inputs.new ≡ true }
     ensures same_openings { I.openings inputs.new ≡ I.openings inputs.old }
@@ -66,26 +70,95 @@ fn read_raw_body<I: Inputs>(
         Ok(page) => page,
         Err(_) => return Err(Stop::Fault(InFault::NoMemory)),
     };
-    read_raw_rows(window, inputs, &mut page)?;
+    read_raw_rows(window, inputs, &mut page, invert)?;
     known(&page);
     Ok(page)
 }
 
-/// The page of this format, behind its magic.
+// A plain gray page, behind its magic.
+fn read_plain_gray_body<I: Inputs>(
+    alloc: Global,
+    window: &mut Window,
+    inputs: &mut I,
+    level: &Level,
+    invert: bool,
+) -> Result<Bitmap, Stop>
+    requires { I.is_opened inputs.old ≡ true }
+    ensures reads { Reads (IsShown level.now invert) (body plain_gray) window.old (I.files inputs.old) result window.new (I.files inputs.new) }
+    ensures counts { Counts result (I.faults inputs.old) (I.faults inputs.new) }
+    ensures stays_opened { I.is_opened inputs.new ≡ true }
+    ensures same_openings { I.openings inputs.new ≡ I.openings inputs.old }
+{
+    let sides = read_sides(window, inputs)?;
+    let white = read_maxval(window, inputs)?;
+    let mut page = match Bitmap::new(alloc, sides.width, sides.height) {
+        Ok(page) => page,
+        Err(_) => return Err(Stop::Fault(InFault::NoMemory)),
+    };
+    let shading = Shading {
+        level: *level,
+        white,
+        invert,
+    };
+    read_plain_gray_rows(window, inputs, &mut page, &shading)?;
+    known(&page);
+    Ok(page)
+}
+
+// A raw gray page, behind its magic.
+fn read_raw_gray_body<I: Inputs>(
+    alloc: Global,
+    window: &mut Window,
+    inputs: &mut I,
+    level: &Level,
+    invert: bool,
+) -> Result<Bitmap, Stop>
+    requires { I.is_opened inputs.old ≡ true }
+    ensures reads { Reads (IsShown level.now invert) (body raw_gray) window.old (I.files inputs.old) result window.new (I.files inputs.new) }
+    ensures counts { Counts result (I.faults inputs.old) (I.faults inputs.new) }
+    ensures stays_opened { I.is_opened inputs.new ≡ true }
+    ensures same_openings { I.openings inputs.new ≡ I.openings inputs.old }
+{
+    let sides = read_sides(window, inputs)?;
+    let white = read_maxval(window, inputs)?;
+    skip_space(window, inputs)?;
+    let mut page = match Bitmap::new(alloc, sides.width, sides.height) {
+        Ok(page) => page,
+        Err(_) => return Err(Stop::Fault(InFault::NoMemory)),
+    };
+    let mut row = match vec![in alloc; 0u8; row_bytes(sides.width, white)] {
+        Ok(row) => row,
+        Err(_) => return Err(Stop::Fault(InFault::NoMemory)),
+    };
+    let shading = Shading {
+        level: *level,
+        white,
+        invert,
+    };
+    read_raw_gray_rows(window, inputs, &mut page, &shading, &mut row)?;
+    known(&page);
+    Ok(page)
+}
+
+/// The page of this format, behind its magic, at a level and inverted or not.
 pub(crate) fn read_body<I: Inputs>(
     alloc: Global,
     window: &mut Window,
     inputs: &mut I,
     format: Format,
+    level: &Level,
+    invert: bool,
 ) -> Result<Bitmap, Stop>
     requires { I.is_opened inputs.old ≡ true }
-    ensures reads { Reads IsShown (body (magic_of format)) window.old (I.files inputs.old) result window.new (I.files inputs.new) }
+    ensures reads { Reads (IsShown level.now invert) (body (magic_of format)) window.old (I.files inputs.old) result window.new (I.files inputs.new) }
     ensures counts { Counts result (I.faults inputs.old) (I.faults inputs.new) }
     ensures stays_opened { I.is_opened inputs.new ≡ true }
     ensures same_openings { I.openings inputs.new ≡ I.openings inputs.old }
 {
     match format {
-        Format::PlainBits => read_plain_body(alloc, window, inputs),
-        Format::RawBits => read_raw_body(alloc, window, inputs),
+        Format::PlainBits => read_plain_body(alloc, window, inputs, invert),
+        Format::RawBits => read_raw_body(alloc, window, inputs, invert),
+        Format::PlainGray => read_plain_gray_body(alloc, window, inputs, level, invert),
+        Format::RawGray => read_raw_gray_body(alloc, window, inputs, level, invert),
     }
 }

@@ -1,21 +1,22 @@
-//! The header of a page: its magic and its sides.
-ghost use Rattle.std.specs.Prelude.{◌≡◌, ℕ, ◌≤◌, true, false, IfOk, if◌then◌else◌};
-ghost use Rattle.bitmap_input.specs.Reading.{Reads, Counts, Any};
-ghost use Rattle.bitmap_input.specs.Cut.Kind.{BadHeader as bad_header};
-ghost use Rattle.bitmap_input.specs.Parts.{some_gap, space};
-ghost use Rattle.bitmap_input.specs.Front.{magic, magic_behind, side, sides};
-ghost use Rattle.bitmap_input.specs.Run.{IsCapped};
-ghost use Rattle.bitmap_input.specs.Header.{IsFormat, IsSides, Checks};
+//! The header of a page: its magic, its sides and its sample for white.
+ghost use Rattle.std.specs.Prelude.{◌≡◌, ℕ, ◌≤◌, true, false, IfOk, if◌then◌else◌, option_map};
+ghost use Rattle.bitmap_input.specs.Reading.{Reads, Counts, Any, Same};
+ghost use Rattle.bitmap_input.specs.Parts.{space};
+ghost use Rattle.bitmap_input.specs.Front.{magic, magic_named, magic_behind, sides, maxval};
+ghost use Rattle.bitmap_input.specs.Header.{magic_of, IsFormat, IsSides, Checks, ChecksMaxval};
 
 use crate::fault::InFault;
-use crate::number::read_number;
-use crate::run::{Run, behind, is_space, skip};
+use crate::number::{Part, read_number_behind_gap};
+use crate::run::is_space;
 use crate::stop::Stop;
 use crate::window::{Look, Window};
 use pt_base::inputs::Inputs;
 
 /// The greatest side of a page.
 pub(crate) const LONGEST_SIDE: u32 = 16384;
+
+/// The greatest value that the sample for white may have.
+pub(crate) const GREATEST_MAXVAL: u32 = 65535;
 
 /// The format of a page, which its magic names.
 #[derive(Clone, Copy, Debug)]
@@ -24,6 +25,10 @@ pub(crate) enum Format {
     PlainBits,
     /// `P4`, raw PBM.
     RawBits,
+    /// `P2`, plain PGM.
+    PlainGray,
+    /// `P5`, raw PGM.
+    RawGray,
 }
 
 /// The sides of a page in pixels, each from 1 to 16384.
@@ -44,6 +49,19 @@ fn no_magic(later: bool) -> Stop
     }
 }
 
+// The format that the two bytes name, if they are a magic.
+fn format_named(first: u8, second: u8) -> Option<Format>
+    ensures { magic_named first second ≡ option_map magic_of result }
+{
+    match (first, second) {
+        (b'P', b'1') => Some(Format::PlainBits),
+        (b'P', b'2') => Some(Format::PlainGray),
+        (b'P', b'4') => Some(Format::RawBits),
+        (b'P', b'5') => Some(Format::RawGray),
+        _ => None,
+    }
+}
+
 // The second byte of a magic, behind the first one.
 fn read_magic_behind<I: Inputs>(
     window: &mut Window,
@@ -60,10 +78,9 @@ fn read_magic_behind<I: Inputs>(
     match window.look(inputs) {
         Look::Byte(second) => {
             window.pass();
-            match (first, second) {
-                (b'P', b'1') => Ok(Format::PlainBits),
-                (b'P', b'4') => Ok(Format::RawBits),
-                _ => Err(no_magic(later)),
+            match format_named(first, second) {
+                Some(format) => Ok(format),
+                None => Err(no_magic(later)),
             }
         }
         Look::End => Err(no_magic(later)),
@@ -95,24 +112,6 @@ pub(crate) fn read_magic<I: Inputs>(
                 Err(Stop::Fault(InFault::UnknownFormat))
             }
         }
-        Look::Fault => Err(Stop::Fault(InFault::ReadFault)),
-    }
-}
-
-// Goes on behind whitespace and comments, of which there is at least a byte.
-fn skip_gap<I: Inputs>(window: &mut Window, inputs: &mut I) -> Result<(), Stop>
-    requires { I.is_opened inputs.old ≡ true }
-    ensures reads { Reads Any (some_gap bad_header) window.old (I.files inputs.old) result window.new (I.files inputs.new) }
-    ensures counts { Counts result (I.faults inputs.old) (I.faults inputs.new) }
-    ensures stays_opened { I.is_opened inputs.new ≡ true }
-    ensures same_openings { I.openings inputs.new ≡ I.openings inputs.old }
-{
-    match window.look(inputs) {
-        Look::Byte(byte) => match behind(Run::Gap, byte) {
-            Some(_) => skip(window, inputs, Run::Gap),
-            None => Err(Stop::Fault(InFault::BadHeader)),
-        },
-        Look::End => Err(Stop::Fault(InFault::Truncated)),
         Look::Fault => Err(Stop::Fault(InFault::ReadFault)),
     }
 }
@@ -154,18 +153,6 @@ fn check(width: u32, height: u32) -> Result<Sides, Stop>
     Ok(Sides { width, height })
 }
 
-// A side, behind a gap, or 100000 where it is larger.
-fn read_side<I: Inputs>(window: &mut Window, inputs: &mut I) -> Result<u32, Stop>
-    requires { I.is_opened inputs.old ≡ true }
-    ensures reads { Reads IsCapped side window.old (I.files inputs.old) result window.new (I.files inputs.new) }
-    ensures counts { Counts result (I.faults inputs.old) (I.faults inputs.new) }
-    ensures stays_opened { I.is_opened inputs.new ≡ true }
-    ensures same_openings { I.openings inputs.new ≡ I.openings inputs.old }
-{
-    skip_gap(window, inputs)?;
-    read_number(window, inputs)
-}
-
 /// The width and the height, each behind a gap.
 pub(crate) fn read_sides<I: Inputs>(window: &mut Window, inputs: &mut I) -> Result<Sides, Stop>
     requires { I.is_opened inputs.old ≡ true }
@@ -176,7 +163,31 @@ pub(crate) fn read_sides<I: Inputs>(window: &mut Window, inputs: &mut I) -> Resu
     ensures width { IfOk result (λ s. (1 ≤ s.width) × (s.width ≤ LONGEST_SIDE)) }
     ensures height { IfOk result (λ s. (1 ≤ s.height) × (s.height ≤ LONGEST_SIDE)) }
 {
-    let width = read_side(window, inputs)?;
-    let height = read_side(window, inputs)?;
+    let width = read_number_behind_gap(window, inputs, Part::Header)?;
+    let height = read_number_behind_gap(window, inputs, Part::Header)?;
     check(width, height)
+}
+
+// The number as the sample for white.
+fn check_maxval(white: u32) -> Result<u32, Stop>
+    ensures checks { ChecksMaxval white result }
+    ensures range { IfOk result (λ white. (1 ≤ white) × (white ≤ GREATEST_MAXVAL)) }
+{
+    if white == 0 || white > GREATEST_MAXVAL {
+        return Err(Stop::Fault(InFault::BadHeader));
+    }
+    Ok(white)
+}
+
+/// The sample for white, behind a gap.
+pub(crate) fn read_maxval<I: Inputs>(window: &mut Window, inputs: &mut I) -> Result<u32, Stop>
+    requires { I.is_opened inputs.old ≡ true }
+    ensures reads { Reads Same maxval window.old (I.files inputs.old) result window.new (I.files inputs.new) }
+    ensures counts { Counts result (I.faults inputs.old) (I.faults inputs.new) }
+    ensures stays_opened { I.is_opened inputs.new ≡ true }
+    ensures same_openings { I.openings inputs.new ≡ I.openings inputs.old }
+    ensures range { IfOk result (λ white. (1 ≤ white) × (white ≤ GREATEST_MAXVAL)) }
+{
+    let white = read_number_behind_gap(window, inputs, Part::Header)?;
+    check_maxval(white)
 }

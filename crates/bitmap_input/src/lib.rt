@@ -1,7 +1,7 @@
 //! The pages of a file: what each shows, how they end, and where and why a page is refused.
 //!
-//! A file holds pages one behind another, with whitespace before each or not. Plain and raw PBM
-//! (Netpbm's format page "pbm") are read.
+//! A file holds pages one behind another, with whitespace before each or not. Plain and raw PBM and
+//! PGM (Netpbm's format pages "pbm" and "pgm") are read; a gray page is thresholded at a level.
 //!
 //! ```text
 //! P1             the magic: plain PBM (raw PBM is P4, with eight pixels in a byte)
@@ -15,6 +15,7 @@
 
 mod body;
 pub mod fault;
+mod gray;
 mod header;
 pub mod laws;
 pub mod next;

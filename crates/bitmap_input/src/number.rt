@@ -1,18 +1,40 @@
-//! Decimal numbers of a header.
+//! Decimal numbers of a header and of a plain raster.
 ghost use Rattle.std.specs.Prelude.{◌≡◌, ℕ, ◌≤◌, true, false, suc, List, ◌∷◌};
-ghost use Rattle.bitmap_input.specs.Reading.{Reads, Counts, Any};
-ghost use Rattle.bitmap_input.specs.Cut.Kind.{BadHeader as bad_header};
-ghost use Rattle.bitmap_input.specs.Parts.{is_digit, number};
+ghost use Rattle.bitmap_input.specs.Reading.{Reads, Counts, Any, cause_of_fault};
+ghost use Rattle.bitmap_input.specs.Reading.Cause.{Says};
+ghost use Rattle.bitmap_input.specs.Cut.Ending.{Refused};
+ghost use Rattle.bitmap_input.specs.Parts.{is_digit, some_gap, number, number_behind_gap};
 ghost use Rattle.bitmap_input.specs.Run.{digits, IsCapped};
+ghost use Rattle.bitmap_input.specs.Number.{kind_at};
 
 use crate::fault::InFault;
-use crate::run::LONGEST;
+use crate::run::{LONGEST, Run, behind, skip};
 use crate::stop::Stop;
 use crate::window::{Look, Window};
 use pt_base::inputs::Inputs;
 
-// A number is cut here where it is larger: it is too large for a side either way.
+// A number is cut here where it is larger: it is too large for a side, for the sample for white and for a
+// black sample either way.
 const CAP: u32 = 100000;
+
+/// A part of a page, to which a number belongs.
+#[derive(Clone, Copy, Debug)]
+pub(crate) enum Part {
+    Header,
+    Raster,
+}
+
+impl Part {
+    // What another byte than a digit or a gap's means here.
+    fn fault(self) -> InFault
+        ensures { cause_of_fault result ≡ Says (Refused (kind_at self)) }
+    {
+        match self {
+            Part::Header => InFault::BadHeader,
+            Part::Raster => InFault::BadRaster,
+        }
+    }
+}
 
 fn is_digit(byte: u8) -> bool
     ensures { result ≡ is_digit byte }
@@ -47,10 +69,10 @@ fn read_digits<I: Inputs>(window: &mut Window, inputs: &mut I) -> Result<u32, St
     Err(Stop::Fault(InFault::TooLong))
 }
 
-/// A number of a header, or 100000 where it is larger.
-pub(crate) fn read_number<I: Inputs>(window: &mut Window, inputs: &mut I) -> Result<u32, Stop>
+// A number, or 100000 where it is larger.
+fn read_number<I: Inputs>(window: &mut Window, inputs: &mut I, part: Part) -> Result<u32, Stop>
     requires { I.is_opened inputs.old ≡ true }
-    ensures reads { Reads IsCapped (number bad_header) window.old (I.files inputs.old) result window.new (I.files inputs.new) }
+    ensures reads { Reads IsCapped (number (kind_at part)) window.old (I.files inputs.old) result window.new (I.files inputs.new) }
     ensures counts { Counts result (I.faults inputs.old) (I.faults inputs.new) }
     ensures stays_opened { I.is_opened inputs.new ≡ true }
     ensures same_openings { I.openings inputs.new ≡ I.openings inputs.old }
@@ -60,10 +82,44 @@ pub(crate) fn read_number<I: Inputs>(window: &mut Window, inputs: &mut I) -> Res
             if is_digit(byte) {
                 read_digits(window, inputs)
             } else {
-                Err(Stop::Fault(InFault::BadHeader))
+                Err(Stop::Fault(part.fault()))
             }
         }
         Look::End => Err(Stop::Fault(InFault::Truncated)),
         Look::Fault => Err(Stop::Fault(InFault::ReadFault)),
     }
+}
+
+// Goes on behind whitespace and comments, of which there is at least a byte.
+fn skip_gap<I: Inputs>(window: &mut Window, inputs: &mut I, part: Part) -> Result<(), Stop>
+    requires { I.is_opened inputs.old ≡ true }
+    ensures reads { Reads Any (some_gap (kind_at part)) window.old (I.files inputs.old) result window.new (I.files inputs.new) }
+    ensures counts { Counts result (I.faults inputs.old) (I.faults inputs.new) }
+    ensures stays_opened { I.is_opened inputs.new ≡ true }
+    ensures same_openings { I.openings inputs.new ≡ I.openings inputs.old }
+{
+    match window.look(inputs) {
+        Look::Byte(byte) => match behind(Run::Gap, byte) {
+            Some(_) => skip(window, inputs, Run::Gap),
+            None => Err(Stop::Fault(part.fault())),
+        },
+        Look::End => Err(Stop::Fault(InFault::Truncated)),
+        Look::Fault => Err(Stop::Fault(InFault::ReadFault)),
+    }
+}
+
+/// A number behind a gap, or 100000 where it is larger.
+pub(crate) fn read_number_behind_gap<I: Inputs>(
+    window: &mut Window,
+    inputs: &mut I,
+    part: Part,
+) -> Result<u32, Stop>
+    requires { I.is_opened inputs.old ≡ true }
+    ensures reads { Reads IsCapped (number_behind_gap (kind_at part)) window.old (I.files inputs.old) result window.new (I.files inputs.new) }
+    ensures counts { Counts result (I.faults inputs.old) (I.faults inputs.new) }
+    ensures stays_opened { I.is_opened inputs.new ≡ true }
+    ensures same_openings { I.openings inputs.new ≡ I.openings inputs.old }
+{
+    skip_gap(window, inputs, part)?;
+    read_number(window, inputs, part)
 }

@@ -1,5 +1,6 @@
-//! Plain rasters: a character for each pixel.
-ghost use Rattle.std.specs.Prelude.{◌≡◌, ℕ, ◌<◌, ◌≤◌, true, false};
+//! Plain rasters of bits: a character for each pixel.
+ghost use Rattle.std.specs.Prelude.{◌≡◌, ℕ, ◌<◌, ◌≤◌, true, false, map};
+ghost use Rattle.bit_image.specs.Image.{differ};
 ghost use Rattle.bit_image.specs.Page.{Page, SameSides, image_of};
 ghost use Rattle.bitmap_input.specs.Reading.{Reads, Counts, Same};
 ghost use Rattle.bitmap_input.specs.Parts.{pixel, times};
@@ -62,16 +63,17 @@ fn read_plain_pixel<I: Inputs>(window: &mut Window, inputs: &mut I) -> Result<bo
     }
 }
 
-// One row of pixels, painted in row y.
+// One row of pixels, painted in row y, inverted or not.
 fn read_plain_row<I: Inputs>(
     window: &mut Window,
     inputs: &mut I,
     page: &mut Bitmap,
     y: u32,
+    invert: bool,
 ) -> Result<(), Stop>
     requires opened { I.is_opened inputs.old ≡ true }
     requires row { y < page.old.height }
-    ensures reads { Reads (λ _ pixels. image_of page.new ≡ with_row (image_of page.old) y pixels) (times plain_pixel page.old.width) window.old (I.files inputs.old) result window.new (I.files inputs.new) }
+    ensures reads { Reads (λ _ pixels. image_of page.new ≡ with_row (image_of page.old) y (map (differ invert) pixels)) (times plain_pixel page.old.width) window.old (I.files inputs.old) result window.new (I.files inputs.new) }
     ensures sides { SameSides page.old page.new }
     ensures counts { Counts result (I.faults inputs.old) (I.faults inputs.new) }
     ensures stays_opened { I.is_opened inputs.new ≡ true }
@@ -79,19 +81,20 @@ fn read_plain_row<I: Inputs>(
 {
     for x in 0..page.width() {
         let black = read_plain_pixel(window, inputs)?;
-        page.set(x, y, black);
+        page.set(x, y, black != invert);
     }
     Ok(())
 }
 
-/// The rows of a plain raster from the top, painted on the page.
+/// The rows of a plain raster of bits from the top, painted on the page, inverted or not.
 pub(crate) fn read_plain_rows<I: Inputs>(
     window: &mut Window,
     inputs: &mut I,
     page: &mut Bitmap,
+    invert: bool,
 ) -> Result<(), Stop>
     requires { I.is_opened inputs.old ≡ true }
-    ensures reads { Reads (λ _ rows. image_of page.new ≡ with_rows (image_of page.old) page.old.height rows) (times (times plain_pixel page.old.width) page.old.height) window.old (I.files inputs.old) result window.new (I.files inputs.new) }
+    ensures reads { Reads (λ _ rows. image_of page.new ≡ with_rows (image_of page.old) page.old.height (map (map (differ invert)) rows)) (times (times plain_pixel page.old.width) page.old.height) window.old (I.files inputs.old) result window.new (I.files inputs.new) }
     ensures sides { SameSides page.old page.new }
     ensures counts { Counts result (I.faults inputs.old) (I.faults inputs.new) }
     ensures stays_opened { I.is_opened inputs.new ≡ true }
@@ -100,7 +103,7 @@ pub(crate) fn read_plain_rows<I: Inputs>(
     let mut y = page.height();
     while y > 0 {
         y -= 1;
-        read_plain_row(window, inputs, page, y)?;
+        read_plain_row(window, inputs, page, y, invert)?;
     }
     Ok(())
 }

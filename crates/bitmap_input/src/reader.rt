@@ -20,6 +20,7 @@ use pt_base::fault::NoMemory;
 use pt_base::inputs::Inputs;
 use std::alloc::Global;
 use std::marker::Model;
+use threshold_map::level::Level;
 
 /// A reader of the pages of the opened file, one after another.
 #[derive(Debug, Drop)]
@@ -46,16 +47,18 @@ fn read_page<I: Inputs>(
     window: &mut Window,
     inputs: &mut I,
     later: bool,
+    level: &Level,
+    invert: bool,
 ) -> Result<Bitmap, Stop>
     requires { I.is_opened inputs.old ≡ true }
-    ensures reads { Reads IsShown (page_at later) window.old (I.files inputs.old) result window.new (I.files inputs.new) }
+    ensures reads { Reads (IsShown level.now invert) (page_at later) window.old (I.files inputs.old) result window.new (I.files inputs.new) }
     ensures counts { Counts result (I.faults inputs.old) (I.faults inputs.new) }
     ensures stays_opened { I.is_opened inputs.new ≡ true }
     ensures same_openings { I.openings inputs.new ≡ I.openings inputs.old }
 {
     skip(window, inputs, Run::Space)?;
     let format = read_magic(window, inputs, later)?;
-    read_body(alloc, window, inputs, format)
+    read_body(alloc, window, inputs, format, level, invert)
 }
 
 impl PageReader {
@@ -89,9 +92,18 @@ impl PageReader {
 
     /// Reads the next page of the opened file, at most 65,536 bytes ahead of what it uses.
     ///
+    /// A gray pixel or one of a colour is black where it isn't brighter than the level; a bit is
+    /// what it is. Then each pixel is inverted where that is asked for.
+    ///
     /// A page that can't be read is refused by its first offending place. After the end of the
     /// file, trailing bytes or any fault the answer is `Over` until `start`.
-    pub fn next<I: Inputs>(&mut self, alloc: Global, inputs: &mut I) -> Result<Next, InFault>
+    pub fn next<I: Inputs>(
+        &mut self,
+        alloc: Global,
+        inputs: &mut I,
+        level: &Level,
+        invert: bool,
+    ) -> Result<Next, InFault>
         requires opened { I.is_opened inputs.old ≡ true }
         requires room { self.old.pages < 4294967295 }
         requires at_end { self.old.ended ≡ true → AtEnd (I.files inputs.old) }
@@ -101,19 +113,19 @@ impl PageReader {
         ensures idle { is_over result ≡ true → (self.new ≡ self.old) × (inputs.new ≡ inputs.old) }
 
         // What each answer says of the bytes that were taken.
-        ensures page { IfPage result (λ page. GivesPage self.old (I.files inputs.old) page self.new (I.files inputs.new)) }
+        ensures page { IfPage result (λ page. GivesPage level.now invert self.old (I.files inputs.old) page self.new (I.files inputs.new)) }
         ensures ending { IfEnding result (λ ending. GivesEnding self.old (I.files inputs.old) ending self.new (I.files inputs.new)) }
         ensures read_fault { IsErrOf result InFault.ReadFault → ReadFails self.old (I.files inputs.old) self.new (I.files inputs.new) }
         ensures no_memory { IsErrOf result InFault.NoMemory → MemoryFails self.old (I.files inputs.old) self.new (I.files inputs.new) }
 
         // The same of the whole rest of the file, where that is told.
-        ensures told_page { IfSome (unread (I.files inputs.old)) (λ rest. IfPage result (λ page. TellsPage self.old rest page self.new (I.files inputs.new))) }
+        ensures told_page { IfSome (unread (I.files inputs.old)) (λ rest. IfPage result (λ page. TellsPage level.now invert self.old rest page self.new (I.files inputs.new))) }
         ensures told_ending { IfSome (unread (I.files inputs.old)) (λ rest. IfEnding result (λ ending. front (is_later self.old) (ahead self.old rest) ≡ Ends ending)) }
 
         // Where no read failed and memory is there, the answer is what the rest of the file gives.
         ensures always { IfSome (unread (I.files inputs.old)) (λ rest. self.old.over ≡ false
             → (Rose (I.faults inputs.old) (I.faults inputs.new) → ⊥)
-            → IsAnswer result (front (is_later self.old) (ahead self.old rest)) ⊎ IsErrOf result InFault.NoMemory) }
+            → IsAnswer level.now invert result (front (is_later self.old) (ahead self.old rest)) ⊎ IsErrOf result InFault.NoMemory) }
 
         // The inputs' count of faults rises with a read fault alone.
         ensures steady { OnOk result (I.faults inputs.new ≡ I.faults inputs.old) }
@@ -129,7 +141,8 @@ impl PageReader {
         if self.over {
             return Ok(Next::Over);
         }
-        let answer = read_page(alloc, &mut self.window, inputs, self.pages > 0);
+        let later = self.pages > 0;
+        let answer = read_page(alloc, &mut self.window, inputs, later, level, invert);
         self.window.bounded();
         match answer {
             Ok(page) => {

@@ -11,6 +11,7 @@ use pt_base::inputs::Inputs;
 use pt_base::mem_inputs::{InCall, MemInputs, NamedBytes};
 use std::alloc::Global;
 use std::test::Fail;
+use threshold_map::level::Level;
 
 /// Appends the rows of a page from the top, `#` for a black pixel.
 fn show(page: &Bitmap, text: &mut String) -> Result<(), Fail> {
@@ -24,8 +25,20 @@ fn show(page: &Bitmap, text: &mut String) -> Result<(), Fail> {
     Ok(())
 }
 
+/// The level at which half of white is black.
+fn half() -> Level {
+    Level::from_micro(500000)
+}
+
 /// What the reader answers on a file, up to its end or a fault.
-fn answers(alloc: Global, bytes: &[u8], most: u32, fails: &[InCall]) -> Result<String, Fail>
+fn answers(
+    alloc: Global,
+    bytes: &[u8],
+    most: u32,
+    fails: &[InCall],
+    level: &Level,
+    invert: bool,
+) -> Result<String, Fail>
     requires { 1 ≤ most }
 {
     let file = NamedBytes {
@@ -40,7 +53,7 @@ fn answers(alloc: Global, bytes: &[u8], most: u32, fails: &[InCall]) -> Result<S
         Err(_) => return Ok(text),
     }
     for _i in 0..4u32 {
-        match reader.next(alloc, &mut inputs) {
+        match reader.next(alloc, &mut inputs, level, invert) {
             Ok(Next::Page(page)) => show(&page, &mut text)?,
             Ok(Next::End) => {
                 text.push_str("end")?;
@@ -81,7 +94,7 @@ fn whole_files(rt: HostRuntime) -> Result<(), Fail> {
     ];
     for (bytes, text) in table {
         for most in [1, 65536] {
-            let told = answers(rt.alloc(), bytes, most, &[])?;
+            let told = answers(rt.alloc(), bytes, most, &[], &half(), false)?;
             assert_eq!(rt; told.as_str(), text, "{bytes:?} by {most}");
         }
     }
@@ -107,7 +120,7 @@ fn cut_files(rt: HostRuntime) -> Result<(), Fail> {
     for (bytes, first, last, text) in table {
         for n in first..=last {
             if let Some(part) = bytes.get(..n) {
-                let told = answers(rt.alloc(), part, 1, &[])?;
+                let told = answers(rt.alloc(), part, 1, &[], &half(), false)?;
                 assert_eq!(rt; told.as_str(), text, "{n} bytes of {bytes:?}");
             }
         }
@@ -127,7 +140,14 @@ fn failing_reads(rt: HostRuntime) -> Result<(), Fail> {
     ];
     for (first, last, text) in table {
         for k in first..=last {
-            let told = answers(rt.alloc(), b"P4 1 1\n\x80P1 1 1\n0", 1, &[InCall::Read(k)])?;
+            let told = answers(
+                rt.alloc(),
+                b"P4 1 1\n\x80P1 1 1\n0",
+                1,
+                &[InCall::Read(k)],
+                &half(),
+                false,
+            )?;
             assert_eq!(rt; told.as_str(), text, "read {k} fails");
         }
     }
@@ -142,7 +162,7 @@ fn long_gaps(rt: HostRuntime) -> Result<(), Fail> {
             bytes.push(b' ')?;
         }
         bytes.extend_from_slice(b"1 1 1")?;
-        let told = answers(rt.alloc(), &bytes, 65536, &[])?;
+        let told = answers(rt.alloc(), &bytes, 65536, &[], &half(), false)?;
         assert_eq!(rt; told.as_str(), text, "{n} blanks");
     }
     Ok(())

@@ -1,0 +1,38 @@
+-- The definitions at the middle and at both ends of the scale.
+use Rattle.std.proofs.Common.{◌≡◌, refl, true, false}
+use Rattle.threshold_map.specs.Levels.{is_gray_black, is_color_black}
+
+-- at one half a sample of 127 in 255 is black, and 128 isn't
+below_half : is_gray_black 500000 127 255 ≡ true
+below_half = refl
+
+above_half : is_gray_black 500000 128 255 ≡ false
+above_half = refl
+
+-- a sample that is the level itself is black
+level_itself : is_gray_black 500000 1 2 ≡ true
+level_itself = refl
+
+-- at level 0 no light at all is black, and at level 1 full white is
+no_light : is_gray_black 0 0 255 ≡ true
+no_light = refl
+
+some_light : is_gray_black 0 1 65535 ≡ false
+some_light = refl
+
+full_white : is_gray_black 1000000 255 255 ≡ true
+full_white = refl
+
+-- a sample above the greatest one is brighter than white
+above_white : is_gray_black 1000000 256 255 ≡ false
+above_white = refl
+
+-- pure red is a third of white, and yellow two thirds
+red : is_color_black 333333 255 0 0 ≡ false
+red = refl
+
+red_at_the_next_level : is_color_black 333334 255 0 0 ≡ true
+red_at_the_next_level = refl
+
+yellow : is_color_black 500000 255 255 0 ≡ false
+yellow = refl

@@ -1,0 +1,51 @@
+//! Black levels.
+ghost use Rattle.std.specs.Prelude.{◌≡◌, ◌≤◌};
+ghost use Rattle.threshold_map.specs.Levels.{is_gray_black, is_color_black};
+
+use std::marker::Model;
+
+/// The brightness, as a part of full white, up to which a pixel is black.
+#[derive(Clone, Copy, Debug)]
+pub struct Level {
+    // In millionths.
+    micro: u32,
+}
+
+impl Model for Level {
+    ghost use Rattle.std.specs.Prelude.{ℕ, ◌≤◌};
+
+    ghost Value = { ℕ };
+
+    ghost view = { λ level. level.micro };
+
+    ghost invariant = { λ level. level.micro ≤ 1000000 };
+
+    ghost inverse = { λ k6. record { micro = k6 } };
+}
+
+impl Level {
+    /// The level of so many millionths.
+    pub fn from_micro(k6: u32) -> Level
+        requires { k6 ≤ 1000000 }
+        ensures { result ≡ k6 }
+    {
+        Level { micro: k6 }
+    }
+
+    /// Whether a gray pixel is black: a sample of 0 is no light, and `maxval` is full white.
+    pub fn gray(&self, v: u32, maxval: u32) -> bool
+        requires some { 1 ≤ maxval }
+        requires most { maxval ≤ 65535 }
+        ensures black { result ≡ is_gray_black self.now v maxval }
+        ensures most_level { self.now ≤ 1000000 }
+    {
+        v as u64 * 1000000 <= self.micro as u64 * maxval as u64
+    }
+
+    /// Whether a pixel of a colour is black: its brightness is the mean of red, green and blue.
+    pub fn rgb(&self, r: u8, g: u8, b: u8) -> bool
+        ensures { result ≡ is_color_black self.now r g b }
+    {
+        (r as u32 + g as u32 + b as u32) * 1000000 <= self.micro * 765
+    }
+}
