@@ -16,6 +16,7 @@ use Rattle.bitmap_input.specs.Raw.{Raw, Entry}
 use Rattle.bitmap_input.specs.BmpHeader.{byte_at, two_at, four_at, header_size, is_short, compression, has_masks, is_known_size, is_known_kind, mask_bytes, has_known_colors, width, height, pixel_offset, palette_bytes, palette_end, row_length, rows_end}
 use Rattle.bitmap_input.specs.BmpRaster.{pixel_in, row_of, picture, raster}
 use Rattle.bitmap_input.specs.Bmp.{passes, start, info, masks, placed, header, bmp}
+use Rattle.bitmap_input.specs.BmpHead.{HasInfo, IsStart, IsInfo, IsWhole}
 use Rattle.bitmap_input.proofs.Showing.{after_takes}
 
 -- the value and the rest of the cut, where it takes a front, meet this
@@ -88,38 +89,47 @@ four_at-append head more place within some =
 known_size : (n : ℕ) → is_known_size n ≡ true → 12 ≤ n
 known_size n h = grind (arith, nat_tests)
 
--- the first bytes of a header, with a known size
-abbrev pub IsStart : List ℕ → Type 0
-IsStart head = (length head ≡ 16) × (is_known_size (header_size head) ≡ true)
+most_size : (n : ℕ) → is_known_size n ≡ true → n ≤ 124
+most_size n h = grind (arith, nat_tests)
 
--- the bytes up to the end of the header without its masks
-abbrev pub IsInfo : List ℕ → Type 0
-IsInfo head = (length head ≡ 12 + header_size head) × (12 ≤ header_size head)
+long_size : (n : ℕ) → is_known_size n ≡ true → nat_eq n 12 ≡ false → 40 ≤ n
+long_size n h other = grind (arith, nat_tests)
 
--- the bytes up to the end of the header with its masks
-abbrev pub IsWhole : List ℕ → Type 0
-IsWhole head = length head ≡ 12 + header_size head + mask_bytes head
+pub info_has : (head : List ℕ) → IsInfo head → HasInfo head
+info_has head is =
+    let known : is_known_size (header_size head) ≡ true = is.known in
+    record { within = omega (arith, is.reach); least = known_size (header_size head) known; most = most_size (header_size head) known; long = long_size (header_size head) known }
+
+pub whole_has : (head : List ℕ) → IsWhole head → HasInfo head
+whole_has head is =
+    let known : is_known_size (header_size head) ≡ true = is.known in
+    record { within = omega (arith, is.reach); least = known_size (header_size head) known; most = most_size (header_size head) known; long = long_size (header_size head) known }
 
 pub info_grown : (head more : List ℕ) → IsStart head → length more ≡ header_size head - 4 → IsInfo (head ++ more)
-info_grown head more (len, known) len_more =
+info_grown head more begun len_more =
+    let len : length head ≡ 16 = begun.reach in
     let same : header_size (head ++ more) ≡ header_size head = four_at-append head more 14 (omega arith) (omega arith) in
-    let least = known_size (header_size head) known in
-    (omega (arith, length-append head more), rw same least)
+    let least : 12 ≤ header_size head = known_size (header_size head) begun.known in
+    let whole : length (head ++ more) ≡ 12 + header_size head = omega (arith, length-append head more) in
+    record { reach = rw same whole; known = rw same begun.known }
 
-same_masks : (t : Bool) (head more : List ℕ) → nat_eq (header_size head) 40 ≡ t → IsInfo head → mask_bytes (head ++ more) ≡ mask_bytes head
-same_masks false head more test (len, least) =
+same_masks : (t : Bool) (head more : List ℕ) → nat_eq (header_size head) 40 ≡ t → length head ≡ 12 + header_size head → 12 ≤ header_size head →
+    mask_bytes (head ++ more) ≡ mask_bytes head
+same_masks false head more test len least =
     let same : header_size (head ++ more) ≡ header_size head = four_at-append head more 14 (omega arith) (omega arith) in rw (same, test) refl
-same_masks true head more test (len, least) =
+same_masks true head more test len least =
     let size : header_size head ≡ 40 = eqb-true (header_size head) 40 test in
     let same : header_size (head ++ more) ≡ header_size head = four_at-append head more 14 (omega arith) (omega arith) in
     let kind : four_at (head ++ more) 30 ≡ four_at head 30 = four_at-append head more 30 (omega arith) (omega arith) in
     rw (same, kind) refl
 
 pub masks_grown : (head more : List ℕ) → IsInfo head → length more ≡ mask_bytes head → IsWhole (head ++ more)
-masks_grown head more (len, least) len_more =
+masks_grown head more begun len_more =
+    let len : length head ≡ 12 + header_size head = begun.reach in
+    let least : 12 ≤ header_size head = known_size (header_size head) begun.known in
     let same : header_size (head ++ more) ≡ header_size head = four_at-append head more 14 (omega arith) (omega arith) in
-    let masks_same : mask_bytes (head ++ more) ≡ mask_bytes head = same_masks (nat_eq (header_size head) 40) head more refl (len, least) in
-    length-append head more ∙ rw (masks_same, same, len, len_more) refl
+    let masks_same : mask_bytes (head ++ more) ≡ mask_bytes head = same_masks (nat_eq (header_size head) 40) head more refl len least in
+    record { reach = length-append head more ∙ rw (masks_same, same, len, len_more) refl; known = rw same begun.known }
 
 -- The parts of the header, and what they leave.
 
@@ -128,7 +138,7 @@ cuts_start bytes =
     cuts_bind (IsBlock 16 bytes) (λ head rest. IsStart head × (length bytes ≡ length head + length rest)) (block 16 bytes)
     (λ head rest. passes BmpKind (is_known_size (header_size head)) head rest) (cuts_block 16 bytes)
     (λ head rest is. cuts_passes (λ head rest. IsStart head × (length bytes ≡ length head + length rest)) BmpKind (is_known_size (header_size head)) head rest
-    (λ known. ((is.0, known), omega (arith, is.0, is.1))))
+    (λ known. (record { reach = is.0; known = known }, omega (arith, is.0, is.1))))
 
 cuts_info : (head bytes : List ℕ) → IsStart head → Cuts (λ whole rest. IsInfo whole × (length head + length bytes ≡ length whole + length rest)) (info head bytes)
 cuts_info head bytes begun =

@@ -11,6 +11,8 @@ pub mod Digits
 pub mod Headers
 pub mod Painting
 pub mod Blocks
+pub mod Heads
+pub mod BmpReading
 pub mod Placing
 pub mod Showing
 pub mod Bodies

@@ -13,6 +13,7 @@ pub mod Window
 pub mod Run
 pub mod Number
 pub mod Header
+pub mod BmpHead
 pub mod Shading
 pub mod Raster
 pub mod Reader

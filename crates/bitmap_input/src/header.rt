@@ -139,7 +139,7 @@ pub(crate) fn skip_space<I: Inputs>(window: &mut Window, inputs: &mut I) -> Resu
 }
 
 // The two numbers as the sides of a page.
-fn check(width: u32, height: u32) -> Result<Sides, Stop>
+pub(crate) fn check(width: u32, height: u32) -> Result<Sides, Stop>
     ensures checks { Checks width height result }
     ensures width { IfOk result (λ s. (1 ≤ s.width) × (s.width ≤ LONGEST_SIDE)) }
     ensures height { IfOk result (λ s. (1 ≤ s.height) × (s.height ≤ LONGEST_SIDE)) }

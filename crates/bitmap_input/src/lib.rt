@@ -13,6 +13,7 @@
 //! `reader` has the reader, `next` and `fault` its answers, and `laws` what its definitions keep.
 #![tactic(auto)]
 
+mod bmp;
 mod body;
 pub mod fault;
 mod gray;

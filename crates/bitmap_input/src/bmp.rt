@@ -1,0 +1,4 @@
+//! BMP pictures.
+mod fields;
+mod head;
+mod header;
