@@ -3,7 +3,7 @@ use Rattle.std.proofs.Common.{◌≡◌, refl, ℕ, zero, suc, ◌+◌, ◌-◌,
 use Rattle.std.specs.Prelude.{nat_eq, nat_lt, nat_le}
 use Rattle.std.specs.List.{range_with_len}
 use Rattle.std.proofs.lemmas.List.{length-append, length-take-le, length-drop}
-use Rattle.std.proofs.lemmas.Bool.{ltb-false, leb-true, eqb-true, or_cases}
+use Rattle.std.proofs.lemmas.Bool.{ltb-false, leb-true, eqb-true, or_cases, both_ways}
 use Rattle.std.proofs.lemmas.Bool.Decides.{nat_tests}
 use Rattle.std.proofs.Math.ListN.{get_or-append}
 use Rattle.bitmap_input.specs.Cut.{Kind, Ending, Cut, ◌>>=◌}
@@ -13,7 +13,7 @@ use Rattle.bitmap_input.specs.Cut.Cut.{Takes, Stops}
 use Rattle.bitmap_input.specs.Parts.{is_zero, block, times}
 use Rattle.bitmap_input.specs.Sides.{checked, longest_side}
 use Rattle.bitmap_input.specs.Raw.{Raw, Entry}
-use Rattle.bitmap_input.specs.BmpHeader.{byte_at, two_at, four_at, header_size, is_short, compression, has_masks, is_known_size, is_known_kind, mask_bytes, has_known_colors, width, height, pixel_offset, palette_bytes, palette_end, row_length, rows_end}
+use Rattle.bitmap_input.specs.BmpHeader.{byte_at, two_at, four_at, header_size, is_short, bits, compression, has_masks, is_known_size, is_known_kind, mask_bytes, has_known_colors, width, height, pixel_offset, palette_bytes, palette_end, row_length, rows_end}
 use Rattle.bitmap_input.specs.BmpRaster.{pixel_in, row_of, picture, raster}
 use Rattle.bitmap_input.specs.Bmp.{passes, start, info, masks, placed, header, bmp}
 use Rattle.bitmap_input.specs.BmpHead.{HasInfo, IsStart, IsInfo, IsWhole}
@@ -95,6 +95,9 @@ most_size n h = grind (arith, nat_tests)
 long_size : (n : ℕ) → is_known_size n ≡ true → nat_eq n 12 ≡ false → 40 ≤ n
 long_size n h other = grind (arith, nat_tests)
 
+roomy_size : (n : ℕ) → is_known_size n ≡ true → nat_eq n 12 ≡ false → nat_eq n 40 ≡ false → 52 ≤ n
+roomy_size n h other other2 = grind (arith, nat_tests)
+
 pub info_has : (head : List ℕ) → IsInfo head → HasInfo head
 info_has head is =
     let known : is_known_size (header_size head) ≡ true = is.known in
@@ -130,6 +133,44 @@ masks_grown head more begun len_more =
     let same : header_size (head ++ more) ≡ header_size head = four_at-append head more 14 (omega arith) (omega arith) in
     let masks_same : mask_bytes (head ++ more) ≡ mask_bytes head = same_masks (nat_eq (header_size head) 40) head more refl len least in
     record { reach = length-append head more ∙ rw (masks_same, same, len, len_more) refl; known = rw same begun.known }
+
+bits_same : (t : Bool) (head more : List ℕ) → is_short head ≡ t → HasInfo head → bits (head ++ more) ≡ bits head
+bits_same true head more test has =
+    let within : 12 + header_size head ≤ length head = has.within in
+    let least : 12 ≤ header_size head = has.least in
+    let same : header_size (head ++ more) ≡ header_size head = four_at-append head more 14 (omega arith) (omega arith) in
+    let field : two_at (head ++ more) 24 ≡ two_at head 24 = two_at-append head more 24 (omega arith) (omega arith) in
+    rw (same, test) field
+bits_same false head more test has =
+    let within : 12 + header_size head ≤ length head = has.within in
+    let long : 40 ≤ header_size head = has.long test in
+    let same : header_size (head ++ more) ≡ header_size head = four_at-append head more 14 (omega arith) (omega arith) in
+    let field : two_at (head ++ more) 28 ≡ two_at head 28 = two_at-append head more 28 (omega arith) (omega arith) in
+    rw (same, test) field
+
+-- a header is of 40 bytes, and masks follow; or it has room for them
+masked_size : (t : Bool) (head : List ℕ) → nat_eq (header_size head) 40 ≡ t → IsWhole head → is_short head ≡ false → has_masks head ≡ true → 64 ≤ length head
+masked_size true head test is long masked =
+    let size : header_size head ≡ 40 = eqb-true (header_size head) 40 test in
+    let twelve : mask_bytes head ≡ 12 = rw (test, masked) refl in
+    omega (arith, is.reach, twelve)
+masked_size false head test is long masked =
+    let known : is_known_size (header_size head) ≡ true = is.known in
+    let room = roomy_size (header_size head) known long test in
+    omega (arith, is.reach, room)
+
+masked_at : (t : Bool) (head : List ℕ) → IsWhole head → is_short head ≡ t → has_masks head ≡ true → 64 ≤ length head
+masked_at true head is test masked = let plain : has_masks head ≡ false = rw test refl in absurd (both_ways (has_masks head) masked plain)
+masked_at false head is test masked = masked_size (nat_eq (header_size head) 40) head refl is test masked
+
+-- the fields stay with the masks
+pub bits_grown : (head more : List ℕ) → HasInfo head → bits (head ++ more) ≡ bits head
+bits_grown head more has = bits_same (is_short head) head more refl has
+
+-- What a whole header has room for.
+
+pub masks_within : (head : List ℕ) → IsWhole head → has_masks head ≡ true → 64 ≤ length head
+masks_within head is masked = masked_at (is_short head) head is refl masked
 
 -- The parts of the header, and what they leave.
 

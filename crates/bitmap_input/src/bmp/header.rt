@@ -5,10 +5,14 @@ ghost use Rattle.bitmap_input.specs.BmpHeader.{header_size, bits, mask_bytes, ha
 ghost use Rattle.bitmap_input.specs.Bmp.{start, info, masks, placed, header};
 ghost use Rattle.bitmap_input.specs.BmpHead.{HasInfo, IsStart, IsInfo, IsWhole, IsHeader, IsReadable, Passes, bits_in};
 
-use crate::bmp::fields::{Depth, is_known_size, is_short, pixel_depth, compression, colors_used};
+use crate::bmp::fields::{
+    Depth, color_bytes, has_known_colors, height, is_known_size, is_top_down, mask_bytes, palette_end,
+    palette_length, pixel_depth, width,
+};
 use crate::bmp::head::Head;
 use crate::fault::InFault;
 use crate::header::check;
+use crate::number::CAP;
 use crate::stop::Stop;
 use crate::window::Window;
 use pt_base::inputs::Inputs;
@@ -76,4 +80,78 @@ fn read_info<I: Inputs>(
         Some(depth) => Ok(depth),
         None => Err(Stop::Fault(InFault::BmpKind)),
     }
+}
+
+// The masks, where they stand behind the header.
+fn read_masks<I: Inputs>(
+    window: &mut Window,
+    inputs: &mut I,
+    head: &mut Head,
+    depth: Depth,
+) -> Result<(), Stop>
+    requires opened { I.is_opened inputs.old ≡ true }
+    requires begun { IsInfo head.old }
+    requires kind { bits head.old ≡ bits_in depth }
+    ensures reads { Reads (λ _ bytes. bytes ≡ head.new) (masks head.old) window.old (I.files inputs.old) result window.new (I.files inputs.new) }
+    ensures whole { OnOk result (IsWhole head.new) }
+    ensures kind { OnOk result (bits head.new ≡ bits_in depth) }
+    ensures colors { OnOk result (has_known_colors head.new ≡ true) }
+    ensures counts { Counts result (I.faults inputs.old) (I.faults inputs.new) }
+    ensures stays_opened { I.is_opened inputs.new ≡ true }
+    ensures same_openings { I.openings inputs.new ≡ I.openings inputs.old }
+{
+    let n = mask_bytes(head) as usize;
+    head.read(window, inputs, n)?;
+    if has_known_colors(head, depth) {
+        Ok(())
+    } else {
+        Err(Stop::Fault(InFault::BmpKind))
+    }
+}
+
+// What the program keeps of a header, where its sides are in range and its pixels begin behind all
+// that stands before them.
+fn describe(head: &Head, depth: Depth) -> Result<Header, Stop>
+    requires info { HasInfo head.now }
+    requires kind { bits head.now ≡ bits_in depth }
+    requires colors { has_known_colors head.now ≡ true }
+    ensures passes { Passes IsHeader (placed head.now) result }
+    ensures readable { IfOk result IsReadable }
+{
+    let sides = check(width(head).min(CAP), height(head).min(CAP))?;
+    let palette_end = palette_end(head, depth);
+    let pixel_offset = head.four_at(10);
+    if pixel_offset < palette_end {
+        return Err(Stop::Fault(InFault::BadOffset));
+    }
+    Ok(Header {
+        width: sides.width,
+        height: sides.height,
+        top_down: is_top_down(head),
+        depth,
+        color_bytes: color_bytes(head),
+        palette_length: palette_length(head, depth),
+        before_pixels: pixel_offset - palette_end,
+        pixel_offset,
+        file_size: head.four_at(2),
+    })
+}
+
+/// The header with its masks.
+pub(crate) fn read_header<I: Inputs>(
+    window: &mut Window,
+    inputs: &mut I,
+) -> Result<Header, Stop>
+    requires { I.is_opened inputs.old ≡ true }
+    ensures reads { Reads IsHeader header window.old (I.files inputs.old) result window.new (I.files inputs.new) }
+    ensures readable { IfOk result IsReadable }
+    ensures counts { Counts result (I.faults inputs.old) (I.faults inputs.new) }
+    ensures stays_opened { I.is_opened inputs.new ≡ true }
+    ensures same_openings { I.openings inputs.new ≡ I.openings inputs.old }
+{
+    let mut head = Head::new();
+    read_start(window, inputs, &mut head)?;
+    let depth = read_info(window, inputs, &mut head)?;
+    read_masks(window, inputs, &mut head, depth)?;
+    describe(&head, depth)
 }
