@@ -59,15 +59,15 @@ if_nothing : (o : Option (List ℕ)) → IfSome o (λ _. Unit {0})
 if_nothing None = tt
 if_nothing (Some rest) = tt
 
-module _ (h h2 : Held) (pages pages2 : ℕ) (was over : Bool) (before now : Option Files) where
+module _ (level : ℕ) (invert : Bool) (h h2 : Held) (pages pages2 : ℕ) (was over : Bool) (before now : Option Files) where
   abbrev pub old : Reader
   old = reader_of h pages was
 
   abbrev pub new : Reader
   new = reader_of h2 pages2 over
 
-  pub gives_page : {page : Pixels} → Reads IsShown (page_at (is_later old)) h before (Ok page) h2 now → pages2 ≡ pages + 1 → over ≡ false →
-      GivesPage old before page new now
+  pub gives_page : {page : Pixels} → Reads (IsShown level invert) (page_at (is_later old)) h before (Ok page) h2 now → pages2 ≡ pages + 1 → over ≡ false →
+      GivesPage level invert old before page new now
   gives_page r counted going_on =
       let (e, raw, shows, takes, settled) = r.gives in
       let bytes : List ℕ = h.bytes ++ r.more in
@@ -89,7 +89,7 @@ module _ (h h2 : Held) (pages pages2 : ℕ) (was over : Bool) (before now : Opti
         going_on = going_on;
       }
 
-  pub gives_ending : (stop : Stop) → Reads IsShown (page_at (is_later old)) h before (Err stop) h2 now → pages2 ≡ pages → over ≡ true → (ending : Ending) →
+  pub gives_ending : (stop : Stop) → Reads (IsShown level invert) (page_at (is_later old)) h before (Err stop) h2 now → pages2 ≡ pages → over ≡ true → (ending : Ending) →
       cause_of stop ≡ Says ending → GivesEnding old before ending new now
   gives_ending stop r counted is_over ending why =
       let (e, is, settled) = subst (λ why. StopsBy (page_at (is_later old) (h.bytes ++ r.more)) why h2) why r.gives in
@@ -137,10 +137,10 @@ module _ (h h2 : Held) (pages pages2 : ℕ) (was over : Bool) (before now : Opti
       ap (front (is_later old)) (taken_first rest is a.moves).1 ∙
       front_stays (is_later old) (h.bytes ++ a.more) (drop (length a.more) rest) test ∙ a.is
 
-  pub told_page : {page : Pixels} → (h.ended ≡ true → AtEnd before) → GivesPage old before page new now →
-      IfSome (unread before) (λ rest. TellsPage old rest page new now)
+  pub told_page : {page : Pixels} → (h.ended ≡ true → AtEnd before) → GivesPage level invert old before page new now →
+      IfSome (unread before) (λ rest. TellsPage level invert old rest page new now)
   told_page {page} at_end gives =
-      where_told (unread before) (λ rest. TellsPage old rest page new now) (λ rest is.
+      where_told (unread before) (λ rest. TellsPage level invert old rest page new now) (λ rest is.
       let answers = gives.answers in
       let tells : front (is_later old) (h.bytes ++ rest) ≡ Page gives.raw gives.used
       = answer_told (is_by_end (page_at (is_later old) (h.bytes ++ answers.more))) rest at_end is answers refl in
@@ -173,44 +173,44 @@ module _ (h h2 : Held) (pages pages2 : ℕ) (was over : Bool) (before now : Opti
 -- Where no read failed, the answer comes.
 
 -- what is owed where the rest is told: the answer that it gives, or that memory is wanting
-abbrev pub Comes : Result Next InFault → Reader → Option (List ℕ) → ℕ → ℕ → Type 0
-Comes result reader rest_of before now = IfSome rest_of (λ rest. reader.over ≡ false → (Rose before now → ⊥) →
-    IsAnswer result (front (is_later reader) (ahead reader rest)) ⊎ IsErrOf result fault.NoMemory)
+abbrev pub Comes : ℕ → Bool → Result Next InFault → Reader → Option (List ℕ) → ℕ → ℕ → Type 0
+Comes level invert result reader rest_of before now = IfSome rest_of (λ rest. reader.over ≡ false → (Rose before now → ⊥) →
+    IsAnswer level invert result (front (is_later reader) (ahead reader rest)) ⊎ IsErrOf result fault.NoMemory)
 
-pub over_comes : (reader : Reader) (o : Option (List ℕ)) (m n : ℕ) → reader.over ≡ true → Comes (Ok next.Over) reader o m n
-over_comes reader None m n over = tt
-over_comes reader (Some rest) m n over = λ going_on _. absurd (not_true (sym going_on ∙ over))
+pub over_comes : (level : ℕ) (invert : Bool) (reader : Reader) (o : Option (List ℕ)) (m n : ℕ) → reader.over ≡ true → Comes level invert (Ok next.Over) reader o m n
+over_comes level invert reader None m n over = tt
+over_comes level invert reader (Some rest) m n over = λ going_on _. absurd (not_true (sym going_on ∙ over))
 
-page_is : (page : Pixels) (answer : Answer) (raw : Raw) (used : ℕ) → answer ≡ Page raw used → page ≡ shown raw → IsAnswer (Ok (next.Page page)) answer
-page_is page answer raw used is shows = rw is shows
+page_is : (level : ℕ) (invert : Bool) (page : Pixels) (answer : Answer) (raw : Raw) (used : ℕ) → answer ≡ Page raw used → page ≡ shown level invert raw → IsAnswer level invert (Ok (next.Page page)) answer
+page_is level invert page answer raw used is shows = rw is shows
 
-pub page_comes : (reader reader2 : Reader) (now : Option Files) (page : Pixels) (o : Option (List ℕ)) (m n : ℕ) → IfSome o (λ rest. TellsPage reader rest page reader2 now) →
-    Comes (Ok (next.Page page)) reader o m n
-page_comes reader reader2 now page None m n told = tt
-page_comes reader reader2 now page (Some rest) m n told = λ _ _. inl (page_is page (front (is_later reader) (ahead reader rest)) told.raw told.used told.is told.shows)
+pub page_comes : (level : ℕ) (invert : Bool) (reader reader2 : Reader) (now : Option Files) (page : Pixels) (o : Option (List ℕ)) (m n : ℕ) → IfSome o (λ rest. TellsPage level invert reader rest page reader2 now) →
+    Comes level invert (Ok (next.Page page)) reader o m n
+page_comes level invert reader reader2 now page None m n told = tt
+page_comes level invert reader reader2 now page (Some rest) m n told = λ _ _. inl (page_is level invert page (front (is_later reader) (ahead reader rest)) told.raw told.used told.is told.shows)
 
-pub end_comes : (reader : Reader) (o : Option (List ℕ)) (m n : ℕ) → IfSome o (λ rest. front (is_later reader) (ahead reader rest) ≡ Ends End) →
-    Comes (Ok next.End) reader o m n
-end_comes reader None m n told = tt
-end_comes reader (Some rest) m n told = λ _ _. inl told
+pub end_comes : (level : ℕ) (invert : Bool) (reader : Reader) (o : Option (List ℕ)) (m n : ℕ) → IfSome o (λ rest. front (is_later reader) (ahead reader rest) ≡ Ends End) →
+    Comes level invert (Ok next.End) reader o m n
+end_comes level invert reader None m n told = tt
+end_comes level invert reader (Some rest) m n told = λ _ _. inl told
 
-pub trailing_comes : (reader : Reader) (o : Option (List ℕ)) (m n : ℕ) → IfSome o (λ rest. front (is_later reader) (ahead reader rest) ≡ Ends Trailing) →
-    Comes (Ok next.Trailing) reader o m n
-trailing_comes reader None m n told = tt
-trailing_comes reader (Some rest) m n told = λ _ _. inl told
+pub trailing_comes : (level : ℕ) (invert : Bool) (reader : Reader) (o : Option (List ℕ)) (m n : ℕ) → IfSome o (λ rest. front (is_later reader) (ahead reader rest) ≡ Ends Trailing) →
+    Comes level invert (Ok next.Trailing) reader o m n
+trailing_comes level invert reader None m n told = tt
+trailing_comes level invert reader (Some rest) m n told = λ _ _. inl told
 
-pub fault_comes : (f : InFault) (reader : Reader) (o : Option (List ℕ)) (m n : ℕ) →
+pub fault_comes : (level : ℕ) (invert : Bool) (f : InFault) (reader : Reader) (o : Option (List ℕ)) (m n : ℕ) →
     IfSome o (λ rest. IfSays (cause_of_fault f) (λ ending. front (is_later reader) (ahead reader rest) ≡ Ends ending)) →
-    CountsBy (cause_of_fault f) m n → Comes (Err f) reader o m n
-fault_comes f reader None m n told counts = tt
-fault_comes fault.UnknownFormat reader (Some rest) m n told counts = λ _ _. inl told
-fault_comes fault.BadHeader reader (Some rest) m n told counts = λ _ _. inl told
-fault_comes fault.ZeroSide reader (Some rest) m n told counts = λ _ _. inl told
-fault_comes fault.TooLarge reader (Some rest) m n told counts = λ _ _. inl told
-fault_comes fault.Truncated reader (Some rest) m n told counts = λ _ _. inl told
-fault_comes fault.BadRaster reader (Some rest) m n told counts = λ _ _. inl told
-fault_comes fault.BmpKind reader (Some rest) m n told counts = λ _ _. inl told
-fault_comes fault.BadOffset reader (Some rest) m n told counts = λ _ _. inl told
-fault_comes fault.TooLong reader (Some rest) m n told counts = λ _ _. inl told
-fault_comes fault.ReadFault reader (Some rest) m n told counts = λ _ no_rise. absurd (no_rise counts.0)
-fault_comes fault.NoMemory reader (Some rest) m n told counts = λ _ _. inr refl
+    CountsBy (cause_of_fault f) m n → Comes level invert (Err f) reader o m n
+fault_comes level invert f reader None m n told counts = tt
+fault_comes level invert fault.UnknownFormat reader (Some rest) m n told counts = λ _ _. inl told
+fault_comes level invert fault.BadHeader reader (Some rest) m n told counts = λ _ _. inl told
+fault_comes level invert fault.ZeroSide reader (Some rest) m n told counts = λ _ _. inl told
+fault_comes level invert fault.TooLarge reader (Some rest) m n told counts = λ _ _. inl told
+fault_comes level invert fault.Truncated reader (Some rest) m n told counts = λ _ _. inl told
+fault_comes level invert fault.BadRaster reader (Some rest) m n told counts = λ _ _. inl told
+fault_comes level invert fault.BmpKind reader (Some rest) m n told counts = λ _ _. inl told
+fault_comes level invert fault.BadOffset reader (Some rest) m n told counts = λ _ _. inl told
+fault_comes level invert fault.TooLong reader (Some rest) m n told counts = λ _ _. inl told
+fault_comes level invert fault.ReadFault reader (Some rest) m n told counts = λ _ no_rise. absurd (no_rise counts.0)
+fault_comes level invert fault.NoMemory reader (Some rest) m n told counts = λ _ _. inr refl

@@ -1,6 +1,6 @@
--- An answer that isn't by the end of the bytes stays the same where bytes are added: of each part of
--- a page.
-use Rattle.std.proofs.Common.{◌≡◌, refl, ℕ, zero, suc, ◌≤◌, ◌<◌, Bool, true, false, cond, ◌&&◌, ◌||◌, List, [], ◌∷◌, ◌++◌, length, take, drop, arith, ap}
+-- An answer that isn't by the end of the bytes stays the same where bytes are added: of each part,
+-- and so of the page.
+use Rattle.std.proofs.Common.{◌≡◌, refl, ℕ, zero, suc, ◌-◌, ◌≤◌, ◌<◌, Bool, true, false, cond, ◌||◌, List, [], ◌∷◌, ◌++◌, length, take, drop, arith, ap, ◌∙◌, Option, Some, None}
 use Rattle.std.specs.Prelude.{nat_eq, nat_lt}
 use Rattle.std.proofs.lemmas.List.{take-append-le, drop-append-le, length-append}
 use Rattle.std.proofs.lemmas.Bool.{ltb-true, lt-ltb, le-ltb, ltb-false}
@@ -8,10 +8,12 @@ use Rattle.bitmap_input.specs.Cut.{Kind, Ending, Cut, is_by_end, after, with_mor
 use Rattle.bitmap_input.specs.Cut.Kind.{BadHeader, ZeroSide, TooLarge, BadRaster}
 use Rattle.bitmap_input.specs.Cut.Ending.{Refused}
 use Rattle.bitmap_input.specs.Cut.Cut.{Takes, Stops}
-use Rattle.bitmap_input.specs.Parts.{longest, is_zero, is_empty, is_space, is_digit, run_length, gap_length, missing, run_of, spaces, gap, some_gap, value, number, space, pixel, block, times}
-use Rattle.bitmap_input.specs.Raw.{row_bytes, unpacked}
-use Rattle.bitmap_input.specs.Front.{Magic, no_magic, picture_magic, magic_behind, magic, checked, side, sides, plain_pixel, raw_row, longest_side}
-use Rattle.bitmap_input.specs.Front.Magic.{PlainBits, RawBits, Picture}
+use Rattle.bitmap_input.specs.Parts.{longest, is_zero, is_empty, is_space, is_digit, run_length, gap_length, missing, run_of, spaces, gap, some_gap, value, number, number_behind_gap, space, pixel, block, times}
+use Rattle.bitmap_input.specs.Raw.{Raw, Entry, entries_page, row_bytes, unpacked, samples}
+use Rattle.bitmap_input.specs.Raw.Entry.{Bit, Sample}
+use Rattle.bitmap_input.specs.Front.{Magic, no_magic, magic_of_name, magic_named, magic_behind, magic, checked, sides, checked_maxval, maxval, greatest_maxval, plain_pixel, raw_row, plain_sample, is_wide, gray_row_bytes, raw_gray_row, raster, body, page_at, answer_of, front, longest_side}
+use Rattle.bitmap_input.specs.Front.Magic.{PlainBits, RawBits, PlainGray, RawGray}
+use Rattle.bitmap_input.specs.Front.Answer.{Page}
 use Rattle.bitmap_input.proofs.Bytes.{run_length-le, run_length-append-le, run_length-append, gap_length-le, gap_length-append-le, gap_length-append}
 
 -- where it isn't by the end, the part is the same where bytes are added
@@ -181,23 +183,13 @@ no_magic_stays : (e later : Bool) (more : List ℕ) → no_magic e later ≡ wit
 no_magic_stays e true more = refl
 no_magic_stays e false more = refl
 
-picture_magic_stays : (later : Bool) (a b : ℕ) → Stays (picture_magic later a b)
-picture_magic_stays later a b bytes more not_end =
-    pick_stays (nat_eq a 66 && nat_eq b 77) (Takes false Picture bytes) (no_magic false later) (Takes false Picture (bytes ++ more)) (no_magic false later) more
-    (λ _. refl) (λ _. no_magic_stays false later more) not_end
+magic_of_name_stays : (later : Bool) (named : Option Magic) → Stays (magic_of_name later named)
+magic_of_name_stays later (Some m) bytes more not_end = refl
+magic_of_name_stays later None bytes more not_end = no_magic_stays false later more
 
 pub magic_behind_stays : (later : Bool) (a : ℕ) → Stays (magic_behind later a)
 magic_behind_stays later a [] more not_end = let e = rw is_by_end-no_magic at not_end in cc
-magic_behind_stays later a (b ∷ rest) more not_end =
-    let none : no_magic false later ≡ with_more more (no_magic false later) = no_magic_stays false later more in
-    pick_stays (nat_eq a 80) (cond (nat_eq b 49) (Takes false PlainBits rest) (cond (nat_eq b 52) (Takes false RawBits rest) (no_magic false later)))
-    (picture_magic later a b rest)
-    (cond (nat_eq b 49) (Takes false PlainBits (rest ++ more)) (cond (nat_eq b 52) (Takes false RawBits (rest ++ more)) (no_magic false later)))
-    (picture_magic later a b (rest ++ more)) more
-    (pick_stays (nat_eq b 49) (Takes false PlainBits rest) (cond (nat_eq b 52) (Takes false RawBits rest) (no_magic false later))
-    (Takes false PlainBits (rest ++ more)) (cond (nat_eq b 52) (Takes false RawBits (rest ++ more)) (no_magic false later)) more (λ _. refl)
-    (pick_stays (nat_eq b 52) (Takes false RawBits rest) (no_magic false later) (Takes false RawBits (rest ++ more)) (no_magic false later) more (λ _. refl) (λ _. none)))
-    (picture_magic_stays later a b rest more) not_end
+magic_behind_stays later a (b ∷ rest) more not_end = magic_of_name_stays later (magic_named a b) rest more not_end
 
 pub magic_stays : (later : Bool) → Stays (magic later)
 magic_stays true [] more not_end = cc
@@ -215,17 +207,27 @@ checked_stays width height bytes more not_end =
     (pick_stays (nat_lt longest_side width || nat_lt longest_side height) (Stops false (Refused TooLarge)) (Takes false (width, height) bytes)
     (Stops false (Refused TooLarge)) (Takes false (width, height) (bytes ++ more)) more (λ _. refl) (λ _. refl)) not_end
 
-pub side_stays : Stays side
-side_stays bytes more not_end =
-    stays_bind (some_gap BadHeader bytes) (some_gap BadHeader (bytes ++ more)) _ more (λ _. number_stays BadHeader)
-    (some_gap_stays BadHeader bytes more) not_end
+pub number_behind_gap_stays : (kind : Kind) → Stays (number_behind_gap kind)
+number_behind_gap_stays kind bytes more not_end =
+    stays_bind (some_gap kind bytes) (some_gap kind (bytes ++ more)) _ more (λ _. number_stays kind)
+    (some_gap_stays kind bytes more) not_end
 
 pub sides_stay : Stays sides
 sides_stay bytes more not_end =
-    stays_bind (side bytes) (side (bytes ++ more)) _ more
-    (λ width bytes more not_end. stays_bind (side bytes) (side (bytes ++ more)) _ more
-    (λ height. checked_stays width height) (side_stays bytes more) not_end)
-    (side_stays bytes more) not_end
+    stays_bind (number_behind_gap BadHeader bytes) (number_behind_gap BadHeader (bytes ++ more)) _ more
+    (λ width bytes more not_end. stays_bind (number_behind_gap BadHeader bytes) (number_behind_gap BadHeader (bytes ++ more)) _ more
+    (λ height. checked_stays width height) (number_behind_gap_stays BadHeader bytes more) not_end)
+    (number_behind_gap_stays BadHeader bytes more) not_end
+
+checked_maxval_stays : (n : ℕ) → Stays (checked_maxval n)
+checked_maxval_stays n bytes more not_end =
+    pick_stays (is_zero n || nat_lt greatest_maxval n) (Stops false (Refused BadHeader)) (Takes false n bytes)
+    (Stops false (Refused BadHeader)) (Takes false n (bytes ++ more)) more (λ _. refl) (λ _. refl) not_end
+
+pub maxval_stays : Stays maxval
+maxval_stays bytes more not_end =
+    stays_bind (number_behind_gap BadHeader bytes) (number_behind_gap BadHeader (bytes ++ more)) _ more checked_maxval_stays
+    (number_behind_gap_stays BadHeader bytes more) not_end
 
 pub plain_pixel_stays : Stays plain_pixel
 plain_pixel_stays bytes more not_end =
@@ -236,3 +238,18 @@ raw_row_stays width bytes more not_end =
     stays_bind (block (row_bytes width) bytes) (block (row_bytes width) (bytes ++ more))
     (λ row rest. Takes false (take width (unpacked row)) rest) more
     (λ row. take_stays false (take width (unpacked row))) (block_stays (row_bytes width) bytes more) not_end
+
+pub plain_sample_stays : Stays plain_sample
+plain_sample_stays = number_behind_gap_stays BadRaster
+
+pub raw_gray_row_stays : (white width : ℕ) → Stays (raw_gray_row white width)
+raw_gray_row_stays white width bytes more not_end =
+    stays_bind (block (gray_row_bytes white width) bytes) (block (gray_row_bytes white width) (bytes ++ more))
+    (λ row rest. Takes false (samples (is_wide white) row) rest) more
+    (λ row. take_stays false (samples (is_wide white) row)) (block_stays (gray_row_bytes white width) bytes more) not_end
+
+pub raster_stays : {A : Type 0} (entry : A → Entry) (row : List ℕ → Cut (List A)) (width height : ℕ) → Stays row →
+    Stays (raster entry row width height)
+raster_stays entry row width height stays bytes more not_end =
+    stays_bind (times row height bytes) (times row height (bytes ++ more)) _ more
+    (λ rows. take_stays false (entries_page entry width height rows)) (times_stay row stays height bytes more) not_end

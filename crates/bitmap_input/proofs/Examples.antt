@@ -31,15 +31,15 @@ unfolding two_rows
 padding = refl
 
 -- Row 0 is the lowest: of the two rows above, the first one is row 1, and outside all is white.
-upper_left : picture_of (bits_page 9 2 two_rows) 0 1 ≡ false
+upper_left : picture_of 500000 false (bits_page 9 2 two_rows) 0 1 ≡ false
 unfolding two_rows
 upper_left = refl
 
-lower_left : picture_of (bits_page 9 2 two_rows) 0 0 ≡ true
+lower_left : picture_of 500000 false (bits_page 9 2 two_rows) 0 0 ≡ true
 unfolding two_rows
 lower_left = refl
 
-right_of_the_page : picture_of (bits_page 9 2 two_rows) 9 0 ≡ false
+right_of_the_page : picture_of 500000 false (bits_page 9 2 two_rows) 9 0 ≡ false
 unfolding two_rows
 right_of_the_page = refl
 

@@ -3,17 +3,17 @@ use Rattle.std.proofs.Common.{subst, Option, Result, Ok, Err, append-nil, ◌++�
 use Rattle.std.specs.Prelude.{nat_lt}
 use Rattle.std.proofs.lemmas.Bool.{lt-ltb, le-ltb}
 use Rattle.bitmap_input.specs.Cut.{Kind, Ending}
-use Rattle.bitmap_input.specs.Cut.Kind.{ZeroSide, TooLarge}
+use Rattle.bitmap_input.specs.Cut.Kind.{ZeroSide, TooLarge, BadHeader}
 use Rattle.bitmap_input.specs.Cut.Ending.{Refused}
 use Rattle.bitmap_input.specs.Cut.Cut.{Takes, Stops}
 use Rattle.bitmap_input.specs.Parts.{is_zero, gap_length, gap, some_gap}
-use Rattle.bitmap_input.specs.Front.{checked, longest_side, magic, magic_behind}
+use Rattle.bitmap_input.specs.Front.{checked, longest_side, checked_maxval, greatest_maxval, magic, magic_behind}
 use Rattle.bitmap_input.specs.Run.{IsCapped}
 use Rattle.bitmap_input.specs.declared.stop.Stop.{Stop}
 use Rattle.bitmap_input.specs.declared.header.Sides.{Sides}
-use Rattle.bitmap_input.specs.Header.{IsSides, Checks}
+use Rattle.bitmap_input.specs.Header.{IsSides, Checks, ChecksMaxval}
 use Rattle.pt_base.specs.Files.{Files}
-use Rattle.bitmap_input.specs.Reading.{Held, StopsBy, Reads}
+use Rattle.bitmap_input.specs.Reading.{Held, StopsBy, Reads, Same}
 use Rattle.bitmap_input.proofs.Telling.{not_true, stand}
 use Rattle.bitmap_input.specs.Reading.Cause.{Says}
 
@@ -94,4 +94,46 @@ reads_checked {held = held} {files = files} {result = Err stop} width height a b
       more = [];
       moves = stand held.ended files;
       gives = subst (λ why. StopsBy (checked width height (held.bytes ++ [])) why held) (sym cause) stops;
+    }
+
+no_maxval : (n : ℕ) → (n ≡ 0) ⊎ (greatest_maxval < n) → (is_zero n || nat_lt greatest_maxval n) ≡ true
+no_maxval zero h = refl
+no_maxval (suc n) (inl h) = absurd (omega arith)
+no_maxval (suc n) (inr h) = lt-ltb greatest_maxval (suc n) h
+
+a_maxval : (n : ℕ) → 0 < n → n ≤ greatest_maxval → (is_zero n || nat_lt greatest_maxval n) ≡ false
+a_maxval zero some most = absurd (omega arith)
+a_maxval (suc n) some most = le-ltb greatest_maxval (suc n) most
+
+pub checks_no_maxval : (x : ℕ) → (x ≡ 0) ⊎ (greatest_maxval < x) → (n : ℕ) → IsCapped x n →
+    (ending : Ending) × (Says (Refused BadHeader) ≡ Says ending) × ((bytes : List ℕ) → checked_maxval n bytes ≡ Stops false ending)
+checks_no_maxval x out n a =
+    let o : (n ≡ 0) ⊎ (greatest_maxval < n) = elim out [ inl h ↦ inl (omega arith) | inr h ↦ inr (omega arith) ] in
+    (Refused BadHeader, refl, λ bytes. rw (no_maxval n o) refl)
+
+pub checks_maxval : (x : ℕ) → 0 < x → x ≤ greatest_maxval → (n : ℕ) → IsCapped x n →
+    (n ≡ x) × ((bytes : List ℕ) → checked_maxval n bytes ≡ Takes false n bytes)
+checks_maxval x some most n a =
+    let s : 0 < n = omega arith in
+    let m : n ≤ greatest_maxval = omega arith in
+    (omega arith, λ bytes. rw (a_maxval n s m) refl)
+
+-- the check of the sample for white as a step that reads nothing
+pub reads_checked_maxval : {x : ℕ} {held : Held} {files : Option Files} {result : Result ℕ Stop} (n : ℕ) →
+    IsCapped x n → ChecksMaxval x result → Reads Same (checked_maxval n) held files result held files
+reads_checked_maxval {held = held} {files = files} {result = Ok white} n a checks =
+    let (same, is) = checks n a in
+    record {
+      more = [];
+      moves = stand held.ended files;
+      gives = (false, n, same, is (held.bytes ++ []) ∙ ap (Takes false n) (append-nil held.bytes), λ e. absurd (not_true e));
+    }
+reads_checked_maxval {held = held} {files = files} {result = Err stop} n a checks =
+    let (ending, cause, is) = checks n a in
+    let stops : StopsBy (checked_maxval n (held.bytes ++ [])) (Says ending) held
+    = (false, is (held.bytes ++ []), λ e. absurd (not_true e)) in
+    record {
+      more = [];
+      moves = stand held.ended files;
+      gives = subst (λ why. StopsBy (checked_maxval n (held.bytes ++ [])) why held) (sym cause) stops;
     }

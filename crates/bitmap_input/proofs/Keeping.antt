@@ -1,5 +1,5 @@
 -- What a part leaves is the end of what it was given.
-use Rattle.std.proofs.Common.{subst, ◌≡◌, refl, ℕ, zero, suc, ◌+◌, ◌-◌, ◌≤◌, ◌<◌, Bool, true, false, cond, ◌&&◌, ◌||◌, List, [], ◌∷◌, ◌++◌, length, take, drop, arith, ap, sym, ◌∙◌, append_assoc}
+use Rattle.std.proofs.Common.{subst, ◌≡◌, refl, ℕ, zero, suc, ◌+◌, ◌-◌, ◌≤◌, ◌<◌, Bool, true, false, cond, ◌||◌, List, [], ◌∷◌, ◌++◌, length, take, drop, arith, ap, sym, ◌∙◌, append_assoc, Option, Some, None}
 use Rattle.std.specs.Prelude.{nat_eq, nat_lt}
 use Rattle.std.proofs.lemmas.List.{take-append-drop, length-append, length-drop}
 use Rattle.std.proofs.Math.Seq.{drop-append_seam}
@@ -7,10 +7,14 @@ use Rattle.bitmap_input.specs.Cut.{Kind, Ending, Cut, ◌>>=◌}
 use Rattle.bitmap_input.specs.Cut.Kind.{BadHeader, BadRaster, Truncated, TooLong, ZeroSide, TooLarge, UnknownFormat}
 use Rattle.bitmap_input.specs.Cut.Ending.{End, Trailing, Refused}
 use Rattle.bitmap_input.specs.Cut.Cut.{Takes, Stops}
-use Rattle.bitmap_input.specs.Parts.{longest, is_zero, is_empty, is_space, is_digit, run_length, gap_length, missing, run_of, spaces, gap, some_gap, value, number, space, pixel, block, times}
-use Rattle.bitmap_input.specs.Raw.{Raw, bits_page, row_bytes, unpacked}
-use Rattle.bitmap_input.specs.Front.{Magic, no_magic, picture_magic, magic_behind, magic, checked, longest_side, side, sides, plain_pixel, raw_row}
-use Rattle.bitmap_input.specs.Front.Magic.{PlainBits, RawBits, Picture}
+use Rattle.bitmap_input.specs.Parts.{longest, is_zero, is_empty, is_space, is_digit, run_length, gap_length, missing, run_of, spaces, gap, some_gap, value, number, number_behind_gap, space, pixel, block, times}
+use Rattle.bitmap_input.specs.Raw.{Raw, Entry, entries_page, row_bytes, unpacked, samples}
+use Rattle.bitmap_input.specs.Raw.Entry.{Bit, Sample}
+use Rattle.bitmap_input.specs.Front.{Magic, no_magic, magic_of_name, magic_named, magic_behind, magic, checked, longest_side, sides, checked_maxval, maxval, greatest_maxval, plain_pixel, raw_row, plain_sample, is_wide, gray_row_bytes, raw_gray_row, raster, body, page_at, answer_of, front}
+use Rattle.bitmap_input.specs.Front.Answer.{Page}
+use Rattle.bitmap_input.specs.Front.Magic.{PlainBits, RawBits, PlainGray, RawGray}
+use Rattle.bitmap_input.specs.FilePages.{next_begins}
+use Rattle.bitmap_input.proofs.Bytes.{run_length-le}
 use Rattle.bitmap_input.proofs.Showing.{after_takes}
 
 -- a list ends with this one
@@ -56,15 +60,15 @@ keeps_run n bytes =
     keeps_pick bytes (nat_lt longest n) (Stops false (Refused TooLong)) (Takes (is_empty (drop n bytes)) (take n bytes) (drop n bytes))
     (keeps_stop bytes false (Refused TooLong)) (keeps_take bytes (is_empty (drop n bytes)) (take n bytes) (drop n bytes) (dropped n bytes))
 
-keeps_missing : {A : Type 0} (kind : Kind) (bytes : List ℕ) → Keeps {A = A} bytes (missing kind bytes)
+pub keeps_missing : {A : Type 0} (kind : Kind) (bytes : List ℕ) → Keeps {A = A} bytes (missing kind bytes)
 keeps_missing kind [] = keeps_stop [] true (Refused Truncated)
 keeps_missing kind (b ∷ bs) = keeps_stop (b ∷ bs) false (Refused kind)
 
-keeps_some_gap : (kind : Kind) (bytes : List ℕ) → Keeps bytes (some_gap kind bytes)
+pub keeps_some_gap : (kind : Kind) (bytes : List ℕ) → Keeps bytes (some_gap kind bytes)
 keeps_some_gap kind bytes =
     keeps_pick bytes (is_zero (gap_length false bytes)) (missing kind bytes) (gap bytes) (keeps_missing kind bytes) (keeps_run (gap_length false bytes) bytes)
 
-keeps_number : (kind : Kind) (bytes : List ℕ) → Keeps bytes (number kind bytes)
+pub keeps_number : (kind : Kind) (bytes : List ℕ) → Keeps bytes (number kind bytes)
 keeps_number kind bytes =
     keeps_pick bytes (is_zero (run_length is_digit bytes)) (missing kind bytes)
     (run_of (run_length is_digit bytes) bytes >>= λ digits rest. Takes false (value 0 digits) rest) (keeps_missing kind bytes)
@@ -77,7 +81,7 @@ keeps_space (b ∷ bs) =
     keeps_pick (b ∷ bs) (is_space b) (Takes false (b ∷ []) bs) (Stops false (Refused BadHeader))
     (keeps_take (b ∷ bs) false (b ∷ []) bs (one_off b bs)) (keeps_stop (b ∷ bs) false (Refused BadHeader))
 
-keeps_pixel : (bytes : List ℕ) → Keeps bytes (pixel bytes)
+pub keeps_pixel : (bytes : List ℕ) → Keeps bytes (pixel bytes)
 keeps_pixel [] = keeps_stop [] true (Refused Truncated)
 keeps_pixel (b ∷ bs) =
     keeps_pick (b ∷ bs) (nat_eq b 48) (Takes false false bs) (cond (nat_eq b 49) (Takes false true bs) (Stops false (Refused BadRaster)))
@@ -98,19 +102,17 @@ keeps_times part keeps (suc n) bytes =
     (λ x mid. keeps_bind mid (times part n mid) (λ xs rest. Takes false (x ∷ xs) rest) (keeps_times part keeps n mid)
     (λ xs rest. keeps_take rest false (x ∷ xs) rest (all_rest rest)))
 
-keeps_no_magic : (bytes : List ℕ) (e later : Bool) → Keeps bytes (no_magic e later)
+pub keeps_no_magic : (bytes : List ℕ) (e later : Bool) → Keeps bytes (no_magic e later)
 keeps_no_magic bytes e true = keeps_stop bytes e Trailing
 keeps_no_magic bytes e false = keeps_stop bytes e (Refused UnknownFormat)
 
+pub keeps_magic_of_name : (b : ℕ) (bs : List ℕ) (later : Bool) (named : Option Magic) → Keeps (b ∷ bs) (magic_of_name later named bs)
+keeps_magic_of_name b bs later (Some m) = keeps_take (b ∷ bs) false m bs (one_off b bs)
+keeps_magic_of_name b bs later None = keeps_no_magic (b ∷ bs) false later
+
 pub keeps_magic_behind : (later : Bool) (a : ℕ) (bytes : List ℕ) → Keeps bytes (magic_behind later a bytes)
 keeps_magic_behind later a [] = keeps_no_magic [] true later
-keeps_magic_behind later a (b ∷ bs) =
-    let none = keeps_no_magic (b ∷ bs) false later in
-    keeps_pick (b ∷ bs) (nat_eq a 80) (cond (nat_eq b 49) (Takes false PlainBits bs) (cond (nat_eq b 52) (Takes false RawBits bs) (no_magic false later))) (picture_magic later a b bs)
-    (keeps_pick (b ∷ bs) (nat_eq b 49) (Takes false PlainBits bs) (cond (nat_eq b 52) (Takes false RawBits bs) (no_magic false later))
-    (keeps_take (b ∷ bs) false PlainBits bs (one_off b bs))
-    (keeps_pick (b ∷ bs) (nat_eq b 52) (Takes false RawBits bs) (no_magic false later) (keeps_take (b ∷ bs) false RawBits bs (one_off b bs)) none))
-    (keeps_pick (b ∷ bs) (nat_eq a 66 && nat_eq b 77) (Takes false Picture bs) (no_magic false later) (keeps_take (b ∷ bs) false Picture bs (one_off b bs)) none)
+keeps_magic_behind later a (b ∷ bs) = keeps_magic_of_name b bs later (magic_named a b)
 
 pub keeps_magic : (later : Bool) (bytes : List ℕ) → Keeps bytes (magic later bytes)
 keeps_magic true [] = keeps_stop [] true End
@@ -126,13 +128,19 @@ keeps_checked width height bytes =
     (keeps_pick bytes (nat_lt longest_side width || nat_lt longest_side height) (Stops false (Refused TooLarge)) (Takes false (width, height) bytes)
     (keeps_stop bytes false (Refused TooLarge)) (keeps_take bytes false (width, height) bytes (all_rest bytes)))
 
-keeps_side : (bytes : List ℕ) → Keeps bytes (side bytes)
-keeps_side bytes = keeps_bind bytes (some_gap BadHeader bytes) (λ _ rest. number BadHeader rest) (keeps_some_gap BadHeader bytes) (λ _ rest. keeps_number BadHeader rest)
+pub keeps_number_behind_gap : (kind : Kind) (bytes : List ℕ) → Keeps bytes (number_behind_gap kind bytes)
+keeps_number_behind_gap kind bytes = keeps_bind bytes (some_gap kind bytes) (λ _ rest. number kind rest) (keeps_some_gap kind bytes) (λ _ rest. keeps_number kind rest)
 
 pub keeps_sides : (bytes : List ℕ) → Keeps bytes (sides bytes)
 keeps_sides bytes =
-    keeps_bind bytes (side bytes) (λ width rest. side rest >>= λ height rest. checked width height rest) (keeps_side bytes)
-    (λ width rest. keeps_bind rest (side rest) (λ height rest. checked width height rest) (keeps_side rest) (keeps_checked width))
+    keeps_bind bytes (number_behind_gap BadHeader bytes) (λ width rest. number_behind_gap BadHeader rest >>= λ height rest. checked width height rest) (keeps_number_behind_gap BadHeader bytes)
+    (λ width rest. keeps_bind rest (number_behind_gap BadHeader rest) (λ height rest. checked width height rest) (keeps_number_behind_gap BadHeader rest) (keeps_checked width))
+
+pub keeps_maxval : (bytes : List ℕ) → Keeps bytes (maxval bytes)
+keeps_maxval bytes =
+    keeps_bind bytes (number_behind_gap BadHeader bytes) (λ n rest. checked_maxval n rest) (keeps_number_behind_gap BadHeader bytes)
+    (λ n rest. keeps_pick rest (is_zero n || nat_lt greatest_maxval n) (Stops false (Refused BadHeader)) (Takes false n rest)
+    (keeps_stop rest false (Refused BadHeader)) (keeps_take rest false n rest (all_rest rest)))
 
 pub keeps_plain_pixel : (bytes : List ℕ) → Keeps bytes (plain_pixel bytes)
 keeps_plain_pixel bytes = keeps_bind bytes (gap bytes) (λ _ rest. pixel rest) (keeps_run (gap_length false bytes) bytes) (λ _ rest. keeps_pixel rest)
@@ -141,3 +149,8 @@ pub keeps_raw_row : (width : ℕ) (bytes : List ℕ) → Keeps bytes (raw_row wi
 keeps_raw_row width bytes =
     keeps_bind bytes (block (row_bytes width) bytes) (λ row rest. Takes false (take width (unpacked row)) rest) (keeps_block (row_bytes width) bytes)
     (λ row rest. keeps_take rest false (take width (unpacked row)) rest (all_rest rest))
+
+pub keeps_raw_gray_row : (white width : ℕ) (bytes : List ℕ) → Keeps bytes (raw_gray_row white width bytes)
+keeps_raw_gray_row white width bytes =
+    keeps_bind bytes (block (gray_row_bytes white width) bytes) (λ row rest. Takes false (samples (is_wide white) row) rest) (keeps_block (gray_row_bytes white width) bytes)
+    (λ row rest. keeps_take rest false (samples (is_wide white) row) rest (all_rest rest))

@@ -14,11 +14,13 @@ pub mod Blocks
 pub mod Heads
 pub mod BmpReading
 pub mod Placing
+pub mod Graying
 pub mod Showing
 pub mod Bodies
 pub mod Keeping
 pub mod BmpKeeps
 pub mod BmpLengths
+pub mod FrontKeeps
 pub mod Answering
 pub mod Longest
 pub mod Files

@@ -1,9 +1,10 @@
 -- A raster is read and painted part by part.
-use Rattle.std.proofs.Common.{◌≡◌, refl, ℕ, suc, ◌+◌, Bool, false, List, [], ◌∷◌, ap, sym, ◌∙◌, subst, Option, Ok, Err}
+use Rattle.std.proofs.Common.{◌≡◌, refl, ℕ, suc, ◌+◌, Bool, false, true, not, List, [], ◌∷◌, map, ap, sym, ◌∙◌, subst, Option, Ok, Err}
 use Rattle.std.proofs.Common.{add-one}
 use Rattle.std.proofs.Math.Path.{fun_ext}
+use Rattle.std.proofs.Math.Bool.{beq}
 use Rattle.pt_base.specs.Files.{Files}
-use Rattle.bit_image.specs.Image.{Image, with_pixel}
+use Rattle.bit_image.specs.Image.{Image, with_pixel, differ}
 use Rattle.bitmap_input.specs.declared.stop.Stop.{Stop}
 use Rattle.bitmap_input.specs.Cut.{Cut, ◌>>=◌}
 use Rattle.bitmap_input.specs.Cut.Cut.{Takes}
@@ -46,9 +47,17 @@ module _ {A : Type 0} {part : List ℕ → Cut A} {old : Held} {before : Option 
       s.then (Ok (tt {0})) held files final
       (subst (λ m. Reads (λ _ xs. final ≡ rest xs) (times part m) held files (Ok (tt {0})) held files) (sym none) (reads_value same))
 
--- one more pixel
-pub pixel_painted : (c c2 : Image) (x y : ℕ) (v a : Bool) → ((u w : ℕ) → c2 u w ≡ with_pixel c x y v u w) → a ≡ v →
-    (ps : List Bool) → with_pixels c2 y (x + 1) ps ≡ with_pixels c y x (a ∷ ps)
-pixel_painted c c2 x y v a set same ps =
-    let e : c2 ≡ with_pixel c x y a = fun_ext (λ u. fun_ext (λ w. set u w ∙ ap (λ p. with_pixel c x y p u w) (sym same))) in
+-- one more value, as the pixel that it stands for
+pub pixel_painted : {A : Type 0} (f : A → Bool) (c c2 : Image) (x y : ℕ) (v : Bool) (a : A) →
+    ((u w : ℕ) → c2 u w ≡ with_pixel c x y v u w) → f a ≡ v → (values : List A) →
+    with_pixels c2 y (x + 1) (map f values) ≡ with_pixels c y x (map f (a ∷ values))
+pixel_painted f c c2 x y v a set same values =
+    let e : c2 ≡ with_pixel c x y (f a) = fun_ext (λ u. fun_ext (λ w. set u w ∙ ap (λ p. with_pixel c x y p u w) (sym same))) in
     rw (e, add-one) refl
+
+-- a pixel that is inverted or not
+pub turned : (invert black : Bool) → not (beq black invert) ≡ differ invert black
+turned true true = refl
+turned true false = refl
+turned false true = refl
+turned false false = refl

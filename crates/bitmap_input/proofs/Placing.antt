@@ -1,11 +1,11 @@
 -- Pixels that are painted in a row one after another, and rows one below another.
-use Rattle.std.proofs.Common.{◌≡◌, refl, ℕ, zero, suc, ◌+◌, ◌-◌, ◌*◌, ◌≤◌, ◌<◌, inl, inr, Bool, true, false, List, [], ◌∷◌, ◌++◌, length, take, get_or, arith, ap, sym, ◌∙◌, subst, add-one, add-zero, append_assoc, append-nil}
-use Rattle.std.specs.Prelude.{nat_eq}
+use Rattle.std.proofs.Common.{◌≡◌, refl, ℕ, zero, suc, ◌+◌, ◌-◌, ◌*◌, ◌≤◌, ◌<◌, inl, inr, Bool, true, false, List, [], ◌∷◌, ◌++◌, length, take, map, get_or, arith, ap, sym, ◌∙◌, subst, add-one, add-zero, append_assoc, append-nil}
+use Rattle.std.specs.Prelude.{nat_eq, if◌then◌else◌}
 use Rattle.std.proofs.Math.Path.{fun_ext}
 use Rattle.std.proofs.Math.Seq.{take-suc, take-append-add}
-use Rattle.std.proofs.lemmas.List.{length-append, length-take-le, take-take, take_all}
+use Rattle.std.proofs.lemmas.List.{length-append, length-map, length-take-le, map-append, take-take, take_all}
 use Rattle.std.proofs.lemmas.Bool.{eq-eqb, ne_eqb, cases_eq}
-use Rattle.bit_image.specs.Image.{Image, with_pixel}
+use Rattle.bit_image.specs.Image.{Image, with_pixel, differ}
 use Rattle.bitmap_input.specs.Raw.{bits_of, unpacked}
 use Rattle.bitmap_input.specs.Raster.{with_pixels, with_row, with_rows}
 
@@ -59,50 +59,65 @@ with_pixel-white b x y white = fun_ext (λ u. fun_ext (λ v. elim (cases_eq x u)
   | inr e ↦ with_pixel-other b x y u v false (λ h _. e h)
 ]))
 
--- all of them are white
-abbrev pub AllWhite : List Bool → Type 0
-AllWhite [] = Unit {0}
-AllWhite (p ∷ ps) = (p ≡ false) × AllWhite ps
+-- all of them stand for white
+abbrev pub AllWhite : {A : Type 0} → (A → Bool) → List A → Type 0
+AllWhite f [] = Unit {0}
+AllWhite f (a ∷ row) = (f a ≡ false) × AllWhite f row
 
-take_white : (n : ℕ) (ps : List Bool) → AllWhite ps → AllWhite (take n ps)
-take_white zero ps h = tt
-take_white (suc n) [] h = tt
-take_white (suc n) (p ∷ ps) h = (h.0, take_white n ps h.1)
+take_white : {A : Type 0} (f : A → Bool) (n : ℕ) (row : List A) → AllWhite f row → AllWhite f (take n row)
+take_white f zero row h = tt
+take_white f (suc n) [] h = tt
+take_white f (suc n) (a ∷ row) h = (h.0, take_white f n row h.1)
 
-with_pixels-white : (b : Image) (y x : ℕ) (ps : List Bool) → AllWhite ps → ((u : ℕ) → x ≤ u → b u y ≡ false) →
-    with_pixels b y x ps ≡ b
-with_pixels-white b y x [] all white = refl
-with_pixels-white b y x (p ∷ ps) all white =
-    let here : with_pixel b x y p ≡ b = ap (with_pixel b x y) all.0 ∙ with_pixel-white b x y (white x (omega arith)) in
-    rw here (with_pixels-white b y (suc x) ps all.1 (λ u h. white u (omega arith)))
+with_pixels-white : {A : Type 0} (f : A → Bool) (b : Image) (y x : ℕ) (row : List A) → AllWhite f row → ((u : ℕ) → x ≤ u → b u y ≡ false) →
+    with_pixels b y x (map f row) ≡ b
+with_pixels-white f b y x [] all white = refl
+with_pixels-white f b y x (a ∷ row) all white =
+    let here : with_pixel b x y (f a) ≡ b = ap (with_pixel b x y) all.0 ∙ with_pixel-white b x y (white x (omega arith)) in
+    ap (λ i. with_pixels i y (suc x) (map f row)) here ∙ with_pixels-white f b y (suc x) row all.1 (λ u h. white u (omega arith))
+
+-- one more value of a row, as the pixel that it stands for
+pub value_placed : {A : Type 0} (f : A → Bool) (none : A) (b c d : Image) (y x k u : ℕ) (v : Bool) (row : List A) →
+    c ≡ with_pixels b y x (map f (take k row)) → ((w z : ℕ) → d w z ≡ with_pixel c u y v w z) →
+    v ≡ f (get_or row k none) → k < length row → u ≡ x + k → d ≡ with_pixels b y x (map f (take (k + 1) row))
+value_placed f none b c d y x k u v row so_far set is within at =
+    let len : length (map f (take k row)) ≡ k = length-map (take k row) f ∙ length-take-le k row (omega arith) in
+    let more : take (suc k) row ≡ take k row ++ get_or row k none ∷ [] = take-suc row k none within in
+    let whole : d ≡ with_pixel c u y v = fun_ext (λ w. fun_ext (λ z. set w z)) in
+    let column : u ≡ x + length (map f (take k row)) = at ∙ ap (λ n. x + n) (sym len) in
+    let step : with_pixel (with_pixels b y x (map f (take k row))) (x + length (map f (take k row))) y v ≡ with_pixels b y x (map f (take k row) ++ v ∷ [])
+    = with_pixels-append b y x (map f (take k row)) (v ∷ []) in
+    let both : map f (take k row) ++ v ∷ [] ≡ map f (take (k + 1) row)
+    = ap (λ p. map f (take k row) ++ p ∷ []) is ∙ sym (map-append f (take k row) (get_or row k none ∷ [])) ∙
+    ap (map f) (sym more) ∙ ap (λ n. map f (take n row)) (sym (add-one k)) in
+    whole ∙ ap (λ i. with_pixel i u y v) so_far ∙ ap (λ m. with_pixel (with_pixels b y x (map f (take k row))) m y v) column ∙ step ∙
+    ap (with_pixels b y x) both
 
 -- one more pixel of a byte, where the page reaches so far
-pub bit_placed : (b c d : Image) (y x k w : ℕ) (black : Bool) (bits : List Bool) →
-    c ≡ with_pixels b y x (take (w - x) (take k bits)) → ((u v : ℕ) → d u v ≡ with_pixel c (x + k) y black u v) →
-    black ≡ get_or bits k false → k < length bits → x + k < w →
-    d ≡ with_pixels b y x (take (w - x) (take (k + 1) bits))
-bit_placed b c d y x k w black bits so_far set is within room =
-    let len : length (take k bits) ≡ k = length-take-le k bits (omega arith) in
-    let before : take (w - x) (take k bits) ≡ take k bits = take_all (w - x) (take k bits) (omega arith) in
-    let more : take (suc k) bits ≡ take k bits ++ black ∷ [] = rw is (take-suc bits k false within) in
-    let len_more : length (take k bits ++ black ∷ []) ≡ k + 1 = rw (length-append, len) refl in
-    let all : take (w - x) (take k bits ++ black ∷ []) ≡ take k bits ++ black ∷ [] = take_all (w - x) (take k bits ++ black ∷ []) (omega arith) in
-    let whole : d ≡ with_pixel c (x + k) y black = fun_ext (λ u. fun_ext (λ v. set u v)) in
-    let row : c ≡ with_pixels b y x (take k bits) = so_far ∙ ap (with_pixels b y x) before in
-    let step : with_pixel (with_pixels b y x (take k bits)) (x + length (take k bits)) y black ≡ with_pixels b y x (take k bits ++ black ∷ [])
-    = with_pixels-append b y x (take k bits) (black ∷ []) in
-    let at : with_pixel (with_pixels b y x (take k bits)) (x + k) y black ≡ with_pixels b y x (take k bits ++ black ∷ [])
-    = subst (λ m. with_pixel (with_pixels b y x (take k bits)) (x + m) y black ≡ with_pixels b y x (take k bits ++ black ∷ [])) len step in
-    whole ∙ ap (λ i. with_pixel i (x + k) y black) row ∙ at ∙
-    rw (add-one, more, all) refl
+pub bit_placed : (f : Bool → Bool) (b c d : Image) (y x k w : ℕ) (v : Bool) (bits : List Bool) →
+    c ≡ with_pixels b y x (map f (take (w - x) (take k bits))) → ((u z : ℕ) → d u z ≡ with_pixel c (x + k) y v u z) →
+    v ≡ f (get_or bits k false) → k < length bits → x + k < w →
+    d ≡ with_pixels b y x (map f (take (w - x) (take (k + 1) bits)))
+bit_placed f b c d y x k w v bits so_far set is within room =
+    let before : take (w - x) (take k bits) ≡ take k bits
+    = take_all (w - x) (take k bits) (omega (arith, length-take-le k bits (omega arith))) in
+    let all : take (w - x) (take (k + 1) bits) ≡ take (k + 1) bits
+    = take_all (w - x) (take (k + 1) bits) (omega (arith, length-take-le (k + 1) bits (omega arith))) in
+    value_placed f false b c d y x k (x + k) v bits (so_far ∙ ap (λ bits. with_pixels b y x (map f bits)) before) set is within refl ∙
+    ap (λ bits. with_pixels b y x (map f bits)) (sym all)
 
 -- a pixel of a byte that the page doesn't reach
-pub bit_past : (b c : Image) (y x k w : ℕ) (bits : List Bool) → c ≡ with_pixels b y x (take (w - x) (take k bits)) → w ≤ x + k →
-    c ≡ with_pixels b y x (take (w - x) (take (k + 1) bits))
-bit_past b c y x k w bits so_far past =
+pub bit_past : (f : Bool → Bool) (b c : Image) (y x k w : ℕ) (bits : List Bool) → c ≡ with_pixels b y x (map f (take (w - x) (take k bits))) → w ≤ x + k →
+    c ≡ with_pixels b y x (map f (take (w - x) (take (k + 1) bits)))
+bit_past f b c y x k w bits so_far past =
     let n : w - x ≤ k = omega arith in
     let m : w - x ≤ k + 1 = omega arith in
     so_far ∙ rw (take-take (w - x) k bits n, take-take (w - x) (k + 1) bits m) refl
+
+-- a byte whose pixels are all white, inverted or not
+pub blank_white : (invert : Bool) (byte : ℕ) → byte ≡ (if invert then 255 else 0) → AllWhite (differ invert) (bits_of byte)
+blank_white true byte is = rw is (refl, (refl, (refl, (refl, (refl, (refl, (refl, (refl, tt))))))))
+blank_white false byte is = rw is (refl, (refl, (refl, (refl, (refl, (refl, (refl, (refl, tt))))))))
 
 unpacked-append : (xs ys : List ℕ) → unpacked (xs ++ ys) ≡ unpacked xs ++ unpacked ys
 unpacked-append [] ys = refl
@@ -134,32 +149,35 @@ module _ (w i byte : ℕ) (bytes : List ℕ) (within : i < length bytes) (reache
       = subst (λ m. take m (xs ++ bits_of byte) ≡ xs ++ take (w - 8 * i) (bits_of byte)) n more in
       rw (add-one, one, unpacked-append, append-nil) whole
 
-  -- one more byte was painted
-  pub byte_placed : (b c d : Image) (y : ℕ) → byte ≡ get_or bytes i 0 →
-      c ≡ with_row b y (take w (unpacked (take i bytes))) → d ≡ with_pixels c y (8 * i) (take (w - 8 * i) (bits_of byte)) →
-      d ≡ with_row b y (take w (unpacked (take (i + 1) bytes)))
-  byte_placed b c d y is so_far placed =
-      let xs : List Bool = unpacked (take i bytes) in
-      let row : c ≡ with_row b y xs = so_far ∙ ap (with_row b y) all_before in
-      let more : with_pixels (with_pixels b y 0 xs) y (0 + length xs) (take (w - 8 * i) (bits_of byte)) ≡ with_pixels b y 0 (xs ++ take (w - 8 * i) (bits_of byte))
-      = with_pixels-append b y 0 xs (take (w - 8 * i) (bits_of byte)) in
-      let n : 0 + length xs ≡ 8 * i = omega (arith, length_before) in
-      let at : with_pixels (with_pixels b y 0 xs) y (8 * i) (take (w - 8 * i) (bits_of byte)) ≡ with_pixels b y 0 (xs ++ take (w - 8 * i) (bits_of byte))
-      = subst (λ m. with_pixels (with_pixels b y 0 xs) y m (take (w - 8 * i) (bits_of byte)) ≡ with_pixels b y 0 (xs ++ take (w - 8 * i) (bits_of byte))) n more in
-      placed ∙ ap (λ c. with_pixels c y (8 * i) (take (w - 8 * i) (bits_of byte))) row ∙ at ∙ ap (with_row b y) (sym (row_more is))
+  module _ (f : Bool → Bool) where
+    -- one more byte was painted
+    pub byte_placed : (b c d : Image) (y : ℕ) → byte ≡ get_or bytes i 0 →
+        c ≡ with_row b y (map f (take w (unpacked (take i bytes)))) → d ≡ with_pixels c y (8 * i) (map f (take (w - 8 * i) (bits_of byte))) →
+        d ≡ with_row b y (map f (take w (unpacked (take (i + 1) bytes))))
+    byte_placed b c d y is so_far placed =
+        let xs : List Bool = unpacked (take i bytes) in
+        let ys : List Bool = take (w - 8 * i) (bits_of byte) in
+        let row : c ≡ with_row b y (map f xs) = so_far ∙ ap (λ ps. with_row b y (map f ps)) all_before in
+        let more : with_pixels (with_pixels b y 0 (map f xs)) y (0 + length (map f xs)) (map f ys) ≡ with_pixels b y 0 (map f xs ++ map f ys)
+        = with_pixels-append b y 0 (map f xs) (map f ys) in
+        let n : 0 + length (map f xs) ≡ 8 * i = omega (arith, length-map xs f, length_before) in
+        let at : with_pixels (with_pixels b y 0 (map f xs)) y (8 * i) (map f ys) ≡ with_pixels b y 0 (map f xs ++ map f ys)
+        = subst (λ m. with_pixels (with_pixels b y 0 (map f xs)) y m (map f ys) ≡ with_pixels b y 0 (map f xs ++ map f ys)) n more in
+        let whole : map f xs ++ map f ys ≡ map f (take w (unpacked (take (i + 1) bytes)))
+        = sym (map-append f xs ys) ∙ ap (map f) (sym (row_more is)) in
+        placed ∙ ap (λ c. with_pixels c y (8 * i) (map f ys)) row ∙ at ∙ ap (with_row b y) whole
 
-  -- a byte of white pixels needs no painting on a white row
-  pub byte_left : (b c : Image) (y : ℕ) → byte ≡ get_or bytes i 0 → byte ≡ 0 → ((u : ℕ) → b u y ≡ false) →
-      c ≡ with_row b y (take w (unpacked (take i bytes))) →
-      c ≡ with_row b y (take w (unpacked (take (i + 1) bytes)))
-  byte_left b c y is zero_byte white so_far =
-      let xs : List Bool = unpacked (take i bytes) in
-      let row : c ≡ with_row b y xs = so_far ∙ ap (with_row b y) all_before in
-      let white_here : (u : ℕ) → 8 * i ≤ u → c u y ≡ false
-      = λ u h. ap (λ (c : Image). c u y) row ∙ with_pixels-other b y 0 u y xs (λ _ _ below. omega (arith, length_before)) ∙ white u in
-      let bits : AllWhite (bits_of byte) = rw zero_byte (refl, (refl, (refl, (refl, (refl, (refl, (refl, (refl, tt)))))))) in
-      byte_placed b c c y is so_far
-      (sym (with_pixels-white c y (8 * i) (take (w - 8 * i) (bits_of byte)) (take_white (w - 8 * i) (bits_of byte) bits) white_here))
+    -- a byte of white pixels needs no painting on a white row
+    pub byte_left : (b c : Image) (y : ℕ) → byte ≡ get_or bytes i 0 → AllWhite f (bits_of byte) → ((u : ℕ) → b u y ≡ false) →
+        c ≡ with_row b y (map f (take w (unpacked (take i bytes)))) →
+        c ≡ with_row b y (map f (take w (unpacked (take (i + 1) bytes))))
+    byte_left b c y is bits white so_far =
+        let xs : List Bool = unpacked (take i bytes) in
+        let row : c ≡ with_row b y (map f xs) = so_far ∙ ap (λ ps. with_row b y (map f ps)) all_before in
+        let white_here : (u : ℕ) → 8 * i ≤ u → c u y ≡ false
+        = λ u h. ap (λ (c : Image). c u y) row ∙ with_pixels-other b y 0 u y (map f xs) (λ _ _ below. omega (arith, length-map xs f, length_before)) ∙ white u in
+        byte_placed b c c y is so_far
+        (sym (with_pixels-white f c y (8 * i) (take (w - 8 * i) (bits_of byte)) (take_white f (w - 8 * i) (bits_of byte) bits) white_here))
 
 -- the next row below
 pub row_painted : (c d : Image) (y below : ℕ) (r : List Bool) → y ≡ suc below → d ≡ with_row c below r → (rs : List (List Bool)) →

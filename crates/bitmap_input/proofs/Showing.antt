@@ -3,7 +3,7 @@ use Rattle.std.proofs.Common.{◌≡◌, refl, ℕ, zero, suc, ◌-◌, ◌≤�
 use Rattle.std.specs.Prelude.{nat_lt}
 use Rattle.std.proofs.Math.Path.{fun_ext}
 use Rattle.std.proofs.Math.ListN.{get_or-map}
-use Rattle.std.proofs.lemmas.List.{get_or_past}
+use Rattle.std.proofs.lemmas.List.{get_or_past, length-map}
 use Rattle.std.proofs.lemmas.Bool.{lt-ltb, le-ltb, cases_lt}
 use Rattle.pt_base.specs.Files.{Files}
 use Rattle.bit_image.specs.Image.{Image, IsWhite}
@@ -12,8 +12,7 @@ use Rattle.bitmap_input.specs.declared.stop.Stop.{Stop}
 use Rattle.bitmap_input.specs.Cut.{Cut, after, ◌>>=◌}
 use Rattle.bitmap_input.specs.Cut.Cut.{Takes, Stops}
 use Rattle.bitmap_input.specs.Parts.{times}
-use Rattle.bitmap_input.specs.Raw.{bits_page, black, picture_of, shown}
-use Rattle.bitmap_input.specs.Raw.Entry.{Bit}
+use Rattle.bitmap_input.specs.Raw.{Entry, entries_page, black, picture_of, shown}
 use Rattle.bitmap_input.specs.Raster.{with_row, with_rows}
 use Rattle.bitmap_input.specs.Reading.{Held, Reads}
 use Rattle.bitmap_input.proofs.Placing.{with_pixels-at, with_pixels-other}
@@ -49,30 +48,36 @@ rows_at b (suc y) u v (r ∷ rs) white len within = elim (cases_lt v y) [
       rw n (rows_above (with_row b y r) y u v rs h ∙ ap (with_row b y r u) e ∙ row_at b y u r (white u y (omega arith)))
 ]
 
-black-bits : (row : List Bool) → map black (map (λ b. Bit b) row) ≡ row
-black-bits [] = refl
-black-bits (p ∷ ps) = ap (λ qs. p ∷ qs) (black-bits ps)
+module _ {A : Type 0} (level : ℕ) (invert : Bool) (entry : A → Entry) (f : A → Bool) (is : (a : A) → black level invert (entry a) ≡ f a) where
+  -- the pixels of a row of values that each stand for an entry
+  black-entries : (row : List A) → map (black level invert) (map entry row) ≡ map f row
+  black-entries [] = refl
+  black-entries (a ∷ row) = ap (λ p. p ∷ map (black level invert) (map entry row)) (is a) ∙ ap (λ ps. f a ∷ ps) (black-entries row)
 
-picture_at : (b : Image) (w h u v : ℕ) (rows : List (List Bool)) → IsWhite b → length rows ≡ h →
-    with_rows b h rows u v ≡ picture_of (bits_page w h rows) u v
-picture_at b w h u v rows white len = elim (cases_lt v h) [
-  | inl within ↦
-      let test : nat_lt v h ≡ true = lt-ltb v h within in
-      let row : get_or (map (map (λ b. Bit b)) rows) (h - suc v) [] ≡ map (λ b. Bit b) (get_or rows (h - suc v) [])
-      = get_or-map (map (λ b. Bit b)) rows (h - suc v) [] in
-      rw (test, row, black-bits) (rows_at b h u v rows (λ u v _. white u v) len within)
-  | inr above ↦
-      let test : nat_lt v h ≡ false = le-ltb v h above in
-      rw test (rows_above b h u v rows above ∙ white u v)
-]
+  picture_at : (b : Image) (w h u v : ℕ) (rows : List (List A)) → IsWhite b → length rows ≡ h →
+      with_rows b h (map (map f) rows) u v ≡ picture_of level invert (entries_page entry w h rows) u v
+  picture_at b w h u v rows white len = elim (cases_lt v h) [
+    | inl within ↦
+        let test : nat_lt v h ≡ true = lt-ltb v h within in
+        let entries : get_or (map (map entry) rows) (h - suc v) [] ≡ map entry (get_or rows (h - suc v) [])
+        = get_or-map (map entry) rows (h - suc v) [] in
+        let row : get_or (map (map f) rows) (h - suc v) [] ≡ map f (get_or rows (h - suc v) [])
+        = get_or-map (map f) rows (h - suc v) [] in
+        let many : length (map (map f) rows) ≡ h = length-map rows (map f) ∙ len in
+        rw (test, entries, black-entries) (rows_at b h u v (map (map f) rows) (λ u v _. white u v) many within ∙ ap (λ (r : List Bool). get_or r u false) row)
+    | inr above ↦
+        let test : nat_lt v h ≡ false = le-ltb v h above in
+        rw test (rows_above b h u v (map (map f) rows) above ∙ white u v)
+  ]
 
--- the page that was painted
-pub shown_rows : (p : Pixels) (b : Image) (w h : ℕ) (rows : List (List Bool)) → p ≡ page_of p.width p.height (image_of p) →
-    p.width ≡ w → p.height ≡ h → IsWhite b → length rows ≡ h → image_of p ≡ with_rows b h rows → p ≡ shown (bits_page w h rows)
-shown_rows p b w h rows whole width height white len painted =
-    let image : image_of p ≡ picture_of (bits_page w h rows)
-    = painted ∙ fun_ext (λ u. fun_ext (λ v. picture_at b w h u v rows white len)) in
-    whole ∙ ap (λ w. page_of w p.height (image_of p)) width ∙ ap (λ h. page_of w h (image_of p)) height ∙ ap (page_of w h) image
+  -- the page that was painted
+  pub shown_rows : (p : Pixels) (b : Image) (w h : ℕ) (rows : List (List A)) → p ≡ page_of p.width p.height (image_of p) →
+      p.width ≡ w → p.height ≡ h → IsWhite b → length rows ≡ h → image_of p ≡ with_rows b h (map (map f) rows) →
+      p ≡ shown level invert (entries_page entry w h rows)
+  shown_rows p b w h rows whole width height white len painted =
+      let image : image_of p ≡ picture_of level invert (entries_page entry w h rows)
+      = painted ∙ fun_ext (λ u. fun_ext (λ v. picture_at b w h u v rows white len)) in
+      whole ∙ ap (λ w. page_of w p.height (image_of p)) width ∙ ap (λ h. page_of w h (image_of p)) height ∙ ap (page_of w h) image
 
 -- A part that is read so many times has so many values.
 

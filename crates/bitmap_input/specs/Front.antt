@@ -8,7 +8,8 @@ use Rattle.bitmap_input.specs.Cut.Cut.{Takes, Stops}
 use Rattle.bitmap_input.specs.Parts.{is_zero, spaces, gap, number_behind_gap, space, pixel, block, times}
 pub use Rattle.bitmap_input.specs.Sides.{longest_side, checked}
 use Rattle.bitmap_input.specs.Bmp.{bmp}
-use Rattle.bitmap_input.specs.Raw.{Raw, bits_page, gray_page, row_bytes, unpacked, samples}
+use Rattle.bitmap_input.specs.Raw.{Raw, Entry, entries_page, row_bytes, unpacked, samples}
+use Rattle.bitmap_input.specs.Raw.Entry.{Bit, Sample}
 
 -- the known formats: plain and raw PBM, plain and raw PGM, and BMP
 pub data Magic : Type 0 where
@@ -92,20 +93,22 @@ abbrev pub raw_gray_row : ℕ → ℕ → List ℕ → Cut (List ℕ)
 raw_gray_row white width bytes =
     block (gray_row_bytes white width) bytes >>= λ row rest. Takes false (samples (is_wide white) row) rest
 
+-- so many rows of values that each stand for an entry, as a page of these sides
+abbrev pub raster : {A : Type 0} → (A → Entry) → (List ℕ → Cut (List A)) → ℕ → ℕ → List ℕ → Cut Raw
+raster entry row width height bytes =
+    times row height bytes >>= λ rows rest. Takes false (entries_page entry width height rows) rest
+
 -- what follows the magic, to the end of the page
 abbrev pub body : Magic → List ℕ → Cut Raw
-body PlainBits bytes =
-    sides bytes >>= λ s rest. times (times plain_pixel s.0) s.1 rest >>= λ rows rest.
-    Takes false (bits_page s.0 s.1 rows) rest
+body PlainBits bytes = sides bytes >>= λ s rest. raster (λ b. Bit b) (times plain_pixel s.0) s.0 s.1 rest
 body RawBits bytes =
-    sides bytes >>= λ s rest. space rest >>= λ _ rest. times (raw_row s.0) s.1 rest >>= λ rows rest.
-    Takes false (bits_page s.0 s.1 rows) rest
+    sides bytes >>= λ s rest. space rest >>= λ _ rest. raster (λ b. Bit b) (raw_row s.0) s.0 s.1 rest
 body PlainGray bytes =
-    sides bytes >>= λ s rest. maxval rest >>= λ white rest. times (times plain_sample s.0) s.1 rest >>= λ rows rest.
-    Takes false (gray_page white s.0 s.1 rows) rest
+    sides bytes >>= λ s rest. maxval rest >>= λ white rest.
+    raster (λ v. Sample v white) (times plain_sample s.0) s.0 s.1 rest
 body RawGray bytes =
     sides bytes >>= λ s rest. maxval rest >>= λ white rest. space rest >>= λ _ rest.
-    times (raw_gray_row white s.0) s.1 rest >>= λ rows rest. Takes false (gray_page white s.0 s.1 rows) rest
+    raster (λ v. Sample v white) (raw_gray_row white s.0) s.0 s.1 rest
 body Picture bytes = bmp bytes
 
 -- the page that stands at the front of the bytes, with whitespace before its magic or not

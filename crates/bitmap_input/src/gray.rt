@@ -30,7 +30,8 @@ impl Shading {
     // Whether a sample is a black pixel.
     fn black(&self, sample: u32) -> bool
         requires { IsInRange self.now }
-        ensures { result ≡ black_of self.now sample }
+        ensures value { result ≡ black_of self.now sample }
+        ensures most_level { self.now.level ≤ 1000000 }
     {
         self.level.gray(sample, self.white) != self.invert
     }
@@ -91,12 +92,19 @@ pub(crate) fn read_plain_gray_rows<I: Inputs>(
     Ok(())
 }
 
+// Whether each sample is two bytes.
+fn is_wide(white: u32) -> bool
+    ensures { result ≡ is_wide white }
+{
+    white > 255
+}
+
 /// The bytes of a row of samples.
 pub(crate) fn row_bytes(width: u32, white: u32) -> usize
     requires { width ≤ 16384 }
     ensures { result ≡ gray_row_bytes white width }
 {
-    if white > 255 {
+    if is_wide(white) {
         2 * width as usize
     } else {
         width as usize
@@ -123,7 +131,7 @@ fn place_row(page: &mut Bitmap, y: u32, row: &[u8], shading: &Shading)
     ensures sides { SameSides page.old page.new }
     ensures pixels { image_of page.new ≡ with_row (image_of page.old) y (map (black_of shading.now) (samples (is_wide shading.now.white) row.now)) }
 {
-    let wide = shading.white > 255;
+    let wide = is_wide(shading.white);
     for x in 0..page.width() {
         page.set(x, y, shading.black(sample_at(row, wide, x as usize)));
     }

@@ -1,5 +1,5 @@
 //! Raw rasters of bits: rows of whole bytes.
-ghost use Rattle.std.specs.Prelude.{◌≡◌, ℕ, ◌-◌, ◌<◌, ◌≤◌, true, false, length, take, map};
+ghost use Rattle.std.specs.Prelude.{◌≡◌, ℕ, ◌-◌, ◌<◌, ◌≤◌, true, false, length, take, map, if◌then◌else◌};
 ghost use Rattle.bit_image.specs.Image.{IsWhite, differ};
 ghost use Rattle.bit_image.specs.Page.{Page, SameSides, image_of};
 ghost use Rattle.bitmap_input.specs.Reading.{Reads, Counts};
@@ -70,6 +70,13 @@ fn place_byte(page: &mut Bitmap, x: u32, y: u32, byte: u8, invert: bool)
     }
 }
 
+// The byte of eight pixels that come out white, and need no painting.
+fn blank(invert: bool) -> u8
+    ensures { result ≡ (if invert then 255 else 0) }
+{
+    if invert { 255 } else { 0 }
+}
+
 // Paints a row of bytes on a row that is white, inverted or not.
 fn place_row(page: &mut Bitmap, y: u32, bytes: &[u8], invert: bool)
     requires row { y < page.old.height }
@@ -80,8 +87,7 @@ fn place_row(page: &mut Bitmap, y: u32, bytes: &[u8], invert: bool)
 {
     // The width is looked at, so that the proof sees that a column fits its type.
     let _width = page.width();
-    // Eight pixels that come out white need no painting.
-    let blank = if invert { 255 } else { 0 };
+    let blank = blank(invert);
     for (i, byte) in bytes.iter().enumerate() {
         if *byte != blank {
             place_byte(page, 8 * i as u32, y, *byte, invert);

@@ -1,7 +1,9 @@
 use Rattle.std.proofs.lemmas.Result.{err_from_is_err_and}
 use Rattle.bitmap_input.specs.Cut.{◌>>=◌}
-use Rattle.bitmap_input.specs.Front.{side, checked}
-use Rattle.bitmap_input.proofs.Appending.{side_stays}
+use Rattle.bitmap_input.specs.Front.{checked}
+use Rattle.bitmap_input.specs.Cut.Kind.{BadHeader}
+use Rattle.bitmap_input.specs.Parts.{number_behind_gap}
+use Rattle.bitmap_input.proofs.Appending.{number_behind_gap_stays}
 use Rattle.bitmap_input.proofs.Telling.{reads_on, reads_stop}
 use Rattle.bitmap_input.proofs.Headers.{reads_checked}
 use Rattle.bitmap_input.proofs.header.read_sides.Goals as goal
@@ -9,16 +11,16 @@ use Rattle.bitmap_input.proofs.header.read_sides.Goals as goal
 pub returns-in_err-width-clause-reads : goal.returns-in_err-width-clause-reads
 returns-in_err-width-clause-reads g c =
     let p = err_from_is_err_and c.from_residual.result c.from_residual.ensures.1 in
-    rw (p.1, p.2) (reads_stop (λ width rest. side rest >>= λ height rest. checked width height rest) c.in_err-width.ensures.reads)
+    rw (p.1, p.2) (reads_stop (λ width rest. number_behind_gap BadHeader rest >>= λ height rest. checked width height rest) c.in_err-width.ensures.reads)
 
 pub returns-in_err-height-clause-reads : goal.returns-in_err-height-clause-reads
 returns-in_err-height-clause-reads g c =
     let p = err_from_is_err_and c.from_residual-in_err-height.result c.from_residual-in_err-height.ensures.1 in
-    rw (p.1, p.2) (reads_on side_stays c.in_ok-width.ensures.reads
+    rw (p.1, p.2) (reads_on (number_behind_gap_stays BadHeader) c.in_ok-width.ensures.reads
     (λ width _. reads_stop (λ height rest. checked width height rest) c.in_err-height.ensures.reads))
 
 pub returns-clause-reads : goal.returns-clause-reads
 returns-clause-reads g c =
-    reads_on side_stays c.in_ok-width.ensures.reads
-    (λ width is_width. reads_on side_stays c.in_ok-height.ensures.reads
+    reads_on (number_behind_gap_stays BadHeader) c.in_ok-width.ensures.reads
+    (λ width is_width. reads_on (number_behind_gap_stays BadHeader) c.in_ok-height.ensures.reads
     (λ height is_height. reads_checked width height is_width is_height c.check.ensures.checks))

@@ -1,9 +1,10 @@
-use Rattle.std.proofs.Common.{◌≡◌, ◌-◌, ◌+◌, suc, arith, rules, refl}
+use Rattle.std.proofs.Common.{◌≡◌, ◌-◌, ◌+◌, suc, arith, rules, refl, map, ap, sym, ◌∙◌}
 use Rattle.std.proofs.lemmas.Result.{err_from_is_err_and}
+use Rattle.bit_image.specs.Image.{differ}
 use Rattle.bit_image.specs.Page.{image_of}
 use Rattle.bitmap_input.specs.Raster.{with_pixels}
 use Rattle.bitmap_input.proofs.Appending.{plain_pixel_stays}
-use Rattle.bitmap_input.proofs.Painting.{painting_goes_on, painting_stops, painting_ends, pixel_painted}
+use Rattle.bitmap_input.proofs.Painting.{painting_goes_on, painting_stops, painting_ends, pixel_painted, turned}
 use Rattle.bitmap_input.proofs.plain.read_plain_row.Goals as goal
 
 pub returns-in_err-black-clause-reads : goal.returns-in_err-black-clause-reads
@@ -16,9 +17,10 @@ pub loop-x-preserved : goal.loop-x-preserved
 loop-x-preserved g c =
     let one : c.args.page.now.width - c.loop-x.x ≡ suc (c.args.page.now.width - (c.loop-x.x + 1)) = omega arith in
     record {
-      so_far = painting_goes_on (with_pixels (image_of c.set.new.self) c.args.y (c.loop-x.x + 1)) plain_pixel_stays
+      so_far = painting_goes_on (λ pixels. with_pixels (image_of c.set.new.self) c.args.y (c.loop-x.x + 1) (map (differ c.args.invert) pixels)) plain_pixel_stays
           c.loop-x.invariant.so_far one c.in_ok-black.ensures.reads
-          (λ a same. pixel_painted (image_of c.loop-x.page) (image_of c.set.new.self) c.loop-x.x c.args.y c.in_ok-black.black a c.set.ensures.pixels same);
+          (λ a same. pixel_painted (differ c.args.invert) (image_of c.loop-x.page) (image_of c.set.new.self) c.loop-x.x c.args.y _ a c.set.ensures.pixels
+          (ap (differ c.args.invert) same ∙ sym (turned c.args.invert c.in_ok-black.black)));
       sides = search rules;
       end = search rules;
       steady = search rules;

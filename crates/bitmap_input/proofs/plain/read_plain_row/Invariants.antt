@@ -1,4 +1,5 @@
-use Rattle.std.proofs.Common.{◌-◌, ◌≡◌, true}
+use Rattle.std.proofs.Common.{◌-◌, ◌≡◌, true, map}
+use Rattle.bit_image.specs.Image.{differ}
 use Rattle.bit_image.specs.Page.{SameSides, image_of}
 use Rattle.bitmap_input.specs.Front.{plain_pixel}
 use Rattle.bitmap_input.specs.Raster.{with_pixels, IsPaintedSoFar}
@@ -8,8 +9,8 @@ abbrev pub invariant-loop-x : goal.invariant-loop-x
 invariant-loop-x g l =
     let source = g.I.Inputs in
     record {
-      so_far : IsPaintedSoFar plain_pixel l.fn.window (source.files l.fn.inputs) (with_pixels (image_of l.fn.page) l.y 0) l.fn.page.width
-          l.window (source.files l.inputs) (with_pixels (image_of l.page) l.y l.x) (l.fn.page.width - l.x);
+      so_far : IsPaintedSoFar plain_pixel l.fn.window (source.files l.fn.inputs) (λ pixels. with_pixels (image_of l.fn.page) l.y 0 (map (differ l.invert) pixels)) l.fn.page.width
+          l.window (source.files l.inputs) (λ pixels. with_pixels (image_of l.page) l.y l.x (map (differ l.invert) pixels)) (l.fn.page.width - l.x);
       sides : SameSides l.fn.page l.page;
       end : l.x-end ≡ l.fn.page.width;
       steady : source.faults l.inputs ≡ source.faults l.fn.inputs;

@@ -1,5 +1,6 @@
-use Rattle.std.proofs.Common.{arith, rules, refl, ◌≡◌, ◌-◌, suc}
+use Rattle.std.proofs.Common.{arith, rules, refl, ◌≡◌, ◌-◌, suc, map}
 use Rattle.std.proofs.lemmas.Result.{err_from_is_err_and}
+use Rattle.bit_image.specs.Image.{differ}
 use Rattle.bit_image.specs.Page.{image_of}
 use Rattle.bitmap_input.specs.Front.{plain_pixel}
 use Rattle.bitmap_input.specs.Raster.{with_rows}
@@ -14,9 +15,10 @@ loop-y-preserved g c =
     let one : c.loop-y.y ≡ suc (c.loop-y.y - 1) = omega arith in
     let row = rw c.loop-y.invariant.sides.width at c.in_ok-read_plain_row.ensures.reads in
     record {
-      so_far = painting_goes_on (with_rows (image_of c.read_plain_row.new.page) (c.loop-y.y - 1)) (times_stay plain_pixel plain_pixel_stays c.args.page.now.width)
+      so_far = painting_goes_on (λ rows. with_rows (image_of c.read_plain_row.new.page) (c.loop-y.y - 1) (map (map (differ c.args.invert)) rows)) (times_stay plain_pixel plain_pixel_stays c.args.page.now.width)
           c.loop-y.invariant.so_far one row
-          (λ a painted. row_painted (image_of c.loop-y.page) (image_of c.read_plain_row.new.page) c.loop-y.y (c.loop-y.y - 1) a one painted);
+          (λ a painted rows. row_painted (image_of c.loop-y.page) (image_of c.read_plain_row.new.page) c.loop-y.y (c.loop-y.y - 1) (map (differ c.args.invert) a) one painted
+          (map (map (differ c.args.invert)) rows));
       sides = search rules;
       within = omega arith;
       steady = search rules;

@@ -1,5 +1,6 @@
-use Rattle.std.proofs.Common.{sym, false, arith, rules, refl, ap, ◌∙◌, ◌≡◌, ◌-◌, suc, take}
+use Rattle.std.proofs.Common.{sym, false, arith, rules, refl, ap, ◌∙◌, ◌≡◌, ◌-◌, suc, take, map, Bool, List}
 use Rattle.std.proofs.lemmas.Result.{err_from_is_err_and}
+use Rattle.bit_image.specs.Image.{differ}
 use Rattle.bit_image.specs.Page.{image_of}
 use Rattle.bitmap_input.specs.Cut.Cut.{Takes}
 use Rattle.bitmap_input.specs.Raw.{unpacked}
@@ -14,16 +15,17 @@ pub loop-y-preserved : goal.loop-y-preserved
 unfolding image_of
 loop-y-preserved g c =
     let one : c.loop-y.y ≡ suc (c.loop-y.y - 1) = omega arith in
+    let turn : List Bool → List Bool = map (differ c.args.invert) in
     let row = rw c.loop-y.invariant.row at c.in_ok-read_block.ensures.reads in
     let pixels = rw c.loop-y.invariant.sides.width at c.place_row.ensures.pixels in
     record {
-      so_far = painting_goes_on (with_rows (image_of c.place_row.new.page) (c.loop-y.y - 1)) (raw_row_stays c.args.page.now.width)
-          c.loop-y.invariant.so_far one (reads_map {js = λ _ pixels. image_of c.place_row.new.page ≡ with_row (image_of c.loop-y.page) (c.loop-y.y - 1) pixels}
+      so_far = painting_goes_on (λ rows. with_rows (image_of c.place_row.new.page) (c.loop-y.y - 1) (map turn rows)) (raw_row_stays c.args.page.now.width)
+          c.loop-y.invariant.so_far one (reads_map {js = λ _ pixels. image_of c.place_row.new.page ≡ with_row (image_of c.loop-y.page) (c.loop-y.y - 1) (turn pixels)}
           (λ bytes. take c.args.page.now.width (unpacked bytes))
-          (λ _ bytes same. pixels ∙ ap (λ bytes. with_row (image_of c.loop-y.page) (c.loop-y.y - 1) (take c.args.page.now.width (unpacked bytes))) (sym same)) row)
-          (λ a painted. row_painted (image_of c.loop-y.page) (image_of c.place_row.new.page) c.loop-y.y (c.loop-y.y - 1) a one painted);
+          (λ _ bytes same. pixels ∙ ap (λ bytes. with_row (image_of c.loop-y.page) (c.loop-y.y - 1) (turn (take c.args.page.now.width (unpacked bytes)))) (sym same)) row)
+          (λ a painted rows. row_painted (image_of c.loop-y.page) (image_of c.place_row.new.page) c.loop-y.y (c.loop-y.y - 1) (turn a) one painted (map turn rows));
       sides = search rules;
-      white = λ u v below. white_below (image_of c.loop-y.page) (image_of c.place_row.new.page) (c.loop-y.y - 1) v u (take c.loop-y.page.width (unpacked c.read_block.new.row)) c.place_row.ensures.pixels below (c.loop-y.invariant.white u v (omega arith));
+      white = λ u v below. white_below (image_of c.loop-y.page) (image_of c.place_row.new.page) (c.loop-y.y - 1) v u (turn (take c.loop-y.page.width (unpacked c.read_block.new.row))) c.place_row.ensures.pixels below (c.loop-y.invariant.white u v (omega arith));
       row = search rules;
       within = omega arith;
       steady = search rules;

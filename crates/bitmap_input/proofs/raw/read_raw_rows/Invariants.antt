@@ -1,4 +1,5 @@
-use Rattle.std.proofs.Common.{◌≡◌, ℕ, ◌<◌, ◌≤◌, true, false, length}
+use Rattle.std.proofs.Common.{◌≡◌, ℕ, ◌<◌, ◌≤◌, true, false, length, map}
+use Rattle.bit_image.specs.Image.{differ}
 use Rattle.bit_image.specs.Page.{SameSides, image_of}
 use Rattle.bitmap_input.specs.Raw.{row_bytes}
 use Rattle.bitmap_input.specs.Front.{raw_row}
@@ -9,8 +10,8 @@ abbrev pub invariant-loop-y : goal.invariant-loop-y
 invariant-loop-y g l =
     let source = g.I.Inputs in
     record {
-      so_far : IsPaintedSoFar (raw_row l.fn.page.width) l.fn.window (source.files l.fn.inputs) (with_rows (image_of l.fn.page) l.fn.page.height) l.fn.page.height
-          l.window (source.files l.inputs) (with_rows (image_of l.page) l.y) l.y;
+      so_far : IsPaintedSoFar (raw_row l.fn.page.width) l.fn.window (source.files l.fn.inputs) (λ rows. with_rows (image_of l.fn.page) l.fn.page.height (map (map (differ l.invert)) rows)) l.fn.page.height
+          l.window (source.files l.inputs) (λ rows. with_rows (image_of l.page) l.y (map (map (differ l.invert)) rows)) l.y;
       sides : SameSides l.fn.page l.page;
       white : (u v : ℕ) → v < l.y → image_of l.page u v ≡ false;
       row : length l.row ≡ row_bytes l.fn.page.width;

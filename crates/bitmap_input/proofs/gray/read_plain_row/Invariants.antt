@@ -1,0 +1,19 @@
+use Rattle.std.proofs.Common.{◌-◌, ◌≡◌, true, map}
+use Rattle.bitmap_input.specs.Shading.{black_of}
+use Rattle.bit_image.specs.Page.{SameSides, image_of}
+use Rattle.bitmap_input.specs.Front.{plain_sample}
+use Rattle.bitmap_input.specs.Raster.{with_pixels, IsPaintedSoFar}
+use Rattle.bitmap_input.proofs.gray.read_plain_row.Given as goal
+
+abbrev pub invariant-loop-x : goal.invariant-loop-x
+invariant-loop-x g l =
+    let source = g.I.Inputs in
+    record {
+      so_far : IsPaintedSoFar plain_sample l.fn.window (source.files l.fn.inputs) (λ row. with_pixels (image_of l.fn.page) l.y 0 (map (black_of l.shading) row)) l.fn.page.width
+          l.window (source.files l.inputs) (λ row. with_pixels (image_of l.page) l.y l.x (map (black_of l.shading) row)) (l.fn.page.width - l.x);
+      sides : SameSides l.fn.page l.page;
+      end : l.x-end ≡ l.fn.page.width;
+      steady : source.faults l.inputs ≡ source.faults l.fn.inputs;
+      opened : source.is_opened l.inputs ≡ true;
+      openings : source.openings l.inputs ≡ source.openings l.fn.inputs;
+    }

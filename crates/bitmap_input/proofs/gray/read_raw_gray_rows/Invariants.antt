@@ -1,0 +1,23 @@
+use Rattle.std.proofs.Common.{◌≡◌, ℕ, ◌<◌, ◌≤◌, true, false, length, map}
+use Rattle.bitmap_input.specs.Shading.{black_of}
+use Rattle.bit_image.specs.Page.{SameSides, image_of}
+use Rattle.bitmap_input.specs.Front.{gray_row_bytes, raw_gray_row}
+use Rattle.bitmap_input.specs.Raster.{with_rows, IsPaintedSoFar}
+use Rattle.bitmap_input.proofs.gray.read_raw_gray_rows.Given as goal
+
+abbrev pub invariant-loop-y : goal.invariant-loop-y
+invariant-loop-y g l =
+    let source = g.I.Inputs in
+    record {
+      so_far : IsPaintedSoFar (raw_gray_row l.shading.white l.fn.page.width) l.fn.window (source.files l.fn.inputs) (λ rows. with_rows (image_of l.fn.page) l.fn.page.height (map (map (black_of l.shading)) rows)) l.fn.page.height
+          l.window (source.files l.inputs) (λ rows. with_rows (image_of l.page) l.y (map (map (black_of l.shading)) rows)) l.y;
+      sides : SameSides l.fn.page l.page;
+      row : length l.row ≡ gray_row_bytes l.shading.white l.fn.page.width;
+      within : l.y ≤ l.fn.page.height;
+      steady : source.faults l.inputs ≡ source.faults l.fn.inputs;
+      opened : source.is_opened l.inputs ≡ true;
+      openings : source.openings l.inputs ≡ source.openings l.fn.inputs;
+    }
+
+abbrev pub decreases-loop-y : goal.decreases-loop-y
+decreases-loop-y g l = l.y

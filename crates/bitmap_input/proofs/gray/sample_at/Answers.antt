@@ -1,0 +1,27 @@
+use Rattle.std.proofs.Common.{sym, ap, ◌∙◌, arith, ◌≡◌, ◌<◌, ◌+◌, ◌*◌, true, length, get_or}
+use Rattle.bitmap_input.specs.Raw.{samples}
+use Rattle.bitmap_input.proofs.Graying.{wide_within, wide_sample}
+use Rattle.bitmap_input.proofs.gray.sample_at.Goals as goal
+
+pub overflow_mul-result : goal.overflow_mul-result
+overflow_mul-result c =
+    let within = wide_within c.args.x c.args.row.now (rw c.if-wide.true at c.requires) in omega (arith, within, c.type_inv.row)
+
+pub bounds-row-x : goal.bounds-row-x
+bounds-row-x c =
+    let within = wide_within c.args.x c.args.row.now (rw c.if-wide.true at c.requires) in omega (arith, within)
+
+pub overflow_mul-result-then-wide-2 : goal.overflow_mul-result-then-wide-2
+overflow_mul-result-then-wide-2 c =
+    let within = wide_within c.args.x c.args.row.now (rw c.if-wide.true at c.requires) in omega (arith, within, c.type_inv.row)
+
+pub overflow_add-result : goal.overflow_add-result
+overflow_add-result c =
+    let within = wide_within c.args.x c.args.row.now (rw c.if-wide.true at c.requires) in omega (arith, within, c.type_inv.row)
+
+pub bounds-row-x-then-wide : goal.bounds-row-x-then-wide
+bounds-row-x-then-wide c = wide_within c.args.x c.args.row.now (rw c.if-wide.true at c.requires)
+
+pub returns-then-wide : goal.returns-then-wide
+returns-then-wide c =
+    rw c.if-wide.true (sym (wide_sample c.args.x c.args.row.now (rw c.if-wide.true at c.requires)))
