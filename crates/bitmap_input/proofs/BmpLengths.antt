@@ -160,7 +160,7 @@ masked_size false head test is long masked =
     omega (arith, is.reach, room)
 
 masked_at : (t : Bool) (head : List ℕ) → IsWhole head → is_short head ≡ t → has_masks head ≡ true → 64 ≤ length head
-masked_at true head is test masked = let plain : has_masks head ≡ false = rw test refl in absurd (both_ways (has_masks head) masked plain)
+masked_at true head is test masked = let plain : has_masks head ≡ false = rw test refl in absurd (both_ways (has_masks head) plain masked)
 masked_at false head is test masked = masked_size (nat_eq (header_size head) 40) head refl is test masked
 
 -- the fields stay with the masks

@@ -32,5 +32,5 @@ pub returns-clause-reads : goal.returns-clause-reads
 returns-clause-reads g c =
     reads_on start_stays c.in_ok-read_start.ensures.reads
     (λ head is. rw is (reads_on (info_stays c.read_start.new.head) c.in_ok-depth.ensures.reads
-    (λ head2 is2. rw is2 (reads_on (masks_stay c.read_info-depth.new.head) c.in_ok-read_masks.ensures.reads
+    (λ head2 is2. rw is2 (reads_on (masks_stay c.read_info.new.head) c.in_ok-read_masks.ensures.reads
     (λ head3 is3. rw is3 (reads_passes c.describe.ensures.passes))))))
