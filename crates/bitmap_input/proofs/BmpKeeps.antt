@@ -11,8 +11,8 @@ use Rattle.bitmap_input.specs.Cut.Cut.{Takes, Stops}
 use Rattle.bitmap_input.specs.Parts.{block, times}
 use Rattle.bitmap_input.specs.Sides.{checked}
 use Rattle.bitmap_input.specs.Raw.{Raw, Entry}
-use Rattle.bitmap_input.specs.BmpHeader.{byte_at, two_at, four_at, header_size, is_short, compression, has_masks, is_known_size, is_known_kind, mask_bytes, has_known_colors, width, height, pixel_offset, palette_bytes, palette_end, row_length, rows_end}
-use Rattle.bitmap_input.specs.BmpRaster.{pixel_in, row_of, picture, raster}
+use Rattle.bitmap_input.specs.BmpHeader.{byte_at, two_at, four_at, header_size, is_short, compression, has_masks, is_known_size, is_known_kind, mask_bytes, has_known_colors, width, height, pixel_offset, palette_bytes, palette_end, row_length, rows_end, bits, palette_length, color_bytes}
+use Rattle.bitmap_input.specs.BmpRaster.{palette_color, pixel_in, row_of, picture, raster}
 use Rattle.bitmap_input.specs.Bmp.{passes, start, info, masks, placed, header, bmp}
 use Rattle.bitmap_input.proofs.Keeping.{Keeps, all_rest, keeps_take, keeps_stop, keeps_bind, keeps_block, keeps_times, keeps_checked}
 use Rattle.bitmap_input.proofs.Showing.{after_takes}
@@ -49,9 +49,9 @@ keeps_header bytes =
 
 keeps_row_of : (head palette bytes : List ℕ) → Keeps bytes (row_of head palette bytes)
 keeps_row_of head palette bytes =
-    keeps_bind bytes (block (row_length head) bytes) (λ row rest. Takes false (map (pixel_in head palette row) (range_with_len 0 (width head))) rest)
+    keeps_bind bytes (block (row_length head) bytes) (λ row rest. Takes false (map (pixel_in (bits head) (palette_color (palette_length head) (color_bytes head) palette) row) (range_with_len 0 (width head))) rest)
     (keeps_block (row_length head) bytes)
-    (λ row rest. keeps_take rest false (map (pixel_in head palette row) (range_with_len 0 (width head))) rest (all_rest rest))
+    (λ row rest. keeps_take rest false (map (pixel_in (bits head) (palette_color (palette_length head) (color_bytes head) palette) row) (range_with_len 0 (width head))) rest (all_rest rest))
 
 keeps_raster : (head bytes : List ℕ) → Keeps bytes (raster head bytes)
 keeps_raster head bytes =

@@ -13,8 +13,8 @@ use Rattle.bitmap_input.specs.Cut.Cut.{Takes, Stops}
 use Rattle.bitmap_input.specs.Parts.{is_zero, block, times}
 use Rattle.bitmap_input.specs.Sides.{checked, longest_side}
 use Rattle.bitmap_input.specs.Raw.{Raw, Entry}
-use Rattle.bitmap_input.specs.BmpHeader.{byte_at, two_at, four_at, header_size, is_short, bits, compression, has_masks, is_known_size, is_known_kind, mask_bytes, has_known_colors, width, height, pixel_offset, palette_bytes, palette_end, row_length, rows_end}
-use Rattle.bitmap_input.specs.BmpRaster.{pixel_in, row_of, picture, raster}
+use Rattle.bitmap_input.specs.BmpHeader.{byte_at, two_at, four_at, header_size, is_short, bits, compression, has_masks, is_known_size, is_known_kind, mask_bytes, has_known_colors, width, height, pixel_offset, palette_bytes, palette_end, row_length, rows_end, palette_length, color_bytes}
+use Rattle.bitmap_input.specs.BmpRaster.{palette_color, pixel_in, row_of, picture, raster}
 use Rattle.bitmap_input.specs.Bmp.{passes, start, info, masks, placed, header, bmp}
 use Rattle.bitmap_input.specs.BmpHead.{HasInfo, IsStart, IsInfo, IsWhole}
 use Rattle.bitmap_input.proofs.Showing.{after_takes}
@@ -242,8 +242,8 @@ sum_of_parts n a b c r r2 r3 h h2 h3 = omega arith
 cuts_row_of : (head palette bytes : List ℕ) → Cuts (λ _ rest. length bytes ≡ row_length head + length rest) (row_of head palette bytes)
 cuts_row_of head palette bytes =
     cuts_bind (IsBlock (row_length head) bytes) (λ _ rest. length bytes ≡ row_length head + length rest) (block (row_length head) bytes)
-    (λ row rest. Takes false (map (pixel_in head palette row) (range_with_len 0 (width head))) rest) (cuts_block (row_length head) bytes)
-    (λ row rest is. cuts_take (λ _ rest. length bytes ≡ row_length head + length rest) false (map (pixel_in head palette row) (range_with_len 0 (width head))) rest is.1)
+    (λ row rest. Takes false (map (pixel_in (bits head) (palette_color (palette_length head) (color_bytes head) palette) row) (range_with_len 0 (width head))) rest) (cuts_block (row_length head) bytes)
+    (λ row rest is. cuts_take (λ _ rest. length bytes ≡ row_length head + length rest) false (map (pixel_in (bits head) (palette_color (palette_length head) (color_bytes head) palette) row) (range_with_len 0 (width head))) rest is.1)
 
 pub cuts_raster : (head bytes : List ℕ) →
     Cuts (λ _ rest. length bytes ≡ palette_bytes head + (pixel_offset head - palette_end head) + height head * row_length head + length rest) (raster head bytes)

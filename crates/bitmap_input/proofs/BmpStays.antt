@@ -7,8 +7,8 @@ use Rattle.bitmap_input.specs.Cut.Kind.{BmpKind, BadOffset}
 use Rattle.bitmap_input.specs.Cut.Ending.{Refused}
 use Rattle.bitmap_input.specs.Parts.{block, times}
 use Rattle.bitmap_input.specs.Sides.{checked}
-use Rattle.bitmap_input.specs.BmpHeader.{header_size, is_known_size, is_known_kind, mask_bytes, has_known_colors, width, height, pixel_offset, palette_bytes, palette_end, row_length}
-use Rattle.bitmap_input.specs.BmpRaster.{pixel_in, row_of, picture, raster}
+use Rattle.bitmap_input.specs.BmpHeader.{header_size, is_known_size, is_known_kind, mask_bytes, has_known_colors, width, height, pixel_offset, palette_bytes, palette_end, row_length, bits, palette_length, color_bytes}
+use Rattle.bitmap_input.specs.BmpRaster.{palette_color, pixel_in, row_of, picture, raster}
 use Rattle.bitmap_input.specs.Bmp.{passes, start, info, masks, placed, header, bmp}
 use Rattle.bitmap_input.proofs.Appending.{Stays, stays_bind, stop_stays, take_stays, block_stays, times_stay, checked_stays}
 
@@ -48,7 +48,7 @@ header_stays bytes more not_end =
 pub row_of_stays : (head palette : List ℕ) → Stays (row_of head palette)
 row_of_stays head palette bytes more not_end =
     stays_bind (block (row_length head) bytes) (block (row_length head) (bytes ++ more)) _ more
-    (λ row. take_stays false (map (pixel_in head palette row) (range_with_len 0 (width head)))) (block_stays (row_length head) bytes more) not_end
+    (λ row. take_stays false (map (pixel_in (bits head) (palette_color (palette_length head) (color_bytes head) palette) row) (range_with_len 0 (width head)))) (block_stays (row_length head) bytes more) not_end
 
 pub raster_stays : (head : List ℕ) → Stays (raster head)
 raster_stays head bytes more not_end =

@@ -13,6 +13,7 @@ pub mod Painting
 pub mod Blocks
 pub mod Heads
 pub mod BmpReading
+pub mod BmpPixels
 pub mod Placing
 pub mod Graying
 pub mod Showing

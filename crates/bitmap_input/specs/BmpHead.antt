@@ -1,11 +1,14 @@
 -- The bytes of a BMP header in the program, and what it makes of them.
-use Rattle.std.specs.Prelude.{◌≡◌, ℕ, ◌+◌, ◌-◌, ◌^◌, ◌≤◌, ◌<◌, true, false, Bool, List, length, Option, Some, None, Result, Ok, Err}
+use Rattle.std.specs.Prelude.{◌≡◌, ℕ, ◌+◌, ◌-◌, ◌^◌, ◌≤◌, ◌<◌, true, false, Bool, List, length, slice_index_or, suc, ◌*◌, Option, Some, None, Result, Ok, Err}
 use Rattle.bitmap_input.specs.Cut.{Ending, Cut}
 use Rattle.bitmap_input.specs.Cut.Cut.{Takes, Stops}
 use Rattle.bitmap_input.specs.Reading.{cause_of}
 use Rattle.bitmap_input.specs.Reading.Cause.{Says}
 use Rattle.bitmap_input.specs.Sides.{longest_side}
 use Rattle.bitmap_input.specs.BmpHeader.{file_size, pixel_offset, header_size, is_short, bits, is_known_depth, width, height, is_top_down, is_known_size, is_known_kind, mask_bytes, palette_length, color_bytes, palette_end, row_length}
+use Rattle.bitmap_input.specs.Raw.{Entry, black}
+use Rattle.bitmap_input.specs.Raw.Entry.{Color}
+use Rattle.bitmap_input.specs.BmpRaster.{color_at, bit_at, half_at}
 use Rattle.bitmap_input.specs.declared.stop.Stop.{Stop}
 use Rattle.bitmap_input.specs.declared.bmp.fields.Depth.{Depth}
 use Rattle.bitmap_input.specs.declared.bmp.fields.Depth.TheVariants as depth
@@ -82,3 +85,22 @@ pub record IsReadable (h : Header) : Type 0 where
 abbrev pub Passes : {X A : Type 0} → (X → A → Type 0) → (List ℕ → Cut A) → Result X Stop → Type 0
 Passes {A = A} is part (Ok x) = (a : A) × is x a × ((bytes : List ℕ) → part bytes ≡ Takes false a bytes)
 Passes is part (Err s) = (ending : Ending) × (cause_of s ≡ Says ending) × ((bytes : List ℕ) → part bytes ≡ Stops false ending)
+
+-- a table of what colours of a palette are black, whatever their number
+abbrev pub IsTable : ℕ → Bool → (ℕ → Entry) → List Bool → Type 0
+IsTable level invert color table =
+    (i : ℕ) → slice_index_or table i (black level invert (Color 0 0 0)) ≡ black level invert (color i)
+
+-- whether the pixel in column x of a row is black, by a table of the palette
+abbrev pub shade_in : Depth → ℕ → Bool → List Bool → List ℕ → ℕ → Bool
+shade_in depth.One level invert table row x = slice_index_or table (bit_at row x) (black level invert (Color 0 0 0))
+shade_in depth.Four level invert table row x = slice_index_or table (half_at row x) (black level invert (Color 0 0 0))
+shade_in depth.Eight level invert table row x =
+    slice_index_or table (slice_index_or row x 0) (black level invert (Color 0 0 0))
+shade_in depth.TwentyFour level invert table row x = black level invert (color_at row (3 * x))
+shade_in depth.ThirtyTwo level invert table row x = black level invert (color_at row (4 * x))
+
+-- the row of the page that the picture's row of this number is: they come from the top, or from below
+abbrev pub row_place : Bool → ℕ → ℕ → ℕ
+row_place true height i = height - suc i
+row_place false height i = i

@@ -13,10 +13,10 @@ use Rattle.bitmap_input.specs.BmpHeader.{file_size, pixel_offset, bits, width, h
 abbrev pub color_at : List ℕ → ℕ → Entry
 color_at bytes at = Color (slice_index_or bytes (at + 2) 0) (slice_index_or bytes (at + 1) 0) (slice_index_or bytes at 0)
 
--- the colour of this number in a palette; there is none past the palette, where it is black
-abbrev pub palette_color : List ℕ → List ℕ → ℕ → Entry
-palette_color head palette i =
-    if nat_lt i (palette_length head) then color_at palette (color_bytes head * i) else Color 0 0 0
+-- the colour of this number in a palette of so many colours, each of so many bytes; there is none
+-- past the palette, where it is black
+abbrev pub palette_color : ℕ → ℕ → List ℕ → ℕ → Entry
+palette_color colors size palette i = if nat_lt i colors then color_at palette (size * i) else Color 0 0 0
 
 -- a bit, the most significant one of each byte first
 abbrev pub bit_at : List ℕ → ℕ → ℕ
@@ -26,19 +26,24 @@ bit_at row x = (slice_index_or row (x / 8) 0 / 2 ^ (7 - x % 8)) % 2
 abbrev pub half_at : List ℕ → ℕ → ℕ
 half_at row x = if nat_eq (x % 2) 0 then slice_index_or row (x / 2) 0 / 16 else slice_index_or row (x / 2) 0 % 16
 
--- the pixel in column x of a row of bytes; of the four bytes of 32 bits the last one doesn't count
-abbrev pub pixel_in : List ℕ → List ℕ → List ℕ → ℕ → Entry
-pixel_in head palette row x =
-    if nat_eq (bits head) 1 then palette_color head palette (bit_at row x)
-    else (if nat_eq (bits head) 4 then palette_color head palette (half_at row x)
-    else (if nat_eq (bits head) 8 then palette_color head palette (slice_index_or row x 0)
-    else (if nat_eq (bits head) 24 then color_at row (3 * x) else color_at row (4 * x))))
+-- the pixel in column x of a row of bytes, with so many bits each; of the four bytes of 32 bits the
+-- last one doesn't count
+abbrev pub pixel_in : ℕ → (ℕ → Entry) → List ℕ → ℕ → Entry
+pixel_in bits color row x =
+    if nat_eq bits 1 then color (bit_at row x)
+    else (if nat_eq bits 4 then color (half_at row x)
+    else (if nat_eq bits 8 then color (slice_index_or row x 0)
+    else (if nat_eq bits 24 then color_at row (3 * x) else color_at row (4 * x))))
 
--- the pixels of a row; what it holds past the width doesn't count
+-- the pixels of a row of n bytes; what it holds past the width doesn't count
+abbrev pub color_row : ℕ → ℕ → (ℕ → Entry) → ℕ → List ℕ → Cut (List Entry)
+color_row n bits color width bytes =
+    block n bytes >>= λ row rest. Takes false (map (pixel_in bits color row) (range_with_len 0 width)) rest
+
+-- a row of the picture
 abbrev pub row_of : List ℕ → List ℕ → List ℕ → Cut (List Entry)
 row_of head palette bytes =
-    block (row_length head) bytes >>= λ row rest.
-    Takes false (map (pixel_in head palette row) (range_with_len 0 (width head))) rest
+    color_row (row_length head) (bits head) (palette_color (palette_length head) (color_bytes head) palette) (width head) bytes
 
 -- the picture whose rows come in this order
 abbrev pub picture : List ℕ → List (List Entry) → Raw

@@ -2,3 +2,4 @@
 mod fields;
 mod head;
 mod header;
+mod pixels;
