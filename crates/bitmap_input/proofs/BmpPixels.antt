@@ -1,6 +1,9 @@
 -- The pixels of a BMP picture, read row by row and painted on the page.
 use Rattle.std.proofs.Common.{◌≡◌, refl, ℕ, zero, suc, ◌+◌, ◌-◌, ◌*◌, ◌≤◌, ◌<◌, inl, inr, Bool, true, false, List, [], ◌∷◌, length, map, reverse, get_or, arith, ap, sym, ◌∙◌}
 use Rattle.std.proofs.lemmas.Nat.{mul-le}
+use Rattle.std.proofs.Common.{add-one}
+use Rattle.bit_image.specs.Image.{Image}
+use Rattle.bitmap_input.specs.Raster.{with_row, with_placed}
 use Rattle.bitmap_input.specs.Raw.{Entry, black}
 use Rattle.bitmap_input.specs.BmpRaster.{bit_at, half_at, pixel_in}
 use Rattle.bitmap_input.specs.declared.bmp.fields.Depth.{Depth}
@@ -28,3 +31,8 @@ shade_is depth.ThirtyTwo level invert color table row is x = refl
 pub shades_are : (f : ℕ → Bool) (g : Entry → Bool) (h : ℕ → Entry) → ((x : ℕ) → f x ≡ g (h x)) → (xs : List ℕ) → map f xs ≡ map g (map h xs)
 shades_are f g h same [] = refl
 shades_are f g h same (x ∷ xs) = rw (same x, shades_are f g h same xs) refl
+
+-- the next row
+pub placed_painted : (place : ℕ → ℕ) (c d : Image) (i : ℕ) (r : List Bool) → d ≡ with_row c (place i) r → (rs : List (List Bool)) →
+    with_placed place d (i + 1) rs ≡ with_placed place c i (r ∷ rs)
+placed_painted place c d i r painted rs = rw (painted, add-one) refl

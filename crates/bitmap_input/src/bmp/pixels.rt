@@ -10,6 +10,7 @@ ghost use Rattle.bitmap_input.specs.BmpHead.{IsTable, IsReadable, bits_in, shade
 ghost use Rattle.bitmap_input.specs.Raster.{with_row, with_placed};
 
 use crate::bmp::fields::Depth;
+use crate::bmp::header::Header;
 use crate::raw::read_block;
 use crate::stop::Stop;
 use crate::window::Window;
@@ -84,4 +85,46 @@ fn place_row(page: &mut Bitmap, y: u32, depth: Depth, tone: &Tone, table: &[bool
     for x in 0..page.width() {
         page.set(x, y, shade(depth, tone, table, row, x as usize));
     }
+}
+
+// The row of the page that the picture's row of this number is: they come from the top, or from below.
+fn row_place(top_down: bool, height: u32, i: u32) -> u32
+    requires { i < height }
+    ensures value { result ≡ row_place top_down height i }
+    ensures within { result < height }
+{
+    if top_down {
+        height - (i + 1)
+    } else {
+        i
+    }
+}
+
+/// The rows of a picture, painted on the page, with room for one of them.
+pub(crate) fn read_rows<I: Inputs>(
+    window: &mut Window,
+    inputs: &mut I,
+    page: &mut Bitmap,
+    header: &Header,
+    tone: &Tone,
+    table: &[bool],
+    row: &mut [u8],
+) -> Result<(), Stop>
+    requires opened { I.is_opened inputs.old ≡ true }
+    requires table { length table.now ≡ 256 }
+    requires whole { page.old.width * bits_in header.now.depth ≤ 8 * length row.old }
+    ensures reads { (color : ℕ → Entry) → IsTable tone.now.level tone.now.invert color table.now
+        → Reads (λ _ rows. image_of page.new ≡ with_placed (row_place header.now.top_down page.old.height) (image_of page.old) 0 (map (map (black tone.now.level tone.now.invert)) rows)) (times (color_row (length row.old) (bits_in header.now.depth) color page.old.width) page.old.height) window.old (I.files inputs.old) result window.new (I.files inputs.new) }
+    ensures sides { SameSides page.old page.new }
+    ensures counts { Counts result (I.faults inputs.old) (I.faults inputs.new) }
+    ensures stays_opened { I.is_opened inputs.new ≡ true }
+    ensures same_openings { I.openings inputs.new ≡ I.openings inputs.old }
+{
+    let height = page.height();
+    for i in 0..height {
+        read_block(window, inputs, row)?;
+        let y = row_place(header.top_down, height, i);
+        place_row(page, y, header.depth, tone, table, row);
+    }
+    Ok(())
 }
