@@ -11,6 +11,7 @@ pub mod Digits
 pub mod Headers
 pub mod Painting
 pub mod Blocks
+pub mod Skipping
 pub mod Heads
 pub mod BmpReading
 pub mod BmpPixels

@@ -16,4 +16,5 @@ pub mod Header
 pub mod BmpHead
 pub mod Shading
 pub mod Raster
+pub mod Skip
 pub mod Reader

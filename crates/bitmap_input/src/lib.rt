@@ -25,6 +25,7 @@ mod plain;
 mod raw;
 pub mod reader;
 mod run;
+mod skip;
 mod stop;
 #[cfg(test)]
 mod tests;
