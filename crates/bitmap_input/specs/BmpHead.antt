@@ -1,14 +1,15 @@
 -- The bytes of a BMP header in the program, and what it makes of them.
-use Rattle.std.specs.Prelude.{◌≡◌, ℕ, ◌+◌, ◌-◌, ◌^◌, ◌≤◌, ◌<◌, true, false, Bool, List, length, slice_index_or, suc, ◌*◌, Option, Some, None, Result, Ok, Err}
-use Rattle.bitmap_input.specs.Cut.{Ending, Cut}
+use Rattle.std.specs.Prelude.{◌≡◌, ℕ, ◌+◌, ◌-◌, ◌^◌, ◌≤◌, ◌<◌, true, false, Bool, List, length, slice_index_or, suc, ◌*◌, ◌/◌, reverse, if◌then◌else◌, Option, Some, None, Result, Ok, Err}
+use Rattle.bitmap_input.specs.Cut.{Ending, Cut, ◌>>=◌}
 use Rattle.bitmap_input.specs.Cut.Cut.{Takes, Stops}
 use Rattle.bitmap_input.specs.Reading.{cause_of}
 use Rattle.bitmap_input.specs.Reading.Cause.{Says}
 use Rattle.bitmap_input.specs.Sides.{longest_side}
 use Rattle.bitmap_input.specs.BmpHeader.{file_size, pixel_offset, header_size, is_short, bits, is_known_depth, width, height, is_top_down, is_known_size, is_known_kind, mask_bytes, palette_length, color_bytes, palette_end, row_length}
-use Rattle.bitmap_input.specs.Raw.{Entry, black}
+use Rattle.bitmap_input.specs.Parts.{block, times}
+use Rattle.bitmap_input.specs.Raw.{Raw, Entry, black}
 use Rattle.bitmap_input.specs.Raw.Entry.{Color}
-use Rattle.bitmap_input.specs.BmpRaster.{color_at, bit_at, half_at}
+use Rattle.bitmap_input.specs.BmpRaster.{color_at, bit_at, half_at, palette_color, color_row}
 use Rattle.bitmap_input.specs.declared.stop.Stop.{Stop}
 use Rattle.bitmap_input.specs.declared.bmp.fields.Depth.{Depth}
 use Rattle.bitmap_input.specs.declared.bmp.fields.Depth.TheVariants as depth
@@ -104,3 +105,28 @@ shade_in depth.ThirtyTwo level invert table row x = black level invert (color_at
 abbrev pub row_place : Bool → ℕ → ℕ → ℕ
 row_place true height i = height - suc i
 row_place false height i = i
+
+-- What follows a header, by what the program keeps of it.
+
+abbrev pub row_bytes_by : Header → ℕ
+row_bytes_by h = 4 * ((h.width * bits_in h.depth + 31) / 32)
+
+abbrev pub picture_by : Header → List (List Entry) → Raw
+picture_by h rows = record {
+  width = h.width;
+  height = h.height;
+  rows = if h.top_down then rows else reverse rows;
+  least_length = h.file_size;
+}
+
+-- the rows
+abbrev pub pixels_by : Header → (ℕ → Entry) → List ℕ → Cut Raw
+pixels_by h color bytes =
+    times (color_row (row_bytes_by h) (bits_in h.depth) color h.width) h.height bytes >>= λ rows rest.
+    Takes false (picture_by h rows) rest
+
+-- all of it
+abbrev pub raster_by : Header → List ℕ → Cut Raw
+raster_by h bytes =
+    block (h.color_bytes * h.palette_length) bytes >>= λ palette rest. block h.before_pixels rest >>= λ _ rest.
+    pixels_by h (palette_color h.palette_length h.color_bytes palette) rest

@@ -20,8 +20,8 @@ use pt_base::inputs::Inputs;
 use std::alloc::Global;
 use threshold_map::level::Level;
 
-// A page is known by its pixels.
-fn known(page: &Bitmap)
+/// A page is known by its pixels.
+pub(crate) fn known(page: &Bitmap)
     ensures { page.now ≡ page_of page.now.width page.now.height (image_of page.now) }
 {
     pages_are_known_by_pixels();

@@ -15,6 +15,22 @@ pub(crate) enum Depth {
     ThirtyTwo,
 }
 
+impl Depth {
+    /// How many bits these are.
+    pub(crate) fn bits(self) -> u32
+        ensures value { result ≡ bits_in self }
+        ensures most { result ≤ 32 }
+    {
+        match self {
+            Depth::One => 1,
+            Depth::Four => 4,
+            Depth::Eight => 8,
+            Depth::TwentyFour => 24,
+            Depth::ThirtyTwo => 32,
+        }
+    }
+}
+
 /// Whether a header of this size is read.
 pub(crate) fn is_known_size(size: u32) -> bool
     ensures { result ≡ is_known_size size }

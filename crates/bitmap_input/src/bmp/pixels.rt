@@ -5,6 +5,7 @@ ghost use Rattle.bit_image.specs.Page.{Page, SameSides, image_of};
 ghost use Rattle.bitmap_input.specs.Reading.{Reads, Counts};
 ghost use Rattle.bitmap_input.specs.Parts.{block, times};
 ghost use Rattle.bitmap_input.specs.Raw.{Entry, black};
+ghost use Rattle.bitmap_input.specs.Raw.Entry.{Color as color};
 ghost use Rattle.bitmap_input.specs.BmpRaster.{color_at, bit_at, half_at, palette_color, color_row};
 ghost use Rattle.bitmap_input.specs.BmpHead.{IsTable, IsReadable, bits_in, shade_in, row_place};
 ghost use Rattle.bitmap_input.specs.Raster.{with_row, with_placed};
@@ -26,8 +27,15 @@ pub(crate) struct Tone {
 }
 
 impl Tone {
-    // Whether a colour is a black pixel: its blue stands first, then its green and its red.
-    fn black(&self, bytes: &[u8], at: usize) -> bool
+    /// Whether no colour at all is a black pixel.
+    pub(crate) fn none(&self) -> bool
+        ensures { result ≡ black self.now.level self.now.invert (color 0 0 0) }
+    {
+        self.level.rgb(0, 0, 0) != self.invert
+    }
+
+    /// Whether a colour is a black pixel: its blue stands first, then its green and its red.
+    pub(crate) fn black(&self, bytes: &[u8], at: usize) -> bool
         requires { at + 2 < length bytes.now }
         ensures { result ≡ black self.now.level self.now.invert (color_at bytes.now at) }
     {
@@ -113,8 +121,8 @@ pub(crate) fn read_rows<I: Inputs>(
     requires opened { I.is_opened inputs.old ≡ true }
     requires table { length table.now ≡ 256 }
     requires whole { page.old.width * bits_in header.now.depth ≤ 8 * length row.old }
-    ensures reads { (color : ℕ → Entry) → IsTable tone.now.level tone.now.invert color table.now
-        → Reads (λ _ rows. image_of page.new ≡ with_placed (row_place header.now.top_down page.old.height) (image_of page.old) 0 (map (map (black tone.now.level tone.now.invert)) rows)) (times (color_row (length row.old) (bits_in header.now.depth) color page.old.width) page.old.height) window.old (I.files inputs.old) result window.new (I.files inputs.new) }
+    ensures reads { (color_of : ℕ → Entry) → IsTable tone.now.level tone.now.invert color_of table.now
+        → Reads (λ _ rows. image_of page.new ≡ with_placed (row_place header.now.top_down page.old.height) (image_of page.old) 0 (map (map (black tone.now.level tone.now.invert)) rows)) (times (color_row (length row.old) (bits_in header.now.depth) color_of page.old.width) page.old.height) window.old (I.files inputs.old) result window.new (I.files inputs.new) }
     ensures sides { SameSides page.old page.new }
     ensures counts { Counts result (I.faults inputs.old) (I.faults inputs.new) }
     ensures stays_opened { I.is_opened inputs.new ≡ true }
