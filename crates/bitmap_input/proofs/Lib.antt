@@ -19,6 +19,7 @@ pub mod Placing
 pub mod Graying
 pub mod Showing
 pub mod Bodies
+pub mod BmpPictures
 pub mod Keeping
 pub mod BmpKeeps
 pub mod BmpLengths

@@ -42,8 +42,8 @@ color_row n bits color width bytes =
 
 -- a row of the picture
 abbrev pub row_of : List ℕ → List ℕ → List ℕ → Cut (List Entry)
-row_of head palette bytes =
-    color_row (row_length head) (bits head) (palette_color (palette_length head) (color_bytes head) palette) (width head) bytes
+row_of head palette =
+    color_row (row_length head) (bits head) (palette_color (palette_length head) (color_bytes head) palette) (width head)
 
 -- the picture whose rows come in this order
 abbrev pub picture : List ℕ → List (List Entry) → Raw

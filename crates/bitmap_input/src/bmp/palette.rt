@@ -43,6 +43,30 @@ fn fill_table(tone: &Tone, colors: u32, size: u32, palette: &[u8], table: &mut [
     }
 }
 
+// Reads the palette into its room, and the table of it.
+fn read_colors<I: Inputs>(
+    window: &mut Window,
+    inputs: &mut I,
+    header: &Header,
+    tone: &Tone,
+    palette: &mut [u8],
+    table: &mut [bool],
+) -> Result<(), Stop>
+    requires opened { I.is_opened inputs.old ≡ true }
+    requires readable { IsReadable header.now }
+    requires whole { length palette.old ≡ header.now.color_bytes * header.now.palette_length }
+    requires room { length table.old ≡ 256 }
+    ensures reads { Reads (λ _ palette. IsTable tone.now.level tone.now.invert (palette_color header.now.palette_length header.now.color_bytes palette) table.new) (block (header.now.color_bytes * header.now.palette_length)) window.old (I.files inputs.old) result window.new (I.files inputs.new) }
+    ensures room { length table.new ≡ 256 }
+    ensures counts { Counts result (I.faults inputs.old) (I.faults inputs.new) }
+    ensures stays_opened { I.is_opened inputs.new ≡ true }
+    ensures same_openings { I.openings inputs.new ≡ I.openings inputs.old }
+{
+    read_block(window, inputs, palette)?;
+    fill_table(tone, header.palette_length, header.color_bytes, palette, table);
+    Ok(())
+}
+
 /// The most bytes of a palette.
 const ROOM: usize = 1024;
 
@@ -64,10 +88,6 @@ pub(crate) fn read_palette<I: Inputs>(
     ensures same_openings { I.openings inputs.new ≡ I.openings inputs.old }
 {
     let mut buffer = [0u8; ROOM];
-    let colors = header.palette_length;
-    let size = header.color_bytes;
-    let palette = &mut buffer[..(size * colors) as usize];
-    read_block(window, inputs, palette)?;
-    fill_table(tone, colors, size, palette, table);
-    Ok(())
+    let n = (header.color_bytes * header.palette_length) as usize;
+    read_colors(window, inputs, header, tone, &mut buffer[..n], table)
 }

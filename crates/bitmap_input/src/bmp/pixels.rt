@@ -7,7 +7,7 @@ ghost use Rattle.bitmap_input.specs.Parts.{block, times};
 ghost use Rattle.bitmap_input.specs.Raw.{Entry, black};
 ghost use Rattle.bitmap_input.specs.Raw.Entry.{Color as color};
 ghost use Rattle.bitmap_input.specs.BmpRaster.{color_at, bit_at, half_at, palette_color, color_row};
-ghost use Rattle.bitmap_input.specs.BmpHead.{IsTable, IsReadable, bits_in, shade_in, row_place};
+ghost use Rattle.bitmap_input.specs.BmpHead.{IsTable, IsReadable, bits_in, shade_in, row_place, row_bytes_by};
 ghost use Rattle.bitmap_input.specs.Raster.{with_row, with_placed};
 
 use crate::bmp::fields::Depth;
@@ -120,9 +120,10 @@ pub(crate) fn read_rows<I: Inputs>(
 ) -> Result<(), Stop>
     requires opened { I.is_opened inputs.old ≡ true }
     requires table { length table.now ≡ 256 }
+    requires room { length row.old ≡ row_bytes_by header.now }
     requires whole { page.old.width * bits_in header.now.depth ≤ 8 * length row.old }
     ensures reads { (color_of : ℕ → Entry) → IsTable tone.now.level tone.now.invert color_of table.now
-        → Reads (λ _ rows. image_of page.new ≡ with_placed (row_place header.now.top_down page.old.height) (image_of page.old) 0 (map (map (black tone.now.level tone.now.invert)) rows)) (times (color_row (length row.old) (bits_in header.now.depth) color_of page.old.width) page.old.height) window.old (I.files inputs.old) result window.new (I.files inputs.new) }
+        → Reads (λ _ rows. image_of page.new ≡ with_placed (row_place header.now.top_down page.old.height) (image_of page.old) 0 (map (map (black tone.now.level tone.now.invert)) rows)) (times (color_row (row_bytes_by header.now) (bits_in header.now.depth) color_of page.old.width) page.old.height) window.old (I.files inputs.old) result window.new (I.files inputs.new) }
     ensures sides { SameSides page.old page.new }
     ensures counts { Counts result (I.faults inputs.old) (I.faults inputs.new) }
     ensures stays_opened { I.is_opened inputs.new ≡ true }

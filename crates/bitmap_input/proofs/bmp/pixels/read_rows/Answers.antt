@@ -6,7 +6,7 @@ use Rattle.bit_image.specs.Page.{image_of}
 use Rattle.bitmap_input.specs.Cut.Cut.{Takes}
 use Rattle.bitmap_input.specs.Raw.{Entry, black}
 use Rattle.bitmap_input.specs.BmpRaster.{pixel_in}
-use Rattle.bitmap_input.specs.BmpHead.{bits_in, shade_in, row_place}
+use Rattle.bitmap_input.specs.BmpHead.{bits_in, shade_in, row_place, row_bytes_by}
 use Rattle.bitmap_input.specs.Raster.{with_row, with_placed}
 use Rattle.bitmap_input.proofs.BmpStays.{color_row_stays}
 use Rattle.bitmap_input.proofs.BmpPixels.{shade_is, shades_are, placed_painted}
@@ -31,7 +31,7 @@ loop-i-preserved g c =
           let shades = λ (bytes : List ℕ). shades_are (shade_in c.args.header.now.depth level invert c.args.table.now bytes) (black level invert) (pixel_in bits color bytes)
           (shade_is c.args.header.now.depth level invert color c.args.table.now bytes table) (range_with_len 0 width) in
           painting_goes_on (λ rows. with_placed place (image_of c.place_row.new.page) (c.loop-i.i + 1) (map (map (black level invert)) rows))
-          (color_row_stays (length c.args.row.now) bits color width) (c.loop-i.invariant.so_far color table) one
+          (color_row_stays (row_bytes_by c.args.header.now) bits color width) (c.loop-i.invariant.so_far color table) one
           (reads_map {js = λ _ entries. image_of c.place_row.new.page ≡ with_row old (place c.loop-i.i) (map (black level invert) entries)}
           (λ bytes. map (pixel_in bits color bytes) (range_with_len 0 width))
           (λ _ bytes same. pixels ∙ ap (with_row old (place c.loop-i.i)) (shades c.read_block.new.row)
