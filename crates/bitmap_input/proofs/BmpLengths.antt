@@ -6,14 +6,15 @@ use Rattle.std.proofs.lemmas.List.{length-append, length-take-le, length-drop}
 use Rattle.std.proofs.lemmas.Bool.{ltb-false, leb-true, eqb-true, or_cases, both_ways}
 use Rattle.std.proofs.lemmas.Bool.Decides.{nat_tests}
 use Rattle.std.proofs.Math.ListN.{get_or-append}
-use Rattle.bitmap_input.specs.Cut.{Kind, Ending, Cut, ◌>>=◌}
+use Rattle.bitmap_input.specs.Cut.{Kind, Ending, Cut, after, ◌>>=◌}
+use Rattle.bitmap_input.specs.Behind.{counted}
 use Rattle.bitmap_input.specs.Cut.Kind.{BmpKind, BadOffset, Truncated, ZeroSide, TooLarge}
 use Rattle.bitmap_input.specs.Cut.Ending.{Refused}
 use Rattle.bitmap_input.specs.Cut.Cut.{Takes, Stops}
 use Rattle.bitmap_input.specs.Parts.{is_zero, block, times}
 use Rattle.bitmap_input.specs.Sides.{checked, longest_side}
 use Rattle.bitmap_input.specs.Raw.{Raw, Entry}
-use Rattle.bitmap_input.specs.BmpHeader.{byte_at, two_at, four_at, header_size, is_short, bits, compression, has_masks, is_known_size, is_known_kind, mask_bytes, has_known_colors, width, height, pixel_offset, palette_bytes, palette_end, row_length, rows_end, palette_length, color_bytes}
+use Rattle.bitmap_input.specs.BmpHeader.{byte_at, two_at, four_at, header_size, is_short, bits, compression, has_masks, is_known_size, is_known_kind, mask_bytes, has_known_colors, width, height, pixel_offset, palette_bytes, palette_end, row_length, rows_end, palette_length, color_bytes, file_size}
 use Rattle.bitmap_input.specs.BmpRaster.{palette_color, pixel_in, row_of, picture, raster}
 use Rattle.bitmap_input.specs.Bmp.{passes, start, info, masks, placed, header, bmp}
 use Rattle.bitmap_input.specs.BmpHead.{HasInfo, IsStart, IsInfo, IsWhole}
@@ -246,9 +247,10 @@ cuts_row_of head palette bytes =
     (λ row rest is. cuts_take (λ _ rest. length bytes ≡ row_length head + length rest) false (map (pixel_in (bits head) (palette_color (palette_length head) (color_bytes head) palette) row) (range_with_len 0 (width head))) rest is.1)
 
 pub cuts_raster : (head bytes : List ℕ) →
-    Cuts (λ _ rest. length bytes ≡ palette_bytes head + (pixel_offset head - palette_end head) + height head * row_length head + length rest) (raster head bytes)
+    Cuts (λ raw rest. (raw.least_length ≡ file_size head)
+        × (length bytes ≡ palette_bytes head + (pixel_offset head - palette_end head) + height head * row_length head + length rest)) (raster head bytes)
 cuts_raster head bytes =
-    let Q = λ (raw : Raw) (rest : List ℕ). length bytes ≡ palette_bytes head + (pixel_offset head - palette_end head) + height head * row_length head + length rest in
+    let Q = λ (raw : Raw) (rest : List ℕ). (raw.least_length ≡ file_size head) × (length bytes ≡ palette_bytes head + (pixel_offset head - palette_end head) + height head * row_length head + length rest) in
     cuts_bind (IsBlock (palette_bytes head) bytes) Q (block (palette_bytes head) bytes)
     (λ palette rest. block (pixel_offset head - palette_end head) rest >>= λ _ rest. times (row_of head palette) (height head) rest >>= λ rows rest. Takes false (picture head rows) rest)
     (cuts_block (palette_bytes head) bytes)
@@ -259,4 +261,38 @@ cuts_raster head bytes =
     (λ rows rest. Takes false (picture head rows) rest)
     (cuts_times (row_of head palette) (row_length head) (cuts_row_of head palette) (height head) rest2)
     (λ rows rest3 is3. cuts_take Q false (picture head rows) rest3
-    (sum_of_parts (length bytes) (palette_bytes head) (pixel_offset head - palette_end head) (height head * row_length head) (length rest) (length rest2) (length rest3) is.1 is2.1 is3))))
+    (refl, sum_of_parts (length bytes) (palette_bytes head) (pixel_offset head - palette_end head) (height head * row_length head) (length rest) (length rest2) (length rest3) is.1 is2.1 is3))))
+
+-- The whole picture.
+
+or_no : (d e : Bool) → (d || (e || false)) ≡ (d || e)
+or_no true e = refl
+or_no false true = refl
+or_no false false = refl
+
+-- so many bytes behind the magic: the end of the rows counts from the magic's first byte
+taken_in_all : (n l r2 r3 size masks colors offset rows : ℕ) → l ≡ 12 + size + masks → 14 + size + masks + colors ≤ offset → n ≡ l + r2 →
+    r2 ≡ colors + (offset - (14 + size + masks + colors)) + rows + r3 → n - r3 ≡ offset + rows - 2
+taken_in_all n l r2 r3 size masks colors offset rows len behind first second = omega arith
+
+rows_counted : {A : Type 0} (d : Bool) (bytes : List ℕ) (head : List ℕ) (k : ℕ) (c : Cut A) →
+    ((e : Bool) (a : A) (rest : List ℕ) → c ≡ Takes e a rest → length bytes - length rest ≡ k) →
+    after d (c >>= λ raw rest. Takes false (raw, k) rest) ≡ counted bytes (after d c)
+rows_counted d bytes head k (Stops e ending) taken = refl
+rows_counted d bytes head k (Takes e a rest) taken = rw (taken e a rest refl, or_no d e) refl
+
+picture_counted : (bytes : List ℕ) (c : Cut (List ℕ)) → Cuts (λ head rest. IsPlaced head × (length bytes ≡ length head + length rest)) c →
+    (c >>= λ head rest. raster head rest >>= λ raw rest. Takes false (raw, rows_end head - 2) rest) ≡ counted bytes (c >>= λ head rest. raster head rest)
+picture_counted bytes (Stops e ending) cuts = refl
+picture_counted bytes (Takes d head mid) cuts =
+    let is = cuts d head mid refl in
+    rows_counted d bytes head (rows_end head - 2) (raster head mid)
+    (λ e raw rest h.
+        let taken = cuts_raster head mid e raw rest h in
+        taken_in_all (length bytes) (length head) (length mid) (length rest) (header_size head) (mask_bytes head) (palette_bytes head) (pixel_offset head) (height head * row_length head)
+        is.0.0.reach is.0.1 is.1 taken.1)
+
+-- the picture with the number of bytes that it takes behind its magic
+pub bmp_counted : (bytes : List ℕ) →
+    (header bytes >>= λ head rest. raster head rest >>= λ raw rest. Takes false (raw, rows_end head - 2) rest) ≡ counted bytes (bmp bytes)
+bmp_counted bytes = picture_counted bytes (header bytes) (cuts_header bytes)

@@ -1,5 +1,5 @@
 -- The rows of a BMP picture, painted from the top down or from below, are the page that the picture shows.
-use Rattle.std.proofs.Common.{◌≡◌, refl, ℕ, zero, suc, ◌+◌, ◌-◌, ◌≤◌, ◌<◌, inl, inr, Bool, true, false, List, [], ◌∷◌, length, map, reverse, get_or, arith, ap, sym, ◌∙◌, subst, Option, Ok, Err}
+use Rattle.std.proofs.Common.{◌≡◌, refl, ℕ, zero, suc, ◌+◌, ◌-◌, ◌≤◌, ◌<◌, inl, inr, Bool, true, false, List, [], ◌∷◌, ◌++◌, ◌*◌, length, map, reverse, get_or, arith, ap, sym, ◌∙◌, subst, Option, Ok, Err}
 use Rattle.std.specs.Prelude.{nat_lt, if◌then◌else◌}
 use Rattle.std.proofs.Math.Path.{fun_ext}
 use Rattle.std.proofs.Math.ListN.{get_or-map}
@@ -10,17 +10,23 @@ use Rattle.bit_image.specs.Image.{Image, IsWhite}
 use Rattle.bit_image.specs.Page.{Page as Pixels, SameSides, image_of, page_of}
 use Rattle.bitmap_input.specs.declared.stop.Stop.{Stop}
 use Rattle.bitmap_input.specs.declared.bmp.header.Header.{Header}
+use Rattle.bitmap_input.specs.Cut.{Cut, ◌>>=◌}
 use Rattle.bitmap_input.specs.Cut.Cut.{Takes}
 use Rattle.bitmap_input.specs.Parts.{times}
-use Rattle.bitmap_input.specs.Raw.{Entry, black, picture_of, shown, IsShown}
-use Rattle.bitmap_input.specs.BmpHeader.{width, height, is_top_down}
+use Rattle.bitmap_input.specs.Raw.{Raw, Entry, black, picture_of, shown, IsShown}
+use Rattle.bitmap_input.specs.BmpHeader.{file_size, rows_end}
+use Rattle.bitmap_input.specs.Bmp.{header}
+use Rattle.bitmap_input.specs.Front.Magic.{Picture}
+use Rattle.bitmap_input.specs.Behind.{IsRead, counted_body}
 use Rattle.bitmap_input.specs.BmpRaster.{color_row, raster}
 use Rattle.bitmap_input.specs.BmpHead.{IsHeader, bits_in, row_place, row_bytes_by, picture_by, pixels_by, raster_by}
 use Rattle.bitmap_input.specs.Raster.{with_row, with_placed}
 use Rattle.bitmap_input.specs.Reading.{Held, Reads}
 use Rattle.bitmap_input.proofs.Placing.{with_pixels-other}
 use Rattle.bitmap_input.proofs.Showing.{row_at, reads_counted}
-use Rattle.bitmap_input.proofs.Telling.{reads_made, reads_stop}
+use Rattle.bitmap_input.proofs.Telling.{reads_made, reads_stop, reads_on, reads_as}
+use Rattle.bitmap_input.proofs.BmpStays.{header_stays}
+use Rattle.bitmap_input.proofs.BmpLengths.{cuts_raster, bmp_counted}
 
 -- where no row is placed nothing is painted
 placed_other : (place : ℕ → ℕ) (b : Image) (i u v : ℕ) (rows : List (List Bool)) → ((j : ℕ) → j < length rows → place (i + j) ≡ v → ⊥) →
@@ -147,3 +153,50 @@ module _ {mid new : Held} {fmid now : Option Files} (level : ℕ) (invert : Bool
 pub raster_is : (h : Header) (head : List ℕ) → IsHeader h head → (bytes : List ℕ) → raster head bytes ≡ raster_by h bytes
 raster_is h head is bytes =
     rw (is.before_pixels, is.palette_length, is.color_bytes, is.width, is.height, is.top_down, is.depth, is.file_size) refl
+
+-- The header, what follows it, and what the picture claims.
+
+-- a step whose value meets what the part's values meet
+reads_with : {A X : Type 0} {is : X → A → Type 0} {part : List ℕ → Cut A} {x : X} {old mid : Held} {files fmid : Option Files} (P : A → Type 0) →
+    ((bytes : List ℕ) (e : Bool) (a : A) (rest : List ℕ) → part bytes ≡ Takes e a rest → P a) → Reads is part old files (Ok x) mid fmid →
+    Reads (λ x a. is x a × P a) part old files (Ok x) mid fmid
+reads_with {old = old} {mid = mid} P meets r =
+    let (e, a, same, takes, settled) = r.gives in
+    record { more = r.more; moves = r.moves; gives = (e, a, (same, meets (old.bytes ++ r.more) e a mid.bytes takes), takes, settled) }
+
+-- the picture as its header and what follows
+abbrev bmp_parts : List ℕ → Cut (Raw × ℕ)
+bmp_parts bytes = header bytes >>= λ head rest. raster head rest >>= λ raw rest. Takes false (raw, rows_end head - 2) rest
+
+claim : (behind least size offset rows n : ℕ) → behind ≡ size - (offset + rows) → least ≡ size → n ≡ offset + rows → 2 ≤ offset → behind ≡ least - (2 + (n - 2))
+claim behind least size offset rows n is same whole some = omega arith
+
+rows_end_is : (h : Header) (head : List ℕ) → IsHeader h head → rows_end head ≡ h.pixel_offset + h.height * row_bytes_by h
+rows_end_is h head is = rw (is.pixel_offset, is.width, is.height, is.depth) refl
+
+module _ {old mid new : Held} {files fmid now : Option Files} (level : ℕ) (invert : Bool) where
+  pub bmp_read : (h : Header) (page : Pixels) (behind : ℕ) → 2 ≤ h.pixel_offset → Reads IsHeader header old files (Ok h) mid fmid →
+      Reads (IsShown level invert) (raster_by h) mid fmid (Ok page) new now → behind ≡ h.file_size - (h.pixel_offset + h.height * row_bytes_by h) →
+      Reads (IsRead level invert) (counted_body Picture) old files (Ok (record { page = page; behind = behind })) new now
+  bmp_read h page behind some first second is =
+      reads_as (λ more. sym (bmp_counted (old.bytes ++ more)))
+      (reads_on {js = IsRead level invert} header_stays first (λ head is_header.
+      reads_made {js = IsRead level invert} (λ raw. (raw, rows_end head - 2)) (record { page = page; behind = behind })
+      (λ raw shown. (shown.0, claim behind raw.least_length h.file_size h.pixel_offset (h.height * row_bytes_by h) (rows_end head) is (shown.1 ∙ is_header.file_size) (rows_end_is h head is_header) some))
+      (reads_with {is = IsShown level invert} {part = raster head} (λ raw. raw.least_length ≡ file_size head) (λ bytes e raw rest takes. (cuts_raster head bytes e raw rest takes).0)
+      (reads_as (λ more. raster_is h head is_header (mid.bytes ++ more)) second))))
+
+  pub bmp_stopped : (h : Header) (stop : Stop) → Reads IsHeader header old files (Ok h) mid fmid →
+      Reads (IsShown level invert) (raster_by h) mid fmid (Err stop) new now →
+      Reads (IsRead level invert) (counted_body Picture) old files (Err stop) new now
+  bmp_stopped h stop first second =
+      reads_as (λ more. sym (bmp_counted (old.bytes ++ more)))
+      (reads_on {js = IsRead level invert} header_stays first (λ head is_header.
+      reads_stop {js = IsRead level invert} (λ raw rest. Takes false (raw, rows_end head - 2) rest)
+      (reads_as {is = IsShown level invert} {part = raster head} (λ more. raster_is h head is_header (mid.bytes ++ more)) second)))
+
+pub header_stopped : {old new : Held} {files now : Option Files} (level : ℕ) (invert : Bool) (stop : Stop) → Reads IsHeader header old files (Err stop) new now →
+    Reads (IsRead level invert) (counted_body Picture) old files (Err stop) new now
+header_stopped {old = old} level invert stop first =
+    reads_as (λ more. sym (bmp_counted (old.bytes ++ more)))
+    (reads_stop {js = IsRead level invert} (λ head rest. raster head rest >>= λ raw rest. Takes false (raw, rows_end head - 2) rest) first)

@@ -81,6 +81,7 @@ pub record IsReadable (h : Header) : Type 0 where
   pub most_colors : h.palette_length ≤ 256
   pub some_bytes : 3 ≤ h.color_bytes
   pub most_bytes : h.color_bytes ≤ 4
+  pub behind_magic : 2 ≤ h.pixel_offset
 
 -- a check that takes no bytes answers so, whatever the bytes
 abbrev pub Passes : {X A : Type 0} → (X → A → Type 0) → (List ℕ → Cut A) → Result X Stop → Type 0

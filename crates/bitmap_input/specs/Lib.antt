@@ -17,4 +17,5 @@ pub mod BmpHead
 pub mod Shading
 pub mod Raster
 pub mod Skip
+pub mod Behind
 pub mod Reader

@@ -1,7 +1,9 @@
 //! BMP pictures.
-ghost use Rattle.std.specs.Prelude.{◌≡◌, ℕ, ◌*◌, ◌≤◌, true, length};
+ghost use Rattle.std.specs.Prelude.{◌≡◌, ℕ, ◌+◌, ◌-◌, ◌*◌, ◌≤◌, true, length};
 ghost use Rattle.bitmap_input.specs.Reading.{Reads, Counts};
 ghost use Rattle.bitmap_input.specs.Raw.{Entry, IsShown};
+ghost use Rattle.bitmap_input.specs.Front.Magic.{Picture as picture};
+ghost use Rattle.bitmap_input.specs.Behind.{IsRead, counted_body};
 ghost use Rattle.bitmap_input.specs.BmpHead.{IsReadable, IsTable, bits_in, row_bytes_by, pixels_by, raster_by};
 
 mod fields;
@@ -14,6 +16,7 @@ use crate::body::known;
 use crate::bmp::header::{Header, read_header};
 use crate::bmp::palette::read_palette;
 use crate::bmp::pixels::{Tone, read_rows};
+use crate::extent::ReadPage;
 use crate::fault::InFault;
 use crate::skip::skip_block;
 use crate::stop::Stop;
@@ -82,4 +85,43 @@ fn read_raster<I: Inputs>(
     read_palette(window, inputs, header, tone, &mut table)?;
     skip_block(window, inputs, header.before_pixels)?;
     read_pixels(alloc, window, inputs, header, tone, &table)
+}
+
+// How many bytes the picture claims behind its last row.
+fn behind(header: &Header) -> u32
+    requires { IsReadable header.now }
+    ensures { result ≡ header.now.file_size - (header.now.pixel_offset + header.now.height * row_bytes_by header.now) }
+{
+    let rows_end = header.pixel_offset as u64 + header.height as u64 * row_bytes(header) as u64;
+    if rows_end < header.file_size as u64 {
+        (header.file_size as u64 - rows_end) as u32
+    } else {
+        0
+    }
+}
+
+/// A BMP picture, behind its magic, at a level and inverted or not.
+pub(crate) fn read_bmp<I: Inputs>(
+    alloc: Global,
+    window: &mut Window,
+    inputs: &mut I,
+    level: &Level,
+    invert: bool,
+) -> Result<ReadPage, Stop>
+    requires { I.is_opened inputs.old ≡ true }
+    ensures reads { Reads (IsRead level.now invert) (counted_body picture) window.old (I.files inputs.old) result window.new (I.files inputs.new) }
+    ensures counts { Counts result (I.faults inputs.old) (I.faults inputs.new) }
+    ensures stays_opened { I.is_opened inputs.new ≡ true }
+    ensures same_openings { I.openings inputs.new ≡ I.openings inputs.old }
+{
+    let header = read_header(window, inputs)?;
+    let tone = Tone {
+        level: *level,
+        invert,
+    };
+    let page = read_raster(alloc, window, inputs, &header, &tone)?;
+    Ok(ReadPage {
+        page,
+        behind: behind(&header),
+    })
 }

@@ -15,6 +15,7 @@
 
 mod bmp;
 mod body;
+mod extent;
 pub mod fault;
 mod gray;
 mod header;

@@ -278,7 +278,8 @@ pub(crate) fn palette_end(head: &Head, depth: Depth) -> u32
     requires info { HasInfo head.now }
     requires kind { bits head.now ≡ bits_in depth }
     requires colors { has_known_colors head.now ≡ true }
-    ensures { result ≡ palette_end head.now }
+    ensures value { result ≡ palette_end head.now }
+    ensures least { 14 ≤ result }
 {
     let colors = color_bytes(head) * palette_length(head, depth);
     14 + head.four_at(14) + mask_bytes(head) + colors

@@ -12,5 +12,5 @@ returns-then-pixel_offset-palette_end-clause-passes c =
     let wide : IsCapped c.min.result (width c.args.head.now) = c.min.ensures ∙ ap (λ n. min n cap) c.width.ensures in
     let high : IsCapped c.min-2.result (height c.args.head.now) = c.min-2.ensures ∙ ap (λ n. min n cap) c.height.ensures in
     let in_range = c.in_ok-sides.ensures.checks (width c.args.head.now) (height c.args.head.now) wide high in
-    let soon : pixel_offset c.args.head.now < palette_end c.args.head.now = rw (← c.four_at-pixel_offset.ensures, ← c.palette_end-palette_end.ensures) c.if-pixel_offset-palette_end.true in
+    let soon : pixel_offset c.args.head.now < palette_end c.args.head.now = rw (← c.four_at-pixel_offset.ensures, ← c.palette_end-palette_end.ensures.value) c.if-pixel_offset-palette_end.true in
     (Refused BadOffset, refl, placed_too_soon c.args.head.now in_range.2 soon)
