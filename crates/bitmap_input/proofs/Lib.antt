@@ -1,5 +1,6 @@
 mod Examples
-pub mod BmpExamples
+mod BmpExamples
+mod GrayExamples
 pub mod Bytes
 pub mod Appending
 pub mod BmpStays

@@ -27,7 +27,8 @@ Continues run b None = (bs : List ℕ) → length_of run (b ∷ bs) ≡ 0
 abbrev pub digits : List ℕ → Cut ℕ
 digits bytes = run_of (run_length is_digit bytes) bytes >>= λ ds rest. Takes false (value 0 ds) rest
 
--- the number, or this where it is less: a number that is too large for a side may be cut here
+-- the number, or this where it is less: a number that is too large for a side, for the sample for white
+-- or for a black sample may be cut here
 abbrev pub cap : ℕ
 cap = 100000
 

@@ -3,6 +3,8 @@
 
 ghost use Rattle.std.specs.Prelude.{◌≤◌};
 
+mod gray;
+
 use crate::fault::InFault;
 use crate::next::Next;
 use crate::reader::PageReader;

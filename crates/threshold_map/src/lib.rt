@@ -11,3 +11,5 @@
 #![tactic(auto)]
 
 pub mod level;
+#[cfg(test)]
+mod tests;
