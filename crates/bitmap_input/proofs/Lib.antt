@@ -25,6 +25,7 @@ pub mod Keeping
 pub mod BmpKeeps
 pub mod BmpLengths
 pub mod FrontKeeps
+pub mod Behind
 pub mod Answering
 pub mod Longest
 pub mod Files

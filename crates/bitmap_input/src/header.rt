@@ -29,6 +29,8 @@ pub(crate) enum Format {
     PlainGray,
     /// `P5`, raw PGM.
     RawGray,
+    /// `BM`, a BMP picture.
+    Picture,
 }
 
 /// The sides of a page in pixels, each from 1 to 16384.
@@ -58,6 +60,7 @@ fn format_named(first: u8, second: u8) -> Option<Format>
         (b'P', b'2') => Some(Format::PlainGray),
         (b'P', b'4') => Some(Format::RawBits),
         (b'P', b'5') => Some(Format::RawGray),
+        (b'B', b'M') => Some(Format::Picture),
         _ => None,
     }
 }
