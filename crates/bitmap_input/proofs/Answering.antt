@@ -64,6 +64,12 @@ if_nothing : (o : Option (List ℕ)) → IfSome o (λ _. Unit {0})
 if_nothing None = tt
 if_nothing (Some rest) = tt
 
+-- what is said of an ending holds where there is one
+pub if_says : (why : Cause) (P : Ending → Type 0) → ((ending : Ending) → why ≡ Says ending → P ending) → IfSays why P
+if_says (Says ending) P each = each ending refl
+if_says Device P each = tt
+if_says Memory P each = tt
+
 left_over : (used n : ℕ) → n ≡ (used + n) - used
 left_over used n = omega arith
 
