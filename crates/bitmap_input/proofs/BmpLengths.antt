@@ -232,8 +232,8 @@ cuts_header bytes =
     (λ head2 rest2 is2. cuts_bind (λ whole left. IsWhole whole × (length head2 + length rest2 ≡ length whole + length left)) P (masks head2 rest2)
     placed (cuts_masks head2 rest2 is2.0)
     (λ head3 rest3 is3 e head4 rest4 h.
-        let is4 = cuts_placed head3 rest3 is3.0 e head4 rest4 h in
-        (is4.0, is.1 ∙ is2.1 ∙ is3.1 ∙ is4.1))))
+    let is4 = cuts_placed head3 rest3 is3.0 e head4 rest4 h in
+    (is4.0, is.1 ∙ is2.1 ∙ is3.1 ∙ is4.1))))
 
 -- The rows end where the header says.
 
@@ -248,7 +248,7 @@ cuts_row_of head palette bytes =
 
 pub cuts_raster : (head bytes : List ℕ) →
     Cuts (λ raw rest. (raw.least_length ≡ file_size head)
-        × (length bytes ≡ palette_bytes head + (pixel_offset head - palette_end head) + height head * row_length head + length rest)) (raster head bytes)
+    × (length bytes ≡ palette_bytes head + (pixel_offset head - palette_end head) + height head * row_length head + length rest)) (raster head bytes)
 cuts_raster head bytes =
     let Q = λ (raw : Raw) (rest : List ℕ). (raw.least_length ≡ file_size head) × (length bytes ≡ palette_bytes head + (pixel_offset head - palette_end head) + height head * row_length head + length rest) in
     cuts_bind (IsBlock (palette_bytes head) bytes) Q (block (palette_bytes head) bytes)
@@ -288,9 +288,9 @@ picture_counted bytes (Takes d head mid) cuts =
     let is = cuts d head mid refl in
     rows_counted d bytes head (rows_end head - 2) (raster head mid)
     (λ e raw rest h.
-        let taken = cuts_raster head mid e raw rest h in
-        taken_in_all (length bytes) (length head) (length mid) (length rest) (header_size head) (mask_bytes head) (palette_bytes head) (pixel_offset head) (height head * row_length head)
-        is.0.0.reach is.0.1 is.1 taken.1)
+    let taken = cuts_raster head mid e raw rest h in
+    taken_in_all (length bytes) (length head) (length mid) (length rest) (header_size head) (mask_bytes head) (palette_bytes head) (pixel_offset head) (height head * row_length head)
+    is.0.0.reach is.0.1 is.1 taken.1)
 
 -- the picture with the number of bytes that it takes behind its magic
 pub bmp_counted : (bytes : List ℕ) →

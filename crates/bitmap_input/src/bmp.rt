@@ -12,10 +12,10 @@ mod header;
 mod palette;
 mod pixels;
 
-use crate::body::known;
 use crate::bmp::header::{Header, read_header};
 use crate::bmp::palette::read_palette;
 use crate::bmp::pixels::{Tone, read_rows};
+use crate::body::known;
 use crate::extent::ReadPage;
 use crate::fault::InFault;
 use crate::skip::skip_block;

@@ -12,11 +12,7 @@ use pt_base::inputs::Inputs;
 /// Goes on behind n bytes, or behind all where there are fewer: how many were missing.
 ///
 /// No memory is taken for them.
-pub(crate) fn pass_over<I: Inputs>(
-    window: &mut Window,
-    inputs: &mut I,
-    n: u32,
-) -> Result<u32, Stop>
+pub(crate) fn pass_over<I: Inputs>(window: &mut Window, inputs: &mut I, n: u32) -> Result<u32, Stop>
     requires { I.is_opened inputs.old ≡ true }
     ensures reads { Reads Same (passed_over n) window.old (I.files inputs.old) result window.new (I.files inputs.new) }
     ensures counts { Counts result (I.faults inputs.old) (I.faults inputs.new) }
@@ -35,11 +31,7 @@ pub(crate) fn pass_over<I: Inputs>(
 }
 
 /// Goes on behind n bytes.
-pub(crate) fn skip_block<I: Inputs>(
-    window: &mut Window,
-    inputs: &mut I,
-    n: u32,
-) -> Result<(), Stop>
+pub(crate) fn skip_block<I: Inputs>(window: &mut Window, inputs: &mut I, n: u32) -> Result<(), Stop>
     requires { I.is_opened inputs.old ≡ true }
     ensures reads { Reads Any (block n) window.old (I.files inputs.old) result window.new (I.files inputs.new) }
     ensures counts { Counts result (I.faults inputs.old) (I.faults inputs.new) }

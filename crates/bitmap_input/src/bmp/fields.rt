@@ -73,11 +73,7 @@ pub(crate) fn compression(head: &Head) -> u32
     requires { HasInfo head.now }
     ensures { result ≡ compression head.now }
 {
-    if is_short(head) {
-        0
-    } else {
-        head.four_at(30)
-    }
+    if is_short(head) { 0 } else { head.four_at(30) }
 }
 
 /// How many colours the palette has, where this isn't 0.
@@ -85,11 +81,7 @@ pub(crate) fn colors_used(head: &Head) -> u32
     requires { HasInfo head.now }
     ensures { result ≡ colors_used head.now }
 {
-    if is_short(head) {
-        0
-    } else {
-        head.four_at(46)
-    }
+    if is_short(head) { 0 } else { head.four_at(46) }
 }
 
 // The depth of pixels of so many bits, plainly stored or with masks.
@@ -155,11 +147,7 @@ pub(crate) fn width(head: &Head) -> u32
     ensures { result ≡ width head.now }
 {
     let width = stated_width(head);
-    if width >= SIGN {
-        0
-    } else {
-        width
-    }
+    if width >= SIGN { 0 } else { width }
 }
 
 /// The height in pixels.
@@ -201,7 +189,9 @@ fn has_known_masks(head: &Head) -> bool
     requires { 64 ≤ length head.now }
     ensures { result ≡ has_known_masks head.now }
 {
-    head.four_at(54) == 0x00ff0000 && head.four_at(58) == 0x0000ff00 && head.four_at(62) == 0x000000ff
+    head.four_at(54) == 0x00ff0000
+        && head.four_at(58) == 0x0000ff00
+        && head.four_at(62) == 0x000000ff
 }
 
 // How many colours pixels of this depth can number, where they are numbers of colours.
@@ -245,11 +235,7 @@ pub(crate) fn color_bytes(head: &Head) -> u32
     ensures least { 3 ≤ result }
     ensures most { result ≤ 4 }
 {
-    if is_short(head) {
-        3
-    } else {
-        4
-    }
+    if is_short(head) { 3 } else { 4 }
 }
 
 /// The colours of the palette.
@@ -263,11 +249,7 @@ pub(crate) fn palette_length(head: &Head, depth: Depth) -> u32
     match most_colors(depth) {
         Some(most) => {
             let used = colors_used(head);
-            if used == 0 {
-                most
-            } else {
-                used
-            }
+            if used == 0 { most } else { used }
         }
         None => 0,
     }

@@ -6,8 +6,8 @@ ghost use Rattle.bitmap_input.specs.Bmp.{start, info, masks, placed, header};
 ghost use Rattle.bitmap_input.specs.BmpHead.{HasInfo, IsStart, IsInfo, IsWhole, IsHeader, IsReadable, Passes, bits_in};
 
 use crate::bmp::fields::{
-    Depth, color_bytes, has_known_colors, height, is_known_size, is_top_down, mask_bytes, palette_end,
-    palette_length, pixel_depth, width,
+    Depth, color_bytes, has_known_colors, height, is_known_size, is_top_down, mask_bytes,
+    palette_end, palette_length, pixel_depth, width,
 };
 use crate::bmp::head::Head;
 use crate::fault::InFault;
@@ -38,11 +38,7 @@ pub(crate) struct Header {
 }
 
 // The header up to its size, which is a known one.
-fn read_start<I: Inputs>(
-    window: &mut Window,
-    inputs: &mut I,
-    head: &mut Head,
-) -> Result<(), Stop>
+fn read_start<I: Inputs>(window: &mut Window, inputs: &mut I, head: &mut Head) -> Result<(), Stop>
     requires opened { I.is_opened inputs.old ≡ true }
     requires none { head.old ≡ [] }
     ensures reads { Reads (λ _ bytes. bytes ≡ head.new) start window.old (I.files inputs.old) result window.new (I.files inputs.new) }
@@ -60,11 +56,7 @@ fn read_start<I: Inputs>(
 }
 
 // The rest of the header, of a kind that is read.
-fn read_info<I: Inputs>(
-    window: &mut Window,
-    inputs: &mut I,
-    head: &mut Head,
-) -> Result<Depth, Stop>
+fn read_info<I: Inputs>(window: &mut Window, inputs: &mut I, head: &mut Head) -> Result<Depth, Stop>
     requires opened { I.is_opened inputs.old ≡ true }
     requires begun { IsStart head.old }
     ensures reads { Reads (λ _ bytes. bytes ≡ head.new) (info head.old) window.old (I.files inputs.old) result window.new (I.files inputs.new) }
@@ -138,10 +130,7 @@ fn describe(head: &Head, depth: Depth) -> Result<Header, Stop>
 }
 
 /// The header with its masks.
-pub(crate) fn read_header<I: Inputs>(
-    window: &mut Window,
-    inputs: &mut I,
-) -> Result<Header, Stop>
+pub(crate) fn read_header<I: Inputs>(window: &mut Window, inputs: &mut I) -> Result<Header, Stop>
     requires { I.is_opened inputs.old ≡ true }
     ensures reads { Reads IsHeader header window.old (I.files inputs.old) result window.new (I.files inputs.new) }
     ensures readable { IfOk result IsReadable }

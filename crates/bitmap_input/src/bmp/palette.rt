@@ -63,7 +63,13 @@ fn read_colors<I: Inputs>(
     ensures same_openings { I.openings inputs.new ≡ I.openings inputs.old }
 {
     read_block(window, inputs, palette)?;
-    fill_table(tone, header.palette_length, header.color_bytes, palette, table);
+    fill_table(
+        tone,
+        header.palette_length,
+        header.color_bytes,
+        palette,
+        table,
+    );
     Ok(())
 }
 

@@ -59,11 +59,7 @@ fn half(row: &[u8], x: usize) -> usize
     ensures most { result < 16 }
 {
     let byte = row[x / 2] as usize;
-    if x % 2 == 0 {
-        byte / 16
-    } else {
-        byte % 16
-    }
+    if x % 2 == 0 { byte / 16 } else { byte % 16 }
 }
 
 // Whether the pixel in column x of a row is black, by a table of the palette.
@@ -101,11 +97,7 @@ fn row_place(top_down: bool, height: u32, i: u32) -> u32
     ensures value { result ≡ row_place top_down height i }
     ensures within { result < height }
 {
-    if top_down {
-        height - (i + 1)
-    } else {
-        i
-    }
+    if top_down { height - (i + 1) } else { i }
 }
 
 /// The rows of a picture, painted on the page, with room for one of them.

@@ -12,7 +12,7 @@ pub returns-in_err-read_palette-clause-reads : goal.returns-in_err-read_palette-
 returns-in_err-read_palette-clause-reads g c =
     let p = err_from_is_err_and c.from_residual.result c.from_residual.ensures.1 in
     rw (p.1, p.2) (reads_stop (λ palette rest. block c.args.header.now.before_pixels rest >>= λ _ rest.
-        pixels_by c.args.header.now (palette_color c.args.header.now.palette_length c.args.header.now.color_bytes palette) rest) c.in_err-read_palette.ensures.reads)
+    pixels_by c.args.header.now (palette_color c.args.header.now.palette_length c.args.header.now.color_bytes palette) rest) c.in_err-read_palette.ensures.reads)
 
 pub returns-in_err-skip_block-clause-reads : goal.returns-in_err-skip_block-clause-reads
 returns-in_err-skip_block-clause-reads g c =
