@@ -1,6 +1,7 @@
 -- What the reading of a page says of the reader's answer.
 use Rattle.std.proofs.Common.{◌≤◌, arith, ◌⊎◌, inl, inr, option_map, ◌≡◌, refl, ℕ, ◌+◌, ◌-◌, Bool, true, false, List, [], ◌++◌, length, take, drop, ap, sym, ◌∙◌, subst, Option, Some, None, IfSome, Result, Ok, Err, append-nil, append_assoc}
-use Rattle.std.proofs.lemmas.List.{take-append-drop, drop-append-le}
+use Rattle.std.proofs.lemmas.List.{take-append-drop, drop-append-le, drop-drop}
+use Rattle.std.proofs.Math.Seq.{drop-length}
 use Rattle.pt_base.specs.Files.{Files, Opened, unread, unread_of, taken_of, with_read}
 use Rattle.bit_image.specs.Page.{Page as Pixels}
 use Rattle.std.specs.Prelude.{IsErrOf}
@@ -12,20 +13,24 @@ use Rattle.bitmap_input.specs.declared.next.Next.{Next}
 use Rattle.bitmap_input.specs.declared.next.Next.TheVariants as next
 use Rattle.bitmap_input.specs.Cut.{Ending, is_by_end}
 use Rattle.bitmap_input.specs.Cut.Ending.{End, Trailing}
-use Rattle.bitmap_input.specs.Raw.{Raw, shown, IsShown}
+use Rattle.bitmap_input.specs.Cut.Cut.{Takes}
+use Rattle.bitmap_input.specs.Raw.{Raw, shown}
+use Rattle.bitmap_input.specs.Behind.{IsRead, counted_page}
+use Rattle.bitmap_input.specs.declared.extent.ReadPage.{ReadPage}
 use Rattle.bitmap_input.specs.Front.{Answer, front, page_at, answer_of}
 use Rattle.bitmap_input.specs.Front.Answer.{Page, Ends}
 use Rattle.bitmap_input.specs.FilePages.{next_begins}
 use Rattle.bitmap_input.specs.Reading.{Held, AtEnd, Moves, Cause, cause_of, cause_of_fault, StopsBy, Reads, CountsBy}
 use Rattle.bitmap_input.specs.Reading.Cause.{Says, Device, Memory}
-use Rattle.bitmap_input.specs.Reader.{Reader, is_later, ahead, Answers, GivesPage, GivesEnding, TellsPage, IfSays, IsAnswer}
-use Rattle.bitmap_input.proofs.Appending.{front_stays}
+use Rattle.bitmap_input.specs.Reader.{Reader, is_later, ahead, Answers, GivesPage, GivesEnding, ReadFails, TellsPage, IfSays, IsAnswer}
+use Rattle.bitmap_input.proofs.FrontStays.{front_stays}
 use Rattle.bitmap_input.proofs.Telling.{not_true}
-use Rattle.bitmap_input.proofs.Keeping.{rest_behind, next_begins-used, front_begins, front_used}
+use Rattle.bitmap_input.proofs.FrontKeeps.{rest_behind}
+use Rattle.bitmap_input.proofs.Behind.{forget, forget-page, stops_forget, begins_behind, front_within, begins_with_more, ahead_with_more}
 
 -- a reader that holds this
-abbrev pub reader_of : Held → ℕ → Bool → Reader
-reader_of h pages over = record { bytes = h.bytes; skip = 0; pages = pages; ended = h.ended; over = over }
+abbrev pub reader_of : Held → ℕ → ℕ → Bool → Reader
+reader_of h skip pages over = record { bytes = h.bytes; skip = skip; pages = pages; ended = h.ended; over = over }
 
 -- Where the file's rest is told.
 
@@ -59,50 +64,82 @@ if_nothing : (o : Option (List ℕ)) → IfSome o (λ _. Unit {0})
 if_nothing None = tt
 if_nothing (Some rest) = tt
 
-module _ (level : ℕ) (invert : Bool) (h h2 : Held) (pages pages2 : ℕ) (was over : Bool) (before now : Option Files) where
+-- what is said of an ending holds where there is one
+pub if_says : (why : Cause) (P : Ending → Type 0) → ((ending : Ending) → why ≡ Says ending → P ending) → IfSays why P
+if_says (Says ending) P each = each ending refl
+if_says Device P each = tt
+if_says Memory P each = tt
+
+left_over : (used n : ℕ) → n ≡ (used + n) - used
+left_over used n = omega arith
+
+-- the bytes behind the used ones and then behind the skipped ones
+left_behind : (used skipped begins : ℕ) (taken tail : List ℕ) → used ≤ length taken → used ≤ begins → skipped ≡ begins - used →
+    drop skipped (drop used taken ++ tail) ≡ drop begins (taken ++ tail)
+left_behind used skipped begins taken tail within least is =
+    let n : used + skipped ≡ begins = omega arith in
+    ap (drop skipped) (sym (drop-append-le used taken tail within)) ∙ drop-drop skipped used (taken ++ tail) ∙ ap (λ m. drop m (taken ++ tail)) n
+
+module _ (level : ℕ) (invert : Bool) (h h2 : Held) (skip skip2 pages pages2 : ℕ) (was over : Bool) (before now : Option Files) where
   abbrev pub old : Reader
-  old = reader_of h pages was
+  old = reader_of h skip pages was
 
   abbrev pub new : Reader
-  new = reader_of h2 pages2 over
+  new = reader_of h2 skip2 pages2 over
 
-  pub gives_page : {page : Pixels} → Reads (IsShown level invert) (page_at (is_later old)) h before (Ok page) h2 now → pages2 ≡ pages + 1 → over ≡ false →
-      GivesPage level invert old before page new now
-  gives_page r counted going_on =
-      let (e, raw, shows, takes, settled) = r.gives in
-      let bytes : List ℕ = h.bytes ++ r.more in
+  -- what was read, as the bytes say it
+  abbrev pub ReadsAhead : Result ReadPage Stop → Type 0
+  ReadsAhead result = Reads (IsRead level invert) (λ bytes. counted_page (is_later old) (drop skip bytes)) h before result h2 now
+
+  pub gives_page : {read : ReadPage} → ReadsAhead (Ok read) → skip2 ≡ read.behind → pages2 ≡ pages + 1 → over ≡ false →
+      GivesPage level invert old before read.page new now
+  gives_page r claimed counted going_on =
+      let (e, p, is, takes, settled) = r.gives in
+      let bytes : List ℕ = ahead old r.more in
+      let page : page_at (is_later old) bytes ≡ Takes e p.0 h2.bytes = sym (forget-page (is_later old) bytes) ∙ ap forget takes in
       let used : ℕ = length bytes - length h2.bytes in
-      let begins : next_begins bytes raw used ≡ used = next_begins-used (is_later old) bytes e raw h2.bytes takes in
+      let begins : next_begins bytes p.0 used ≡ used + (p.0.least_length - (2 + p.1)) = begins_behind (is_later old) bytes e p.0 p.1 h2.bytes takes in
       record {
-        raw = raw;
+        raw = p.0;
         used = used;
         answers = record {
           more = r.more;
           moves = r.moves;
-          is = ap (answer_of bytes) takes;
-          settled = λ end. settled (sym (ap is_by_end takes) ∙ end);
+          is = ap (answer_of bytes) page;
+          settled = λ end. settled (sym (ap is_by_end page) ∙ end);
         };
-        shows = shows;
-        left = rest_behind (is_later old) bytes e raw h2.bytes takes;
-        skipped = rw begins (omega arith);
+        shows = is.0;
+        left = rest_behind (is_later old) bytes e p.0 h2.bytes page;
+        skipped = rw begins (claimed ∙ is.1 ∙ left_over used (p.0.least_length - (2 + p.1)));
         counted = counted;
         going_on = going_on;
       }
 
-  pub gives_ending : (stop : Stop) → Reads (IsShown level invert) (page_at (is_later old)) h before (Err stop) h2 now → pages2 ≡ pages → over ≡ true → (ending : Ending) →
+  -- why no page was read, as the bytes say it
+  stops_ahead : (stop : Stop) → (r : ReadsAhead (Err stop)) → StopsBy (page_at (is_later old) (ahead old r.more)) (cause_of stop) h2
+  stops_ahead stop r =
+      subst (λ c. StopsBy c (cause_of stop) h2) (forget-page (is_later old) (ahead old r.more))
+      (stops_forget (counted_page (is_later old) (ahead old r.more)) (cause_of stop) h2 r.gives)
+
+  pub gives_ending : (stop : Stop) → ReadsAhead (Err stop) → pages2 ≡ pages → over ≡ true → (ending : Ending) →
       cause_of stop ≡ Says ending → GivesEnding old before ending new now
   gives_ending stop r counted is_over ending why =
-      let (e, is, settled) = subst (λ why. StopsBy (page_at (is_later old) (h.bytes ++ r.more)) why h2) why r.gives in
+      let (e, is, settled) = subst (λ why. StopsBy (page_at (is_later old) (ahead old r.more)) why h2) why (stops_ahead stop r) in
       record {
         answers = record {
           more = r.more;
           moves = r.moves;
-          is = ap (answer_of (h.bytes ++ r.more)) is;
+          is = ap (answer_of (ahead old r.more)) is;
           settled = λ end. settled (sym (ap is_by_end is) ∙ end);
         };
         counted = counted;
         over = is_over;
       }
+
+  pub fails_read : (stop : Stop) → ReadsAhead (Err stop) → pages2 ≡ pages → over ≡ true → cause_of stop ≡ Device → ReadFails old before new now
+  fails_read stop r counted is_over why =
+      let stops = subst (λ why. StopsBy (page_at (is_later old) (ahead old r.more)) why h2) why (stops_ahead stop r) in
+      record { more = r.more; moves = r.moves; by_end = stops.0; going_on = stops.1; counted = counted; over = is_over }
 
   -- no byte is left of the rest: by then all of it had been taken
   none_left : {more : List ℕ} (rest : List ℕ) → (h.ended ≡ true → AtEnd before) → unread before ≡ Some rest →
@@ -126,46 +163,60 @@ module _ (level : ℕ) (invert : Bool) (h h2 : Held) (pages pages2 : ℕ) (was o
             sym (append_assoc h.bytes more (drop (length more) rest)),
       )
 
+  -- the bytes ahead, where the rest is told: those that were taken and what follows them
+  ahead_told : {answer : Answer} (t : Bool) (rest : List ℕ) → (h.ended ≡ true → AtEnd before) → unread before ≡ Some rest →
+      (a : Answers old before answer new now) → is_by_end (page_at (is_later old) (ahead old a.more)) ≡ t →
+      ahead old rest ≡ ahead old a.more ++ drop (length a.more) rest
+  ahead_told true rest at_end is a test =
+      let same : a.more ≡ rest = none_left rest at_end is a.moves (taken_first rest is a.moves).0 (a.settled test) in
+      let none : drop (length a.more) rest ≡ [] = ap (λ xs. drop (length xs) rest) same ∙ drop-length rest in
+      ap (ahead old) (sym same) ∙ sym (append-nil (ahead old a.more)) ∙ ap (λ xs. ahead old a.more ++ xs) (sym none)
+  ahead_told false rest at_end is a test =
+      ap (drop skip) (taken_first rest is a.moves).1 ∙ ahead_with_more skip (is_later old) (h.bytes ++ a.more) (drop (length a.more) rest) test
+
   -- what the bytes that were taken say, the whole rest says
   answer_told : {answer : Answer} (t : Bool) (rest : List ℕ) → (h.ended ≡ true → AtEnd before) → unread before ≡ Some rest →
-      (a : Answers old before answer new now) → is_by_end (page_at (is_later old) (h.bytes ++ a.more)) ≡ t →
-      front (is_later old) (h.bytes ++ rest) ≡ answer
+      (a : Answers old before answer new now) → is_by_end (page_at (is_later old) (ahead old a.more)) ≡ t →
+      front (is_later old) (ahead old rest) ≡ answer
   answer_told true rest at_end is a test =
       let same : a.more ≡ rest = none_left rest at_end is a.moves (taken_first rest is a.moves).0 (a.settled test) in
-      ap (λ xs. front (is_later old) (h.bytes ++ xs)) (sym same) ∙ a.is
+      ap (λ xs. front (is_later old) (ahead old xs)) (sym same) ∙ a.is
   answer_told false rest at_end is a test =
-      ap (front (is_later old)) (taken_first rest is a.moves).1 ∙
-      front_stays (is_later old) (h.bytes ++ a.more) (drop (length a.more) rest) test ∙ a.is
+      ap (front (is_later old)) (ahead_told false rest at_end is a test) ∙
+      front_stays (is_later old) (ahead old a.more) (drop (length a.more) rest) test ∙ a.is
 
   pub told_page : {page : Pixels} → (h.ended ≡ true → AtEnd before) → GivesPage level invert old before page new now →
       IfSome (unread before) (λ rest. TellsPage level invert old rest page new now)
   told_page {page} at_end gives =
       where_told (unread before) (λ rest. TellsPage level invert old rest page new now) (λ rest is.
       let answers = gives.answers in
-      let tells : front (is_later old) (h.bytes ++ rest) ≡ Page gives.raw gives.used
-      = answer_told (is_by_end (page_at (is_later old) (h.bytes ++ answers.more))) rest at_end is answers refl in
+      let taken : List ℕ = ahead old answers.more in
+      let tail : List ℕ = drop (length answers.more) rest in
+      let by_end : Bool = is_by_end (page_at (is_later old) taken) in
       record {
         raw = gives.raw;
         used = gives.used;
-        is = tells;
+        is = answer_told by_end rest at_end is answers refl;
         shows = gives.shows;
-        left = where_told (unread now) (λ more. h2.bytes ++ more ≡ drop (next_begins (h.bytes ++ rest) gives.raw gives.used) (h.bytes ++ rest)) (λ more now_is.
-            let behind : more ≡ drop (length answers.more) rest
+        left = where_told (unread now) (λ more. ahead new more ≡ drop (next_begins (ahead old rest) gives.raw gives.used) (ahead old rest)) (λ more now_is.
+            let behind : more ≡ tail
             = rest_after before (length answers.more) rest more is (subst (λ (f : Option Files). unread f ≡ Some more) answers.moves.files now_is) in
-            let within : gives.used ≤ length (h.bytes ++ answers.more) = front_used (is_later old) (h.bytes ++ answers.more) gives.raw gives.used answers.is in
-            let begins : next_begins (h.bytes ++ rest) gives.raw gives.used ≡ gives.used = front_begins (is_later old) (h.bytes ++ rest) gives.raw gives.used tells in
-            rw (begins, gives.left, behind, (taken_first rest is answers.moves).1, drop-append-le gives.used (h.bytes ++ answers.more) (drop (length answers.more) rest) within) refl);
+            let within = front_within (is_later old) taken gives.raw gives.used answers.is in
+            let begins : next_begins (taken ++ tail) gives.raw gives.used ≡ next_begins taken gives.raw gives.used
+            = begins_with_more taken tail gives.raw gives.used within.1 in
+            rw (ahead_told by_end rest at_end is answers refl, begins, behind, gives.left)
+            (left_behind gives.used skip2 (next_begins taken gives.raw gives.used) taken tail within.0 (omega arith) gives.skipped));
       })
 
   pub told_ending : {ending : Ending} → (h.ended ≡ true → AtEnd before) → GivesEnding old before ending new now →
-      IfSome (unread before) (λ rest. front (is_later old) (h.bytes ++ rest) ≡ Ends ending)
+      IfSome (unread before) (λ rest. front (is_later old) (ahead old rest) ≡ Ends ending)
   told_ending {ending} at_end gives =
-      where_told (unread before) (λ rest. front (is_later old) (h.bytes ++ rest) ≡ Ends ending) (λ rest is.
-      answer_told (is_by_end (page_at (is_later old) (h.bytes ++ gives.answers.more))) rest at_end is gives.answers refl)
+      where_told (unread before) (λ rest. front (is_later old) (ahead old rest) ≡ Ends ending) (λ rest is.
+      answer_told (is_by_end (page_at (is_later old) (ahead old gives.answers.more))) rest at_end is gives.answers refl)
 
   -- the same of a fault that the bytes say
   pub told_says : (why : Cause) → (h.ended ≡ true → AtEnd before) → ((ending : Ending) → why ≡ Says ending → GivesEnding old before ending new now) →
-      IfSome (unread before) (λ rest. IfSays why (λ ending. front (is_later old) (h.bytes ++ rest) ≡ Ends ending))
+      IfSome (unread before) (λ rest. IfSays why (λ ending. front (is_later old) (ahead old rest) ≡ Ends ending))
   told_says (Says ending) at_end gives = told_ending at_end (gives ending refl)
   told_says Device at_end gives = if_nothing (unread before)
   told_says Memory at_end gives = if_nothing (unread before)

@@ -38,7 +38,7 @@ block_is_short {old} {held} {new} n done row now_row s len less on none ended =
     }
 
 -- the row that was filled up to a place, and k bytes further
-row_front : (done k : ℕ) (row sub : List ℕ) → done ≤ length row → k ≤ length sub →
+pub row_front : (done k : ℕ) (row sub : List ℕ) → done ≤ length row → k ≤ length sub →
     take (done + k) (put_mid done (length row - done) row sub) ≡ take done row ++ take k sub
 row_front done k row sub within fits =
     let n : done + k ≤ done + length sub = omega arith in

@@ -6,10 +6,10 @@ use Rattle.bit_image.specs.Page.{Page as Pixels, SameSides, image_of, page_of}
 use Rattle.bitmap_input.specs.declared.stop.Stop.{Stop}
 use Rattle.bitmap_input.specs.declared.header.Sides.{Sides}
 use Rattle.bitmap_input.specs.Header.{IsSides}
-use Rattle.bitmap_input.specs.Cut.{Cut, ◌>>=◌}
+use Rattle.bitmap_input.specs.Cut.{Cut}
 use Rattle.bitmap_input.specs.Cut.Cut.{Takes}
 use Rattle.bitmap_input.specs.Parts.{times}
-use Rattle.bitmap_input.specs.Raw.{Raw, Entry, entries_page, black, IsShown}
+use Rattle.bitmap_input.specs.Raw.{Entry, entries_page, black, IsShown}
 use Rattle.bitmap_input.specs.Front.{raster}
 use Rattle.bitmap_input.specs.Raster.{with_rows}
 use Rattle.bitmap_input.specs.Reading.{Held, Reads}

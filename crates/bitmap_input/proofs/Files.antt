@@ -7,7 +7,7 @@ use Rattle.bitmap_input.specs.Front.{Answer, front}
 use Rattle.bitmap_input.specs.Front.Answer.{Page, Ends}
 use Rattle.bitmap_input.specs.FilePages.{FilePages, next_begins}
 use Rattle.bitmap_input.specs.FilePages.FilePages.{Ended, Next}
-use Rattle.bitmap_input.proofs.Keeping.{front_takes_some}
+use Rattle.bitmap_input.proofs.FrontKeeps.{front_takes_some}
 
 pub file_pages_same : {later : Bool} {bytes : List ℕ} {raws others : List Raw} {ending other : Ending} →
     FilePages later bytes raws ending → FilePages later bytes others other → (others ≡ raws) × (other ≡ ending)

@@ -1,10 +1,9 @@
 -- Samples that become pixels: how a row of bytes holds them, and when a number that was cut is the same
 -- pixel as the whole one.
 use Rattle.std.proofs.Common.{◌≡◌, refl, ℕ, zero, suc, ◌+◌, ◌*◌, ◌≤◌, ◌<◌, inl, inr, Bool, true, false, List, [], ◌∷◌, length, get_or, arith, ap, sym, ◌∙◌}
-use Rattle.std.specs.Prelude.{nat_le, if◌then◌else◌}
+use Rattle.std.specs.Prelude.{if◌then◌else◌}
 use Rattle.std.proofs.lemmas.Bool.{lt-leb, cases_lt}
 use Rattle.std.proofs.lemmas.Nat.{mul-le}
-use Rattle.bit_image.specs.Image.{differ}
 use Rattle.threshold_map.specs.Levels.{is_gray_black}
 use Rattle.bitmap_input.specs.Raw.{samples}
 use Rattle.bitmap_input.specs.Run.{cap, IsCapped}

@@ -1,7 +1,10 @@
 mod Examples
+mod BmpExamples
 mod GrayExamples
 pub mod Bytes
 pub mod Appending
+pub mod BmpStays
+pub mod FrontStays
 pub mod Telling
 pub mod Places
 pub mod Running
@@ -9,11 +12,20 @@ pub mod Digits
 pub mod Headers
 pub mod Painting
 pub mod Blocks
+pub mod Skipping
+pub mod Heads
+pub mod BmpReading
+pub mod BmpPixels
 pub mod Placing
 pub mod Graying
 pub mod Showing
 pub mod Bodies
+pub mod BmpPictures
 pub mod Keeping
+pub mod BmpKeeps
+pub mod BmpLengths
+pub mod FrontKeeps
+pub mod Behind
 pub mod Answering
 pub mod Longest
 pub mod Files

@@ -26,7 +26,7 @@ rows_above b (suc y) u v (r ∷ rs) above =
     rows_above (with_row b y r) y u v rs (omega arith) ∙ with_pixels-other b y 0 u v r (λ e _ _. omega arith)
 
 -- a row on a white one
-row_at : (b : Image) (y u : ℕ) (r : List Bool) → b u y ≡ false → with_row b y r u y ≡ get_or r u false
+pub row_at : (b : Image) (y u : ℕ) (r : List Bool) → b u y ≡ false → with_row b y r u y ≡ get_or r u false
 row_at b y u r white = elim (cases_lt u (length r)) [
   | inl h ↦ with_pixels-at b y 0 u u r (omega arith) h
   | inr h ↦ with_pixels-other b y 0 u y r (λ _ _ g. omega arith) ∙ white ∙ sym (get_or_past r u false h)

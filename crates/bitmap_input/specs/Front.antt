@@ -1,31 +1,30 @@
 -- The first page of a list of bytes, or what stands there in place of one (Netpbm's format pages
 -- "pbm" and "pgm"): the parts of a page one after another, as far as each is there and passes its checks.
-use Rattle.std.specs.Prelude.{ℕ, ◌-◌, ◌*◌, Bool, true, false, ◌||◌, List, [], ◌∷◌, length, take, if◌then◌else◌, nat_eq, nat_lt, Option, Some, None}
+use Rattle.std.specs.Prelude.{ℕ, ◌-◌, ◌*◌, Bool, true, false, ◌&&◌, ◌||◌, List, [], ◌∷◌, length, take, if◌then◌else◌, nat_eq, nat_lt, Option, Some, None}
 use Rattle.bitmap_input.specs.Cut.{Ending, Cut, ◌>>=◌}
 use Rattle.bitmap_input.specs.Cut.Kind.{UnknownFormat, BadHeader, ZeroSide, TooLarge, BadRaster}
 use Rattle.bitmap_input.specs.Cut.Ending.{End, Trailing, Refused}
 use Rattle.bitmap_input.specs.Cut.Cut.{Takes, Stops}
 use Rattle.bitmap_input.specs.Parts.{is_zero, spaces, gap, number_behind_gap, space, pixel, block, times}
+pub use Rattle.bitmap_input.specs.Sides.{longest_side, checked}
+use Rattle.bitmap_input.specs.Bmp.{bmp}
 use Rattle.bitmap_input.specs.Raw.{Raw, Entry, entries_page, row_bytes, unpacked, samples}
 use Rattle.bitmap_input.specs.Raw.Entry.{Bit, Sample}
 
--- the known formats: plain and raw PBM, and plain and raw PGM
+-- the known formats: plain and raw PBM, plain and raw PGM, and BMP
 pub data Magic : Type 0 where
   PlainBits : Magic
   RawBits : Magic
   PlainGray : Magic
   RawGray : Magic
-
--- the greatest side of a page
-abbrev pub longest_side : ℕ
-longest_side = 16384
+  Picture : Magic
 
 -- no known magic stands there: a first page is of an unknown format, and after a page the file ends
 abbrev pub no_magic : Bool → Bool → Cut Magic
 no_magic e true = Stops e Trailing
 no_magic e false = Stops e (Refused UnknownFormat)
 
--- the format that two bytes name: `P` and then `1`, `2`, `4` or `5`
+-- the format that two bytes name: `P` and then `1`, `2`, `4` or `5`, or `BM`
 abbrev pub magic_named : ℕ → ℕ → Option Magic
 magic_named a b =
     if nat_eq a 80 then
@@ -33,7 +32,7 @@ magic_named a b =
     else (if nat_eq b 50 then Some PlainGray
     else (if nat_eq b 52 then Some RawBits
     else (if nat_eq b 53 then Some RawGray else None))))
-    else None
+    else (if nat_eq a 66 && nat_eq b 77 then Some Picture else None)
 
 -- a magic where its two bytes name a format
 abbrev pub magic_of_name : Bool → Option Magic → List ℕ → Cut Magic
@@ -51,13 +50,6 @@ magic true [] = Stops true End
 magic false [] = Stops true (Refused UnknownFormat)
 magic true (a ∷ rest) = magic_behind true a rest
 magic false (a ∷ rest) = magic_behind false a rest
-
--- both sides are in range: first none is 0, and then none is too large
-abbrev pub checked : ℕ → ℕ → List ℕ → Cut (ℕ × ℕ)
-checked width height bytes =
-    if is_zero width || is_zero height then Stops false (Refused ZeroSide)
-    else (if nat_lt longest_side width || nat_lt longest_side height then Stops false (Refused TooLarge)
-    else Takes false (width, height) bytes)
 
 -- the width and the height
 abbrev pub sides : List ℕ → Cut (ℕ × ℕ)
@@ -117,6 +109,7 @@ body PlainGray bytes =
 body RawGray bytes =
     sides bytes >>= λ s rest. maxval rest >>= λ white rest. space rest >>= λ _ rest.
     raster (λ v. Sample v white) (raw_gray_row white s.0) s.0 s.1 rest
+body Picture bytes = bmp bytes
 
 -- the page that stands at the front of the bytes, with whitespace before its magic or not
 abbrev pub page_at : Bool → List ℕ → Cut Raw

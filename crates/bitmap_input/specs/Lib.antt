@@ -2,6 +2,10 @@ pub mod Cut
 pub mod Parts
 pub mod Sets
 pub mod Raw
+pub mod Sides
+pub mod BmpHeader
+pub mod BmpRaster
+pub mod Bmp
 pub mod Front
 pub mod FilePages
 pub mod Reading
@@ -9,6 +13,9 @@ pub mod Window
 pub mod Run
 pub mod Number
 pub mod Header
+pub mod BmpHead
 pub mod Shading
 pub mod Raster
+pub mod Skip
+pub mod Behind
 pub mod Reader

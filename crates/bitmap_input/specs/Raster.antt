@@ -22,6 +22,12 @@ with_rows b y [] = b
 with_rows b zero (r ∷ rs) = b
 with_rows b (suc y) (r ∷ rs) = with_rows (with_row b y r) y rs
 
+-- the image with these rows, of which the one with number i, and those after it, stand where they are
+-- placed
+abbrev pub with_placed : (ℕ → ℕ) → Image → ℕ → List (List Bool) → Image
+with_placed place b i [] = b
+with_placed place b i (r ∷ rs) = with_placed place (with_row b (place i) r) (suc i) rs
+
 -- so far a part was read some times and its values were painted: what is read and painted from
 -- here on is the rest of the whole
 pub record IsPaintedSoFar {A : Type 0} (part : List ℕ → Cut A) (old : Held) (before : Option Files) (whole : List A → Image) (n : ℕ) (held : Held) (files : Option Files) (rest : List A → Image) (left : ℕ) : Type 0 where

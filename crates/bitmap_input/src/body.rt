@@ -4,9 +4,12 @@ ghost use Rattle.bit_image.specs.Page.{Page, image_of, page_of};
 ghost use Rattle.bitmap_input.specs.Reading.{Reads, Counts};
 ghost use Rattle.bitmap_input.specs.Front.{body};
 ghost use Rattle.bitmap_input.specs.Front.Magic.{PlainBits as plain_bits, RawBits as raw_bits, PlainGray as plain_gray, RawGray as raw_gray};
+ghost use Rattle.bitmap_input.specs.Behind.{IsRead, counted_body};
 ghost use Rattle.bitmap_input.specs.Header.{magic_of};
 ghost use Rattle.bitmap_input.specs.Raw.{IsShown};
 
+use crate::bmp::read_bmp;
+use crate::extent::{ReadPage, claiming_none};
 use crate::fault::InFault;
 use crate::gray::{Shading, read_plain_gray_rows, read_raw_gray_rows, row_bytes};
 use crate::header::{Format, read_maxval, read_sides, skip_space};
@@ -20,8 +23,8 @@ use pt_base::inputs::Inputs;
 use std::alloc::Global;
 use threshold_map::level::Level;
 
-// A page is known by its pixels.
-fn known(page: &Bitmap)
+/// A page is known by its pixels.
+pub(crate) fn known(page: &Bitmap)
     ensures { page.now ≡ page_of page.now.width page.now.height (image_of page.now) }
 {
     pages_are_known_by_pixels();
@@ -148,17 +151,20 @@ pub(crate) fn read_body<I: Inputs>(
     format: Format,
     level: &Level,
     invert: bool,
-) -> Result<Bitmap, Stop>
+) -> Result<ReadPage, Stop>
     requires { I.is_opened inputs.old ≡ true }
-    ensures reads { Reads (IsShown level.now invert) (body (magic_of format)) window.old (I.files inputs.old) result window.new (I.files inputs.new) }
+    ensures reads { Reads (IsRead level.now invert) (counted_body (magic_of format)) window.old (I.files inputs.old) result window.new (I.files inputs.new) }
     ensures counts { Counts result (I.faults inputs.old) (I.faults inputs.new) }
     ensures stays_opened { I.is_opened inputs.new ≡ true }
     ensures same_openings { I.openings inputs.new ≡ I.openings inputs.old }
 {
     match format {
-        Format::PlainBits => read_plain_body(alloc, window, inputs, invert),
-        Format::RawBits => read_raw_body(alloc, window, inputs, invert),
-        Format::PlainGray => read_plain_gray_body(alloc, window, inputs, level, invert),
-        Format::RawGray => read_raw_gray_body(alloc, window, inputs, level, invert),
+        Format::PlainBits => claiming_none(read_plain_body(alloc, window, inputs, invert)),
+        Format::RawBits => claiming_none(read_raw_body(alloc, window, inputs, invert)),
+        Format::PlainGray => {
+            claiming_none(read_plain_gray_body(alloc, window, inputs, level, invert))
+        }
+        Format::RawGray => claiming_none(read_raw_gray_body(alloc, window, inputs, level, invert)),
+        Format::Picture => read_bmp(alloc, window, inputs, level, invert),
     }
 }

@@ -29,6 +29,8 @@ pub(crate) enum Format {
     PlainGray,
     /// `P5`, raw PGM.
     RawGray,
+    /// `BM`, a BMP picture.
+    Picture,
 }
 
 /// The sides of a page in pixels, each from 1 to 16384.
@@ -58,6 +60,7 @@ fn format_named(first: u8, second: u8) -> Option<Format>
         (b'P', b'2') => Some(Format::PlainGray),
         (b'P', b'4') => Some(Format::RawBits),
         (b'P', b'5') => Some(Format::RawGray),
+        (b'B', b'M') => Some(Format::Picture),
         _ => None,
     }
 }
@@ -139,7 +142,7 @@ pub(crate) fn skip_space<I: Inputs>(window: &mut Window, inputs: &mut I) -> Resu
 }
 
 // The two numbers as the sides of a page.
-fn check(width: u32, height: u32) -> Result<Sides, Stop>
+pub(crate) fn check(width: u32, height: u32) -> Result<Sides, Stop>
     ensures checks { Checks width height result }
     ensures width { IfOk result (λ s. (1 ≤ s.width) × (s.width ≤ LONGEST_SIDE)) }
     ensures height { IfOk result (λ s. (1 ≤ s.height) × (s.height ≤ LONGEST_SIDE)) }

@@ -13,7 +13,9 @@
 //! `reader` has the reader, `next` and `fault` its answers, and `laws` what its definitions keep.
 #![tactic(auto)]
 
+mod bmp;
 mod body;
+mod extent;
 pub mod fault;
 mod gray;
 mod header;
@@ -24,6 +26,7 @@ mod plain;
 mod raw;
 pub mod reader;
 mod run;
+mod skip;
 mod stop;
 #[cfg(test)]
 mod tests;

@@ -15,7 +15,7 @@ use pt_base::inputs::Inputs;
 
 // A number is cut here where it is larger: it is too large for a side, for the sample for white and for a
 // black sample either way.
-const CAP: u32 = 100000;
+pub(crate) const CAP: u32 = 100000;
 
 /// A part of a page, to which a number belongs.
 #[derive(Clone, Copy, Debug)]

@@ -1,21 +1,23 @@
 //! The reader of the pages of a file.
-ghost use Rattle.std.specs.Prelude.{◌≡◌, ℕ, ◌<◌, ◌≤◌, ◌⊎◌, true, false, length, IfOk, IfSome, OnOk, IsErrOf};
+ghost use Rattle.std.specs.Prelude.{◌≡◌, ℕ, ◌<◌, ◌≤◌, ◌⊎◌, true, false, length, drop, IfOk, IfSome, OnOk, IsErrOf};
 ghost use Rattle.pt_base.specs.Counts.{Rose};
 ghost use Rattle.pt_base.specs.Files.{unread};
 ghost use Rattle.bitmap_input.specs.Reading.{AtEnd, Reads, Counts};
 ghost use Rattle.bitmap_input.specs.Raw.{IsShown};
 ghost use Rattle.bitmap_input.specs.Front.{front, page_at};
 ghost use Rattle.bitmap_input.specs.Front.Answer.{Ends};
+ghost use Rattle.bitmap_input.specs.Behind.{IsRead, counted_page};
 ghost use Rattle.bitmap_input.specs.Reader.{at_start, is_later, ahead, GivesPage, GivesEnding, ReadFails, MemoryFails, TellsPage, is_over, IfPage, IfEnding, IsAnswer};
 
 use crate::body::read_body;
+use crate::extent::ReadPage;
 use crate::fault::InFault;
 use crate::header::read_magic;
 use crate::next::Next;
 use crate::run::{Run, skip};
+use crate::skip::pass_over;
 use crate::stop::Stop;
 use crate::window::Window;
-use bit_image::bitmap::Bitmap;
 use pt_base::fault::NoMemory;
 use pt_base::inputs::Inputs;
 use std::alloc::Global;
@@ -26,6 +28,8 @@ use threshold_map::level::Level;
 #[derive(Debug, Drop)]
 pub struct PageReader {
     window: Window,
+    // The bytes behind the last page that it claims, which the next call passes over.
+    skip: u32,
     pages: u32,
     over: bool,
 }
@@ -36,7 +40,7 @@ impl Model for PageReader {
 
     ghost Value = { Reader };
 
-    ghost view = { λ r. record { bytes = r.window.bytes; skip = 0; pages = r.pages; ended = r.window.ended; over = r.over } };
+    ghost view = { λ r. record { bytes = r.window.bytes; skip = r.skip; pages = r.pages; ended = r.window.ended; over = r.over } };
 
     ghost invariant = { λ r. length r.window.bytes ≤ 65536 };
 }
@@ -49,9 +53,9 @@ fn read_page<I: Inputs>(
     later: bool,
     level: &Level,
     invert: bool,
-) -> Result<Bitmap, Stop>
+) -> Result<ReadPage, Stop>
     requires { I.is_opened inputs.old ≡ true }
-    ensures reads { Reads (IsShown level.now invert) (page_at later) window.old (I.files inputs.old) result window.new (I.files inputs.new) }
+    ensures reads { Reads (IsRead level.now invert) (counted_page later) window.old (I.files inputs.old) result window.new (I.files inputs.new) }
     ensures counts { Counts result (I.faults inputs.old) (I.faults inputs.new) }
     ensures stays_opened { I.is_opened inputs.new ≡ true }
     ensures same_openings { I.openings inputs.new ≡ I.openings inputs.old }
@@ -59,6 +63,26 @@ fn read_page<I: Inputs>(
     skip(window, inputs, Run::Space)?;
     let format = read_magic(window, inputs, later)?;
     read_body(alloc, window, inputs, format, level, invert)
+}
+
+// The next page, behind bytes that the last one claims. Where the file ends sooner there is none.
+fn read_ahead<I: Inputs>(
+    alloc: Global,
+    window: &mut Window,
+    inputs: &mut I,
+    behind: u32,
+    later: bool,
+    level: &Level,
+    invert: bool,
+) -> Result<ReadPage, Stop>
+    requires { I.is_opened inputs.old ≡ true }
+    ensures reads { Reads (IsRead level.now invert) (λ bytes. counted_page later (drop behind bytes)) window.old (I.files inputs.old) result window.new (I.files inputs.new) }
+    ensures counts { Counts result (I.faults inputs.old) (I.faults inputs.new) }
+    ensures stays_opened { I.is_opened inputs.new ≡ true }
+    ensures same_openings { I.openings inputs.new ≡ I.openings inputs.old }
+{
+    pass_over(window, inputs, behind)?;
+    read_page(alloc, window, inputs, later, level, invert)
 }
 
 impl PageReader {
@@ -69,6 +93,7 @@ impl PageReader {
         let window = Window::new(alloc)?;
         Ok(PageReader {
             window,
+            skip: 0,
             pages: 0,
             over: false,
         })
@@ -79,6 +104,7 @@ impl PageReader {
         ensures { self.new ≡ at_start }
     {
         self.window.clear();
+        self.skip = 0;
         self.pages = 0;
         self.over = false;
     }
@@ -142,12 +168,21 @@ impl PageReader {
             return Ok(Next::Over);
         }
         let later = self.pages > 0;
-        let answer = read_page(alloc, &mut self.window, inputs, later, level, invert);
+        let answer = read_ahead(
+            alloc,
+            &mut self.window,
+            inputs,
+            self.skip,
+            later,
+            level,
+            invert,
+        );
         self.window.bounded();
         match answer {
-            Ok(page) => {
+            Ok(read) => {
                 self.pages += 1;
-                Ok(Next::Page(page))
+                self.skip = read.behind;
+                Ok(Next::Page(read.page))
             }
             Err(stop) => {
                 self.over = true;

@@ -3,6 +3,7 @@
 
 ghost use Rattle.std.specs.Prelude.{◌≤◌};
 
+mod bmp;
 mod gray;
 
 use crate::fault::InFault;

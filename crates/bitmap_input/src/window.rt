@@ -140,6 +140,19 @@ impl Window {
         self.start += 1;
     }
 
+    /// Goes on behind the first bytes, as many as are here and no more than this: how many.
+    pub(crate) fn pass_some(&mut self, most: u32) -> u32
+        ensures within { result ≤ most }
+        ensures fits { result ≤ length self.old.bytes }
+        ensures some { 0 < most → 0 < length self.old.bytes → 0 < result }
+        ensures bytes { self.new.bytes ≡ drop result self.old.bytes }
+        ensures ended { self.new.ended ≡ self.old.ended }
+    {
+        let n = (most as usize).min(self.end - self.start);
+        self.start += n;
+        n as u32
+    }
+
     /// Copies the first bytes to the beginning of `to`, as many as are here and fit, and goes on
     /// behind them.
     pub(crate) fn give(&mut self, to: &mut [u8]) -> usize

@@ -1,4 +1,4 @@
-use Rattle.std.proofs.Common.{◌≡◌, ℕ, ◌<◌, ◌≤◌, true, false, length, map}
+use Rattle.std.proofs.Common.{◌≡◌, ◌≤◌, true, length, map}
 use Rattle.bitmap_input.specs.Shading.{black_of}
 use Rattle.bit_image.specs.Page.{SameSides, image_of}
 use Rattle.bitmap_input.specs.Front.{gray_row_bytes, raw_gray_row}

@@ -1,5 +1,4 @@
-use Rattle.std.proofs.Common.{sym, ap, ◌∙◌, arith, ◌≡◌, ◌<◌, ◌+◌, ◌*◌, true, length, get_or}
-use Rattle.bitmap_input.specs.Raw.{samples}
+use Rattle.std.proofs.Common.{sym, arith}
 use Rattle.bitmap_input.proofs.Graying.{wide_within, wide_sample}
 use Rattle.bitmap_input.proofs.gray.sample_at.Goals as goal
 

@@ -1,4 +1,4 @@
-use Rattle.std.proofs.Common.{◌<◌, ◌≡◌, ◌⊎◌, arith, rules}
+use Rattle.std.proofs.Common.{◌<◌, ◌≡◌, ◌⊎◌, rules}
 use Rattle.bitmap_input.specs.Front.{greatest_maxval}
 use Rattle.bitmap_input.proofs.Headers.{checks_no_maxval}
 use Rattle.bitmap_input.proofs.header.check_maxval.Goals as goal

@@ -1,4 +1,4 @@
-use Rattle.bitmap_input.proofs.Appending.{front_stays}
+use Rattle.bitmap_input.proofs.FrontStays.{front_stays}
 use Rattle.bitmap_input.proofs.laws.fronts_stay.Goals as goal
 
 pub returns : goal.returns

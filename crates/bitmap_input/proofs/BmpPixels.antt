@@ -1,0 +1,38 @@
+-- The pixels of a BMP picture, read row by row and painted on the page.
+use Rattle.std.proofs.Common.{◌≡◌, refl, ℕ, zero, suc, ◌+◌, ◌-◌, ◌*◌, ◌≤◌, ◌<◌, inl, inr, Bool, true, false, List, [], ◌∷◌, length, map, reverse, get_or, arith, ap, sym, ◌∙◌}
+use Rattle.std.proofs.lemmas.Nat.{mul-le}
+use Rattle.std.proofs.Common.{add-one}
+use Rattle.bit_image.specs.Image.{Image}
+use Rattle.bitmap_input.specs.Raster.{with_row, with_placed}
+use Rattle.bitmap_input.specs.Raw.{Entry, black}
+use Rattle.bitmap_input.specs.BmpRaster.{bit_at, half_at, pixel_in}
+use Rattle.bitmap_input.specs.declared.bmp.fields.Depth.{Depth}
+use Rattle.bitmap_input.specs.declared.bmp.fields.Depth.TheVariants as depth
+use Rattle.bitmap_input.specs.BmpHead.{bits_in, IsTable, shade_in}
+
+-- a column of the page is one of the row
+pub column_within : (d : Depth) (x w n : ℕ) → x < w → w * bits_in d ≤ 8 * n → (x + 1) * bits_in d ≤ 8 * n
+column_within depth.One x w n less whole = omega arith
+column_within depth.Four x w n less whole = omega arith
+column_within depth.Eight x w n less whole = omega arith
+column_within depth.TwentyFour x w n less whole = omega arith
+column_within depth.ThirtyTwo x w n less whole = omega arith
+
+-- a pixel by the table is the one by the palette
+pub shade_is : (d : Depth) (level : ℕ) (invert : Bool) (color : ℕ → Entry) (table : List Bool) (row : List ℕ) → IsTable level invert color table → (x : ℕ) →
+    shade_in d level invert table row x ≡ black level invert (pixel_in (bits_in d) color row x)
+shade_is depth.One level invert color table row is x = is (bit_at row x)
+shade_is depth.Four level invert color table row is x = is (half_at row x)
+shade_is depth.Eight level invert color table row is x = is (get_or row x 0)
+shade_is depth.TwentyFour level invert color table row is x = refl
+shade_is depth.ThirtyTwo level invert color table row is x = refl
+
+-- and so are all of them
+pub shades_are : (f : ℕ → Bool) (g : Entry → Bool) (h : ℕ → Entry) → ((x : ℕ) → f x ≡ g (h x)) → (xs : List ℕ) → map f xs ≡ map g (map h xs)
+shades_are f g h same [] = refl
+shades_are f g h same (x ∷ xs) = rw (same x, shades_are f g h same xs) refl
+
+-- the next row
+pub placed_painted : (place : ℕ → ℕ) (c d : Image) (i : ℕ) (r : List Bool) → d ≡ with_row c (place i) r → (rs : List (List Bool)) →
+    with_placed place d (i + 1) rs ≡ with_placed place c i (r ∷ rs)
+placed_painted place c d i r painted rs = rw (painted, add-one) refl

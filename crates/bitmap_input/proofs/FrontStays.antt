@@ -1,0 +1,60 @@
+-- A page's answer that isn't by the end of the bytes stays the same where bytes are added.
+use Rattle.std.proofs.Common.{◌≡◌, refl, ℕ, ◌-◌, Bool, true, false, List, ◌++◌, length, arith, ap, ◌∙◌}
+use Rattle.std.proofs.lemmas.List.{length-append}
+use Rattle.bitmap_input.specs.Cut.{Cut, is_by_end, with_more}
+use Rattle.bitmap_input.specs.Cut.Cut.{Takes, Stops}
+use Rattle.bitmap_input.specs.Parts.{spaces, space, times}
+use Rattle.bitmap_input.specs.Raw.{Raw}
+use Rattle.bitmap_input.specs.Raw.Entry.{Bit, Sample}
+use Rattle.bitmap_input.specs.Front.{Magic, magic, sides, maxval, plain_pixel, raw_row, plain_sample, raw_gray_row, body, page_at, answer_of, front}
+use Rattle.bitmap_input.specs.Front.Magic.{PlainBits, RawBits, PlainGray, RawGray, Picture}
+use Rattle.bitmap_input.specs.Front.Answer.{Page}
+use Rattle.bitmap_input.proofs.Appending.{Stays, stays_bind, times_stay, raster_stays, space_stays, spaces_stay, sides_stay, maxval_stays, plain_pixel_stays, raw_row_stays, plain_sample_stays, raw_gray_row_stays, magic_stays}
+use Rattle.bitmap_input.proofs.BmpStays.{bmp_stays}
+
+pub body_stays : (m : Magic) → Stays (body m)
+body_stays PlainBits bytes more not_end =
+    stays_bind (sides bytes) (sides (bytes ++ more)) _ more
+    (λ s. raster_stays (λ b. Bit b) (times plain_pixel s.0) s.0 s.1 (times_stay plain_pixel plain_pixel_stays s.0))
+    (sides_stay bytes more) not_end
+body_stays RawBits bytes more not_end =
+    stays_bind (sides bytes) (sides (bytes ++ more)) _ more
+    (λ s bytes more not_end. stays_bind (space bytes) (space (bytes ++ more)) _ more
+    (λ _. raster_stays (λ b. Bit b) (raw_row s.0) s.0 s.1 (raw_row_stays s.0))
+    (space_stays bytes more) not_end)
+    (sides_stay bytes more) not_end
+body_stays PlainGray bytes more not_end =
+    stays_bind (sides bytes) (sides (bytes ++ more)) _ more
+    (λ s bytes more not_end. stays_bind (maxval bytes) (maxval (bytes ++ more)) _ more
+    (λ white. raster_stays (λ v. Sample v white) (times plain_sample s.0) s.0 s.1 (times_stay plain_sample plain_sample_stays s.0))
+    (maxval_stays bytes more) not_end)
+    (sides_stay bytes more) not_end
+body_stays RawGray bytes more not_end =
+    stays_bind (sides bytes) (sides (bytes ++ more)) _ more
+    (λ s bytes more not_end. stays_bind (maxval bytes) (maxval (bytes ++ more)) _ more
+    (λ white bytes more not_end. stays_bind (space bytes) (space (bytes ++ more)) _ more
+    (λ _. raster_stays (λ v. Sample v white) (raw_gray_row white s.0) s.0 s.1 (raw_gray_row_stays white s.0))
+    (space_stays bytes more) not_end)
+    (maxval_stays bytes more) not_end)
+    (sides_stay bytes more) not_end
+body_stays Picture bytes more not_end = bmp_stays bytes more not_end
+
+-- a page's answer that isn't by the end of the bytes stays where bytes are added
+pub page_stays : (later : Bool) → Stays (page_at later)
+page_stays later bytes more not_end =
+    stays_bind (spaces bytes) (spaces (bytes ++ more)) _ more
+    (λ _ bytes more not_end. stays_bind (magic later bytes) (magic later (bytes ++ more)) _ more body_stays (magic_stays later bytes more) not_end)
+    (spaces_stay bytes more) not_end
+
+answer_stays : (bytes more : List ℕ) (c : Cut Raw) → answer_of (bytes ++ more) (with_more more c) ≡ answer_of bytes c
+answer_stays bytes more (Takes e raw rest) =
+    let a : length (bytes ++ more) - length (rest ++ more) ≡ length bytes - length rest
+    = omega (arith, length-append bytes more, length-append rest more) in
+    ap (λ n. Page raw n) a
+answer_stays bytes more (Stops e ending) = refl
+
+pub front_stays : (later : Bool) (bytes more : List ℕ) → is_by_end (page_at later bytes) ≡ false →
+    front later (bytes ++ more) ≡ front later bytes
+front_stays later bytes more not_end =
+    let e = page_stays later bytes more not_end in
+    ap (answer_of (bytes ++ more)) e ∙ answer_stays bytes more (page_at later bytes)

@@ -1,0 +1,17 @@
+use Rattle.std.proofs.Common.{◌≡◌, ℕ, List, sym, subst}
+use Rattle.std.proofs.lemmas.Result.{err_from_is_err_and}
+use Rattle.bitmap_input.specs.BmpRaster.{palette_color}
+use Rattle.bitmap_input.specs.BmpHead.{IsTable}
+use Rattle.bitmap_input.proofs.Telling.{reads_weaken}
+use Rattle.bitmap_input.proofs.bmp.palette.read_colors.Goals as goal
+
+pub returns-in_err-read_block-clause-reads : goal.returns-in_err-read_block-clause-reads
+returns-in_err-read_block-clause-reads g c =
+    let p = err_from_is_err_and c.from_residual.result c.from_residual.ensures.1 in
+    let read = rw c.requires.whole at c.in_err-read_block.ensures.reads in
+    rw (p.1, p.2) record { more = read.more; moves = read.moves; gives = read.gives }
+
+pub returns-clause-reads : goal.returns-clause-reads
+returns-clause-reads g c =
+    let read = rw c.requires.whole at c.in_ok-read_block.ensures.reads in
+    reads_weaken (λ _ palette same. rw same c.fill_table.ensures.table) read

@@ -1,0 +1,24 @@
+use Rattle.std.proofs.Common.{◌≡◌, ℕ, ◌-◌, ◌*◌, ◌<◌, ◌≤◌, true, false, length, map}
+use Rattle.bit_image.specs.Page.{SameSides, image_of}
+use Rattle.bitmap_input.specs.Raw.{Entry, black}
+use Rattle.bitmap_input.specs.BmpRaster.{color_row}
+use Rattle.bitmap_input.specs.BmpHead.{IsTable, bits_in, row_place, row_bytes_by}
+use Rattle.bitmap_input.specs.Raster.{with_placed, IsPaintedSoFar}
+use Rattle.bitmap_input.proofs.bmp.pixels.read_rows.Given as goal
+
+abbrev pub invariant-loop-i : goal.invariant-loop-i
+invariant-loop-i g l =
+    let source = g.I.Inputs in
+    record {
+      so_far : (color : ℕ → Entry) → IsTable l.tone.level l.tone.invert color l.table →
+          IsPaintedSoFar (color_row (row_bytes_by l.header) (bits_in l.header.depth) color l.fn.page.width) l.fn.window (source.files l.fn.inputs)
+          (λ rows. with_placed (row_place l.header.top_down l.fn.page.height) (image_of l.fn.page) 0 (map (map (black l.tone.level l.tone.invert)) rows)) l.fn.page.height
+          l.window (source.files l.inputs)
+          (λ rows. with_placed (row_place l.header.top_down l.fn.page.height) (image_of l.page) l.i (map (map (black l.tone.level l.tone.invert)) rows)) (l.fn.page.height - l.i);
+      sides : SameSides l.fn.page l.page;
+      row : length l.row ≡ row_bytes_by l.header;
+      high : l.height ≡ l.fn.page.height;
+      steady : source.faults l.inputs ≡ source.faults l.fn.inputs;
+      opened : source.is_opened l.inputs ≡ true;
+      openings : source.openings l.inputs ≡ source.openings l.fn.inputs;
+    }

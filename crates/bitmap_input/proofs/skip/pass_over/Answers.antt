@@ -1,0 +1,34 @@
+use Rattle.std.proofs.Common.{arith, rules, refl}
+use Rattle.bitmap_input.proofs.Skipping.{skip_begins, skip_goes_on, skip_ends, skip_is_short, skip_fails, block_failed}
+use Rattle.bitmap_input.proofs.skip.pass_over.Goals as goal
+
+pub loop-left-init : goal.loop-left-init
+loop-left-init g c = record {
+  so_far = skip_begins c.args.window.now (g.I.Inputs.files c.args.inputs.now) c.args.n;
+  steady = search rules;
+  opened = search rules;
+  openings = search rules;
+}
+
+pub loop-left-preserved : goal.loop-left-preserved
+loop-left-preserved g c =
+    let look = c.in-Byte.ensures.looks in
+    record {
+      so_far = skip_goes_on c.loop-left.left c.pass_some-left.result _ c.loop-left.invariant.so_far look.0 c.pass_some-left.ensures.within c.pass_some-left.ensures.fits c.pass_some-left.ensures.bytes c.pass_some-left.ensures.ended refl;
+      steady = search rules;
+      opened = search rules;
+      openings = search rules;
+    }
+
+pub returns-in-End-clause-reads : goal.returns-in-End-clause-reads
+returns-in-End-clause-reads g c =
+    let look = c.in-End.ensures.looks in
+    skip_is_short c.loop-left.left c.loop-left.invariant.so_far c.loop-left-test.true look.0 look.1.0 look.1.1
+
+pub returns-in-Fault-clause-reads : goal.returns-in-Fault-clause-reads
+returns-in-Fault-clause-reads g c =
+    let look = c.in-Fault.ensures.looks in
+    skip_fails c.loop-left.left c.loop-left.invariant.so_far c.loop-left-test.true look.0 look.1 look.2 look.3
+
+pub returns-clause-reads : goal.returns-clause-reads
+returns-clause-reads g c = skip_ends c.loop-left.invariant.so_far (omega arith)

@@ -1,0 +1,16 @@
+use Rattle.std.proofs.Common.{◌≡◌, true}
+use Rattle.bitmap_input.specs.Skip.{IsPassedSoFar}
+use Rattle.bitmap_input.proofs.skip.pass_over.Given as goal
+
+abbrev pub invariant-loop-left : goal.invariant-loop-left
+invariant-loop-left g l =
+    let source = g.I.Inputs in
+    record {
+      so_far : IsPassedSoFar l.fn.window (source.files l.fn.inputs) l.n l.left l.window (source.files l.inputs);
+      steady : source.faults l.inputs ≡ source.faults l.fn.inputs;
+      opened : source.is_opened l.inputs ≡ true;
+      openings : source.openings l.inputs ≡ source.openings l.fn.inputs;
+    }
+
+abbrev pub decreases-loop-left : goal.decreases-loop-left
+decreases-loop-left g l = l.left

@@ -1,0 +1,127 @@
+//! BMP pictures.
+ghost use Rattle.std.specs.Prelude.{◌≡◌, ℕ, ◌+◌, ◌-◌, ◌*◌, ◌≤◌, true, length};
+ghost use Rattle.bitmap_input.specs.Reading.{Reads, Counts};
+ghost use Rattle.bitmap_input.specs.Raw.{Entry, IsShown};
+ghost use Rattle.bitmap_input.specs.Front.Magic.{Picture as picture};
+ghost use Rattle.bitmap_input.specs.Behind.{IsRead, counted_body};
+ghost use Rattle.bitmap_input.specs.BmpHead.{IsReadable, IsTable, bits_in, row_bytes_by, pixels_by, raster_by};
+
+mod fields;
+mod head;
+mod header;
+mod palette;
+mod pixels;
+
+use crate::bmp::header::{Header, read_header};
+use crate::bmp::palette::read_palette;
+use crate::bmp::pixels::{Tone, read_rows};
+use crate::body::known;
+use crate::extent::ReadPage;
+use crate::fault::InFault;
+use crate::skip::skip_block;
+use crate::stop::Stop;
+use crate::window::Window;
+use bit_image::bitmap::Bitmap;
+use pt_base::inputs::Inputs;
+use std::alloc::Global;
+use threshold_map::level::Level;
+
+// The bytes of a row.
+fn row_bytes(header: &Header) -> u32
+    requires { IsReadable header.now }
+    ensures value { result ≡ row_bytes_by header.now }
+    ensures whole { header.now.width * bits_in header.now.depth ≤ 8 * result }
+{
+    4 * ((header.width * header.depth.bits() + 31) / 32)
+}
+
+// The rows, on a page of their own.
+fn read_pixels<I: Inputs>(
+    alloc: Global,
+    window: &mut Window,
+    inputs: &mut I,
+    header: &Header,
+    tone: &Tone,
+    table: &[bool],
+) -> Result<Bitmap, Stop>
+    requires opened { I.is_opened inputs.old ≡ true }
+    requires readable { IsReadable header.now }
+    requires table { length table.now ≡ 256 }
+    ensures reads { (color : ℕ → Entry) → IsTable tone.now.level tone.now.invert color table.now
+        → Reads (IsShown tone.now.level tone.now.invert) (pixels_by header.now color) window.old (I.files inputs.old) result window.new (I.files inputs.new) }
+    ensures counts { Counts result (I.faults inputs.old) (I.faults inputs.new) }
+    ensures stays_opened { I.is_opened inputs.new ≡ true }
+    ensures same_openings { I.openings inputs.new ≡ I.openings inputs.old }
+{
+    let mut page = match Bitmap::new(alloc, header.width, header.height) {
+        Ok(page) => page,
+        Err(_) => return Err(Stop::Fault(InFault::NoMemory)),
+    };
+    let mut row = match vec![in alloc; 0u8; row_bytes(header) as usize] {
+        Ok(row) => row,
+        Err(_) => return Err(Stop::Fault(InFault::NoMemory)),
+    };
+    read_rows(window, inputs, &mut page, header, tone, table, &mut row)?;
+    known(&page);
+    Ok(page)
+}
+
+// What follows the header.
+fn read_raster<I: Inputs>(
+    alloc: Global,
+    window: &mut Window,
+    inputs: &mut I,
+    header: &Header,
+    tone: &Tone,
+) -> Result<Bitmap, Stop>
+    requires opened { I.is_opened inputs.old ≡ true }
+    requires readable { IsReadable header.now }
+    ensures reads { Reads (IsShown tone.now.level tone.now.invert) (raster_by header.now) window.old (I.files inputs.old) result window.new (I.files inputs.new) }
+    ensures counts { Counts result (I.faults inputs.old) (I.faults inputs.new) }
+    ensures stays_opened { I.is_opened inputs.new ≡ true }
+    ensures same_openings { I.openings inputs.new ≡ I.openings inputs.old }
+{
+    let mut table = [false; 256];
+    read_palette(window, inputs, header, tone, &mut table)?;
+    skip_block(window, inputs, header.before_pixels)?;
+    read_pixels(alloc, window, inputs, header, tone, &table)
+}
+
+// How many bytes the picture claims behind its last row.
+fn behind(header: &Header) -> u32
+    requires { IsReadable header.now }
+    ensures { result ≡ header.now.file_size - (header.now.pixel_offset + header.now.height * row_bytes_by header.now) }
+{
+    let rows_end = header.pixel_offset as u64 + header.height as u64 * row_bytes(header) as u64;
+    if rows_end < header.file_size as u64 {
+        (header.file_size as u64 - rows_end) as u32
+    } else {
+        0
+    }
+}
+
+/// A BMP picture, behind its magic, at a level and inverted or not.
+pub(crate) fn read_bmp<I: Inputs>(
+    alloc: Global,
+    window: &mut Window,
+    inputs: &mut I,
+    level: &Level,
+    invert: bool,
+) -> Result<ReadPage, Stop>
+    requires { I.is_opened inputs.old ≡ true }
+    ensures reads { Reads (IsRead level.now invert) (counted_body picture) window.old (I.files inputs.old) result window.new (I.files inputs.new) }
+    ensures counts { Counts result (I.faults inputs.old) (I.faults inputs.new) }
+    ensures stays_opened { I.is_opened inputs.new ≡ true }
+    ensures same_openings { I.openings inputs.new ≡ I.openings inputs.old }
+{
+    let header = read_header(window, inputs)?;
+    let tone = Tone {
+        level: *level,
+        invert,
+    };
+    let page = read_raster(alloc, window, inputs, &header, &tone)?;
+    Ok(ReadPage {
+        page,
+        behind: behind(&header),
+    })
+}

@@ -1,0 +1,146 @@
+//! The header of a BMP picture, read and checked step by step.
+ghost use Rattle.std.specs.Prelude.{◌≡◌, ℕ, ◌+◌, ◌≤◌, true, false, length, [], OnOk, IfOk};
+ghost use Rattle.bitmap_input.specs.Reading.{Reads, Counts};
+ghost use Rattle.bitmap_input.specs.BmpHeader.{header_size, bits, mask_bytes, has_known_masks, has_known_colors};
+ghost use Rattle.bitmap_input.specs.Bmp.{start, info, masks, placed, header};
+ghost use Rattle.bitmap_input.specs.BmpHead.{HasInfo, IsStart, IsInfo, IsWhole, IsHeader, IsReadable, Passes, bits_in};
+
+use crate::bmp::fields::{
+    Depth, color_bytes, has_known_colors, height, is_known_size, is_top_down, mask_bytes,
+    palette_end, palette_length, pixel_depth, width,
+};
+use crate::bmp::head::Head;
+use crate::fault::InFault;
+use crate::header::check;
+use crate::number::CAP;
+use crate::stop::Stop;
+use crate::window::Window;
+use pt_base::inputs::Inputs;
+
+/// What the header of a BMP picture says.
+#[derive(Clone, Copy, Debug)]
+pub(crate) struct Header {
+    pub(crate) width: u32,
+    pub(crate) height: u32,
+    /// The top row comes first, and not the lowest one.
+    pub(crate) top_down: bool,
+    pub(crate) depth: Depth,
+    /// The bytes of a colour in the palette, 3 or 4.
+    pub(crate) color_bytes: u32,
+    /// The colours of the palette, at most 256.
+    pub(crate) palette_length: u32,
+    /// The bytes between the palette and the first row.
+    pub(crate) before_pixels: u32,
+    /// The place of the first row, from the picture's first byte on.
+    pub(crate) pixel_offset: u32,
+    /// How long the picture says that it is.
+    pub(crate) file_size: u32,
+}
+
+// The header up to its size, which is a known one.
+fn read_start<I: Inputs>(window: &mut Window, inputs: &mut I, head: &mut Head) -> Result<(), Stop>
+    requires opened { I.is_opened inputs.old ≡ true }
+    requires none { head.old ≡ [] }
+    ensures reads { Reads (λ _ bytes. bytes ≡ head.new) start window.old (I.files inputs.old) result window.new (I.files inputs.new) }
+    ensures begun { OnOk result (IsStart head.new) }
+    ensures counts { Counts result (I.faults inputs.old) (I.faults inputs.new) }
+    ensures stays_opened { I.is_opened inputs.new ≡ true }
+    ensures same_openings { I.openings inputs.new ≡ I.openings inputs.old }
+{
+    head.read(window, inputs, 16)?;
+    if is_known_size(head.four_at(14)) {
+        Ok(())
+    } else {
+        Err(Stop::Fault(InFault::BmpKind))
+    }
+}
+
+// The rest of the header, of a kind that is read.
+fn read_info<I: Inputs>(window: &mut Window, inputs: &mut I, head: &mut Head) -> Result<Depth, Stop>
+    requires opened { I.is_opened inputs.old ≡ true }
+    requires begun { IsStart head.old }
+    ensures reads { Reads (λ _ bytes. bytes ≡ head.new) (info head.old) window.old (I.files inputs.old) result window.new (I.files inputs.new) }
+    ensures begun { OnOk result (IsInfo head.new) }
+    ensures depth { IfOk result (λ d. bits head.new ≡ bits_in d) }
+    ensures counts { Counts result (I.faults inputs.old) (I.faults inputs.new) }
+    ensures stays_opened { I.is_opened inputs.new ≡ true }
+    ensures same_openings { I.openings inputs.new ≡ I.openings inputs.old }
+{
+    let size = head.four_at(14) as usize;
+    head.read(window, inputs, size - 4)?;
+    match pixel_depth(head) {
+        Some(depth) => Ok(depth),
+        None => Err(Stop::Fault(InFault::BmpKind)),
+    }
+}
+
+// The masks, where they stand behind the header.
+fn read_masks<I: Inputs>(
+    window: &mut Window,
+    inputs: &mut I,
+    head: &mut Head,
+    depth: Depth,
+) -> Result<(), Stop>
+    requires opened { I.is_opened inputs.old ≡ true }
+    requires begun { IsInfo head.old }
+    requires kind { bits head.old ≡ bits_in depth }
+    ensures reads { Reads (λ _ bytes. bytes ≡ head.new) (masks head.old) window.old (I.files inputs.old) result window.new (I.files inputs.new) }
+    ensures whole { OnOk result (IsWhole head.new) }
+    ensures kind { OnOk result (bits head.new ≡ bits_in depth) }
+    ensures colors { OnOk result (has_known_colors head.new ≡ true) }
+    ensures counts { Counts result (I.faults inputs.old) (I.faults inputs.new) }
+    ensures stays_opened { I.is_opened inputs.new ≡ true }
+    ensures same_openings { I.openings inputs.new ≡ I.openings inputs.old }
+{
+    let n = mask_bytes(head) as usize;
+    head.read(window, inputs, n)?;
+    if has_known_colors(head, depth) {
+        Ok(())
+    } else {
+        Err(Stop::Fault(InFault::BmpKind))
+    }
+}
+
+// What the program keeps of a header, where its sides are in range and its pixels begin behind all
+// that stands before them.
+fn describe(head: &Head, depth: Depth) -> Result<Header, Stop>
+    requires info { HasInfo head.now }
+    requires kind { bits head.now ≡ bits_in depth }
+    requires colors { has_known_colors head.now ≡ true }
+    ensures passes { Passes IsHeader (placed head.now) result }
+    ensures readable { IfOk result IsReadable }
+{
+    let sides = check(width(head).min(CAP), height(head).min(CAP))?;
+    let palette_end = palette_end(head, depth);
+    let pixel_offset = head.four_at(10);
+    if pixel_offset < palette_end {
+        return Err(Stop::Fault(InFault::BadOffset));
+    }
+    Ok(Header {
+        width: sides.width,
+        height: sides.height,
+        top_down: is_top_down(head),
+        depth,
+        color_bytes: color_bytes(head),
+        palette_length: palette_length(head, depth),
+        before_pixels: pixel_offset - palette_end,
+        pixel_offset,
+        file_size: head.four_at(2),
+    })
+}
+
+/// The header with its masks.
+pub(crate) fn read_header<I: Inputs>(window: &mut Window, inputs: &mut I) -> Result<Header, Stop>
+    requires { I.is_opened inputs.old ≡ true }
+    ensures reads { Reads IsHeader header window.old (I.files inputs.old) result window.new (I.files inputs.new) }
+    ensures readable { IfOk result IsReadable }
+    ensures counts { Counts result (I.faults inputs.old) (I.faults inputs.new) }
+    ensures stays_opened { I.is_opened inputs.new ≡ true }
+    ensures same_openings { I.openings inputs.new ≡ I.openings inputs.old }
+{
+    let mut head = Head::new();
+    read_start(window, inputs, &mut head)?;
+    let depth = read_info(window, inputs, &mut head)?;
+    read_masks(window, inputs, &mut head, depth)?;
+    describe(&head, depth)
+}

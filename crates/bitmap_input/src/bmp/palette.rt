@@ -1,0 +1,99 @@
+//! The palette of a BMP picture.
+ghost use Rattle.std.specs.Prelude.{◌≡◌, ℕ, ◌*◌, ◌≤◌, ◌<◌, true, length};
+ghost use Rattle.bitmap_input.specs.Reading.{Reads, Counts};
+ghost use Rattle.bitmap_input.specs.Parts.{block};
+ghost use Rattle.bitmap_input.specs.Raw.{black};
+ghost use Rattle.bitmap_input.specs.BmpRaster.{palette_color};
+ghost use Rattle.bitmap_input.specs.BmpHead.{IsReadable, IsTable};
+
+use crate::bmp::header::Header;
+use crate::bmp::pixels::Tone;
+use crate::raw::read_block;
+use crate::stop::Stop;
+use crate::window::Window;
+use pt_base::inputs::Inputs;
+
+// Whether a colour of a palette is a black pixel.
+fn is_black(tone: &Tone, colors: u32, size: u32, palette: &[u8], i: u32) -> bool
+    requires few { colors ≤ 256 }
+    requires some { 3 ≤ size }
+    requires small { size ≤ 4 }
+    requires whole { length palette.now ≡ size * colors }
+    ensures { result ≡ black tone.now.level tone.now.invert (palette_color colors size palette.now i) }
+{
+    if i < colors {
+        tone.black(palette, (size * i) as usize)
+    } else {
+        tone.none()
+    }
+}
+
+// Fills the table of which colours of a palette are black pixels.
+fn fill_table(tone: &Tone, colors: u32, size: u32, palette: &[u8], table: &mut [bool])
+    requires few { colors ≤ 256 }
+    requires some { 3 ≤ size }
+    requires small { size ≤ 4 }
+    requires whole { length palette.now ≡ size * colors }
+    requires room { length table.old ≡ 256 }
+    ensures table { IsTable tone.now.level tone.now.invert (palette_color colors size palette.now) table.new }
+    ensures room { length table.new ≡ 256 }
+{
+    for i in 0..256u32 {
+        table[i as usize] = is_black(tone, colors, size, palette, i);
+    }
+}
+
+// Reads the palette into its room, and the table of it.
+fn read_colors<I: Inputs>(
+    window: &mut Window,
+    inputs: &mut I,
+    header: &Header,
+    tone: &Tone,
+    palette: &mut [u8],
+    table: &mut [bool],
+) -> Result<(), Stop>
+    requires opened { I.is_opened inputs.old ≡ true }
+    requires readable { IsReadable header.now }
+    requires whole { length palette.old ≡ header.now.color_bytes * header.now.palette_length }
+    requires room { length table.old ≡ 256 }
+    ensures reads { Reads (λ _ palette. IsTable tone.now.level tone.now.invert (palette_color header.now.palette_length header.now.color_bytes palette) table.new) (block (header.now.color_bytes * header.now.palette_length)) window.old (I.files inputs.old) result window.new (I.files inputs.new) }
+    ensures room { length table.new ≡ 256 }
+    ensures counts { Counts result (I.faults inputs.old) (I.faults inputs.new) }
+    ensures stays_opened { I.is_opened inputs.new ≡ true }
+    ensures same_openings { I.openings inputs.new ≡ I.openings inputs.old }
+{
+    read_block(window, inputs, palette)?;
+    fill_table(
+        tone,
+        header.palette_length,
+        header.color_bytes,
+        palette,
+        table,
+    );
+    Ok(())
+}
+
+/// The most bytes of a palette.
+const ROOM: usize = 1024;
+
+/// Reads the palette into a table of which of its colours are black pixels.
+pub(crate) fn read_palette<I: Inputs>(
+    window: &mut Window,
+    inputs: &mut I,
+    header: &Header,
+    tone: &Tone,
+    table: &mut [bool],
+) -> Result<(), Stop>
+    requires opened { I.is_opened inputs.old ≡ true }
+    requires readable { IsReadable header.now }
+    requires room { length table.old ≡ 256 }
+    ensures reads { Reads (λ _ palette. IsTable tone.now.level tone.now.invert (palette_color header.now.palette_length header.now.color_bytes palette) table.new) (block (header.now.color_bytes * header.now.palette_length)) window.old (I.files inputs.old) result window.new (I.files inputs.new) }
+    ensures room { length table.new ≡ 256 }
+    ensures counts { Counts result (I.faults inputs.old) (I.faults inputs.new) }
+    ensures stays_opened { I.is_opened inputs.new ≡ true }
+    ensures same_openings { I.openings inputs.new ≡ I.openings inputs.old }
+{
+    let mut buffer = [0u8; ROOM];
+    let n = (header.color_bytes * header.palette_length) as usize;
+    read_colors(window, inputs, header, tone, &mut buffer[..n], table)
+}

@@ -1,0 +1,131 @@
+//! The pixels of a BMP picture.
+ghost use Rattle.std.specs.Prelude.{◌≡◌, ℕ, ◌+◌, ◌*◌, ◌<◌, ◌≤◌, true, false, length, map, List};
+ghost use Rattle.std.specs.List.{range_with_len};
+ghost use Rattle.bit_image.specs.Page.{Page, SameSides, image_of};
+ghost use Rattle.bitmap_input.specs.Reading.{Reads, Counts};
+ghost use Rattle.bitmap_input.specs.Parts.{block, times};
+ghost use Rattle.bitmap_input.specs.Raw.{Entry, black};
+ghost use Rattle.bitmap_input.specs.Raw.Entry.{Color as color};
+ghost use Rattle.bitmap_input.specs.BmpRaster.{color_at, bit_at, half_at, palette_color, color_row};
+ghost use Rattle.bitmap_input.specs.BmpHead.{IsTable, IsReadable, bits_in, shade_in, row_place, row_bytes_by};
+ghost use Rattle.bitmap_input.specs.Raster.{with_row, with_placed};
+
+use crate::bmp::fields::Depth;
+use crate::bmp::header::Header;
+use crate::raw::read_block;
+use crate::stop::Stop;
+use crate::window::Window;
+use bit_image::bitmap::Bitmap;
+use pt_base::inputs::Inputs;
+use threshold_map::level::Level;
+
+/// How the colours of a picture become pixels.
+#[derive(Clone, Copy, Debug)]
+pub(crate) struct Tone {
+    pub(crate) level: Level,
+    pub(crate) invert: bool,
+}
+
+impl Tone {
+    /// Whether no colour at all is a black pixel.
+    pub(crate) fn none(&self) -> bool
+        ensures { result ≡ black self.now.level self.now.invert (color 0 0 0) }
+    {
+        self.level.rgb(0, 0, 0) != self.invert
+    }
+
+    /// Whether a colour is a black pixel: its blue stands first, then its green and its red.
+    pub(crate) fn black(&self, bytes: &[u8], at: usize) -> bool
+        requires { at + 2 < length bytes.now }
+        ensures { result ≡ black self.now.level self.now.invert (color_at bytes.now at) }
+    {
+        self.level.rgb(bytes[at + 2], bytes[at + 1], bytes[at]) != self.invert
+    }
+}
+
+// A bit of a row, the most significant one of each byte first.
+fn bit(row: &[u8], x: usize) -> usize
+    requires { x < 8 * length row.now }
+    ensures value { result ≡ bit_at row.now x }
+    ensures most { result < 2 }
+{
+    (row[x / 8] as usize >> (7 - x % 8)) % 2
+}
+
+// A number of four bits, the high half of each byte first.
+fn half(row: &[u8], x: usize) -> usize
+    requires { x < 2 * length row.now }
+    ensures value { result ≡ half_at row.now x }
+    ensures most { result < 16 }
+{
+    let byte = row[x / 2] as usize;
+    if x % 2 == 0 { byte / 16 } else { byte % 16 }
+}
+
+// Whether the pixel in column x of a row is black, by a table of the palette.
+#[inline(always)]
+fn shade(depth: Depth, tone: &Tone, table: &[bool], row: &[u8], x: usize) -> bool
+    requires table { length table.now ≡ 256 }
+    requires within { (x + 1) * bits_in depth ≤ 8 * length row.now }
+    ensures { result ≡ shade_in depth tone.now.level tone.now.invert table.now row.now x }
+{
+    match depth {
+        Depth::One => table[bit(row, x)],
+        Depth::Four => table[half(row, x)],
+        Depth::Eight => table[row[x] as usize],
+        Depth::TwentyFour => tone.black(row, 3 * x),
+        Depth::ThirtyTwo => tone.black(row, 4 * x),
+    }
+}
+
+// Paints a row of bytes in row y.
+fn place_row(page: &mut Bitmap, y: u32, depth: Depth, tone: &Tone, table: &[bool], row: &[u8])
+    requires row { y < page.old.height }
+    requires table { length table.now ≡ 256 }
+    requires whole { page.old.width * bits_in depth ≤ 8 * length row.now }
+    ensures sides { SameSides page.old page.new }
+    ensures pixels { image_of page.new ≡ with_row (image_of page.old) y (map (shade_in depth tone.now.level tone.now.invert table.now row.now) (range_with_len 0 page.old.width)) }
+{
+    for x in 0..page.width() {
+        page.set(x, y, shade(depth, tone, table, row, x as usize));
+    }
+}
+
+// The row of the page that the picture's row of this number is: they come from the top, or from below.
+fn row_place(top_down: bool, height: u32, i: u32) -> u32
+    requires { i < height }
+    ensures value { result ≡ row_place top_down height i }
+    ensures within { result < height }
+{
+    if top_down { height - (i + 1) } else { i }
+}
+
+/// The rows of a picture, painted on the page, with room for one of them.
+pub(crate) fn read_rows<I: Inputs>(
+    window: &mut Window,
+    inputs: &mut I,
+    page: &mut Bitmap,
+    header: &Header,
+    tone: &Tone,
+    table: &[bool],
+    row: &mut [u8],
+) -> Result<(), Stop>
+    requires opened { I.is_opened inputs.old ≡ true }
+    requires table { length table.now ≡ 256 }
+    requires room { length row.old ≡ row_bytes_by header.now }
+    requires whole { page.old.width * bits_in header.now.depth ≤ 8 * length row.old }
+    ensures reads { (color_of : ℕ → Entry) → IsTable tone.now.level tone.now.invert color_of table.now
+        → Reads (λ _ rows. image_of page.new ≡ with_placed (row_place header.now.top_down page.old.height) (image_of page.old) 0 (map (map (black tone.now.level tone.now.invert)) rows)) (times (color_row (row_bytes_by header.now) (bits_in header.now.depth) color_of page.old.width) page.old.height) window.old (I.files inputs.old) result window.new (I.files inputs.new) }
+    ensures sides { SameSides page.old page.new }
+    ensures counts { Counts result (I.faults inputs.old) (I.faults inputs.new) }
+    ensures stays_opened { I.is_opened inputs.new ≡ true }
+    ensures same_openings { I.openings inputs.new ≡ I.openings inputs.old }
+{
+    let height = page.height();
+    for i in 0..height {
+        read_block(window, inputs, row)?;
+        let y = row_place(header.top_down, height, i);
+        place_row(page, y, header.depth, tone, table, row);
+    }
+    Ok(())
+}

@@ -1,0 +1,47 @@
+//! Bytes that are passed over.
+ghost use Rattle.std.specs.Prelude.{◌≡◌, true};
+ghost use Rattle.bitmap_input.specs.Reading.{Reads, Counts, Any, Same};
+ghost use Rattle.bitmap_input.specs.Parts.{block};
+ghost use Rattle.bitmap_input.specs.Skip.{passed_over};
+
+use crate::fault::InFault;
+use crate::stop::Stop;
+use crate::window::{Look, Window};
+use pt_base::inputs::Inputs;
+
+/// Goes on behind n bytes, or behind all where there are fewer: how many were missing.
+///
+/// No memory is taken for them.
+pub(crate) fn pass_over<I: Inputs>(window: &mut Window, inputs: &mut I, n: u32) -> Result<u32, Stop>
+    requires { I.is_opened inputs.old ≡ true }
+    ensures reads { Reads Same (passed_over n) window.old (I.files inputs.old) result window.new (I.files inputs.new) }
+    ensures counts { Counts result (I.faults inputs.old) (I.faults inputs.new) }
+    ensures stays_opened { I.is_opened inputs.new ≡ true }
+    ensures same_openings { I.openings inputs.new ≡ I.openings inputs.old }
+{
+    let mut left = n;
+    while left > 0 {
+        match window.look(inputs) {
+            Look::Byte(_) => left -= window.pass_some(left),
+            Look::End => return Ok(left),
+            Look::Fault => return Err(Stop::Fault(InFault::ReadFault)),
+        }
+    }
+    Ok(0)
+}
+
+/// Goes on behind n bytes.
+pub(crate) fn skip_block<I: Inputs>(window: &mut Window, inputs: &mut I, n: u32) -> Result<(), Stop>
+    requires { I.is_opened inputs.old ≡ true }
+    ensures reads { Reads Any (block n) window.old (I.files inputs.old) result window.new (I.files inputs.new) }
+    ensures counts { Counts result (I.faults inputs.old) (I.faults inputs.new) }
+    ensures stays_opened { I.is_opened inputs.new ≡ true }
+    ensures same_openings { I.openings inputs.new ≡ I.openings inputs.old }
+{
+    let missing = pass_over(window, inputs, n)?;
+    if missing == 0 {
+        Ok(())
+    } else {
+        Err(Stop::Fault(InFault::Truncated))
+    }
+}
