@@ -1,0 +1,1 @@
+//! Lines and vertices that were worked out by hand or by another program.
