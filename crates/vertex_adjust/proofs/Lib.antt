@@ -1,0 +1,6 @@
+pub mod Division
+pub mod Doubling
+pub mod Fitting
+pub mod Lines
+pub mod Rooting
+pub mod Spreading

@@ -1,5 +1,5 @@
 //! The best place for a vertex.
-ghost use Rattle.std.specs.Prelude.{◌≡◌, MatchBool, ℕ, pos, unsigned_abs, ◌+ℤ◌, ◌-ℤ◌, ◌*ℤ◌, ◌≤◌, ◌<◌, ◌+◌, ◌*◌, ◌^◌};
+ghost use Rattle.std.specs.Prelude.{◌≡◌, MatchBool, ℕ, pos, unsigned_abs, ◌+ℤ◌, ◌-ℤ◌, ◌*ℤ◌, ◌≤ℤ◌, ◌≤◌, ◌<◌, ◌+◌, ◌*◌, ◌^◌};
 ghost use Rattle.pt_base.specs.OnPage.{IsOnPage};
 ghost use Rattle.vertex_adjust.specs.Bounds.{IsOverPage};
 ghost use Rattle.vertex_adjust.specs.Line.{squares_of};
@@ -8,6 +8,7 @@ ghost use Rattle.vertex_adjust.specs.Search.{IsLeastSeen};
 
 use crate::line::Line;
 use crate::shift::Shift;
+use pt_base::limits::LONGEST_SIDE;
 use pt_base::point::Point;
 
 /// A shift that was tried.
@@ -28,8 +29,8 @@ pub(crate) fn vertex(before: &Line, after: &Line, v: Point) -> Point
 {
     let shift = least_shift(before, after, v);
     Point {
-        x: (1024 * i64::from(v.x) + 16 * shift.right) as i32,
-        y: (1024 * i64::from(v.y) + 16 * shift.up) as i32,
+        x: shifted(v.x, shift.right) as i32,
+        y: shifted(v.y, shift.up) as i32,
     }
 }
 
@@ -77,12 +78,23 @@ fn tried(before: &Line, after: &Line, v: Point, shift: Shift) -> Trial
     ensures shift { result.shift ≡ shift }
     ensures error { result.error ≡ error_of before.now after.now v shift }
 {
-    let x = 1024 * i64::from(v.x) + 16 * shift.right;
-    let y = 1024 * i64::from(v.y) + 16 * shift.up;
+    let x = shifted(v.x, shift.right);
+    let y = shifted(v.y, shift.up);
     Trial {
         shift,
         error: square(distance(before, x, y)) + square(distance(after, x, y)),
     }
+}
+
+/// A coordinate in units of 1/1024 pixel, so many steps of 1/64 pixel from one in pixels.
+fn shifted(coordinate: i32, steps: i64) -> i64
+    requires least { pos 0 ≤ℤ coordinate }
+    requires most { coordinate ≤ℤ pos LONGEST_SIDE }
+    requires steps { unsigned_abs steps ≤ 32 }
+    ensures value { result ≡ pos 1024 *ℤ coordinate +ℤ pos 16 *ℤ steps }
+    ensures near { unsigned_abs result ≤ 2 ^ 25 }
+{
+    1024 * i64::from(coordinate) + 16 * steps
 }
 
 /// How far the place (`x`, `y`) lies from a line.
