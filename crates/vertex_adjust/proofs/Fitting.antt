@@ -1,10 +1,14 @@
 -- Numbers that fit their types.
-use Rattle.std.proofs.Common.{◌≡◌, ℕ, ◌+◌, ◌*◌, ◌<◌, ◌≤◌, ◌^◌, ℤ, pos, ◌+ℤ◌, ◌-ℤ◌, ◌*ℤ◌, w64, to_z, of_z, refl, sym, ap, ◌∙◌, arith}
-use Rattle.std.proofs.lemmas.Int.{ints, fits_signed_from_abs}
+use Rattle.std.proofs.Common.{◌≡◌, ℕ, ◌+◌, ◌*◌, ◌<◌, ◌≤◌, ◌^◌, ℤ, pos, ◌+ℤ◌, ◌-ℤ◌, ◌*ℤ◌, w32, w64, to_z, of_z, refl, sym, ap, ◌∙◌, arith}
+use Rattle.std.proofs.lemmas.Int.{ints, fits_signed_from_abs, to_z-of_z}
 use Rattle.std.specs.Prelude.{unsigned_abs}
 use Rattle.std.specs.Int.RustNames.{FitsSigned}
 use Rattle.prefix_moments.proofs.Fitting.{back, product_most}
+use Rattle.pt_base.specs.declared.point.Point.{Point}
 use Rattle.vertex_adjust.specs.Line.{squares_of, across_of}
+use Rattle.vertex_adjust.specs.Vertex.{distance_of, moved, error_of}
+use Rattle.vertex_adjust.specs.declared.line.Line.{Line}
+use Rattle.vertex_adjust.specs.declared.shift.Shift.{Shift}
 use Rattle.vertex_adjust.specs.declared.spread.Way.{Way}
 
 -- what `distance` works out
@@ -133,3 +137,44 @@ direction_back xx xy yy g gap f s way hxx hxy hyy hg eg hf hs ef es e =
     e ∙ ap (λ v. across_of v (to_z w64 (of_z w64 (pos 2 *ℤ to_z w64 (of_z w64 xy)))) (to_z w64 (of_z w64 s))) (back f (omega arith) ∙ first)
     ∙ ap (λ v. across_of ((xx -ℤ yy) -ℤ pos gap) v (to_z w64 (of_z w64 s))) both
     ∙ ap (λ v. across_of ((xx -ℤ yy) -ℤ pos gap) (pos 2 *ℤ xy) v) (back s (omega arith) ∙ second)
+
+-- what a call of `shifted` gives
+pub shifted_found : (v s p : ℤ) → FitsSigned w32 v → unsigned_abs s ≤ 32 → unsigned_abs p ≤ 2 ^ 25
+    → p ≡ pos 1024 *ℤ to_z w32 (of_z w32 v) +ℤ pos 16 *ℤ to_z w64 (of_z w64 s)
+    → to_z w64 (of_z w64 p) ≡ pos 1024 *ℤ v +ℤ pos 16 *ℤ s
+shifted_found v s p fits hs hp e =
+    back p (omega arith) ∙ e ∙ rw (to_z-of_z w32 v fits, back s (omega arith)) refl
+
+-- what a call of `distance` gives
+pub distance_found : (line : Line) (p : Point) (x y d : ℤ) → to_z w64 (of_z w64 x) ≡ p.x → to_z w64 (of_z w64 y) ≡ p.y
+    → d ≡ line.nx *ℤ (to_z w64 (of_z w64 x) -ℤ line.cx) +ℤ line.ny *ℤ (to_z w64 (of_z w64 y) -ℤ line.cy)
+    → d ≡ distance_of line p
+distance_found line p x y d ex ey e =
+    e ∙ ap (λ v. line.nx *ℤ (v -ℤ line.cx) +ℤ line.ny *ℤ (to_z w64 (of_z w64 y) -ℤ line.cy)) ex
+    ∙ ap (λ v. line.nx *ℤ (p.x -ℤ line.cx) +ℤ line.ny *ℤ (v -ℤ line.cy)) ey
+
+-- what a call of `square` gives
+pub square_found : (d e : ℤ) (q : ℕ) → unsigned_abs d ≤ 2 ^ 39 → d ≡ e → q ≡ unsigned_abs (to_z w64 (of_z w64 d)) * unsigned_abs (to_z w64 (of_z w64 d))
+    → q ≡ unsigned_abs e * unsigned_abs e
+square_found d e q h ed eq = eq ∙ ap (λ v. unsigned_abs v * unsigned_abs v) (back d (omega arith) ∙ ed)
+
+-- the error, by both squares
+pub error_found : (before after : Line) (v : Point) (shift : Shift) (m n : ℕ)
+    → m ≡ unsigned_abs (distance_of before (moved v shift)) * unsigned_abs (distance_of before (moved v shift))
+    → n ≡ unsigned_abs (distance_of after (moved v shift)) * unsigned_abs (distance_of after (moved v shift))
+    → m + n ≡ error_of before after v shift
+unfolding error_of
+error_found before after v shift m n em en = rw (em, en) refl
+
+-- a coordinate of the vertex, in 32 bits
+pub placed : (v s p : ℤ) → FitsSigned w32 v → unsigned_abs s ≤ 32 → unsigned_abs p ≤ 2 ^ 25
+    → p ≡ pos 1024 *ℤ to_z w32 (of_z w32 v) +ℤ pos 16 *ℤ to_z w64 (of_z w64 s)
+    → to_z w32 (of_z w32 (to_z w64 (of_z w64 p))) ≡ pos 1024 *ℤ v +ℤ pos 16 *ℤ s
+placed v s p fits hs hp e =
+    ap (λ z. to_z w32 (of_z w32 z)) (back p (omega arith)) ∙ to_z-of_z w32 p (fits_signed_from_abs w32 p (omega arith)) ∙ sym (back p (omega arith))
+    ∙ shifted_found v s p fits hs hp e
+
+pub point_same : (a b : ℤ) (p : Point) → a ≡ p.x → b ≡ p.y → record { x = a; y = b } ≡ p
+point_same a b p e f =
+    let by : ℤ → ℤ → Point = λ x y. record { x = x; y = y } in
+    ap (λ v. by v b) e ∙ ap (λ v. by p.x v) f
