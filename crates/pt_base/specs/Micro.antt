@@ -14,6 +14,6 @@ pub record IsMicroOf (whole fraction : List ℕ) (n : ℕ) : Type 0 where
 pub record IsMicro (text : List ℕ) (n : ℕ) : Type 0 where
   pub whole : List ℕ
   pub fraction : List ℕ
-  pub spelled : (text ≡ whole ++ codes "." ++ fraction) ⊎ ((text ≡ whole) × (fraction ≡ []))
+  pub spelled : (text ≡ whole ++ (codes "." ++ fraction)) ⊎ ((text ≡ whole) × (fraction ≡ []))
   pub short : length text ≤ 16
   pub parts : IsMicroOf whole fraction n

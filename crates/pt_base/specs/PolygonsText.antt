@@ -9,12 +9,20 @@ use Rattle.pt_base.specs.PointsText.{sign_text}
 abbrev pub index_text : ℕ → List ℕ
 index_text i = codes " " ++ decimal i
 
--- a line: the path's sign, its area, the number of its points, that of the polygon's segments, their
--- penalty together, and then the indices of the polygon's vertices among the points
+-- the path's sign, a space, and its area
+abbrev pub kind_text : Path → List ℕ
+kind_text path = sign_text path.sign ++ codes " " ++ decimal path.area
+
+-- the number of a path's points, that of its polygon's segments, and their penalty together, a space
+-- before each and a colon behind
+abbrev pub counts_text : ℕ → ℕ → ℕ → List ℕ
+counts_text points segments cost = codes " " ++ decimal points ++ codes " " ++ decimal segments ++ codes " " ++ decimal cost ++ codes ":"
+
+-- a line: the path's sign and its area, the counts, and then the indices of the polygon's vertices
+-- among the path's points
 abbrev pub polygon_text : Path × Polygon → List ℕ
 polygon_text both =
-    sign_text (both.0).sign ++ codes " " ++ decimal (both.0).area ++ codes " " ++ decimal (length (both.0).points)
-    ++ codes " " ++ decimal (length (both.1).at) ++ codes " " ++ decimal (both.1).cost ++ codes ":"
+    kind_text both.0 ++ counts_text (length (both.0).points) (length (both.1).at) (both.1).cost
     ++ flat_map index_text (both.1).at ++ codes "\n"
 
 -- a first line with the page's sides and the number of paths, and then a line for each path

@@ -1,5 +1,5 @@
 //! Numbers as people write them in the program's words.
-ghost use Rattle.std.specs.Prelude.{◌≡◌, ℕ, ◌+◌, ◌-◌, ◌*◌, ◌<◌, ◌≤◌, ◌^◌, ◌↔◌, IsOk, IfOk, IfSome, IfNone, OnErr, IsTrue, All, take, length};
+ghost use Rattle.std.specs.Prelude.{◌≡◌, ℕ, ◌+◌, ◌-◌, ◌*◌, ◌<◌, ◌≤◌, ◌^◌, ◌↔◌, IsOk, IfOk, IfSome, IfNone, OnErr, IsTrue, All, take, length, position, ◌==◌};
 ghost use Rattle.pt_base.specs.Whole.{IsDigit, IsWhole, value_after};
 ghost use Rattle.pt_base.specs.Micro.{IsMicro, IsMicroOf};
 
@@ -33,10 +33,17 @@ pub fn read_micro(text: &str) -> Result<u32, BadDecimal>
     if 16 < bytes.len() {
         return Err(BadDecimal);
     }
-    match bytes.iter().position(|b| *b == b'.') {
+    match point_in(bytes) {
         Some(point) => micro_of(&bytes[..point], &bytes[point + 1..]),
         None => micro_of(bytes, &[]),
     }
+}
+
+/// Where the point stands, if there is one; the first, if there are several.
+fn point_in(bytes: &[u8]) -> Option<usize>
+    ensures { result ≡ position (λ b. b == 46) bytes.now }
+{
+    bytes.iter().position(|b| *b == b'.')
 }
 
 /// The millionths of a whole part and a fraction, if they are digits, and enough and few enough.

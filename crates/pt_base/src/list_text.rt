@@ -1,14 +1,14 @@
 //! The texts of a page's paths as plain lists, one line for each path.
 ghost use Rattle.std.specs.Prelude.{◌≡◌, ◌++◌, length, codes, decimal, flat_map, IfOk, OnOk};
 ghost use Rattle.pt_base.specs.PointsText.{path_text, point_text, points_text, sign_text};
-ghost use Rattle.pt_base.specs.PolygonsText.{index_text, polygon_text, polygons_text};
+ghost use Rattle.pt_base.specs.PolygonsText.{counts_text, index_text, kind_text, polygon_text, polygons_text};
 
+use crate::digits::put_number;
 use crate::fault::NoMemory;
 use crate::path::{Path, Sign};
 use crate::point::Point;
 use crate::polygon::Polygon;
 use crate::trace::Trace;
-use itoa::{Buffer, Integer};
 use std::alloc::Global;
 
 /// The points text of a page: a line `points WIDTH HEIGHT PATHS`, and then a line for each path
@@ -60,9 +60,7 @@ fn put_sides(out: &mut Vec<u8>, width: u32, height: u32, count: usize) -> Result
 fn put_path(out: &mut Vec<u8>, path: &Path) -> Result<(), NoMemory>
     ensures { OnOk result (out.new.items ≡ out.old.items ++ path_text path.now) }
 {
-    put_sign(out, path.sign)?;
-    out.extend_from_slice(b" ")?;
-    put_number(out, path.area)?;
+    put_kind(out, path)?;
     put_points(out, path.points.as_slice())?;
     out.extend_from_slice(b"\n")?;
     Ok(())
@@ -105,18 +103,34 @@ fn put_polygon(out: &mut Vec<u8>, path: &Path, polygon: &Polygon) -> Result<(), 
     ensures { OnOk result (out.new.items ≡ out.old.items ++ polygon_text (path.now, polygon.now)) }
 {
     let at = polygon.at.as_slice();
+    put_kind(out, path)?;
+    put_counts(out, path.points.as_slice().len(), at.len(), polygon.cost)?;
+    put_indices(out, at)?;
+    out.extend_from_slice(b"\n")?;
+    Ok(())
+}
+
+/// Appends a path's sign and its area.
+fn put_kind(out: &mut Vec<u8>, path: &Path) -> Result<(), NoMemory>
+    ensures { OnOk result (out.new.items ≡ out.old.items ++ kind_text path.now) }
+{
     put_sign(out, path.sign)?;
     out.extend_from_slice(b" ")?;
     put_number(out, path.area)?;
+    Ok(())
+}
+
+/// Appends the number of a path's points, that of its polygon's segments, and their penalty.
+fn put_counts(out: &mut Vec<u8>, points: usize, segments: usize, cost: u128) -> Result<(), NoMemory>
+    ensures { OnOk result (out.new.items ≡ out.old.items ++ counts_text points segments cost) }
+{
     out.extend_from_slice(b" ")?;
-    put_number(out, path.points.as_slice().len())?;
+    put_number(out, points)?;
     out.extend_from_slice(b" ")?;
-    put_number(out, at.len())?;
+    put_number(out, segments)?;
     out.extend_from_slice(b" ")?;
-    put_number(out, polygon.cost)?;
+    put_number(out, cost)?;
     out.extend_from_slice(b":")?;
-    put_indices(out, at)?;
-    out.extend_from_slice(b"\n")?;
     Ok(())
 }
 
@@ -128,14 +142,5 @@ fn put_indices(out: &mut Vec<u8>, at: &[u32]) -> Result<(), NoMemory>
         out.extend_from_slice(b" ")?;
         put_number(out, *index)?;
     }
-    Ok(())
-}
-
-/// Appends a whole number in decimal digits.
-fn put_number<I: Integer>(out: &mut Vec<u8>, number: I) -> Result<(), NoMemory>
-    ensures { OnOk result (out.new.items ≡ out.old.items ++ I.text number) }
-{
-    let mut digits = Buffer::new();
-    out.extend_from_slice(digits.format(number).as_bytes())?;
     Ok(())
 }

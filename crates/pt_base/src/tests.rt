@@ -1,18 +1,22 @@
 //! What no clause says: the real adapters, and that the calls that allocate succeed.
 
-use crate::decimal::{BadDecimal, read_whole};
+use crate::decimal::{BadDecimal, read_micro, read_whole};
 use crate::err_sink::ErrSink;
 use crate::fault::{DeviceFault, OpenFault};
 use crate::file_inputs::FileInputs;
 use crate::file_outputs::FileOutputs;
+use crate::indices::Indices;
 use crate::inputs::Inputs;
-use crate::list_text::points;
+use crate::list_text::{points, polygons};
 use crate::mem_inputs::{InCall, MemInputs, NamedBytes};
 use crate::mem_outputs::{MemOutputs, OutCall};
 use crate::mem_sink::MemSink;
 use crate::path::{Path, Points, Sign};
 use crate::point::Point;
+use crate::polygon::Polygon;
+use crate::sequence::Sequence;
 use crate::sink::{Outputs, Sink};
+use crate::trace::Trace;
 use crate::write::write_whole;
 use std::alloc::Global;
 use std::test::Fail;
@@ -39,6 +43,61 @@ fn points_text(rt: HostRuntime) -> Result<(), Fail> {
         b"points 16 2 1\n- 1 0,1 0,0 1,0 1,1\n".as_slice()
     );
     Ok(())
+}
+
+#[test]
+fn polygons_text(rt: HostRuntime) -> Result<(), Fail> {
+    let alloc = rt.alloc();
+    let path = one_pixel(alloc)?;
+    let polygon = Polygon {
+        at: Indices::from_vec([0, 2].to_vec(alloc)?),
+        cost: 294,
+    };
+    let mut paths = Vec::new(alloc);
+    paths.push(path)?;
+    let mut best = Vec::new(alloc);
+    best.push(polygon)?;
+    let trace = Trace {
+        width: 16,
+        height: 2,
+        paths: Sequence::from_vec(paths),
+        polygons: Sequence::from_vec(best),
+        vertices: Sequence::from_vec(Vec::new(alloc)),
+        outlines: Sequence::from_vec(Vec::new(alloc)),
+        groups: Sequence::from_vec(Vec::new(alloc)),
+    };
+    assert_eq!(rt;
+        trace.paths.as_slice().len(),
+        trace.polygons.as_slice().len()
+    );
+    let text = polygons(alloc, &trace)?;
+    assert_eq!(rt;
+        text.as_slice(),
+        b"polygons 16 2 1\n- 1 4 2 294: 0 2\n".as_slice()
+    );
+    Ok(())
+}
+
+#[test]
+fn decimals_in_millionths(rt: HostRuntime) {
+    let table = [
+        ("0.2", Ok(200_000)),
+        (".5", Ok(500_000)),
+        ("5.", Ok(5_000_000)),
+        ("1.000001", Ok(1_000_001)),
+        ("000000000001.334", Ok(1_334_000)),
+        ("1000", Ok(1_000_000_000)),
+        ("1000.000001", Err(BadDecimal)),
+        ("1.0000001", Err(BadDecimal)),
+        ("0000000000001.334", Err(BadDecimal)),
+        (".", Err(BadDecimal)),
+        ("", Err(BadDecimal)),
+        ("1.2.3", Err(BadDecimal)),
+        ("-1", Err(BadDecimal)),
+    ];
+    for (text, value) in table {
+        assert_eq!(rt; read_micro(text), value, "{text}");
+    }
 }
 
 #[test]

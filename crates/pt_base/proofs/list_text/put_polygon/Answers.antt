@@ -1,8 +1,15 @@
-use Rattle.std.proofs.Common.{rules, ◌≡◌, ◌++◌, length, codes, decimal, flat_map, IfOk, OnOk, ℕ, ◌+◌, ◌-◌, ◌*◌, ◌<◌, ◌≤◌, ◌/◌, ◌%◌, Bool, true, false, nat_eq, nat_lt, List, [], ◌∷◌, slice_index_or, slice_set, bit_and, bit_or, Fits, w8, w32, w64, Bor, MutBor}
-use Rattle.pt_base.specs.PointsText.{path_text, point_text, points_text, sign_text}
-use Rattle.pt_base.specs.PolygonsText.{index_text, polygon_text, polygons_text}
+use Rattle.pt_base.specs.PolygonsText.{counts_text, index_text, kind_text}
+use Rattle.std.proofs.Common.{ap, codes, flat_map, length, ◌∙◌}
+use Rattle.pt_base.proofs.Texts.{four_appended}
 use Rattle.pt_base.proofs.list_text.put_polygon.Goals as goal
 
--- src/list_text.rt:104:1
 pub returns : goal.returns
-returns c = ?
+returns c =
+    four_appended c.args.out.now.items (kind_text c.args.path.now)
+    (counts_text (length c.args.path.now.points) (length c.args.polygon.now.at) c.args.polygon.now.cost)
+    (flat_map index_text c.args.polygon.now.at) (codes "\n")
+    c.put_kind.new.out.items c.put_counts.new.out.items c.put_indices.new.out.items c.extend_from_slice.new.self.items
+    c.in_ok-put_kind.ensures
+    (rw (c.as_slice-at.ensures, c.as_slice.ensures) at c.in_ok-put_counts.ensures)
+    (rw c.as_slice-at.ensures at c.in_ok-put_indices.ensures)
+    c.in_ok-extend_from_slice.ensures.items
