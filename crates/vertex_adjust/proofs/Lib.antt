@@ -5,4 +5,5 @@ pub mod Lines
 pub mod Rooting
 pub mod Searching
 pub mod Segments
+pub mod Single
 pub mod Spreading

@@ -1,8 +1,10 @@
 -- The segments of a polygon.
-use Rattle.std.proofs.Common.{◌≡◌, ℕ, suc, ◌+◌, ◌-◌, ◌*◌, ◌%◌, ◌<◌, ◌≤◌, ◌^◌, ℤ, pos, ◌+ℤ◌, ◌-ℤ◌, ◌*ℤ◌, ◌≤ℤ◌, List, length, get_or, refl, sym, ap, ◌∙◌, subst, arith}
+use Rattle.std.proofs.Common.{◌≡◌, ℕ, suc, ◌+◌, ◌-◌, ◌*◌, ◌%◌, ◌<◌, ◌≤◌, ◌^◌, ℤ, pos, ◌+ℤ◌, ◌-ℤ◌, ◌*ℤ◌, ◌≤ℤ◌, List, [], ◌∷◌, ◌++◌, length, get_or, refl, sym, ap, ◌∙◌, subst, arith}
 use Rattle.std.proofs.lemmas.Int.{ints}
-use Rattle.std.proofs.lemmas.List.{get_or_read}
 use Rattle.std.proofs.Math.Nat.{mod-eq_of_lt}
+use Rattle.std.proofs.Math.ListN.{get_or-append}
+use Rattle.std.proofs.Math.Seq.{get_or-append_seam}
+use Rattle.std.proofs.Math.Decide.{dec_lt}
 use Rattle.std.specs.Prelude.{unsigned_abs}
 use Rattle.pt_base.specs.declared.point.Point.{Point}
 use Rattle.pt_base.specs.ClosedWalk.{origin, point_at}
@@ -66,6 +68,23 @@ near_from v shift on candidate = record {
 }
 
 -- a point of the list by its number
-pub point_read : (points : List Point) (i : ℕ) (p : Point) → i < length points → p ≡ get_or points i p → p ≡ point_at points i
-point_read points i p h e =
-    get_or_read points i p h e origin ∙ ap (λ k. get_or points k origin) (sym (mod-eq_of_lt h))
+pub point_read : (points : List Point) (i : ℕ) → i < length points → get_or points i origin ≡ point_at points i
+point_read points i h = ap (λ k. get_or points k origin) (sym (mod-eq_of_lt h))
+
+-- the sums that were read of a segment
+pub sums_are : (points others : List Point) (i e end : ℕ) (s : Sums) → s ≡ sums_of others i e → others ≡ points → e ≡ end → s ≡ sums_of points i end
+sums_are points others i e end s es eo ee =
+    es ∙ ap (λ ps. sums_of ps i e) eo ∙ ap (λ v. sums_of points i v) ee
+
+-- a fact of each vertex so far, and of one more
+pub each_push : (P : ℕ → Point → Type 0) (vs : List Point) (v : Point) (k : ℕ) → length vs ≡ k → ((j : ℕ) → j < k → P j (get_or vs j origin)) → P k v
+    → (j : ℕ) → j < k + 1 → P j (get_or (vs ++ v ∷ []) j origin)
+each_push P vs v k len each last j h =
+    elim (dec_lt j k) [
+      | yes below ↦ (let Q : Point → Type 0 = λ p. P j p in subst Q (sym (get_or-append vs (v ∷ []) origin j (omega arith))) (each j below))
+      | no not_below ↦ (let e : k ≡ j = omega arith in
+          let Q : ℕ → Type 0 = λ n. P n (get_or (vs ++ v ∷ []) n origin) in
+          let R : ℕ → Type 0 = λ n. get_or (vs ++ v ∷ []) n origin ≡ v in
+          let S : Point → Type 0 = λ p. P k p in
+          subst Q e (subst S (sym (subst R len (get_or-append_seam vs v [] origin))) last))
+    ]

@@ -1,9 +1,9 @@
 //! The adjusted vertices of a polygon.
-ghost use Rattle.std.specs.Prelude.{◌≡◌, ◌<◌, length, IfOk, All};
+ghost use Rattle.std.specs.Prelude.{◌≡◌, ◌+◌, ◌<◌, length, IfOk, All};
 ghost use Rattle.pt_base.specs.ClosedWalk.{IsClosedWalk};
 ghost use Rattle.pt_base.specs.OnPage.{AreOnPage};
 ghost use Rattle.vertex_adjust.specs.Bounds.{IsOverPage};
-ghost use Rattle.vertex_adjust.specs.Vertex.{IsPolygonOf, AreVertices, IsLineOf, IsNearPage};
+ghost use Rattle.vertex_adjust.specs.Vertex.{IsPolygonOf, AreVertices, IsLineOf, IsNearPage, end_of};
 
 use crate::line::{Line, line_of};
 use crate::search::vertex;
@@ -47,10 +47,20 @@ fn segment_line(points: &[Point], moments: &Moments, at: &[u32], k: usize) -> Li
     ensures over_page { IsOverPage result }
 {
     let start = at[k];
-    let end = if k + 1 < at.len() {
+    let end = segment_end(points, at, k);
+    line_of(&moments.sums(start, end), points[start as usize])
+}
+
+/// The number, counted on past the end of the path, of the point at which segment number `k` ends.
+fn segment_end(points: &[Point], at: &[u32], k: usize) -> u32
+    requires closed { IsClosedWalk points.now }
+    requires polygon { IsPolygonOf points.now at.now }
+    requires segment { k < length at.now }
+    ensures { result ≡ end_of points.now at.now k }
+{
+    if k + 1 < at.len() {
         at[k + 1]
     } else {
         points.len() as u32 + at[0]
-    };
-    line_of(&moments.sums(start, end), points[start as usize])
+    }
 }

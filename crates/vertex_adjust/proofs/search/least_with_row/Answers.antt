@@ -23,10 +23,10 @@ loop-column-preserved c =
     let P : Trial → Type 0 = λ t. IsLeastSeen error row (column + 1) t in
     elim c.if-is_before.branch [
       | then-is_before w ↦ subst P (sym w.best-is)
-        (taken error row column best trial is_right is_up c.loop-column.invariant (candidate_counted trial.shift row column c.requires.row below is_right is_up) error_is
-        (matched_true _ _ _ w.if-is_before.true compared))
+          (taken error row column best trial is_right is_up c.loop-column.invariant (candidate_counted trial.shift row column c.requires.row below is_right is_up) error_is
+          (matched_true _ _ _ w.if-is_before.true compared))
       | else-is_before w ↦ subst P (sym w.best-is)
-        (kept error row column best trial.shift is_right is_up c.loop-column.invariant (matched_false _ _ _ w.if-is_before.false compared))
+          (kept error row column best trial.shift is_right is_up c.loop-column.invariant (matched_false _ _ _ w.if-is_before.false compared))
     ]
 
 pub returns : goal.returns
