@@ -13,3 +13,5 @@ mod spread;
 #[cfg(test)]
 mod tests;
 pub mod vertices;
+#[cfg(test)]
+mod walks;
