@@ -1,0 +1,9 @@
+pub mod Division
+pub mod Doubling
+pub mod Fitting
+pub mod Lines
+pub mod Rooting
+pub mod Searching
+pub mod Segments
+pub mod Single
+pub mod Spreading

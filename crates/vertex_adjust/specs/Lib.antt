@@ -1,0 +1,4 @@
+pub mod Line
+pub mod Bounds
+pub mod Vertex
+pub mod Search
