@@ -1,0 +1,1 @@
+//! Pieces that were worked out by hand.

@@ -1,0 +1,88 @@
+//! The piece of an outline at a vertex.
+ghost use Rattle.std.specs.Prelude.{◌≡◌, ◌≤◌, ◌+ℤ◌};
+ghost use Rattle.pt_base.specs.Floor.{floor_of};
+ghost use Rattle.corner_smooth.specs.Corner.{IsInReach, IsNearPage, control_of, curve_of, middle_of, part_of, piece_of};
+
+use crate::corner::{al, is_corner, sharpness};
+use crate::triangle::between;
+use pt_base::piece::Piece;
+use pt_base::point::Point;
+
+/// The piece at a vertex between its neighbours: a corner where it is as sharp as `alphamax` millionths.
+pub(crate) fn piece(alphamax: u32, before: Point, at: Point, after: Point) -> Piece
+    requires before { IsNearPage before }
+    requires at { IsNearPage at }
+    requires after { IsNearPage after }
+    ensures { result ≡ piece_of alphamax before at after }
+{
+    let sharpness = sharpness(before, at, after);
+    if is_corner(alphamax, sharpness) {
+        Piece::Corner {
+            at,
+            end: middle(at, after),
+        }
+    } else {
+        curve(al(sharpness), before, at, after)
+    }
+}
+
+/// The curve at a vertex between its neighbours.
+fn curve(al: u32, before: Point, at: Point, after: Point) -> Piece
+    requires al { al ≤ 65536 }
+    requires before { IsNearPage before }
+    requires at { IsNearPage at }
+    requires after { IsNearPage after }
+    ensures { result ≡ curve_of al before at after }
+{
+    Piece::Curve {
+        first: control(al, before, at),
+        second: control(al, after, at),
+        end: middle(at, after),
+        al,
+    }
+}
+
+/// A curve's control between a neighbour and the vertex.
+fn control(al: u32, neighbour: Point, at: Point) -> Point
+    requires al { al ≤ 65536 }
+    requires neighbour { IsNearPage neighbour }
+    requires at { IsNearPage at }
+    ensures { result ≡ control_of al neighbour at }
+{
+    Point {
+        x: part(al, neighbour.x, at.x),
+        y: part(al, neighbour.y, at.y),
+    }
+}
+
+/// The coordinate that lies (65536 + `al`) / 131072 of the way from one to another, rounded down.
+fn part(al: u32, from: i32, to: i32) -> i32
+    requires al { al ≤ 65536 }
+    requires from { IsInReach from }
+    requires to { IsInReach to }
+    ensures { result ≡ part_of al from to }
+{
+    let way = (i64::from(65536 + al) * between(from, to)).div_euclid(131_072);
+    (i64::from(from) + way) as i32
+}
+
+/// Halfway between two places, rounded down.
+fn middle(p: Point, q: Point) -> Point
+    requires p { IsNearPage p }
+    requires q { IsNearPage q }
+    ensures { result ≡ middle_of p q }
+{
+    Point {
+        x: half_way(p.x, q.x),
+        y: half_way(p.y, q.y),
+    }
+}
+
+/// Halfway between two coordinates, rounded down.
+fn half_way(a: i32, b: i32) -> i32
+    requires a { IsInReach a }
+    requires b { IsInReach b }
+    ensures { result ≡ floor_of (a +ℤ b) 2 }
+{
+    (a + b).div_euclid(2)
+}
