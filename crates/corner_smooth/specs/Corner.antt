@@ -1,7 +1,7 @@
 -- Corners and curves at the vertices of an outline (Selinger, "Potrace: a polygon-based tracing
 -- algorithm", 2003, section 2.3.3). All is in whole numbers, and how parts of a unit are rounded is our
 -- own. Places are in units of 1/1024 pixel.
-use Rattle.std.specs.Prelude.{ℕ, suc, ◌+◌, ◌-◌, ◌*◌, ◌/◌, min, max, ℤ, pos, neg_ℤ, ◌+ℤ◌, ◌-ℤ◌, ◌*ℤ◌, ◌≤ℤ◌, unsigned_abs, Bool, nat_eq, nat_le, if◌then◌else◌, List, length, map}
+use Rattle.std.specs.Prelude.{ℕ, ◌+◌, ◌-◌, ◌*◌, ◌/◌, min, max, ℤ, pos, neg_ℤ, ◌+ℤ◌, ◌-ℤ◌, ◌*ℤ◌, ◌≤ℤ◌, unsigned_abs, Bool, nat_eq, nat_le, if◌then◌else◌, List, length, map}
 use Rattle.std.specs.List.{range_with_len}
 use Rattle.pt_base.specs.declared.piece.Piece.{Piece}
 use Rattle.pt_base.specs.declared.piece.Piece.TheVariants.{Corner, Curve}
@@ -74,7 +74,7 @@ abbrev pub curve_of : ℕ → Point → Point → Point → Piece
 curve_of al before at after = Curve (control_of al before at) (control_of al after at) (middle_of at after) al
 
 -- the piece at a vertex between two others, where vertices as sharp as `alphamax` are corners
-abbrev pub piece_of : ℕ → Point → Point → Point → Piece
+unfoldable pub piece_of : ℕ → Point → Point → Point → Piece
 piece_of alphamax before at after =
     if is_corner alphamax (sharpness_of before at after) then Corner at (middle_of at after)
     else curve_of (al_of (sharpness_of before at after)) before at after
@@ -82,7 +82,7 @@ piece_of alphamax before at after =
 -- the piece at vertex number j: before the first vertex comes the last, and after the last the first
 abbrev pub piece_at : ℕ → List Point → ℕ → Piece
 piece_at alphamax vertices j =
-    piece_of alphamax (point_at vertices (j + (length vertices - 1))) (point_at vertices j) (point_at vertices (suc j))
+    piece_of alphamax (point_at vertices (j + (length vertices - 1))) (point_at vertices j) (point_at vertices (j + 1))
 
 -- one piece for each vertex, in order
 abbrev pub pieces_of : ℕ → List Point → List Piece

@@ -1,5 +1,5 @@
 //! The pieces of a whole outline.
-ghost use Rattle.std.specs.Prelude.{◌≡◌, ◌≤◌, length, IfOk};
+ghost use Rattle.std.specs.Prelude.{◌≡◌, ◌≤◌, ◌<◌, ◌+◌, ◌%◌, length, IfOk};
 ghost use Rattle.std.specs.List.{All};
 ghost use Rattle.corner_smooth.specs.Corner.{IsNearPage, pieces_of};
 
@@ -25,10 +25,18 @@ pub fn smooth(alloc: Global, vertices: &[Point], alphamax: u32) -> Result<Sequen
     let mut before = vertices[vertices.len() - 1];
     for j in 0..vertices.len() {
         let at = vertices[j];
-        let next = if j + 1 < vertices.len() { j + 1 } else { 0 };
-        let after = vertices[next];
+        let after = vertices[next(j, vertices.len())];
         pieces.push(piece(alphamax, before, at, after))?;
         before = at;
     }
     Ok(Sequence::from_vec(pieces))
+}
+
+/// The number of the vertex after number `j`, of so many: after the last one comes the first.
+fn next(j: usize, count: usize) -> usize
+    requires { j < count }
+    ensures value { result ≡ (j + 1) % count }
+    ensures within { result < count }
+{
+    if j + 1 < count { j + 1 } else { 0 }
 }

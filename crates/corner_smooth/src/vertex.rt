@@ -1,5 +1,5 @@
 //! The piece of an outline at a vertex.
-ghost use Rattle.std.specs.Prelude.{◌≡◌, ◌≤◌, ◌+ℤ◌};
+ghost use Rattle.std.specs.Prelude.{◌≡◌, ◌≤◌, ◌+◌, ◌^◌, ◌+ℤ◌, ◌*ℤ◌, pos, unsigned_abs};
 ghost use Rattle.pt_base.specs.Floor.{floor_of};
 ghost use Rattle.corner_smooth.specs.Corner.{IsInReach, IsNearPage, control_of, curve_of, middle_of, part_of, piece_of};
 
@@ -9,6 +9,7 @@ use pt_base::piece::Piece;
 use pt_base::point::Point;
 
 /// The piece at a vertex between its neighbours: a corner where it is as sharp as `alphamax` millionths.
+#[tactic(auto, unfolding(crate::specs::Corner::piece_of))]
 pub(crate) fn piece(alphamax: u32, before: Point, at: Point, after: Point) -> Piece
     requires before { IsNearPage before }
     requires at { IsNearPage at }
@@ -62,8 +63,17 @@ fn part(al: u32, from: i32, to: i32) -> i32
     requires to { IsInReach to }
     ensures { result ≡ part_of al from to }
 {
-    let way = (i64::from(65536 + al) * between(from, to)).div_euclid(131_072);
-    (i64::from(from) + way) as i32
+    (i64::from(from) + share(al, between(from, to))) as i32
+}
+
+/// So much of the way, rounded down.
+fn share(al: u32, way: i64) -> i64
+    requires al { al ≤ 65536 }
+    requires way { unsigned_abs way ≤ 2 ^ 25 }
+    ensures value { result ≡ floor_of (pos (65536 + al) *ℤ way) 131072 }
+    ensures most { unsigned_abs result ≤ 2 ^ 26 }
+{
+    (i64::from(65536 + al) * way).div_euclid(131_072)
 }
 
 /// Halfway between two places, rounded down.
