@@ -11,12 +11,6 @@ use Rattle.corner_smooth.specs.Corner.{piece_at, piece_of}
 pub here : (vertices : List Point) (j : ℕ) → j < length vertices → get_or vertices j origin ≡ point_at vertices j
 here vertices j within = ap (λ i. get_or vertices i origin) (sym (mod-eq_of_lt within))
 
--- after the last comes the first
-pub first_again : (j count : ℕ) → j < count → count ≤ j + 1 → 0 ≡ (j + 1) % count
-first_again j count within last =
-    let e : j + 1 ≡ count = omega arith in
-    sym (ap (λ i. i % count) e ∙ mod_self count)
-
 -- a vertex comes before the next one
 pub one_lap_on : (vertices : List Point) (j : ℕ) → j < length vertices
     → get_or vertices j origin ≡ point_at vertices (j + 1 + (length vertices - 1))

@@ -34,10 +34,10 @@ abbrev pub distance_of : Point → Point → ℕ
 distance_of p q = unsigned_abs (q.x -ℤ p.x) + unsigned_abs (q.y -ℤ p.y)
 
 -- Selinger's alpha, for a triangle of this doubled area whose neighbours of the vertex are at this
--- distance. The line through the middles of the sides at the vertex comes as near to it as half a
--- pixel, along the columns and along the rows together, where the area is 1024 times the distance:
--- then, and below, it is 0. In narrow corners it comes near 4/3, which it is where the neighbours
--- are one place.
+-- distance. Parallel to the line through the middles of the two sides at the vertex, another one touches
+-- the square of one pixel around the vertex: alpha is 4/3 of the part of the way to the vertex that lies
+-- before that one, which is 1 - 1024 * distance / area. Where it lies behind the middles alpha is 0, and
+-- where the neighbours are one place it is 4/3.
 abbrev pub sharpness_by : ℕ → ℕ → Fraction
 sharpness_by area distance =
     if nat_eq distance 0 then record { numerator = 4; denominator = 3 }

@@ -19,9 +19,8 @@ pub(crate) fn sharpness(before: Point, at: Point, after: Point) -> Fraction
     requires at { IsNearPage at }
     requires after { IsNearPage after }
     ensures value { result ≡ sharpness_of before at after }
-    ensures numerator { result.numerator ≤ 2 ^ 53 }
     ensures some { 0 < result.denominator }
-    ensures proper { 3 * result.numerator ≤ 4 * result.denominator }
+    ensures blunt { result.numerator < result.denominator → result.numerator ≤ 2 ^ 40 }
 {
     sharpness_by(area(before, at, after), distance(before, after))
 }
@@ -31,9 +30,8 @@ fn sharpness_by(area: u64, distance: u64) -> Fraction
     requires area { area ≤ 2 ^ 51 }
     requires distance { distance ≤ 2 ^ 26 }
     ensures value { result ≡ sharpness_by area distance }
-    ensures numerator { result.numerator ≤ 2 ^ 53 }
     ensures some { 0 < result.denominator }
-    ensures proper { 3 * result.numerator ≤ 4 * result.denominator }
+    ensures blunt { result.numerator < result.denominator → result.numerator ≤ 2 ^ 40 }
 {
     if distance == 0 {
         Fraction {
@@ -66,14 +64,11 @@ pub(crate) fn is_corner(alphamax: u32, sharpness: Fraction) -> bool
 /// How far a curve's controls lie towards the vertex, in units of 1/65536.
 pub(crate) fn al(sharpness: Fraction) -> u32
     requires some { 0 < sharpness.denominator }
-    requires proper { 3 * sharpness.numerator ≤ 4 * sharpness.denominator }
+    requires blunt { sharpness.numerator < sharpness.denominator → sharpness.numerator ≤ 2 ^ 40 }
     ensures { result ≡ al_of sharpness }
 {
-    // Only the vertices of long sides need a quotient of 128 bits.
-    let al = if sharpness.numerator < 1 << 48 {
-        65536 * sharpness.numerator / sharpness.denominator
-    } else {
-        (65536 * u128::from(sharpness.numerator) / u128::from(sharpness.denominator)) as u64
-    };
-    al.clamp(36045, 65536) as u32
+    if sharpness.denominator <= sharpness.numerator {
+        return 65536;
+    }
+    (65536 * sharpness.numerator / sharpness.denominator).max(36045) as u32
 }
