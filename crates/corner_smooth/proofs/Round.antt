@@ -1,8 +1,9 @@
 -- Vertices and their neighbours round an outline.
-use Rattle.std.proofs.Common.{◌≡◌, ℕ, ◌+◌, ◌-◌, ◌%◌, ◌<◌, ◌≤◌, List, [], ◌∷◌, ◌++◌, length, get_or, map, ap, sym, ◌∙◌, arith}
+use Rattle.std.proofs.Common.{◌≡◌, ℕ, zero, suc, ◌+◌, ◌-◌, ◌%◌, ◌<◌, ◌≤◌, List, [], ◌∷◌, ◌++◌, length, get_or, map, ap, sym, subst, ◌∙◌, arith}
 use Rattle.std.proofs.Math.Nat.{mod_self, mod-eq_of_lt, mod-eq-sub-mod}
+use Rattle.std.proofs.lemmas.List.Elements.{All-append}
 use Rattle.std.proofs.lemmas.List.FromFn.{map-range_with_len_more}
-use Rattle.std.specs.List.{range_with_len}
+use Rattle.std.specs.List.{All, range_with_len}
 use Rattle.pt_base.specs.ClosedWalk.{origin, point_at}
 use Rattle.pt_base.specs.declared.piece.Piece.{Piece}
 use Rattle.pt_base.specs.declared.point.Point.{Point}
@@ -34,3 +35,13 @@ one_more alphamax vertices j next so_far more before piece within is_next is_bef
     let is : piece ≡ piece_at alphamax vertices j = cc in
     let step = map-range_with_len_more (piece_at alphamax vertices) 0 j j (omega arith) in
     cc
+
+only : (P : Piece → Type 0) (piece : Piece) → P piece → (k : ℕ) (d : Piece) → k < length (piece ∷ []) → P (get_or (piece ∷ []) k d)
+only P piece here zero d within = here
+only P piece here (suc k) d within = absurd (omega arith)
+
+-- what holds of each piece so far, and of the next one
+pub one_more_such : (P : Piece → Type 0) (so_far more : List Piece) (piece : Piece) → All P so_far → P piece → more ≡ so_far ++ piece ∷ [] → All P more
+one_more_such P so_far more piece each here pushed =
+    let Q : List Piece → Type 0 = λ pieces. All P pieces in
+    subst Q (sym pushed) (All-append P so_far (piece ∷ []) each (only P piece here))

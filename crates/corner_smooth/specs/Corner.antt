@@ -1,7 +1,7 @@
 -- Corners and curves at the vertices of an outline (Selinger, "Potrace: a polygon-based tracing
 -- algorithm", 2003, section 2.3.3). All is in whole numbers, and how parts of a unit are rounded is our
 -- own. Places are in units of 1/1024 pixel.
-use Rattle.std.specs.Prelude.{ℕ, ◌+◌, ◌-◌, ◌*◌, ◌/◌, min, max, ℤ, pos, neg_ℤ, ◌+ℤ◌, ◌-ℤ◌, ◌*ℤ◌, ◌≤ℤ◌, unsigned_abs, Bool, nat_eq, nat_le, if◌then◌else◌, List, length, map}
+use Rattle.std.specs.Prelude.{ℕ, ◌+◌, ◌-◌, ◌*◌, ◌/◌, ◌≤◌, min, max, ℤ, pos, neg_ℤ, ◌+ℤ◌, ◌-ℤ◌, ◌*ℤ◌, ◌≤ℤ◌, unsigned_abs, Bool, nat_eq, nat_le, if◌then◌else◌, List, length, map}
 use Rattle.std.specs.List.{range_with_len}
 use Rattle.pt_base.specs.declared.piece.Piece.{Piece}
 use Rattle.pt_base.specs.declared.piece.Piece.TheVariants.{Corner, Curve}
@@ -87,3 +87,13 @@ piece_at alphamax vertices j =
 -- one piece for each vertex, in order
 abbrev pub pieces_of : ℕ → List Point → List Piece
 pieces_of alphamax vertices = map (piece_at alphamax vertices) (range_with_len 0 (length vertices))
+
+-- the piece's places are near the page
+abbrev pub StaysNear : Piece → Type 0
+StaysNear (Corner at end) = IsNearPage at × IsNearPage end
+StaysNear (Curve first second end al) = IsNearPage first × IsNearPage second × IsNearPage end
+
+-- a curve's `al` is from 0.55 to 1, in units of 1/65536
+abbrev pub IsRound : Piece → Type 0
+IsRound (Corner at end) = Unit {0}
+IsRound (Curve first second end al) = (36045 ≤ al) × (al ≤ 65536)

@@ -65,7 +65,9 @@ pub(crate) fn is_corner(alphamax: u32, sharpness: Fraction) -> bool
 pub(crate) fn al(sharpness: Fraction) -> u32
     requires some { 0 < sharpness.denominator }
     requires blunt { sharpness.numerator < sharpness.denominator → sharpness.numerator ≤ 2 ^ 40 }
-    ensures { result ≡ al_of sharpness }
+    ensures value { result ≡ al_of sharpness }
+    ensures least { 36045 ≤ result }
+    ensures most { result ≤ 65536 }
 {
     if sharpness.denominator <= sharpness.numerator {
         return 65536;

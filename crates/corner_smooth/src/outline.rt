@@ -1,7 +1,7 @@
 //! The pieces of a whole outline.
 ghost use Rattle.std.specs.Prelude.{◌≡◌, ◌≤◌, ◌<◌, ◌+◌, ◌%◌, length, IfOk};
 ghost use Rattle.std.specs.List.{All};
-ghost use Rattle.corner_smooth.specs.Corner.{IsNearPage, pieces_of};
+ghost use Rattle.corner_smooth.specs.Corner.{IsNearPage, IsRound, StaysNear, pieces_of};
 
 use crate::vertex::piece;
 use pt_base::fault::NoMemory;
@@ -20,6 +20,8 @@ pub fn smooth(alloc: Global, vertices: &[Point], alphamax: u32) -> Result<Sequen
     requires alphamax { alphamax ≤ 1000000000 }
     ensures pieces { IfOk result (λ pieces. pieces ≡ pieces_of alphamax vertices.now) }
     ensures one_each { IfOk result (λ pieces. length pieces ≡ length vertices.now) }
+    ensures near { IfOk result (λ pieces. All StaysNear pieces) }
+    ensures round { IfOk result (λ pieces. All IsRound pieces) }
 {
     let mut pieces = Vec::with_capacity(alloc, vertices.len())?;
     let mut before = vertices[vertices.len() - 1];

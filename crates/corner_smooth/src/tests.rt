@@ -142,7 +142,12 @@ fn at_the_ends_of_the_page(rt: HostRuntime) -> Result<(), Fail> {
     // The longest sides.
     let longest = [at(-512, -512), at(33_553_920, -512), at(-512, -511)];
     let mixed = [
-        curve(at(-512, -512), at(7_549_184, -512), at(16_776_704, -512), 36045),
+        curve(
+            at(-512, -512),
+            at(7_549_184, -512),
+            at(16_776_704, -512),
+            36045,
+        ),
         corner(at(33_553_920, -512), at(16_776_704, -512)),
         curve(at(7_549_184, -512), at(-512, -512), at(-512, -512), 36045),
     ];

@@ -1,7 +1,7 @@
 //! The piece of an outline at a vertex.
 ghost use Rattle.std.specs.Prelude.{◌≡◌, ◌≤◌, ◌+◌, ◌^◌, ◌+ℤ◌, ◌*ℤ◌, pos, unsigned_abs};
 ghost use Rattle.pt_base.specs.Floor.{floor_of};
-ghost use Rattle.corner_smooth.specs.Corner.{IsInReach, IsNearPage, control_of, curve_of, middle_of, part_of, piece_of};
+ghost use Rattle.corner_smooth.specs.Corner.{IsInReach, IsNearPage, IsRound, StaysNear, control_of, curve_of, middle_of, part_of, piece_of};
 
 use crate::corner::{al, is_corner, sharpness};
 use crate::triangle::between;
@@ -14,14 +14,14 @@ pub(crate) fn piece(alphamax: u32, before: Point, at: Point, after: Point) -> Pi
     requires before { IsNearPage before }
     requires at { IsNearPage at }
     requires after { IsNearPage after }
-    ensures { result ≡ piece_of alphamax before at after }
+    ensures value { result ≡ piece_of alphamax before at after }
+    ensures near { StaysNear result }
+    ensures round { IsRound result }
 {
     let sharpness = sharpness(before, at, after);
     if is_corner(alphamax, sharpness) {
-        Piece::Corner {
-            at,
-            end: middle(at, after),
-        }
+        let end = middle(at, after);
+        Piece::Corner { at, end }
     } else {
         curve(al(sharpness), before, at, after)
     }
@@ -29,11 +29,14 @@ pub(crate) fn piece(alphamax: u32, before: Point, at: Point, after: Point) -> Pi
 
 /// The curve at a vertex between its neighbours.
 fn curve(al: u32, before: Point, at: Point, after: Point) -> Piece
-    requires al { al ≤ 65536 }
+    requires least { 36045 ≤ al }
+    requires most { al ≤ 65536 }
     requires before { IsNearPage before }
     requires at { IsNearPage at }
     requires after { IsNearPage after }
-    ensures { result ≡ curve_of al before at after }
+    ensures value { result ≡ curve_of al before at after }
+    ensures near { StaysNear result }
+    ensures round { IsRound result }
 {
     Piece::Curve {
         first: control(al, before, at),
@@ -48,7 +51,8 @@ fn control(al: u32, neighbour: Point, at: Point) -> Point
     requires al { al ≤ 65536 }
     requires neighbour { IsNearPage neighbour }
     requires at { IsNearPage at }
-    ensures { result ≡ control_of al neighbour at }
+    ensures value { result ≡ control_of al neighbour at }
+    ensures near { IsNearPage result }
 {
     Point {
         x: part(al, neighbour.x, at.x),
@@ -61,7 +65,8 @@ fn part(al: u32, from: i32, to: i32) -> i32
     requires al { al ≤ 65536 }
     requires from { IsInReach from }
     requires to { IsInReach to }
-    ensures { result ≡ part_of al from to }
+    ensures value { result ≡ part_of al from to }
+    ensures reach { IsInReach result }
 {
     (i64::from(from) + share(al, between(from, to))) as i32
 }
@@ -71,7 +76,7 @@ fn share(al: u32, way: i64) -> i64
     requires al { al ≤ 65536 }
     requires way { unsigned_abs way ≤ 2 ^ 25 }
     ensures value { result ≡ floor_of (pos (65536 + al) *ℤ way) 131072 }
-    ensures most { unsigned_abs result ≤ 2 ^ 26 }
+    ensures most { unsigned_abs result ≤ 2 ^ 25 }
 {
     (i64::from(65536 + al) * way).div_euclid(131_072)
 }
@@ -80,7 +85,8 @@ fn share(al: u32, way: i64) -> i64
 fn middle(p: Point, q: Point) -> Point
     requires p { IsNearPage p }
     requires q { IsNearPage q }
-    ensures { result ≡ middle_of p q }
+    ensures value { result ≡ middle_of p q }
+    ensures near { IsNearPage result }
 {
     Point {
         x: half_way(p.x, q.x),
@@ -92,7 +98,8 @@ fn middle(p: Point, q: Point) -> Point
 fn half_way(a: i32, b: i32) -> i32
     requires a { IsInReach a }
     requires b { IsInReach b }
-    ensures { result ≡ floor_of (a +ℤ b) 2 }
+    ensures value { result ≡ floor_of (a +ℤ b) 2 }
+    ensures reach { IsInReach result }
 {
     (a + b).div_euclid(2)
 }

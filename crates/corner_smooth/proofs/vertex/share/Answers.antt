@@ -10,5 +10,5 @@ returns-clause-value c =
 
 pub returns-clause-most : goal.returns-clause-most
 returns-clause-most c =
-    let P : ℤ → Type 0 = λ r. unsigned_abs r ≤ 2 ^ 26 in
+    let P : ℤ → Type 0 = λ r. unsigned_abs r ≤ 2 ^ 25 in
     subst P (sym (returns-clause-value c)) (share_most (65536 + c.args.al) c.args.way (omega arith) c.requires.way)
