@@ -1,3 +1,4 @@
 pub mod Kept
 pub mod OneTrace
+pub mod Segments
 pub mod Zipping

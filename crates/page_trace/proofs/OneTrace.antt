@@ -1,5 +1,5 @@
 -- A page has one trace, and one document.
-use Rattle.std.proofs.Common.{◌≡◌, ℕ, List, [], ◌∷◌, refl, sym, ap, ◌∙◌, subst}
+use Rattle.std.proofs.Common.{◌≡◌, ℕ, List, [], ◌∷◌, map, zip, refl, sym, ap, ◌∙◌, subst}
 use Rattle.std.specs.List.{AllZip}
 use Rattle.pt_base.specs.PointsText.{points_text}
 use Rattle.pt_base.specs.PolygonsText.{polygons_text}
@@ -14,7 +14,11 @@ use Rattle.path_decompose.specs.Decomposition.{kept}
 use Rattle.path_decompose.proofs.Unique.{one_decomposition}
 use Rattle.polygon_optimal.specs.Polygon.{total_penalty}
 use Rattle.polygon_optimal.proofs.Best.{one_best}
-use Rattle.page_trace.specs.Trace.{ArePaths, IsPolygonOf, IsTrace}
+use Rattle.pt_base.specs.declared.point.Point.{Point}
+use Rattle.vertex_adjust.proofs.Single.{vertices_one}
+use Rattle.corner_smooth.specs.Corner.{pieces_of}
+use Rattle.svg_backend.specs.SvgText.{svg_text}
+use Rattle.page_trace.specs.Trace.{ArePaths, AreVerticesOf, HasPolygons, IsPolygonOf, IsTrace}
 use Rattle.page_trace.specs.Document.{IsDocumentUnder, text_under}
 
 pub one_list_of_paths : (page : Page) (settings : Settings) (paths others : List Path) → ArePaths page settings paths → ArePaths page settings others → paths ≡ others
@@ -50,24 +54,63 @@ same_trace t o width height paths polygons vertices outlines groups =
     ∙ ap (λ v. record o { outlines = v; groups = t.groups }) outlines
     ∙ ap (λ v. record o { groups = v }) groups
 
+same_paths : (page : Page) (settings : Settings) (trace other : Trace) → HasPolygons page settings trace → HasPolygons page settings other → trace.paths ≡ other.paths
+same_paths page settings trace other this that = one_list_of_paths page settings trace.paths other.paths this.paths that.paths
+
+same_polygons : (page : Page) (settings : Settings) (trace other : Trace) → HasPolygons page settings trace → HasPolygons page settings other
+    → trace.polygons ≡ other.polygons
+same_polygons page settings trace other this that =
+    one_list_of_polygons other.paths trace.polygons other.polygons
+    (subst (λ ps. AllZip IsPolygonOf ps trace.polygons) (same_paths page settings trace other this that) this.polygons) that.polygons
+
+one_list_of_vertices : (traced : List (Path × Polygon)) (lists others : List (List Point)) → AllZip AreVerticesOf traced lists → AllZip AreVerticesOf traced others
+    → lists ≡ others
+one_list_of_vertices [] [] [] these those = refl
+one_list_of_vertices [] [] (other ∷ others) these those = absurd those
+one_list_of_vertices [] (one ∷ lists) others these those = absurd these
+one_list_of_vertices (both ∷ traced) [] others these those = absurd these
+one_list_of_vertices (both ∷ traced) (one ∷ lists) [] these those = absurd those
+one_list_of_vertices (both ∷ traced) (one ∷ lists) (other ∷ others) these those =
+    ap (λ v. v ∷ lists) (vertices_one (both.0).points (both.1).at one other these.0 those.0)
+    ∙ ap (λ vs. other ∷ vs) (one_list_of_vertices traced lists others these.1 those.1)
+
 pub one_trace : (page : Page) (settings : Settings) (trace other : Trace) → IsTrace page settings trace → IsTrace page settings other → trace ≡ other
 one_trace page settings trace other this that =
-    let paths = one_list_of_paths page settings trace.paths other.paths this.paths that.paths in
-    same_trace trace other (this.width ∙ sym that.width) (this.height ∙ sym that.height) paths
-    (one_list_of_polygons other.paths trace.polygons other.polygons (subst (λ ps. AllZip IsPolygonOf ps trace.polygons) paths this.polygons) that.polygons)
-    (this.vertices ∙ sym that.vertices) (this.outlines ∙ sym that.outlines) (this.groups ∙ sym that.groups)
+    let paths = same_paths page settings trace other this.polygons that.polygons in
+    let polygons = same_polygons page settings trace other this.polygons that.polygons in
+    let traced : zip trace.paths trace.polygons ≡ zip other.paths other.polygons
+    = ap (λ ps. zip ps trace.polygons) paths ∙ ap (λ ps. zip other.paths ps) polygons in
+    let vertices = one_list_of_vertices (zip other.paths other.polygons) trace.vertices other.vertices
+    (subst (λ both. AllZip AreVerticesOf both trace.vertices) traced this.vertices) that.vertices in
+    same_trace trace other (this.polygons.width ∙ sym that.polygons.width) (this.polygons.height ∙ sym that.polygons.height) paths polygons vertices
+    (this.outlines ∙ ap (map (pieces_of settings.alphamax)) vertices ∙ sym that.outlines) (this.groups ∙ sym that.groups)
+
+-- the polygons text shows no more than the sides, the paths and the polygons
+same_polygons_text : (page : Page) (settings : Settings) (trace other : Trace) → HasPolygons page settings trace → HasPolygons page settings other
+    → polygons_text trace ≡ polygons_text other
+same_polygons_text page settings trace other this that =
+    let width = this.width ∙ sym that.width in
+    let height = this.height ∙ sym that.height in
+    let paths = same_paths page settings trace other this that in
+    let polygons = same_polygons page settings trace other this that in
+    ap polygons_text
+    (ap (λ v. record trace { width = v }) width
+    ∙ ap (λ v. record trace { width = other.width; height = v }) height
+    ∙ ap (λ v. record trace { width = other.width; height = other.height; paths = v }) paths
+    ∙ ap (λ v. record trace { width = other.width; height = other.height; paths = other.paths; polygons = v }) polygons)
 
 -- a document is the text of the trace
 pub text_is : (backend : Backend) (page : Page) (settings : Settings) (trace : Trace) (text : List ℕ) → IsTrace page settings trace
-    → IsDocumentUnder backend page settings text → text ≡ text_under backend trace
+    → IsDocumentUnder backend page settings text → text ≡ text_under settings backend trace
 text_is Points page settings trace text is document =
     document.2
-    ∙ ap (points_text page.width page.height) (one_list_of_paths page settings document.0 trace.paths document.1 is.paths)
-    ∙ ap (λ v. points_text v page.height trace.paths) (sym is.width)
-    ∙ ap (λ v. points_text trace.width v trace.paths) (sym is.height)
-text_is Polygons page settings trace text is document = document.2 ∙ ap polygons_text (one_trace page settings document.0 trace document.1 is)
+    ∙ ap (points_text page.width page.height) (one_list_of_paths page settings document.0 trace.paths document.1 is.polygons.paths)
+    ∙ ap (λ v. points_text v page.height trace.paths) (sym is.polygons.width)
+    ∙ ap (λ v. points_text trace.width v trace.paths) (sym is.polygons.height)
+text_is Polygons page settings trace text is document = document.2 ∙ same_polygons_text page settings document.0 trace document.1 is.polygons
+text_is Svg page settings trace text is document =
+    document.2 ∙ ap (svg_text settings.unit settings.flat) (one_trace page settings document.0 trace document.1 is)
 text_is Eps page settings trace text is document = absurd document
-text_is Svg page settings trace text is document = absurd document
 text_is Dxf page settings trace text is document = absurd document
 text_is GeoJson page settings trace text is document = absurd document
 
@@ -76,9 +119,9 @@ pub one_document : (backend : Backend) (page : Page) (settings : Settings) (text
     → IsDocumentUnder backend page settings other → text ≡ other
 one_document Points page settings text other this that =
     this.2 ∙ ap (points_text page.width page.height) (one_list_of_paths page settings this.0 that.0 this.1 that.1) ∙ sym that.2
-one_document Polygons page settings text other this that =
-    this.2 ∙ ap polygons_text (one_trace page settings this.0 that.0 this.1 that.1) ∙ sym that.2
+one_document Polygons page settings text other this that = this.2 ∙ same_polygons_text page settings this.0 that.0 this.1 that.1 ∙ sym that.2
+one_document Svg page settings text other this that =
+    this.2 ∙ ap (svg_text settings.unit settings.flat) (one_trace page settings this.0 that.0 this.1 that.1) ∙ sym that.2
 one_document Eps page settings text other this that = absurd this
-one_document Svg page settings text other this that = absurd this
 one_document Dxf page settings text other this that = absurd this
 one_document GeoJson page settings text other this that = absurd this

@@ -1,5 +1,5 @@
 -- The document of a page.
-use Rattle.std.specs.Prelude.{◌≡◌, ℕ, List, [], ◌⊎◌}
+use Rattle.std.specs.Prelude.{◌≡◌, ℕ, ◌≤◌, true, List, []}
 use Rattle.pt_base.specs.PointsText.{points_text}
 use Rattle.pt_base.specs.PolygonsText.{polygons_text}
 use Rattle.pt_base.specs.declared.path.Path.{Path}
@@ -8,36 +8,60 @@ use Rattle.pt_base.specs.declared.settings.Backend.TheVariants.{Eps, Svg, Dxf, G
 use Rattle.pt_base.specs.declared.settings.Settings.{Settings}
 use Rattle.pt_base.specs.declared.trace.Trace.{Trace}
 use Rattle.bit_image.specs.Page.{Page}
-use Rattle.page_trace.specs.Trace.{ArePaths, IsTrace}
+use Rattle.svg_backend.specs.SvgText.{svg_text}
+use Rattle.page_trace.specs.Trace.{ArePaths, HasPolygons, IsTrace}
 
--- the backend's text shows paths or polygons alone
-abbrev pub IsList : Backend → Type 0
-IsList backend = (backend ≡ Points) ⊎ (backend ≡ Polygons)
-
--- the text of a trace under a backend (there is none yet but that of points and of polygons)
-abbrev pub text_under : Backend → Trace → List ℕ
-text_under Points trace = points_text trace.width trace.height trace.paths
-text_under Polygons trace = polygons_text trace
-text_under Eps trace = []
-text_under Svg trace = []
-text_under Dxf trace = []
-text_under GeoJson trace = []
+-- the text of a trace under a backend (those that are left have none yet)
+abbrev pub text_under : Settings → Backend → Trace → List ℕ
+text_under settings Points trace = points_text trace.width trace.height trace.paths
+text_under settings Polygons trace = polygons_text trace
+text_under settings Svg trace = svg_text settings.unit settings.flat trace
+text_under settings Eps trace = []
+text_under settings Dxf trace = []
+text_under settings GeoJson trace = []
 
 -- the text of a trace
 abbrev pub text_of : Settings → Trace → List ℕ
-text_of settings trace = text_under settings.backend trace
+text_of settings trace = text_under settings settings.backend trace
 
 -- the text is the page's under a backend: it shows as much of the page's trace as the backend does
 abbrev pub IsDocumentUnder : Backend → Page → Settings → List ℕ → Type 0
 IsDocumentUnder Points page settings text =
     (paths : List Path) × ArePaths page settings paths × (text ≡ points_text page.width page.height paths)
 IsDocumentUnder Polygons page settings text =
-    (trace : Trace) × IsTrace page settings trace × (text ≡ polygons_text trace)
+    (trace : Trace) × HasPolygons page settings trace × (text ≡ polygons_text trace)
+IsDocumentUnder Svg page settings text =
+    (trace : Trace) × IsTrace page settings trace × (text ≡ svg_text settings.unit settings.flat trace)
 IsDocumentUnder Eps page settings text = ⊥
-IsDocumentUnder Svg page settings text = ⊥
 IsDocumentUnder Dxf page settings text = ⊥
 IsDocumentUnder GeoJson page settings text = ⊥
 
 -- the text is the page's document
 abbrev pub IsDocument : Page → Settings → List ℕ → Type 0
 IsDocument page settings text = IsDocumentUnder settings.backend page settings text
+
+-- what a whole trace needs of the settings: a corner threshold of at most 1000, and that curves aren't
+-- to be joined
+pub record CanTrace (settings : Settings) : Type 0 where
+  pub alphamax : settings.alphamax ≤ 1000000000
+  pub long_curve : settings.long_curve ≡ true
+
+-- what an SVG text needs besides: a unit of 1 to 1000, and that all outlines are to be one path
+pub record CanDraw (settings : Settings) : Type 0 where
+  pub traced : CanTrace settings
+  pub some : 1 ≤ settings.unit
+  pub most : settings.unit ≤ 1000
+  pub flat : settings.flat ≡ true
+
+-- what a document needs of the settings, under a backend
+abbrev pub CanWriteUnder : Backend → Settings → Type 0
+CanWriteUnder Points settings = Unit {0}
+CanWriteUnder Polygons settings = Unit {0}
+CanWriteUnder Svg settings = CanDraw settings
+CanWriteUnder Eps settings = ⊥
+CanWriteUnder Dxf settings = ⊥
+CanWriteUnder GeoJson settings = ⊥
+
+-- what a document needs of the settings
+abbrev pub CanWrite : Settings → Type 0
+CanWrite settings = CanWriteUnder settings.backend settings

@@ -1,8 +1,9 @@
--- What is traced of a page: its paths without the speckles (Selinger, "Potrace", 2003, section 2.1), and the
--- best polygon of each (section 2.2).
-use Rattle.std.specs.Prelude.{◌≡◌, List, []}
+-- What is traced of a page: its paths without the speckles (Selinger, "Potrace", 2003, section 2.1), the best
+-- polygon of each (section 2.2), and its adjusted vertices and smooth outline (section 2.3).
+use Rattle.std.specs.Prelude.{◌≡◌, ℕ, List, [], map, zip}
 use Rattle.std.specs.List.{AllZip}
 use Rattle.pt_base.specs.declared.path.Path.{Path}
+use Rattle.pt_base.specs.declared.point.Point.{Point}
 use Rattle.pt_base.specs.declared.polygon.Polygon.{Polygon}
 use Rattle.pt_base.specs.declared.settings.Settings.{Settings}
 use Rattle.pt_base.specs.declared.trace.Trace.{Trace}
@@ -10,6 +11,8 @@ use Rattle.bit_image.specs.Page.{Page, image_of}
 use Rattle.path_decompose.specs.Decomposition.{IsDecomposition, kept}
 use Rattle.path_decompose.specs.Sums.{IsEvenOdd, IsEdgesOnce}
 use Rattle.polygon_optimal.specs.Polygon.{IsBestPolygon, total_penalty}
+use Rattle.vertex_adjust.specs.Vertex.{AreVertices}
+use Rattle.corner_smooth.specs.Corner.{pieces_of}
 
 -- These are the page's paths which are no speckles. All its boundaries together sum even-odd to the page,
 -- and run along each edge between a black and a white pixel once.
@@ -25,12 +28,21 @@ pub record IsPolygonOf (path : Path) (polygon : Polygon) : Type 0 where
   pub best : IsBestPolygon path.points polygon.at
   pub cost : polygon.cost ≡ total_penalty path.points polygon.at
 
--- a trace has the page's sides, its paths, and the best polygon of each
-pub record IsTrace (page : Page) (settings : Settings) (trace : Trace) : Type 0 where
+-- the trace has the page's sides, its paths, and the best polygon of each
+pub record HasPolygons (page : Page) (settings : Settings) (trace : Trace) : Type 0 where
   pub width : trace.width ≡ page.width
   pub height : trace.height ≡ page.height
   pub paths : ArePaths page settings trace.paths
   pub polygons : AllZip IsPolygonOf trace.paths trace.polygons
-  pub vertices : trace.vertices ≡ []
-  pub outlines : trace.outlines ≡ []
+
+-- they are the adjusted vertices of a path's polygon
+abbrev pub AreVerticesOf : Path × Polygon → List Point → Type 0
+AreVerticesOf both vertices = AreVertices (both.0).points (both.1).at vertices
+
+-- a trace has the page's paths and polygons, the adjusted vertices of each polygon, and the smooth outline
+-- round these vertices (curves aren't joined yet, and paths not put into groups)
+pub record IsTrace (page : Page) (settings : Settings) (trace : Trace) : Type 0 where
+  pub polygons : HasPolygons page settings trace
+  pub vertices : AllZip AreVerticesOf (zip trace.paths trace.polygons) trace.vertices
+  pub outlines : trace.outlines ≡ map (pieces_of settings.alphamax) trace.vertices
   pub groups : trace.groups ≡ []

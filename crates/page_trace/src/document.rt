@@ -1,20 +1,23 @@
 //! The document of a page.
 ghost use Rattle.std.specs.Prelude.{IfOk};
-ghost use Rattle.page_trace.specs.Document.{IsDocument, IsList};
+ghost use Rattle.page_trace.specs.Document.{CanWrite, IsDocument};
 
 use crate::paths::kept_paths;
-use crate::tracing::trace;
+use crate::tracing::{polygons_alone, trace};
 use bit_image::bitmap::Bitmap;
 use pt_base::fault::NoMemory;
 use pt_base::list_text::{points, polygons};
 use pt_base::settings::{Backend, Settings};
 use std::alloc::Global;
+use svg_backend::svg_text::svg;
 
-/// The text of a page under the settings' backend, which is `Points` or `Polygons`.
+/// The text of a page under the settings' backend, which is `Points`, `Polygons`, or `Svg` with long
+/// curves in one flat path.
 ///
-/// What the text doesn't show isn't made: under `Points` no polygon is looked for.
+/// What the text doesn't show isn't made: under `Points` no polygon is looked for, and under `Polygons` no
+/// vertex is moved.
 pub fn document(alloc: Global, page: &Bitmap, settings: &Settings) -> Result<Vec<u8>, NoMemory>
-    requires { IsList settings.now.backend }
+    requires { CanWrite settings.now }
     ensures { IfOk result (λ text. IsDocument page.now settings.now text.items) }
 {
     match settings.backend {
@@ -22,9 +25,14 @@ pub fn document(alloc: Global, page: &Bitmap, settings: &Settings) -> Result<Vec
             let paths = kept_paths(alloc, page, settings)?;
             points(alloc, page.width(), page.height(), &paths)
         }
-        _ => {
-            let trace = trace(alloc, page, settings)?;
+        Backend::Polygons => {
+            let trace = polygons_alone(alloc, page, settings)?;
             polygons(alloc, &trace)
         }
+        Backend::Svg => {
+            let trace = trace(alloc, page, settings)?;
+            svg(alloc, &trace, settings)
+        }
+        Backend::Eps | Backend::Dxf | Backend::GeoJson => unreachable!(),
     }
 }

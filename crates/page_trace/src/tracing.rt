@@ -1,7 +1,11 @@
 //! The trace of a page.
-ghost use Rattle.std.specs.Prelude.{IfOk};
-ghost use Rattle.page_trace.specs.Trace.{IsTrace};
+ghost use Rattle.std.specs.Prelude.{◌≡◌, All, IfOk};
+ghost use Rattle.pt_base.specs.ClosedWalk.{IsClosedWalk};
+ghost use Rattle.pt_base.specs.OnPage.{AreOnPage};
+ghost use Rattle.page_trace.specs.Document.{CanTrace};
+ghost use Rattle.page_trace.specs.Trace.{HasPolygons, IsTrace};
 
+use crate::outlines::{all_outlines, all_vertices};
 use crate::paths::kept_paths;
 use crate::polygons::best_polygons;
 use bit_image::bitmap::Bitmap;
@@ -11,9 +15,34 @@ use pt_base::settings::Settings;
 use pt_base::trace::Trace;
 use std::alloc::Global;
 
-/// The paths of a page that are no speckles, and the best polygon of each.
+/// The paths of a page that are no speckles, the best polygon of each, its adjusted vertices, and its
+/// smooth outline.
 pub fn trace(alloc: Global, page: &Bitmap, settings: &Settings) -> Result<Trace, NoMemory>
+    requires { CanTrace settings.now }
     ensures { IfOk result (λ trace. IsTrace page.now settings.now trace) }
+{
+    let paths = kept_paths(alloc, page, settings)?;
+    let polygons = best_polygons(alloc, &paths)?;
+    let vertices = all_vertices(alloc, &paths, &polygons)?;
+    let outlines = all_outlines(alloc, &vertices, settings.alphamax)?;
+    Ok(Trace {
+        width: page.width(),
+        height: page.height(),
+        paths: Sequence::from_vec(paths),
+        polygons: Sequence::from_vec(polygons),
+        vertices: Sequence::from_vec(vertices),
+        outlines: Sequence::from_vec(outlines),
+        groups: Sequence::from_vec(Vec::new(alloc)),
+    })
+}
+
+/// The paths of a page that are no speckles, and the best polygon of each, with nothing else.
+pub(crate) fn polygons_alone(
+    alloc: Global,
+    page: &Bitmap,
+    settings: &Settings,
+) -> Result<Trace, NoMemory>
+    ensures { IfOk result (λ trace. HasPolygons page.now settings.now trace) }
 {
     let paths = kept_paths(alloc, page, settings)?;
     let polygons = best_polygons(alloc, &paths)?;
