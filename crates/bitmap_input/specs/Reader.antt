@@ -15,8 +15,8 @@ use Rattle.bitmap_input.specs.Reading.{Moves, Cause, cause_of_fault}
 use Rattle.bitmap_input.specs.Reading.Cause.{Says, Device, Memory}
 
 -- the bytes that were taken from the file and not used yet, how many bytes are still to be skipped
--- behind the last page (none, for the formats that are read today), how many pages were given,
--- whether a read has given nothing, and whether the reader is over
+-- behind the last page, which claims them, how many pages were given, whether a read has given
+-- nothing, and whether the reader is over
 pub record Reader : Type 0 where
   pub bytes : List ℕ
   pub skip : ℕ

@@ -1,7 +1,9 @@
 //! The pages of a file: what each shows, how they end, and where and why a page is refused.
 //!
 //! A file holds pages one behind another, with whitespace before each or not. Plain and raw PBM and
-//! PGM (Netpbm's format pages "pbm" and "pgm") are read; a gray page is thresholded at a level.
+//! PGM (Netpbm's format pages "pbm" and "pgm") and BMP (Microsoft's "Bitmap Storage") are read; gray
+//! pixels and colours are thresholded at a level. A BMP picture may claim bytes behind its last row;
+//! the next page stands behind them.
 //!
 //! ```text
 //! P1             the magic: plain PBM (raw PBM is P4, with eight pixels in a byte)
