@@ -1,8 +1,9 @@
 -- Division rounded down.
 use Rattle.std.proofs.Common.{◌≡◌, ℕ, ◌+◌, ◌*◌, ◌/◌, ◌^◌, ◌<◌, ◌≤◌, ℤ, pos, negsuc, ◌+ℤ◌, ◌*ℤ◌, ◌<ℤ◌, ◌≤ℤ◌, neg_ℤ, zero, suc, unsigned_abs, w64, to_z, of_z, refl, sym, ap, ◌∙◌, arith}
 use Rattle.std.proofs.lemmas.Int.{ints, unsigned_abs-mul, to_z-of_z, fits_signed_from_abs}
-use Rattle.std.proofs.lemmas.Nat.{mul-le}
+use Rattle.std.proofs.lemmas.Nat.{le-div, mul-le}
 use Rattle.std.proofs.Math.IntN.{*ℤ-negsuc}
+use Rattle.std.proofs.Math.Nat.{div-mul-le_self}
 use Rattle.pt_base.specs.Floor.{IsFloor, floor_of, rounded}
 use mir.Syntax.{w128}
 use Rattle.std.specs.Int.{int_div_euclid}
@@ -52,6 +53,22 @@ scaled_back c f unit h k e =
       back ((pos 2 *ℤ c) *ℤ pos unit +ℤ pos 1024) (omega (arith, ints)),
     )
     refl
+
+quotient_grows : (a b : ℕ) → 0 < b → a / b ≤ suc a / b
+quotient_grows a b some = le-div (a / b) (suc a) b some (omega (arith, div-mul-le_self a b))
+
+floor_most : (a : ℤ) (b : ℕ) → 0 < b → unsigned_abs (floor_of a b) ≤ unsigned_abs a / b + 1
+floor_most (pos a) b some = omega arith
+floor_most (negsuc a) b some = omega (arith, quotient_grows a b some)
+
+-- no pixel has more units than 1024
+pub rounded_most : (c : ℤ) (unit : ℕ) → unsigned_abs c ≤ 2 ^ 40 → unit ≤ 1000 → unsigned_abs (rounded c unit) ≤ 2 ^ 40
+rounded_most c unit h k =
+    let twice : unsigned_abs (pos 2 *ℤ c) ≤ 2 * 2 ^ 40 = product_most (pos 2) c 2 (2 ^ 40) (omega arith) h in
+    let scaled : unsigned_abs ((pos 2 *ℤ c) *ℤ pos unit) ≤ 2 * 2 ^ 40 * 1000 = product_most (pos 2 *ℤ c) (pos unit) (2 * 2 ^ 40) 1000 twice (omega arith) in
+    let sum : unsigned_abs ((pos 2 *ℤ c) *ℤ pos unit +ℤ pos 1024) ≤ 2 * 2 ^ 40 * 1000 + 1024 = omega (arith, ints) in
+    let floor = floor_most ((pos 2 *ℤ c) *ℤ pos unit +ℤ pos 1024) 2048 (omega arith) in
+    omega arith
 
 divided : (a : ℤ) (b : ℕ) → int_div_euclid a (pos b) ≡ floor_of a b
 divided (pos a) b = refl

@@ -2,6 +2,7 @@
 #![tactic(auto)]
 
 pub mod decimal;
+pub mod digits;
 pub mod err_sink;
 pub mod fault;
 pub mod file_inputs;

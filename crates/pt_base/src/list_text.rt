@@ -3,12 +3,12 @@ ghost use Rattle.std.specs.Prelude.{◌≡◌, ◌++◌, length, codes, decimal,
 ghost use Rattle.pt_base.specs.PointsText.{path_text, point_text, points_text, sign_text};
 ghost use Rattle.pt_base.specs.PolygonsText.{counts_text, index_text, kind_text, polygon_text, polygons_text};
 
+use crate::digits::put_number;
 use crate::fault::NoMemory;
 use crate::path::{Path, Sign};
 use crate::point::Point;
 use crate::polygon::Polygon;
 use crate::trace::Trace;
-use itoa::{Buffer, Integer};
 use std::alloc::Global;
 
 /// The points text of a page: a line `points WIDTH HEIGHT PATHS`, and then a line for each path
@@ -142,14 +142,5 @@ fn put_indices(out: &mut Vec<u8>, at: &[u32]) -> Result<(), NoMemory>
         out.extend_from_slice(b" ")?;
         put_number(out, *index)?;
     }
-    Ok(())
-}
-
-/// Appends a whole number in decimal digits.
-fn put_number<I: Integer>(out: &mut Vec<u8>, number: I) -> Result<(), NoMemory>
-    ensures { OnOk result (out.new.items ≡ out.old.items ++ I.text number) }
-{
-    let mut digits = Buffer::new();
-    out.extend_from_slice(digits.format(number).as_bytes())?;
     Ok(())
 }

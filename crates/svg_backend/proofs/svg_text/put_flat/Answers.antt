@@ -1,0 +1,11 @@
+use Rattle.std.proofs.Common.{◌≡◌, ◌∷◌, ap, sym, ◌∙◌}
+use Rattle.svg_backend.specs.SvgText.{flat_text}
+use Rattle.svg_backend.proofs.Appending.{four}
+use Rattle.svg_backend.proofs.svg_text.put_flat.Goals as goal
+
+pub returns-in_ok-extend_from_slice-2 : goal.returns-in_ok-extend_from_slice-2
+returns-in_ok-extend_from_slice-2 c =
+    let whole : c.args.outlines.now ≡ c.in-Some.first.now ∷ c.in-Some.more.now = c.in-Some.ensures.cases.0 in
+    rw whole
+    (four _ _ _ _ _ _ _ _ _ c.in_ok-extend_from_slice.ensures.items (rw c.as_slice.ensures at c.in_ok-put_outline.ensures)
+    c.in_ok-put_more.ensures c.in_ok-extend_from_slice-2.ensures.items)

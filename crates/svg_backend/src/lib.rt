@@ -1,0 +1,14 @@
+//! A page's outlines as Scalable Vector Graphics.
+//!
+//! A path begins at the end of its last piece, and goes on by steps relative to the point before
+//! (`l`) or to the curve's beginning (`c`).
+//!
+//! ```text
+//! <path fill-rule="evenodd" d="M5 10 c-3 0 -5 -2 -5 -5 c0 -3 2 -5 5 -5 .. z"/>
+//! ```
+#![tactic(auto)]
+
+mod outline;
+pub mod svg_text;
+#[cfg(test)]
+mod tests;

@@ -1,0 +1,193 @@
+//! The document of a page.
+ghost use Rattle.std.specs.Prelude.{◌≡◌, ◌≤◌, ◌<◌, ◌++◌, ◌*◌, ◌^◌, ℕ, List, codes, decimal, flat_map, map, length, All, IfOk, OnOk, slice_index_or, true, false};
+ghost use Rattle.pt_base.specs.declared.piece.Piece.{Piece};
+ghost use Rattle.svg_backend.specs.SvgText.{flat_text, group_head, group_text, head_text, more_text, outline_at, sides_text, size_text, svg_text, view_text};
+
+use crate::outline::put_outline;
+use pt_base::digits::put_number;
+use pt_base::fault::NoMemory;
+use pt_base::piece::Piece;
+use pt_base::sequence::Sequence;
+use pt_base::settings::Settings;
+use pt_base::trace::{Group, Trace};
+use std::alloc::Global;
+
+/// The document of a page's trace: one path for each shape with its holes, or one path for all
+/// outlines where the settings ask for it (`flat`).
+///
+/// Coordinates are rounded to units, of which a pixel has `settings.unit`. A group's path that has no
+/// outline in the trace is drawn as an outline of no pieces.
+pub fn svg(alloc: Global, trace: &Trace, settings: &Settings) -> Result<Vec<u8>, NoMemory>
+    requires some { 1 ≤ settings.now.unit }
+    requires most { settings.now.unit ≤ 1000 }
+    ensures { IfOk result (λ text. text.items ≡ svg_text settings.now.unit settings.now.flat trace.now) }
+{
+    let unit = settings.unit;
+    let outlines = trace.outlines.as_slice();
+    let mut out = Vec::new(alloc);
+    put_head(&mut out, unit, trace.width, trace.height)?;
+    if settings.flat {
+        put_flat(&mut out, unit, outlines)?;
+    } else {
+        put_groups(&mut out, unit, outlines, trace.groups.as_slice())?;
+    }
+    out.extend_from_slice(b"</g>\n</svg>\n")?;
+    Ok(out)
+}
+
+/// Appends the lines before the paths.
+fn put_head(out: &mut Vec<u8>, unit: u32, width: u32, height: u32) -> Result<(), NoMemory>
+    requires { unit ≤ 1000 }
+    ensures { OnOk result (out.new.items ≡ out.old.items ++ head_text unit width height) }
+{
+    out.extend_from_slice(
+        b"<?xml version=\"1.0\" standalone=\"no\"?>\n<svg version=\"1.0\" xmlns=\"http://www.w3.org/2000/svg\" ",
+    )?;
+    put_sides(out, unit, width, height)?;
+    put_group_head(out, unit, height)?;
+    Ok(())
+}
+
+/// Appends the page's width and height.
+fn put_sides(out: &mut Vec<u8>, unit: u32, width: u32, height: u32) -> Result<(), NoMemory>
+    requires { unit ≤ 1000 }
+    ensures { OnOk result (out.new.items ≡ out.old.items ++ sides_text unit width height) }
+{
+    put_size(out, width, height)?;
+    put_view(out, unit, width, height)?;
+    Ok(())
+}
+
+/// Appends how large the page is drawn.
+fn put_size(out: &mut Vec<u8>, width: u32, height: u32) -> Result<(), NoMemory>
+    ensures { OnOk result (out.new.items ≡ out.old.items ++ size_text width height) }
+{
+    out.extend_from_slice(b"width=\"")?;
+    put_number(out, width)?;
+    out.extend_from_slice(b"pt\" height=\"")?;
+    put_number(out, height)?;
+    Ok(())
+}
+
+/// Appends how many units the page has.
+fn put_view(out: &mut Vec<u8>, unit: u32, width: u32, height: u32) -> Result<(), NoMemory>
+    requires { unit ≤ 1000 }
+    ensures { OnOk result (out.new.items ≡ out.old.items ++ view_text unit width height) }
+{
+    out.extend_from_slice(b"pt\" viewBox=\"0 0 ")?;
+    put_number(out, side_in_units(width, unit))?;
+    out.extend_from_slice(b" ")?;
+    put_number(out, side_in_units(height, unit))?;
+    out.extend_from_slice(b"\">\n")?;
+    Ok(())
+}
+
+/// Appends the line that turns y upwards.
+fn put_group_head(out: &mut Vec<u8>, unit: u32, height: u32) -> Result<(), NoMemory>
+    requires { unit ≤ 1000 }
+    ensures { OnOk result (out.new.items ≡ out.old.items ++ group_head unit height) }
+{
+    out.extend_from_slice(b"<g transform=\"translate(0,")?;
+    put_number(out, side_in_units(height, unit))?;
+    out.extend_from_slice(b") scale(1,-1)\" fill=\"#000000\" stroke=\"none\">\n")?;
+    Ok(())
+}
+
+/// A side of the page in units.
+fn side_in_units(side: u32, unit: u32) -> u64
+    requires { unit ≤ 1000 }
+    ensures { result ≡ side * unit }
+{
+    u64::from(side) * u64::from(unit)
+}
+
+/// Appends one path of all outlines.
+fn put_flat(out: &mut Vec<u8>, unit: u32, outlines: &[Sequence<Piece>]) -> Result<(), NoMemory>
+    requires some { 1 ≤ unit }
+    requires most { unit ≤ 1000 }
+    ensures { OnOk result (out.new.items ≡ out.old.items ++ flat_text unit outlines.now) }
+{
+    if let Some((first, more)) = outlines.split_first() {
+        out.extend_from_slice(b"<path fill-rule=\"evenodd\" d=\"")?;
+        put_outline(out, unit, first.as_slice())?;
+        put_more(out, unit, more)?;
+        out.extend_from_slice(b"\"/>\n")?;
+    }
+    Ok(())
+}
+
+/// Appends outlines, a space before each.
+fn put_more(out: &mut Vec<u8>, unit: u32, outlines: &[Sequence<Piece>]) -> Result<(), NoMemory>
+    requires some { 1 ≤ unit }
+    requires most { unit ≤ 1000 }
+    ensures { OnOk result (out.new.items ≡ out.old.items ++ more_text unit outlines.now) }
+{
+    for outline in outlines {
+        out.extend_from_slice(b" ")?;
+        put_outline(out, unit, outline.as_slice())?;
+    }
+    Ok(())
+}
+
+/// Appends a path for each group.
+fn put_groups(
+    out: &mut Vec<u8>,
+    unit: u32,
+    outlines: &[Sequence<Piece>],
+    groups: &[Group],
+) -> Result<(), NoMemory>
+    requires some { 1 ≤ unit }
+    requires most { unit ≤ 1000 }
+    ensures { OnOk result (out.new.items ≡ out.old.items ++ flat_map (group_text unit outlines.now) groups.now) }
+{
+    for group in groups {
+        put_group(out, unit, outlines, group)?;
+    }
+    Ok(())
+}
+
+/// Appends the path of a shape and its holes.
+fn put_group(
+    out: &mut Vec<u8>,
+    unit: u32,
+    outlines: &[Sequence<Piece>],
+    group: &Group,
+) -> Result<(), NoMemory>
+    requires some { 1 ≤ unit }
+    requires most { unit ≤ 1000 }
+    ensures { OnOk result (out.new.items ≡ out.old.items ++ group_text unit outlines.now group.now) }
+{
+    out.extend_from_slice(b"<path fill-rule=\"evenodd\" d=\"")?;
+    put_outline(out, unit, pieces_at(outlines, group.outer))?;
+    put_holes(out, unit, outlines, group.holes.as_slice())?;
+    out.extend_from_slice(b"\"/>\n")?;
+    Ok(())
+}
+
+/// Appends the outlines of these numbers, a space before each.
+fn put_holes(
+    out: &mut Vec<u8>,
+    unit: u32,
+    outlines: &[Sequence<Piece>],
+    holes: &[u32],
+) -> Result<(), NoMemory>
+    requires some { 1 ≤ unit }
+    requires most { unit ≤ 1000 }
+    ensures { OnOk result (out.new.items ≡ out.old.items ++ more_text unit (map (outline_at outlines.now) holes.now)) }
+{
+    for hole in holes {
+        out.extend_from_slice(b" ")?;
+        put_outline(out, unit, pieces_at(outlines, *hole))?;
+    }
+    Ok(())
+}
+
+/// The pieces of the outline of this number, or none where there is no such outline.
+fn pieces_at(outlines: &[Sequence<Piece>], i: u32) -> &[Piece]
+    ensures { result.now ≡ outline_at outlines.now i }
+{
+    match outlines.get(i as usize) {
+        Some(outline) => outline.as_slice(),
+        None => &[],
+    }
+}
