@@ -3,10 +3,10 @@ ghost use Rattle.std.specs.Prelude.{◌≡◌, ◌+◌, length, IfOk};
 ghost use Rattle.least_walk.specs.LeastWalk.{IsLeast, walk_from, step_count, total_cost};
 ghost use Rattle.least_walk.specs.Suffix.{HasFewest, HasCosts, HasNexts};
 
-use pt_base::indices::Indices;
 use crate::steps::Steps;
 use crate::suffixes::{fill_costs, fill_counts};
 use pt_base::fault::NoMemory;
+use pt_base::indices::Indices;
 use std::alloc::Global;
 
 /// A walk from 0 to the size of its `Steps`.
