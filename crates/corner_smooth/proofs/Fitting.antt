@@ -1,10 +1,8 @@
 -- Numbers that fit their types.
-use Rattle.std.proofs.Common.{◌≡◌, ℕ, ◌*◌, ◌≤◌, ◌<◌, ◌^◌, ℤ, pos, ◌+ℤ◌, ◌-ℤ◌, ◌*ℤ◌, unsigned_abs, w32, w64, to_z, of_z, refl, arith}
+use Rattle.std.proofs.Common.{◌≡◌, ℕ, ◌*◌, ◌≤◌, ◌<◌, ◌^◌, ℤ, ◌-ℤ◌, ◌*ℤ◌, unsigned_abs, w32, w64, to_z, of_z, arith}
 use Rattle.std.proofs.lemmas.Int.{ints, unsigned_abs-mul, to_z-of_z, fits_signed_from_abs}
 use Rattle.std.proofs.lemmas.Nat.{mul-le}
-use Rattle.std.specs.Int.RustNames.{FitsSigned}
-use Rattle.pt_base.specs.declared.point.Point.{Point}
-use Rattle.corner_smooth.specs.Corner.{IsInReach, IsNearPage, area_of, cross_of}
+use Rattle.corner_smooth.specs.Corner.{IsInReach}
 
 -- the size of a product
 pub product_most : (a b : ℤ) (m n : ℕ) → unsigned_abs a ≤ m → unsigned_abs b ≤ n → unsigned_abs (a *ℤ b) ≤ m * n

@@ -1,6 +1,6 @@
-use Rattle.std.proofs.Common.{ap, length, map, ◌∙◌, arith}
+use Rattle.std.proofs.Common.{ap, length, ◌∙◌, arith}
 use Rattle.std.proofs.lemmas.List.FromFn.{length-map-range_with_len}
-use Rattle.corner_smooth.specs.Corner.{IsRound, StaysNear, piece_at}
+use Rattle.corner_smooth.specs.Corner.{IsRound, StaysNear}
 use Rattle.corner_smooth.proofs.Round.{one_lap_on, one_more, one_more_such}
 use Rattle.corner_smooth.proofs.outline.smooth.Goals as goal
 

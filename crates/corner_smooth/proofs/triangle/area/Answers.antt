@@ -1,4 +1,4 @@
-use Rattle.std.proofs.Common.{◌≡◌, ◌-ℤ◌, ◌^◌, ◌≤◌, ℕ, ℤ, unsigned_abs, refl, sym, subst, arith}
+use Rattle.std.proofs.Common.{◌^◌, ◌≤◌, ℕ, refl, sym, subst, arith}
 use Rattle.std.proofs.lemmas.Int.{ints}
 use Rattle.corner_smooth.proofs.Fitting.{difference_is, product_is, size_is, size_most}
 use Rattle.corner_smooth.proofs.triangle.area.Goals as goal
