@@ -5,10 +5,13 @@ mod plain;
 
 use crate::document::document;
 use crate::tracing::trace;
+use bit_image::bitmap::Bitmap;
 use pages::{black, drawn, numbered, settings};
 use plain::best;
+use pt_base::fault::NoMemory;
 use pt_base::policy::Policy;
-use pt_base::settings::Backend;
+use pt_base::settings::{Backend, Settings};
+use std::alloc::Global;
 use std::test::Fail;
 
 #[test]
@@ -64,6 +67,38 @@ fn polygon_of_a_black_page(rt: HostRuntime) -> Result<(), Fail> {
     let text = "polygons 2480 3508 1\n+ 8699840 11976 4 0: 0 3508 5988 9496\n";
     assert_eq!(rt; found.as_slice(), text.as_bytes());
     Ok(())
+}
+
+#[test]
+fn outlines_of_small_pages(rt: HostRuntime) -> Result<(), Fail> {
+    let round =
+        "M40 80 c-40 0 -40 0 -40 -40 c0 -40 0 -40 40 -40 c40 0 40 0 40 40 c0 40 0 40 -40 40 z";
+    let sharp = "M40 80 l-40 0 l0 -40 l0 -40 l40 0 l40 0 l0 40 l0 40 l-40 0 z";
+    let dot = "M5 10 c-3 0 -5 -2 -5 -5 c0 -3 2 -5 5 -5 c3 0 5 2 5 5 c0 3 -2 5 -5 5 z";
+    let square: &[&str] = &["########"; 8];
+    let table: [(&[&str], u32, u32, &str); 3] = [
+        (square, 8, 1_000_001, round),
+        // The sharpness of all four vertices is exactly 1.
+        (square, 8, 1_000_000, sharp),
+        (&["#"], 1, 1_000_000, dot),
+    ];
+    for (rows, side, alphamax, path) in table {
+        let page = drawn(&rt, rt.alloc(), rows)?;
+        let text = svg_of(rt.alloc(), &page, alphamax)?;
+        let side = side % 10;
+        let whole = format!(in rt.alloc();
+            "<?xml version=\"1.0\" standalone=\"no\"?>\n<svg version=\"1.0\" xmlns=\"http://www.w3.org/2000/svg\" width=\"{side}pt\" height=\"{side}pt\" viewBox=\"0 0 {side}0 {side}0\">\n<g transform=\"translate(0,{side}0) scale(1,-1)\" fill=\"#000000\" stroke=\"none\">\n<path fill-rule=\"evenodd\" d=\"{path}\"/>\n</g>\n</svg>\n"
+        )?;
+        assert_eq!(rt; text.as_slice(), whole.as_bytes(), "{path}");
+    }
+    Ok(())
+}
+
+/// A page's outlines under a corner threshold of at most two.
+fn svg_of(alloc: Global, page: &Bitmap, alphamax: u32) -> Result<Vec<u8>, NoMemory> {
+    let given = settings(Backend::Svg, Policy::Minority, 0);
+    let alphamax = alphamax.min(2_000_000);
+    document(alloc, page, &Settings { alphamax, ..given })
 }
 
 #[test]

@@ -1,5 +1,5 @@
 //! The trace of a page.
-ghost use Rattle.std.specs.Prelude.{◌≡◌, All, IfOk};
+ghost use Rattle.std.specs.Prelude.{◌≡◌, [], All, IfOk};
 ghost use Rattle.pt_base.specs.ClosedWalk.{IsClosedWalk};
 ghost use Rattle.pt_base.specs.OnPage.{AreOnPage};
 ghost use Rattle.page_trace.specs.Document.{CanTrace};
@@ -21,18 +21,13 @@ pub fn trace(alloc: Global, page: &Bitmap, settings: &Settings) -> Result<Trace,
     requires { CanTrace settings.now }
     ensures { IfOk result (λ trace. IsTrace page.now settings.now trace) }
 {
-    let paths = kept_paths(alloc, page, settings)?;
-    let polygons = best_polygons(alloc, &paths)?;
-    let vertices = all_vertices(alloc, &paths, &polygons)?;
+    let traced = polygons_alone(alloc, page, settings)?;
+    let vertices = all_vertices(alloc, traced.paths.as_slice(), traced.polygons.as_slice())?;
     let outlines = all_outlines(alloc, &vertices, settings.alphamax)?;
     Ok(Trace {
-        width: page.width(),
-        height: page.height(),
-        paths: Sequence::from_vec(paths),
-        polygons: Sequence::from_vec(polygons),
         vertices: Sequence::from_vec(vertices),
         outlines: Sequence::from_vec(outlines),
-        groups: Sequence::from_vec(Vec::new(alloc)),
+        ..traced
     })
 }
 
@@ -42,7 +37,10 @@ pub(crate) fn polygons_alone(
     page: &Bitmap,
     settings: &Settings,
 ) -> Result<Trace, NoMemory>
-    ensures { IfOk result (λ trace. HasPolygons page.now settings.now trace) }
+    ensures polygons { IfOk result (λ trace. HasPolygons page.now settings.now trace) }
+    ensures no_groups { IfOk result (λ trace. trace.groups ≡ []) }
+    ensures closed { IfOk result (λ trace. All (λ path. IsClosedWalk path.points) trace.paths) }
+    ensures on_page { IfOk result (λ trace. All (λ path. AreOnPage path.points) trace.paths) }
 {
     let paths = kept_paths(alloc, page, settings)?;
     let polygons = best_polygons(alloc, &paths)?;

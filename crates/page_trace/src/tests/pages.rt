@@ -1,5 +1,6 @@
 //! Pages and settings for tests.
 ghost use Rattle.std.specs.Prelude.{◌≡◌};
+ghost use Rattle.page_trace.specs.Document.{CanDraw};
 
 use bit_image::bitmap::Bitmap;
 use pt_base::policy::Policy;
@@ -8,19 +9,20 @@ use std::alloc::Global;
 use std::process::Abort;
 use std::test::Fail;
 
-/// The settings of these options, and else the default ones.
+/// The settings of these options, with one path of long curves, and else the default ones.
 pub(super) fn settings(backend: Backend, policy: Policy, turd: u32) -> Settings
-    ensures { result.backend ≡ backend }
+    ensures backend { result.backend ≡ backend }
+    ensures drawn { CanDraw result }
 {
     Settings {
         backend,
         policy,
         turd,
         alphamax: 1_000_000,
-        long_curve: false,
+        long_curve: true,
         tolerance: 200_000,
         unit: 10,
-        flat: false,
+        flat: true,
         level: 500_000,
         invert: false,
     }
