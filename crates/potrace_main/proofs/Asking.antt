@@ -8,7 +8,8 @@ use Rattle.pt_base.specs.declared.policy.Policy.TheVariants.{Left, Right, Black,
 use Rattle.pt_base.specs.declared.settings.Backend.{Backend}
 use Rattle.pt_base.specs.declared.settings.Backend.TheVariants.{Eps, Svg, Dxf, GeoJson, Points, Polygons}
 use Rattle.pt_base.specs.declared.settings.Settings.{Settings}
-use Rattle.potrace_main.specs.Asked.{Begins, IsAsked, IsDefault, LacksWord, TakesNumber, TakesWord, backend_word, form, policy_word}
+use Rattle.potrace_main.specs.Asked.{Begins, IsAsked, IsBackend, IsDefault, IsOffered, LacksWord, TakesNumber, TakesWord, backend_word, ending, form, is_drawn, policy_word}
+use Rattle.page_trace.specs.Document.{CanWriteUnder}
 use Rattle.potrace_main.specs.declared.ask.Head.{Head}
 
 pub same_policy : (p q : Policy) → policy_word p ≡ policy_word q → p ≡ q
@@ -71,41 +72,99 @@ one_head words head other options others a b =
       same.3,
     )
 
-same_settings : (s t : Settings) → s.backend ≡ t.backend → s.policy ≡ t.policy → s.turd ≡ t.turd → s.level ≡ t.level → s.invert ≡ t.invert
-    → IsDefault s → IsDefault t → s ≡ t
-same_settings s t backend policy turd level invert a b =
+same_settings : (s t : Settings) → s.backend ≡ t.backend → s.policy ≡ t.policy → s.turd ≡ t.turd → s.alphamax ≡ t.alphamax → s.long_curve ≡ t.long_curve
+    → s.tolerance ≡ t.tolerance → s.unit ≡ t.unit → s.flat ≡ t.flat → s.level ≡ t.level → s.invert ≡ t.invert → s ≡ t
+same_settings s t backend policy turd alphamax long_curve tolerance unit flat level invert =
     ap (λ v. record s { backend = v }) backend
     ∙ ap (λ v. record s { backend = t.backend; policy = v }) policy
     ∙ ap (λ v. record s { backend = t.backend; policy = t.policy; turd = v }) turd
-    ∙ ap (λ v. record s { backend = t.backend; policy = t.policy; turd = t.turd; alphamax = v }) (a.alphamax ∙ sym b.alphamax)
-    ∙ ap (λ v. record t { long_curve = v; tolerance = s.tolerance; unit = s.unit; flat = s.flat; level = s.level; invert = s.invert }) (a.long_curve ∙ sym b.long_curve)
-    ∙ ap (λ v. record t { tolerance = v; unit = s.unit; flat = s.flat; level = s.level; invert = s.invert }) (a.tolerance ∙ sym b.tolerance)
-    ∙ ap (λ v. record t { unit = v; flat = s.flat; level = s.level; invert = s.invert }) (a.unit ∙ sym b.unit)
-    ∙ ap (λ v. record t { flat = v; level = s.level; invert = s.invert }) (a.flat ∙ sym b.flat)
+    ∙ ap (λ v. record s { backend = t.backend; policy = t.policy; turd = t.turd; alphamax = v }) alphamax
+    ∙ ap (λ v. record t { long_curve = v; tolerance = s.tolerance; unit = s.unit; flat = s.flat; level = s.level; invert = s.invert }) long_curve
+    ∙ ap (λ v. record t { tolerance = v; unit = s.unit; flat = s.flat; level = s.level; invert = s.invert }) tolerance
+    ∙ ap (λ v. record t { unit = v; flat = s.flat; level = s.level; invert = s.invert }) unit
+    ∙ ap (λ v. record t { flat = v; level = s.level; invert = s.invert }) flat
     ∙ ap (λ v. record t { level = v; invert = s.invert }) level
     ∙ ap (λ v. record t { invert = v }) invert
+
+-- what the words before the last ones of the backend say
+pub record Reads (words : List (List ℕ)) (head : Head) (level : ℕ) (invert : Bool) (alphamax : ℕ) (rest : List (List ℕ)) : Type 0 where
+  pub options : List (List ℕ)
+  pub after_level : List (List ℕ)
+  pub after_invert : List (List ℕ)
+  pub begins : Begins words head options
+  pub takes_level : TakesNumber (codes "-k") 500000 1000000 options level after_level
+  pub takes_invert : TakesWord (codes "-i") after_level invert after_invert
+  pub takes_alphamax : TakesNumber (codes "-a") 1000000 1000000000 after_invert alphamax rest
+
+reads_asked : (words : List (List ℕ)) (settings : Settings) → IsAsked words settings
+    → Reads words (record { backend = settings.backend; policy = settings.policy; turd = settings.turd }) settings.level settings.invert settings.alphamax (ending settings.backend)
+reads_asked words settings a = record {
+  options = a.options;
+  after_level = a.after_level;
+  after_invert = a.after_invert;
+  begins = a.begins;
+  takes_level = a.level;
+  takes_invert = a.invert;
+  takes_alphamax = a.alphamax;
+}
+
+-- the same words say the same
+pub one_reading : (words rest others : List (List ℕ)) (head other : Head) (level also_level : ℕ) (invert also_invert : Bool) (alphamax also_alphamax : ℕ)
+    → Reads words head level invert alphamax rest → Reads words other also_level also_invert also_alphamax others
+    → (head.backend ≡ other.backend) × (head.policy ≡ other.policy) × (head.turd ≡ other.turd) × (level ≡ also_level) × (invert ≡ also_invert)
+    × (alphamax ≡ also_alphamax) × (rest ≡ others)
+one_reading words rest others head other level also_level invert also_invert alphamax also_alphamax a b =
+    let begin = one_head words head other a.options b.options a.begins b.begins in
+    let levels = one_number (codes "-k") 500000 1000000 level also_level b.options a.after_level b.after_level
+    (subst (λ ws. TakesNumber (codes "-k") 500000 1000000 ws level a.after_level) begin.3 a.takes_level) b.takes_level in
+    let inverts = one_word (codes "-i") b.after_level a.after_invert b.after_invert invert also_invert
+    (subst (λ ws. TakesWord (codes "-i") ws invert a.after_invert) levels.1 a.takes_invert) b.takes_invert in
+    let alphas = one_number (codes "-a") 1000000 1000000000 alphamax also_alphamax b.after_invert rest others
+    (subst (λ ws. TakesNumber (codes "-a") 1000000 1000000000 ws alphamax rest) inverts.1 a.takes_alphamax) b.takes_alphamax in
+    (begin.0, begin.1, begin.2, levels.0, inverts.0, alphas.0, alphas.1)
 
 -- the same words ask for the same
 pub one_asked : (words : List (List ℕ)) (one other : Settings) → IsAsked words one → IsAsked words other → one ≡ other
 one_asked words one other a b =
-    let head = one_head words _ _ a.options b.options a.begins b.begins in
-    let level = one_number (codes "-k") 500000 1000000 one.level other.level b.options a.after_level b.after_level
-    (subst (λ ws. TakesNumber (codes "-k") 500000 1000000 ws one.level a.after_level) head.3 a.level) b.level in
-    let invert = one_word (codes "-i") b.after_level [] [] one.invert other.invert
-    (subst (λ ws. TakesWord (codes "-i") ws one.invert []) level.1 a.invert) b.invert in
-    same_settings one other head.0 head.1 head.2 level.0 invert.0 a.others b.others
+    let same = one_reading words _ _ _ _ one.level other.level one.invert other.invert one.alphamax other.alphamax (reads_asked words one a) (reads_asked words other b) in
+    same_settings one other same.0 same.1 same.2 same.5
+    (a.others.long_curve ∙ ap is_drawn same.0 ∙ sym b.others.long_curve) (a.others.tolerance ∙ sym b.others.tolerance) (a.others.unit ∙ sym b.others.unit)
+    (a.others.flat ∙ ap is_drawn same.0 ∙ sym b.others.flat) same.3 same.4
 
--- words that begin so, and options that end so, ask for one thing alone
-pub asked_by : (words options after_level rest : List (List ℕ)) (head : Head) (level : ℕ) (invert : Bool) (settings : Settings)
-    → Begins words head options → TakesNumber (codes "-k") 500000 1000000 options level after_level → TakesWord (codes "-i") after_level invert rest
-    → IsAsked words settings → rest ≡ []
-asked_by words options after_level rest head level invert settings begins takes word a =
-    let same = one_head words head _ options a.options begins a.begins in
-    let number = one_number (codes "-k") 500000 1000000 level settings.level a.options after_level a.after_level
-    (subst (λ ws. TakesNumber (codes "-k") 500000 1000000 ws level after_level) same.3 takes) a.level in
-    let last = one_word (codes "-i") a.after_level rest [] invert settings.invert
-    (subst (λ ws. TakesWord (codes "-i") ws invert rest) number.1 word) a.invert in
-    last.1
+-- where the words are read, but do not end as the backend's do, nothing is asked for
+pub asks_nothing : (words rest : List (List ℕ)) (head : Head) (level : ℕ) (invert : Bool) (alphamax : ℕ) → Reads words head level invert alphamax rest
+    → rest ≢ ending head.backend → (settings : Settings) → IsAsked words settings → ⊥
+asks_nothing words rest head level invert alphamax reads other settings a =
+    let same = one_reading words rest _ head _ level settings.level invert settings.invert alphamax settings.alphamax reads (reads_asked words settings a) in
+    other (same.6 ∙ ap ending (sym same.0))
+
+-- a number that is taken isn't above the greatest
+pub number_most : (name : List ℕ) (default most n : ℕ) (words rest : List (List ℕ)) → default ≤ most → TakesNumber name default most words n rest → n ≤ most
+number_most name default most n words rest few (inl a) = omega (arith, a.2)
+number_most name default most n words rest few (inr a) = a.3
+
+can_write_under : (backend : Backend) (settings : Settings) → IsBackend backend → settings.alphamax ≤ 1000000000 → settings.long_curve ≡ is_drawn backend
+    → settings.unit ≡ 10 → settings.flat ≡ is_drawn backend → CanWriteUnder backend settings
+can_write_under Points settings offered alphamax long_curve unit flat = tt
+can_write_under Polygons settings offered alphamax long_curve unit flat = tt
+can_write_under Svg settings offered alphamax long_curve unit flat = record {
+  traced = record { alphamax = alphamax; long_curve = long_curve };
+  some = omega (arith, unit);
+  most = omega (arith, unit);
+  flat = flat;
+}
+can_write_under Eps settings offered alphamax long_curve unit flat = absurd offered
+can_write_under Dxf settings offered alphamax long_curve unit flat = absurd offered
+can_write_under GeoJson settings offered alphamax long_curve unit flat = absurd offered
+
+-- the program can do what is asked for
+pub asked_offered : (words : List (List ℕ)) (settings : Settings) → IsAsked words settings → IsOffered settings
+asked_offered words settings a = record {
+  document = can_write_under settings.backend settings a.begins.valued.offered
+      (number_most (codes "-a") 1000000 1000000000 settings.alphamax a.after_invert (ending settings.backend) (omega arith) a.alphamax)
+      a.others.long_curve a.others.unit a.others.flat;
+  level = number_most (codes "-k") 500000 1000000 settings.level a.options a.after_level (omega arith) a.level;
+}
 
 -- where the name is followed by no number in range, no number is taken
 pub no_number : (name : List ℕ) (default most : ℕ) (words more behind : List (List ℕ)) (first text : List ℕ) → words ≡ first ∷ more → first ≡ name
@@ -118,3 +177,17 @@ no_number name default most words more behind first text ew ef em bad n rest (in
     let same : a.0 ≡ text = cc in
     let P : List ℕ → Type 0 = λ t. IsMicro t n in
     bad n (subst P same a.2) a.3
+
+-- where the words are read up to the corner threshold, and none can be taken, nothing is asked for
+pub no_alphamax : (words options after_level after_invert : List (List ℕ)) (head : Head) (level : ℕ) (invert : Bool) → Begins words head options
+    → TakesNumber (codes "-k") 500000 1000000 options level after_level → TakesWord (codes "-i") after_level invert after_invert
+    → ((n : ℕ) (rest : List (List ℕ)) → TakesNumber (codes "-a") 1000000 1000000000 after_invert n rest → ⊥)
+    → (settings : Settings) → IsAsked words settings → ⊥
+no_alphamax words options after_level after_invert head level invert begins takes_level takes_invert refused settings a =
+    let begin = one_head words head _ options a.options begins a.begins in
+    let levels = one_number (codes "-k") 500000 1000000 level settings.level a.options after_level a.after_level
+    (subst (λ ws. TakesNumber (codes "-k") 500000 1000000 ws level after_level) begin.3 takes_level) a.level in
+    let inverts = one_word (codes "-i") a.after_level after_invert a.after_invert invert settings.invert
+    (subst (λ ws. TakesWord (codes "-i") ws invert after_invert) levels.1 takes_invert) a.invert in
+    refused settings.alphamax (ending settings.backend)
+    (subst (λ ws. TakesNumber (codes "-a") 1000000 1000000000 ws settings.alphamax (ending settings.backend)) (sym inverts.1) a.alphamax)

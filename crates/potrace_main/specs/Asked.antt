@@ -7,7 +7,7 @@ use Rattle.pt_base.specs.declared.policy.Policy.TheVariants.{Left, Right, Black,
 use Rattle.pt_base.specs.declared.settings.Backend.{Backend}
 use Rattle.pt_base.specs.declared.settings.Backend.TheVariants.{Eps, Svg, Dxf, GeoJson, Points, Polygons}
 use Rattle.pt_base.specs.declared.settings.Settings.{Settings}
-use Rattle.page_trace.specs.Document.{IsList}
+use Rattle.page_trace.specs.Document.{CanWrite}
 use Rattle.potrace_main.specs.declared.ask.Head.{Head}
 
 -- the word of a policy (the potrace manual page, option "turnpolicy")
@@ -28,6 +28,34 @@ backend_word GeoJson = codes "geojson"
 backend_word Points = codes "points"
 backend_word Polygons = codes "polygons"
 
+-- the backends that the program has
+abbrev pub IsBackend : Backend → Type 0
+IsBackend Points = Unit {0}
+IsBackend Polygons = Unit {0}
+IsBackend Svg = Unit {0}
+IsBackend Eps = ⊥
+IsBackend Dxf = ⊥
+IsBackend GeoJson = ⊥
+
+-- the backend draws outlines
+abbrev pub is_drawn : Backend → Bool
+is_drawn Svg = true
+is_drawn Eps = false
+is_drawn Dxf = false
+is_drawn GeoJson = false
+is_drawn Points = false
+is_drawn Polygons = false
+
+-- the words that end those of a backend: curves aren't joined and shapes aren't put into groups yet, so
+-- these two are asked for where outlines are drawn
+abbrev pub ending : Backend → List (List ℕ)
+ending Svg = codes "-n" ∷ codes "--flat" ∷ []
+ending Eps = []
+ending Dxf = []
+ending GeoJson = []
+ending Points = []
+ending Polygons = []
+
 -- the greatest speckle limit
 abbrev pub greatest_speckle : ℕ
 greatest_speckle = 1000000000
@@ -37,10 +65,10 @@ abbrev pub form : List ℕ → List ℕ → List ℕ → List (List ℕ) → Lis
 form backend policy number options =
     codes "-b" ∷ backend ∷ codes "-z" ∷ policy ∷ codes "-t" ∷ number ∷ options
 
--- the three values name a backend of lists, a policy and a speckle limit
+-- the three values name a backend, a policy and a speckle limit
 pub record IsValued (backend policy number : List ℕ) (head : Head) : Type 0 where
   pub format : backend ≡ backend_word head.backend
-  pub list : IsList head.backend
+  pub offered : IsBackend head.backend
   pub named : policy ≡ policy_word head.policy
   pub numbered : IsWhole number head.turd
   pub within : head.turd ≤ greatest_speckle
@@ -69,25 +97,26 @@ abbrev pub TakesWord : List ℕ → List (List ℕ) → Bool → List (List ℕ)
 TakesWord name words given rest =
     (LacksWord name words × (words ≡ rest) × (given ≡ false)) ⊎ ((words ≡ name ∷ rest) × (given ≡ true))
 
--- the settings that no word changes
+-- the settings that no word of its own changes
 pub record IsDefault (settings : Settings) : Type 0 where
-  pub alphamax : settings.alphamax ≡ 1000000
-  pub long_curve : settings.long_curve ≡ false
+  pub long_curve : settings.long_curve ≡ is_drawn settings.backend
   pub tolerance : settings.tolerance ≡ 200000
   pub unit : settings.unit ≡ 10
-  pub flat : settings.flat ≡ false
+  pub flat : settings.flat ≡ is_drawn settings.backend
 
 -- the words ask for pages to be read, traced and written so: the values, then `-k D` or not, then `-i` or
--- not, and nothing else
+-- not, then `-a D` or not, and then the backend's last words
 pub record IsAsked (words : List (List ℕ)) (settings : Settings) : Type 0 where
   pub options : List (List ℕ)
   pub after_level : List (List ℕ)
+  pub after_invert : List (List ℕ)
   pub begins : Begins words (record { backend = settings.backend; policy = settings.policy; turd = settings.turd }) options
   pub level : TakesNumber (codes "-k") 500000 1000000 options settings.level after_level
-  pub invert : TakesWord (codes "-i") after_level settings.invert []
+  pub invert : TakesWord (codes "-i") after_level settings.invert after_invert
+  pub alphamax : TakesNumber (codes "-a") 1000000 1000000000 after_invert settings.alphamax (ending settings.backend)
   pub others : IsDefault settings
 
 -- the program can do what the settings say
 pub record IsOffered (settings : Settings) : Type 0 where
-  pub list : IsList settings.backend
+  pub document : CanWrite settings
   pub level : settings.level ≤ 1000000

@@ -1,8 +1,7 @@
 //! Reading the words of the command line.
 ghost use Rattle.std.specs.Prelude.{◌≡◌, ◌≤◌, ◌↔◌, ◌*◌, ◌^◌, ℕ, List, [], map, drop, string_bytes, slice_index_or, IfSome, IfNone, IsTrue};
-ghost use Rattle.potrace_main.specs.Asked.{Begins, IsAsked, IsOffered, IsValued, TakesNumber, TakesWord, backend_word, form, policy_word};
+ghost use Rattle.potrace_main.specs.Asked.{Begins, IsAsked, IsBackend, IsOffered, IsValued, TakesNumber, TakesWord, backend_word, ending, form, is_drawn, policy_word};
 ghost use Rattle.potrace_main.specs.declared.ask.Head.{Head};
-ghost use Rattle.page_trace.specs.Document.{IsList};
 ghost use Rattle.pt_base.specs.Micro.{IsMicro};
 ghost use Rattle.pt_base.specs.declared.policy.Policy.{Policy};
 ghost use Rattle.pt_base.specs.declared.settings.Backend.{Backend};
@@ -21,6 +20,12 @@ const DEFAULT_LEVEL: u32 = 500_000;
 /// The greatest black level, in millionths.
 const GREATEST_LEVEL: u32 = 1_000_000;
 
+/// The corner threshold where no word says one, in millionths.
+const DEFAULT_ALPHAMAX: u32 = 1_000_000;
+
+/// The greatest corner threshold, in millionths.
+const GREATEST_ALPHAMAX: u32 = 1_000_000_000;
+
 /// What the words that are always there ask for.
 #[derive(Clone, Copy, Debug)]
 pub struct Head {
@@ -31,7 +36,7 @@ pub struct Head {
 }
 
 /// What the words ask for, if they are the program's: `-b BACKEND -z POLICY -t N`, then `-k D` or not,
-/// then `-i` or not.
+/// then `-i` or not, then `-a D` or not, and then `-n --flat` for the backend `svg`.
 pub fn ask(words: &[String]) -> Option<Settings>
     ensures asked { IfSome result (IsAsked (map string_bytes words.now)) }
     ensures refused { IfNone result ((settings : Settings) → IsAsked (map string_bytes words.now) settings → ⊥) }
@@ -40,18 +45,20 @@ pub fn ask(words: &[String]) -> Option<Settings>
     let (head, options) = head_of(words)?;
     let (level, options) = number_after(options, "-k", DEFAULT_LEVEL, GREATEST_LEVEL)?;
     let (invert, options) = word_after(options, "-i");
-    if !options.is_empty() {
+    let (alphamax, options) = number_after(options, "-a", DEFAULT_ALPHAMAX, GREATEST_ALPHAMAX)?;
+    if !are_ending(options, head.backend) {
         return None;
     }
+    let drawn = is_drawn(head.backend);
     Some(Settings {
         backend: head.backend,
         policy: head.policy,
         turd: head.turd,
-        alphamax: 1_000_000,
-        long_curve: false,
+        alphamax,
+        long_curve: drawn,
         tolerance: 200_000,
         unit: 10,
-        flat: false,
+        flat: drawn,
         level,
         invert,
     })
@@ -150,6 +157,40 @@ fn word_after<'a>(words: &'a [String], name: &str) -> (bool, &'a [String])
     }
 }
 
+/// Whether the words are those that end a backend's.
+fn are_ending(words: &[String], backend: Backend) -> bool
+    ensures { IsTrue result ↔ (map string_bytes words.now ≡ ending backend) }
+{
+    match backend {
+        Backend::Svg => are_drawing(words),
+        Backend::Eps
+        | Backend::Dxf
+        | Backend::GeoJson
+        | Backend::Points
+        | Backend::Polygons => words.is_empty(),
+    }
+}
+
+/// Whether the words are `-n --flat`.
+fn are_drawing(words: &[String]) -> bool
+    ensures { IsTrue result ↔ (map string_bytes words.now ≡ ending Backend.Svg) }
+{
+    let [long_curve, flat] = words else {
+        return false;
+    };
+    if !is_word(long_curve, "-n") {
+        return false;
+    }
+    is_word(flat, "--flat")
+}
+
+/// Whether the backend draws outlines.
+fn is_drawn(backend: Backend) -> bool
+    ensures { result ≡ is_drawn backend }
+{
+    matches!(backend, Backend::Svg)
+}
+
 fn is_word(word: &String, text: &str) -> bool
     ensures { IsTrue result ↔ (string_bytes word.now ≡ text.now) }
 {
@@ -159,12 +200,13 @@ fn is_word(word: &String, text: &str) -> bool
 /// The backend of this word, if it is one of those that the program has.
 fn backend_of(word: &str) -> Option<Backend>
     ensures named { IfSome result (λ backend. word.now ≡ backend_word backend) }
-    ensures list { IfSome result IsList }
-    ensures unnamed { IfNone result ((backend : Backend) → word.now ≡ backend_word backend → IsList backend → ⊥) }
+    ensures offered { IfSome result IsBackend }
+    ensures unnamed { IfNone result ((backend : Backend) → word.now ≡ backend_word backend → IsBackend backend → ⊥) }
 {
     match word {
         "points" => Some(Backend::Points),
         "polygons" => Some(Backend::Polygons),
+        "svg" => Some(Backend::Svg),
         _ => None,
     }
 }

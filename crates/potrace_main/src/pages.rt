@@ -6,7 +6,7 @@ ghost use Rattle.bitmap_input.specs.Reading.{AtEnd};
 ghost use Rattle.bitmap_input.specs.Reader.{at_start, is_later as reader_is_later};
 ghost use Rattle.potrace_main.specs.Asked.{IsOffered};
 ghost use Rattle.potrace_main.specs.Messages.{dash};
-ghost use Rattle.page_trace.specs.Document.{IsDocument, IsList};
+ghost use Rattle.page_trace.specs.Document.{CanWrite, IsDocument};
 ghost use Rattle.potrace_main.specs.Progress.{EndsBy, EndsReading, EndsWriting, InputCount, OutputCount, ReadsPage, Traces, TracesPage, ahead, end_of_fault};
 ghost use Rattle.pt_base.specs.declared.settings.Settings.{Settings};
 
@@ -162,7 +162,7 @@ fn write_page<O: Outputs>(
     page: &Bitmap,
     outs: &mut O,
 ) -> Result<(), PagesEnd>
-    requires list { IsList settings.backend }
+    requires document { CanWrite settings }
     requires closed { O.is_ready outs.old ≡ false }
     ensures written { OnOk result ((text : List ℕ) × IsDocument page.now settings text × (O.documents outs.new ≡ with_whole (O.documents outs.old) dash text)) }
     ensures ends { IfErr result (EndsWriting settings page.now (O.documents outs.old) (O.documents outs.new)) }
