@@ -1,6 +1,6 @@
 -- The adjusted vertices of a polygon (Selinger, "Potrace", 2003, section 2.3.1). The form in whole
 -- numbers, and that a vertex is one of finitely many places, are our own.
-use Rattle.std.specs.Prelude.{◌≡◌, ℕ, zero, suc, ◌+◌, ◌-◌, ◌*◌, ◌<◌, ◌≤◌, if◌then◌else◌, nat_lt, ℤ, pos, ◌+ℤ◌, ◌-ℤ◌, ◌*ℤ◌, ◌<ℤ◌, ◌≤ℤ◌, unsigned_abs, List, length, slice_index, slice_index_or}
+use Rattle.std.specs.Prelude.{◌≡◌, ℕ, zero, suc, ◌+◌, ◌-◌, ◌<◌, ◌≤◌, if◌then◌else◌, nat_lt, ℤ, pos, ◌+ℤ◌, ◌-ℤ◌, ◌*ℤ◌, ◌<ℤ◌, ◌≤ℤ◌, unsigned_abs, List, length, slice_index, slice_index_or}
 use Rattle.pt_base.specs.ClosedWalk.{point_at, origin}
 use Rattle.pt_base.specs.declared.point.Point.{Point}
 use Rattle.pt_base.specs.declared.limits.TheConstants.{MOST_STEPS}
@@ -97,7 +97,8 @@ pub record AreVertices (points : List Point) (at : List ℕ) (vertices : List Po
   pub count : length vertices ≡ length at
   pub each : (k : ℕ) → k < length at → IsVertexOf points at k (slice_index_or vertices k origin)
 
--- the coordinates are at most half a pixel outside of the largest page
+-- the coordinates are at most half a pixel outside of the largest page, in units of 1/1024 pixel: 16777728
+-- is 1024 * 16384 + 512
 pub record IsNearPage (a : Point) : Type 0 where
   pub left : pos 0 ≤ℤ (a.x +ℤ pos 512)
   pub right : a.x ≤ℤ pos (16777728)

@@ -1,7 +1,6 @@
-use Rattle.std.proofs.Common.{◌≡◌, ℕ, suc, ◌+◌, ◌<◌, ◌-◌, ◌++◌, ◌∷◌, [], List, length, get_or, slice_index, All, add-one, refl, sym, ap, ◌∙◌, subst, arith}
+use Rattle.std.proofs.Common.{◌≡◌, ℕ, List, length, slice_index, All, add-one, sym, ◌∙◌, subst, arith}
 use Rattle.std.proofs.lemmas.List.Elements.{All-push}
 use Rattle.pt_base.specs.declared.point.Point.{Point}
-use Rattle.pt_base.specs.ClosedWalk.{point_at, origin}
 use Rattle.pt_base.specs.OnPage.{IsOnPage}
 use Rattle.vertex_adjust.specs.Vertex.{IsPolygonOf, IsLineOf, IsVertexOf, IsVertex, AreVertices, IsNearPage, before_of}
 use Rattle.vertex_adjust.proofs.Segments.{point_read, each_push}
