@@ -1,5 +1,6 @@
 pub mod Division
 pub mod Doubling
+pub mod Examples
 pub mod Fitting
 pub mod Lines
 pub mod Rooting

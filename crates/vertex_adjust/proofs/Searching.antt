@@ -1,9 +1,8 @@
 -- The least of the candidates seen so far, and of one more.
-use Rattle.std.proofs.Common.{◌≡◌, ℕ, ◌+◌, ◌<◌, ◌≤◌, ℤ, pos, ◌+ℤ◌, ◌<ℤ◌, ◌⊎◌, inl, inr, Bool, true, false, ◌-ℤ◌, w64, to_z, of_z, refl, sym, ap, ◌∙◌, subst, arith}
+use Rattle.std.proofs.Common.{◌≡◌, ℕ, ◌+◌, ◌<◌, ℤ, pos, ◌+ℤ◌, ◌⊎◌, inl, inr, Bool, true, false, ◌-ℤ◌, w64, to_z, of_z, sym, ap, ◌∙◌, subst, arith}
 use Rattle.std.proofs.lemmas.Int.{ints, by_lt_z}
 use Rattle.std.proofs.lemmas.Bool.{false≢true}
-use Rattle.std.specs.Prelude.{unsigned_abs, MatchBool}
-use Rattle.vertex_adjust.specs.Line.{squares_of}
+use Rattle.std.specs.Prelude.{MatchBool}
 use Rattle.vertex_adjust.specs.Vertex.{IsCandidate, IsBefore}
 use Rattle.vertex_adjust.specs.Vertex.IsBefore.{by_error, by_length, by_height, by_side}
 use Rattle.vertex_adjust.specs.Search.{IsSeen, IsLeastSeen}

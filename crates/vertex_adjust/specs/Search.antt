@@ -1,5 +1,5 @@
 -- The least of the candidates seen so far.
-use Rattle.std.specs.Prelude.{◌≡◌, ℕ, ◌+◌, ◌<◌, ◌≤◌, ℤ, pos, ◌+ℤ◌, ◌<ℤ◌, ◌⊎◌}
+use Rattle.std.specs.Prelude.{◌≡◌, ℕ, pos, ◌+ℤ◌, ◌<ℤ◌, ◌⊎◌}
 use Rattle.vertex_adjust.specs.Vertex.{IsCandidate, IsBefore}
 use Rattle.vertex_adjust.specs.declared.shift.Shift.{Shift}
 use Rattle.vertex_adjust.specs.declared.search.Trial.{Trial}

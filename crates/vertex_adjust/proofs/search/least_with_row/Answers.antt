@@ -1,5 +1,5 @@
-use Rattle.std.proofs.Common.{◌≡◌, ℕ, ◌+◌, ◌<◌, ◌+ℤ◌, ℤ, pos, ap, ◌∙◌, subst, sym, arith}
-use Rattle.vertex_adjust.specs.Vertex.{error_of, IsCandidate}
+use Rattle.std.proofs.Common.{◌≡◌, ℕ, ◌+◌, ◌<◌, ◌+ℤ◌, pos, ap, ◌∙◌, subst, sym, arith}
+use Rattle.vertex_adjust.specs.Vertex.{error_of}
 use Rattle.vertex_adjust.specs.Search.{IsLeastSeen}
 use Rattle.vertex_adjust.specs.declared.search.Trial.{Trial}
 use Rattle.vertex_adjust.specs.declared.shift.Shift.{Shift}

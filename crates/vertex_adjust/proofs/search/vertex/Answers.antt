@@ -1,4 +1,4 @@
-use Rattle.std.proofs.Common.{◌≡◌, w32, rules, sym, subst}
+use Rattle.std.proofs.Common.{w32, rules, sym, subst}
 use Rattle.std.specs.Int.RustNames.{FitsSigned}
 use Rattle.pt_base.specs.declared.point.Point.{Point}
 use Rattle.vertex_adjust.specs.Vertex.{moved, IsNearPage}
