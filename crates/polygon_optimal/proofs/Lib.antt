@@ -1,3 +1,4 @@
 pub mod Best
 pub mod Reaching
+pub mod Vertices
 mod Examples

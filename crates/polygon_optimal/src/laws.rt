@@ -1,8 +1,9 @@
 //! What follows from the definitions alone.
-ghost use Rattle.std.specs.Prelude.{◌≡◌, ℕ, List};
+ghost use Rattle.std.specs.Prelude.{◌≡◌, ℕ, ◌<◌, ◌≤◌, List, length, All};
+ghost use Rattle.pt_base.specs.ClosedWalk.{IsClosedWalk};
 ghost use Rattle.pt_base.specs.declared.point.Point.{Point};
 ghost use Rattle.prefix_moments.specs.Sums.{IsPenalty};
-ghost use Rattle.polygon_optimal.specs.Polygon.{IsBestPolygon, penalty_of};
+ghost use Rattle.polygon_optimal.specs.Polygon.{IsPolygon, IsBestPolygon, penalty_of};
 
 /// A path has at most one best polygon.
 pub fn best_polygons_are_one()
@@ -15,4 +16,12 @@ pub fn penalties_are_one()
     ensures is { (points : List Point) (i j : ℕ) → IsPenalty points i j (penalty_of points i j) }
     ensures one { (points : List Point) (i j penalty : ℕ)
         → IsPenalty points i j penalty → penalty ≡ penalty_of points i j }
+{}
+
+/// A polygon of a closed walk has at least two vertices, and each of them is a point of the walk.
+pub fn polygons_have_vertices()
+    ensures some { (points : List Point) (at : List ℕ)
+        → IsClosedWalk points → IsPolygon points at → 2 ≤ length at }
+    ensures points { (points : List Point) (at : List ℕ)
+        → IsPolygon points at → All (λ i. i < length points) at }
 {}
