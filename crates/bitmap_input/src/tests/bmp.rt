@@ -108,13 +108,31 @@ const CHECKERS: &str = "#.#/.#./ end";
 // The same picture upside down.
 const TURNED: &str = ".#./#.#/ end";
 
+/// A picture of two rows, with unused bytes behind the first colours of its palette.
+fn painted(
+    alloc: Global,
+    form: &Form,
+    palette: &[u8],
+    unused: u32,
+    first: &[u8],
+    second: &[u8],
+) -> Result<Vec<u8>, Fail> {
+    let mut bytes = picture(alloc, form, &[palette])?;
+    for _i in 0..unused {
+        bytes.push(0)?;
+    }
+    bytes.extend_from_slice(first)?;
+    bytes.extend_from_slice(second)?;
+    Ok(bytes)
+}
+
 #[test]
 fn each_depth(rt: HostRuntime) -> Result<(), Fail> {
     let low = b"\xff\xff\xff\0\0\0\xff\xff\xff\x55\x55\x55";
     let high = b"\0\0\0\xff\xff\xff\0\0\0\x55\x55\x55";
     let low_four = b"\xff\xff\xff\0\0\0\0\xff\xff\xff\xff\x55";
     let high_four = b"\0\0\0\xff\xff\xff\xff\0\0\0\0\xff";
-    let table: [(u32, u32, usize, &[u8], &[u8], &[u8]); 5] = [
+    let table: [(u32, u32, u32, &[u8], &[u8], &[u8]); 5] = [
         (1, 62, 0, PALETTE, LOW, HIGH),
         (
             4,
@@ -131,13 +149,12 @@ fn each_depth(rt: HostRuntime) -> Result<(), Fail> {
     for (bits, pixel_offset, unused, palette, low, high) in table {
         let mut form = small(pixel_offset);
         form.bits = bits;
-        let unused = vec![in rt.alloc(); 0u8; unused]?;
-        let below = picture(rt.alloc(), &form, &[palette, &unused, low, high])?;
+        let below = painted(rt.alloc(), &form, palette, unused, low, high)?;
         assert!(rt; tells(rt.alloc(), &below, CHECKERS)?, "{bits} bits");
-        let turned = picture(rt.alloc(), &form, &[palette, &unused, high, low])?;
+        let turned = painted(rt.alloc(), &form, palette, unused, high, low)?;
         assert!(rt; tells(rt.alloc(), &turned, TURNED)?, "{bits} bits");
         form.height = 4294967294;
-        let above = picture(rt.alloc(), &form, &[palette, &unused, high, low])?;
+        let above = painted(rt.alloc(), &form, palette, unused, high, low)?;
         assert!(rt; tells(rt.alloc(), &above, CHECKERS)?, "{bits} bits");
     }
     Ok(())
