@@ -53,7 +53,7 @@ unpacked [] = []
 unpacked (b ∷ bs) = bits_of b ++ unpacked bs
 
 -- the samples of a row of bytes: of a byte each, or where they are wide of two, the most significant
--- byte first
+-- byte first (one byte alone at the end is no sample)
 abbrev pub samples : Bool → List ℕ → List ℕ
 samples false bytes = bytes
 samples true [] = []

@@ -9,7 +9,8 @@ pub enum InFault {
     /// The file doesn't begin with the magic of a known format.
     #[error("unknown format")]
     UnknownFormat,
-    /// The header has another byte where a digit, a gap or the one whitespace byte is due.
+    /// The header has another byte where a digit, a gap or the one whitespace byte is due, or its
+    /// sample for white is 0 or above 65535.
     #[error("bad header")]
     BadHeader,
     /// The page has no column or no row.
