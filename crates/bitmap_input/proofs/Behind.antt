@@ -1,21 +1,18 @@
 -- How many bytes a page takes, and what it claims behind them.
-use Rattle.std.proofs.Common.{◌≡◌, refl, ℕ, zero, suc, ◌+◌, ◌-◌, ◌≤◌, ◌<◌, Bool, true, false, cond, ◌||◌, List, [], ◌∷◌, ◌++◌, length, take, drop, arith, ap, sym, ◌∙◌, subst, Option, Some, None, Result, Ok, Err}
+use Rattle.std.proofs.Common.{◌≡◌, refl, ℕ, ◌+◌, ◌-◌, ◌≤◌, ◌<◌, Bool, true, false, List, [], ◌∷◌, ◌++◌, length, drop, arith, ap, sym, ◌∙◌, Option, Some, None, Result, Ok, Err}
 use Rattle.std.specs.Prelude.{nat_lt}
 use Rattle.std.proofs.lemmas.List.{length-append, length-drop, drop_all, drop-append-le}
 use Rattle.std.proofs.lemmas.Bool.{ltb-true, ltb-false}
 use Rattle.pt_base.specs.Files.{Files}
 use Rattle.bit_image.specs.Page.{Page as Pixels}
 use Rattle.bitmap_input.specs.declared.stop.Stop.{Stop}
-use Rattle.bitmap_input.specs.declared.extent.ReadPage.{ReadPage}
 use Rattle.bitmap_input.specs.Cut.{Cut, is_by_end, after, ◌>>=◌}
-use Rattle.bitmap_input.specs.Cut.Kind.{BadHeader, BadRaster, TooLong}
-use Rattle.bitmap_input.specs.Cut.Ending.{Refused}
 use Rattle.bitmap_input.specs.Cut.Cut.{Takes, Stops}
 use Rattle.bitmap_input.specs.Parts.{longest, is_empty, is_space, run_length, run_of, spaces, space, times}
 use Rattle.bitmap_input.specs.Raw.{Raw, Entry, entries_page, IsShown}
 use Rattle.bitmap_input.specs.Raw.Entry.{Bit, Sample}
 use Rattle.bitmap_input.specs.Front.{Magic, no_magic, magic_of_name, magic_named, magic_behind, magic, sides, maxval, plain_pixel, raw_row, plain_sample, raw_gray_row, raster, body, page_at, answer_of, front}
-use Rattle.bitmap_input.specs.Front.Magic.{PlainBits, RawBits, PlainGray, RawGray, Picture}
+use Rattle.bitmap_input.specs.Front.Magic.{PlainBits, RawBits, PlainGray, RawGray}
 use Rattle.bitmap_input.specs.Front.Answer.{Page}
 use Rattle.bitmap_input.specs.FilePages.{next_begins}
 use Rattle.bitmap_input.specs.Reading.{Held, Cause, cause_of, StopsBy, Reads}
@@ -26,7 +23,6 @@ use Rattle.bitmap_input.proofs.Bytes.{run_length-le, run_length-append}
 use Rattle.bitmap_input.proofs.Keeping.{Keeps}
 use Rattle.bitmap_input.proofs.FrontKeeps.{keeps_body}
 use Rattle.bitmap_input.proofs.BmpLengths.{Cuts, cuts_bind, cuts_take}
-use Rattle.bitmap_input.proofs.Showing.{after_takes}
 use Rattle.bitmap_input.proofs.Appending.{after-false}
 
 -- Pages of bits and gray pages claim no bytes.

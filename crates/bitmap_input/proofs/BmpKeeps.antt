@@ -1,21 +1,17 @@
 -- What a BMP picture leaves is the end of what it was given, and begins behind its last row.
-use Rattle.std.proofs.Common.{◌≡◌, refl, ℕ, zero, suc, ◌+◌, ◌-◌, ◌*◌, ◌≤◌, ◌<◌, Bool, true, false, cond, ◌&&◌, ◌||◌, List, [], ◌∷◌, ◌++◌, length, map, take, drop, get_or, arith, ap, sym, ◌∙◌, subst}
-use Rattle.std.specs.Prelude.{nat_eq, nat_lt, nat_le}
+use Rattle.std.proofs.Common.{ℕ, ◌-◌, Bool, true, false, List, ◌++◌, map}
+use Rattle.std.specs.Prelude.{nat_le}
 use Rattle.std.specs.List.{range_with_len}
-use Rattle.std.proofs.lemmas.List.{length-append, length-take-le, length-drop}
-use Rattle.std.proofs.lemmas.Bool.{ltb-false, leb-true}
-use Rattle.bitmap_input.specs.Cut.{Kind, Cut, ◌>>=◌}
-use Rattle.bitmap_input.specs.Cut.Kind.{BmpKind, BadOffset, Truncated}
+use Rattle.bitmap_input.specs.Cut.{Kind, ◌>>=◌}
+use Rattle.bitmap_input.specs.Cut.Kind.{BmpKind, BadOffset}
 use Rattle.bitmap_input.specs.Cut.Ending.{Refused}
-use Rattle.bitmap_input.specs.Cut.Cut.{Takes, Stops}
+use Rattle.bitmap_input.specs.Cut.Cut.{Takes}
 use Rattle.bitmap_input.specs.Parts.{block, times}
 use Rattle.bitmap_input.specs.Sides.{checked}
-use Rattle.bitmap_input.specs.Raw.{Raw, Entry}
-use Rattle.bitmap_input.specs.BmpHeader.{byte_at, two_at, four_at, header_size, is_short, compression, has_masks, is_known_size, is_known_kind, mask_bytes, has_known_colors, width, height, pixel_offset, palette_bytes, palette_end, row_length, rows_end, bits, palette_length, color_bytes}
+use Rattle.bitmap_input.specs.BmpHeader.{header_size, is_known_size, is_known_kind, mask_bytes, has_known_colors, width, height, pixel_offset, palette_bytes, palette_end, row_length, bits, palette_length, color_bytes}
 use Rattle.bitmap_input.specs.BmpRaster.{palette_color, pixel_in, row_of, picture, raster}
 use Rattle.bitmap_input.specs.Bmp.{passes, start, info, masks, placed, header, bmp}
 use Rattle.bitmap_input.proofs.Keeping.{Keeps, all_rest, keeps_take, keeps_stop, keeps_bind, keeps_block, keeps_times, keeps_checked}
-use Rattle.bitmap_input.proofs.Showing.{after_takes}
 
 keeps_passes : {A : Type 0} (kind : Kind) (t : Bool) (x : A) (bytes : List ℕ) → Keeps bytes (passes kind t x bytes)
 keeps_passes kind true x bytes = keeps_take bytes false x bytes (all_rest bytes)

@@ -1,9 +1,9 @@
 -- How many bytes the parts of a BMP picture take.
-use Rattle.std.proofs.Common.{◌≡◌, refl, ℕ, zero, suc, ◌+◌, ◌-◌, ◌*◌, ◌≤◌, ◌<◌, Bool, true, false, cond, ◌&&◌, ◌||◌, inl, inr, List, [], ◌∷◌, ◌++◌, length, map, take, drop, get_or, arith, ap, sym, ◌∙◌, subst}
+use Rattle.std.proofs.Common.{◌≡◌, refl, ℕ, zero, suc, ◌+◌, ◌-◌, ◌*◌, ◌≤◌, ◌<◌, Bool, true, false, cond, ◌||◌, List, [], ◌∷◌, ◌++◌, length, map, take, drop, arith, ap, sym, ◌∙◌, subst}
 use Rattle.std.specs.Prelude.{nat_eq, nat_lt, nat_le}
 use Rattle.std.specs.List.{range_with_len}
 use Rattle.std.proofs.lemmas.List.{length-append, length-take-le, length-drop}
-use Rattle.std.proofs.lemmas.Bool.{ltb-false, leb-true, eqb-true, or_cases, both_ways}
+use Rattle.std.proofs.lemmas.Bool.{ltb-false, leb-true, eqb-true, both_ways}
 use Rattle.std.proofs.lemmas.Bool.Decides.{nat_tests}
 use Rattle.std.proofs.Math.ListN.{get_or-append}
 use Rattle.bitmap_input.specs.Cut.{Kind, Ending, Cut, after, ◌>>=◌}
@@ -13,8 +13,8 @@ use Rattle.bitmap_input.specs.Cut.Ending.{Refused}
 use Rattle.bitmap_input.specs.Cut.Cut.{Takes, Stops}
 use Rattle.bitmap_input.specs.Parts.{is_zero, block, times}
 use Rattle.bitmap_input.specs.Sides.{checked, longest_side}
-use Rattle.bitmap_input.specs.Raw.{Raw, Entry}
-use Rattle.bitmap_input.specs.BmpHeader.{byte_at, two_at, four_at, header_size, is_short, bits, compression, has_masks, is_known_size, is_known_kind, mask_bytes, has_known_colors, width, height, pixel_offset, palette_bytes, palette_end, row_length, rows_end, palette_length, color_bytes, file_size}
+use Rattle.bitmap_input.specs.Raw.{Raw}
+use Rattle.bitmap_input.specs.BmpHeader.{byte_at, two_at, four_at, header_size, is_short, bits, has_masks, is_known_size, is_known_kind, mask_bytes, has_known_colors, width, height, pixel_offset, palette_bytes, palette_end, row_length, rows_end, palette_length, color_bytes, file_size}
 use Rattle.bitmap_input.specs.BmpRaster.{palette_color, pixel_in, row_of, picture, raster}
 use Rattle.bitmap_input.specs.Bmp.{passes, start, info, masks, placed, header, bmp}
 use Rattle.bitmap_input.specs.BmpHead.{HasInfo, IsStart, IsInfo, IsWhole}

@@ -1,6 +1,5 @@
 -- The pixels of a BMP picture, read row by row and painted on the page.
-use Rattle.std.proofs.Common.{◌≡◌, refl, ℕ, zero, suc, ◌+◌, ◌-◌, ◌*◌, ◌≤◌, ◌<◌, inl, inr, Bool, true, false, List, [], ◌∷◌, length, map, reverse, get_or, arith, ap, sym, ◌∙◌}
-use Rattle.std.proofs.lemmas.Nat.{mul-le}
+use Rattle.std.proofs.Common.{◌≡◌, refl, ℕ, ◌+◌, ◌*◌, ◌≤◌, ◌<◌, Bool, List, [], ◌∷◌, map, get_or, arith}
 use Rattle.std.proofs.Common.{add-one}
 use Rattle.bit_image.specs.Image.{Image}
 use Rattle.bitmap_input.specs.Raster.{with_row, with_placed}

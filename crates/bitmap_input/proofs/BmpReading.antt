@@ -3,7 +3,7 @@ use Rattle.std.proofs.lemmas.List.{length-append}
 use Rattle.std.proofs.Common.{◌≡◌, refl, ◌+◌, ◌-◌, ◌<◌, arith, length, Bool, true, false, List, [], ◌++◌, sym, subst, Option, Result, Ok, Err, ap, ◌∙◌, append-nil, ℕ}
 use Rattle.pt_base.specs.Files.{Files}
 use Rattle.bitmap_input.specs.declared.stop.Stop.{Stop}
-use Rattle.bitmap_input.specs.Cut.{Kind, Ending, Cut}
+use Rattle.bitmap_input.specs.Cut.{Kind, Cut}
 use Rattle.bitmap_input.specs.Cut.Ending.{Refused}
 use Rattle.bitmap_input.specs.Cut.Cut.{Takes, Stops}
 use Rattle.bitmap_input.specs.Reading.{Held, cause_of, StopsBy, Reads}

@@ -1,8 +1,8 @@
 -- A BMP picture's answer that isn't by the end of the bytes stays the same where bytes are added.
-use Rattle.std.proofs.Common.{◌≡◌, refl, ℕ, ◌-◌, Bool, true, false, List, ◌++◌, map}
+use Rattle.std.proofs.Common.{ℕ, ◌-◌, Bool, true, false, List, ◌++◌, map}
 use Rattle.std.specs.Prelude.{nat_le}
 use Rattle.std.specs.List.{range_with_len}
-use Rattle.bitmap_input.specs.Cut.{Kind, Cut}
+use Rattle.bitmap_input.specs.Cut.{Kind}
 use Rattle.bitmap_input.specs.Cut.Kind.{BmpKind, BadOffset}
 use Rattle.bitmap_input.specs.Cut.Ending.{Refused}
 use Rattle.bitmap_input.specs.Parts.{block, times}

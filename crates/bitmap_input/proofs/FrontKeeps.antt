@@ -1,10 +1,10 @@
 -- What a page leaves is the end of what it was given, and shorter.
-use Rattle.std.proofs.Common.{subst, ◌≡◌, refl, ℕ, zero, suc, ◌+◌, ◌-◌, ◌≤◌, ◌<◌, Bool, true, false, cond, ◌||◌, List, [], ◌∷◌, ◌++◌, length, take, drop, arith, ap, sym, ◌∙◌, append_assoc, Option, Some, None}
-use Rattle.std.specs.Prelude.{nat_eq, nat_lt}
-use Rattle.std.proofs.lemmas.List.{take-append-drop, length-append, length-drop}
+use Rattle.std.proofs.Common.{◌≡◌, refl, ℕ, ◌-◌, ◌≤◌, ◌<◌, Bool, true, false, List, [], ◌∷◌, ◌++◌, length, take, drop, arith, ap, sym}
+use Rattle.std.specs.Prelude.{nat_lt}
+use Rattle.std.proofs.lemmas.List.{length-append}
 use Rattle.std.proofs.Math.Seq.{drop-append_seam}
-use Rattle.bitmap_input.specs.Cut.{Ending, Cut, ◌>>=◌}
-use Rattle.bitmap_input.specs.Cut.Kind.{BadHeader, BadRaster}
+use Rattle.bitmap_input.specs.Cut.{Cut, ◌>>=◌}
+use Rattle.bitmap_input.specs.Cut.Kind.{BadRaster}
 use Rattle.bitmap_input.specs.Cut.Cut.{Takes, Stops}
 use Rattle.bitmap_input.specs.Parts.{longest, is_empty, is_space, run_length, run_of, spaces, space, times}
 use Rattle.bitmap_input.specs.Raw.{Raw, Entry, entries_page}
@@ -13,7 +13,7 @@ use Rattle.bitmap_input.specs.Front.{Magic, magic, sides, maxval, plain_pixel, r
 use Rattle.bitmap_input.specs.Front.Answer.{Page}
 use Rattle.bitmap_input.specs.Front.Magic.{PlainBits, RawBits, PlainGray, RawGray, Picture}
 use Rattle.bitmap_input.proofs.Showing.{after_takes}
-use Rattle.bitmap_input.proofs.Keeping.{IsRest, Keeps, all_rest, one_off, rest_of_rest, keeps_take, keeps_bind, keeps_run, keeps_space, keeps_times, keeps_magic_behind, keeps_magic, keeps_sides, keeps_maxval, keeps_number_behind_gap, keeps_plain_pixel, keeps_raw_row, keeps_raw_gray_row}
+use Rattle.bitmap_input.proofs.Keeping.{IsRest, Keeps, all_rest, keeps_take, keeps_bind, keeps_run, keeps_space, keeps_times, keeps_magic_behind, keeps_magic, keeps_sides, keeps_maxval, keeps_number_behind_gap, keeps_plain_pixel, keeps_raw_row, keeps_raw_gray_row}
 use Rattle.bitmap_input.proofs.BmpKeeps.{keeps_bmp}
 
 keeps_rows : {A : Type 0} (entry : A → Entry) (row : List ℕ → Cut (List A)) → ((bytes : List ℕ) → Keeps bytes (row bytes)) →

@@ -1,5 +1,5 @@
 -- A page's answer that isn't by the end of the bytes stays the same where bytes are added.
-use Rattle.std.proofs.Common.{◌≡◌, refl, ℕ, ◌-◌, Bool, true, false, List, ◌++◌, length, arith, ap, ◌∙◌}
+use Rattle.std.proofs.Common.{◌≡◌, refl, ℕ, ◌-◌, Bool, false, List, ◌++◌, length, arith, ap, ◌∙◌}
 use Rattle.std.proofs.lemmas.List.{length-append}
 use Rattle.bitmap_input.specs.Cut.{Cut, is_by_end, with_more}
 use Rattle.bitmap_input.specs.Cut.Cut.{Takes, Stops}

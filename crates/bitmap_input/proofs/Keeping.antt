@@ -1,20 +1,14 @@
 -- What a part leaves is the end of what it was given.
-use Rattle.std.proofs.Common.{subst, ◌≡◌, refl, ℕ, zero, suc, ◌+◌, ◌-◌, ◌≤◌, ◌<◌, Bool, true, false, cond, ◌||◌, List, [], ◌∷◌, ◌++◌, length, take, drop, arith, ap, sym, ◌∙◌, append_assoc, Option, Some, None}
+use Rattle.std.proofs.Common.{◌≡◌, refl, ℕ, zero, suc, Bool, true, false, cond, ◌||◌, List, [], ◌∷◌, ◌++◌, length, take, drop, ap, sym, ◌∙◌, append_assoc, Option, Some, None}
 use Rattle.std.specs.Prelude.{nat_eq, nat_lt}
-use Rattle.std.proofs.lemmas.List.{take-append-drop, length-append, length-drop}
-use Rattle.std.proofs.Math.Seq.{drop-append_seam}
+use Rattle.std.proofs.lemmas.List.{take-append-drop}
 use Rattle.bitmap_input.specs.Cut.{Kind, Ending, Cut, ◌>>=◌}
 use Rattle.bitmap_input.specs.Cut.Kind.{BadHeader, BadRaster, Truncated, TooLong, ZeroSide, TooLarge, UnknownFormat}
 use Rattle.bitmap_input.specs.Cut.Ending.{End, Trailing, Refused}
 use Rattle.bitmap_input.specs.Cut.Cut.{Takes, Stops}
-use Rattle.bitmap_input.specs.Parts.{longest, is_zero, is_empty, is_space, is_digit, run_length, gap_length, missing, run_of, spaces, gap, some_gap, value, number, number_behind_gap, space, pixel, block, times}
-use Rattle.bitmap_input.specs.Raw.{Raw, Entry, entries_page, row_bytes, unpacked, samples}
-use Rattle.bitmap_input.specs.Raw.Entry.{Bit, Sample}
-use Rattle.bitmap_input.specs.Front.{Magic, no_magic, magic_of_name, magic_named, magic_behind, magic, checked, longest_side, sides, checked_maxval, maxval, greatest_maxval, plain_pixel, raw_row, plain_sample, is_wide, gray_row_bytes, raw_gray_row, raster, body, page_at, answer_of, front}
-use Rattle.bitmap_input.specs.Front.Answer.{Page}
-use Rattle.bitmap_input.specs.Front.Magic.{PlainBits, RawBits, PlainGray, RawGray}
-use Rattle.bitmap_input.specs.FilePages.{next_begins}
-use Rattle.bitmap_input.proofs.Bytes.{run_length-le}
+use Rattle.bitmap_input.specs.Parts.{longest, is_zero, is_empty, is_space, is_digit, run_length, gap_length, missing, run_of, gap, some_gap, value, number, number_behind_gap, space, pixel, block, times}
+use Rattle.bitmap_input.specs.Raw.{row_bytes, unpacked, samples}
+use Rattle.bitmap_input.specs.Front.{Magic, no_magic, magic_of_name, magic_named, magic_behind, magic, checked, longest_side, sides, checked_maxval, maxval, greatest_maxval, plain_pixel, raw_row, is_wide, gray_row_bytes, raw_gray_row, front}
 use Rattle.bitmap_input.proofs.Showing.{after_takes}
 
 -- a list ends with this one

@@ -1,17 +1,14 @@
 -- Bytes that are passed over, as many as the window holds at a time.
-use Rattle.std.proofs.Common.{subst, ◌≡◌, refl, ℕ, ◌+◌, ◌-◌, ◌≤◌, ◌<◌, Bool, true, false, List, [], ◌++◌, length, take, drop, arith, ap, sym, ◌∙◌, Option, Result, Ok, Err, append_assoc, append-nil}
+use Rattle.std.proofs.Common.{subst, ◌≡◌, refl, ℕ, ◌+◌, ◌-◌, ◌≤◌, ◌<◌, Bool, true, false, List, [], ◌++◌, length, take, drop, arith, ap, sym, ◌∙◌, Option, Ok, Err, append_assoc, append-nil}
 use Rattle.std.specs.Prelude.{nat_lt}
 use Rattle.std.proofs.lemmas.List.{length-append, length-take-le, take-append-drop, drop-append-le, drop_all}
-use Rattle.std.proofs.lemmas.Bool.{lt-ltb, le-ltb, ltb-false, ltb-true}
-use Rattle.std.proofs.Math.Seq.{drop-append_seam, take-append_seam}
+use Rattle.std.proofs.lemmas.Bool.{lt-ltb, le-ltb, ltb-false}
+use Rattle.std.proofs.Math.Seq.{drop-append_seam}
 use Rattle.pt_base.specs.Files.{Files}
 use Rattle.bitmap_input.specs.declared.fault.InFault.TheVariants as fault
 use Rattle.bitmap_input.specs.declared.stop.Stop.{Stop}
 use Rattle.bitmap_input.specs.declared.stop.Stop.TheVariants as stop
-use Rattle.bitmap_input.specs.Cut.{is_by_end}
-use Rattle.bitmap_input.specs.Cut.Kind.{Truncated}
-use Rattle.bitmap_input.specs.Cut.Ending.{Refused}
-use Rattle.bitmap_input.specs.Cut.Cut.{Takes, Stops}
+use Rattle.bitmap_input.specs.Cut.Cut.{Takes}
 use Rattle.bitmap_input.specs.Parts.{block}
 use Rattle.bitmap_input.specs.Reading.{Held, Same, Any, Reads, Cause, cause_of, StopsBy}
 use Rattle.bitmap_input.specs.Reading.Cause.{Says, Device, Memory}

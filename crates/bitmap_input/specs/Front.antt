@@ -2,7 +2,7 @@
 -- "pbm" and "pgm"): the parts of a page one after another, as far as each is there and passes its checks.
 use Rattle.std.specs.Prelude.{ℕ, ◌-◌, ◌*◌, Bool, true, false, ◌&&◌, ◌||◌, List, [], ◌∷◌, length, take, if◌then◌else◌, nat_eq, nat_lt, Option, Some, None}
 use Rattle.bitmap_input.specs.Cut.{Ending, Cut, ◌>>=◌}
-use Rattle.bitmap_input.specs.Cut.Kind.{UnknownFormat, BadHeader, ZeroSide, TooLarge, BadRaster}
+use Rattle.bitmap_input.specs.Cut.Kind.{UnknownFormat, BadHeader, BadRaster}
 use Rattle.bitmap_input.specs.Cut.Ending.{End, Trailing, Refused}
 use Rattle.bitmap_input.specs.Cut.Cut.{Takes, Stops}
 use Rattle.bitmap_input.specs.Parts.{is_zero, spaces, gap, number_behind_gap, space, pixel, block, times}

@@ -4,6 +4,7 @@
 ghost use Rattle.std.specs.Prelude.{◌≤◌};
 
 mod bmp;
+mod bmp_refusals;
 mod gray;
 
 use crate::fault::InFault;

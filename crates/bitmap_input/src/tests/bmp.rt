@@ -1,5 +1,5 @@
 //! BMP pictures.
-use super::answers;
+use super::{answers, half};
 use pt_base::mem_inputs::InCall;
 use std::alloc::Global;
 use std::test::Fail;
@@ -7,16 +7,31 @@ use threshold_map::level::Level;
 
 /// What the header of a picture says.
 #[derive(Clone, Copy, Debug)]
-struct Form {
-    file_size: u32,
-    pixel_offset: u32,
-    header_size: u32,
-    width: u32,
-    height: u32,
-    planes: u32,
-    bits: u32,
-    compression: u32,
-    colors_used: u32,
+pub(super) struct Form {
+    pub(super) file_size: u32,
+    pub(super) pixel_offset: u32,
+    pub(super) header_size: u32,
+    pub(super) width: u32,
+    pub(super) height: u32,
+    pub(super) planes: u32,
+    pub(super) bits: u32,
+    pub(super) compression: u32,
+    pub(super) colors_used: u32,
+}
+
+/// Three by two pixels of one bit, from below, whose rows begin at this place.
+pub(super) fn small(pixel_offset: u32) -> Form {
+    Form {
+        file_size: 0,
+        pixel_offset,
+        header_size: 40,
+        width: 3,
+        height: 2,
+        planes: 1,
+        bits: 1,
+        compression: 0,
+        colors_used: 0,
+    }
 }
 
 fn push_two(bytes: &mut Vec<u8>, n: u32) -> Result<(), Fail> {
@@ -27,8 +42,7 @@ fn push_two(bytes: &mut Vec<u8>, n: u32) -> Result<(), Fail> {
 
 fn push_four(bytes: &mut Vec<u8>, n: u32) -> Result<(), Fail> {
     push_two(bytes, n % 65536)?;
-    push_two(bytes, n / 65536)?;
-    Ok(())
+    push_two(bytes, n / 65536)
 }
 
 /// The fields behind the header's size, in a header of more than 12 bytes.
@@ -38,8 +52,8 @@ fn push_long(bytes: &mut Vec<u8>, form: &Form) -> Result<(), Fail> {
     push_two(bytes, form.planes)?;
     push_two(bytes, form.bits)?;
     push_four(bytes, form.compression)?;
-    for _i in 0..3u32 {
-        push_four(bytes, 0)?;
+    for _i in 0..12u32 {
+        bytes.push(0)?;
     }
     push_four(bytes, form.colors_used)?;
     push_four(bytes, 0)?;
@@ -52,7 +66,7 @@ fn push_long(bytes: &mut Vec<u8>, form: &Form) -> Result<(), Fail> {
 }
 
 /// A picture's header, and then what stands behind it.
-fn picture(alloc: Global, form: &Form, behind: &[&[u8]]) -> Result<Vec<u8>, Fail> {
+pub(super) fn picture(alloc: Global, form: &Form, behind: &[&[u8]]) -> Result<Vec<u8>, Fail> {
     let mut bytes = Vec::from_slice(alloc, b"BM")?;
     push_four(&mut bytes, form.file_size)?;
     push_four(&mut bytes, 0)?;
@@ -72,23 +86,20 @@ fn picture(alloc: Global, form: &Form, behind: &[&[u8]]) -> Result<Vec<u8>, Fail
     Ok(bytes)
 }
 
-/// Three by two pixels of one bit, from below.
-const SMALL: Form = Form {
-    file_size: 0,
-    pixel_offset: 62,
-    header_size: 40,
-    width: 3,
-    height: 2,
-    planes: 1,
-    bits: 1,
-    compression: 0,
-    colors_used: 0,
-};
+/// Whether the reader answers so on a file, however many bytes a read gives.
+pub(super) fn tells(alloc: Global, bytes: &[u8], text: &str) -> Result<bool, Fail> {
+    let whole = answers(alloc, bytes, 65536, &[], &half(), false)?;
+    let single = answers(alloc, bytes, 1, &[], &half(), false)?;
+    Ok(whole.as_str() == text && single.as_str() == text)
+}
 
 // Black is colour 0, and white colour 1.
-const LONG_PALETTE: &[u8] = b"\x00\x00\x00\x00\xff\xff\xff\x00";
+pub(super) const PALETTE: &[u8] = b"\0\0\0\0\xff\xff\xff\0";
 
-const SHORT_PALETTE: &[u8] = b"\x00\x00\x00\xff\xff\xff";
+// The rows of the picture with one bit, and bits past the width.
+pub(super) const LOW: &[u8] = b"\xbf\x55\x55\x55";
+
+const HIGH: &[u8] = b"\x5f\x55\x55\x55";
 
 // #.#
 // .#.
@@ -97,114 +108,79 @@ const CHECKERS: &str = "#.#/.#./ end";
 // The same picture upside down.
 const TURNED: &str = ".#./#.#/ end";
 
-fn tell(alloc: Global, bytes: &[u8]) -> Result<String, Fail> {
-    answers(alloc, bytes, 65536, &[], &Level::from_micro(500000), false)
-}
-
-fn tell_by_byte(alloc: Global, bytes: &[u8], fails: &[InCall]) -> Result<String, Fail> {
-    answers(alloc, bytes, 1, fails, &Level::from_micro(500000), false)
+/// A picture of two rows, with unused bytes behind the first colours of its palette.
+fn painted(
+    alloc: Global,
+    form: &Form,
+    palette: &[u8],
+    unused: u32,
+    first: &[u8],
+    second: &[u8],
+) -> Result<Vec<u8>, Fail> {
+    let mut bytes = picture(alloc, form, &[palette])?;
+    for _i in 0..unused {
+        bytes.push(0)?;
+    }
+    bytes.extend_from_slice(first)?;
+    bytes.extend_from_slice(second)?;
+    Ok(bytes)
 }
 
 #[test]
 fn each_depth(rt: HostRuntime) -> Result<(), Fail> {
-    let table: [(u32, u32, usize, &[u8], &[u8], &[u8]); 5] = [
-        (
-            1,
-            62,
-            0,
-            LONG_PALETTE,
-            b"\xbf\x55\x55\x55",
-            b"\x5f\x55\x55\x55",
-        ),
+    let low = b"\xff\xff\xff\0\0\0\xff\xff\xff\x55\x55\x55";
+    let high = b"\0\0\0\xff\xff\xff\0\0\0\x55\x55\x55";
+    let low_four = b"\xff\xff\xff\0\0\0\0\xff\xff\xff\xff\x55";
+    let high_four = b"\0\0\0\xff\xff\xff\xff\0\0\0\0\xff";
+    let table: [(u32, u32, u32, &[u8], &[u8], &[u8]); 5] = [
+        (1, 62, 0, PALETTE, LOW, HIGH),
         (
             4,
             118,
             56,
-            LONG_PALETTE,
+            PALETTE,
             b"\x10\x1f\x55\x55",
             b"\x01\x0f\x55\x55",
         ),
-        (
-            8,
-            1078,
-            1016,
-            LONG_PALETTE,
-            b"\x01\x00\x01\x55",
-            b"\x00\x01\x00\x55",
-        ),
-        (
-            24,
-            54,
-            0,
-            b"",
-            b"\xff\xff\xff\0\0\0\xff\xff\xff\x55\x55\x55",
-            b"\0\0\0\xff\xff\xff\0\0\0\x55\x55\x55",
-        ),
-        (
-            32,
-            54,
-            0,
-            b"",
-            b"\xff\xff\xff\0\0\0\0\xff\xff\xff\xff\x55",
-            b"\0\0\0\xff\xff\xff\xff\0\0\0\0\xff",
-        ),
+        (8, 1078, 1016, PALETTE, b"\x01\0\x01\x55", b"\0\x01\0\x55"),
+        (24, 54, 0, b"", low, high),
+        (32, 54, 0, b"", low_four, high_four),
     ];
     for (bits, pixel_offset, unused, palette, low, high) in table {
-        let form = Form {
-            bits,
-            pixel_offset,
-            ..SMALL
-        };
-        let top_down = Form {
-            height: 4294967294,
-            ..form
-        };
-        let unused = vec![in rt.alloc(); 0u8; unused]?;
-        let below = picture(rt.alloc(), &form, &[palette, &unused, low, high])?;
-        let above = picture(rt.alloc(), &top_down, &[palette, &unused, high, low])?;
-        let turned = picture(rt.alloc(), &form, &[palette, &unused, high, low])?;
-        for (bytes, text) in [(&below, CHECKERS), (&above, CHECKERS), (&turned, TURNED)] {
-            assert_eq!(rt; tell(rt.alloc(), bytes)?.as_str(), text, "{bits} bits");
-            assert_eq!(rt;
-                tell_by_byte(rt.alloc(), bytes, &[])?.as_str(),
-                text,
-                "{bits} bits"
-            );
-        }
+        let mut form = small(pixel_offset);
+        form.bits = bits;
+        let below = painted(rt.alloc(), &form, palette, unused, low, high)?;
+        assert!(rt; tells(rt.alloc(), &below, CHECKERS)?, "{bits} bits");
+        let turned = painted(rt.alloc(), &form, palette, unused, high, low)?;
+        assert!(rt; tells(rt.alloc(), &turned, TURNED)?, "{bits} bits");
+        form.height = 4294967294;
+        let above = painted(rt.alloc(), &form, palette, unused, high, low)?;
+        assert!(rt; tells(rt.alloc(), &above, CHECKERS)?, "{bits} bits");
     }
     Ok(())
 }
 
 #[test]
 fn each_header(rt: HostRuntime) -> Result<(), Fail> {
-    let table: [(u32, u32, u32, u32, &[u8], &str); 9] = [
-        (12, 32, 1, 0, SHORT_PALETTE, CHECKERS),
-        (40, 62, 1, 0, LONG_PALETTE, CHECKERS),
-        (52, 74, 1, 0, LONG_PALETTE, CHECKERS),
-        (56, 78, 1, 0, LONG_PALETTE, CHECKERS),
-        (108, 130, 1, 0, LONG_PALETTE, CHECKERS),
-        (124, 146, 1, 0, LONG_PALETTE, CHECKERS),
+    let table: [(u32, u32, u32, &[u8], &str); 9] = [
+        (12, 32, 0, b"\0\0\0\xff\xff\xff", CHECKERS),
+        (40, 62, 0, PALETTE, CHECKERS),
+        (52, 74, 0, PALETTE, CHECKERS),
+        (56, 78, 0, PALETTE, CHECKERS),
+        (108, 130, 0, PALETTE, CHECKERS),
+        (124, 146, 0, PALETTE, CHECKERS),
+        (40, 62, 2, PALETTE, CHECKERS),
         // Bytes between the palette and the rows are passed over.
-        (40, 65, 1, 0, b"\0\0\0\0\xff\xff\xff\0xyz", CHECKERS),
+        (40, 65, 0, b"\0\0\0\0\xff\xff\xff\0xyz", CHECKERS),
         // A palette of one colour, which is white; past it there is black.
-        (40, 58, 1, 1, b"\xff\xff\xff\0", ".#./#.#/ end"),
-        (40, 62, 1, 2, LONG_PALETTE, CHECKERS),
+        (40, 58, 1, b"\xff\xff\xff\0", TURNED),
     ];
-    for (header_size, pixel_offset, planes, colors_used, palette, text) in table {
-        let form = Form {
-            header_size,
-            pixel_offset,
-            planes,
-            colors_used,
-            ..SMALL
-        };
-        let bytes = picture(
-            rt.alloc(),
-            &form,
-            &[palette, b"\xbf\x55\x55\x55", b"\x5f\x55\x55\x55"],
-        )?;
-        let told = tell(rt.alloc(), &bytes)?;
-        assert_eq!(rt; told.as_str(), text, "{form:?}");
+    for (header_size, pixel_offset, colors_used, palette, text) in table {
+        let mut form = small(pixel_offset);
+        form.header_size = header_size;
+        form.colors_used = colors_used;
+        let bytes = picture(rt.alloc(), &form, &[palette, LOW, HIGH])?;
+        assert!(rt; tells(rt.alloc(), &bytes, text)?, "{form:?}");
     }
     Ok(())
 }
@@ -212,13 +188,10 @@ fn each_header(rt: HostRuntime) -> Result<(), Fail> {
 // A pixel of red, and one of yellow, whose mean is two thirds of white.
 #[test]
 fn colors_at_the_level(rt: HostRuntime) -> Result<(), Fail> {
-    let form = Form {
-        width: 2,
-        height: 1,
-        bits: 24,
-        pixel_offset: 54,
-        ..SMALL
-    };
+    let mut form = small(54);
+    form.width = 2;
+    form.height = 1;
+    form.bits = 24;
     let bytes = picture(rt.alloc(), &form, &[b"\0\0\xff\0\xff\xff\x55\x55"])?;
     let table = [
         (0, false, "../ end"),
@@ -242,265 +215,27 @@ const TWO_HIGH: &[u8] =
 
 #[test]
 fn cut_pictures(rt: HostRuntime) -> Result<(), Fail> {
-    for (first, last, text) in [
-        (0, 1, "unknown format"),
-        (2, 61, "truncated"),
-        (62, 62, "#/./ end"),
-    ] {
-        for n in first..=last {
-            if let Some(part) = TWO_HIGH.get(..n) {
-                let told = tell_by_byte(rt.alloc(), part, &[])?;
-                assert_eq!(rt; told.as_str(), text, "{n} bytes");
-            }
+    for n in 0..63usize {
+        let text = if n < 2 {
+            "unknown format"
+        } else if n < 62 {
+            "truncated"
+        } else {
+            "#/./ end"
+        };
+        if let Some(part) = TWO_HIGH.get(..n) {
+            assert!(rt; tells(rt.alloc(), part, text)?, "{n} bytes");
         }
     }
-    for (k, text) in [
+    let table = [
         (1, "read fault"),
-        (20, "read fault"),
         (62, "read fault"),
         (63, "#/./ read fault"),
         (64, "#/./ end"),
-    ] {
-        let told = tell_by_byte(rt.alloc(), TWO_HIGH, &[InCall::Read(k)])?;
+    ];
+    for (k, text) in table {
+        let told = answers(rt.alloc(), TWO_HIGH, 1, &[InCall::Read(k)], &half(), false)?;
         assert_eq!(rt; told.as_str(), text, "read {k} fails");
-    }
-    Ok(())
-}
-
-#[test]
-fn refused_pictures(rt: HostRuntime) -> Result<(), Fail> {
-    let kind = "unsupported BMP kind";
-    let table = [
-        (
-            Form {
-                header_size: 0,
-                ..SMALL
-            },
-            kind,
-        ),
-        (
-            Form {
-                header_size: 64,
-                ..SMALL
-            },
-            kind,
-        ),
-        (
-            Form {
-                header_size: 4294967295,
-                ..SMALL
-            },
-            kind,
-        ),
-        (Form { planes: 0, ..SMALL }, kind),
-        (Form { planes: 2, ..SMALL }, kind),
-        (Form { bits: 0, ..SMALL }, kind),
-        (Form { bits: 16, ..SMALL }, kind),
-        (
-            Form {
-                bits: 8,
-                compression: 1,
-                ..SMALL
-            },
-            kind,
-        ),
-        (
-            Form {
-                bits: 24,
-                compression: 3,
-                ..SMALL
-            },
-            kind,
-        ),
-        (
-            Form {
-                bits: 32,
-                compression: 6,
-                ..SMALL
-            },
-            kind,
-        ),
-        (
-            Form {
-                colors_used: 3,
-                ..SMALL
-            },
-            kind,
-        ),
-        (
-            Form {
-                bits: 8,
-                colors_used: 4294967295,
-                ..SMALL
-            },
-            kind,
-        ),
-        (
-            Form {
-                bits: 16,
-                width: 0,
-                ..SMALL
-            },
-            kind,
-        ),
-        (
-            Form {
-                width: 0,
-                pixel_offset: 0,
-                ..SMALL
-            },
-            "zero side",
-        ),
-        (
-            Form {
-                width: 2147483648,
-                height: 2147483648,
-                ..SMALL
-            },
-            "zero side",
-        ),
-        (
-            Form {
-                width: 20000,
-                height: 0,
-                ..SMALL
-            },
-            "zero side",
-        ),
-        (
-            Form {
-                width: 16385,
-                pixel_offset: 0,
-                ..SMALL
-            },
-            "side too large",
-        ),
-        (
-            Form {
-                height: 16385,
-                ..SMALL
-            },
-            "side too large",
-        ),
-        (
-            Form {
-                height: 2147483648,
-                ..SMALL
-            },
-            "side too large",
-        ),
-        (
-            Form {
-                height: 4294950911,
-                ..SMALL
-            },
-            "side too large",
-        ),
-        (
-            Form {
-                pixel_offset: 61,
-                ..SMALL
-            },
-            "bad BMP offset",
-        ),
-        (
-            Form {
-                pixel_offset: 0,
-                ..SMALL
-            },
-            "bad BMP offset",
-        ),
-        (Form { bits: 8, ..SMALL }, "bad BMP offset"),
-        (
-            Form {
-                bits: 24,
-                pixel_offset: 53,
-                ..SMALL
-            },
-            "bad BMP offset",
-        ),
-        (
-            Form {
-                pixel_offset: 4294967295,
-                ..SMALL
-            },
-            "truncated",
-        ),
-        (
-            Form {
-                bits: 8,
-                pixel_offset: 1078,
-                file_size: 4294967295,
-                ..SMALL
-            },
-            "truncated",
-        ),
-        (
-            Form {
-                width: 16384,
-                height: 1,
-                ..SMALL
-            },
-            "truncated",
-        ),
-        (
-            Form {
-                width: 1,
-                height: 4294950912,
-                ..SMALL
-            },
-            "truncated",
-        ),
-        (
-            Form {
-                bits: 24,
-                colors_used: 4294967295,
-                ..SMALL
-            },
-            "truncated",
-        ),
-    ];
-    for (form, text) in table {
-        let bytes = picture(rt.alloc(), &form, &[LONG_PALETTE, b"\xbf"])?;
-        let told = tell(rt.alloc(), &bytes)?;
-        assert_eq!(rt; told.as_str(), text, "{form:?}");
-    }
-    Ok(())
-}
-
-#[test]
-fn masked_pictures(rt: HostRuntime) -> Result<(), Fail> {
-    let masks: &[u8] = b"\0\0\xff\0\0\xff\0\0\xff\0\0\0";
-    let table: [(u32, u32, &[u8], &str); 5] = [
-        (40, 66, masks, "#./ end"),
-        (56, 70, b"", "#./ end"),
-        (
-            40,
-            66,
-            b"\xff\0\0\0\0\xff\0\0\0\0\xff\0",
-            "unsupported BMP kind",
-        ),
-        (40, 66, b"\0\0\xff\0\0\xff\0\0", "truncated"),
-        (40, 65, masks, "bad BMP offset"),
-    ];
-    for (header_size, pixel_offset, masks, text) in table {
-        let form = Form {
-            width: 2,
-            height: 1,
-            bits: 32,
-            compression: 3,
-            header_size,
-            pixel_offset,
-            ..SMALL
-        };
-        let pixels: &[u8] = if text == "truncated" {
-            b""
-        } else {
-            b"\0\0\0\xff\xff\xff\xff\0"
-        };
-        let bytes = picture(rt.alloc(), &form, &[masks, pixels])?;
-        let told = tell(rt.alloc(), &bytes)?;
-        assert_eq!(rt; told.as_str(), text, "{form:?}");
     }
     Ok(())
 }
@@ -515,54 +250,18 @@ fn claimed_bytes(rt: HostRuntime) -> Result<(), Fail> {
         (b"", 72, b"xyzP1 1 1 1", "#.#/.#./ trailing"),
         // The size counts from the magic, and not from the whitespace before it.
         (b" \n", 73, b"xyzP1 1 1 1", "#.#/.#./ #/ end"),
+        (b"", 77, b"P1 1 1 1", "#.#/.#./ trailing"),
         (b"", 78, b"P1 1 1 1", "#.#/.#./ end"),
         (b"", 79, b"P1 1 1 1", "#.#/.#./ end"),
         (b"", 4294967295, b"P1 1 1 1", "#.#/.#./ end"),
-        (b"", 77, b"P1 1 1 1", "#.#/.#./ trailing"),
     ];
     for (before, file_size, behind, text) in table {
-        let form = Form { file_size, ..SMALL };
+        let mut form = small(62);
+        form.file_size = file_size;
         let mut bytes = Vec::from_slice(rt.alloc(), before)?;
-        let page = picture(
-            rt.alloc(),
-            &form,
-            &[
-                LONG_PALETTE,
-                b"\xbf\x55\x55\x55",
-                b"\x5f\x55\x55\x55",
-                behind,
-            ],
-        )?;
+        let page = picture(rt.alloc(), &form, &[PALETTE, LOW, HIGH, behind])?;
         bytes.extend_from_slice(&page)?;
-        for told in [
-            tell(rt.alloc(), &bytes)?,
-            tell_by_byte(rt.alloc(), &bytes, &[])?,
-        ] {
-            assert_eq!(rt; told.as_str(), text, "{file_size}");
-        }
-    }
-    // A read that fails among the claimed bytes, which the second call passes over.
-    let form = Form {
-        file_size: 73,
-        ..SMALL
-    };
-    let bytes = picture(
-        rt.alloc(),
-        &form,
-        &[
-            LONG_PALETTE,
-            b"\xbf\x55\x55\x55",
-            b"\x5f\x55\x55\x55",
-            b"xyzP1 1 1 1",
-        ],
-    )?;
-    for (k, text) in [
-        (70, "read fault"),
-        (71, "#.#/.#./ read fault"),
-        (74, "#.#/.#./ read fault"),
-    ] {
-        let told = tell_by_byte(rt.alloc(), &bytes, &[InCall::Read(k)])?;
-        assert_eq!(rt; told.as_str(), text, "read {k} fails");
+        assert!(rt; tells(rt.alloc(), &bytes, text)?, "{file_size}");
     }
     Ok(())
 }

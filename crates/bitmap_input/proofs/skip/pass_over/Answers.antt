@@ -1,5 +1,5 @@
 use Rattle.std.proofs.Common.{arith, rules, refl}
-use Rattle.bitmap_input.proofs.Skipping.{skip_begins, skip_goes_on, skip_ends, skip_is_short, skip_fails, block_failed}
+use Rattle.bitmap_input.proofs.Skipping.{skip_begins, skip_goes_on, skip_ends, skip_is_short, skip_fails}
 use Rattle.bitmap_input.proofs.skip.pass_over.Goals as goal
 
 pub loop-left-init : goal.loop-left-init

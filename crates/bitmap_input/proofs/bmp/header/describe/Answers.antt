@@ -1,4 +1,4 @@
-use Rattle.std.proofs.Common.{◌≡◌, ◌<◌, refl, min, ap, ◌∙◌}
+use Rattle.std.proofs.Common.{◌<◌, refl, min, ap, ◌∙◌}
 use Rattle.bitmap_input.specs.Cut.Kind.{BadOffset}
 use Rattle.bitmap_input.specs.Cut.Ending.{Refused}
 use Rattle.bitmap_input.specs.BmpHeader.{width, height, pixel_offset, palette_end}

@@ -1,4 +1,4 @@
-use Rattle.std.proofs.Common.{◌≡◌, ◌-◌, ap}
+use Rattle.std.proofs.Common.{◌-◌, ap}
 use Rattle.bitmap_input.proofs.BmpLengths.{info_has}
 use Rattle.bitmap_input.proofs.BmpReading.{info_read}
 use Rattle.bitmap_input.proofs.bmp.header.read_info.Goals as goal

@@ -1,4 +1,4 @@
-use Rattle.std.proofs.Common.{◌≡◌, ◌∙◌}
+use Rattle.std.proofs.Common.{◌∙◌}
 use Rattle.bitmap_input.proofs.BmpLengths.{info_has, whole_has, masks_within}
 use Rattle.bitmap_input.proofs.BmpReading.{whole_read, bits_stay}
 use Rattle.bitmap_input.proofs.bmp.header.read_masks.Goals as goal

@@ -1,7 +1,4 @@
-use Rattle.std.proofs.Common.{◌≡◌, ℕ, List, sym, subst}
 use Rattle.std.proofs.lemmas.Result.{err_from_is_err_and}
-use Rattle.bitmap_input.specs.BmpRaster.{palette_color}
-use Rattle.bitmap_input.specs.BmpHead.{IsTable}
 use Rattle.bitmap_input.proofs.Telling.{reads_weaken}
 use Rattle.bitmap_input.proofs.bmp.palette.read_colors.Goals as goal
 

@@ -1,17 +1,17 @@
-use Rattle.std.proofs.Common.{sym, arith, rules, refl, ap, ◌∙◌, ◌≡◌, ◌-◌, ◌+◌, ℕ, suc, map, Bool, false, List, length}
+use Rattle.std.proofs.Common.{sym, arith, rules, refl, ap, ◌∙◌, ◌≡◌, ◌-◌, ◌+◌, ℕ, suc, map, Bool, false, List}
 use Rattle.std.specs.List.{range_with_len}
 use Rattle.std.proofs.lemmas.Result.{err_from_is_err_and}
 use Rattle.bit_image.specs.Image.{Image}
 use Rattle.bit_image.specs.Page.{image_of}
 use Rattle.bitmap_input.specs.Cut.Cut.{Takes}
-use Rattle.bitmap_input.specs.Raw.{Entry, black}
+use Rattle.bitmap_input.specs.Raw.{black}
 use Rattle.bitmap_input.specs.BmpRaster.{pixel_in}
 use Rattle.bitmap_input.specs.BmpHead.{bits_in, shade_in, row_place, row_bytes_by}
 use Rattle.bitmap_input.specs.Raster.{with_row, with_placed}
 use Rattle.bitmap_input.proofs.BmpStays.{color_row_stays}
 use Rattle.bitmap_input.proofs.BmpPixels.{shade_is, shades_are, placed_painted}
 use Rattle.bitmap_input.proofs.Telling.{reads_map, reads_stop}
-use Rattle.bitmap_input.proofs.Painting.{painting_begins, painting_goes_on, painting_stops, painting_ends}
+use Rattle.bitmap_input.proofs.Painting.{painting_goes_on, painting_stops, painting_ends}
 use Rattle.bitmap_input.proofs.bmp.pixels.read_rows.Goals as goal
 
 pub loop-i-preserved : goal.loop-i-preserved

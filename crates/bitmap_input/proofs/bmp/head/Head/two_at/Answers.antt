@@ -1,4 +1,3 @@
-use Rattle.std.proofs.Common.{arith}
 use Rattle.bitmap_input.proofs.Heads.{two_of_front}
 use Rattle.bitmap_input.proofs.bmp.head.Head.two_at.Goals as goal
 
