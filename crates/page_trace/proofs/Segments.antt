@@ -6,7 +6,7 @@ use Rattle.pt_base.specs.declared.point.Point.{Point}
 use Rattle.least_walk.specs.LeastWalk.{IsWalk, Step, steps_from, walk_from}
 use Rattle.least_walk.proofs.Going.{length-steps_from}
 use Rattle.polygon_optimal.specs.Polygon.{IsSegment}
-use Rattle.vertex_adjust.specs.Vertex.{IsPolygonOf, IsSegmentOf, end_of}
+use Rattle.vertex_adjust.specs.Vertex.{IsPolygonAlong, IsSegmentOf, end_of}
 
 -- step number k leads from index number k to the one after it
 step_at : (i : ℕ) (rest : List ℕ) (n k : ℕ) (d : Step) → k < suc (length rest)
@@ -60,7 +60,7 @@ segment_at points (i ∷ rest) k walk within =
     subst Q (end_is points i rest k (starts_at_zero (length points) i rest (IsSegment points) walk) within) step
 
 pub is_polygon : (points : List Point) (at : List ℕ) → 0 < length points → IsWalk (length points) (IsSegment points) (walk_from at (length points))
-    → IsPolygonOf points at
+    → IsPolygonAlong points at
 is_polygon points [] some walk = absurd (starts_somewhere (length points) (IsSegment points) some walk)
 is_polygon points (i ∷ rest) some walk = record {
   some = omega arith;
