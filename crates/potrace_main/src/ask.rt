@@ -163,11 +163,8 @@ fn are_ending(words: &[String], backend: Backend) -> bool
 {
     match backend {
         Backend::Svg => are_drawing(words),
-        Backend::Eps
-        | Backend::Dxf
-        | Backend::GeoJson
-        | Backend::Points
-        | Backend::Polygons => words.is_empty(),
+        Backend::Eps | Backend::Dxf | Backend::GeoJson | Backend::Points | Backend::Polygons =>
+            words.is_empty(),
     }
 }
 

@@ -7,7 +7,7 @@ use Rattle.std.proofs.Math.Pow.{pow_mono}
 use Rattle.std.specs.Int.Count.{count_leading_zeros}
 use Rattle.std.proofs.lemmas.Nat.{mul-le}
 use Rattle.std.proofs.lemmas.Bool.Decides.{nat_tests}
-use Rattle.pt_base.specs.Root.{IsRoot, root_of, root_after}
+use Rattle.pt_base.specs.Root.{IsRoot, root_of}
 
 -- one factor is below the mean by d, so the other is above it by no more
 product_le_below : (a d b : ℕ) → b ≤ a + d + d → a * b ≤ (a + d) * (a + d)

@@ -1,9 +1,9 @@
 -- Lists of pairs, and the parts of a decimal number's text.
-use Rattle.std.proofs.Common.{rules, ◌≡◌, ◌⊎◌, ℕ, zero, suc, ◌+◌, ◌*◌, ◌-◌, ◌^◌, ◌<◌, ◌≤◌, List, [], ◌∷◌, ◌++◌, length, take, drop, zip, get_or, refl, ap, sym, ◌∙◌, subst, cond, Bool, true, false, not, nat_lt, nat_eq, Option, Some, None, inl, inr, arith, length-append, Result, Ok, Err, flat_map, append_assoc, add-one, length-drop}
+use Rattle.std.proofs.Common.{◌≡◌, ℕ, zero, suc, ◌+◌, ◌*◌, ◌-◌, ◌^◌, ◌<◌, ◌≤◌, List, [], ◌∷◌, ◌++◌, length, take, drop, zip, get_or, refl, ap, sym, ◌∙◌, subst, cond, Bool, true, false, not, nat_lt, Option, Some, None, inl, inr, arith, length-append, Result, Ok, Err, flat_map, append_assoc, add-one, length-drop}
 use Rattle.std.specs.Result.{IfOk, OnErr}
 use Rattle.std.proofs.lemmas.List.{append-nil, take_all}
 use Rattle.std.specs.Prelude.{◌==◌}
-use Rattle.std.specs.List.{All, position, position_or_len, prefix_len}
+use Rattle.std.specs.List.{All, position, position_or_len}
 use Rattle.std.proofs.lemmas.List.Elements.{All-head, All-tail}
 use Rattle.std.proofs.lemmas.Bool.{lt-ltb, le-ltb, cases_lt}
 use Rattle.std.proofs.lemmas.Bool.Decides.{nat_tests}

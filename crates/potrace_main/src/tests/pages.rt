@@ -84,6 +84,47 @@ fn worked_polygons(rt: HostRuntime) -> Result<(), Fail> {
 }
 
 #[test]
+fn worked_outlines(rt: HostRuntime) -> Result<(), Fail> {
+    let square = b"P4 8 8\n\xff\xff\xff\xff\xff\xff\xff\xff";
+    let round =
+        "M40 80 c-40 0 -40 0 -40 -40 c0 -40 0 -40 40 -40 c40 0 40 0 40 40 c0 40 0 40 -40 40 z";
+    let sharp = "M40 80 l-40 0 l0 -40 l0 -40 l40 0 l40 0 l0 40 l0 40 l-40 0 z";
+    let dot = "M5 10 c-3 0 -5 -2 -5 -5 c0 -3 2 -5 5 -5 c3 0 5 2 5 5 c0 3 -2 5 -5 5 z";
+    let cases: [(&str, &[u8], u32, &str); 4] = [
+        (
+            "-b svg -z minority -t 2 -a 1.000001 -n --flat",
+            square,
+            8,
+            round,
+        ),
+        // The sharpness of all four vertices is exactly 1.
+        ("-b svg -z minority -t 2 -n --flat", square, 8, sharp),
+        ("-b svg -z minority -t 0 -n --flat", b"P1 1 1 1\n", 1, dot),
+        (
+            "-b svg -z minority -t 0 -k 0.4 -i -a 1 -n --flat",
+            b"P2 1 1 10 5",
+            1,
+            dot,
+        ),
+    ];
+    for (words, input, side, path) in cases {
+        let head =
+            "<?xml version=\"1.0\" standalone=\"no\"?>\n<svg version=\"1.0\" xmlns=\"http://www.w3.org/2000/svg\"";
+        let text = format!(in rt.alloc();
+            "{head} width=\"{side}pt\" height=\"{side}pt\" viewBox=\"0 0 {side}0 {side}0\">\n<g transform=\"translate(0,{side}0) scale(1,-1)\" fill=\"#000000\" stroke=\"none\">\n<path fill-rule=\"evenodd\" d=\"{path}\"/>\n</g>\n</svg>\n"
+        )?;
+        let done = Case::new(words, input).run(&rt, rt.alloc())?;
+        expect(&rt, &done, 0, &[text.as_str()], "");
+    }
+    // No path is drawn where no path is left.
+    let done = Case::new("-b svg -z minority -t 2 -n --flat", b"P1 1 1 1\n").run(&rt, rt.alloc())?;
+    let text =
+        "<?xml version=\"1.0\" standalone=\"no\"?>\n<svg version=\"1.0\" xmlns=\"http://www.w3.org/2000/svg\" width=\"1pt\" height=\"1pt\" viewBox=\"0 0 10 10\">\n<g transform=\"translate(0,10) scale(1,-1)\" fill=\"#000000\" stroke=\"none\">\n</g>\n</svg>\n";
+    expect(&rt, &done, 0, &[text], "");
+    Ok(())
+}
+
+#[test]
 fn levels_and_inversion(rt: HostRuntime) -> Result<(), Fail> {
     let white = "points 2 1 0\n";
     let left = "points 2 1 1\n+ 1 0,1 0,0 1,0 1,1\n";
@@ -105,6 +146,30 @@ fn levels_and_inversion(rt: HostRuntime) -> Result<(), Fail> {
         let done = Case::new(words, input).run(&rt, rt.alloc())?;
         expect(&rt, &done, 0, &[text], "");
     }
+    Ok(())
+}
+
+#[test]
+fn pictures(rt: HostRuntime) -> Result<(), Fail> {
+    let head = b"\x42\x4d\x3e\0\0\0\0\0\0\0\x36\0\0\0\x28\0\0\0\x01\0\0\0\xfe\xff\xff\xff\x01\0";
+    let sizes = b"\x08\0\0\0\0\0\0\0\0\0\0\0\0\0\0\0\0\0\0\0";
+    let mut picture = Vec::from_slice(rt.alloc(), head)?;
+    picture.extend_from_slice(b"\x18\0\0\0\0\0")?;
+    picture.extend_from_slice(sizes)?;
+    picture.extend_from_slice(b"\0\0\0\0\xff\xff\xff\0")?;
+    let done = Case::new(LEFT, &picture).run(&rt, rt.alloc())?;
+    expect(&rt, &done, 0, &["points 1 2 1\n+ 1 0,2 0,1 1,1 1,2\n"], "");
+    let mut packed = Vec::from_slice(rt.alloc(), head)?;
+    packed.extend_from_slice(b"\x08\0\x01\0\0\0")?;
+    packed.extend_from_slice(sizes)?;
+    let done = Case::new(LEFT, &packed).run(&rt, rt.alloc())?;
+    expect(
+        &rt,
+        &done,
+        2,
+        &[],
+        "potrace: -: page 1: unsupported BMP kind\n",
+    );
     Ok(())
 }
 
@@ -191,6 +256,13 @@ fn other_words(rt: HostRuntime) -> Result<(), Fail> {
         "-b points -z left -t 0 x",
         "-z left -b points -t 0",
         "-b svg -z left -t 0",
+        "-b svg -z left -t 0 -n",
+        "-b svg -z left -t 0 --flat -n",
+        "-b svg -z left -t 0 -n --flat -a 1",
+        "-b svg -z left -t 0 -a 1000.000001 -n --flat",
+        "-b points -z left -t 0 -n --flat",
+        "-b eps -z left -t 0 -n --flat",
+        "-b points -z left -t 0 -a 1 -i",
         "-b points -z random -t 0",
         "-b points -z left -t 1000000001",
         "-b points -z left -t -1",

@@ -1,9 +1,7 @@
-use Rattle.std.proofs.Common.{◌≡◌, ◌≤◌, ◌*◌, ◌^◌, ℕ, subst, sym, ◌∙◌, Some, None, arith, length}
+use Rattle.std.proofs.Common.{◌≡◌, ◌≤◌, sym, ◌∙◌, Some, None, arith, length}
 use Rattle.std.specs.Prelude.{◌==◌}
 use Rattle.std.specs.List.{position}
-use Rattle.std.specs.Result.{IfOk, OnErr}
-use Rattle.pt_base.specs.Micro.{IsMicro}
-use Rattle.pt_base.proofs.Texts.{behind, if_ok_map, on_err_map, micro_at_point, micro_alone, parted, whole_alone}
+use Rattle.pt_base.proofs.Texts.{behind, if_ok_map, on_err_map, micro_at_point, parted, whole_alone}
 use Rattle.pt_base.proofs.decimal.read_micro.Goals as goal
 
 pub returns-in-Some-clause-ok : goal.returns-in-Some-clause-ok

@@ -1,4 +1,4 @@
-use Rattle.std.proofs.Common.{◌<◌, ◌^◌, arith}
+use Rattle.std.proofs.Common.{arith}
 use Rattle.pt_base.proofs.Texts.{digits_fit}
 use Rattle.pt_base.proofs.decimal.value_of.Goals as goal
 

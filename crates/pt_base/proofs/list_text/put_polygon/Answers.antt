@@ -1,5 +1,5 @@
 use Rattle.pt_base.specs.PolygonsText.{counts_text, index_text, kind_text}
-use Rattle.std.proofs.Common.{ap, codes, flat_map, length, ◌∙◌}
+use Rattle.std.proofs.Common.{codes, flat_map, length}
 use Rattle.pt_base.proofs.Texts.{four_appended}
 use Rattle.pt_base.proofs.list_text.put_polygon.Goals as goal
 

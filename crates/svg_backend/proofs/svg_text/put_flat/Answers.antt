@@ -1,5 +1,4 @@
-use Rattle.std.proofs.Common.{◌≡◌, ◌∷◌, ap, sym, ◌∙◌}
-use Rattle.svg_backend.specs.SvgText.{flat_text}
+use Rattle.std.proofs.Common.{◌≡◌, ◌∷◌}
 use Rattle.svg_backend.proofs.Appending.{four}
 use Rattle.svg_backend.proofs.svg_text.put_flat.Goals as goal
 

@@ -1,4 +1,4 @@
-use Rattle.std.proofs.Common.{◌≡◌, get_or, sym}
+use Rattle.std.proofs.Common.{sym}
 use Rattle.svg_backend.specs.SvgText.{group_text}
 use Rattle.svg_backend.proofs.Appending.{one_more}
 use Rattle.svg_backend.proofs.svg_text.put_groups.Goals as goal

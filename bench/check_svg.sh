@@ -1,0 +1,35 @@
+#!/usr/bin/env bash
+# Traces a scan to SVG, and has two other programs read it: xmllint, whether it is well-formed XML, and
+# rsvg-convert, which draws it. Puts the scan and the drawing side by side into docs/pictures.
+#
+# usage: bench/check_svg.sh
+#
+# It needs Debian's packages libxml2-utils, librsvg2-bin and imagemagick, and python3. It is no part of
+# the gate.
+set -euo pipefail
+
+top=$(cd "$(dirname "$(readlink -f "${BASH_SOURCE[0]}")")/.." && pwd)
+for tool in xmllint rsvg-convert convert python3; do
+  command -v "$tool" >/dev/null || { echo "check_svg: $tool is missing" >&2; exit 2; }
+done
+work=$(mktemp -d)
+trap 'rm -rf "$work"' EXIT
+
+python3 "$top/bench/make_scan.py" >"$work/scan.pbm"
+"$top/potrace" -b svg -z minority -t 2 -n --flat <"$work/scan.pbm" >"$work/scan.svg"
+xmllint --noout "$work/scan.svg"
+rsvg-convert --width 2480 --background-color white "$work/scan.svg" >"$work/drawn.png" 2>"$work/said"
+if [ -s "$work/said" ]; then
+  cat "$work/said" >&2
+  exit 1
+fi
+size=$(wc -c <"$work/scan.svg")
+differ=$(convert "$work/scan.pbm" "$work/drawn.png" -colorspace Gray -threshold 50% -compose difference -composite -format '%[fx:mean*w*h]' info:)
+echo "well-formed and drawn: $size bytes, and $differ of $((2480 * 3508)) pixels differ at half black"
+
+# A few letters, four times as large: pixels on the left, outlines on the right.
+mkdir -p "$top/docs/pictures"
+convert "$work/scan.pbm" -crop 130x90+120+170 +repage -filter point -resize 400% "$work/pixels.png"
+rsvg-convert --width 9920 --background-color white "$work/scan.svg" >"$work/large.png"
+convert "$work/large.png" -crop 520x360+480+680 +repage "$work/curves.png"
+convert "$work/pixels.png" "$work/curves.png" -bordercolor '#999999' -border 2 +append -colors 16 "$top/docs/pictures/scan.png"
