@@ -8,8 +8,8 @@ ghost use Rattle.prefix_moments.specs.Table.{raw_of, IsRawOf, IsTable, offsets_o
 
 use crate::raw::{Raw, moved, moved_products, spread};
 use crate::sums::Sums;
-use pt_base::limits::{LONGEST_SIDE, MOST_STEPS};
 use pt_base::fault::NoMemory;
+use pt_base::limits::{LONGEST_SIDE, MOST_STEPS};
 use pt_base::point::Point;
 use pt_base::root::isqrt;
 use std::alloc::Global;
