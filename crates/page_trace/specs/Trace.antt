@@ -1,6 +1,6 @@
 -- What is traced of a page: its paths without the speckles (Selinger, "Potrace", 2003, section 2.1), the best
 -- polygon of each (section 2.2), and its adjusted vertices and smooth outline (section 2.3).
-use Rattle.std.specs.Prelude.{◌≡◌, ℕ, List, [], map, zip}
+use Rattle.std.specs.Prelude.{◌≡◌, List, [], map, zip}
 use Rattle.std.specs.List.{AllZip}
 use Rattle.pt_base.specs.declared.path.Path.{Path}
 use Rattle.pt_base.specs.declared.point.Point.{Point}

@@ -1,4 +1,4 @@
-use Rattle.std.proofs.Common.{◌≡◌, ◌<◌, ◌≤◌, ℕ, List, length, arith}
+use Rattle.std.proofs.Common.{◌<◌, ◌≤◌, ℕ, List, length, arith}
 use Rattle.std.specs.Result.{IfOk}
 use Rattle.std.proofs.Common.{Result, Ok, Err}
 use Rattle.pt_base.specs.declared.point.Point.{Point}
