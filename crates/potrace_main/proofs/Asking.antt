@@ -1,5 +1,5 @@
 -- The words ask for one thing.
-use Rattle.std.proofs.Common.{◌≡◌, ◌≢◌, ℕ, ◌≤◌, List, [], ◌∷◌, Bool, true, false, inl, inr, refl, sym, ◌∙◌, ap, subst, sum, codes, map, drop, arith}
+use Rattle.std.proofs.Common.{◌≡◌, ◌≢◌, ℕ, ◌≤◌, List, [], ◌∷◌, Bool, inl, inr, refl, sym, ◌∙◌, ap, subst, sum, codes, arith}
 use Rattle.pt_base.specs.Micro.{IsMicro}
 use Rattle.pt_base.specs.Whole.{value_after}
 use Rattle.pt_base.proofs.Texts.{one_micro}
@@ -8,7 +8,7 @@ use Rattle.pt_base.specs.declared.policy.Policy.TheVariants.{Left, Right, Black,
 use Rattle.pt_base.specs.declared.settings.Backend.{Backend}
 use Rattle.pt_base.specs.declared.settings.Backend.TheVariants.{Eps, Svg, Dxf, GeoJson, Points, Polygons}
 use Rattle.pt_base.specs.declared.settings.Settings.{Settings}
-use Rattle.potrace_main.specs.Asked.{Begins, IsAsked, IsBackend, IsDefault, IsOffered, LacksWord, TakesNumber, TakesWord, backend_word, ending, form, is_drawn, policy_word}
+use Rattle.potrace_main.specs.Asked.{Begins, IsAsked, IsBackend, IsOffered, LacksWord, TakesNumber, TakesWord, backend_word, ending, form, is_drawn, policy_word}
 use Rattle.page_trace.specs.Document.{CanWriteUnder}
 use Rattle.potrace_main.specs.declared.ask.Head.{Head}
 

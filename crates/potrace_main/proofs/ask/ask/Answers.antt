@@ -1,4 +1,4 @@
-use Rattle.std.proofs.Common.{◌≡◌, ℕ, List, codes, map, subst, sym}
+use Rattle.std.proofs.Common.{codes, map, subst, sym}
 use Rattle.std.specs.String.{string_bytes}
 use Rattle.potrace_main.specs.Asked.{TakesNumber}
 use Rattle.potrace_main.proofs.Asking.{no_alphamax, one_head}
