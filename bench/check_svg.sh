@@ -27,10 +27,8 @@ size=$(wc -c <"$work/scan.svg")
 differ=$(convert "$work/scan.pbm" "$work/drawn.png" -colorspace Gray -threshold 50% -compose difference -composite -format '%[fx:mean*w*h]' info:)
 echo "well-formed and drawn: $size bytes, and $differ of $((2480 * 3508)) pixels differ at half black"
 
-# A few letters, five times as large: the pixels above, the outlines below.
+# The first letters, five times as large: the scan's pixels above, the drawing below.
 mkdir -p "$top/docs/pictures"
-python3 "$top/bench/make_scan.py" 170 52 3 >"$work/small.pbm"
-"$top/potrace" -b svg -z minority -t 2 -n --flat <"$work/small.pbm" >"$work/small.svg"
-convert "$work/small.pbm" -filter point -resize 500% "$work/pixels.png"
-rsvg-convert --width 850 --background-color white "$work/small.svg" >"$work/curves.png"
+convert "$work/scan.pbm" -crop 170x52+116+116 +repage -filter point -resize 500% "$work/pixels.png"
+rsvg-convert --zoom 5 --left=-580 --top=-580 --page-width 850 --page-height 260 --background-color white "$work/scan.svg" >"$work/curves.png"
 convert "$work/pixels.png" "$work/curves.png" -bordercolor '#999999' -border 2 -append -colors 16 "$top/docs/pictures/scan.png"

@@ -2,4 +2,5 @@
 
 mod failing;
 mod files;
+mod formats;
 mod pages;
