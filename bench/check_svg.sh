@@ -30,5 +30,5 @@ echo "well-formed and drawn: $size bytes, and $differ of $((2480 * 3508)) pixels
 # The first letters, five times as large: the scan's pixels above, the drawing below.
 mkdir -p "$top/docs/pictures"
 convert "$work/scan.pbm" -crop 170x52+116+116 +repage -filter point -resize 500% "$work/pixels.png"
-rsvg-convert --zoom 5 --left=-580 --top=-580 --page-width 850 --page-height 260 --background-color white "$work/scan.svg" >"$work/curves.png"
+rsvg-convert --dpi-x 72 --dpi-y 72 --zoom 5 --left=-580 --top=-580 --page-width 850 --page-height 260 --background-color white "$work/scan.svg" >"$work/curves.png"
 convert "$work/pixels.png" "$work/curves.png" -bordercolor '#999999' -border 2 -append -colors 16 "$top/docs/pictures/scan.png"
