@@ -1,4 +1,4 @@
--- Lists of pairs, and the parts of a decimal number's text.
+-- The parts of a decimal number's text.
 use Rattle.std.proofs.Common.{◌≡◌, ℕ, zero, suc, ◌+◌, ◌*◌, ◌-◌, ◌^◌, ◌<◌, ◌≤◌, List, [], ◌∷◌, ◌++◌, length, take, drop, zip, get_or, refl, ap, sym, ◌∙◌, subst, cond, Bool, true, false, not, nat_lt, Option, Some, None, inl, inr, arith, length-append, Result, Ok, Err, flat_map, append_assoc, add-one, length-drop}
 use Rattle.std.specs.Result.{IfOk, OnErr}
 use Rattle.std.proofs.lemmas.List.{append-nil, take_all}
@@ -10,23 +10,6 @@ use Rattle.std.proofs.lemmas.Bool.Decides.{nat_tests}
 use Rattle.std.proofs.Math.Nat.{pow-le-pow_right}
 use Rattle.pt_base.specs.Whole.{IsDigit}
 use Rattle.pt_base.specs.Micro.{IsMicro, IsMicroOf}
-
--- the pairs from number k on
-pub drop-zip : {A B : Type 0} (xs : List A) (ys : List B) (k : ℕ) (a : A) (b : B) → k < length xs → length ys ≡ length xs
-    → drop k (zip xs ys) ≡ (get_or xs k a, get_or ys k b) ∷ drop (suc k) (zip xs ys)
-drop-zip [] ys k a b within same = absurd (omega arith)
-drop-zip (x ∷ xs) [] k a b within same = absurd (omega arith)
-drop-zip (x ∷ xs) (y ∷ ys) zero a b within same = refl
-drop-zip (x ∷ xs) (y ∷ ys) (suc k) a b within same = drop-zip xs ys k a b (omega arith) (omega arith)
-
--- none is left
-pub drop-zip-end : {A B : Type 0} (xs : List A) (ys : List B) (k : ℕ) → length xs ≤ k → drop k (zip xs ys) ≡ []
-drop-zip-end [] ys zero past = refl
-drop-zip-end [] ys (suc k) past = refl
-drop-zip-end (x ∷ xs) [] zero past = absurd (omega arith)
-drop-zip-end (x ∷ xs) [] (suc k) past = refl
-drop-zip-end (x ∷ xs) (y ∷ ys) zero past = absurd (omega arith)
-drop-zip-end (x ∷ xs) (y ∷ ys) (suc k) past = drop-zip-end xs ys k (omega arith)
 
 -- so many digits and one more fit 64 bits
 pub digits_fit : (value i : ℕ) → i < 16 → value < 10 ^ i → 10 * value + 9 < 2 ^ 64
@@ -147,25 +130,6 @@ if_ok_map (Err e) f h = h
 pub on_err_map : {A E P Q : Type 0} (r : Result A E) → (P → Q) → OnErr r P → OnErr r Q
 on_err_map (Ok a) f h = h
 on_err_map (Err e) f h = f h
-
--- one more pair, and its text
-pub one_more_pair : {A B : Type 0} (f : A × B → List ℕ) (xs : List A) (ys : List B) (k : ℕ) (out now text : List ℕ) (a : A) (b : B)
-    → k < length xs → length ys ≡ length xs → get_or xs k a ≡ a → get_or ys k b ≡ b → now ≡ out ++ f (a, b)
-    → out ++ flat_map f (drop k (zip xs ys)) ≡ text → now ++ flat_map f (drop (k + 1) (zip xs ys)) ≡ text
-one_more_pair f xs ys k out now text a b within same ea eb made so_far =
-    let e : drop k (zip xs ys) ≡ (a, b) ∷ drop (suc k) (zip xs ys) = rw (ea, eb) at (drop-zip xs ys k a b within same) in
-    rw (made, add-one, append_assoc) (ap (λ ps. out ++ flat_map f ps) (sym e) ∙ so_far)
-
--- no pair is left
-pub no_more_pairs : {A B : Type 0} (f : A × B → List ℕ) (xs : List A) (ys : List B) (k : ℕ) (out text : List ℕ)
-    → length xs ≤ k → out ++ flat_map f (drop k (zip xs ys)) ≡ text → out ≡ text
-no_more_pairs f xs ys k out text past so_far =
-    let e = drop-zip-end xs ys k past in
-    sym (append-nil out) ∙ (rw e at so_far)
-
--- four pieces, appended one after another
-pub four_appended : (out a b c d w x y z : List ℕ) → w ≡ out ++ a → x ≡ w ++ b → y ≡ x ++ c → z ≡ y ++ d → z ≡ out ++ (a ++ b ++ c ++ d)
-four_appended out a b c d w x y z ew ex ey ez = rw (ez, ey, ex, ew) (simp append_assoc)
 
 -- what stands behind place i
 pub behind : (text : List ℕ) (i : ℕ) → take (length text - (i + 1)) (drop (i + 1) text) ≡ drop (suc i) text
