@@ -4,5 +4,5 @@
 mod ask;
 mod document;
 pub mod message;
-pub mod pages;
+mod pages;
 pub mod top;
