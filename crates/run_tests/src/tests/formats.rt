@@ -1,6 +1,6 @@
 //! One picture in all formats, and a whole scan.
 
-use crate::tests::files::{Case, expect};
+use crate::tests::cases::{Case, expect};
 use std::alloc::Global;
 use std::test::Fail;
 

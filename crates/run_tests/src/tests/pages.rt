@@ -1,6 +1,6 @@
-//! Worked pages, and what is refused.
+//! Worked pages.
 
-use crate::tests::files::{Case, expect};
+use crate::tests::cases::{Case, expect};
 use std::test::Fail;
 
 const PIXEL: &str = "points 1 1 1\n+ 1 0,1 0,0 1,0 1,1\n";
@@ -116,7 +116,11 @@ fn worked_outlines(rt: HostRuntime) -> Result<(), Fail> {
         let done = Case::new(words, input).run(&rt, rt.alloc())?;
         expect(&rt, &done, 0, &[text.as_str()], "");
     }
-    // No path is drawn where no path is left.
+    Ok(())
+}
+
+#[test]
+fn no_outline(rt: HostRuntime) -> Result<(), Fail> {
     let done = Case::new("-b svg -z minority -t 2 -n --flat", b"P1 1 1 1\n").run(&rt, rt.alloc())?;
     let text =
         "<?xml version=\"1.0\" standalone=\"no\"?>\n<svg version=\"1.0\" xmlns=\"http://www.w3.org/2000/svg\" width=\"1pt\" height=\"1pt\" viewBox=\"0 0 10 10\">\n<g transform=\"translate(0,10) scale(1,-1)\" fill=\"#000000\" stroke=\"none\">\n</g>\n</svg>\n";
@@ -150,72 +154,6 @@ fn levels_and_inversion(rt: HostRuntime) -> Result<(), Fail> {
 }
 
 #[test]
-fn pictures(rt: HostRuntime) -> Result<(), Fail> {
-    let head = b"\x42\x4d\x3e\0\0\0\0\0\0\0\x36\0\0\0\x28\0\0\0\x01\0\0\0\xfe\xff\xff\xff\x01\0";
-    let sizes = b"\x08\0\0\0\0\0\0\0\0\0\0\0\0\0\0\0\0\0\0\0";
-    let mut picture = Vec::from_slice(rt.alloc(), head)?;
-    picture.extend_from_slice(b"\x18\0\0\0\0\0")?;
-    picture.extend_from_slice(sizes)?;
-    picture.extend_from_slice(b"\0\0\0\0\xff\xff\xff\0")?;
-    let done = Case::new(LEFT, &picture).run(&rt, rt.alloc())?;
-    expect(&rt, &done, 0, &["points 1 2 1\n+ 1 0,2 0,1 1,1 1,2\n"], "");
-    let mut packed = Vec::from_slice(rt.alloc(), head)?;
-    packed.extend_from_slice(b"\x08\0\x01\0\0\0")?;
-    packed.extend_from_slice(sizes)?;
-    let done = Case::new(LEFT, &packed).run(&rt, rt.alloc())?;
-    expect(
-        &rt,
-        &done,
-        2,
-        &[],
-        "potrace: -: page 1: unsupported BMP kind\n",
-    );
-    Ok(())
-}
-
-#[test]
-fn refusals(rt: HostRuntime) -> Result<(), Fail> {
-    let cases: [(&[u8], &str); 10] = [
-        (b"", "unknown format"),
-        (b"P5 1 1 0\n", "bad header"),
-        (b"P2 1 1 255x", "bad raster"),
-        (b"P6 1 1 255\n", "unknown format"),
-        (b"P4 16385 1\n", "side too large"),
-        (b"P4 0 99999\n", "zero side"),
-        (b"P1 2 1 12", "bad raster"),
-        (b"P1 1 1 x", "bad raster"),
-        (b"P1 2 1 1", "truncated"),
-        (b"P1 1 x 1", "bad header"),
-    ];
-    for (input, text) in cases {
-        let message = format!(in rt.alloc(); "potrace: -: page 1: {text}\n")?;
-        let done = Case::new(LEFT, input).run(&rt, rt.alloc())?;
-        expect(&rt, &done, 2, &[], message.as_str());
-    }
-    Ok(())
-}
-
-#[test]
-fn gaps_have_a_limit(rt: HostRuntime) -> Result<(), Fail> {
-    for (spaces, status, documents, message) in [
-        (1_048_576, 0, [PIXEL].as_slice(), ""),
-        (
-            1_048_577,
-            2,
-            [].as_slice(),
-            "potrace: -: page 1: gap too long\n",
-        ),
-    ] {
-        let mut input = Vec::from_slice(rt.alloc(), b"P1")?;
-        input.resize(2 + spaces, b' ')?;
-        input.extend_from_slice(b"1 1 1")?;
-        let done = Case::new(LEFT, &input).run(&rt, rt.alloc())?;
-        expect(&rt, &done, status, documents, message);
-    }
-    Ok(())
-}
-
-#[test]
 fn several_pages(rt: HostRuntime) -> Result<(), Fail> {
     let done = Case::new(LEFT, b"P4 1 1\n\x80P4 1 1\n\x80xyz").run(&rt, rt.alloc())?;
     expect(
@@ -225,63 +163,15 @@ fn several_pages(rt: HostRuntime) -> Result<(), Fail> {
         &[PIXEL, PIXEL],
         "potrace: -: trailing bytes after page 2\n",
     );
-    let wide = "points 2 1 1\n+ 2 0,1 0,0 1,0 2,0 2,1 1,1\n";
-    let done = Case::new(LEFT, b"P1 1 1 1 P1 2 1 11 P1 1 1 0\n").run(&rt, rt.alloc())?;
-    expect(&rt, &done, 0, &[PIXEL, wide, "points 1 1 0\n"], "");
     let done = Case::new(LEFT, b"P4 1 1\n\x80P4 8 2\n\xff").run(&rt, rt.alloc())?;
     expect(&rt, &done, 2, &[PIXEL], "potrace: -: page 2: truncated\n");
     Ok(())
 }
 
 #[test]
-fn pages_have_a_limit(rt: HostRuntime) -> Result<(), Fail> {
-    let mut input = Vec::new(rt.alloc());
-    for _ in 0..65_537 {
-        input.extend_from_slice(b"P1 1 1 1\n")?;
-    }
-    let done = Case::new("-b points -z left -t 2", &input).run(&rt, rt.alloc())?;
-    assert_eq!(rt; done.status, 2);
-    assert_eq!(rt; done.outs.count(), 65_536);
-    assert_eq!(rt;
-        done.errs.text(),
-        b"potrace: -: page 65537: too many pages\n".as_slice()
-    );
-    Ok(())
-}
-
-#[test]
-fn other_words(rt: HostRuntime) -> Result<(), Fail> {
-    for words in [
-        "-b points -z left",
-        "-b points -z left -t 0 x",
-        "-z left -b points -t 0",
-        "-b svg -z left -t 0",
-        "-b svg -z left -t 0 -n",
-        "-b svg -z left -t 0 --flat -n",
-        "-b svg -z left -t 0 -n --flat -a 1",
-        "-b svg -z left -t 0 -a 1000.000001 -n --flat",
-        "-b points -z left -t 0 -n --flat",
-        "-b eps -z left -t 0 -n --flat",
-        "-b points -z left -t 0 -a 1 -i",
-        "-b points -z random -t 0",
-        "-b points -z left -t 1000000001",
-        "-b points -z left -t -1",
-        "-b points -z left -t 0 -k 1.000001",
-        "-b points -z left -t 0 -k .",
-        "-b points -z left -t 0 -k",
-        "-b points -z left -t 0 -i -k 0.5",
-        "-b points -z left -t 0 -i -i",
-        "-b polygon -z left -t 0",
-        "",
-    ] {
-        let done = Case::new(words, b"P1 1 1 1").run(&rt, rt.alloc())?;
-        expect(
-            &rt,
-            &done,
-            1,
-            &[],
-            "potrace: bad arguments, see potrace -h\n",
-        );
-    }
+fn three_pages(rt: HostRuntime) -> Result<(), Fail> {
+    let wide = "points 2 1 1\n+ 2 0,1 0,0 1,0 2,0 2,1 1,1\n";
+    let done = Case::new(LEFT, b"P1 1 1 1 P1 2 1 11 P1 1 1 0\n").run(&rt, rt.alloc())?;
+    expect(&rt, &done, 0, &[PIXEL, wide, "points 1 1 0\n"], "");
     Ok(())
 }

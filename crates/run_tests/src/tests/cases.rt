@@ -1,6 +1,6 @@
 //! Runs over standard input in memory.
 
-use crate::top::run;
+use potrace_main::top::run;
 use pt_base::gate::NoGate;
 use pt_base::mem_inputs::{InCall, MemInputs, NamedBytes};
 use pt_base::mem_outputs::{MemOutputs, OutCall};
@@ -43,19 +43,11 @@ impl<'a> Case<'a> {
     }
 
     pub fn run<R: Threads + Sync>(&self, rt: &R, alloc: Global) -> Result<Done, Fail> {
-        let mut words = Vec::new(alloc);
-        for word in self.words.split(' ') {
-            words.push(String::from_str(alloc, word)?)?;
-        }
-        let file = NamedBytes {
-            name: String::from_str(alloc, "-")?,
-            bytes: Vec::from_slice(alloc, self.input)?,
-        };
-        let unread = Vec::from_slice(alloc, self.unread)?;
+        let words = split(alloc, self.words)?;
+        let mut inputs = self.inputs(alloc)?;
+        let most = self.most.max(1);
         let unwritten = Vec::from_slice(alloc, self.unwritten)?;
         let unsaid = Vec::from_slice(alloc, self.unsaid)?;
-        let most = self.most.max(1);
-        let mut inputs = MemInputs::new(vec![in alloc; file]?, most, unread);
         let mut outs = MemOutputs::new(alloc, most, unwritten, 65_537, 1_000_000)?;
         let mut errs = MemSink::new(alloc, most, unsaid, 1000)?;
         let status = run(
@@ -69,19 +61,42 @@ impl<'a> Case<'a> {
         );
         Ok(Done { status, outs, errs })
     }
+
+    fn inputs(&self, alloc: Global) -> Result<MemInputs, Fail> {
+        let file = NamedBytes {
+            name: String::from_str(alloc, "-")?,
+            bytes: Vec::from_slice(alloc, self.input)?,
+        };
+        let unread = Vec::from_slice(alloc, self.unread)?;
+        Ok(MemInputs::new(vec![in alloc; file]?, self.most.max(1), unread))
+    }
+}
+
+fn split(alloc: Global, text: &str) -> Result<Vec<String>, Fail> {
+    let mut words = Vec::new(alloc);
+    for word in text.split(' ') {
+        words.push(String::from_str(alloc, word)?)?;
+    }
+    Ok(words)
 }
 
 /// The run ended so, with these documents, all of them whole, and this message.
 pub fn expect(rt: &impl Abort, done: &Done, status: u8, documents: &[&str], message: &str) {
-    assert_eq!(rt; done.errs.text(), message.as_bytes());
-    assert_eq!(rt; done.status, status, "{message:?}");
-    assert_eq!(rt; done.outs.count() as usize, documents.len(), "{message:?}");
+    let count = done.outs.count() as usize;
+    assert_eq!(rt; (done.errs.text(), done.status), (message.as_bytes(), status));
+    assert_eq!(rt; count, documents.len(), "{message:?}");
     for (i, text) in documents.iter().enumerate() {
-        if i < done.outs.count() as usize {
-            let i = i as u32;
-            assert_eq!(rt; done.outs.name(i), b"-".as_slice());
-            assert_eq!(rt; done.outs.text(i), text.as_bytes(), "document {i}");
-            assert_eq!(rt; done.outs.whole(i), true, "document {i}");
+        if i < count {
+            expect_whole(rt, &done.outs, i as u32, text);
         }
+    }
+}
+
+/// The document is whole, named for standard output, and has this text.
+fn expect_whole(rt: &impl Abort, outs: &MemOutputs, i: u32, text: &str) {
+    if i < outs.count() {
+        let found = (outs.name(i), outs.text(i), outs.whole(i));
+        let wanted = (b"-".as_slice(), text.as_bytes(), true);
+        assert_eq!(rt; found, wanted, "document {i}");
     }
 }

@@ -1,18 +1,34 @@
 //! Documents that were worked out by hand.
+ghost use Rattle.std.specs.Prelude.{◌≡◌};
+ghost use Rattle.page_trace.specs.Document.{CanDraw};
 
-mod pages;
-mod plain;
-
-use crate::document::document;
-use crate::tracing::trace;
 use bit_image::bitmap::Bitmap;
-use pages::{black, drawn, numbered, settings};
-use plain::best;
+use page_samples::pages::drawn;
+use page_trace::document::document;
 use pt_base::fault::NoMemory;
 use pt_base::policy::Policy;
 use pt_base::settings::{Backend, Settings};
 use std::alloc::Global;
 use std::test::Fail;
+
+/// The settings of these options, with one path of long curves, and else the default ones.
+fn settings(backend: Backend, policy: Policy, turd: u32) -> Settings
+    ensures backend { result.backend ≡ backend }
+    ensures drawn { CanDraw result }
+{
+    Settings {
+        backend,
+        policy,
+        turd,
+        alphamax: 1_000_000,
+        long_curve: true,
+        tolerance: 200_000,
+        unit: 10,
+        flat: true,
+        level: 500_000,
+        invert: false,
+    }
+}
 
 #[test]
 fn points_of_small_pages(rt: HostRuntime) -> Result<(), Fail> {
@@ -22,7 +38,7 @@ fn points_of_small_pages(rt: HostRuntime) -> Result<(), Fail> {
         (&["##"], 1, "points 2 1 1\n+ 2 0,1 0,0 1,0 2,0 2,1 1,1\n"),
     ];
     for (rows, turd, text) in table {
-        let page = drawn(&rt, rt.alloc(), rows)?;
+        let page = drawn(rt.alloc(), rows)?;
         let given = settings(Backend::Points, Policy::Left, turd);
         let found = document(rt.alloc(), &page, &given)?;
         assert_eq!(rt; found.as_slice(), text.as_bytes(), "{text}");
@@ -51,21 +67,11 @@ fn polygons_of_small_pages(rt: HostRuntime) -> Result<(), Fail> {
         ),
     ];
     for (rows, turd, text) in table {
-        let page = drawn(&rt, rt.alloc(), rows)?;
+        let page = drawn(rt.alloc(), rows)?;
         let given = settings(Backend::Polygons, Policy::Minority, turd);
         let found = document(rt.alloc(), &page, &given)?;
         assert_eq!(rt; found.as_slice(), text.as_bytes(), "{text}");
     }
-    Ok(())
-}
-
-#[test]
-fn polygon_of_a_black_page(rt: HostRuntime) -> Result<(), Fail> {
-    let page = black(&rt, rt.alloc(), 2480, 3508)?;
-    let given = settings(Backend::Polygons, Policy::Minority, 2);
-    let found = document(rt.alloc(), &page, &given)?;
-    let text = "polygons 2480 3508 1\n+ 8699840 11976 4 0: 0 3508 5988 9496\n";
-    assert_eq!(rt; found.as_slice(), text.as_bytes());
     Ok(())
 }
 
@@ -83,7 +89,7 @@ fn outlines_of_small_pages(rt: HostRuntime) -> Result<(), Fail> {
         (&["#"], 1, 1_000_000, dot),
     ];
     for (rows, side, alphamax, path) in table {
-        let page = drawn(&rt, rt.alloc(), rows)?;
+        let page = drawn(rt.alloc(), rows)?;
         let text = svg_of(rt.alloc(), &page, alphamax)?;
         let side = side % 10;
         let whole = format!(in rt.alloc();
@@ -99,36 +105,4 @@ fn svg_of(alloc: Global, page: &Bitmap, alphamax: u32) -> Result<Vec<u8>, NoMemo
     let given = settings(Backend::Svg, Policy::Minority, 0);
     let alphamax = alphamax.min(2_000_000);
     document(alloc, page, &Settings { alphamax, ..given })
-}
-
-#[test]
-fn best_of_all_polygons(rt: HostRuntime) -> Result<(), Fail> {
-    let mut found = 0u32;
-    for number in 0..512 {
-        let page = numbered(&rt, rt.alloc(), number)?;
-        for policy in [Policy::Left, Policy::Right] {
-            let traced = trace(rt.alloc(), &page, &settings(Backend::Polygons, policy, 0))?;
-            let paths = traced.paths.as_slice();
-            let polygons = traced.polygons.as_slice();
-            assert_eq!(rt; polygons.len(), paths.len());
-            for k in 0..paths.len() {
-                let points = paths[k].points.as_slice();
-                assert!(rt; points.len() <= 24);
-                let (vertices, cost) = best(points);
-                let mut listed = 0u32;
-                for at in polygons[k].at.as_slice() {
-                    listed |= 1 << (*at % 32);
-                }
-                assert_eq!(rt; listed, vertices, "path {k} of page {number}");
-                assert_eq!(rt;
-                    polygons[k].cost,
-                    u128::from(cost),
-                    "path {k} of page {number}"
-                );
-                found = found.wrapping_add(1);
-            }
-        }
-    }
-    assert_eq!(rt; found, 1570);
-    Ok(())
 }
