@@ -28,31 +28,6 @@ polygons_more paths i path polygons more best below is so_far of_path pushed =
     subst (λ ps. AllZip IsPolygonOf ps more) taken
     (subst (AllZip IsPolygonOf (take i paths ++ path ∷ [])) (sym pushed) (all_zipped_more IsPolygonOf (take i paths) polygons path best so_far of_path))
 
--- what holds of all pairs holds of one
-pub zipped_at : {A B : Type 0} (R : A → B → Type 0) (xs : List A) (ys : List B) (k : ℕ) (a : A) (b : B) → k < length xs → AllZip R xs ys
-    → R (get_or xs k a) (get_or ys k b)
-zipped_at R [] ys k a b within all = absurd (omega arith)
-zipped_at R (x ∷ xs) [] k a b within all = absurd all
-zipped_at R (x ∷ xs) (y ∷ ys) zero a b within all = all.0
-zipped_at R (x ∷ xs) (y ∷ ys) (suc k) a b within all = zipped_at R xs ys k a b (omega arith) all.1
-
--- one more pair
-take-zip : {A B : Type 0} (xs : List A) (ys : List B) (k : ℕ) (a : A) (b : B) → k < length xs → length ys ≡ length xs
-    → take (suc k) (zip xs ys) ≡ take k (zip xs ys) ++ (get_or xs k a, get_or ys k b) ∷ []
-take-zip [] ys k a b within same = absurd (omega arith)
-take-zip (x ∷ xs) [] k a b within same = absurd (omega arith)
-take-zip (x ∷ xs) (y ∷ ys) zero a b within same = refl
-take-zip (x ∷ xs) (y ∷ ys) (suc k) a b within same = ap (λ ps. (x, y) ∷ ps) (take-zip xs ys k a b (omega arith) (omega arith))
-
-length-zip : {A B : Type 0} (xs : List A) (ys : List B) → length (zip xs ys) ≤ length xs
-length-zip [] ys = omega arith
-length-zip (x ∷ xs) [] = omega arith
-length-zip (x ∷ xs) (y ∷ ys) = omega (arith, length-zip xs ys)
-
--- all pairs
-pub take-zip-all : {A B : Type 0} (xs : List A) (ys : List B) (k : ℕ) → length xs ≤ k → take k (zip xs ys) ≡ zip xs ys
-take-zip-all xs ys k past = take_all k (zip xs ys) (omega (arith, length-zip xs ys))
-
 -- one more path and its polygon have their vertices
 pub vertices_more : (paths : List Path) (polygons : List Polygon) (k : ℕ) (path : Path) (polygon : Polygon) (lists more : List (List Point)) (vertices : List Point)
     → k < length paths → length polygons ≡ length paths → path ≡ get_or paths k path → polygon ≡ get_or polygons k polygon

@@ -10,6 +10,4 @@ pub mod laws;
 mod outlines;
 mod paths;
 mod polygons;
-#[cfg(test)]
-mod tests;
 pub mod tracing;

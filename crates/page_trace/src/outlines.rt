@@ -8,8 +8,9 @@ ghost use Rattle.page_trace.specs.Trace.{AreVerticesOf, IsPolygonOf};
 
 use corner_smooth::outline::smooth;
 use pt_base::fault::NoMemory;
-use pt_base::path::{Path, Points};
+use pt_base::path::Path;
 use pt_base::piece::Piece;
+use pt_base::point::Point;
 use pt_base::polygon::Polygon;
 use pt_base::sequence::Sequence;
 use std::alloc::Global;
@@ -20,7 +21,7 @@ pub(crate) fn all_vertices(
     alloc: Global,
     paths: &[Path],
     polygons: &[Polygon],
-) -> Result<Vec<Points>, NoMemory>
+) -> Result<Vec<Sequence<Point>>, NoMemory>
     requires closed { All (λ path. IsClosedWalk path.points) paths.now }
     requires on_page { All (λ path. AreOnPage path.points) paths.now }
     requires polygons { AllZip IsPolygonOf paths.now polygons.now }
@@ -37,7 +38,7 @@ pub(crate) fn all_vertices(
 }
 
 /// The adjusted vertices of a path's polygon.
-fn vertices(alloc: Global, path: &Path, polygon: &Polygon) -> Result<Points, NoMemory>
+fn vertices(alloc: Global, path: &Path, polygon: &Polygon) -> Result<Sequence<Point>, NoMemory>
     requires closed { IsClosedWalk path.now.points }
     requires on_page { AreOnPage path.now.points }
     requires polygon { IsPolygonOf path.now polygon.now }
@@ -51,7 +52,7 @@ fn vertices(alloc: Global, path: &Path, polygon: &Polygon) -> Result<Points, NoM
 /// The smooth outline round each list of vertices.
 pub(crate) fn all_outlines(
     alloc: Global,
-    vertices: &[Points],
+    vertices: &[Sequence<Point>],
     alphamax: u32,
 ) -> Result<Vec<Sequence<Piece>>, NoMemory>
     requires near { All (All IsNearPage) vertices.now }

@@ -3,7 +3,7 @@ use Rattle.std.proofs.Common.{◌≡◌, ℕ, ◌+◌, ◌*◌, ◌<◌, ◌≤�
 use Rattle.std.proofs.lemmas.Int.{ints, fits_signed_from_abs, to_z-of_z}
 use Rattle.std.specs.Prelude.{unsigned_abs}
 use Rattle.std.specs.Int.RustNames.{FitsSigned}
-use Rattle.prefix_moments.proofs.Fitting.{back, product_most}
+use Rattle.pt_base.proofs.Sizes.{back, product_most}
 use Rattle.pt_base.specs.declared.point.Point.{Point}
 use Rattle.vertex_adjust.specs.Line.{squares_of, across_of}
 use Rattle.vertex_adjust.specs.Vertex.{distance_of, moved, error_of}

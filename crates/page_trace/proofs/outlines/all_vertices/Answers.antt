@@ -4,7 +4,8 @@ use Rattle.std.proofs.lemmas.List.Elements.{All-push}
 use Rattle.std.proofs.lemmas.Slice.Zip.{AllZip-long}
 use Rattle.corner_smooth.specs.Corner.{IsNearPage}
 use Rattle.page_trace.specs.Trace.{AreVerticesOf, IsPolygonOf}
-use Rattle.page_trace.proofs.Zipping.{take-zip-all, vertices_more, zipped_at}
+use Rattle.page_trace.proofs.Zipping.{vertices_more}
+use Rattle.pt_base.proofs.Pairs.{take-zip-all, zipped_at}
 use Rattle.page_trace.proofs.outlines.all_vertices.Goals as goal
 
 pub bounds-polygons-k : goal.bounds-polygons-k
