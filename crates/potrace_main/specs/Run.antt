@@ -1,6 +1,8 @@
 -- What the top call promises, by its status.
-use Rattle.std.specs.Prelude.{◌≡◌, ◌≢◌, ℕ, ◌+◌, ◌⊎◌, List, [], ◌∷◌, ◌++◌, Option, codes}
+use Rattle.std.specs.Prelude.{◌≡◌, ◌≢◌, ℕ, ◌+◌, ◌⊎◌, List, [], ◌∷◌, ◌++◌, Option, IfSome, codes}
+use Rattle.pt_base.specs.Counts.{next_count}
 use Rattle.pt_base.specs.Documents.{Documents, IsCutOff, IsSaid}
+use Rattle.pt_base.specs.Files.{Files}
 use Rattle.bitmap_input.specs.Raw.{Raw}
 use Rattle.bitmap_input.specs.declared.fault.InFault.{InFault}
 use Rattle.bitmap_input.specs.declared.fault.InFault.TheVariants as fault
@@ -8,7 +10,7 @@ use Rattle.potrace_main.specs.Messages.{dash, bad_words, not_opened, not_written
 use Rattle.potrace_main.specs.Items.{Item, too_many}
 use Rattle.potrace_main.specs.Items.Item.{Stop}
 use Rattle.potrace_main.specs.Outcome.{GoesOn, IsDone, IsRefused, IsUnwritten, IsOutOfMemory, with_items}
-use Rattle.potrace_main.specs.Progress.{AreTraced, docs}
+use Rattle.potrace_main.specs.Progress.{AreTraced, docs, opened_name}
 use Rattle.pt_base.specs.declared.settings.Settings.{Settings}
 use Rattle.potrace_main.specs.declared.pages.PagesEnd.{PagesEnd}
 use Rattle.potrace_main.specs.declared.pages.PagesEnd.TheVariants as why
@@ -19,6 +21,12 @@ pub record IsOutcome (status : ℕ) (items : List Item) (outs outs_now errs errs
   pub refused : status ≡ 2 → IsRefused items outs outs_now errs errs_now faults faults_now
   pub unwritten : status ≡ 4 → IsUnwritten items outs outs_now errs errs_now faults faults_now
   pub out_of_memory : status ≡ 5 → IsOutOfMemory items outs outs_now errs errs_now faults faults_now
+
+-- nothing was opened; or one file was, and it is the one of this name
+abbrev pub OpensOnly : List ℕ → Option Files → Option Files → ℕ → ℕ → Type 0
+OpensOnly name files files_now openings openings_now =
+    ((openings_now ≡ openings) × (files_now ≡ files))
+    ⊎ ((openings_now ≡ next_count openings) × IfSome (opened_name files_now) (λ opened. opened ≡ name))
 
 -- the last of the items is a refusal
 abbrev pub EndsRefused : List Item → Type 0

@@ -5,7 +5,7 @@ ghost use Rattle.pt_base.specs.Files.{Lacks};
 ghost use Rattle.potrace_main.specs.Asked.{IsAsked};
 ghost use Rattle.potrace_main.specs.Items.{Item, AreInputItems};
 ghost use Rattle.potrace_main.specs.Messages.{dash};
-ghost use Rattle.potrace_main.specs.Run.{IsComplete, IsOutcome, IsToldBy, IsWritten, SaysEnd, fault_text, status_of};
+ghost use Rattle.potrace_main.specs.Run.{IsComplete, IsOutcome, IsToldBy, IsWritten, OpensOnly, SaysEnd, fault_text, status_of};
 ghost use Rattle.pt_base.specs.declared.settings.Settings.{Settings};
 
 use crate::ask::ask;
@@ -52,6 +52,10 @@ pub fn run<R: Threads + Sync, I: Inputs, O: Outputs, E: Sink, G: Gate + Sync>(
         → (Rose (I.faults inputs.old) (I.faults inputs.new) → ⊥)
         → (Rose (O.faults outs.old) (O.faults outs.new) → ⊥)
         → IsComplete result items) }
+
+    // No file is opened but standard input, and that once; with other words than the program's none is.
+    ensures opened { OpensOnly dash (I.files inputs.old) (I.files inputs.new) (I.openings inputs.old) (I.openings inputs.new) }
+    ensures unopened { result ≡ 1 → inputs.new ≡ inputs.old }
 
     // Each fault has its cause.
     ensures unread { result ≡ 3 → Rose (I.faults inputs.old) (I.faults inputs.new) ⊎ Lacks (I.files inputs.old) dash }

@@ -1,4 +1,4 @@
-use Rattle.std.proofs.Common.{◌≡◌, ◌⊎◌, Err, ap, inl, inr, refl, subst, sym, arith}
+use Rattle.std.proofs.Common.{◌≡◌, ◌⊎◌, ◌∙◌, Err, ap, inl, inr, refl, subst, sym, arith}
 use Rattle.pt_base.specs.Counts.{Rose}
 use Rattle.pt_base.specs.Files.{Files, Lacks}
 use Rattle.pt_base.specs.declared.fault.OpenFault.{OpenFault}
@@ -7,6 +7,7 @@ use Rattle.potrace_main.specs.Messages.{dash}
 use Rattle.pt_base.specs.declared.settings.Settings.{Settings}
 use Rattle.potrace_main.specs.Run.{IsWritten, status_of}
 use Rattle.potrace_main.proofs.Asking.{one_asked}
+use Rattle.potrace_main.proofs.Reading.{name-with_file, no_name}
 use Rattle.potrace_main.proofs.Finishing.{IfSome-all, complete_unopened, none_written_at, out_of_memory_at_once, run_complete, run_known, run_outcome, run_written, told_by}
 use Rattle.potrace_main.proofs.top.run.Goals as goal
 
@@ -67,3 +68,17 @@ returns-clause-complete g c = λ settings asked.
       by_fault : (f : OpenFault) → f ≡ c.in-Err.field-0 → Rose (g.I.Inputs.faults c.args.inputs.now) (g.I.Inputs.faults c.open.new.self) ⊎ Lacks (g.I.Inputs.files c.args.inputs.now) dash
       by_fault opening.Absent e = inr (c.in-Err.ensures.absent.0 (ap Err (sym e)))
       by_fault opening.Device e = inl (c.in-Err.ensures.cause (ap Err (sym e)))
+
+pub returns-in_default-clause-opened : goal.returns-in_default-clause-opened
+returns-in_default-clause-opened g c = inl (refl, refl)
+
+pub returns-in_default-new-clause-opened : goal.returns-in_default-new-clause-opened
+returns-in_default-new-clause-opened g c = inl (refl, refl)
+
+pub returns-in-Ok-open-clause-opened : goal.returns-in-Ok-open-clause-opened
+returns-in-Ok-open-clause-opened g c =
+    inr (c.trace_pages-traced.ensures.same_openings ∙ c.in-Ok-open.ensures.one_more,
+    rw (c.trace_pages-traced.ensures.same_name, c.in-Ok-open.ensures.file) (name-with_file (g.I.Inputs.files c.args.inputs.now) dash))
+
+pub returns-clause-opened : goal.returns-clause-opened
+returns-clause-opened g c = inr (c.in-Err.ensures.one_more, rw c.in-Err.ensures.no_file (no_name (g.I.Inputs.files c.args.inputs.now) dash))
