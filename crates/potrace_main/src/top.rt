@@ -68,12 +68,12 @@ pub fn run<R: Threads + Sync, I: Inputs, O: Outputs, E: Sink, G: Gate + Sync>(
 
     // Each document is a page's text, and none stays open but for a fault of the outputs.
     ensures written { (settings : Settings) → IsAsked (map string_bytes words.now) settings
-        → IsWritten settings result (O.documents outs.old) (O.documents outs.new) }
+        → IsWritten settings result (O.documents outs.old) (O.documents outs.new) (E.documents errs.old) (E.documents errs.new) (E.faults errs.old) (E.faults errs.new) }
     ensures closed { result ≢ 4 → O.is_ready outs.new ≡ false }
     ensures nothing { result ≡ 1 → O.documents outs.new ≡ O.documents outs.old }
 
     // The message that belongs to the status is said, and a failing one changes no status.
-    ensures said { IsToldBy result (E.documents errs.old) (E.documents errs.new) (E.faults errs.old) (E.faults errs.new) }
+    ensures said { (pages : ℕ) × IsToldBy result pages (E.documents errs.old) (E.documents errs.new) (E.faults errs.old) (E.faults errs.new) }
 {
     let Some(settings) = ask(words) else {
         say_bad_words(errs);
