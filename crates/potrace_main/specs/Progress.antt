@@ -1,5 +1,5 @@
 -- How far a run has come: the first pages of its input are traced.
-use Rattle.std.specs.Prelude.{◌≡◌, ℕ, ◌+◌, ◌<◌, ◌≤◌, Bool, true, false, List, [], ◌∷◌, length, drop, Option, Some, IfSome, option_map}
+use Rattle.std.specs.Prelude.{◌≡◌, ℕ, ◌+◌, ◌<◌, ◌≤◌, Bool, true, false, List, [], ◌∷◌, length, drop, Option, None, Some, IfSome, option_map}
 use Rattle.pt_base.specs.Counts.{Rose}
 use Rattle.pt_base.specs.Files.{Files, unread}
 use Rattle.bit_image.specs.Page.{Page as Pixels}
@@ -50,6 +50,11 @@ docs (text ∷ texts) = Doc dash text ∷ docs texts
 -- the bytes that the reader has still to read pages from, where they are told
 abbrev pub ahead : Reader → Option Files → Option (List ℕ)
 ahead reader files = option_map (reader_ahead reader) (unread files)
+
+-- the name of the opened file, where that is told and a file is opened
+abbrev pub opened_name : Option Files → Option (List ℕ)
+opened_name None = None
+opened_name (Some files) = option_map (λ file. file.name) files.opened
 
 -- the next page of what is ahead was read
 pub record ReadsPage (settings : Settings) (old : Reader) (before : Option Files) (page : Pixels) (new : Reader) (now : Option Files) : Type 0 where
