@@ -145,17 +145,6 @@ OutputCount why.TooMany before now ready = (now ≡ before) × (ready ≡ false)
 OutputCount why.Unread before now ready = (now ≡ before) × (ready ≡ false)
 OutputCount why.OutOfMemory before now ready = (now ≡ before) × (ready ≡ false)
 
--- the first k pages were traced, and their documents written; the reader stands behind them
-pub record IsTraced (settings : Settings) (bytes : Option (List ℕ)) (outs : Option Documents) (reader : Reader) (files : Option Files) (outs_now : Option Documents) (k : ℕ) : Type 0 where
-  pub raws : List Raw
-  pub texts : List (List ℕ)
-  pub count : k ≡ length raws
-  pub traced : AreTraced settings raws texts
-  pub begins : IfSome bytes (λ all. (left : List ℕ) × (ahead reader files ≡ Some left) × BeginsWith false all raws left)
-  pub documents : outs_now ≡ with_items outs (docs texts)
-  pub counted : reader.pages ≡ k
-  pub going_on : reader.over ≡ false
-
 -- k pages were traced, and then the run ended so
 pub record Traces (settings : Settings) (bytes : Option (List ℕ)) (outs outs_now : Option Documents) (k : ℕ) (end : PagesEnd) : Type 0 where
   pub raws : List Raw

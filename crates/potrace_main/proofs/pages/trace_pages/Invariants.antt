@@ -2,7 +2,8 @@ use Rattle.std.proofs.Common.{◌≡◌, ◌≤◌, ◌-◌, false, true}
 use Rattle.pt_base.specs.Files.{unread}
 use Rattle.bitmap_input.specs.Reading.{AtEnd}
 use Rattle.potrace_main.specs.Items.{most_pages}
-use Rattle.potrace_main.specs.Progress.{IsTraced, opened_name}
+use Rattle.potrace_main.specs.Progress.{opened_name}
+use Rattle.potrace_main.proofs.Tracing.{IsTraced}
 use Rattle.potrace_main.proofs.pages.trace_pages.Given as goal
 
 -- the first pages are traced, and their documents written
