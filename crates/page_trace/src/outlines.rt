@@ -3,7 +3,7 @@ ghost use Rattle.std.specs.Prelude.{◌≡◌, ◌≤◌, ◌+◌, All, IfOk, ma
 ghost use Rattle.std.specs.List.{AllZip};
 ghost use Rattle.pt_base.specs.ClosedWalk.{IsClosedWalk};
 ghost use Rattle.pt_base.specs.OnPage.{AreOnPage};
-ghost use Rattle.corner_smooth.specs.Corner.{IsNearPage, pieces_of};
+ghost use Rattle.corner_smooth.specs.Corner.{IsNearWidePage, pieces_of};
 ghost use Rattle.page_trace.specs.Trace.{AreVerticesOf, IsPolygonOf};
 
 use corner_smooth::outline::smooth;
@@ -26,7 +26,7 @@ pub(crate) fn all_vertices(
     requires on_page { All (λ path. AreOnPage path.points) paths.now }
     requires polygons { AllZip IsPolygonOf paths.now polygons.now }
     ensures vertices { IfOk result (λ vertices. AllZip AreVerticesOf (zip paths.now polygons.now) vertices.items) }
-    ensures near { IfOk result (λ vertices. All (All IsNearPage) vertices.items) }
+    ensures near { IfOk result (λ vertices. All (All IsNearWidePage) vertices.items) }
     ensures some { IfOk result (λ vertices. All (λ one. 2 ≤ length one) vertices.items) }
 {
     let mut all = Vec::with_capacity(alloc, paths.len())?;
@@ -43,7 +43,7 @@ fn vertices(alloc: Global, path: &Path, polygon: &Polygon) -> Result<Sequence<Po
     requires on_page { AreOnPage path.now.points }
     requires polygon { IsPolygonOf path.now polygon.now }
     ensures vertices { IfOk result (λ vertices. AreVerticesOf (path.now, polygon.now) vertices) }
-    ensures near { IfOk result (λ vertices. All IsNearPage vertices) }
+    ensures near { IfOk result (λ vertices. All IsNearWidePage vertices) }
     ensures some { IfOk result (λ vertices. 2 ≤ length vertices) }
 {
     adjust(alloc, path.points.as_slice(), polygon)
@@ -55,7 +55,7 @@ pub(crate) fn all_outlines(
     vertices: &[Sequence<Point>],
     alphamax: u32,
 ) -> Result<Vec<Sequence<Piece>>, NoMemory>
-    requires near { All (All IsNearPage) vertices.now }
+    requires near { All (All IsNearWidePage) vertices.now }
     requires some { All (λ one. 2 ≤ length one) vertices.now }
     requires alphamax { alphamax ≤ 1000000000 }
     ensures { IfOk result (λ outlines. outlines.items ≡ map (pieces_of alphamax) vertices.now) }

@@ -2,7 +2,7 @@ use Rattle.std.proofs.Common.{◌≤◌, length, subst, arith}
 use Rattle.std.specs.List.{All, AllZip}
 use Rattle.std.proofs.lemmas.List.Elements.{All-push}
 use Rattle.std.proofs.lemmas.Slice.Zip.{AllZip-long}
-use Rattle.corner_smooth.specs.Corner.{IsNearPage}
+use Rattle.corner_smooth.specs.Corner.{IsNearWidePage}
 use Rattle.page_trace.specs.Trace.{AreVerticesOf, IsPolygonOf}
 use Rattle.page_trace.proofs.Zipping.{vertices_more}
 use Rattle.pt_base.proofs.Pairs.{take-zip-all, zipped_at}
@@ -22,7 +22,7 @@ loop-k-preserved c = record {
       c.push.new.self.items c.in_ok-vertices.vertices c.loop-k-test.true
       (AllZip-long IsPolygonOf c.args.paths.now c.args.polygons.now c.requires.polygons) c.index-paths-k.is c.index-polygons-k.is
       c.loop-k.invariant.vertices c.in_ok-vertices.ensures.vertices c.in_ok-push.ensures.items;
-  near = rw c.in_ok-push.ensures.items (All-push (All IsNearPage) c.loop-k.all.items c.in_ok-vertices.vertices c.loop-k.invariant.near c.in_ok-vertices.ensures.near);
+  near = rw c.in_ok-push.ensures.items (All-push (All IsNearWidePage) c.loop-k.all.items c.in_ok-vertices.vertices c.loop-k.invariant.near c.in_ok-vertices.ensures.near);
   some = rw c.in_ok-push.ensures.items
       (All-push (λ one. 2 ≤ length one) c.loop-k.all.items c.in_ok-vertices.vertices c.loop-k.invariant.some c.in_ok-vertices.ensures.some);
 }

@@ -1,7 +1,7 @@
 use Rattle.std.proofs.Common.{length, take, zip}
 use Rattle.std.specs.List.{All, AllZip}
 use Rattle.std.specs.Prelude.{◌≤◌}
-use Rattle.corner_smooth.specs.Corner.{IsNearPage}
+use Rattle.corner_smooth.specs.Corner.{IsNearWidePage}
 use Rattle.page_trace.specs.Trace.{AreVerticesOf}
 use Rattle.page_trace.proofs.outlines.all_vertices.Given as goal
 
@@ -9,6 +9,6 @@ use Rattle.page_trace.proofs.outlines.all_vertices.Given as goal
 abbrev pub invariant-loop-k : goal.invariant-loop-k
 invariant-loop-k l = record {
   vertices : AllZip AreVerticesOf (take l.k (zip l.paths l.polygons)) l.all.items;
-  near : All (All IsNearPage) l.all.items;
+  near : All (All IsNearWidePage) l.all.items;
   some : All (λ one. 2 ≤ length one) l.all.items;
 }

@@ -6,7 +6,7 @@ use Rattle.std.proofs.Math.Nat.{div-le_of_le-mul}
 use Rattle.pt_base.specs.declared.point.Point.{Point}
 use Rattle.pt_base.specs.OnPage.{AreOnPage}
 use Rattle.pt_base.proofs.Roots.{root_is, root_is_one, root_below}
-use Rattle.prefix_moments.specs.Sums.{IsPenalty, spread_of, cross_of, right_of, above_of}
+use Rattle.prefix_moments.specs.Sums.{IsPenalty, spread_of, chord_cross_of, right_of, above_of}
 use Rattle.pt_base.proofs.Sizes.{product_most}
 use Rattle.prefix_moments.proofs.Summing.{sum_most}
 use Rattle.polygon_optimal.specs.Polygon.{penalty_of}
@@ -31,7 +31,7 @@ difference_most : (a b : ℤ) → unsigned_abs a ≤ 2 ^ 28 → unsigned_abs b �
 difference_most a b h k = omega (arith, ints)
 
 -- so the cross products are small
-cross_most : (points : List Point) → AreOnPage points → (i j k : ℕ) → unsigned_abs (cross_of points i j k) ≤ 2 ^ 29
+cross_most : (points : List Point) → AreOnPage points → (i j k : ℕ) → unsigned_abs (chord_cross_of points i j k) ≤ 2 ^ 29
 cross_most points on_page i j k =
     difference_most (right_of points i k *ℤ above_of points i j) (above_of points i k *ℤ right_of points i j)
     (product_most (right_of points i k) (above_of points i j) (2 ^ 14) (2 ^ 14) (right_most points on_page i k) (above_most points on_page i j))
@@ -39,8 +39,8 @@ cross_most points on_page i j k =
 
 spread_most : (points : List Point) → AreOnPage points → (i j : ℕ) → unsigned_abs (spread_of points i j) ≤ (j - i + 1) * 2 ^ 58
 spread_most points on_page i j =
-    sum_most (λ d. cross_of points i j (i + d) *ℤ cross_of points i j (i + d)) (2 ^ 58) (j - i + 1)
-    (λ d. product_most (cross_of points i j (i + d)) (cross_of points i j (i + d)) (2 ^ 29) (2 ^ 29) (cross_most points on_page i j (i + d)) (cross_most points on_page i j (i + d)))
+    sum_most (λ d. chord_cross_of points i j (i + d) *ℤ chord_cross_of points i j (i + d)) (2 ^ 58) (j - i + 1)
+    (λ d. product_most (chord_cross_of points i j (i + d)) (chord_cross_of points i j (i + d)) (2 ^ 29) (2 ^ 29) (cross_most points on_page i j (i + d)) (cross_most points on_page i j (i + d)))
 
 -- the mean of so many numbers isn't above the greatest
 mean_most : (total count most : ℕ) → total ≤ count * most → 65536 * total / count ≤ 65536 * most
