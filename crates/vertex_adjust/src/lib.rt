@@ -5,13 +5,11 @@
 //! and up or down, to the place that is nearest to the lines of its two segments together.
 #![tactic(auto)]
 
+mod bowl;
+pub mod column;
 pub mod laws;
 pub mod line;
 mod search;
 pub mod shift;
 mod spread;
-#[cfg(test)]
-mod tests;
 pub mod vertices;
-#[cfg(test)]
-mod walks;
