@@ -9,6 +9,7 @@ mod bowl;
 pub mod column;
 pub mod laws;
 pub mod line;
+mod quotient;
 mod search;
 pub mod shift;
 mod spread;
