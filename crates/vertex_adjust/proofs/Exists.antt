@@ -130,38 +130,46 @@ record IsLeastOf (error : Shift → ℕ) (n : ℕ) (best : Shift) : Type 0 where
   none_before : (k : ℕ) → k < n → ¬ IsBefore error (candidate_at k) best
 
 least_of : (error : Shift → ℕ) (n : ℕ) → n ≤ 65 * 65 → (best : Shift) × IsLeastOf error n best
-least_of error zero within =
-    (record { right = pos 0; up = pos 0 }, record {
-      candidate = record { right = omega arith; up = omega arith };
-      none_before = λ k below. absurd (omega arith);
-    })
+least_of error zero within = (
+  record { right = pos 0; up = pos 0 },
+  record {
+    candidate = record { right = omega arith; up = omega arith };
+    none_before = λ k below. absurd (omega arith);
+  },
+)
 least_of error (suc n) within =
     let so_far = least_of error n (omega arith) in
     let d : Shift = candidate_at n in
     elim (is_before error d so_far.0) [
-      | inl first ↦
-          (d, record {
-            candidate = candidate_at-is n (omega arith);
-            none_before = one_more (λ k. ¬ IsBefore error (candidate_at k) d) n
-                (λ k below before. so_far.1.none_before k below (before_both error (candidate_at k) d so_far.0 before first))
-                (not_before_itself error d);
-          })
-      | inr not_first ↦
-          (so_far.0, record {
-            candidate = so_far.1.candidate;
-            none_before = one_more (λ k. ¬ IsBefore error (candidate_at k) so_far.0) n so_far.1.none_before not_first;
-          })
+      | inl first ↦ (
+        d,
+        record {
+          candidate = candidate_at-is n (omega arith);
+          none_before = one_more (λ k. ¬ IsBefore error (candidate_at k) d) n
+              (λ k below before. so_far.1.none_before k below (before_both error (candidate_at k) d so_far.0 before first))
+              (not_before_itself error d);
+        },
+      )
+      | inr not_first ↦ (
+        so_far.0,
+        record {
+          candidate = so_far.1.candidate;
+          none_before = one_more (λ k. ¬ IsBefore error (candidate_at k) so_far.0) n so_far.1.none_before not_first;
+        },
+      )
     ]
 
 pub least_found : (error : Shift → ℕ) → (shift : Shift) × IsLeast error shift
 least_found error =
-    let all = least_of error (65 * 65) (omega arith) in
-    (all.0, record {
-      candidate = all.1.candidate;
-      none_before = λ other candidate.
-      (let P : Shift → Type 0 = λ s. ¬ IsBefore error s all.0 in
-      subst P (candidate_at-number_of other candidate) (all.1.none_before (number_of other) (number_of-below other candidate)));
-    })
+    let all = least_of error (65 * 65) (omega arith) in (
+      all.0,
+      record {
+        candidate = all.1.candidate;
+        none_before = λ other candidate.
+            (let P : Shift → Type 0 = λ s. ¬ IsBefore error s all.0 in
+            subst P (candidate_at-number_of other candidate) (all.1.none_before (number_of other) (number_of-below other candidate)));
+      },
+    )
 
 pub vertex_found : (before after : Line) (v : Point) → (a : Point) × IsVertex before after v a
 vertex_found before after v =
@@ -194,9 +202,11 @@ first_found points at on_page polygon (suc n) within =
     let so_far = first_found points at on_page polygon n (omega arith) in
     let more = vertex_of_found points at on_page polygon n (omega arith) in
     let count : length so_far.0 ≡ n = so_far.1 in
-    let next : n + 1 ≡ suc n = omega arith in
-    (so_far.0 ++ more.0 ∷ [], omega (arith, length-append so_far.0 (more.0 ∷ [])),
-    λ k below. each_push (IsVertexOf points at) so_far.0 more.0 n so_far.1 so_far.2 more.1 k (omega arith))
+    let next : n + 1 ≡ suc n = omega arith in (
+      so_far.0 ++ more.0 ∷ [],
+      omega (arith, length-append so_far.0 (more.0 ∷ [])),
+      λ k below. each_push (IsVertexOf points at) so_far.0 more.0 n so_far.1 so_far.2 more.1 k (omega arith),
+    )
 
 pub vertices_found : (points : List Point) (at : List ℕ) → AreOnPage points → IsPolygonAlong points at → (vertices : List Point) × AreVertices points at vertices
 vertices_found points at on_page polygon =

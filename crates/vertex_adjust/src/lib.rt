@@ -6,7 +6,7 @@
 #![tactic(auto)]
 
 mod bowl;
-pub mod column;
+pub mod columns;
 pub mod laws;
 pub mod line;
 mod quotient;
