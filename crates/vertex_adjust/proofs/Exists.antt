@@ -1,22 +1,20 @@
 -- Sums have a line, two lines and a point have a vertex, and a polygon has its vertices.
-use Rattle.std.proofs.Common.{◌≡◌, ℕ, zero, suc, ◌+◌, ◌-◌, ◌*◌, ◌/◌, ◌%◌, ◌<◌, ◌≤◌, ◌^◌, ◌⊎◌, inl, inr, ℤ, pos, ◌+ℤ◌, ◌-ℤ◌, ◌<ℤ◌, List, [], ◌∷◌, ◌++◌, length, get_or, refl, ap, sym, subst, ◌∙◌, arith, length-append}
+use Rattle.std.proofs.Common.{◌≡◌, ℕ, zero, suc, ◌+◌, ◌*◌, ◌/◌, ◌%◌, ◌<◌, ◌≤◌, ◌^◌, ◌⊎◌, inl, inr, ℤ, pos, ◌+ℤ◌, ◌-ℤ◌, List, [], ◌∷◌, ◌++◌, length, get_or, refl, sym, subst, arith, length-append}
 use Rattle.std.specs.Prelude.{max, unsigned_abs, slice_index}
 use Rattle.std.proofs.lemmas.Int.{ints, by_lt_z}
 use Rattle.std.proofs.lemmas.Bool.{cases_order}
-use Rattle.std.proofs.lemmas.Bool.Decides.{nat_tests}
 use Rattle.pt_base.specs.ClosedWalk.{point_at, origin}
 use Rattle.pt_base.specs.OnPage.{AreOnPage}
 use Rattle.pt_base.specs.declared.point.Point.{Point}
 use Rattle.prefix_moments.specs.Sums.{sums_of}
 use Rattle.prefix_moments.specs.declared.sums.Sums.{Sums}
-use Rattle.vertex_adjust.specs.Bounds.{IsSpread}
 use Rattle.vertex_adjust.specs.Line.{AreSums, IsEnlarged, IsLine, covariance_of, direction_of, greatest_of, line_along, squares_of, times}
 use Rattle.vertex_adjust.specs.Vertex.{IsBefore, IsCandidate, IsLeast, IsLineOf, IsPolygonAlong, IsVertex, IsVertexOf, AreVertices, before_of, end_of, error_of, moved}
 use Rattle.vertex_adjust.specs.Vertex.IsBefore.{by_error, by_length, by_height, by_side}
 use Rattle.vertex_adjust.specs.declared.line.Line.{Line}
 use Rattle.vertex_adjust.specs.declared.shift.Shift.{Shift}
 use Rattle.vertex_adjust.specs.declared.spread.Covariance.{Covariance}
-use Rattle.vertex_adjust.proofs.Doubling.{doublings_are, AreDoublings}
+use Rattle.vertex_adjust.proofs.Doubling.{doublings_are}
 use Rattle.vertex_adjust.proofs.Searching.{before_both, not_before_itself, shift_same}
 use Rattle.vertex_adjust.proofs.Segments.{segment_sums, each_push}
 use Rattle.vertex_adjust.proofs.Spreading.{spread_is_sound}
