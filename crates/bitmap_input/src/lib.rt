@@ -30,6 +30,4 @@ pub mod reader;
 mod run;
 mod skip;
 mod stop;
-#[cfg(test)]
-mod tests;
 mod window;

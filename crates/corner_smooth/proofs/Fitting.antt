@@ -3,14 +3,7 @@ use Rattle.std.proofs.Common.{◌≡◌, ℕ, ◌*◌, ◌≤◌, ◌<◌, ◌^�
 use Rattle.std.proofs.lemmas.Int.{ints, unsigned_abs-mul, to_z-of_z, fits_signed_from_abs}
 use Rattle.std.proofs.lemmas.Nat.{mul-le}
 use Rattle.corner_smooth.specs.Corner.{IsInReach}
-
--- the size of a product
-pub product_most : (a b : ℤ) (m n : ℕ) → unsigned_abs a ≤ m → unsigned_abs b ≤ n → unsigned_abs (a *ℤ b) ≤ m * n
-product_most a b m n h k = omega (arith, unsigned_abs-mul a b, mul-le (unsigned_abs a) (unsigned_abs b) m n h k)
-
--- a number of 64 bits comes back from its bits
-pub back : (a : ℤ) → unsigned_abs a < 2 ^ 63 → to_z w64 (of_z w64 a) ≡ a
-back a h = to_z-of_z w64 a (fits_signed_from_abs w64 a h)
+use Rattle.pt_base.proofs.Sizes.{back}
 
 -- the value of a difference of coordinates
 pub difference_is : (from to d : ℤ) → IsInReach from → IsInReach to → d ≡ to_z w32 (of_z w32 to) -ℤ to_z w32 (of_z w32 from) → d ≡ to -ℤ from

@@ -7,11 +7,7 @@ use Rattle.std.specs.Int.{int_div_euclid}
 use Rattle.std.specs.Int.RustNames.{FitsSigned}
 use Rattle.pt_base.specs.Floor.{floor_of}
 use Rattle.corner_smooth.specs.Corner.{IsInReach, part_of}
-use Rattle.corner_smooth.proofs.Fitting.{back, product_most}
-
-divided : (a : ℤ) (b : ℕ) → int_div_euclid a (pos b) ≡ floor_of a b
-divided (pos a) b = refl
-divided (negsuc a) b = refl
+use Rattle.pt_base.proofs.Sizes.{back, divided, product_most}
 
 -- no more than the whole way forth
 floor_forth : (n m : ℕ) → n ≤ 131072 → n * m / 131072 ≤ m

@@ -7,7 +7,5 @@
 
 mod corner;
 pub mod outline;
-#[cfg(test)]
-mod tests;
 mod triangle;
 mod vertex;

@@ -13,6 +13,4 @@
 pub mod laws;
 pub mod steps;
 mod suffixes;
-#[cfg(test)]
-mod tests;
 pub mod walk;

@@ -6,14 +6,14 @@ ghost use Rattle.least_walk.specs.Suffix.{HasFewest, HasCosts, HasNexts};
 use crate::steps::Steps;
 use crate::suffixes::{fill_costs, fill_counts};
 use pt_base::fault::NoMemory;
-use pt_base::indices::Indices;
+use pt_base::sequence::Sequence;
 use std::alloc::Global;
 
 /// A walk from 0 to the size of its `Steps`.
 #[derive(Debug, Drop)]
 pub struct Walk {
     /// Where each step begins: all of the walk but the size, at which it ends.
-    pub at: Indices,
+    pub at: Sequence<u32>,
     /// The number of steps.
     pub count: u32,
     /// What the steps cost together.
@@ -80,7 +80,7 @@ fn walk_by<S: Steps>(
         from = nexts[from as usize];
     }
     Ok(Walk {
-        at: Indices::from_vec(at),
+        at: Sequence::from_vec(at),
         count,
         cost: costs[0],
     })

@@ -9,8 +9,10 @@ ghost use Rattle.page_trace.specs.Trace.{AreVerticesOf, IsPolygonOf};
 use polygon_optimal::optimal::polygon_by;
 use prefix_moments::moments::Moments;
 use pt_base::fault::NoMemory;
-use pt_base::path::{Path, Points};
+use pt_base::path::Path;
+use pt_base::point::Point;
 use pt_base::polygon::Polygon;
+use pt_base::sequence::Sequence;
 use std::alloc::Global;
 use vertex_adjust::vertices::adjust_by;
 
@@ -18,7 +20,7 @@ use vertex_adjust::vertices::adjust_by;
 #[derive(Drop)]
 pub(crate) struct Fitted {
     pub polygons: Vec<Polygon>,
-    pub vertices: Vec<Points>,
+    pub vertices: Vec<Sequence<Point>>,
 }
 
 /// Fits polygons to all paths.
@@ -43,7 +45,7 @@ pub(crate) fn fit_all(alloc: Global, paths: &[Path]) -> Result<Fitted, NoMemory>
 }
 
 /// The best polygon of a path, and its adjusted vertices: the path is summed up once for both.
-fn fit(alloc: Global, path: &Path) -> Result<(Polygon, Points), NoMemory>
+fn fit(alloc: Global, path: &Path) -> Result<(Polygon, Sequence<Point>), NoMemory>
     requires closed { IsClosedWalk path.now.points }
     requires on_page { AreOnPage path.now.points }
     ensures polygon { IfOk result (λ both. IsPolygonOf path.now both.0) }

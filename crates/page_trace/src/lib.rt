@@ -11,6 +11,4 @@ pub mod laws;
 mod outlines;
 mod paths;
 mod polygons;
-#[cfg(test)]
-mod tests;
 pub mod tracing;

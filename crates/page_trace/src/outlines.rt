@@ -4,15 +4,15 @@ ghost use Rattle.corner_smooth.specs.Corner.{IsNearPage, pieces_of};
 
 use corner_smooth::outline::smooth;
 use pt_base::fault::NoMemory;
-use pt_base::path::Points;
 use pt_base::piece::Piece;
+use pt_base::point::Point;
 use pt_base::sequence::Sequence;
 use std::alloc::Global;
 
 /// The smooth outline round each list of vertices.
 pub(crate) fn all_outlines(
     alloc: Global,
-    vertices: &[Points],
+    vertices: &[Sequence<Point>],
     alphamax: u32,
 ) -> Result<Vec<Sequence<Piece>>, NoMemory>
     requires near { All (All IsNearPage) vertices.now }

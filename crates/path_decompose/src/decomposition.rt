@@ -14,8 +14,9 @@ use crate::inversion::invert;
 use crate::walk::walk_round;
 use bit_image::bitmap::Bitmap;
 use pt_base::fault::NoMemory;
-use pt_base::path::{Path, Points, Sign};
+use pt_base::path::{Path, Sign};
 use pt_base::policy::Policy;
+use pt_base::sequence::Sequence;
 use std::alloc::Global;
 
 /// All paths of a page, in the order in which they are found.
@@ -72,7 +73,7 @@ fn next_path(
     Ok(Path {
         sign,
         area: round.area,
-        points: Points::from_vec(round.points),
+        points: Sequence::from_vec(round.points),
     })
 }
 

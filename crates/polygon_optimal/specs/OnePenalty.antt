@@ -7,7 +7,7 @@ use Rattle.pt_base.specs.declared.point.Point.{Point}
 use Rattle.pt_base.specs.OnPage.{AreOnPage}
 use Rattle.pt_base.proofs.Roots.{root_is, root_is_one, root_below}
 use Rattle.prefix_moments.specs.Sums.{IsPenalty, spread_of, cross_of, right_of, above_of}
-use Rattle.prefix_moments.proofs.Fitting.{product_most}
+use Rattle.pt_base.proofs.Sizes.{product_most}
 use Rattle.prefix_moments.proofs.Summing.{sum_most}
 use Rattle.polygon_optimal.specs.Polygon.{penalty_of}
 

@@ -13,5 +13,3 @@
 pub mod laws;
 pub mod optimal;
 mod segments;
-#[cfg(test)]
-mod tests;

@@ -2,7 +2,7 @@
 use Rattle.std.proofs.Common.{◌≡◌, ◌≢◌, ℕ, ◌≤◌, List, [], ◌∷◌, Bool, inl, inr, refl, sym, ◌∙◌, ap, subst, sum, codes, arith}
 use Rattle.pt_base.specs.Micro.{IsMicro}
 use Rattle.pt_base.specs.Whole.{value_after}
-use Rattle.pt_base.proofs.Texts.{one_micro}
+use Rattle.pt_base.proofs.Decimals.{one_micro}
 use Rattle.pt_base.specs.declared.policy.Policy.{Policy}
 use Rattle.pt_base.specs.declared.policy.Policy.TheVariants.{Left, Right, Black, White, Majority, Minority}
 use Rattle.pt_base.specs.declared.settings.Backend.{Backend}

@@ -5,15 +5,8 @@ use Rattle.std.specs.Prelude.{unsigned_abs}
 use Rattle.std.specs.Int.RustNames.{FitsSigned}
 use mir.Syntax.{w128}
 use Rattle.pt_base.specs.declared.limits.TheConstants.{LONGEST_SIDE}
+use Rattle.pt_base.proofs.Sizes.{back, long_back, product_most}
 use Rattle.std.proofs.lemmas.Nat.{mul-le}
-
--- the size of a product
-pub product_most : (a b : ℤ) (m n : ℕ) → unsigned_abs a ≤ m → unsigned_abs b ≤ n → unsigned_abs (a *ℤ b) ≤ m * n
-product_most a b m n h k = omega (arith, unsigned_abs-mul a b, mul-le (unsigned_abs a) (unsigned_abs b) m n h k)
-
--- a number of 64 bits comes back from its bits
-pub back : (a : ℤ) → unsigned_abs a < 2 ^ 63 → to_z w64 (of_z w64 a) ≡ a
-back a h = to_z-of_z w64 a (fits_signed_from_abs w64 a h)
 
 -- the value of a sum
 pub sum_back : (a b s : ℤ) → unsigned_abs a < 2 ^ 62 → unsigned_abs b < 2 ^ 62 → b ≡ s
@@ -43,10 +36,6 @@ pub differences_fit : (a b c : ℤ) → unsigned_abs a < 2 ^ 61 → unsigned_abs
 differences_fit a b c h k l =
     rw (difference_back a b b (omega arith) (omega arith) refl, back c (omega arith))
     (fits_signed_from_abs w64 ((a -ℤ b) -ℤ c) (omega (arith, ints)))
-
--- a number of 128 bits comes back from its bits
-pub long_back : (a : ℤ) → unsigned_abs a < 2 ^ 127 → to_z w128 (of_z w128 a) ≡ a
-long_back a h = to_z-of_z w128 a (fits_signed_from_abs w128 a h)
 
 twice_most : (b : ℤ) (n : ℕ) → unsigned_abs b ≤ n → unsigned_abs (pos 2 *ℤ b) ≤ 2 * n
 twice_most b n h = product_most (pos 2) b 2 n (omega arith) h

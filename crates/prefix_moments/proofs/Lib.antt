@@ -3,6 +3,4 @@ pub mod Fitting
 pub mod Integers
 pub mod Rows
 pub mod Summing
-pub mod Terms
 pub mod Totals
-pub mod Walking

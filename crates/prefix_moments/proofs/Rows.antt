@@ -13,7 +13,7 @@ use Rattle.prefix_moments.specs.declared.sums.Sums.{Sums}
 use Rattle.pt_base.specs.OnPage.{IsOnPage, AreOnPage}
 use Rattle.prefix_moments.specs.Sums.{sum_of, sums_of, right_of, above_of, spread_of}
 use Rattle.prefix_moments.specs.Table.{raw_of, IsRawOf, IsTable, no_sums, difference_of, offsets_of, spread_by}
-use Rattle.prefix_moments.proofs.Fitting.{product_most}
+use Rattle.pt_base.proofs.Sizes.{product_most}
 use Rattle.prefix_moments.proofs.Summing.{latter, sum_most, shifted, products_shifted, spread_is, squares_at_least}
 
 abbrev raw : ℤ → ℤ → ℤ → ℤ → ℤ → Raw

@@ -12,7 +12,7 @@ use Rattle.prefix_moments.specs.declared.sums.Sums.{Sums}
 use Rattle.pt_base.specs.OnPage.{IsOnPage}
 use Rattle.prefix_moments.specs.Sums.{sums_of, spread_of, right_of, above_of, IsPenalty}
 use Rattle.prefix_moments.specs.Table.{spread_by}
-use Rattle.prefix_moments.proofs.Fitting.{back, long_back}
+use Rattle.pt_base.proofs.Sizes.{back, long_back}
 use Rattle.prefix_moments.proofs.Rows.{total_is, spread_at_least}
 
 between_is : (r a b : ℤ) → pos 0 ≤ℤ a → a ≤ℤ pos LONGEST_SIDE → pos 0 ≤ℤ b → b ≤ℤ pos LONGEST_SIDE

@@ -7,7 +7,3 @@
 pub mod moments;
 mod raw;
 pub mod sums;
-#[cfg(test)]
-mod tests;
-#[cfg(test)]
-mod walks;

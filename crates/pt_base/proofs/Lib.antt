@@ -1,7 +1,12 @@
+pub mod Appending
+pub mod Decimals
 pub mod Finding
+pub mod Pairs
 pub mod Places
 pub mod Roots
 pub mod Rounding
 pub mod Shelving
-pub mod Texts
+pub mod Sizes
+pub mod Terms
+pub mod Walking
 pub mod Writing

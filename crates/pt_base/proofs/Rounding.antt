@@ -5,6 +5,7 @@ use Rattle.std.proofs.lemmas.Nat.{le-div, mul-le}
 use Rattle.std.proofs.Math.IntN.{*ℤ-negsuc}
 use Rattle.std.proofs.Math.Nat.{div-mul-le_self}
 use Rattle.pt_base.specs.Floor.{IsFloor, floor_of, rounded}
+use Rattle.pt_base.proofs.Sizes.{back, divided, product_most, quotient_most}
 use mir.Syntax.{w128}
 use Rattle.std.specs.Int.{int_div_euclid}
 use Rattle.std.specs.Int.RustNames.{FitsSigned}
@@ -31,12 +32,6 @@ floor_is (negsuc a) b some = record {
   falls_short = rw (negsuc-add-one, times_negative) (below_multiple a b some);
 }
 
-back : (a : ℤ) → unsigned_abs a < 2 ^ 63 → to_z w64 (of_z w64 a) ≡ a
-back a h = to_z-of_z w64 a (fits_signed_from_abs w64 a h)
-
-product_most : (a b : ℤ) (m n : ℕ) → unsigned_abs a ≤ m → unsigned_abs b ≤ n → unsigned_abs (a *ℤ b) ≤ m * n
-product_most a b m n h k = omega (arith, unsigned_abs-mul a b, mul-le (unsigned_abs a) (unsigned_abs b) m n h k)
-
 -- the value that is rounded
 pub scaled_back : (c f : ℤ) (unit : ℕ) → unsigned_abs c ≤ 2 ^ 40 → unit ≤ 1000 → f ≡ pos unit
     → to_z w64 (of_z w64 (to_z w64 (of_z w64 (to_z w64 (of_z w64 (pos 2 *ℤ to_z w64 (of_z w64 c))) *ℤ to_z w64 (of_z w64 f))) +ℤ pos 1024))
@@ -54,25 +49,14 @@ scaled_back c f unit h k e =
     )
     refl
 
-quotient_grows : (a b : ℕ) → 0 < b → a / b ≤ suc a / b
-quotient_grows a b some = le-div (a / b) (suc a) b some (omega (arith, div-mul-le_self a b))
-
-floor_most : (a : ℤ) (b : ℕ) → 0 < b → unsigned_abs (floor_of a b) ≤ unsigned_abs a / b + 1
-floor_most (pos a) b some = omega arith
-floor_most (negsuc a) b some = omega (arith, quotient_grows a b some)
-
 -- no pixel has more units than 1024
 pub rounded_most : (c : ℤ) (unit : ℕ) → unsigned_abs c ≤ 2 ^ 40 → unit ≤ 1000 → unsigned_abs (rounded c unit) ≤ 2 ^ 40
 rounded_most c unit h k =
     let twice : unsigned_abs (pos 2 *ℤ c) ≤ 2 * 2 ^ 40 = product_most (pos 2) c 2 (2 ^ 40) (omega arith) h in
     let scaled : unsigned_abs ((pos 2 *ℤ c) *ℤ pos unit) ≤ 2 * 2 ^ 40 * 1000 = product_most (pos 2 *ℤ c) (pos unit) (2 * 2 ^ 40) 1000 twice (omega arith) in
     let sum : unsigned_abs ((pos 2 *ℤ c) *ℤ pos unit +ℤ pos 1024) ≤ 2 * 2 ^ 40 * 1000 + 1024 = omega (arith, ints) in
-    let floor = floor_most ((pos 2 *ℤ c) *ℤ pos unit +ℤ pos 1024) 2048 (omega arith) in
+    let floor = quotient_most ((pos 2 *ℤ c) *ℤ pos unit +ℤ pos 1024) 2048 (omega arith) in
     omega arith
-
-divided : (a : ℤ) (b : ℕ) → int_div_euclid a (pos b) ≡ floor_of a b
-divided (pos a) b = refl
-divided (negsuc a) b = refl
 
 pub rounded_back : (c f r : ℤ) (unit : ℕ) → unsigned_abs c ≤ 2 ^ 40 → unit ≤ 1000 → f ≡ pos unit → FitsSigned w64 r
     → r ≡ int_div_euclid (to_z w64 (of_z w64 (to_z w64 (of_z w64 (to_z w64 (of_z w64 (pos 2 *ℤ to_z w64 (of_z w64 c))) *ℤ to_z w64 (of_z w64 f))) +ℤ pos 1024))) (pos 2048)

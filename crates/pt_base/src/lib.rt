@@ -1,6 +1,7 @@
 //! What every part of the tracer speaks of: points and paths, the outside world, and list texts.
 #![tactic(auto)]
 
+pub mod closed_walk;
 pub mod decimal;
 pub mod digits;
 pub mod err_sink;
@@ -9,7 +10,6 @@ pub mod file_inputs;
 pub mod file_outputs;
 pub mod floor;
 pub mod gate;
-pub mod indices;
 pub mod inputs;
 pub mod limits;
 pub mod list_text;
@@ -26,7 +26,5 @@ pub mod sequence;
 pub mod settings;
 mod shelf;
 pub mod sink;
-#[cfg(test)]
-mod tests;
 pub mod trace;
 pub mod write;

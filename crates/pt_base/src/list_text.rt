@@ -1,7 +1,7 @@
 //! The texts of a page's paths as plain lists, one line for each path.
 ghost use Rattle.std.specs.Prelude.{◌≡◌, ◌++◌, length, codes, decimal, flat_map, IfOk, OnOk};
 ghost use Rattle.pt_base.specs.PointsText.{path_text, point_text, points_text, sign_text};
-ghost use Rattle.pt_base.specs.PolygonsText.{counts_text, index_text, kind_text, polygon_text, polygons_text};
+ghost use Rattle.pt_base.specs.PolygonsText.{counts_text, index_text, sign_and_area_text, polygon_text, polygons_text};
 
 use crate::digits::put_number;
 use crate::fault::NoMemory;
@@ -60,7 +60,7 @@ fn put_sides(out: &mut Vec<u8>, width: u32, height: u32, count: usize) -> Result
 fn put_path(out: &mut Vec<u8>, path: &Path) -> Result<(), NoMemory>
     ensures { OnOk result (out.new.items ≡ out.old.items ++ path_text path.now) }
 {
-    put_kind(out, path)?;
+    put_sign_and_area(out, path)?;
     put_points(out, path.points.as_slice())?;
     out.extend_from_slice(b"\n")?;
     Ok(())
@@ -103,7 +103,7 @@ fn put_polygon(out: &mut Vec<u8>, path: &Path, polygon: &Polygon) -> Result<(), 
     ensures { OnOk result (out.new.items ≡ out.old.items ++ polygon_text (path.now, polygon.now)) }
 {
     let at = polygon.at.as_slice();
-    put_kind(out, path)?;
+    put_sign_and_area(out, path)?;
     put_counts(out, path.points.as_slice().len(), at.len(), polygon.cost)?;
     put_indices(out, at)?;
     out.extend_from_slice(b"\n")?;
@@ -111,8 +111,8 @@ fn put_polygon(out: &mut Vec<u8>, path: &Path, polygon: &Polygon) -> Result<(), 
 }
 
 /// Appends a path's sign and its area.
-fn put_kind(out: &mut Vec<u8>, path: &Path) -> Result<(), NoMemory>
-    ensures { OnOk result (out.new.items ≡ out.old.items ++ kind_text path.now) }
+fn put_sign_and_area(out: &mut Vec<u8>, path: &Path) -> Result<(), NoMemory>
+    ensures { OnOk result (out.new.items ≡ out.old.items ++ sign_and_area_text path.now) }
 {
     put_sign(out, path.sign)?;
     out.extend_from_slice(b" ")?;

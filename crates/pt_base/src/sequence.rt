@@ -3,7 +3,7 @@ ghost use Rattle.std.specs.Prelude.{◌≡◌};
 
 use std::marker::Model;
 
-/// Values in order, such as the polygons of a page's paths. Contracts see the list.
+/// Values in order, such as the points of a path or the polygons of a page. Contracts see the list.
 #[derive(Debug, Drop)]
 pub struct Sequence<T> {
     items: Vec<T>,

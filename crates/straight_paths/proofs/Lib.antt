@@ -12,5 +12,4 @@ pub mod Nearness
 pub mod Pieces
 pub mod Places
 pub mod Signs
-pub mod Terms
 pub mod Turning

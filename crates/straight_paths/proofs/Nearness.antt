@@ -8,8 +8,8 @@ use Rattle.straight_paths.specs.Cones.{cross_of, nowhere, low_of, high_of, IsBet
 use Rattle.straight_paths.specs.declared.offset.Offset.{Offset}
 use Rattle.straight_paths.proofs.Around.{IsSigned, IsCorners, corners, far_out, left_of_low}
 use Rattle.straight_paths.proofs.Signs.{product_at_least, product_of_low, factor_at_least}
-use Rattle.straight_paths.proofs.Terms.{same_value}
-use Rattle.straight_paths.proofs.Terms.Term.{num, plus, less, times, opposite}
+use Rattle.pt_base.proofs.Terms.{same_value}
+use Rattle.pt_base.proofs.Terms.Term.{num, plus, less, times, opposite}
 use Rattle.straight_paths.proofs.Turning.{cross_term}
 
 -- ---- from near to between

@@ -18,5 +18,3 @@ pub mod laws;
 mod offset;
 pub mod reach;
 mod tail;
-#[cfg(test)]
-mod tests;

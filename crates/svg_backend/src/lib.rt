@@ -10,5 +10,3 @@
 
 mod outline;
 pub mod svg_text;
-#[cfg(test)]
-mod tests;

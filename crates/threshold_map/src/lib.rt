@@ -11,5 +11,3 @@
 #![tactic(auto)]
 
 pub mod level;
-#[cfg(test)]
-mod tests;

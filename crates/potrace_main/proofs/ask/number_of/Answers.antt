@@ -1,5 +1,5 @@
 use Rattle.std.proofs.Common.{arith}
-use Rattle.pt_base.proofs.Texts.{one_micro}
+use Rattle.pt_base.proofs.Decimals.{one_micro}
 use Rattle.potrace_main.proofs.ask.number_of.Goals as goal
 
 pub returns-else-n-most-clause-refused : goal.returns-else-n-most-clause-refused

@@ -1,4 +1,4 @@
-use Rattle.svg_backend.proofs.Appending.{four}
+use Rattle.pt_base.proofs.Appending.{four}
 use Rattle.svg_backend.proofs.outline.put_outline.Goals as goal
 
 pub returns : goal.returns

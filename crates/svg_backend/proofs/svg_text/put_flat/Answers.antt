@@ -1,5 +1,5 @@
 use Rattle.std.proofs.Common.{◌≡◌, ◌∷◌}
-use Rattle.svg_backend.proofs.Appending.{four}
+use Rattle.pt_base.proofs.Appending.{four}
 use Rattle.svg_backend.proofs.svg_text.put_flat.Goals as goal
 
 pub returns-in_ok-extend_from_slice-2 : goal.returns-in_ok-extend_from_slice-2

@@ -1,6 +1,6 @@
 use Rattle.std.proofs.Common.{sym}
 use Rattle.svg_backend.specs.SvgText.{group_text}
-use Rattle.svg_backend.proofs.Appending.{one_more}
+use Rattle.pt_base.proofs.Appending.{one_more}
 use Rattle.svg_backend.proofs.svg_text.put_groups.Goals as goal
 
 pub loop-group-preserved : goal.loop-group-preserved

@@ -1,0 +1,7 @@
+//! What no clause says: the real adapters, texts, and that the calls that allocate succeed.
+
+mod levels;
+mod lists;
+mod memory;
+mod numbers;
+mod real;

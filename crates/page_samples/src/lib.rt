@@ -1,0 +1,6 @@
+//! Pages, walks and plain programs that the tests are made of.
+#![tactic(auto)]
+
+pub mod pages;
+pub mod plain;
+pub mod walks;

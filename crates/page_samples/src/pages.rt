@@ -1,0 +1,84 @@
+//! Small pages.
+
+use bit_image::bitmap::Bitmap;
+use pt_base::fault::NoMemory;
+use pt_base::limits::LONGEST_SIDE;
+use std::alloc::Global;
+
+/// Why there is no such page.
+#[derive(Clone, Copy, Debug, PartialEq, Eq)]
+pub enum NoPage {
+    /// A side isn't 1 to the longest one.
+    BadSide,
+    OutOfMemory,
+}
+
+impl From<NoMemory> for NoPage {
+    fn from(_fault: NoMemory) -> NoPage {
+        NoPage::OutOfMemory
+    }
+}
+
+/// A page from its rows, the uppermost first and as long as all others; `#` is black.
+pub fn drawn(alloc: Global, rows: &[&str]) -> Result<Bitmap, NoPage> {
+    let width = match rows.first() {
+        Some(row) => row.len(),
+        None => 0,
+    };
+    let mut page = white(alloc, width, rows.len())?;
+    for (y, row) in rows.iter().rev().enumerate() {
+        draw_row(&mut page, y, row.as_bytes());
+    }
+    Ok(page)
+}
+
+fn draw_row(page: &mut Bitmap, y: usize, row: &[u8]) {
+    for (x, pixel) in row.iter().enumerate() {
+        put(page, x, y, *pixel == b'#');
+    }
+}
+
+/// A black page.
+pub fn black(alloc: Global, width: usize, height: usize) -> Result<Bitmap, NoPage> {
+    let mut page = white(alloc, width, height)?;
+    for y in 0..page.height() {
+        page.flip_from(0, y);
+    }
+    Ok(page)
+}
+
+/// A checkerboard with a black lower left corner.
+pub fn checkered(alloc: Global, side: usize) -> Result<Bitmap, NoPage> {
+    let mut page = white(alloc, side, side)?;
+    for place in 0..page.width() * page.height() {
+        let (x, y) = (place % page.width(), place / page.width());
+        put(&mut page, x as usize, y as usize, (x + y) % 2 == 0);
+    }
+    Ok(page)
+}
+
+/// The page of 3 by 3 pixels that a number has for its bits.
+pub fn numbered(alloc: Global, number: u32) -> Result<Bitmap, NoPage> {
+    let mut page = white(alloc, 3, 3)?;
+    for place in 0..9 {
+        let black = number >> place & 1 == 1;
+        put(&mut page, place as usize % 3, place as usize / 3, black);
+    }
+    Ok(page)
+}
+
+/// A white page.
+fn white(alloc: Global, width: usize, height: usize) -> Result<Bitmap, NoPage> {
+    let longest = LONGEST_SIDE as usize;
+    if width == 0 || longest < width || height == 0 || longest < height {
+        return Err(NoPage::BadSide);
+    }
+    Ok(Bitmap::new(alloc, width as u32, height as u32)?)
+}
+
+/// Gives a pixel of the page its colour, and passes others over.
+fn put(page: &mut Bitmap, x: usize, y: usize, black: bool) {
+    if x < page.width() as usize && y < page.height() as usize {
+        page.set(x as u32, y as u32, black);
+    }
+}

@@ -1,0 +1,48 @@
+//! Closed walks along pixel edges.
+
+use pt_base::fault::NoMemory;
+use pt_base::point::Point;
+use std::alloc::Global;
+
+/// The path round a black rectangle at the lower left corner of a page.
+pub fn round(alloc: Global, width: i32, height: i32) -> Result<Vec<Point>, NoMemory> {
+    let mut points = Vec::new(alloc);
+    put_side(&mut points, Point { x: 0, y: height }, (0, -1), height)?;
+    put_side(&mut points, Point { x: 0, y: 0 }, (1, 0), width)?;
+    put_side(&mut points, Point { x: width, y: 0 }, (0, 1), height)?;
+    put_side(&mut points, Point { x: width, y: height }, (-1, 0), width)?;
+    Ok(points)
+}
+
+/// Appends so many points on a straight way.
+fn put_side(
+    points: &mut Vec<Point>,
+    from: Point,
+    step: (i32, i32),
+    count: i32,
+) -> Result<(), NoMemory> {
+    let mut at = from;
+    for _ in 0..count {
+        points.push(at)?;
+        at.x = at.x.wrapping_add(step.0);
+        at.y = at.y.wrapping_add(step.1);
+    }
+    Ok(())
+}
+
+/// Draws the walk whose steps are the code's digits to base 4; whether it is closed.
+pub fn draw(code: u32, points: &mut [Point]) -> bool {
+    let mut rest = code;
+    let (mut x, mut y) = (100i32, 100i32);
+    for point in points.iter_mut() {
+        *point = Point { x, y };
+        match rest % 4 {
+            0 => x = x.wrapping_add(1),
+            1 => y = y.wrapping_add(1),
+            2 => x = x.wrapping_sub(1),
+            _ => y = y.wrapping_sub(1),
+        }
+        rest /= 4;
+    }
+    x == 100 && y == 100
+}

@@ -1,0 +1,8 @@
+//! All that the program does: what its words ask, its messages, and its run over the pages.
+#![tactic(auto)]
+
+mod ask;
+mod document;
+pub mod message;
+mod pages;
+pub mod top;

@@ -1,0 +1,5 @@
+//! Tests of the page reader: whole files beside what a person reads in them.
+#![tactic(auto)]
+
+#[cfg(test)]
+mod tests;

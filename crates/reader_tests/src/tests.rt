@@ -1,0 +1,8 @@
+//! What no clause says: the texts of the faults, that pages come with ample memory, and whole files
+//! beside what a person reads in them, however the reads cut them.
+
+mod answers;
+mod bmp;
+mod bmp_refusals;
+mod gray;
+mod pages;

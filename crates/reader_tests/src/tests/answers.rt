@@ -1,0 +1,99 @@
+//! What the reader answers on a file, as a text.
+ghost use Rattle.std.specs.Prelude.{◌≤◌};
+
+use bit_image::bitmap::Bitmap;
+use bitmap_input::next::Next;
+use bitmap_input::reader::PageReader;
+use pt_base::inputs::Inputs;
+use pt_base::mem_inputs::{InCall, MemInputs, NamedBytes};
+use std::alloc::Global;
+use std::test::Fail;
+use threshold_map::level::Level;
+
+/// The level at which half of white is black.
+pub(super) fn half() -> Level {
+    Level::from_micro(500000)
+}
+
+/// What the reader answers on a file at one half, however many bytes a read gives, or None where the
+/// answers differ.
+pub(super) fn told(alloc: Global, bytes: &[u8]) -> Result<Option<String>, Fail> {
+    let whole = answers(alloc, bytes, 65536, &[], &half(), false)?;
+    let single = answers(alloc, bytes, 1, &[], &half(), false)?;
+    if whole.as_str() == single.as_str() {
+        Ok(Some(whole))
+    } else {
+        Ok(None)
+    }
+}
+
+/// Whether the reader answers so on a file, however many bytes a read gives.
+pub(super) fn tells(alloc: Global, bytes: &[u8], text: &str) -> Result<bool, Fail> {
+    match told(alloc, bytes)? {
+        Some(told) => Ok(told.as_str() == text),
+        None => Ok(false),
+    }
+}
+
+/// What the reader answers on a file, up to its end or a fault.
+pub(super) fn answers(
+    alloc: Global,
+    bytes: &[u8],
+    most: u32,
+    fails: &[InCall],
+    level: &Level,
+    invert: bool,
+) -> Result<String, Fail>
+    requires { 1 ≤ most }
+{
+    let mut inputs = file(alloc, bytes, most, fails)?;
+    let mut reader = PageReader::new(alloc)?;
+    let mut text = String::new(alloc);
+    if inputs.open("-").is_err() {
+        return Ok(text);
+    }
+    for _i in 0..4u32 {
+        match reader.next(alloc, &mut inputs, level, invert) {
+            Ok(Next::Page(page)) => show(&page, &mut text)?,
+            Ok(Next::End) => return ended(text, "end"),
+            Ok(Next::Trailing) => return ended(text, "trailing"),
+            Ok(Next::Over) => return Ok(text),
+            Err(fault) => return ended(text, format!(in alloc; "{fault}")?.as_str()),
+        }
+    }
+    Ok(text)
+}
+
+/// Inputs with one file.
+fn file(alloc: Global, bytes: &[u8], most: u32, fails: &[InCall]) -> Result<MemInputs, Fail>
+    requires { 1 ≤ most }
+{
+    let file = NamedBytes {
+        name: String::from_str(alloc, "-")?,
+        bytes: Vec::from_slice(alloc, bytes)?,
+    };
+    Ok(MemInputs::new(vec![in alloc; file]?, most, Vec::from_slice(alloc, fails)?))
+}
+
+fn ended(mut text: String, end: &str) -> Result<String, Fail> {
+    text.push_str(end)?;
+    Ok(text)
+}
+
+/// Appends the rows of a page from the top.
+fn show(page: &Bitmap, text: &mut String) -> Result<(), Fail> {
+    for y in (0..page.height()).rev() {
+        show_row(page, y, text)?;
+    }
+    text.push(' ')?;
+    Ok(())
+}
+
+/// Appends a row, `#` for a black pixel.
+fn show_row(page: &Bitmap, y: u32, text: &mut String) -> Result<(), Fail> {
+    for x in 0..page.width() {
+        text.push(if page.get(i64::from(x), i64::from(y)) { '#' } else { '.' })?;
+    }
+    text.push('/')?;
+    Ok(())
+}

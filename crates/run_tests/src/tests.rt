@@ -1,0 +1,8 @@
+//! Worked pages, what is refused, and failing devices.
+
+mod cases;
+mod documents;
+mod failing;
+mod formats;
+mod pages;
+mod refusals;

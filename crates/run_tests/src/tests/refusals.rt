@@ -1,0 +1,99 @@
+//! What is refused: pages, and words.
+
+use crate::tests::cases::{Case, expect};
+use std::test::Fail;
+
+const PIXEL: &str = "points 1 1 1\n+ 1 0,1 0,0 1,0 1,1\n";
+
+const LEFT: &str = "-b points -z left -t 0";
+
+#[test]
+fn refusals(rt: HostRuntime) -> Result<(), Fail> {
+    let cases: [(&[u8], &str); 10] = [
+        (b"", "unknown format"),
+        (b"P5 1 1 0\n", "bad header"),
+        (b"P2 1 1 255x", "bad raster"),
+        (b"P6 1 1 255\n", "unknown format"),
+        (b"P4 16385 1\n", "side too large"),
+        (b"P4 0 99999\n", "zero side"),
+        (b"P1 2 1 12", "bad raster"),
+        (b"P1 1 1 x", "bad raster"),
+        (b"P1 2 1 1", "truncated"),
+        (b"P1 1 x 1", "bad header"),
+    ];
+    for (input, text) in cases {
+        let message = format!(in rt.alloc(); "potrace: -: page 1: {text}\n")?;
+        let done = Case::new(LEFT, input).run(&rt, rt.alloc())?;
+        expect(&rt, &done, 2, &[], message.as_str());
+    }
+    Ok(())
+}
+
+#[test]
+fn gaps_have_a_limit(rt: HostRuntime) -> Result<(), Fail> {
+    for (spaces, status, documents, message) in [
+        (1_048_576, 0, [PIXEL].as_slice(), ""),
+        (
+            1_048_577,
+            2,
+            [].as_slice(),
+            "potrace: -: page 1: gap too long\n",
+        ),
+    ] {
+        let mut input = Vec::from_slice(rt.alloc(), b"P1")?;
+        input.resize(2 + spaces, b' ')?;
+        input.extend_from_slice(b"1 1 1")?;
+        let done = Case::new(LEFT, &input).run(&rt, rt.alloc())?;
+        expect(&rt, &done, status, documents, message);
+    }
+    Ok(())
+}
+
+#[test]
+fn pages_have_a_limit(rt: HostRuntime) -> Result<(), Fail> {
+    let mut input = Vec::new(rt.alloc());
+    for _ in 0..65_537 {
+        input.extend_from_slice(b"P1 1 1 1\n")?;
+    }
+    let done = Case::new("-b points -z left -t 2", &input).run(&rt, rt.alloc())?;
+    let said = b"potrace: -: page 65537: too many pages\n".as_slice();
+    assert_eq!(rt; (done.status, done.outs.count(), done.errs.text()), (2, 65_536, said));
+    Ok(())
+}
+
+#[test]
+fn other_words(rt: HostRuntime) -> Result<(), Fail> {
+    for words in [
+        "-b points -z left",
+        "-b points -z left -t 0 x",
+        "-z left -b points -t 0",
+        "-b svg -z left -t 0",
+        "-b svg -z left -t 0 -n",
+        "-b svg -z left -t 0 --flat -n",
+        "-b svg -z left -t 0 -n --flat -a 1",
+        "-b svg -z left -t 0 -a 1000.000001 -n --flat",
+        "-b points -z left -t 0 -n --flat",
+        "-b eps -z left -t 0 -n --flat",
+        "-b points -z left -t 0 -a 1 -i",
+        "-b points -z random -t 0",
+        "-b points -z left -t 1000000001",
+        "-b points -z left -t -1",
+        "-b points -z left -t 0 -k 1.000001",
+        "-b points -z left -t 0 -k .",
+        "-b points -z left -t 0 -k",
+        "-b points -z left -t 0 -i -k 0.5",
+        "-b points -z left -t 0 -i -i",
+        "-b polygon -z left -t 0",
+        "",
+    ] {
+        let done = Case::new(words, b"P1 1 1 1").run(&rt, rt.alloc())?;
+        expect(
+            &rt,
+            &done,
+            1,
+            &[],
+            "potrace: bad arguments, see potrace -h\n",
+        );
+    }
+    Ok(())
+}
