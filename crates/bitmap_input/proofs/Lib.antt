@@ -29,3 +29,4 @@ pub mod Behind
 pub mod Answering
 pub mod Longest
 pub mod Files
+pub mod Sided

@@ -1,9 +1,10 @@
 //! Laws of the pages of a file, which callers and readers of the definitions rest on.
-ghost use Rattle.std.specs.Prelude.{◌≡◌, ℕ, ◌≤◌, Bool, false, List, ◌++◌, length, take};
+ghost use Rattle.std.specs.Prelude.{◌≡◌, ℕ, ◌≤◌, Bool, false, List, ◌++◌, length, take, All};
 ghost use Rattle.bitmap_input.specs.Cut.{Ending, is_by_end};
 ghost use Rattle.bitmap_input.specs.Parts.{run_length, gap_length};
 ghost use Rattle.bitmap_input.specs.Sets.{IsRun, IsGap};
-ghost use Rattle.bitmap_input.specs.Raw.{Raw};
+ghost use Rattle.bit_image.specs.Page.{IsPage};
+ghost use Rattle.bitmap_input.specs.Raw.{Raw, shown};
 ghost use Rattle.bitmap_input.specs.Front.{Answer, front, page_at};
 ghost use Rattle.bitmap_input.specs.FilePages.{FilePages};
 
@@ -33,4 +34,10 @@ pub fn file_pages_are_one()
     ensures some { (later : Bool) (bytes : List ℕ) → (raws : List Raw) × (ending : Ending) × FilePages later bytes raws ending }
     ensures same { (later : Bool) (bytes : List ℕ) (raws others : List Raw) (ending other : Ending)
         → FilePages later bytes raws ending → FilePages later bytes others other → (others ≡ raws) × (other ≡ ending) }
+{}
+
+/// What the pages of a file show are pages.
+pub fn file_pages_are_pages()
+    ensures { (later : Bool) (bytes : List ℕ) (raws : List Raw) (ending : Ending) (level : ℕ) (invert : Bool)
+        → FilePages later bytes raws ending → All (λ raw. IsPage (shown level invert raw)) raws }
 {}

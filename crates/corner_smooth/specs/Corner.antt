@@ -16,22 +16,22 @@ pub record IsInReach (c : ℤ) : Type 0 where
   pub high : c ≤ℤ pos 33553920
 
 -- both coordinates are
-pub record IsNearPage (p : Point) : Type 0 where
+pub record IsNearWidePage (p : Point) : Type 0 where
   pub x : IsInReach p.x
   pub y : IsInReach p.y
 
 -- the cross product of the ways from the first place to the two others
-abbrev pub cross_of : Point → Point → Point → ℤ
-cross_of before at after =
+abbrev pub signed_area_of : Point → Point → Point → ℤ
+signed_area_of before at after =
     (at.x -ℤ before.x) *ℤ (after.y -ℤ before.y) -ℤ (at.y -ℤ before.y) *ℤ (after.x -ℤ before.x)
 
 -- twice the area of the triangle of a vertex and its neighbours
 abbrev pub area_of : Point → Point → Point → ℕ
-area_of before at after = unsigned_abs (cross_of before at after)
+area_of before at after = unsigned_abs (signed_area_of before at after)
 
 -- how far two places are from each other, along the columns and along the rows
-abbrev pub distance_of : Point → Point → ℕ
-distance_of p q = unsigned_abs (q.x -ℤ p.x) + unsigned_abs (q.y -ℤ p.y)
+abbrev pub grid_distance_of : Point → Point → ℕ
+grid_distance_of p q = unsigned_abs (q.x -ℤ p.x) + unsigned_abs (q.y -ℤ p.y)
 
 -- Selinger's alpha, for a triangle of this doubled area whose neighbours of the vertex are at this
 -- distance. Parallel to the line through the middles of the two sides at the vertex, another one touches
@@ -46,7 +46,7 @@ sharpness_by area distance =
 
 -- that of a vertex and its neighbours
 abbrev pub sharpness_of : Point → Point → Point → Fraction
-sharpness_of before at after = sharpness_by (area_of before at after) (distance_of before after)
+sharpness_of before at after = sharpness_by (area_of before at after) (grid_distance_of before after)
 
 -- the sharpness is at least so many millionths
 abbrev pub is_corner : ℕ → Fraction → Bool
@@ -90,10 +90,10 @@ pieces_of alphamax vertices = map (piece_at alphamax vertices) (range_with_len 0
 
 -- the piece's places are near the page
 abbrev pub StaysNear : Piece → Type 0
-StaysNear (Corner at end) = IsNearPage at × IsNearPage end
-StaysNear (Curve first second end al) = IsNearPage first × IsNearPage second × IsNearPage end
+StaysNear (Corner at end) = IsNearWidePage at × IsNearWidePage end
+StaysNear (Curve first second end al) = IsNearWidePage first × IsNearWidePage second × IsNearWidePage end
 
 -- a curve's `al` is from 0.55 to 1, in units of 1/65536
-abbrev pub IsRound : Piece → Type 0
-IsRound (Corner at end) = Unit {0}
-IsRound (Curve first second end al) = (36045 ≤ al) × (al ≤ 65536)
+abbrev pub HasRoundness : Piece → Type 0
+HasRoundness (Corner at end) = Unit {0}
+HasRoundness (Curve first second end al) = (36045 ≤ al) × (al ≤ 65536)

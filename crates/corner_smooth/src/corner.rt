@@ -1,6 +1,6 @@
 //! How sharp a vertex is.
 ghost use Rattle.std.specs.Prelude.{◌≡◌, ◌≤◌, ◌<◌, ◌*◌, ◌^◌};
-ghost use Rattle.corner_smooth.specs.Corner.{IsNearPage, al_of, is_corner, sharpness_by, sharpness_of};
+ghost use Rattle.corner_smooth.specs.Corner.{IsNearWidePage, al_of, is_corner, sharpness_by, sharpness_of};
 
 use crate::triangle::{area, distance};
 use pt_base::point::Point;
@@ -15,9 +15,9 @@ pub(crate) struct Fraction {
 /// How sharp a vertex is between its neighbours: 0 where a straight line would do, near 4/3 where the
 /// outline all but turns back.
 pub(crate) fn sharpness(before: Point, at: Point, after: Point) -> Fraction
-    requires before { IsNearPage before }
-    requires at { IsNearPage at }
-    requires after { IsNearPage after }
+    requires before { IsNearWidePage before }
+    requires at { IsNearWidePage at }
+    requires after { IsNearWidePage after }
     ensures value { result ≡ sharpness_of before at after }
     ensures some { 0 < result.denominator }
     ensures blunt { result.numerator < result.denominator → result.numerator ≤ 2 ^ 40 }

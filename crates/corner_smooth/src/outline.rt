@@ -1,7 +1,7 @@
 //! The pieces of a whole outline.
 ghost use Rattle.std.specs.Prelude.{◌≡◌, ◌≤◌, ◌<◌, ◌+◌, ◌%◌, length, IfOk};
 ghost use Rattle.std.specs.List.{All};
-ghost use Rattle.corner_smooth.specs.Corner.{IsNearPage, IsRound, StaysNear, pieces_of};
+ghost use Rattle.corner_smooth.specs.Corner.{IsNearWidePage, HasRoundness, StaysNear, pieces_of};
 
 use crate::vertex::piece;
 use pt_base::fault::NoMemory;
@@ -16,12 +16,12 @@ use std::alloc::Global;
 /// sharper becomes a corner, and any other a curve: with 0 all are corners, and from 1333334 on none is.
 pub fn smooth(alloc: Global, vertices: &[Point], alphamax: u32) -> Result<Sequence<Piece>, NoMemory>
     requires some { 2 ≤ length vertices.now }
-    requires near { All IsNearPage vertices.now }
+    requires near { All IsNearWidePage vertices.now }
     requires alphamax { alphamax ≤ 1000000000 }
     ensures pieces { IfOk result (λ pieces. pieces ≡ pieces_of alphamax vertices.now) }
     ensures one_each { IfOk result (λ pieces. length pieces ≡ length vertices.now) }
     ensures near { IfOk result (λ pieces. All StaysNear pieces) }
-    ensures round { IfOk result (λ pieces. All IsRound pieces) }
+    ensures round { IfOk result (λ pieces. All HasRoundness pieces) }
 {
     let mut pieces = Vec::with_capacity(alloc, vertices.len())?;
     let mut before = vertices[vertices.len() - 1];

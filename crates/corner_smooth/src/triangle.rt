@@ -2,15 +2,15 @@
 //!
 //! Coordinates lie within 2^25 of each other, so that products of two differences are at most 2^50.
 ghost use Rattle.std.specs.Prelude.{◌≡◌, ◌≤◌, ◌^◌, ◌-ℤ◌, ◌*ℤ◌, unsigned_abs};
-ghost use Rattle.corner_smooth.specs.Corner.{IsInReach, IsNearPage, area_of, distance_of};
+ghost use Rattle.corner_smooth.specs.Corner.{IsInReach, IsNearWidePage, area_of, grid_distance_of};
 
 use pt_base::point::Point;
 
 /// Twice the triangle's area, in units of 1/1024 pixel each way.
 pub(crate) fn area(before: Point, at: Point, after: Point) -> u64
-    requires before { IsNearPage before }
-    requires at { IsNearPage at }
-    requires after { IsNearPage after }
+    requires before { IsNearWidePage before }
+    requires at { IsNearWidePage at }
+    requires after { IsNearWidePage after }
     ensures value { result ≡ area_of before at after }
     ensures most { result ≤ 2 ^ 51 }
 {
@@ -21,9 +21,9 @@ pub(crate) fn area(before: Point, at: Point, after: Point) -> u64
 
 /// How far the vertex's neighbours are from each other, along the columns and along the rows.
 pub(crate) fn distance(before: Point, after: Point) -> u64
-    requires before { IsNearPage before }
-    requires after { IsNearPage after }
-    ensures value { result ≡ distance_of before after }
+    requires before { IsNearWidePage before }
+    requires after { IsNearWidePage after }
+    ensures value { result ≡ grid_distance_of before after }
     ensures most { result ≤ 2 ^ 26 }
 {
     between(before.x, after.x).unsigned_abs() + between(before.y, after.y).unsigned_abs()

@@ -1,7 +1,7 @@
 //! The piece of an outline at a vertex.
 ghost use Rattle.std.specs.Prelude.{◌≡◌, ◌≤◌, ◌+◌, ◌^◌, ◌+ℤ◌, ◌*ℤ◌, pos, unsigned_abs};
 ghost use Rattle.pt_base.specs.Floor.{floor_of};
-ghost use Rattle.corner_smooth.specs.Corner.{IsInReach, IsNearPage, IsRound, StaysNear, control_of, curve_of, middle_of, part_of, piece_of};
+ghost use Rattle.corner_smooth.specs.Corner.{IsInReach, IsNearWidePage, HasRoundness, StaysNear, control_of, curve_of, middle_of, part_of, piece_of};
 
 use crate::corner::{al, is_corner, sharpness};
 use crate::triangle::between;
@@ -11,12 +11,12 @@ use pt_base::point::Point;
 /// The piece at a vertex between its neighbours: a corner where it is as sharp as `alphamax` millionths.
 #[tactic(auto, unfolding(crate::specs::Corner::piece_of))]
 pub(crate) fn piece(alphamax: u32, before: Point, at: Point, after: Point) -> Piece
-    requires before { IsNearPage before }
-    requires at { IsNearPage at }
-    requires after { IsNearPage after }
+    requires before { IsNearWidePage before }
+    requires at { IsNearWidePage at }
+    requires after { IsNearWidePage after }
     ensures value { result ≡ piece_of alphamax before at after }
     ensures near { StaysNear result }
-    ensures round { IsRound result }
+    ensures round { HasRoundness result }
 {
     let sharpness = sharpness(before, at, after);
     if is_corner(alphamax, sharpness) {
@@ -31,12 +31,12 @@ pub(crate) fn piece(alphamax: u32, before: Point, at: Point, after: Point) -> Pi
 fn curve(al: u32, before: Point, at: Point, after: Point) -> Piece
     requires least { 36045 ≤ al }
     requires most { al ≤ 65536 }
-    requires before { IsNearPage before }
-    requires at { IsNearPage at }
-    requires after { IsNearPage after }
+    requires before { IsNearWidePage before }
+    requires at { IsNearWidePage at }
+    requires after { IsNearWidePage after }
     ensures value { result ≡ curve_of al before at after }
     ensures near { StaysNear result }
-    ensures round { IsRound result }
+    ensures round { HasRoundness result }
 {
     Piece::Curve {
         first: control(al, before, at),
@@ -49,10 +49,10 @@ fn curve(al: u32, before: Point, at: Point, after: Point) -> Piece
 /// A curve's control between a neighbour and the vertex.
 fn control(al: u32, neighbour: Point, at: Point) -> Point
     requires al { al ≤ 65536 }
-    requires neighbour { IsNearPage neighbour }
-    requires at { IsNearPage at }
+    requires neighbour { IsNearWidePage neighbour }
+    requires at { IsNearWidePage at }
     ensures value { result ≡ control_of al neighbour at }
-    ensures near { IsNearPage result }
+    ensures near { IsNearWidePage result }
 {
     Point {
         x: part(al, neighbour.x, at.x),
@@ -83,10 +83,10 @@ fn share(al: u32, way: i64) -> i64
 
 /// Halfway between two places, rounded down.
 fn middle(p: Point, q: Point) -> Point
-    requires p { IsNearPage p }
-    requires q { IsNearPage q }
+    requires p { IsNearWidePage p }
+    requires q { IsNearWidePage q }
     ensures value { result ≡ middle_of p q }
-    ensures near { IsNearPage result }
+    ensures near { IsNearWidePage result }
 {
     Point {
         x: half_way(p.x, q.x),

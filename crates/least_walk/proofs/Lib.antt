@@ -1,7 +1,9 @@
+pub mod OneLeast
 pub mod Going
 pub mod Before
 pub mod Walks
 pub mod Onward
 pub mod Cheapest
 pub mod Written
+pub mod Exists
 mod Examples

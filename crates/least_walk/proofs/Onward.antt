@@ -8,7 +8,7 @@ use Rattle.std.specs.declared.cmp.Ordering.TheVariants.{Less, Greater}
 use Rattle.std.proofs.lemmas.Bool.{cases_lt}
 use Rattle.least_walk.specs.LeastWalk.{total_cost, IsBefore}
 use Rattle.least_walk.specs.LeastWalk.IsBefore.{by_steps, by_cost, by_list}
-use Rattle.least_walk.specs.OneLeast.{same_from_neither}
+use Rattle.least_walk.proofs.OneLeast.{same_from_neither}
 use Rattle.least_walk.specs.Suffix.{GoesOn, IsFewestFrom, IsLeastFrom, IsLeastCost, IsLeastNext, HasFewest, HasCosts}
 use Rattle.least_walk.proofs.Going.{goes_below, length-steps_from, total_cost-cons}
 use Rattle.least_walk.proofs.Before.{slice_cmp-cons, nat_cmp_above, not_before_itself, IsBefore-cons}
@@ -66,7 +66,7 @@ module _ (size : ℕ) (is_allowed : ℕ → ℕ → Type 0) where
     none_before_end [] at_end before = not_before_itself cost (size ∷ []) before
     none_before_end (k ∷ v) goes before = let room = goes_below size is_allowed k v goes.2 in omega arith
 
-    least_at_end : IsLeastFrom size is_allowed cost size []
+    pub least_at_end : IsLeastFrom size is_allowed cost size []
     least_at_end = record { goes_on = refl; none_before = none_before_end }
 
     -- at the end there is nothing left to pay

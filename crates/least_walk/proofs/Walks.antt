@@ -7,7 +7,7 @@ use Rattle.std.proofs.lemmas.List.Elements.{All-nil, All-cons, All-head, All-tai
 use Rattle.least_walk.specs.LeastWalk.{Step, steps_from, step_count, total_cost, walk_from}
 use Rattle.least_walk.specs.LeastWalk.{IsWalk, IsLeast, IsBefore}
 use Rattle.least_walk.specs.LeastWalk.IsBefore.{by_steps}
-use Rattle.least_walk.specs.OneLeast.{one_least}
+use Rattle.least_walk.proofs.OneLeast.{one_least}
 use Rattle.least_walk.specs.Suffix.{GoesOn, IsFewestFrom, IsLeastFrom, IsLeastCost}
 use Rattle.least_walk.proofs.Going.{length-steps_from}
 

@@ -1,3 +1,2 @@
 pub mod LeastWalk
 pub mod Suffix
-pub mod OneLeast

@@ -1,5 +1,5 @@
 //! What follows from the definitions alone.
-ghost use Rattle.std.specs.Prelude.{◌≡◌, List, ℕ, Contains};
+ghost use Rattle.std.specs.Prelude.{◌≡◌, ◌<◌, ◌≤◌, ◌⊎◌, List, ℕ, Contains};
 ghost use Rattle.least_walk.specs.LeastWalk.{IsLeast, IsFewestStep, steps_of, Step};
 
 use crate::steps::Steps;
@@ -18,4 +18,12 @@ pub fn least_walk_keeps_to_fewest_steps<S: Steps>(steps: &S)
         → IsLeast (S.size_of steps.now) (S.is_allowed steps.now) (S.cost_of steps.now) walk
         → Contains (steps_of walk) step
         → IsFewestStep (S.size_of steps.now) (S.is_allowed steps.now) step.from step.to }
+{}
+
+/// Where each step is allowed or not, there is a least walk.
+pub fn some_walk_is_least<S: Steps>(steps: &S)
+    ensures { ((i j : ℕ) → i < j → j ≤ S.size_of steps.now
+        → S.is_allowed steps.now i j ⊎ ¬ S.is_allowed steps.now i j)
+        → (walk : List ℕ)
+        × IsLeast (S.size_of steps.now) (S.is_allowed steps.now) (S.cost_of steps.now) walk }
 {}

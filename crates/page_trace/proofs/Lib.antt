@@ -1,4 +1,5 @@
 pub mod Kept
+pub mod Exists
 pub mod OneTrace
 pub mod Segments
 pub mod Zipping

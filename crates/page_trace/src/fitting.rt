@@ -3,7 +3,7 @@ ghost use Rattle.std.specs.Prelude.{◌≤◌, ◌+◌, All, IfOk, zip, length};
 ghost use Rattle.std.specs.List.{AllZip};
 ghost use Rattle.pt_base.specs.ClosedWalk.{IsClosedWalk};
 ghost use Rattle.pt_base.specs.OnPage.{AreOnPage};
-ghost use Rattle.corner_smooth.specs.Corner.{IsNearPage};
+ghost use Rattle.corner_smooth.specs.Corner.{IsNearWidePage};
 ghost use Rattle.page_trace.specs.Trace.{AreVerticesOf, IsPolygonOf};
 
 use polygon_optimal::optimal::polygon_by;
@@ -31,7 +31,7 @@ pub(crate) fn fit_all(alloc: Global, paths: &[Path]) -> Result<Fitted, NoMemory>
     requires on_page { All (λ path. AreOnPage path.points) paths.now }
     ensures polygons { IfOk result (λ all. AllZip IsPolygonOf paths.now all.polygons.items) }
     ensures vertices { IfOk result (λ all. AllZip AreVerticesOf (zip paths.now all.polygons.items) all.vertices.items) }
-    ensures near { IfOk result (λ all. All (All IsNearPage) all.vertices.items) }
+    ensures near { IfOk result (λ all. All (All IsNearWidePage) all.vertices.items) }
     ensures some { IfOk result (λ all. All (λ one. 2 ≤ length one) all.vertices.items) }
 {
     let mut polygons = Vec::with_capacity(alloc, paths.len())?;
@@ -50,7 +50,7 @@ fn fit(alloc: Global, path: &Path) -> Result<(Polygon, Sequence<Point>), NoMemor
     requires on_page { AreOnPage path.now.points }
     ensures polygon { IfOk result (λ both. IsPolygonOf path.now both.0) }
     ensures vertices { IfOk result (λ both. AreVerticesOf (path.now, both.0) both.1) }
-    ensures near { IfOk result (λ both. All IsNearPage both.1) }
+    ensures near { IfOk result (λ both. All IsNearWidePage both.1) }
     ensures some { IfOk result (λ both. 2 ≤ length both.1) }
 {
     let points = path.points.as_slice();

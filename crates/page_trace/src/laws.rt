@@ -2,8 +2,8 @@
 ghost use Rattle.std.specs.Prelude.{◌≡◌, ℕ, List};
 ghost use Rattle.pt_base.specs.declared.settings.Settings.{Settings};
 ghost use Rattle.pt_base.specs.declared.trace.Trace.{Trace};
-ghost use Rattle.bit_image.specs.Page.{Page};
-ghost use Rattle.page_trace.specs.Document.{IsDocument, text_of};
+ghost use Rattle.bit_image.specs.Page.{Page, IsPage};
+ghost use Rattle.page_trace.specs.Document.{CanWrite, IsDocument, text_of};
 ghost use Rattle.page_trace.specs.Trace.{IsTrace};
 
 /// A page has at most one trace under some settings.
@@ -22,4 +22,15 @@ pub fn documents_are_texts_of_traces()
 pub fn documents_are_one()
     ensures { (page : Page) (settings : Settings) (text other : List ℕ)
         → IsDocument page settings text → IsDocument page settings other → text ≡ other }
+{}
+
+/// A page has a trace under all settings.
+pub fn pages_have_traces()
+    ensures { (page : Page) (settings : Settings) → IsPage page → (trace : Trace) × IsTrace page settings trace }
+{}
+
+/// A page has a document under all settings under which one is written.
+pub fn pages_have_documents()
+    ensures { (page : Page) (settings : Settings) → IsPage page → CanWrite settings
+        → (text : List ℕ) × IsDocument page settings text }
 {}

@@ -1,6 +1,6 @@
 //! The smooth outlines of polygons.
 ghost use Rattle.std.specs.Prelude.{◌≡◌, ◌≤◌, All, IfOk, map, length};
-ghost use Rattle.corner_smooth.specs.Corner.{IsNearPage, pieces_of};
+ghost use Rattle.corner_smooth.specs.Corner.{IsNearWidePage, pieces_of};
 
 use corner_smooth::outline::smooth;
 use pt_base::fault::NoMemory;
@@ -15,7 +15,7 @@ pub(crate) fn all_outlines(
     vertices: &[Sequence<Point>],
     alphamax: u32,
 ) -> Result<Vec<Sequence<Piece>>, NoMemory>
-    requires near { All (All IsNearPage) vertices.now }
+    requires near { All (All IsNearWidePage) vertices.now }
     requires some { All (λ one. 2 ≤ length one) vertices.now }
     requires alphamax { alphamax ≤ 1000000000 }
     ensures { IfOk result (λ outlines. outlines.items ≡ map (pieces_of alphamax) vertices.now) }

@@ -3,7 +3,7 @@ use Rattle.std.proofs.Common.{◌≡◌, ℕ, List, [], ◌∷◌, length}
 use Rattle.std.proofs.lemmas.List.{append_cancel_right}
 use Rattle.pt_base.specs.declared.point.Point.{Point}
 use Rattle.least_walk.specs.LeastWalk.{walk_from}
-use Rattle.least_walk.specs.OneLeast.{one_least}
+use Rattle.least_walk.proofs.OneLeast.{one_least}
 use Rattle.polygon_optimal.specs.Polygon.{IsSegment, IsBestPolygon, penalty_of}
 
 pub one_best : (points : List Point) (at other : List ℕ) → IsBestPolygon points at → IsBestPolygon points other → at ≡ other

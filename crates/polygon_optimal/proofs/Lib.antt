@@ -1,4 +1,6 @@
+pub mod OnePenalty
 pub mod Best
+pub mod Exists
 pub mod Reaching
 pub mod Vertices
 mod Examples

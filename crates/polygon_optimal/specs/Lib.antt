@@ -1,3 +1,2 @@
 pub mod Polygon
 pub mod Lasts
-pub mod OnePenalty

@@ -25,3 +25,8 @@ pub fn polygons_have_vertices()
     ensures points { (points : List Point) (at : List ℕ)
         → IsPolygon points at → All (λ i. i < length points) at }
 {}
+
+/// A closed walk has a best polygon.
+pub fn closed_walks_have_best_polygons()
+    ensures { (points : List Point) → IsClosedWalk points → (at : List ℕ) × IsBestPolygon points at }
+{}

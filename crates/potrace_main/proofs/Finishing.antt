@@ -1,12 +1,11 @@
 -- What the end of the pages means for the run.
-use Rattle.std.proofs.Common.{◌≡◌, ◌≤◌, ◌<◌, ◌≢◌, ◌⊎◌, ℕ, ◌+◌, Bool, false, List, [], ◌∷◌, ◌++◌, length, Option, None, Some, IfSome, inl, inr, refl, sym, ◌∙◌, ap, subst, option_map, arith}
+use Rattle.std.proofs.Common.{◌≡◌, ◌≤◌, ◌<◌, ◌≢◌, ◌⊎◌, ℕ, suc, ◌+◌, Bool, false, List, [], ◌∷◌, ◌++◌, length, Option, None, Some, IfSome, inl, inr, refl, sym, ◌∙◌, ap, subst, option_map, arith}
 use Rattle.std.proofs.lemmas.List.{append-nil}
 use Rattle.std.specs.FinMap.{get}
 use Rattle.pt_base.specs.Counts.{Rose}
 use Rattle.pt_base.specs.Files.{Files, Lacks, unread, unread_of, with_file}
 use Rattle.pt_base.specs.Documents.{Documents, IsCutOff, IsSaid}
 use Rattle.bitmap_input.specs.Cut.{Ending, Kind}
-use Rattle.bitmap_input.specs.Cut.Kind.{UnknownFormat, BadHeader, ZeroSide, TooLarge, Truncated, BadRaster, BmpKind, BadOffset, TooLong}
 use Rattle.bitmap_input.specs.Cut.Ending.{End, Trailing, Refused}
 use Rattle.bitmap_input.specs.Reading.{cause_of_fault}
 use Rattle.bitmap_input.specs.Reading.Cause.{Says}
@@ -17,13 +16,12 @@ use Rattle.bitmap_input.specs.FilePages.{FilePages}
 use Rattle.bitmap_input.specs.FilePages.FilePages.{Ended, Next}
 use Rattle.bitmap_input.proofs.Files.{file_pages_some}
 use Rattle.bitmap_input.specs.declared.fault.InFault.{InFault}
-use Rattle.bitmap_input.specs.declared.fault.InFault.TheVariants as fault
-use Rattle.potrace_main.specs.Messages.{dash, not_written, out_of_memory, page_line, trailing_line}
+use Rattle.potrace_main.specs.Messages.{bad_words, dash, not_opened, not_written, out_of_memory, page_line, trailing_line}
 use Rattle.potrace_main.specs.Items.{Item, AreInputItems, AreItems, kind_text, most_pages, too_many}
 use Rattle.potrace_main.specs.Items.Item.{Doc, Missing, Note, Stop}
 use Rattle.potrace_main.specs.Outcome.{AreSaid, GoesOn, IsDone, IsOutOfMemory, IsRefused, IsUnwritten, notes, with_items}
 use Rattle.potrace_main.specs.Progress.{InputCount, OutputCount, AreTraced, BeginsWith, EndsBy, Traces, docs, is_later}
-use Rattle.potrace_main.specs.Run.{EndsRefused, IsComplete, IsOutcome, IsToldBy, IsWritten, SaysEnd, fault_text, status_of}
+use Rattle.potrace_main.specs.Run.{EndsRefused, IsComplete, IsOutcome, IsToldBy, IsWritten, SaysEnd, cause_text, fault_text, status_of}
 use Rattle.pt_base.specs.declared.settings.Settings.{Settings}
 use Rattle.potrace_main.specs.declared.pages.PagesEnd.{PagesEnd}
 use Rattle.potrace_main.specs.declared.pages.PagesEnd.TheVariants as why
@@ -32,17 +30,7 @@ use Rattle.potrace_main.proofs.Paging.{items_of, items_too_many, pages_after, pa
 
 -- the message of a fault tells the kind of the refusal
 fault_text-kind : (f : InFault) (kind : Kind) → cause_of_fault f ≡ Says (Refused kind) → fault_text f ≡ kind_text kind
-fault_text-kind fault.UnknownFormat kind e = let same : UnknownFormat ≡ kind = cc in ap kind_text same
-fault_text-kind fault.BadHeader kind e = let same : BadHeader ≡ kind = cc in ap kind_text same
-fault_text-kind fault.ZeroSide kind e = let same : ZeroSide ≡ kind = cc in ap kind_text same
-fault_text-kind fault.TooLarge kind e = let same : TooLarge ≡ kind = cc in ap kind_text same
-fault_text-kind fault.Truncated kind e = let same : Truncated ≡ kind = cc in ap kind_text same
-fault_text-kind fault.BadRaster kind e = let same : BadRaster ≡ kind = cc in ap kind_text same
-fault_text-kind fault.BmpKind kind e = let same : BmpKind ≡ kind = cc in ap kind_text same
-fault_text-kind fault.BadOffset kind e = let same : BadOffset ≡ kind = cc in ap kind_text same
-fault_text-kind fault.TooLong kind e = let same : TooLong ≡ kind = cc in ap kind_text same
-fault_text-kind fault.ReadFault kind e = cc
-fault_text-kind fault.NoMemory kind e = cc
+fault_text-kind f kind e = ap cause_text e
 
 no_items-docs : (texts : List (List ℕ)) → docs texts ++ [] ≡ docs texts
 no_items-docs texts = append-nil (docs texts)
@@ -247,10 +235,11 @@ run_known one settings same (Some files) mid outs outs_now k end opened there tr
       (subst (λ o. EndsBy settings (is_later false t.raws) o (with_items outs (docs t.texts)) outs_now end) rest_is t.ends) t.full status in
       (items, inr (bytes, raws, ending, is, pages, are))
 
--- the message that belongs to the status
-pub told_by : (end : PagesEnd) (k : ℕ) (errs errs_now : Option Documents) (faults faults_now : ℕ)
-    → SaysEnd end k errs errs_now faults faults_now → IsToldBy (status_of end) errs errs_now faults faults_now
-told_by why.End k errs errs_now faults faults_now said = record {
+-- the message tells why the run ended, and counts the pages that were traced
+pub told_by : (settings : Settings) (later : Bool) (rest : Option (List ℕ)) (outs outs_now : Option Documents) (end : PagesEnd) (k : ℕ)
+    (errs errs_now : Option Documents) (faults faults_now : ℕ) → EndsBy settings later rest outs outs_now end → (end ≡ why.TooMany → most_pages ≤ k)
+    → SaysEnd end k errs errs_now faults faults_now → IsToldBy (status_of end) k errs errs_now faults faults_now
+told_by settings later rest outs outs_now why.End k errs errs_now faults faults_now ends full said = record {
   done = λ _. inl said;
   bad_words = λ e. absurd (omega (arith, e));
   refused = λ e. absurd (omega (arith, e));
@@ -258,39 +247,39 @@ told_by why.End k errs errs_now faults faults_now said = record {
   unwritten = λ e. absurd (omega (arith, e));
   out_of_memory = λ e. absurd (omega (arith, e));
 }
-told_by why.Trailing k errs errs_now faults faults_now said = record {
-  done = λ _. inr (k, said);
+told_by settings later rest outs outs_now why.Trailing k errs errs_now faults faults_now ends full said = record {
+  done = λ _. inr said;
   bad_words = λ e. absurd (omega (arith, e));
   refused = λ e. absurd (omega (arith, e));
   unread = λ e. absurd (omega (arith, e));
   unwritten = λ e. absurd (omega (arith, e));
   out_of_memory = λ e. absurd (omega (arith, e));
 }
-told_by (why.Refused f) k errs errs_now faults faults_now said = record {
+told_by settings later rest outs outs_now (why.Refused f) k errs errs_now faults faults_now ends full said = record {
   done = λ e. absurd (omega (arith, e));
   bad_words = λ e. absurd (omega (arith, e));
-  refused = λ _. (k + 1, fault_text f, said);
+  refused = λ _. inl (ends.1.0, subst (λ text. IsSaid errs errs_now faults faults_now (page_line dash (k + 1) text)) (fault_text-kind f ends.1.0 ends.1.1) said);
   unread = λ e. absurd (omega (arith, e));
   unwritten = λ e. absurd (omega (arith, e));
   out_of_memory = λ e. absurd (omega (arith, e));
 }
-told_by why.TooMany k errs errs_now faults faults_now said = record {
+told_by settings later rest outs outs_now why.TooMany k errs errs_now faults faults_now ends full said = record {
   done = λ e. absurd (omega (arith, e));
   bad_words = λ e. absurd (omega (arith, e));
-  refused = λ _. (k + 1, too_many, said);
+  refused = λ _. inr (full refl, said);
   unread = λ e. absurd (omega (arith, e));
   unwritten = λ e. absurd (omega (arith, e));
   out_of_memory = λ e. absurd (omega (arith, e));
 }
-told_by why.Unread k errs errs_now faults faults_now said = record {
+told_by settings later rest outs outs_now why.Unread k errs errs_now faults faults_now ends full said = record {
   done = λ e. absurd (omega (arith, e));
   bad_words = λ e. absurd (omega (arith, e));
   refused = λ e. absurd (omega (arith, e));
-  unread = λ _. inr (k + 1, said);
+  unread = λ _. inr said;
   unwritten = λ e. absurd (omega (arith, e));
   out_of_memory = λ e. absurd (omega (arith, e));
 }
-told_by why.Unwritten k errs errs_now faults faults_now said = record {
+told_by settings later rest outs outs_now why.Unwritten k errs errs_now faults faults_now ends full said = record {
   done = λ e. absurd (omega (arith, e));
   bad_words = λ e. absurd (omega (arith, e));
   refused = λ e. absurd (omega (arith, e));
@@ -298,7 +287,7 @@ told_by why.Unwritten k errs errs_now faults faults_now said = record {
   unwritten = λ _. said;
   out_of_memory = λ e. absurd (omega (arith, e));
 }
-told_by why.OutOfMemory k errs errs_now faults faults_now said = record {
+told_by settings later rest outs outs_now why.OutOfMemory k errs errs_now faults faults_now ends full said = record {
   done = λ e. absurd (omega (arith, e));
   bad_words = λ e. absurd (omega (arith, e));
   refused = λ e. absurd (omega (arith, e));
@@ -307,22 +296,78 @@ told_by why.OutOfMemory k errs errs_now faults faults_now said = record {
   out_of_memory = λ _. said;
 }
 
+-- a text for each page
+traced_length : (settings : Settings) (raws : List Raw) (texts : List (List ℕ)) → AreTraced settings raws texts → length raws ≡ length texts
+traced_length settings [] [] t = refl
+traced_length settings (raw ∷ raws) (text ∷ texts) t = ap suc (traced_length settings raws texts t.1)
+traced_length settings [] (text ∷ texts) t = absurd t
+traced_length settings (raw ∷ raws) [] t = absurd t
+
 -- the documents are those of the pages that were traced
-pub run_written : (settings : Settings) (bytes : Option (List ℕ)) (outs outs_now : Option Documents) (k : ℕ) (end : PagesEnd)
-    → Traces settings bytes outs outs_now k end → IsWritten settings (status_of end) outs outs_now
-run_written settings bytes outs outs_now k end t = by_end end t.ends where
-  by_end : (e : PagesEnd) → EndsBy settings (is_later false t.raws) t.rest (with_items outs (docs t.texts)) outs_now e → IsWritten settings (status_of e) outs outs_now
-  by_end why.End ends = record { raws = t.raws; texts = t.texts; traced = t.traced; whole = λ _. ends.0; cut_off = λ e. absurd (omega (arith, e)) }
-  by_end why.Trailing ends = record { raws = t.raws; texts = t.texts; traced = t.traced; whole = λ _. ends.0; cut_off = λ e. absurd (omega (arith, e)) }
-  by_end (why.Refused f) ends = record { raws = t.raws; texts = t.texts; traced = t.traced; whole = λ _. ends.0; cut_off = λ e. absurd (omega (arith, e)) }
-  by_end why.TooMany ends = record { raws = t.raws; texts = t.texts; traced = t.traced; whole = λ _. ends.0; cut_off = λ e. absurd (omega (arith, e)) }
-  by_end why.Unread ends = record { raws = t.raws; texts = t.texts; traced = t.traced; whole = λ _. ends; cut_off = λ e. absurd (omega (arith, e)) }
-  by_end why.OutOfMemory ends = record { raws = t.raws; texts = t.texts; traced = t.traced; whole = λ _. ends; cut_off = λ e. absurd (omega (arith, e)) }
-  by_end why.Unwritten (raw, used, text, is_text, here, cut) = record { raws = t.raws; texts = t.texts; traced = t.traced; whole = λ n. absurd (n refl); cut_off = λ _. (text, cut) }
+pub run_written : (settings : Settings) (bytes : Option (List ℕ)) (outs outs_now errs errs_now : Option Documents) (k faults faults_now : ℕ) (end : PagesEnd)
+    → Traces settings bytes outs outs_now k end → SaysEnd end k errs errs_now faults faults_now
+    → IsWritten settings (status_of end) outs outs_now errs errs_now faults faults_now
+run_written settings bytes outs outs_now errs errs_now k faults faults_now end t said =
+    let told = told_by settings _ t.rest (with_items outs (docs t.texts)) outs_now end k errs errs_now faults faults_now t.ends t.full said in
+    let counted : k ≡ length t.texts = t.count ∙ traced_length settings t.raws t.texts t.traced in
+    let written = ends_written end t.ends in
+    record {
+      raws = t.raws;
+      texts = t.texts;
+      traced = t.traced;
+      whole = written.0;
+      cut_off = written.1;
+      told = subst (λ n. IsToldBy (status_of end) n errs errs_now faults faults_now) counted told;
+    } where
+  ends_written : (e : PagesEnd) → EndsBy settings (is_later false t.raws) t.rest (with_items outs (docs t.texts)) outs_now e
+      → (status_of e ≢ 4 → outs_now ≡ with_items outs (docs t.texts)) × (status_of e ≡ 4 → (text : List ℕ) × IsCutOff (with_items outs (docs t.texts)) outs_now dash text)
+  ends_written why.End ends = (λ _. ends.0, λ e. absurd (omega (arith, e)))
+  ends_written why.Trailing ends = (λ _. ends.0, λ e. absurd (omega (arith, e)))
+  ends_written (why.Refused f) ends = (λ _. ends.0, λ e. absurd (omega (arith, e)))
+  ends_written why.TooMany ends = (λ _. ends.0, λ e. absurd (omega (arith, e)))
+  ends_written why.Unread ends = (λ _. ends, λ e. absurd (omega (arith, e)))
+  ends_written why.OutOfMemory ends = (λ _. ends, λ e. absurd (omega (arith, e)))
+  ends_written why.Unwritten (raw, used, text, is_text, here, cut) = (λ n. absurd (n refl), λ _. (text, cut))
 
 -- nothing was written
-pub none_written_at : (settings : Settings) (status : ℕ) (outs : Option Documents) → status ≢ 4 → IsWritten settings status outs outs
-none_written_at settings status outs other = record { raws = []; texts = []; traced = tt; whole = λ _. refl; cut_off = λ e. absurd (other e) }
+pub none_written_at : (settings : Settings) (status : ℕ) (outs errs errs_now : Option Documents) (faults faults_now : ℕ) → status ≢ 4
+    → IsToldBy status 0 errs errs_now faults faults_now → IsWritten settings status outs outs errs errs_now faults faults_now
+none_written_at settings status outs errs errs_now faults faults_now other told =
+    record { raws = []; texts = []; traced = tt; whole = λ _. refl; cut_off = λ e. absurd (other e); told = told }
+
+-- memory ran out, or standard input can't be opened, before any page
+pub told_no_memory : (errs errs_now : Option Documents) (faults faults_now : ℕ) → IsSaid errs errs_now faults faults_now out_of_memory
+    → IsToldBy 5 0 errs errs_now faults faults_now
+told_no_memory errs errs_now faults faults_now said = record {
+  done = λ e. absurd (omega (arith, e));
+  bad_words = λ e. absurd (omega (arith, e));
+  refused = λ e. absurd (omega (arith, e));
+  unread = λ e. absurd (omega (arith, e));
+  unwritten = λ e. absurd (omega (arith, e));
+  out_of_memory = λ _. said;
+}
+
+pub told_bad_words : (errs errs_now : Option Documents) (faults faults_now : ℕ) → IsSaid errs errs_now faults faults_now bad_words
+    → IsToldBy 1 0 errs errs_now faults faults_now
+told_bad_words errs errs_now faults faults_now said = record {
+  done = λ e. absurd (omega (arith, e));
+  bad_words = λ _. said;
+  refused = λ e. absurd (omega (arith, e));
+  unread = λ e. absurd (omega (arith, e));
+  unwritten = λ e. absurd (omega (arith, e));
+  out_of_memory = λ e. absurd (omega (arith, e));
+}
+
+pub told_unopened : (errs errs_now : Option Documents) (faults faults_now : ℕ) → IsSaid errs errs_now faults faults_now (not_opened dash)
+    → IsToldBy 3 0 errs errs_now faults faults_now
+told_unopened errs errs_now faults faults_now said = record {
+  done = λ e. absurd (omega (arith, e));
+  bad_words = λ e. absurd (omega (arith, e));
+  refused = λ e. absurd (omega (arith, e));
+  unread = λ _. inl (refl, said);
+  unwritten = λ e. absurd (omega (arith, e));
+  out_of_memory = λ e. absurd (omega (arith, e));
+}
 
 -- memory ran out before the first page
 pub out_of_memory_at_once : (items : List Item) (outs errs errs_now : Option Documents) (faults faults_now : ℕ)

@@ -1,6 +1,7 @@
 -- The reader's answers, as the run sees them.
 use Rattle.std.proofs.Common.{◌≡◌, ℕ, Bool, List, length, drop, Option, None, Some, IfSome, option_map, refl, sym, ◌∙◌, ap, subst}
-use Rattle.pt_base.specs.Files.{Files, Opened, taken_of, unread, unread_of, with_read}
+use Rattle.pt_base.specs.Files.{Files, Opened, taken_of, unread, unread_of, with_file, with_no_file, with_read}
+use Rattle.std.specs.FinMap.{get}
 use Rattle.bit_image.specs.Page.{Page as Pixels}
 use Rattle.bitmap_input.specs.declared.fault.InFault.{InFault}
 use Rattle.bitmap_input.specs.declared.fault.InFault.TheVariants as fault
@@ -10,9 +11,9 @@ use Rattle.bitmap_input.specs.Front.{front}
 use Rattle.bitmap_input.specs.Front.Answer.{Page, Ends}
 use Rattle.bitmap_input.specs.FilePages.{next_begins}
 use Rattle.bitmap_input.specs.Reading.{cause_of_fault}
-use Rattle.bitmap_input.specs.Reader.{Reader, ahead as reader_ahead, is_later, GivesPage, IfSays, TellsPage}
+use Rattle.bitmap_input.specs.Reader.{Reader, ahead as reader_ahead, is_later, GivesEnding, GivesPage, IfSays, MemoryFails, ReadFails, TellsPage}
 use Rattle.pt_base.specs.declared.settings.Settings.{Settings}
-use Rattle.potrace_main.specs.Progress.{EndsReading, ReadsPage, ahead, end_of_fault}
+use Rattle.potrace_main.specs.Progress.{EndsReading, ReadsPage, ahead, end_of_fault, opened_name}
 
 mapped : (o : Option (List ℕ)) (f : List ℕ → List ℕ) (P : List ℕ → Type 0) → IfSome o (λ rest. P (f rest)) → IfSome (option_map f o) P
 mapped None f P h = tt
@@ -73,3 +74,46 @@ fault_ends fault.BadRaster o g later h = (BadRaster, refl, mapped o g (λ all. f
 fault_ends fault.BmpKind o g later h = (BmpKind, refl, mapped o g (λ all. front later all ≡ Ends (Refused BmpKind)) h)
 fault_ends fault.BadOffset o g later h = (BadOffset, refl, mapped o g (λ all. front later all ≡ Ends (Refused BadOffset)) h)
 fault_ends fault.TooLong o g later h = (TooLong, refl, mapped o g (λ all. front later all ≡ Ends (Refused TooLong)) h)
+
+-- taking bytes keeps the opened file's name
+name-with_read : (before : Option Files) (n : ℕ) → opened_name (with_read before n) ≡ opened_name before
+name-with_read None n = refl
+name-with_read (Some files) n = by_file files.opened where
+  by_file : (file : Option Opened) → option_map (λ f. f.name) (option_map (taken_of n) file) ≡ option_map (λ f. f.name) file
+  by_file None = refl
+  by_file (Some file) = refl
+
+pub same_name : (before now : Option Files) (n : ℕ) → now ≡ with_read before n → opened_name now ≡ opened_name before
+same_name before now n e = ap opened_name e ∙ name-with_read before n
+
+-- so does a page that isn't read
+pub fault_name : (f : InFault) (old new : Reader) (before now : Option Files)
+    → IfSays (cause_of_fault f) (λ ending. GivesEnding old before ending new now)
+    → (f ≡ fault.ReadFault → ReadFails old before new now) → (f ≡ fault.NoMemory → MemoryFails old before new now)
+    → opened_name now ≡ opened_name before
+fault_name fault.ReadFault old new before now ends fails wants = same_name before now (length (fails refl).more) (fails refl).moves.files
+fault_name fault.NoMemory old new before now ends fails wants = same_name before now (length (wants refl).more) (wants refl).moves.files
+fault_name fault.UnknownFormat old new before now ends fails wants = same_name before now (length ends.answers.more) ends.answers.moves.files
+fault_name fault.BadHeader old new before now ends fails wants = same_name before now (length ends.answers.more) ends.answers.moves.files
+fault_name fault.ZeroSide old new before now ends fails wants = same_name before now (length ends.answers.more) ends.answers.moves.files
+fault_name fault.TooLarge old new before now ends fails wants = same_name before now (length ends.answers.more) ends.answers.moves.files
+fault_name fault.Truncated old new before now ends fails wants = same_name before now (length ends.answers.more) ends.answers.moves.files
+fault_name fault.BadRaster old new before now ends fails wants = same_name before now (length ends.answers.more) ends.answers.moves.files
+fault_name fault.BmpKind old new before now ends fails wants = same_name before now (length ends.answers.more) ends.answers.moves.files
+fault_name fault.BadOffset old new before now ends fails wants = same_name before now (length ends.answers.more) ends.answers.moves.files
+fault_name fault.TooLong old new before now ends fails wants = same_name before now (length ends.answers.more) ends.answers.moves.files
+
+abbrev opened_as : List ℕ → List ℕ → Opened
+opened_as name bytes = record { name = name; rest = bytes }
+
+-- the opened file has the name that was asked for
+pub name-with_file : (before : Option Files) (name : List ℕ) → IfSome (opened_name (with_file before name)) (λ opened. opened ≡ name)
+name-with_file None name = tt
+name-with_file (Some files) name = by_bytes (get files.contents name) where
+  by_bytes : (bytes : Option (List ℕ)) → IfSome (option_map (λ f. f.name) (option_map (opened_as name) bytes)) (λ opened. opened ≡ name)
+  by_bytes None = tt
+  by_bytes (Some bytes) = refl
+
+pub no_name : (before : Option Files) (name : List ℕ) → IfSome (opened_name (with_no_file before)) (λ opened. opened ≡ name)
+no_name None name = tt
+no_name (Some files) name = tt

@@ -12,12 +12,23 @@ use Rattle.bitmap_input.specs.Reader.{Reader, ahead as reader_ahead, at_start, i
 use Rattle.potrace_main.specs.Messages.{dash}
 use Rattle.page_trace.specs.Document.{IsDocument}
 use Rattle.potrace_main.specs.Items.{most_pages}
-use Rattle.potrace_main.specs.Progress.{BeginsWith, EndsBy, IsTraced, Traces, TracesPage, ahead, is_later}
+use Rattle.potrace_main.specs.Progress.{AreTraced, BeginsWith, EndsBy, Traces, TracesPage, ahead, docs, is_later}
 use Rattle.pt_base.specs.declared.settings.Settings.{Settings}
 use Rattle.potrace_main.specs.declared.pages.PagesEnd.{PagesEnd}
 use Rattle.potrace_main.specs.declared.pages.PagesEnd.TheVariants as why
 use Rattle.potrace_main.proofs.Outcomes.{with_docs-more}
 use Rattle.potrace_main.proofs.Paging.{AreTraced-more, BeginsWith-more}
+
+-- the first k pages were traced, and their documents written; the reader stands behind them
+pub record IsTraced (settings : Settings) (bytes : Option (List ℕ)) (outs : Option Documents) (reader : Reader) (files : Option Files) (outs_now : Option Documents) (k : ℕ) : Type 0 where
+  pub raws : List Raw
+  pub texts : List (List ℕ)
+  pub count : k ≡ length raws
+  pub traced : AreTraced settings raws texts
+  pub begins : IfSome bytes (λ all. (left : List ℕ) × (ahead reader files ≡ Some left) × BeginsWith false all raws left)
+  pub documents : outs_now ≡ with_items outs (docs texts)
+  pub counted : reader.pages ≡ k
+  pub going_on : reader.over ≡ false
 
 -- nothing is traced yet
 pub none_traced : (settings : Settings) (files : Option Files) (outs : Option Documents) → IsTraced settings (unread files) outs at_start files outs 0

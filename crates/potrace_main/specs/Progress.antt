@@ -1,5 +1,5 @@
 -- How far a run has come: the first pages of its input are traced.
-use Rattle.std.specs.Prelude.{◌≡◌, ℕ, ◌+◌, ◌<◌, ◌≤◌, Bool, true, false, List, [], ◌∷◌, length, drop, Option, Some, IfSome, option_map}
+use Rattle.std.specs.Prelude.{◌≡◌, ℕ, ◌+◌, ◌<◌, ◌≤◌, Bool, true, false, List, [], ◌∷◌, length, drop, Option, None, Some, IfSome, option_map}
 use Rattle.pt_base.specs.Counts.{Rose}
 use Rattle.pt_base.specs.Files.{Files, unread}
 use Rattle.bit_image.specs.Page.{Page as Pixels}
@@ -50,6 +50,11 @@ docs (text ∷ texts) = Doc dash text ∷ docs texts
 -- the bytes that the reader has still to read pages from, where they are told
 abbrev pub ahead : Reader → Option Files → Option (List ℕ)
 ahead reader files = option_map (reader_ahead reader) (unread files)
+
+-- the name of the opened file, where that is told and a file is opened
+abbrev pub opened_name : Option Files → Option (List ℕ)
+opened_name None = None
+opened_name (Some files) = option_map (λ file. file.name) files.opened
 
 -- the next page of what is ahead was read
 pub record ReadsPage (settings : Settings) (old : Reader) (before : Option Files) (page : Pixels) (new : Reader) (now : Option Files) : Type 0 where
@@ -139,17 +144,6 @@ OutputCount (why.Refused fault) before now ready = (now ≡ before) × (ready �
 OutputCount why.TooMany before now ready = (now ≡ before) × (ready ≡ false)
 OutputCount why.Unread before now ready = (now ≡ before) × (ready ≡ false)
 OutputCount why.OutOfMemory before now ready = (now ≡ before) × (ready ≡ false)
-
--- the first k pages were traced, and their documents written; the reader stands behind them
-pub record IsTraced (settings : Settings) (bytes : Option (List ℕ)) (outs : Option Documents) (reader : Reader) (files : Option Files) (outs_now : Option Documents) (k : ℕ) : Type 0 where
-  pub raws : List Raw
-  pub texts : List (List ℕ)
-  pub count : k ≡ length raws
-  pub traced : AreTraced settings raws texts
-  pub begins : IfSome bytes (λ all. (left : List ℕ) × (ahead reader files ≡ Some left) × BeginsWith false all raws left)
-  pub documents : outs_now ≡ with_items outs (docs texts)
-  pub counted : reader.pages ≡ k
-  pub going_on : reader.over ≡ false
 
 -- k pages were traced, and then the run ended so
 pub record Traces (settings : Settings) (bytes : Option (List ℕ)) (outs outs_now : Option Documents) (k : ℕ) (end : PagesEnd) : Type 0 where

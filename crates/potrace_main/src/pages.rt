@@ -7,7 +7,7 @@ ghost use Rattle.bitmap_input.specs.Reader.{at_start, is_later as reader_is_late
 ghost use Rattle.potrace_main.specs.Asked.{IsOffered};
 ghost use Rattle.potrace_main.specs.Messages.{dash};
 ghost use Rattle.page_trace.specs.Document.{CanWrite, IsDocument};
-ghost use Rattle.potrace_main.specs.Progress.{EndsBy, EndsReading, EndsWriting, InputCount, OutputCount, ReadsPage, Traces, TracesPage, ahead, end_of_fault};
+ghost use Rattle.potrace_main.specs.Progress.{EndsBy, EndsReading, EndsWriting, InputCount, OutputCount, ReadsPage, Traces, TracesPage, ahead, end_of_fault, opened_name};
 ghost use Rattle.pt_base.specs.declared.settings.Settings.{Settings};
 
 use crate::document::write_document;
@@ -70,6 +70,8 @@ pub fn trace_pages<I: Inputs, O: Outputs>(
     ensures output { OutputCount result.end (O.faults outs.old) (O.faults outs.new) (O.is_ready outs.new) }
     ensures inputs_never_fall { I.faults inputs.old ≤ I.faults inputs.new }
     ensures outputs_never_fall { O.faults outs.old ≤ O.faults outs.new }
+    ensures same_openings { I.openings inputs.new ≡ I.openings inputs.old }
+    ensures same_name { opened_name (I.files inputs.new) ≡ opened_name (I.files inputs.old) }
 {
     let mut pages = 0;
     while pages < MOST_PAGES {
@@ -107,6 +109,8 @@ fn trace_next<I: Inputs, O: Outputs>(
     ensures outputs_never_fall { O.faults outs.old ≤ O.faults outs.new }
     ensures still_at_end { reader.new.ended ≡ true → AtEnd (I.files inputs.new) }
     ensures stays_opened { I.is_opened inputs.new ≡ true }
+    ensures same_openings { I.openings inputs.new ≡ I.openings inputs.old }
+    ensures same_name { opened_name (I.files inputs.new) ≡ opened_name (I.files inputs.old) }
 {
     match read_next(alloc, settings, reader, inputs) {
         Ok(page) => write_page(alloc, settings, &page, outs),
@@ -133,6 +137,8 @@ fn read_next<I: Inputs>(
     ensures never_falls { I.faults inputs.old ≤ I.faults inputs.new }
     ensures still_at_end { reader.new.ended ≡ true → AtEnd (I.files inputs.new) }
     ensures stays_opened { I.is_opened inputs.new ≡ true }
+    ensures same_openings { I.openings inputs.new ≡ I.openings inputs.old }
+    ensures same_name { opened_name (I.files inputs.new) ≡ opened_name (I.files inputs.old) }
 {
     let level = Level::from_micro(settings.level);
     match reader.next(alloc, inputs, &level, settings.invert) {
@@ -195,6 +201,8 @@ fn end_after_most<I: Inputs>(
     ensures input { InputCount result (I.faults inputs.old) (I.faults inputs.new) }
     ensures never_falls { I.faults inputs.old ≤ I.faults inputs.new }
     ensures nothing_unwritten { result ≢ PagesEnd.Unwritten }
+    ensures same_openings { I.openings inputs.new ≡ I.openings inputs.old }
+    ensures same_name { opened_name (I.files inputs.new) ≡ opened_name (I.files inputs.old) }
 {
     match read_next(alloc, settings, reader, inputs) {
         Ok(_page) => PagesEnd::TooMany,

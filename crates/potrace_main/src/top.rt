@@ -5,7 +5,7 @@ ghost use Rattle.pt_base.specs.Files.{Lacks};
 ghost use Rattle.potrace_main.specs.Asked.{IsAsked};
 ghost use Rattle.potrace_main.specs.Items.{Item, AreInputItems};
 ghost use Rattle.potrace_main.specs.Messages.{dash};
-ghost use Rattle.potrace_main.specs.Run.{IsComplete, IsOutcome, IsToldBy, IsWritten, SaysEnd, fault_text, status_of};
+ghost use Rattle.potrace_main.specs.Run.{IsComplete, IsOutcome, IsToldBy, IsWritten, OpensOnly, SaysEnd, fault_text, status_of};
 ghost use Rattle.pt_base.specs.declared.settings.Settings.{Settings};
 
 use crate::ask::ask;
@@ -53,6 +53,10 @@ pub fn run<R: Threads + Sync, I: Inputs, O: Outputs, E: Sink, G: Gate + Sync>(
         → (Rose (O.faults outs.old) (O.faults outs.new) → ⊥)
         → IsComplete result items) }
 
+    // No file is opened but standard input, and that once; with other words than the program's none is.
+    ensures opened { OpensOnly dash (I.files inputs.old) (I.files inputs.new) (I.openings inputs.old) (I.openings inputs.new) }
+    ensures unopened { result ≡ 1 → inputs.new ≡ inputs.old }
+
     // Each fault has its cause.
     ensures unread { result ≡ 3 → Rose (I.faults inputs.old) (I.faults inputs.new) ⊎ Lacks (I.files inputs.old) dash }
     ensures absent { (settings : Settings) → IsAsked (map string_bytes words.now) settings
@@ -64,12 +68,12 @@ pub fn run<R: Threads + Sync, I: Inputs, O: Outputs, E: Sink, G: Gate + Sync>(
 
     // Each document is a page's text, and none stays open but for a fault of the outputs.
     ensures written { (settings : Settings) → IsAsked (map string_bytes words.now) settings
-        → IsWritten settings result (O.documents outs.old) (O.documents outs.new) }
+        → IsWritten settings result (O.documents outs.old) (O.documents outs.new) (E.documents errs.old) (E.documents errs.new) (E.faults errs.old) (E.faults errs.new) }
     ensures closed { result ≢ 4 → O.is_ready outs.new ≡ false }
     ensures nothing { result ≡ 1 → O.documents outs.new ≡ O.documents outs.old }
 
     // The message that belongs to the status is said, and a failing one changes no status.
-    ensures said { IsToldBy result (E.documents errs.old) (E.documents errs.new) (E.faults errs.old) (E.faults errs.new) }
+    ensures said { (pages : ℕ) × IsToldBy result pages (E.documents errs.old) (E.documents errs.new) (E.faults errs.old) (E.faults errs.new) }
 {
     let Some(settings) = ask(words) else {
         say_bad_words(errs);

@@ -1,7 +1,7 @@
 -- The definitions on the path round two pixels in a row.
 use Rattle.std.proofs.Common.{◌≡◌, ℕ, pos, negsuc, List, [], ◌∷◌, refl}
 use Rattle.pt_base.specs.declared.point.Point.{Point}
-use Rattle.prefix_moments.specs.Sums.{sums_of, cross_of, spread_of}
+use Rattle.prefix_moments.specs.Sums.{sums_of, chord_cross_of, spread_of}
 
 abbrev corner : ℕ → ℕ → Point
 corner x y = record { x = pos x; y = pos y }
@@ -23,7 +23,7 @@ unfolding round
 past_the_last = refl
 
 -- the lower left corner lies beside the line from point 0 to point 2, and point 5 on the one from 4 to 6
-beside : cross_of round 0 2 1 ≡ pos 1
+beside : chord_cross_of round 0 2 1 ≡ pos 1
 unfolding round
 beside = refl
 

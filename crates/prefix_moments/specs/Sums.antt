@@ -37,12 +37,12 @@ sums_of points i j = record {
 
 -- the cross product of the offsets of points number k and j from point number i: the distance of
 -- point number k from the line through the other two, times the length between these
-abbrev pub cross_of : List Point → ℕ → ℕ → ℕ → ℤ
-cross_of points i j k = right_of points i k *ℤ above_of points i j -ℤ above_of points i k *ℤ right_of points i j
+abbrev pub chord_cross_of : List Point → ℕ → ℕ → ℕ → ℤ
+chord_cross_of points i j k = right_of points i k *ℤ above_of points i j -ℤ above_of points i k *ℤ right_of points i j
 
 -- the sum of the squared cross products of the points from number i to number j
 abbrev pub spread_of : List Point → ℕ → ℕ → ℤ
-spread_of points i j = sum_over i j (λ k. cross_of points i j k *ℤ cross_of points i j k)
+spread_of points i j = sum_over i j (λ k. chord_cross_of points i j k *ℤ chord_cross_of points i j k)
 
 -- the penalty is the root of the mean squared cross product, in units of 1/256, rounded down
 abbrev pub IsPenalty : List Point → ℕ → ℕ → ℕ → Type 0

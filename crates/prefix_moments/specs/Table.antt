@@ -33,10 +33,6 @@ no_sums = record { x = pos 0; y = pos 0; xx = pos 0; xy = pos 0; yy = pos 0 }
 abbrev pub difference_of : Raw → Raw → Raw
 difference_of r s = record { x = r.x -ℤ s.x; y = r.y -ℤ s.y; xx = r.xx -ℤ s.xx; xy = r.xy -ℤ s.xy; yy = r.yy -ℤ s.yy }
 
--- the sums with one more point
-abbrev pub with_point : Raw → Point → Raw
-with_point r p = record { x = r.x +ℤ p.x; y = r.y +ℤ p.y; xx = r.xx +ℤ p.x *ℤ p.x; xy = r.xy +ℤ p.x *ℤ p.y; yy = r.yy +ℤ p.y *ℤ p.y }
-
 -- the sums of offsets from (x, y), for `count` points
 abbrev pub offsets_of : Raw → ℕ → ℤ → ℤ → Sums
 offsets_of r count x y = record {

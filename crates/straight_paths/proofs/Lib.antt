@@ -3,6 +3,7 @@ pub mod Around
 pub mod Bounds
 pub mod Clear
 pub mod Cyclic
+pub mod Decided
 pub mod Ends
 pub mod Examples
 pub mod Far

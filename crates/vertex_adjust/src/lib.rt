@@ -5,10 +5,10 @@
 //! and up or down, to the place that is nearest to the lines of its two segments together.
 #![tactic(auto)]
 
-mod bowl;
 pub mod columns;
 pub mod laws;
 pub mod line;
+mod quadratic;
 mod quotient;
 mod search;
 pub mod shift;

@@ -1,6 +1,6 @@
 use Rattle.std.proofs.Common.{ap, length, ◌∙◌, arith}
 use Rattle.std.proofs.lemmas.List.FromFn.{length-map-range_with_len}
-use Rattle.corner_smooth.specs.Corner.{IsRound, StaysNear}
+use Rattle.corner_smooth.specs.Corner.{HasRoundness, StaysNear}
 use Rattle.corner_smooth.proofs.Round.{one_lap_on, one_more, one_more_such}
 use Rattle.corner_smooth.proofs.outline.smooth.Goals as goal
 
@@ -10,7 +10,7 @@ loop-j-preserved c = record {
       c.loop-j-test.true c.next.ensures.value c.loop-j.invariant.before c.piece.ensures.value c.loop-j.invariant.pieces c.in_ok-push.ensures.items;
   before = one_lap_on c.args.vertices.now c.loop-j.j c.loop-j-test.true;
   near = one_more_such StaysNear c.loop-j.pieces.items _ c.piece.result c.loop-j.invariant.near c.piece.ensures.near c.in_ok-push.ensures.items;
-  round = one_more_such IsRound c.loop-j.pieces.items _ c.piece.result c.loop-j.invariant.round c.piece.ensures.round c.in_ok-push.ensures.items;
+  round = one_more_such HasRoundness c.loop-j.pieces.items _ c.piece.result c.loop-j.invariant.round c.piece.ensures.round c.in_ok-push.ensures.items;
 }
 
 pub returns-clause-one_each : goal.returns-clause-one_each

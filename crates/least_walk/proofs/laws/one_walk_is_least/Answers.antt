@@ -1,4 +1,4 @@
-use Rattle.least_walk.specs.OneLeast.{one_least}
+use Rattle.least_walk.proofs.OneLeast.{one_least}
 use Rattle.least_walk.proofs.laws.one_walk_is_least.Goals as goal
 
 pub returns : goal.returns

@@ -1,4 +1,5 @@
-use Rattle.potrace_main.proofs.Reading.{fault_ends, reads_page}
+use Rattle.std.proofs.Common.{Err, ap}
+use Rattle.potrace_main.proofs.Reading.{fault_ends, fault_name, reads_page, same_name}
 use Rattle.potrace_main.proofs.pages.read_next.Goals as goal
 
 pub returns-in-Ok-Page-clause-reads : goal.returns-in-Ok-Page-clause-reads
@@ -9,3 +10,12 @@ returns-in-Ok-Page-clause-reads g c =
 
 pub returns-in-Err-clause-ends : goal.returns-in-Err-clause-ends
 returns-in-Err-clause-ends g c = rw c.end_of.ensures (fault_ends c.in-Err.fault _ _ _ c.in-Err.ensures.told_ending)
+
+pub returns-in-Ok-Page-clause-same_name : goal.returns-in-Ok-Page-clause-same_name
+returns-in-Ok-Page-clause-same_name g c =
+    let gives = rw (c.in-Ok-Page.field-0-is, c.from_micro-level.ensures) at c.in-Ok-Page.ensures.page in
+    same_name _ _ _ gives.answers.moves.files
+
+pub returns-in-Err-clause-same_name : goal.returns-in-Err-clause-same_name
+returns-in-Err-clause-same_name g c =
+    fault_name c.in-Err.fault _ _ _ _ c.in-Err.ensures.ending (λ e. c.in-Err.ensures.read_fault (ap Err e)) (λ e. c.in-Err.ensures.no_memory (ap Err e))

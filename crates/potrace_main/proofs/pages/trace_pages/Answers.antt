@@ -9,6 +9,8 @@ loop-pages-init g c = record {
   at_end = λ e. absurd (let clash : false ≡ true = ap (λ r. r.ended) (sym c.requires.fresh) ∙ e in cc);
   opened = c.requires.opened;
   closed = c.requires.closed;
+  openings = refl;
+  name = refl;
   input = refl;
   output = refl;
 }
@@ -20,6 +22,8 @@ loop-pages-preserved g c = record {
   at_end = c.in-Ok.ensures.still_at_end;
   opened = c.in-Ok.ensures.stays_opened;
   closed = c.in-Ok.ensures.steady_output.1;
+  openings = c.in-Ok.ensures.same_openings ∙ c.loop-pages.invariant.openings;
+  name = c.in-Ok.ensures.same_name ∙ c.loop-pages.invariant.name;
   input = c.in-Ok.ensures.steady_input ∙ c.loop-pages.invariant.input;
   output = c.in-Ok.ensures.steady_output.0 ∙ c.loop-pages.invariant.output;
 }

@@ -2,7 +2,8 @@ use Rattle.std.proofs.Common.{◌≡◌, ◌≤◌, ◌-◌, false, true}
 use Rattle.pt_base.specs.Files.{unread}
 use Rattle.bitmap_input.specs.Reading.{AtEnd}
 use Rattle.potrace_main.specs.Items.{most_pages}
-use Rattle.potrace_main.specs.Progress.{IsTraced}
+use Rattle.potrace_main.specs.Progress.{opened_name}
+use Rattle.potrace_main.proofs.Tracing.{IsTraced}
 use Rattle.potrace_main.proofs.pages.trace_pages.Given as goal
 
 -- the first pages are traced, and their documents written
@@ -16,6 +17,8 @@ invariant-loop-pages g l =
       at_end : l.reader.ended ≡ true → AtEnd (inputs.files l.inputs);
       opened : inputs.is_opened l.inputs ≡ true;
       closed : outs.is_ready l.outs ≡ false;
+      openings : inputs.openings l.inputs ≡ inputs.openings l.fn.inputs;
+      name : opened_name (inputs.files l.inputs) ≡ opened_name (inputs.files l.fn.inputs);
       input : inputs.faults l.inputs ≡ inputs.faults l.fn.inputs;
       output : outs.faults l.outs ≡ outs.faults l.fn.outs;
     }
