@@ -1,8 +1,7 @@
 -- The best polygons of some paths, and of one more; and their vertices.
 use Rattle.std.proofs.Common.{◌≡◌, ℕ, zero, suc, ◌+◌, ◌<◌, ◌≤◌, List, [], ◌∷◌, ◌++◌, length, get_or, take, zip, refl, sym, ap, ◌∙◌, subst, arith, add-one}
 use Rattle.std.specs.List.{AllZip}
-use Rattle.std.proofs.lemmas.Slice.Zip.{all_zipped_more}
-use Rattle.std.proofs.lemmas.List.{take_all}
+use Rattle.std.proofs.lemmas.Slice.Zip.{AllZip-long, all_zipped_more}
 use Rattle.std.proofs.Math.Seq.{take-suc}
 use Rattle.pt_base.specs.declared.path.Path.{Path}
 use Rattle.pt_base.specs.declared.polygon.Polygon.{Polygon}
@@ -20,24 +19,34 @@ polygon_of path points polygon same best cost =
     let over = subst (IsPolygonOver polygon) same (best, cost) in
     record { best = over.0; cost = over.1 }
 
+-- the first paths, and the next one
+taken : (paths : List Path) (i : ℕ) (path : Path) → i < length paths → path ≡ get_or paths i path → take i paths ++ path ∷ [] ≡ take (i + 1) paths
+taken paths i path below is = ap (λ p. take i paths ++ p ∷ []) is ∙ sym (take-suc paths i path below) ∙ ap (λ n. take n paths) (sym (add-one i))
+
 -- one more path has its polygon
 pub polygons_more : (paths : List Path) (i : ℕ) (path : Path) (polygons more : List Polygon) (best : Polygon) → i < length paths → path ≡ get_or paths i path
     → AllZip IsPolygonOf (take i paths) polygons → IsPolygonOf path best → more ≡ polygons ++ best ∷ [] → AllZip IsPolygonOf (take (i + 1) paths) more
 polygons_more paths i path polygons more best below is so_far of_path pushed =
-    let taken : take i paths ++ path ∷ [] ≡ take (i + 1) paths = ap (λ p. take i paths ++ p ∷ []) is ∙ sym (take-suc paths i path below) ∙ ap (λ n. take n paths) (sym (add-one i)) in
-    subst (λ ps. AllZip IsPolygonOf ps more) taken
+    subst (λ ps. AllZip IsPolygonOf ps more) (taken paths i path below is)
     (subst (AllZip IsPolygonOf (take i paths ++ path ∷ [])) (sym pushed) (all_zipped_more IsPolygonOf (take i paths) polygons path best so_far of_path))
 
+-- one more pair
+zip-more : {A B : Type 0} (xs : List A) (ys : List B) (x : A) (y : B) → length xs ≡ length ys → zip (xs ++ x ∷ []) (ys ++ y ∷ []) ≡ zip xs ys ++ (x, y) ∷ []
+zip-more [] [] x y same = refl
+zip-more [] (b ∷ ys) x y same = absurd (omega arith)
+zip-more (a ∷ xs) [] x y same = absurd (omega arith)
+zip-more (a ∷ xs) (b ∷ ys) x y same = ap (λ ps. (a, b) ∷ ps) (zip-more xs ys x y (omega arith))
+
 -- one more path and its polygon have their vertices
-pub vertices_more : (paths : List Path) (polygons : List Polygon) (k : ℕ) (path : Path) (polygon : Polygon) (lists more : List (List Point)) (vertices : List Point)
-    → k < length paths → length polygons ≡ length paths → path ≡ get_or paths k path → polygon ≡ get_or polygons k polygon
-    → AllZip AreVerticesOf (take k (zip paths polygons)) lists → AreVerticesOf (path, polygon) vertices → more ≡ lists ++ vertices ∷ []
-    → AllZip AreVerticesOf (take (k + 1) (zip paths polygons)) more
-vertices_more paths polygons k path polygon lists more vertices within same is_path is_polygon so_far of_both pushed =
-    let taken : take k (zip paths polygons) ++ (path, polygon) ∷ [] ≡ take (k + 1) (zip paths polygons)
-    = ap (λ p. take k (zip paths polygons) ++ (p, polygon) ∷ []) is_path
-    ∙ ap (λ g. take k (zip paths polygons) ++ (get_or paths k path, g) ∷ []) is_polygon
-    ∙ sym (take-zip paths polygons k path polygon within same) ∙ ap (λ n. take n (zip paths polygons)) (sym (add-one k)) in
-    subst (λ both. AllZip AreVerticesOf both more) taken
-    (subst (AllZip AreVerticesOf (take k (zip paths polygons) ++ (path, polygon) ∷ [])) (sym pushed)
-    (all_zipped_more AreVerticesOf (take k (zip paths polygons)) lists (path, polygon) vertices so_far of_both))
+pub vertices_more : (paths : List Path) (i : ℕ) (path : Path) (polygons more : List Polygon) (best : Polygon) (lists longer : List (List Point)) (vertices : List Point)
+    → i < length paths → path ≡ get_or paths i path → AllZip IsPolygonOf (take i paths) polygons → more ≡ polygons ++ best ∷ []
+    → AllZip AreVerticesOf (zip (take i paths) polygons) lists → AreVerticesOf (path, best) vertices → longer ≡ lists ++ vertices ∷ []
+    → AllZip AreVerticesOf (zip (take (i + 1) paths) more) longer
+vertices_more paths i path polygons more best lists longer vertices below is of_paths pushed so_far of_both pushed' =
+    let same : length (take i paths) ≡ length polygons = omega (arith, AllZip-long IsPolygonOf (take i paths) polygons of_paths) in
+    let pairs : zip (take i paths) polygons ++ (path, best) ∷ [] ≡ zip (take (i + 1) paths) more =
+        sym (zip-more (take i paths) polygons path best same) ∙ ap (λ ps. zip ps (polygons ++ best ∷ [])) (taken paths i path below is)
+        ∙ ap (λ qs. zip (take (i + 1) paths) qs) (sym pushed) in
+    subst (λ both. AllZip AreVerticesOf both longer) pairs
+    (subst (AllZip AreVerticesOf (zip (take i paths) polygons ++ (path, best) ∷ [])) (sym pushed')
+    (all_zipped_more AreVerticesOf (zip (take i paths) polygons) lists (path, best) vertices so_far of_both))

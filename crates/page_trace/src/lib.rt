@@ -6,6 +6,7 @@
 #![tactic(auto)]
 
 pub mod document;
+mod fitting;
 pub mod laws;
 mod outlines;
 mod paths;

@@ -5,7 +5,8 @@ ghost use Rattle.pt_base.specs.OnPage.{AreOnPage};
 ghost use Rattle.page_trace.specs.Document.{CanTrace};
 ghost use Rattle.page_trace.specs.Trace.{HasPolygons, IsTrace};
 
-use crate::outlines::{all_outlines, all_vertices};
+use crate::fitting::{Fitted, fit_all};
+use crate::outlines::all_outlines;
 use crate::paths::kept_paths;
 use crate::polygons::best_polygons;
 use bit_image::bitmap::Bitmap;
@@ -21,13 +22,17 @@ pub fn trace(alloc: Global, page: &Bitmap, settings: &Settings) -> Result<Trace,
     requires { CanTrace settings.now }
     ensures { IfOk result (λ trace. IsTrace page.now settings.now trace) }
 {
-    let traced = polygons_alone(alloc, page, settings)?;
-    let vertices = all_vertices(alloc, traced.paths.as_slice(), traced.polygons.as_slice())?;
+    let paths = kept_paths(alloc, page, settings)?;
+    let Fitted { polygons, vertices } = fit_all(alloc, &paths)?;
     let outlines = all_outlines(alloc, &vertices, settings.alphamax)?;
     Ok(Trace {
+        width: page.width(),
+        height: page.height(),
+        paths: Sequence::from_vec(paths),
+        polygons: Sequence::from_vec(polygons),
         vertices: Sequence::from_vec(vertices),
         outlines: Sequence::from_vec(outlines),
-        ..traced
+        groups: Sequence::from_vec(Vec::new(alloc)),
     })
 }
 

@@ -6,6 +6,7 @@ ghost use Rattle.polygon_optimal.specs.Polygon.{IsBestPolygon, total_penalty};
 
 use crate::segments::Segments;
 use least_walk::walk::least;
+use prefix_moments::moments::Moments;
 use pt_base::fault::NoMemory;
 use pt_base::point::Point;
 use pt_base::polygon::Polygon;
@@ -18,7 +19,23 @@ pub fn polygon(alloc: Global, points: &[Point]) -> Result<Polygon, NoMemory>
     ensures best { IfOk result (λ polygon. IsBestPolygon points.now polygon.at) }
     ensures cost { IfOk result (λ polygon. polygon.cost ≡ total_penalty points.now polygon.at) }
 {
-    let segments = Segments::of(alloc, points)?;
+    let moments = Moments::of(alloc, points)?;
+    polygon_by(alloc, points, &moments)
+}
+
+/// The same, where the walk's sums are made already.
+pub fn polygon_by(
+    alloc: Global,
+    points: &[Point],
+    moments: &Moments,
+) -> Result<Polygon, NoMemory>
+    requires closed { IsClosedWalk points.now }
+    requires on_page { AreOnPage points.now }
+    requires moments { moments.now ≡ points.now }
+    ensures best { IfOk result (λ polygon. IsBestPolygon points.now polygon.at) }
+    ensures cost { IfOk result (λ polygon. polygon.cost ≡ total_penalty points.now polygon.at) }
+{
+    let segments = Segments::of(alloc, points, moments)?;
     let walk = least(alloc, &segments)?;
     Ok(Polygon {
         at: walk.at,

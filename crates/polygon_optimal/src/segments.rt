@@ -14,28 +14,32 @@ use straight_paths::reach::Reach;
 
 /// The segments of a closed walk's polygons, and their penalties.
 #[derive(Drop)]
-pub(crate) struct Segments {
-    moments: Moments,
+pub(crate) struct Segments<'a> {
+    moments: &'a Moments,
     /// For each point, where the longest segment from it leads.
     lasts: Vec<u32>,
-    ghost some: { 1 ≤ length moments },
-    ghost few: { length moments ≤ 2 ^ 31 },
-    ghost on_page: { AreOnPage moments },
-    ghost places: { length lasts.items ≡ length moments },
-    ghost onwards: { (i : ℕ) → i < length moments
-        → LeadsOn (length moments) i (slice_index lasts.items i) },
+    ghost some: { 1 ≤ length moments.now },
+    ghost few: { length moments.now ≤ 2 ^ 31 },
+    ghost on_page: { AreOnPage moments.now },
+    ghost places: { length lasts.items ≡ length moments.now },
+    ghost onwards: { (i : ℕ) → i < length moments.now
+        → LeadsOn (length moments.now) i (slice_index lasts.items i) },
 }
 
-impl Segments {
-    /// Measures a closed walk on a page.
-    pub(crate) fn of(alloc: Global, points: &[Point]) -> Result<Segments, NoMemory>
+impl<'a> Segments<'a> {
+    /// Measures a closed walk on a page, by the sums that are made of it.
+    pub(crate) fn of(
+        alloc: Global,
+        points: &[Point],
+        moments: &'a Moments,
+    ) -> Result<Segments<'a>, NoMemory>
         requires closed { IsClosedWalk points.now }
         requires on_page { AreOnPage points.now }
-        ensures points { IfOk result (λ segments. segments.moments ≡ points.now) }
+        requires moments { moments.now ≡ points.now }
+        ensures points { IfOk result (λ segments. segments.moments.now ≡ points.now) }
         ensures lasts { IfOk result (λ segments. HasLasts points.now segments.lasts.items) }
     {
         let lasts = lasts(alloc, points)?;
-        let moments = Moments::of(alloc, points)?;
         Ok(Segments { moments, lasts })
     }
 }
@@ -65,17 +69,17 @@ fn last_from(reach: &Reach, i: u32, size: u32) -> u32
     size.min(i + reach.far(i))
 }
 
-impl Steps for Segments {
+impl Steps for Segments<'_> {
     ghost use Rattle.std.proofs.Common.{arith};
     ghost use Rattle.polygon_optimal.specs.OnePenalty.{penalty_most};
 
-    ghost size_of = { λ s. length s.moments };
+    ghost size_of = { λ s. length s.moments.now };
 
     ghost last_of = { λ s i. slice_index s.lasts.items i };
 
     ghost is_allowed = { λ s i j. IsUpToLast s.lasts.items i j };
 
-    ghost cost_of = { λ s i j. penalty_of s.moments i j };
+    ghost cost_of = { λ s i j. penalty_of s.moments.now i j };
 
     fn size(&self) -> u32 {
         self.lasts.len() as u32
@@ -108,5 +112,5 @@ impl Steps for Segments {
 
     ghost allowed_ends_at_last = { λ s i j below allowed. allowed.1 };
 
-    ghost greatest_cost = { λ s i j below allowed. penalty_most s.moments s.on_page i j };
+    ghost greatest_cost = { λ s i j below allowed. penalty_most s.moments.now s.on_page i j };
 }

@@ -5,13 +5,12 @@
 //! and up or down, to the place that is nearest to the lines of its two segments together.
 #![tactic(auto)]
 
+pub mod columns;
 pub mod laws;
 pub mod line;
+mod quadratic;
+mod quotient;
 mod search;
 pub mod shift;
 mod spread;
-#[cfg(test)]
-mod tests;
 pub mod vertices;
-#[cfg(test)]
-mod walks;

@@ -1,0 +1,54 @@
+//! Segments of polygons, as the calls that are tested take them.
+ghost use Rattle.std.specs.Prelude.{◌≡◌, ◌+◌, ◌-◌, ◌≤◌, ◌<◌, ◌^◌, IsTrue, length};
+ghost use Rattle.pt_base.specs.OnPage.{AreOnPage};
+ghost use Rattle.vertex_adjust.specs.Line.{AreSums};
+ghost use Rattle.vertex_adjust.specs.Vertex.{IsPolygonAlong, IsSegmentOf, end_of};
+
+use prefix_moments::moments::Moments;
+use prefix_moments::sums::Sums;
+use pt_base::limits::MOST_STEPS;
+use pt_base::point::Point;
+
+/// Whether the indices are those of a polygon of the points.
+pub(super) fn is_polygon(points: &[Point], at: &[u32]) -> bool
+    ensures { IsTrue result → IsPolygonAlong points.now at.now }
+{
+    if at.is_empty() || 100_000 < points.len() {
+        return false;
+    }
+    for k in 0..at.len() {
+        if !is_segment(points, at, k) {
+            return false;
+        }
+    }
+    true
+}
+
+/// Whether segment number `k` is a run of the path, of at most one lap.
+fn is_segment(points: &[Point], at: &[u32], k: usize) -> bool
+    requires few { length points.now ≤ 100000 }
+    requires segment { k < length at.now }
+    ensures { IsTrue result → IsSegmentOf points.now at.now k }
+{
+    let size = points.len() as u64;
+    let start = u64::from(at[k]);
+    let end = if k + 1 < at.len() {
+        u64::from(at[k + 1])
+    } else {
+        size + u64::from(at[0])
+    };
+    start < size && start < end && end - start <= u64::from(MOST_STEPS) && end - start <= size
+}
+
+/// The sums of a segment, as `line_of` takes them.
+pub(super) fn segment_sums(points: &[Point], moments: &Moments, i: u32, j: u32) -> Sums
+    requires on_page { AreOnPage points.now }
+    requires moments { moments.now ≡ points.now }
+    requires start { i < length points.now }
+    requires onwards { i < j }
+    requires steps { j - i ≤ MOST_STEPS }
+    requires lap { j - i ≤ length points.now }
+    ensures { AreSums result }
+{
+    moments.sums(i, j)
+}

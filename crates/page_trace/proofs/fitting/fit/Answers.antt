@@ -1,0 +1,22 @@
+use Rattle.std.proofs.Common.{◌<◌, ◌≤◌, ℕ, List, length, arith, subst}
+use Rattle.std.specs.Result.{IfOk}
+use Rattle.std.proofs.Common.{Result, Ok, Err}
+use Rattle.pt_base.specs.declared.point.Point.{Point}
+use Rattle.pt_base.specs.declared.fault.NoMemory.{NoMemory}
+use Rattle.vertex_adjust.specs.Vertex.{AreVertices}
+use Rattle.page_trace.proofs.Segments.{is_polygon, two_segments}
+use Rattle.page_trace.proofs.Zipping.{polygon_of}
+use Rattle.page_trace.proofs.fitting.fit.Goals as goal
+
+pub adjust_by-requires-clause-polygon : goal.adjust_by-requires-clause-polygon
+adjust_by-requires-clause-polygon c =
+    let some : 0 < length c.args.path.now.points = omega (arith, c.requires.closed.least) in
+    let of_path = polygon_of c.args.path.now c.as_slice-points.result.now c.in_ok-best.best c.as_slice-points.ensures c.in_ok-best.ensures.best c.in_ok-best.ensures.cost in
+    rw c.as_slice-points.ensures (is_polygon c.args.path.now.points c.in_ok-best.best.at some of_path.best.is_walk)
+
+pub returns-clause-some : goal.returns-clause-some
+returns-clause-some c =
+    let some : 0 < length c.args.path.now.points = omega (arith, c.requires.closed.least) in
+    let of_path = polygon_of c.args.path.now c.as_slice-points.result.now c.in_ok-best.best c.as_slice-points.ensures c.in_ok-best.ensures.best c.in_ok-best.ensures.cost in
+    let two = two_segments c.args.path.now.points c.in_ok-best.best.at some of_path.best.is_walk in
+    omega (arith, two, c.in_ok-adjusted.ensures.vertices.count)

@@ -1,0 +1,15 @@
+use Rattle.std.proofs.Common.{length, take, zip}
+use Rattle.std.specs.List.{All, AllZip}
+use Rattle.std.specs.Prelude.{◌≤◌}
+use Rattle.corner_smooth.specs.Corner.{IsNearWidePage}
+use Rattle.page_trace.specs.Trace.{AreVerticesOf, IsPolygonOf}
+use Rattle.page_trace.proofs.fitting.fit_all.Given as goal
+
+-- the first paths have their polygons and vertices
+abbrev pub invariant-loop-path : goal.invariant-loop-path
+invariant-loop-path l = record {
+  polygons : AllZip IsPolygonOf (take l.path-index l.paths) l.polygons.items;
+  vertices : AllZip AreVerticesOf (zip (take l.path-index l.paths) l.polygons.items) l.vertices.items;
+  near : All (All IsNearWidePage) l.vertices.items;
+  some : All (λ one. 2 ≤ length one) l.vertices.items;
+}
