@@ -1,5 +1,5 @@
 //! A page of pixels in memory.
-ghost use Rattle.std.specs.Prelude.{◌≡◌, ◌≢◌, ℕ, ◌+◌, ◌*◌, ◌/◌, ◌≤◌, ◌<◌, ◌%◌, ◌&&◌, nat_lt, ◌↔◌, length, slice_index_or, IfOk, IsNone, IfSome};
+ghost use Rattle.std.specs.Prelude.{◌≡◌, ◌≢◌, ℕ, ◌+◌, ◌*◌, ◌/◌, ◌≤◌, true, false, ◌<◌, ◌%◌, ◌&&◌, nat_lt, ◌↔◌, length, slice_index_or, IfOk, IsNone, IfSome};
 ghost use Rattle.bit_image.specs.Image.{white, IsWhite, IsWhiteTo, Fits, south_west, pixel_at, with_pixel, differ, is_from, is_between};
 ghost use Rattle.bit_image.specs.Words.{is_one, bit_in};
 ghost use Rattle.bit_image.specs.FirstBlack.{IsFirstBlackFrom};
@@ -116,7 +116,9 @@ impl Bitmap {
     pub fn south_west(&self, x: u32, y: u32) -> bool
         ensures { result ≡ south_west (image_of self.now) x y }
     {
-        x > 0 && y > 0 && self.is_black(x - 1, y - 1)
+        // Left of column 0 and below row 0 this goes round to the greatest number, beyond any page.
+        let _ = &self.width;
+        self.is_black(x.wrapping_sub(1), y.wrapping_sub(1))
     }
 
     /// Makes one pixel black or white.
@@ -230,5 +232,20 @@ impl Bitmap {
             }
         }
         None
+    }
+
+    /// The first column from `x` on whose pixel in row `y` is black.
+    pub fn first_black_in_row(&self, x: u32, y: u32) -> Option<u32>
+        requires column { x < self.now.width }
+        requires row { y < self.now.height }
+        ensures none { IsNone result → (u : ℕ) → x ≤ u → image_of self.now u y ≡ false }
+        ensures black { IfSome result (λ column.
+            (x ≤ column) × (image_of self.now column y ≡ true)) }
+        ensures left { IfSome result (λ column.
+            (u : ℕ) → x ≤ u → u < column → image_of self.now u y ≡ false) }
+    {
+        // The width is touched, so that the proof sees that a row is short.
+        let _ = &self.width;
+        row::first_black_from(self.row_words(y), x)
     }
 }

@@ -78,3 +78,24 @@ pub fn first_black(row: &[u64]) -> Option<u32>
     }
     None
 }
+
+/// The first column from `from` on whose pixel is black.
+pub fn first_black_from(row: &[u64], from: u32) -> Option<u32>
+    requires inside { from < 64 * length row.now }
+    requires most { 64 * length row.now < 2 ^ 32 }
+    ensures white { IsNone result → (u : ℕ) → from ≤ u → black_in row.now u ≡ false }
+    ensures black { IfSome result (λ x. (from ≤ x) × (black_in row.now x ≡ true)) }
+    ensures left { IfSome result (λ x. (u : ℕ) → from ≤ u → u < x → black_in row.now u ≡ false) }
+{
+    let first = from as usize / 64;
+    let word = row[first] & (u64::MAX << (from % 64));
+    if word != 0 {
+        return Some(64 * first as u32 + word.trailing_zeros());
+    }
+    for at in first + 1..row.len() {
+        if row[at] != 0 {
+            return Some(64 * at as u32 + row[at].trailing_zeros());
+        }
+    }
+    None
+}
