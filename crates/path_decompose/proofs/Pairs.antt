@@ -1,5 +1,5 @@
 -- Upright lines in order, taken in pairs: the two of a pair stand in one row, and what lies between them is inverted.
-use Rattle.std.proofs.Common.{◌≡◌, ℕ, zero, suc, ◌+◌, ◌-◌, ◌*◌, ◌/◌, ◌%◌, ◌<◌, ◌≤◌, Bool, true, false, cond, ◌&&◌, nat_eq, nat_le, nat_lt, List, [], ◌∷◌, length, ◌⊎◌, get_or, drop, All, count_by, refl, ap, sym, subst, ◌∙◌, inl, inr, arith}
+use Rattle.std.proofs.Common.{◌≡◌, ℕ, suc, ◌+◌, ◌-◌, ◌*◌, ◌/◌, ◌%◌, ◌<◌, ◌≤◌, Bool, true, false, cond, nat_eq, nat_le, List, [], ◌∷◌, length, ◌⊎◌, get_or, drop, All, count_by, refl, ap, sym, subst, ◌∙◌, inl, inr, arith}
 use Rattle.std.specs.List.Sorted.{IsNonDecreasing}
 use Rattle.std.proofs.Math.Path.{fun_ext}
 use Rattle.std.proofs.Math.Seq.{drop-cons}
@@ -130,11 +130,13 @@ later_uncrossed b key u v least row left = apart (key % ROW) (key / ROW) u v (la
 left_of_second : (d r u v : ℕ) (c s : ℕ) → is_from c s u v ≡ true → s ≡ r → is_from d r u v ≡ false → (r ≡ v) × (u < d)
 left_of_second d r u v c s first same second =
     let parts = and_parts (nat_le c u) (nat_eq s v) first in
-    let row : r ≡ v = sym same ∙ eqb-true s v parts.1 in
-    (row, elim (cases_lt u d) [
-      | inl left ↦ left
-      | inr right ↦ absurd (false≢true (sym second ∙ and_from (nat_le d u) (nat_eq r v) (le-leb d u right) (eq-eqb r v row)))
-    ])
+    let row : r ≡ v = sym same ∙ eqb-true s v parts.1 in (
+      row,
+      elim (cases_lt u d) [
+        | inl left ↦ left
+        | inr right ↦ absurd (false≢true (sym second ∙ and_from (nat_le d u) (nat_eq r v) (le-leb d u right) (eq-eqb r v row)))
+      ],
+    )
 
 pub pair_count : (width height a b : ℕ) (keys : List ℕ) → a ≤ b → a / ROW ≡ b / ROW → All (λ key. b ≤ key) keys → b % ROW ≤ width → b / ROW < height
     → b - a + black_count (λ u v. odd_by (is_key_crossed u v) keys) width height ≡ black_count (λ u v. odd_by (is_key_crossed u v) (a ∷ b ∷ keys)) width height
@@ -151,8 +153,14 @@ pair_count width height a b keys order same least narrow low =
     ∙ over_page-same width height (λ u v. cond (all u v) 1 0 + cond (is_key_crossed u v b) 1 0) (λ u v. cond (is_key_crossed u v a) 1 0 + cond (rest u v) 1 0) one
     ∙ over_page-add width height (λ u v. cond (is_key_crossed u v a) 1 0) (λ u v. cond (rest u v) 1 0) in
     let high : a / ROW < height = omega arith in
-    omega (arith, sums, black_count-sum all width height, black_count-sum rest width height,
-    right_of_line width height (a % ROW) (a / ROW) high, right_of_line width height (b % ROW) (b / ROW) low)
+    omega (
+      arith,
+      sums,
+      black_count-sum all width height,
+      black_count-sum rest width height,
+      right_of_line width height (a % ROW) (a / ROW) high,
+      right_of_line width height (b % ROW) (b / ROW) low,
+    )
 
 black_count-none : (width height : ℕ) → black_count (λ u v. false) width height ≡ 0
 black_count-none width height =
@@ -256,7 +264,7 @@ pair_end old now keys rest area p short =
           sym (differ-false (image_of now u v)) ∙ ap (λ ks. differ (image_of now u v) (odd_by (is_key_crossed u v) ks)) (sym none)
           ∙ p.pixels u v ∙ ap (differ (image_of old u v)) (sym (is_odd-count (is_key_crossed u v) keys)),
       (let empty : area + black_count (λ u v. odd_by (is_key_crossed u v) []) old.width old.height ≡ area =
-      ap (λ n. area + n) (black_count-none old.width old.height) ∙ (let e : area + 0 ≡ area = omega arith in e) in
-      sym empty ∙ ap (λ ks. area + black_count (λ u v. odd_by (is_key_crossed u v) ks) old.width old.height) (sym none)
-      ∙ p.counted ∙ ap (λ i. black_count i old.width old.height) all),
+          ap (λ n. area + n) (black_count-none old.width old.height) ∙ (let e : area + 0 ≡ area = omega arith in e) in
+          sym empty ∙ ap (λ ks. area + black_count (λ u v. odd_by (is_key_crossed u v) ks) old.width old.height) (sym none)
+          ∙ p.counted ∙ ap (λ i. black_count i old.width old.height) all),
     )

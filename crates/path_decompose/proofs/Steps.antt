@@ -1,23 +1,18 @@
 -- The walk step by step: as long as its first edge hasn't come again, no edge has come twice, and there are only so many.
-use Rattle.std.proofs.Common.{◌≡◌, ◌≢◌, ℕ, suc, ◌+◌, ◌-◌, ◌*◌, ◌^◌, ◌<◌, ◌≤◌, ◌++◌, List, [], ◌∷◌, map, length, get_or, AllPairs, All, sum_by, refl, ap, sym, subst, ◌∙◌, inl, inr, arith}
+use Rattle.std.proofs.Common.{◌≡◌, ◌≢◌, ℕ, suc, ◌*◌, ◌<◌, ◌≤◌, ◌++◌, List, [], ◌∷◌, map, get_or, AllPairs, All, ap, sym, subst, ◌∙◌, inl, inr, arith}
 use Rattle.std.proofs.lemmas.Bool.{cases_order}
 use Rattle.std.proofs.lemmas.List.{map-append}
-use Rattle.std.proofs.lemmas.List.Sums.{sum_by_push, sum_by-le}
-use Rattle.std.proofs.lemmas.Nat.{mul-le}
 use Rattle.pt_base.specs.declared.point.Point.{Point}
 use Rattle.pt_base.specs.declared.path.Sign.{Sign}
 use Rattle.pt_base.specs.declared.policy.Policy.{Policy}
 use Rattle.bit_image.specs.Image.{Image, Fits}
 use Rattle.bit_image.specs.FirstBlack.{IsFirstBlack}
-use Rattle.turn_policies.specs.declared.heading.Dir.{Dir}
-use Rattle.turn_policies.specs.declared.heading.Dir.TheVariants.{North, East, South, West}
 use Rattle.turn_policies.specs.declared.edge.Edge.{Edge}
 use Rattle.turn_policies.specs.Boundary.{IsBoundary}
 use Rattle.turn_policies.specs.Turn.{next}
 use Rattle.turn_policies.proofs.Turning.{next_boundary}
 use Rattle.turn_policies.proofs.Back.{previous, previous-next}
 use Rattle.path_decompose.specs.Walk.{IsRound, IsWalk, first_edge, start_of}
-use Rattle.path_decompose.specs.Inside.{inside, black_count}
 use Rattle.path_decompose.proofs.Orbit.{nth_after, orbit, NoReturn, nth_after-keeps, length-orbit, orbit_push, orbit_run, get_or-orbit, distinct_orbit}
 use Rattle.path_decompose.proofs.Round.{first_boundary}
 use Rattle.path_decompose.proofs.OnPage.{edge_on, length-distinct}
@@ -27,9 +22,6 @@ pub record IsPartWalk (f : Edge → Edge) (s : Edge) (n : ℕ) (points : List Po
   pub passed : points ≡ map start_of (orbit f n s)
   pub at : here ≡ nth_after f n s
   pub no_return : NoReturn f n s
-
-pub part_none : (f : Edge → Edge) (s : Edge) → IsPartWalk f s 0 [] s
-part_none f s = record { passed = refl; at = refl; no_return = λ k below. absurd (omega arith) }
 
 points_push : (f : Edge → Edge) (s : Edge) (n : ℕ) (points : List Point) (here : Edge) → points ≡ map start_of (orbit f n s) → here ≡ nth_after f n s → points ++ start_of here ∷ [] ≡ map start_of (orbit f (suc n) s)
 points_push f s n points here passed at =

@@ -20,11 +20,7 @@ const ROW: u32 = 65536;
 ///
 /// Each row has an even number of the path's upright lines. In order from the left they lie in pairs,
 /// and what is between the two of a pair is inside. `keys` is room to put them in order.
-pub fn invert(
-    page: &mut Bitmap,
-    points: &[Point],
-    keys: &mut Vec<u32>,
-) -> Result<u64, NoMemory>
+pub fn invert(page: &mut Bitmap, points: &[Point], keys: &mut Vec<u32>) -> Result<u64, NoMemory>
     requires lines { All (IsLineOn page.old.width page.old.height) (lines_of points.now) }
     requires even { (y : ℕ) → is_odd (count_by (is_in_row y) (lines_of points.now)) ≡ false }
     ensures sides { SameSides page.old page.new }

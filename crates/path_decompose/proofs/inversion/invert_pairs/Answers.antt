@@ -1,5 +1,5 @@
 -- Each pair is one more span, and after the last one no line is left.
-use Rattle.std.proofs.Common.{◌≡◌, ◌+◌, ◌*◌, ◌<◌, length, length-drop, drop, arith}
+use Rattle.std.proofs.Common.{◌+◌, ◌*◌, ◌<◌, length, length-drop, drop, arith}
 use Rattle.path_decompose.proofs.Pairs.{pair_none, pair_of, pair_more, pair_end, black_count-le}
 use Rattle.path_decompose.specs.Keys.{is_key_crossed}
 use Rattle.path_decompose.proofs.Parity.{odd_by}

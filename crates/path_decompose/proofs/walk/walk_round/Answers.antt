@@ -1,6 +1,5 @@
 -- Each push is one more step of the walk; the first edge comes again before the page has no more edges.
 use Rattle.std.proofs.Common.{◌∙◌, ◌<◌, ◌*◌, suc, sym, arith, add-one, vec_len}
-use Rattle.bit_image.specs.Page.{IsPage}
 use Rattle.path_decompose.proofs.Steps.{part_more, part_closed, part_short}
 use Rattle.path_decompose.proofs.Walked.{walk_lines_on, walk_rows_even}
 use Rattle.path_decompose.proofs.walk.walk_round.Goals as goal
