@@ -1,0 +1,5 @@
+mod drawing;
+mod paths;
+mod plain;
+mod turns;
+mod words;
