@@ -32,7 +32,7 @@ table_sync = the_field_sync unit Hand.the_row unit Fair.the_row Global.the_row F
 pub claims_sync : IsSync Claims.the_row
 claims_sync =
     view_sync TheInside.the_row _ _ _ _ (recorded_sync (TheInside.the_field).row _ _ (TheInside.the_type).to_one
-        (struct_sync (shape TheInside.the_type) (plain_sync _ _ _ _ _, (plain_sync _ _ _ _ _, (table_sync, (seat_sync, tt))))))
+    (struct_sync (shape TheInside.the_type) (plain_sync _ _ _ _ _, (plain_sync _ _ _ _ _, (table_sync, (seat_sync, tt))))))
 
 -- what a closure captured by reference may be shared where each captured value may
 pub captured_sync : (name : Sym) (k l m n o : NamedLft) (A B C D E : RattleType) → IsSync A → IsSync B → IsSync C → IsSync D → IsSync E
