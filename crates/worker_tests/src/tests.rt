@@ -4,4 +4,5 @@
 mod claims;
 mod gate;
 mod order;
+mod passing;
 mod width;
