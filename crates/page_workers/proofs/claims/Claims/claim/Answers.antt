@@ -1,8 +1,9 @@
 use Rattle.std.proofs.Common.{◌≡◌, ◌<◌, ◌≤◌, ◌^◌, ◌∙◌, true, true≢false, refl, sym, ap, arith, rules}
 use Rattle.page_workers.specs.declared.hand.Hand.{Hand}
 use Rattle.page_workers.specs.Numbers.{has_from}
-use Rattle.page_workers.specs.Seats.{Counter}
+use Rattle.page_workers.specs.Seats.{Counter, Counting, Claimant}
 use Rattle.page_workers.proofs.Lists.{still, ends}
+use Rattle.page_workers.proofs.Claiming.{is_claim, page_below, page_past}
 use Rattle.page_workers.proofs.Events.{shows_all}
 use Rattle.page_workers.proofs.Table.{allows_claim, credits_kept}
 use Rattle.page_workers.proofs.claims.Claims.claim.Goals as goal
@@ -71,3 +72,19 @@ returns-else-number-from-clause-none c = ((λ none. past_all c), (λ spent. refl
 
 pub returns-else-number-from-clause-all : goal.returns-else-number-from-clause-all
 returns-else-number-from-clause-all c none = shows_all _ _ (past_all c)
+
+pub returns-then-number-from-clause-event : goal.returns-then-number-from-clause-event
+returns-then-number-from-clause-event c live =
+    let told = c.fetch_add-number.ensures.2 in
+    let old : c.seat.inside.at_table.me.0.drawn ≡ c.args.seat.now.drawn = ap (λ (s : Claimant). s.drawn) c.seat.view_is in
+    let mine : c.args.self.now.counter.total ≡ c.args.seat.now.counter.total = sym (ap (λ (k : Counter). k.total) c.requires) in
+    let total : c.self.inside.total ≡ c.args.self.now.counter.total = ap (λ (s : Counting). s.counter.total) c.self.view_is in
+    is_claim _ _ _ _ _ _ told.0 (sym old) refl (page_below _ _ (omega (arith, c.from.ensures, c.if-number-from.true, mine, total)))
+
+pub returns-else-number-from-clause-event : goal.returns-else-number-from-clause-event
+returns-else-number-from-clause-event c live =
+    let told = c.fetch_add-number.ensures.2 in
+    let old : c.seat.inside.at_table.me.0.drawn ≡ c.args.seat.now.drawn = ap (λ (s : Claimant). s.drawn) c.seat.view_is in
+    let mine : c.args.self.now.counter.total ≡ c.args.seat.now.counter.total = sym (ap (λ (k : Counter). k.total) c.requires) in
+    let total : c.self.inside.total ≡ c.args.self.now.counter.total = ap (λ (s : Counting). s.counter.total) c.self.view_is in
+    is_claim _ _ _ _ _ _ told.0 (sym old) refl (page_past _ _ (omega (arith, c.from.ensures, c.if-number-from.false, mine, total)))
