@@ -1,12 +1,12 @@
 -- What the step on the word tells a seat is one event.
-use Rattle.std.proofs.Common.{◌≡◌, ℕ, zero, suc, ◌+◌, ◌<◌, ◌≤◌, List, [], ◌∷◌, ◌++◌, set, slice_index_or, Bool, true, false, cond, nat_lt, Option, Some, None, IsNone, refl, sym, ap, ◌∙◌, subst, arith}
+use Rattle.std.proofs.Common.{◌≡◌, ℕ, zero, suc, ◌<◌, ◌≤◌, List, [], ◌∷◌, ◌++◌, set, slice_index_or, Bool, true, false, cond, nat_lt, Option, Some, None, IsNone, refl, sym, ap, ◌∙◌, subst, arith}
 use Rattle.std.proofs.lemmas.Bool.Decides.{nat_tests}
 use Rattle.std.specs.Prelude.{◌↔◌}
 use mathlib.Core.Option.{some, some-ne-none, some-injective}
 use lib.ListN.{get_elem?}
 use Rattle.page_workers.specs.declared.hand.Hand.{Hand}
 use Rattle.page_workers.specs.Numbers.{IsAbove}
-use Rattle.page_workers.specs.Draws.{Draws, AllDrawn, draw_by, page_numbered}
+use Rattle.page_workers.specs.Draws.{Draws, AllDrawn, page_numbered}
 use Rattle.page_workers.specs.Rule.{IsDraw}
 use Rattle.page_workers.specs.Seats.{Claimant, IsClaim}
 use Rattle.page_workers.proofs.Events.{no_page}
