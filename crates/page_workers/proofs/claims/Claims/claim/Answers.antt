@@ -79,7 +79,7 @@ returns-then-number-from-clause-event c live =
     let old : c.seat.inside.at_table.me.0.drawn ≡ c.args.seat.now.drawn = ap (λ (s : Claimant). s.drawn) c.seat.view_is in
     let mine : c.args.self.now.counter.total ≡ c.args.seat.now.counter.total = sym (ap (λ (k : Counter). k.total) c.requires) in
     let total : c.self.inside.total ≡ c.args.self.now.counter.total = ap (λ (s : Counting). s.counter.total) c.self.view_is in
-    is_claim _ _ _ _ _ _ told.0 (sym old) refl (page_below _ _ (omega (arith, c.from.ensures, c.if-number-from.true, mine, total)))
+    is_claim _ _ _ _ _ _ told.0 (sym old) refl (page_below c.args.seat.now.counter.total c.fetch_add-number.result (omega (arith, c.from.ensures, c.if-number-from.true, mine, total)))
 
 pub returns-else-number-from-clause-event : goal.returns-else-number-from-clause-event
 returns-else-number-from-clause-event c live =
@@ -87,4 +87,4 @@ returns-else-number-from-clause-event c live =
     let old : c.seat.inside.at_table.me.0.drawn ≡ c.args.seat.now.drawn = ap (λ (s : Claimant). s.drawn) c.seat.view_is in
     let mine : c.args.self.now.counter.total ≡ c.args.seat.now.counter.total = sym (ap (λ (k : Counter). k.total) c.requires) in
     let total : c.self.inside.total ≡ c.args.self.now.counter.total = ap (λ (s : Counting). s.counter.total) c.self.view_is in
-    is_claim _ _ _ _ _ _ told.0 (sym old) refl (page_past _ _ (omega (arith, c.from.ensures, c.if-number-from.false, mine, total)))
+    is_claim _ _ _ _ _ _ told.0 (sym old) refl (page_past c.args.seat.now.counter.total c.fetch_add-number.result (omega (arith, c.from.ensures, c.if-number-from.false, mine, total)))
