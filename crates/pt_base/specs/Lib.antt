@@ -13,3 +13,6 @@ pub mod MemInputs
 pub mod PointsText
 pub mod Whole
 pub mod Root
+pub mod FixedText
+pub mod Outlines
+pub mod UnitText

@@ -1,11 +1,12 @@
 //! The document of a page.
 ghost use Rattle.std.specs.Prelude.{◌≡◌, ◌≤◌, ◌<◌, ◌++◌, ◌*◌, ◌^◌, ℕ, List, codes, decimal, flat_map, map, length, All, IfOk, OnOk, slice_index_or, true, false};
-ghost use Rattle.pt_base.specs.declared.piece.Piece.{Piece};
-ghost use Rattle.svg_backend.specs.SvgText.{flat_text, group_head, group_text, head_text, more_text, outline_at, sides_text, size_text, svg_text, view_text};
+ghost use Rattle.pt_base.specs.Outlines.{outline_at};
+ghost use Rattle.svg_backend.specs.SvgText.{flat_text, group_head, group_text, head_text, more_text, sides_text, size_text, svg_text, view_text};
 
 use crate::outline::put_outline;
 use pt_base::digits::put_number;
 use pt_base::fault::NoMemory;
+use pt_base::outline::pieces_at;
 use pt_base::piece::Piece;
 use pt_base::sequence::Sequence;
 use pt_base::settings::Settings;
@@ -180,14 +181,4 @@ fn put_holes(
         put_outline(out, unit, pieces_at(outlines, *hole))?;
     }
     Ok(())
-}
-
-/// The pieces of the outline of this number, or none where there is no such outline.
-fn pieces_at(outlines: &[Sequence<Piece>], i: u32) -> &[Piece]
-    ensures { result.now ≡ outline_at outlines.now i }
-{
-    match outlines.get(i as usize) {
-        Some(outline) => outline.as_slice(),
-        None => &[],
-    }
 }

@@ -2,7 +2,7 @@ use Rattle.std.proofs.Common.{rules, w32}
 use Rattle.std.proofs.lemmas.Int.{to_z-of_z}
 use Rattle.std.specs.Int.RustNames.{FitsSigned}
 use Rattle.pt_base.proofs.Appending.{three}
-use Rattle.svg_backend.proofs.outline.put_step.Goals as goal
+use Rattle.pt_base.proofs.unit_text.put_step.Goals as goal
 
 pub returns : goal.returns
 returns c =
