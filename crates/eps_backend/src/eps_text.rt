@@ -27,7 +27,12 @@ pub fn eps(alloc: Global, trace: &Trace, settings: &Settings) -> Result<Vec<u8>,
     let mut out = Vec::new(alloc);
     put_comments(&mut out, trace.width, trace.height)?;
     put_scale(&mut out, unit)?;
-    put_groups(&mut out, unit, trace.outlines.as_slice(), trace.groups.as_slice())?;
+    put_groups(
+        &mut out,
+        unit,
+        trace.outlines.as_slice(),
+        trace.groups.as_slice(),
+    )?;
     out.extend_from_slice(b"grestore\n%%EOF\n")?;
     Ok(out)
 }
