@@ -16,7 +16,6 @@ pub mod Unique
 pub mod Exists
 pub mod ClosedWalk
 pub mod Steps
-pub mod Counting
 pub mod Corners
 pub mod Keys
 pub mod Pairs

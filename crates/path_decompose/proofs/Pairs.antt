@@ -12,7 +12,7 @@ use Rattle.turn_policies.specs.Majority.{count_below, sum_below}
 use Rattle.path_decompose.specs.declared.inversion.TheConstants.{ROW}
 use Rattle.path_decompose.specs.Inside.{is_odd, black_count}
 use Rattle.path_decompose.specs.Keys.{is_key_in_row, is_key_crossed}
-use Rattle.path_decompose.proofs.Counting.{sum_below-same, sum_below-add, count_below-sum, sum_below-zero, sum_below-from, sum_below-at, sum_below-if, count_below-le, sum_below-le}
+use Rattle.turn_policies.proofs.Counting.{sum_below-same, sum_below-add, count_below-sum, sum_below-zero, sum_below-from, sum_below-at, sum_below-if, count_below-le, sum_below-le}
 use Rattle.path_decompose.proofs.Differ.{differ-false, differ_assoc}
 use Rattle.path_decompose.proofs.Once.{none_passes}
 use Rattle.path_decompose.proofs.Parity.{odd_by, is_odd-count}

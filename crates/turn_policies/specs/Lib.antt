@@ -3,3 +3,4 @@ pub mod Boundary
 pub mod Corner
 pub mod Majority
 pub mod Turn
+pub mod Square
