@@ -11,7 +11,7 @@ use Rattle.bit_image.proofs.Pages.{Fits-page}
 use Rattle.turn_policies.specs.declared.heading.Dir.{Dir}
 use Rattle.turn_policies.specs.declared.edge.Edge.{Edge}
 use Rattle.turn_policies.specs.Turn.{next}
-use Rattle.path_decompose.specs.Walk.{IsWalk, first_edge, start_of}
+use Rattle.path_decompose.specs.Walk.{IsBoundaryWalk, first_edge, start_of}
 use Rattle.path_decompose.specs.Inside.{inside, black_count}
 use Rattle.path_decompose.specs.Decomposition.{sign_at, inverted, IsNextPath, IsDecomposed, IsDecomposition}
 use Rattle.path_decompose.specs.Start.{IsStart}
@@ -86,14 +86,14 @@ returns_within b policy sign x y width height first fits (suc fuel) n enough so_
 
 -- so there is a walk from the first black pixel
 pub walk_found : (b : Image) (policy : Policy) (sign : Sign) (x y width height : ℕ) → IsFirstBlack b x y → Fits b width height
-    → (es : List Edge) × IsWalk b policy sign x y (map start_of es)
+    → (es : List Edge) × IsBoundaryWalk b policy sign x y (map start_of es)
 walk_found b policy sign x y width height first fits =
     let back = returns_within b policy sign x y width height first fits (suc width * suc height * 4) 0 (omega arith) (λ k below. absurd (omega arith)) in
     let es : List Edge = orbit (next b policy sign) (suc back.0) (first_edge x y) in
     (es, record { edges = es; round = part_round b policy sign x y back.0 first back.1 back.2; starts = refl })
 
 -- the path of a walk
-path_found : (page : Page) (policy : Policy) (b : Image) (x y : ℕ) → IsFirstBlack b x y → Fits b page.width page.height → (path : Path) × IsNextPath page policy b path × (walk : IsWalk b policy path.sign x y path.points) × (path.sign ≡ sign_at (image_of page) x y)
+path_found : (page : Page) (policy : Policy) (b : Image) (x y : ℕ) → IsFirstBlack b x y → Fits b page.width page.height → (path : Path) × IsNextPath page policy b path × (walk : IsBoundaryWalk b policy path.sign x y path.points) × (path.sign ≡ sign_at (image_of page) x y)
 path_found page policy b x y first fits =
     let sign : Sign = sign_at (image_of page) x y in
     let found = walk_found b policy sign x y page.width page.height first fits in

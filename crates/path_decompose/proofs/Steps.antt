@@ -12,7 +12,7 @@ use Rattle.turn_policies.specs.Boundary.{IsBoundary}
 use Rattle.turn_policies.specs.Turn.{next}
 use Rattle.turn_policies.proofs.Turning.{next_boundary}
 use Rattle.turn_policies.proofs.Back.{previous, previous-next}
-use Rattle.path_decompose.specs.Walk.{IsRound, IsWalk, first_edge, start_of}
+use Rattle.path_decompose.specs.Walk.{IsRoundTrip, IsBoundaryWalk, first_edge, start_of}
 use Rattle.path_decompose.proofs.Orbit.{nth_after, orbit, NoReturn, nth_after-keeps, length-orbit, orbit_push, orbit_run, get_or-orbit, distinct_orbit}
 use Rattle.path_decompose.proofs.Round.{first_boundary}
 use Rattle.path_decompose.proofs.OnPage.{edge_on, length-distinct}
@@ -68,7 +68,7 @@ part_short b policy sign x y n points here width height first fits p =
 
 -- once the first edge comes again, the walk is whole
 pub part_round : (b : Image) (policy : Policy) (sign : Sign) (x y n : ℕ) → IsFirstBlack b x y → NoReturn (next b policy sign) n (first_edge x y) → nth_after (next b policy sign) (suc n) (first_edge x y) ≡ first_edge x y
-    → IsRound b policy sign x y (orbit (next b policy sign) (suc n) (first_edge x y))
+    → IsRoundTrip b policy sign x y (orbit (next b policy sign) (suc n) (first_edge x y))
 part_round b policy sign x y n first no_return closed =
     let f : Edge → Edge = next b policy sign in
     let s : Edge = first_edge x y in
@@ -79,7 +79,7 @@ part_round b policy sign x y n first no_return closed =
     }
 
 pub part_closed : (b : Image) (policy : Policy) (sign : Sign) (x y n : ℕ) (points : List Point) (here : Edge) → IsFirstBlack b x y → IsPartWalk (next b policy sign) (first_edge x y) n points here → next b policy sign here ≡ first_edge x y
-    → IsWalk b policy sign x y (points ++ start_of here ∷ [])
+    → IsBoundaryWalk b policy sign x y (points ++ start_of here ∷ [])
 part_closed b policy sign x y n points here first p closed =
     let f : Edge → Edge = next b policy sign in
     record {

@@ -27,11 +27,13 @@ pub fn decompose(alloc: Global, page: &Bitmap, policy: Policy) -> Result<Vec<Pat
     // pixels of the page inside.
     ensures closed { IfOk result (λ paths. All (λ path. IsClosedWalk path.points) paths.items) }
     ensures corners { IfOk result
-        (λ paths. All (λ path. All (IsCornerOf page.now.width page.now.height) path.points) paths.items) }
+        (λ paths. All (λ path. All (IsCornerOf page.now.width page.now.height) path.points)
+        paths.items) }
     ensures starts { IfOk result
         (λ paths. All (λ path. pos 1 ≤ℤ (point_at path.points 0).y) paths.items) }
     ensures insides { IfOk result
-        (λ paths. All (λ path. Fits (inside path.points) page.now.width page.now.height) paths.items) }
+        (λ paths. All (λ path. Fits (inside path.points) page.now.width page.now.height)
+        paths.items) }
     ensures few { IfOk result (λ paths. length paths.items ≤ page.now.width * page.now.height) }
 
     // Together they come to the page, and use each of its edges once.

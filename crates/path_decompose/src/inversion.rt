@@ -69,7 +69,8 @@ fn gather_line(from: Point, to: Point, keys: &mut Vec<u32>) -> Result<(), NoMemo
 fn invert_pairs(page: &mut Bitmap, keys: &[u32]) -> u64
     requires order { IsNonDecreasing keys.now }
     requires even { (y : ℕ) → is_odd (count_by (is_key_in_row y) keys.now) ≡ false }
-    requires on_page { All (λ key. (key % ROW ≤ page.old.width) × (key / ROW < page.old.height)) keys.now }
+    requires on_page { All (λ key. (key % ROW ≤ page.old.width)
+        × (key / ROW < page.old.height)) keys.now }
     ensures sides { SameSides page.old page.new }
     ensures pixels { (u v : ℕ) → image_of page.new u v
         ≡ differ (image_of page.old u v) (is_odd (count_by (is_key_crossed u v) keys.now)) }

@@ -19,7 +19,8 @@ pub fn decompositions_are_one()
 
 /// A closed walk over the corners of a page has an even number of upright lines in each row.
 pub fn rows_are_even()
-    ensures { (width height : ℕ) (points : List Point) → IsClosedWalk points → All (IsCornerOf width height) points
+    ensures { (width height : ℕ) (points : List Point) → IsClosedWalk points
+        → All (IsCornerOf width height) points
         → (y : ℕ) → is_odd (count_by (is_in_row y) (lines_of points)) ≡ false }
 {}
 
@@ -38,7 +39,8 @@ pub fn decompositions_come_to_the_page()
         → IsDecomposition page policy paths
         → All (λ path. All (IsCornerOf page.width page.height) path.points) paths }
     ensures starts { (page : Page) (policy : Policy) (paths : List Path) → IsPage page
-        → IsDecomposition page policy paths → All (λ path. pos 1 ≤ℤ (point_at path.points 0).y) paths }
+        → IsDecomposition page policy paths
+        → All (λ path. pos 1 ≤ℤ (point_at path.points 0).y) paths }
     ensures even_odd { (page : Page) (policy : Policy) (paths : List Path)
         → IsDecomposition page policy paths → IsEvenOdd (image_of page) paths }
     ensures edges_once { (page : Page) (policy : Policy) (paths : List Path)

@@ -4,7 +4,7 @@ ghost use Rattle.bit_image.specs.FirstBlack.{IsFirstBlack};
 ghost use Rattle.bit_image.specs.Page.{image_of};
 ghost use Rattle.path_decompose.specs.Inside.{lines_of, is_odd};
 ghost use Rattle.path_decompose.specs.Line.{IsLineOn, is_in_row};
-ghost use Rattle.path_decompose.specs.Walk.{start_of, first_edge, IsWalk};
+ghost use Rattle.path_decompose.specs.Walk.{start_of, first_edge, IsBoundaryWalk};
 
 use bit_image::bitmap::Bitmap;
 use pt_base::fault::NoMemory;
@@ -26,7 +26,8 @@ pub fn walk_round(
     sign: Sign,
 ) -> Result<Vec<Point>, NoMemory>
     requires { IsFirstBlack (image_of page.now) x y }
-    ensures walk { IfOk result (λ points. IsWalk (image_of page.now) policy sign x y points.items) }
+    ensures walk { IfOk result
+        (λ points. IsBoundaryWalk (image_of page.now) policy sign x y points.items) }
     ensures lines { IfOk result
         (λ points. All (IsLineOn page.now.width page.now.height) (lines_of points.items)) }
     ensures even { IfOk result (λ points. (v : ℕ)

@@ -261,15 +261,15 @@ run_written settings bytes outs outs_now errs errs_now k faults faults_now end t
       cut_off = written.1;
       told = subst (λ n. IsToldBy (status_of end) n errs errs_now faults faults_now) counted told;
     } where
-  ends_written : (e : PagesEnd) → EndsBy settings (is_later false t.raws) t.rest (with_items outs (docs t.texts)) outs_now e
-      → (status_of e ≢ 4 → outs_now ≡ with_items outs (docs t.texts)) × (status_of e ≡ 4 → (text : List ℕ) × IsCutOff (with_items outs (docs t.texts)) outs_now dash text)
-  ends_written why.End ends = (λ _. ends.0, λ e. absurd (omega (arith, e)))
-  ends_written why.Trailing ends = (λ _. ends.0, λ e. absurd (omega (arith, e)))
-  ends_written (why.Refused f) ends = (λ _. ends.0, λ e. absurd (omega (arith, e)))
-  ends_written why.TooMany ends = (λ _. ends.0, λ e. absurd (omega (arith, e)))
-  ends_written why.Unread ends = (λ _. ends, λ e. absurd (omega (arith, e)))
-  ends_written why.OutOfMemory ends = (λ _. ends, λ e. absurd (omega (arith, e)))
-  ends_written why.Unwritten (raw, used, text, is_text, here, cut) = (λ n. absurd (n refl), λ _. (text, cut))
+      ends_written : (e : PagesEnd) → EndsBy settings (is_later false t.raws) t.rest (with_items outs (docs t.texts)) outs_now e
+          → (status_of e ≢ 4 → outs_now ≡ with_items outs (docs t.texts)) × (status_of e ≡ 4 → (text : List ℕ) × IsCutOff (with_items outs (docs t.texts)) outs_now dash text)
+      ends_written why.End ends = (λ _. ends.0, λ e. absurd (omega (arith, e)))
+      ends_written why.Trailing ends = (λ _. ends.0, λ e. absurd (omega (arith, e)))
+      ends_written (why.Refused f) ends = (λ _. ends.0, λ e. absurd (omega (arith, e)))
+      ends_written why.TooMany ends = (λ _. ends.0, λ e. absurd (omega (arith, e)))
+      ends_written why.Unread ends = (λ _. ends, λ e. absurd (omega (arith, e)))
+      ends_written why.OutOfMemory ends = (λ _. ends, λ e. absurd (omega (arith, e)))
+      ends_written why.Unwritten (raw, used, text, is_text, here, cut) = (λ n. absurd (n refl), λ _. (text, cut))
 
 -- nothing was written
 pub none_written_at : (settings : Settings) (status : ℕ) (outs errs errs_now : Option Documents) (faults faults_now : ℕ) → status ≢ 4

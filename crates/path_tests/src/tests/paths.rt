@@ -78,7 +78,10 @@ fn paths_of_small_pages(rt: HostRuntime) -> Result<(), Fail> {
     for (rows, policy, want) in cases {
         let page = drawn(rt.alloc(), rows)?;
         let paths = decompose(rt.alloc(), &page, policy)?;
-        assert!(rt; are_shown(rt.alloc(), &page, &paths, want)?, "{policy:?}: {want}");
+        assert!(rt;
+            are_shown(rt.alloc(), &page, &paths, want)?,
+            "{policy:?}: {want}"
+        );
     }
     Ok(())
 }
@@ -114,11 +117,18 @@ fn paths_are_those_of_the_plain_page(rt: HostRuntime) -> Result<(), Fail> {
         for path in &decompose(rt.alloc(), &page, Policy::Right)? {
             let points = path.points.as_slice();
             if let Some(start) = points.first() {
-                let (x, y) = (start.x.unsigned_abs() as usize, start.y.unsigned_abs() as usize);
+                let (x, y) = (
+                    start.x.unsigned_abs() as usize,
+                    start.y.unsigned_abs() as usize,
+                );
                 paths.push((x, y, points.len(), path.area as usize))?;
             }
         }
-        assert_eq!(rt; paths, paths_to_the_right(rt.alloc(), &page)?, "{width} by {height}");
+        assert_eq!(rt;
+            paths,
+            paths_to_the_right(rt.alloc(), &page)?,
+            "{width} by {height}"
+        );
     }
     Ok(())
 }

@@ -40,7 +40,7 @@ pub returns-in-Ok-open-clause-written : goal.returns-in-Ok-open-clause-written
 returns-in-Ok-open-clause-written g c = λ settings asked.
     let same = one_asked _ c.in-Some.settings settings c.in-Some.ensures.asked asked in
     let P : Settings → Type 0 = λ s. IsWritten s (status_of c.trace_pages-traced.result.end) (g.O.Sink.documents c.args.outs.now) (g.O.Sink.documents c.trace_pages-traced.new.outs)
-        (g.E.Sink.documents c.args.errs.now) (g.E.Sink.documents c.finish.new.errs) (g.E.Sink.faults c.args.errs.now) (g.E.Sink.faults c.finish.new.errs) in
+    (g.E.Sink.documents c.args.errs.now) (g.E.Sink.documents c.finish.new.errs) (g.E.Sink.faults c.args.errs.now) (g.E.Sink.faults c.finish.new.errs) in
     rw c.finish.ensures.status (subst P same (run_written c.in-Some.settings _ _ _ _ _ _ _ _ _ c.trace_pages-traced.ensures.traced c.finish.ensures.said))
 
 pub returns-in-Ok-open-clause-said : goal.returns-in-Ok-open-clause-said
@@ -82,8 +82,10 @@ returns-in_default-new-clause-opened g c = inl (refl, refl)
 
 pub returns-in-Ok-open-clause-opened : goal.returns-in-Ok-open-clause-opened
 returns-in-Ok-open-clause-opened g c =
-    inr (c.trace_pages-traced.ensures.same_openings ∙ c.in-Ok-open.ensures.one_more,
-    rw (c.trace_pages-traced.ensures.same_name, c.in-Ok-open.ensures.file) (name-with_file (g.I.Inputs.files c.args.inputs.now) dash))
+    inr (
+      c.trace_pages-traced.ensures.same_openings ∙ c.in-Ok-open.ensures.one_more,
+      rw (c.trace_pages-traced.ensures.same_name, c.in-Ok-open.ensures.file) (name-with_file (g.I.Inputs.files c.args.inputs.now) dash),
+    )
 
 pub returns-clause-opened : goal.returns-clause-opened
 returns-clause-opened g c = inr (c.in-Err.ensures.one_more, rw c.in-Err.ensures.no_file (no_name (g.I.Inputs.files c.args.inputs.now) dash))
