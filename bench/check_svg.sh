@@ -1,8 +1,8 @@
 #!/usr/bin/env bash
 # Traces a scan to SVG, and has two other programs read it: xmllint, whether it is well-formed XML, and
-# rsvg-convert, which draws it. Puts the scan and the drawing side by side into docs/pictures.
+# rsvg-convert, which draws it. Where a PNG is named it is written: the scan above, the drawing below.
 #
-# usage: bench/check_svg.sh
+# usage: bench/check_svg.sh [PICTURE.png]
 #
 # It needs Debian's packages libxml2-utils, librsvg2-bin and imagemagick, and python3. It is no part of
 # the gate.
@@ -27,8 +27,11 @@ size=$(wc -c <"$work/scan.svg")
 differ=$(convert "$work/scan.pbm" "$work/drawn.png" -colorspace Gray -threshold 50% -compose difference -composite -format '%[fx:mean*w*h]' info:)
 echo "well-formed and drawn: $size bytes, and $differ of $((2480 * 3508)) pixels differ at half black"
 
+if [ $# -eq 0 ]; then
+  exit 0
+fi
+
 # The first letters, five times as large: the scan's pixels above, the drawing below.
-mkdir -p "$top/docs/pictures"
 convert "$work/scan.pbm" -crop 170x52+116+116 +repage -filter point -resize 500% "$work/pixels.png"
 rsvg-convert --dpi-x 72 --dpi-y 72 --zoom 5 --left=-580 --top=-580 --page-width 850 --page-height 260 --background-color white "$work/scan.svg" >"$work/curves.png"
-convert "$work/pixels.png" "$work/curves.png" -bordercolor '#999999' -border 2 -append -colors 16 "$top/docs/pictures/scan.png"
+convert "$work/pixels.png" "$work/curves.png" -bordercolor '#999999' -border 2 -append -colors 16 "$1"

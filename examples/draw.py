@@ -28,7 +28,8 @@ def main():
         x, y = (int(number) for number in point.split(","))
         return f"{x * SCALE},{(height - y) * SCALE}"
 
-    print(f'<svg xmlns="http://www.w3.org/2000/svg" viewBox="-20 -20 {width * SCALE + 40} {height * SCALE + 40}">')
+    wide, high = width * SCALE + 40, height * SCALE + 40
+    print(f'<svg xmlns="http://www.w3.org/2000/svg" width="{wide}" height="{high}" viewBox="-20 -20 {wide} {high}">')
     print(f'<rect x="0" y="0" width="{width * SCALE}" height="{height * SCALE}" fill="#ffffff" stroke="#cccccc"/>')
     shape = " ".join("M" + " L".join(place(p) for p in points) + " Z" for _, _, *points in paths)
     print(f'<path d="{shape}" fill="#dddddd" fill-rule="evenodd" stroke="#888888" stroke-width="2"/>')

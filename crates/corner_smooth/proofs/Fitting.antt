@@ -1,7 +1,6 @@
 -- Numbers that fit their types.
-use Rattle.std.proofs.Common.{◌≡◌, ℕ, ◌*◌, ◌≤◌, ◌<◌, ◌^◌, ℤ, ◌-ℤ◌, ◌*ℤ◌, unsigned_abs, w32, w64, to_z, of_z, arith}
-use Rattle.std.proofs.lemmas.Int.{ints, unsigned_abs-mul, to_z-of_z, fits_signed_from_abs}
-use Rattle.std.proofs.lemmas.Nat.{mul-le}
+use Rattle.std.proofs.Common.{◌≡◌, ℕ, ◌≤◌, ◌^◌, ℤ, ◌-ℤ◌, ◌*ℤ◌, unsigned_abs, w32, w64, to_z, of_z, arith}
+use Rattle.std.proofs.lemmas.Int.{ints}
 use Rattle.corner_smooth.specs.Corner.{IsInReach}
 use Rattle.pt_base.proofs.Sizes.{back}
 

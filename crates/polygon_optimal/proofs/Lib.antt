@@ -1,4 +1,3 @@
-pub mod OnePenalty
 pub mod Best
 pub mod Exists
 pub mod Reaching

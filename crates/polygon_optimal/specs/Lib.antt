@@ -1,2 +1,3 @@
 pub mod Polygon
 pub mod Lasts
+pub mod OnePenalty

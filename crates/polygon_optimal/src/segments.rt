@@ -71,7 +71,7 @@ fn last_from(reach: &Reach, i: u32, size: u32) -> u32
 
 impl Steps for Segments<'_> {
     ghost use Rattle.std.proofs.Common.{arith};
-    ghost use Rattle.polygon_optimal.proofs.OnePenalty.{penalty_most};
+    ghost use Rattle.polygon_optimal.specs.OnePenalty.{penalty_most};
 
     ghost size_of = { λ s. length s.moments.now };
 

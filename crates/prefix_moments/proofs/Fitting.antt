@@ -1,12 +1,11 @@
 -- Numbers that fit their types.
 use Rattle.std.proofs.Common.{◌≡◌, ℕ, ◌*◌, ◌<◌, ◌≤◌, ◌^◌, ℤ, pos, ◌+ℤ◌, ◌-ℤ◌, ◌*ℤ◌, ◌≤ℤ◌, w32, w64, to_z, of_z, refl, sym, ap, ◌∙◌, arith}
-use Rattle.std.proofs.lemmas.Int.{ints, unsigned_abs-mul, to_z-of_z, fits_signed_from_abs}
+use Rattle.std.proofs.lemmas.Int.{ints, fits_signed_from_abs}
 use Rattle.std.specs.Prelude.{unsigned_abs}
 use Rattle.std.specs.Int.RustNames.{FitsSigned}
 use mir.Syntax.{w128}
 use Rattle.pt_base.specs.declared.limits.TheConstants.{LONGEST_SIDE}
 use Rattle.pt_base.proofs.Sizes.{back, long_back, product_most}
-use Rattle.std.proofs.lemmas.Nat.{mul-le}
 
 -- the value of a sum
 pub sum_back : (a b s : ℤ) → unsigned_abs a < 2 ^ 62 → unsigned_abs b < 2 ^ 62 → b ≡ s
