@@ -45,8 +45,8 @@ pub vertices_more : (paths : List Path) (i : ℕ) (path : Path) (polygons more :
 vertices_more paths i path polygons more best lists longer vertices below is of_paths pushed so_far of_both pushed' =
     let same : length (take i paths) ≡ length polygons = omega (arith, AllZip-long IsPolygonOf (take i paths) polygons of_paths) in
     let pairs : zip (take i paths) polygons ++ (path, best) ∷ [] ≡ zip (take (i + 1) paths) more =
-        sym (zip-more (take i paths) polygons path best same) ∙ ap (λ ps. zip ps (polygons ++ best ∷ [])) (taken paths i path below is)
-        ∙ ap (λ qs. zip (take (i + 1) paths) qs) (sym pushed) in
+    sym (zip-more (take i paths) polygons path best same) ∙ ap (λ ps. zip ps (polygons ++ best ∷ [])) (taken paths i path below is)
+    ∙ ap (λ qs. zip (take (i + 1) paths) qs) (sym pushed) in
     subst (λ both. AllZip AreVerticesOf both longer) pairs
     (subst (AllZip AreVerticesOf (zip (take i paths) polygons ++ (path, best) ∷ [])) (sym pushed')
     (all_zipped_more AreVerticesOf (zip (take i paths) polygons) lists (path, best) vertices so_far of_both))
