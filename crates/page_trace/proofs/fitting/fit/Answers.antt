@@ -1,9 +1,4 @@
-use Rattle.std.proofs.Common.{◌<◌, ◌≤◌, ℕ, List, length, arith, subst}
-use Rattle.std.specs.Result.{IfOk}
-use Rattle.std.proofs.Common.{Result, Ok, Err}
-use Rattle.pt_base.specs.declared.point.Point.{Point}
-use Rattle.pt_base.specs.declared.fault.NoMemory.{NoMemory}
-use Rattle.vertex_adjust.specs.Vertex.{AreVertices}
+use Rattle.std.proofs.Common.{◌<◌, length, arith}
 use Rattle.page_trace.proofs.Segments.{is_polygon, two_segments}
 use Rattle.page_trace.proofs.Zipping.{polygon_of}
 use Rattle.page_trace.proofs.fitting.fit.Goals as goal
