@@ -78,7 +78,11 @@ fn paths_of_small_pages(rt: HostRuntime) -> Result<(), Fail> {
 fn checkerboard(alloc: Global) -> Result<Bitmap, Fail> {
     let mut page = Bitmap::new(alloc, 64, 64)?;
     for y in 0..page.height() {
-        let pixels = if y % 2 == 0 { 0x5555555555555555 } else { 0xAAAAAAAAAAAAAAAA };
+        let pixels = if y % 2 == 0 {
+            0x5555555555555555
+        } else {
+            0xAAAAAAAAAAAAAAAA
+        };
         if y < page.height() && 0 < page.width() {
             page.put_word(y, 0, pixels);
         }
@@ -116,7 +120,9 @@ fn noise(alloc: Global, width: u32, height: u32, seed: u64) -> Result<Bitmap, Fa
     let mut state = seed;
     for y in 0..height {
         for x in 0..width {
-            state = state.wrapping_mul(6364136223846793005).wrapping_add(1442695040888963407);
+            state = state
+                .wrapping_mul(6364136223846793005)
+                .wrapping_add(1442695040888963407);
             if x < page.width() && y < page.height() {
                 page.set(x, y, state >> 62 == 0);
             }
@@ -134,11 +140,18 @@ fn paths_are_those_of_the_plain_page(rt: HostRuntime) -> Result<(), Fail> {
         for path in &decompose(rt.alloc(), &page, Policy::Right)? {
             let points = path.points.as_slice();
             if let Some(start) = points.first() {
-                let (x, y) = (start.x.unsigned_abs() as usize, start.y.unsigned_abs() as usize);
+                let (x, y) = (
+                    start.x.unsigned_abs() as usize,
+                    start.y.unsigned_abs() as usize,
+                );
                 paths.push((x, y, points.len(), path.area as usize))?;
             }
         }
-        assert_eq!(rt; paths, paths_to_the_right(rt.alloc(), &page)?, "{width} by {height}");
+        assert_eq!(rt;
+            paths,
+            paths_to_the_right(rt.alloc(), &page)?,
+            "{width} by {height}"
+        );
     }
     Ok(())
 }

@@ -41,7 +41,10 @@ impl PlainPage {
 
     pub fn is_black(&self, x: usize, y: usize) -> bool {
         x < self.width
-            && match self.cells.get(y.saturating_mul(self.width).saturating_add(x)) {
+            && match self
+                .cells
+                .get(y.saturating_mul(self.width).saturating_add(x))
+            {
                 Some(cell) => *cell,
                 None => false,
             }

@@ -54,8 +54,18 @@ fn the_first_black_pixel(rt: HostRuntime) -> Result<(), Fail> {
     for (from, want) in [(2, Some((130, 1))), (1, Some((130, 1))), (0, None)] {
         assert_eq!(rt; page.first_black(from), want, "from row {from}");
     }
-    for (from, want) in [(0, Some(130)), (130, Some(130)), (132, Some(132)), (133, None), (199, None)] {
-        assert_eq!(rt; page.first_black_in_row(from, 1), want, "from column {from}");
+    for (from, want) in [
+        (0, Some(130)),
+        (130, Some(130)),
+        (132, Some(132)),
+        (133, None),
+        (199, None),
+    ] {
+        assert_eq!(rt;
+            page.first_black_in_row(from, 1),
+            want,
+            "from column {from}"
+        );
     }
     Ok(())
 }
