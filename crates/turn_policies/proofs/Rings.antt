@@ -1,6 +1,5 @@
 -- Counting along the rim of a square.
-use Rattle.std.proofs.Common.{◌≡◌, ℕ, zero, suc, ◌+◌, ◌-◌, ◌*◌, ◌<◌, ◌≤◌, Bool, true, false, cond, not, ◌&&◌, refl, ◌∙◌, ap, arith}
-use Rattle.std.proofs.lemmas.Bool.Decides.{nat_tests}
+use Rattle.std.proofs.Common.{◌≡◌, ℕ, zero, suc, ◌+◌, ◌-◌, ◌*◌, ◌<◌, ◌≤◌, Bool, true, false, cond, not, ◌&&◌, refl, ◌∙◌, arith}
 use Rattle.bit_image.specs.Image.{Image}
 use Rattle.turn_policies.specs.Majority.{behind, count_below, sum_below, is_rim, black_in_ring, white_in_ring}
 

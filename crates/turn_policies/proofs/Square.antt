@@ -1,10 +1,9 @@
 -- A row of pixels around a column, and eight of them as a square.
 use Rattle.std.proofs.Common.{◌≡◌, ℕ, zero, suc, ◌+◌, ◌-◌, ◌*◌, ◌/◌, ◌%◌, ◌^◌, ◌<◌, ◌≤◌, Bool, true, false, ◌&&◌, ◌||◌, nat_eq, nat_le, nat_lt, List, ◌∷◌, get_or, refl, ap, sym, ◌∙◌, inl, inr, arith}
-use Rattle.std.specs.Int.{bit_at}
 use Rattle.std.specs.Int.RustNames.{bit_and, bit_or}
-use Rattle.std.proofs.lemmas.Bool.{cases_lt, cases_order, and_from, and_left, and_right, le-leb, lt-leb, lt-ltb, le-ltb}
+use Rattle.std.proofs.lemmas.Bool.{cases_lt, cases_order, le-leb, lt-leb, lt-ltb, le-ltb}
 use Rattle.std.proofs.lemmas.Nat.Bits.{bit_at_above}
-use Rattle.bit_image.specs.Image.{Image, within}
+use Rattle.bit_image.specs.Image.{Image}
 use Rattle.bit_image.specs.Words.{is_one, black_in}
 use Rattle.bit_image.proofs.Bits.{and_true, is_one-and, is_one-zero, is_one-mask, within-inside, black_in-at}
 use Rattle.bit_image.proofs.Turned.{is_one-or, is_one-shr, is_one-shl, is_one-shl_below}

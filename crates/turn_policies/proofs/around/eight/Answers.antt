@@ -1,5 +1,5 @@
 -- One word has all eight, or two have some each.
-use Rattle.std.proofs.Common.{◌+◌, ◌-◌, ◌*◌, ◌/◌, ◌%◌, ◌^◌, ◌∷◌, ◌∙◌, get_or, bit_and, bit_or, ap, arith}
+use Rattle.std.proofs.Common.{◌-◌, ◌*◌, ◌/◌, ◌%◌, ◌^◌, ◌∷◌, ◌∙◌, get_or, bit_and, bit_or, ap, arith}
 use Rattle.bit_image.specs.Words.{is_one}
 use Rattle.turn_policies.proofs.Square.{eight_within, eight_over}
 use Rattle.turn_policies.proofs.around.eight.Goals as goal

@@ -1,5 +1,5 @@
 -- One row more, and at the end all eight.
-use Rattle.std.proofs.Common.{◌≡◌, ap, ◌∙◌, subst, arith}
+use Rattle.std.proofs.Common.{◌≡◌, subst, arith}
 use Rattle.bit_image.specs.Page.{image_of}
 use Rattle.turn_policies.proofs.Square.{IsSquareTo, no_rows, next_row, all_rows}
 use Rattle.turn_policies.proofs.around.square.Goals as goal
