@@ -6,6 +6,7 @@ pub mod Places
 pub mod Roots
 pub mod Rounding
 pub mod Shelving
+pub mod Starting
 pub mod Sizes
 pub mod Terms
 pub mod Walking

@@ -1,33 +1,14 @@
 -- The text of a page as Scalable Vector Graphics (SVG 1.0, sections 8.3 and 8.4 on path data). The
 -- layout of its lines is our own.
-use Rattle.std.specs.Prelude.{ℕ, Bool, ◌*◌, ◌-ℤ◌, List, [], ◌∷◌, ◌++◌, codes, decimal, flat_map, map, slice_index_or, if◌then◌else◌}
-use Rattle.std.specs.Fmt.{signed_decimal}
+use Rattle.std.specs.Prelude.{ℕ, Bool, ◌*◌, List, [], ◌∷◌, ◌++◌, codes, decimal, flat_map, map, if◌then◌else◌}
 use Rattle.pt_base.specs.declared.piece.Piece.{Piece}
 use Rattle.pt_base.specs.declared.piece.Piece.TheVariants.{Corner, Curve}
 use Rattle.pt_base.specs.declared.point.Point.{Point}
 use Rattle.pt_base.specs.declared.trace.Group.{Group}
 use Rattle.pt_base.specs.declared.trace.Trace.{Trace}
 use Rattle.pt_base.specs.ClosedWalk.{origin}
-use Rattle.pt_base.specs.Floor.{rounded}
-
--- where a piece ends
-abbrev pub end_of : Piece → Point
-end_of (Corner at end) = end
-end_of (Curve first second end al) = end
-
--- where an outline starts: at the end of its last piece, or at the given place where it has none
-abbrev pub start_from : Point → List Piece → Point
-start_from start [] = start
-start_from start (piece ∷ pieces) = start_from (end_of piece) pieces
-
--- a point's coordinates, rounded to units, with a space between
-abbrev pub place_text : ℕ → Point → List ℕ
-place_text unit p = signed_decimal (rounded p.x unit) ++ codes " " ++ signed_decimal (rounded p.y unit)
-
--- how far the second point lies from the first one, after both are rounded to units
-abbrev pub step_text : ℕ → Point → Point → List ℕ
-step_text unit from to =
-    signed_decimal (rounded to.x unit -ℤ rounded from.x unit) ++ codes " " ++ signed_decimal (rounded to.y unit -ℤ rounded from.y unit)
+use Rattle.pt_base.specs.Outlines.{end_of, outline_at, start_from}
+use Rattle.pt_base.specs.UnitText.{place_text, step_text}
 
 -- a piece that begins at `from`: two lines, each relative to the point before; or a curve, whose two
 -- controls and end are relative to its beginning
@@ -59,10 +40,6 @@ path_line unit first more =
 abbrev pub flat_text : ℕ → List (List Piece) → List ℕ
 flat_text unit [] = []
 flat_text unit (first ∷ more) = path_line unit first more
-
--- the outline of this number, or none
-abbrev pub outline_at : List (List Piece) → ℕ → List Piece
-outline_at outlines i = slice_index_or outlines i []
 
 -- a path of a shape and its holes
 abbrev pub group_text : ℕ → List (List Piece) → Group → List ℕ

@@ -1,11 +1,12 @@
 //! The document of a page.
 ghost use Rattle.std.specs.Prelude.{◌≡◌, ◌≤◌, ◌<◌, ◌++◌, ◌*◌, ◌^◌, ℕ, List, codes, decimal, flat_map, map, length, All, IfOk, OnOk, slice_index_or, true, false};
-ghost use Rattle.pt_base.specs.declared.piece.Piece.{Piece};
-ghost use Rattle.svg_backend.specs.SvgText.{flat_text, group_head, group_text, head_text, more_text, outline_at, sides_text, size_text, svg_text, view_text};
+ghost use Rattle.pt_base.specs.Outlines.{outline_at};
+ghost use Rattle.svg_backend.specs.SvgText.{flat_text, group_head, group_text, head_text, more_text, sides_text, size_text, svg_text, view_text};
 
 use crate::outline::put_outline;
 use pt_base::digits::put_number;
 use pt_base::fault::NoMemory;
+use pt_base::outline::pieces_at;
 use pt_base::piece::Piece;
 use pt_base::sequence::Sequence;
 use pt_base::settings::Settings;
@@ -20,7 +21,8 @@ use std::alloc::Global;
 pub fn svg(alloc: Global, trace: &Trace, settings: &Settings) -> Result<Vec<u8>, NoMemory>
     requires some { 1 ≤ settings.now.unit }
     requires most { settings.now.unit ≤ 1000 }
-    ensures { IfOk result (λ text. text.items ≡ svg_text settings.now.unit settings.now.flat trace.now) }
+    ensures { IfOk result (λ text. text.items
+        ≡ svg_text settings.now.unit settings.now.flat trace.now) }
 {
     let unit = settings.unit;
     let outlines = trace.outlines.as_slice();
@@ -138,7 +140,8 @@ fn put_groups(
 ) -> Result<(), NoMemory>
     requires some { 1 ≤ unit }
     requires most { unit ≤ 1000 }
-    ensures { OnOk result (out.new.items ≡ out.old.items ++ flat_map (group_text unit outlines.now) groups.now) }
+    ensures { OnOk result (out.new.items ≡ out.old.items
+        ++ flat_map (group_text unit outlines.now) groups.now) }
 {
     for group in groups {
         put_group(out, unit, outlines, group)?;
@@ -155,7 +158,8 @@ fn put_group(
 ) -> Result<(), NoMemory>
     requires some { 1 ≤ unit }
     requires most { unit ≤ 1000 }
-    ensures { OnOk result (out.new.items ≡ out.old.items ++ group_text unit outlines.now group.now) }
+    ensures { OnOk result (out.new.items ≡ out.old.items
+        ++ group_text unit outlines.now group.now) }
 {
     out.extend_from_slice(b"<path fill-rule=\"evenodd\" d=\"")?;
     put_outline(out, unit, pieces_at(outlines, group.outer))?;
@@ -173,21 +177,12 @@ fn put_holes(
 ) -> Result<(), NoMemory>
     requires some { 1 ≤ unit }
     requires most { unit ≤ 1000 }
-    ensures { OnOk result (out.new.items ≡ out.old.items ++ more_text unit (map (outline_at outlines.now) holes.now)) }
+    ensures { OnOk result (out.new.items ≡ out.old.items
+        ++ more_text unit (map (outline_at outlines.now) holes.now)) }
 {
     for hole in holes {
         out.extend_from_slice(b" ")?;
         put_outline(out, unit, pieces_at(outlines, *hole))?;
     }
     Ok(())
-}
-
-/// The pieces of the outline of this number, or none where there is no such outline.
-fn pieces_at(outlines: &[Sequence<Piece>], i: u32) -> &[Piece]
-    ensures { result.now ≡ outline_at outlines.now i }
-{
-    match outlines.get(i as usize) {
-        Some(outline) => outline.as_slice(),
-        None => &[],
-    }
 }

@@ -67,7 +67,8 @@ fn distance(line: &Line, x: i64, y: i64) -> i64
     requires line { IsOverWidePage line.now }
     requires x { unsigned_abs x ≤ 2 ^ 25 }
     requires y { unsigned_abs y ≤ 2 ^ 25 }
-    ensures value { result ≡ line.now.nx *ℤ (x -ℤ line.now.cx) +ℤ line.now.ny *ℤ (y -ℤ line.now.cy) }
+    ensures value { result ≡ line.now.nx *ℤ (x -ℤ line.now.cx) +ℤ line.now.ny *ℤ
+        (y -ℤ line.now.cy) }
     ensures most { unsigned_abs result ≤ 2 ^ 41 }
 {
     line.nx * (x - line.cx) + line.ny * (y - line.cy)

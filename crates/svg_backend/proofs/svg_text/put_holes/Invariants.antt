@@ -1,5 +1,6 @@
 use Rattle.std.proofs.Common.{◌≡◌, ◌++◌, drop, map}
-use Rattle.svg_backend.specs.SvgText.{more_text, outline_at}
+use Rattle.pt_base.specs.Outlines.{outline_at}
+use Rattle.svg_backend.specs.SvgText.{more_text}
 use Rattle.svg_backend.proofs.svg_text.put_holes.Given as goal
 
 -- what stands there and what is still to come are the text

@@ -1,0 +1,11 @@
+use Rattle.pt_base.proofs.Appending.{two, four}
+use Rattle.eps_backend.proofs.outline.put_curve.Goals as goal
+
+pub returns : goal.returns
+returns c =
+    two _ _ _ _ _
+    (two _ _ _ _ _
+    (four _ _ _ _ _ _ _ _ _ c.in_ok-put_step.ensures c.in_ok-extend_from_slice.ensures.items c.in_ok-put_step-2.ensures
+    c.in_ok-extend_from_slice-2.ensures.items)
+    c.in_ok-put_step-3.ensures)
+    c.in_ok-extend_from_slice-3.ensures.items
