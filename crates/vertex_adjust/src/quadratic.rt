@@ -215,7 +215,8 @@ fn rounded(size: u64, yy: u64) -> i64
     requires some { 1 ≤ yy }
     requires few { yy ≤ 2 ^ 25 }
     requires size { size ≤ 512 * yy }
-    ensures { IsRounded yy size (unsigned_abs result) × (pos 0 ≤ℤ result) }
+    ensures rounded { IsRounded yy size (unsigned_abs result) }
+    ensures least { pos 0 ≤ℤ result }
 {
     ((size + 8 * yy - 1) / (16 * yy)) as i64
 }
