@@ -1,0 +1,14 @@
+mod Examples
+mod Fitting
+mod Division
+mod Mixing
+mod Leasts
+mod Slants
+mod Enclosing
+mod Meetings
+mod Following
+mod Placing
+mod Running
+mod Joining
+mod Paying
+mod Halving

@@ -1,0 +1,6 @@
+pub mod Vector
+pub mod Outline
+pub mod Bends
+pub mod Least
+pub mod Cubic
+pub mod Join
