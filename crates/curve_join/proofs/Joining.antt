@@ -75,9 +75,9 @@ joined_is run k a ek ea =
     ∙ ap (λ n. Curve (cubic_at run).first (cubic_at run).second (last_bend run).end n) ea
 
 -- which runs may be joined
-pub sense_back : (run : List Bend) (s : Sense) → s ≡ sense_of (to_z w64 (of_z w64 (first_bend run).turn)) → All IsSmall run → 2 ≤ length run → s ≡ sense_at run
+pub sense_back : (run : List Bend) (s : Sense) → s ≡ sense_of (to_z w64 (of_z w64 (first_bend run).turn)) → All IsSmall run → 0 < length run → s ≡ sense_at run
 sense_back run s e small some =
-    let h = (small 0 no_bend (omega arith)).turn in
+    let h = (small 0 no_bend some).turn in
     e ∙ ap sense_of (back (first_bend run).turn (omega arith))
 
 module _ (tol : ℕ) (run : List Bend) (s : Sense) (es : s ≡ sense_at run) where
@@ -102,9 +102,11 @@ module _ (tol : ℕ) (run : List Bend) (s : Sense) (es : s ≡ sense_at run) whe
     may_join n some few round all tangents area sides pieces =
         let turns : All (GoesRound s (first_bend run).arrives) run = λ i d h. round i d (omega arith) (omega arith) in
         record {
-          some = some; few = few;
+          some = some;
+          few = few;
           round = subst (λ t. All (GoesRound t (first_bend run).arrives) run) es turns;
-          tangents = tangents; area = area;
+          tangents = tangents;
+          area = area;
           sides = subst (λ c. All (FollowsSide tol c) (inner_bends run)) ek sides;
           pieces = subst (λ c. All (CoversPiece tol (sense_at run) c) run) ek (subst (λ t. All (CoversPiece tol t k) run) es pieces);
         }

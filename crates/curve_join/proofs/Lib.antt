@@ -10,5 +10,5 @@ mod Following
 mod Placing
 mod Running
 mod Joining
-mod Paying
+mod Cutting
 mod Halving

@@ -4,3 +4,5 @@ pub mod Bends
 pub mod Least
 pub mod Cubic
 pub mod Join
+pub mod Choice
+pub mod Costs
