@@ -12,3 +12,5 @@ mod Running
 mod Joining
 mod Cutting
 mod Halving
+mod Nearest
+mod Crossing

@@ -107,17 +107,17 @@ module _ (a b c : ℤ) (ha : unsigned_abs a ≤ 2 ^ 70) (hb : unsigned_abs b ≤
 sum_of_three : (p q s p' q' s' : ℤ) → p ≡ p' → q ≡ q' → s ≡ s' → (p +ℤ q) +ℤ s ≡ (p' +ℤ q') +ℤ s'
 sum_of_three p q s p' q' s' e f g = cc
 
-pub size_is : (k m n : ℕ) (a b c p q s : ℤ) (r : ℕ)
+pub value_is : (k m n : ℕ) (a b c p q s : ℤ)
     → unsigned_abs a ≤ 2 ^ 58 → unsigned_abs b ≤ 2 ^ 58 → unsigned_abs c ≤ 2 ^ 58
     → p ≡ pos k *ℤ to_z w64 (of_z w64 a) → q ≡ pos m *ℤ to_z w64 (of_z w64 b) → s ≡ pos n *ℤ to_z w64 (of_z w64 c)
     → unsigned_abs p ≤ 2 ^ 70 → unsigned_abs q ≤ 2 ^ 70 → unsigned_abs s ≤ 2 ^ 70
-    → r ≡ unsigned_abs (to_z w128 (of_z w128 (to_z w128 (of_z w128 (to_z w128 (of_z w128 p) +ℤ to_z w128 (of_z w128 q))) +ℤ to_z w128 (of_z w128 s))))
-    → (r ≡ unsigned_abs ((pos k *ℤ a +ℤ pos m *ℤ b) +ℤ pos n *ℤ c)) × (r ≤ 2 ^ 72)
-size_is k m n a b c p q s r ha hb hc ep eq es hp hq hs e =
-    let is : r ≡ unsigned_abs ((p +ℤ q) +ℤ s) = e ∙ ap unsigned_abs (long_three p q s hp hq hs) in
+    → (let r : ℤ = to_z w128 (of_z w128 (to_z w128 (of_z w128 (to_z w128 (of_z w128 p) +ℤ to_z w128 (of_z w128 q))) +ℤ to_z w128 (of_z w128 s))) in
+    (r ≡ (pos k *ℤ a +ℤ pos m *ℤ b) +ℤ pos n *ℤ c) × (unsigned_abs r ≤ 2 ^ 72))
+value_is k m n a b c p q s ha hb hc ep eq es hp hq hs =
+    let is = long_three p q s hp hq hs in
     let sum = sum_of_three _ _ _ _ _ _ (ep ∙ ap (λ v. pos k *ℤ v) (back a (omega arith))) (eq ∙ ap (λ v. pos m *ℤ v) (back b (omega arith)))
     (es ∙ ap (λ v. pos n *ℤ v) (back c (omega arith))) in
-    (is ∙ ap unsigned_abs sum, rw is (long_three_most p q s hp hq hs))
+    (is ∙ sum, rw is (long_three_most p q s hp hq hs))
 
 pub weighted : (n : ℕ) (a f g : ℤ) → n ≤ 2 ^ 18 → unsigned_abs a ≤ 2 ^ 29 → f ≡ pos n → g ≡ to_z w32 (of_z w32 a)
     → to_z w64 (of_z w64 (to_z w64 (of_z w64 f) *ℤ to_z w64 (of_z w64 g))) ≡ pos n *ℤ a
