@@ -9,6 +9,7 @@ mod Meetings
 mod Following
 mod Placing
 mod Running
+pub mod Single
 mod Joining
 mod Cutting
 mod Halving

@@ -15,15 +15,15 @@ use pt_base::settings::Settings;
 use pt_base::trace::Trace;
 use std::alloc::Global;
 
-/// The paths of a page that are no speckles, the best polygon of each, its adjusted vertices, and its
-/// smooth outline.
+/// The paths of a page that are no speckles, the best polygon of each, its adjusted vertices, and the
+/// outline round them, whose curves are joined where the settings ask for it.
 pub fn trace(alloc: Global, page: &Bitmap, settings: &Settings) -> Result<Trace, NoMemory>
     requires { CanTrace settings.now }
     ensures { IfOk result (λ trace. IsTrace page.now settings.now trace) }
 {
     let traced = polygons_alone(alloc, page, settings)?;
     let vertices = all_vertices(alloc, traced.paths.as_slice(), traced.polygons.as_slice())?;
-    let outlines = all_outlines(alloc, &vertices, settings.alphamax)?;
+    let outlines = all_outlines(alloc, &vertices, settings)?;
     Ok(Trace {
         vertices: Sequence::from_vec(vertices),
         outlines: Sequence::from_vec(outlines),

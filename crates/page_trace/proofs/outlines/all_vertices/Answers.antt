@@ -1,4 +1,4 @@
-use Rattle.std.proofs.Common.{◌≤◌, length, subst, arith}
+use Rattle.std.proofs.Common.{◌≤◌, ◌^◌, length, subst, arith}
 use Rattle.std.specs.List.{All, AllZip}
 use Rattle.std.proofs.lemmas.List.Elements.{All-push}
 use Rattle.std.proofs.lemmas.Slice.Zip.{AllZip-long}
@@ -24,6 +24,8 @@ loop-k-preserved c = record {
   near = rw c.in_ok-push.ensures.items (All-push (All IsNearPage) c.loop-k.all.items c.in_ok-vertices.vertices c.loop-k.invariant.near c.in_ok-vertices.ensures.near);
   some = rw c.in_ok-push.ensures.items
       (All-push (λ one. 2 ≤ length one) c.loop-k.all.items c.in_ok-vertices.vertices c.loop-k.invariant.some c.in_ok-vertices.ensures.some);
+  most = rw c.in_ok-push.ensures.items
+      (All-push (λ one. length one ≤ 2 ^ 31) c.loop-k.all.items c.in_ok-vertices.vertices c.loop-k.invariant.most c.in_ok-vertices.ensures.most);
 }
 
 pub returns-clause-vertices : goal.returns-clause-vertices
