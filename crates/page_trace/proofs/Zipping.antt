@@ -50,3 +50,11 @@ vertices_more paths i path polygons more best lists longer vertices below is of_
     subst (λ both. AllZip AreVerticesOf both longer) pairs
     (subst (AllZip AreVerticesOf (zip (take i paths) polygons ++ (path, best) ∷ [])) (sym pushed')
     (all_zipped_more AreVerticesOf (zip (take i paths) polygons) lists (path, best) vertices so_far of_both))
+
+-- one more list of vertices has its outline
+pub outlines_more : {A B : Type 0} (R : A → B → Type 0) (xs : List A) (i : ℕ) (x : A) (ys more : List B) (y : B) → i < length xs → x ≡ get_or xs i x
+    → AllZip R (take i xs) ys → R x y → more ≡ ys ++ y ∷ [] → AllZip R (take (i + 1) xs) more
+outlines_more R xs i x ys more y below is so_far here pushed =
+    let taken : take i xs ++ x ∷ [] ≡ take (i + 1) xs = ap (λ p. take i xs ++ p ∷ []) is ∙ sym (take-suc xs i x below) ∙ ap (λ n. take n xs) (sym (add-one i)) in
+    subst (λ ps. AllZip R ps more) taken
+    (subst (AllZip R (take i xs ++ x ∷ [])) (sym pushed) (all_zipped_more R (take i xs) ys x y so_far here))
