@@ -1,5 +1,5 @@
 -- The points of a walk, by the edges that it goes along.
-use Rattle.std.proofs.Common.{◌≡◌, ℕ, ◌+◌, ◌<◌, Bool, true, false, List, All, map, sum_by, refl, ap, sym, subst, ◌∙◌, inl, inr, arith}
+use Rattle.std.proofs.Common.{◌≡◌, ℕ, ◌<◌, Bool, true, false, List, get_or, All, map, count_by, refl, ap, sym, subst, ◌∙◌, inl, inr, arith}
 use Rattle.std.proofs.Math.Path.{fun_ext}
 use Rattle.std.proofs.lemmas.Bool.{cases_lt}
 use Rattle.std.proofs.lemmas.List.Elements.{All-map}
@@ -8,16 +8,15 @@ use Rattle.pt_base.specs.declared.path.Sign.{Sign}
 use Rattle.pt_base.specs.declared.policy.Policy.{Policy}
 use Rattle.bit_image.specs.Image.{Image, Fits, differ}
 use Rattle.bit_image.specs.FirstBlack.{IsFirstBlack}
-use Rattle.path_decompose.specs.Line.{IsLineOn}
+use Rattle.path_decompose.specs.Line.{IsLineOn, is_in_row}
 use Rattle.path_decompose.specs.Walk.{first_edge, IsWalk}
-use Rattle.path_decompose.specs.Inside.{lines_of, inside, black_count}
-use Rattle.path_decompose.specs.Area.{right_of_down, right_of_up}
+use Rattle.path_decompose.specs.Inside.{lines_of, is_crossed, is_odd, inside}
 use Rattle.path_decompose.specs.Start.{IsWhiteThrough}
 use Rattle.path_decompose.proofs.EdgeLine.{line_of, lines_of-run, within, inside-run}
 use Rattle.path_decompose.proofs.Round.{IsCircuit, circuit_of}
-use Rattle.path_decompose.proofs.Area.{area}
+use Rattle.path_decompose.proofs.Parity.{is_odd-count, odd_by-agree}
 use Rattle.path_decompose.proofs.Start.{inside_before, inside_start}
-use Rattle.path_decompose.proofs.Beyond.{all_lines_on, fits_within}
+use Rattle.path_decompose.proofs.Beyond.{all_lines_on, crossed_right, fits_within, white_off}
 
 pub walk_circuit : (b : Image) (policy : Policy) (sign : Sign) (x y : ℕ) (points : List Point) → IsFirstBlack b x y → (w : IsWalk b policy sign x y points) → IsCircuit b policy sign (first_edge x y) w.edges
 walk_circuit b policy sign x y points first w = circuit_of b policy sign x y w.edges first w.round
@@ -69,9 +68,13 @@ white_through b c policy sign x y width points first w on_page flipped =
       ];
     }
 
--- the pixels inside, by the edges
-pub walk_area : (b : Image) (policy : Policy) (sign : Sign) (x y : ℕ) (points : List Point) (width height : ℕ) → IsFirstBlack b x y → (w : IsWalk b policy sign x y points) → Fits b width height
-    → black_count (inside points) width height + sum_by (right_of_up width) w.edges ≡ sum_by (right_of_down width) w.edges
-walk_area b policy sign x y points width height first w fits =
-    ap (λ i. black_count i width height + sum_by (right_of_up width) w.edges) (walk_inside b policy sign x y points first w)
-    ∙ area b policy sign x y w.edges width height first (walk_circuit b policy sign x y points first w) fits
+-- each row has an even number of the walk's upright lines, since right of the page none is inside
+pub walk_rows_even : (b : Image) (policy : Policy) (sign : Sign) (x y : ℕ) (points : List Point) (width height : ℕ) → IsFirstBlack b x y → IsWalk b policy sign x y points → Fits b width height
+    → (v : ℕ) → is_odd (count_by (is_in_row v) (lines_of points)) ≡ false
+walk_rows_even b policy sign x y points width height first w fits v =
+    let on = walk_lines_on b policy sign x y points width height first w fits in
+    is_odd-count (is_in_row v) (lines_of points)
+    ∙ odd_by-agree (is_in_row v) (is_crossed width v) (lines_of points)
+    (λ k d short. sym (crossed_right width height width v (get_or (lines_of points) k d) (on k d short) (omega arith)))
+    ∙ sym (is_odd-count (is_crossed width v) (lines_of points))
+    ∙ white_off (inside points) width height width v (walk_fits b policy sign x y points width height first w fits) (omega arith)

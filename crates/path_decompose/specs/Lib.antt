@@ -2,7 +2,7 @@ pub mod Line
 pub mod Walk
 pub mod Inside
 pub mod Bounds
-pub mod Area
+pub mod Keys
 pub mod Start
 pub mod Decomposition
 pub mod Sums
