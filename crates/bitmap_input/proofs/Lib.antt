@@ -17,6 +17,7 @@ pub mod Heads
 pub mod BmpReading
 pub mod BmpPixels
 pub mod Placing
+pub mod Rows
 pub mod Graying
 pub mod Showing
 pub mod Bodies

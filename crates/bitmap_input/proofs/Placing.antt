@@ -124,7 +124,7 @@ unpacked-append [] ys = refl
 unpacked-append (x ∷ xs) ys =
     ap (λ zs. bits_of x ++ zs) (unpacked-append xs ys) ∙ sym (append_assoc (bits_of x) (unpacked xs) (unpacked ys))
 
-length-unpacked : (xs : List ℕ) → length (unpacked xs) ≡ 8 * length xs
+pub length-unpacked : (xs : List ℕ) → length (unpacked xs) ≡ 8 * length xs
 length-unpacked [] = refl
 length-unpacked (x ∷ xs) = omega (arith, length-append (bits_of x) (unpacked xs), length-unpacked xs)
 

@@ -1,40 +1,41 @@
-use Rattle.std.proofs.Common.{rules, arith, ap, ◌∙◌, sym, ◌≡◌, ◌+◌, ◌<◌, ◌≤◌, ℕ, Bool, List, length, map, get_or}
+use Rattle.std.proofs.Common.{◌≡◌, ◌<◌, ◌≤◌, ◌-◌, ◌*◌, ◌+◌, ◌∙◌, ℕ, Bool, false, length, min, map, ap, sym, refl, rules, arith}
 use Rattle.std.specs.List.{range_with_len}
-use Rattle.std.proofs.lemmas.List.{take_all}
-use Rattle.std.proofs.lemmas.List.FromFn.{length-range_with_len, get_or-range_with_len}
+use Rattle.std.proofs.lemmas.List.FromFn.{get_or-map-range_with_len, length-map-range_with_len}
 use Rattle.bit_image.specs.Page.{image_of}
 use Rattle.bitmap_input.specs.BmpHead.{shade_in}
-use Rattle.bitmap_input.specs.Raster.{with_row}
-use Rattle.bitmap_input.proofs.Placing.{value_placed}
-use Rattle.bitmap_input.proofs.BmpPixels.{column_within}
+use Rattle.bitmap_input.proofs.BmpPixels.{columns_within}
+use Rattle.bitmap_input.proofs.Rows.{none_placed, word_placed, words_placed, white_past}
 use Rattle.bitmap_input.proofs.bmp.pixels.place_row.Goals as goal
 
-pub shade-requires-clause-within : goal.shade-requires-clause-within
-shade-requires-clause-within c =
-    let within : c.loop-x.x < c.args.page.now.width = omega arith in
-    column_within c.args.depth c.loop-x.x c.args.page.now.width (length c.args.row.now) within c.requires.whole
+pub loop-at-init : goal.loop-at-init
+loop-at-init c = record {
+  words = none_placed _ c.args.page.now.width c.args.y (image_of c.args.page.now);
+  sides = search rules;
+  width = search rules;
+  end = search rules;
+}
 
-pub loop-x-preserved : goal.loop-x-preserved
-loop-x-preserved c =
-    let columns : List ℕ = range_with_len 0 c.args.page.now.width in
-    let len : length columns ≡ c.args.page.now.width = length-range_with_len 0 c.args.page.now.width in
-    let within : c.loop-x.x < length columns = omega (arith, len) in
-    let inside : c.loop-x.x < c.args.page.now.width = omega arith in
-    let at : get_or columns c.loop-x.x 0 ≡ 0 + c.loop-x.x = get_or-range_with_len 0 c.args.page.now.width c.loop-x.x 0 inside in
-    let here : get_or columns c.loop-x.x 0 ≡ c.loop-x.x = omega (arith, at) in
+pub word-requires-clause-within : goal.word-requires-clause-within
+word-requires-clause-within c =
+    columns_within c.args.depth (64 * c.loop-at.at + c.min-count.result) c.args.page.now.width (length c.args.row.now) (omega arith) c.requires.whole
+
+pub loop-at-preserved : goal.loop-at-preserved
+loop-at-preserved c =
     let pixel : ℕ → Bool = shade_in c.args.depth c.args.tone.now.level c.args.tone.now.invert c.args.table.now c.args.row.now in
     record {
-      pixels = value_placed pixel 0 (image_of c.args.page.now) (image_of c.loop-x.page) (image_of c.set.new.self) c.args.y 0 c.loop-x.x c.loop-x.x _ columns
-          c.loop-x.invariant.pixels c.set.ensures.pixels (c.shade.ensures ∙ ap pixel (sym here)) within (omega arith);
+      words = word_placed pixel c.args.page.now.width c.args.y (image_of c.args.page.now) (image_of c.loop-at.page) (image_of c.put_word.new.self) c.loop-at.at c.word.result _
+          c.loop-at.invariant.words (ap (λ w. min (w - 64 * c.loop-at.at) 64) c.width-width.ensures.value) (rw c.min-count.ensures at c.word.ensures)
+          (rw c.loop-at.invariant.sides.width at c.put_word.ensures.word) c.put_word.ensures.columns c.put_word.ensures.rows;
       sides = search rules;
+      width = search rules;
       end = search rules;
     }
 
 pub returns-clause-pixels : goal.returns-clause-pixels
 returns-clause-pixels c =
-    let columns : List ℕ = range_with_len 0 c.args.page.now.width in
-    let len : length columns ≡ c.args.page.now.width = length-range_with_len 0 c.args.page.now.width in
-    let all : length columns ≤ c.loop-x.x = omega (arith, len) in
-    c.loop-x.invariant.pixels ∙
-    ap (λ columns. with_row (image_of c.args.page.now) c.args.y (map (shade_in c.args.depth c.args.tone.now.level c.args.tone.now.invert c.args.table.now c.args.row.now) columns))
-    (take_all c.loop-x.x columns all)
+    let pixel : ℕ → Bool = shade_in c.args.depth c.args.tone.now.level c.args.tone.now.invert c.args.table.now c.args.row.now in
+    words_placed pixel c.args.page.now.width c.args.y (image_of c.args.page.now) (image_of c.loop-at.page) c.loop-at.at
+    (map pixel (range_with_len 0 c.args.page.now.width)) c.loop-at.invariant.words (omega arith)
+    (λ u past. white_past (image_of c.args.page.now) c.args.page.now.width c.args.page.now.height c.width-width.ensures.fits u c.args.y past)
+    (length-map-range_with_len pixel 0 c.args.page.now.width)
+    (λ u h. sym (get_or-map-range_with_len pixel 0 c.args.page.now.width u u false h (omega arith)))
