@@ -16,6 +16,7 @@ pub mod Skipping
 pub mod Heads
 pub mod BmpReading
 pub mod BmpPixels
+pub mod BmpBits
 pub mod Placing
 pub mod Rows
 pub mod Graying
@@ -26,6 +27,7 @@ pub mod Keeping
 pub mod BmpKeeps
 pub mod BmpLengths
 pub mod FrontKeeps
+pub mod Spelling
 pub mod Behind
 pub mod Answering
 pub mod Longest

@@ -38,7 +38,7 @@ pub(crate) fn read_block<I: Inputs>(
 }
 
 /// Makes row `y` that of packed bytes, inverted or not.
-fn place_row(page: &mut Bitmap, y: u32, bytes: &[u8], invert: bool)
+pub(crate) fn place_row(page: &mut Bitmap, y: u32, bytes: &[u8], invert: bool)
     requires row { y < page.old.height }
     requires whole { length bytes.now ≡ row_bytes page.old.width }
     ensures sides { SameSides page.old page.new }

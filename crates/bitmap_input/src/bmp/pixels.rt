@@ -1,5 +1,5 @@
 //! The pixels of a BMP picture.
-ghost use Rattle.std.specs.Prelude.{◌≡◌, ℕ, ◌+◌, ◌*◌, ◌<◌, ◌≤◌, true, false, length, map, List};
+ghost use Rattle.std.specs.Prelude.{◌≡◌, ℕ, ◌+◌, ◌*◌, ◌<◌, ◌≤◌, true, false, not, length, map, List, slice_index_or};
 ghost use Rattle.std.specs.List.{range_with_len};
 ghost use Rattle.bit_image.specs.Words.{is_one};
 ghost use Rattle.bit_image.specs.Page.{Page, SameSides, image_of};
@@ -14,7 +14,7 @@ ghost use Rattle.bitmap_input.specs.Raster.{with_row, with_placed};
 use crate::bmp::fields::Depth;
 use crate::bmp::header::Header;
 use crate::header::LONGEST_SIDE;
-use crate::raw::read_block;
+use crate::raw::{place_row as place_bits, read_block};
 use crate::stop::Stop;
 use crate::window::Window;
 use crate::words::with_pixel;
@@ -105,7 +105,7 @@ fn word(
 }
 
 /// Puts a row of bytes into row y, word by word.
-fn place_row(page: &mut Bitmap, y: u32, depth: Depth, tone: &Tone, table: &[bool], row: &[u8])
+fn place_words(page: &mut Bitmap, y: u32, depth: Depth, tone: &Tone, table: &[bool], row: &[u8])
     requires row { y < page.old.height }
     requires table { length table.now ≡ 256 }
     requires whole { page.old.width * bits_in depth ≤ 8 * length row.now }
@@ -118,6 +118,34 @@ fn place_row(page: &mut Bitmap, y: u32, depth: Depth, tone: &Tone, table: &[bool
         let count = (width - from).min(64);
         page.put_word(y, at, word(depth, tone, table, row, from as usize, count as usize));
     }
+}
+
+/// Whether one of the first two colours is black and the other isn't.
+fn are_apart(table: &[bool]) -> bool
+    requires { length table.now ≡ 256 }
+    ensures { result ≡ true
+        → slice_index_or table.now 1 false ≡ not (slice_index_or table.now 0 false) }
+{
+    table[0] != table[1]
+}
+
+/// Puts a row of bytes into row y. Bits are taken as they are packed, where they tell two colours
+/// apart.
+fn place_row(page: &mut Bitmap, y: u32, depth: Depth, tone: &Tone, table: &[bool], row: &[u8])
+    requires row { y < page.old.height }
+    requires table { length table.now ≡ 256 }
+    requires whole { page.old.width * bits_in depth ≤ 8 * length row.now }
+    ensures sides { SameSides page.old page.new }
+    ensures pixels { image_of page.new ≡ with_row (image_of page.old) y (map (shade_in depth tone.now.level tone.now.invert table.now row.now) (range_with_len 0 page.old.width)) }
+{
+    if let Depth::One = depth {
+        if are_apart(table) {
+            let n = (page.width() as usize + 7) / 8;
+            place_bits(page, y, &row[..n], table[0]);
+            return;
+        }
+    }
+    place_words(page, y, depth, tone, table, row);
 }
 
 // The row of the page that the picture's row of this number is: they come from the top, or from below.

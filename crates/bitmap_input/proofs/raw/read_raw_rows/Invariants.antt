@@ -3,7 +3,8 @@ use Rattle.bit_image.specs.Image.{differ}
 use Rattle.bit_image.specs.Page.{SameSides, image_of}
 use Rattle.bitmap_input.specs.Raw.{row_bytes}
 use Rattle.bitmap_input.specs.Front.{raw_row}
-use Rattle.bitmap_input.specs.Raster.{with_rows, IsPaintedSoFar}
+use Rattle.bitmap_input.specs.Raster.{with_rows}
+use Rattle.bitmap_input.proofs.Painting.{IsPaintedSoFar}
 use Rattle.bitmap_input.proofs.raw.read_raw_rows.Given as goal
 
 abbrev pub invariant-loop-y : goal.invariant-loop-y
