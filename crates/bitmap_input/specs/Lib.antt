@@ -7,6 +7,7 @@ pub mod BmpHeader
 pub mod BmpRaster
 pub mod Bmp
 pub mod Front
+pub mod PageText
 pub mod FilePages
 pub mod Reading
 pub mod Window

@@ -99,8 +99,8 @@ fn read_plain_gray_body<I: Inputs>(
         Err(_) => return Err(Stop::Fault(InFault::NoMemory)),
     };
     let shading = Shading {
-        level: *level,
         white,
+        limit: level.gray_limit(white),
         invert,
     };
     read_plain_gray_rows(window, inputs, &mut page, &shading)?;
@@ -134,8 +134,8 @@ fn read_raw_gray_body<I: Inputs>(
         Err(_) => return Err(Stop::Fault(InFault::NoMemory)),
     };
     let shading = Shading {
-        level: *level,
         white,
+        limit: level.gray_limit(white),
         invert,
     };
     read_raw_gray_rows(window, inputs, &mut page, &shading, &mut row)?;

@@ -5,7 +5,9 @@ ghost use Rattle.bitmap_input.specs.Parts.{run_length, gap_length};
 ghost use Rattle.bitmap_input.specs.Sets.{IsRun, IsGap};
 ghost use Rattle.bit_image.specs.Page.{IsPage};
 ghost use Rattle.bitmap_input.specs.Raw.{Raw, shown};
-ghost use Rattle.bitmap_input.specs.Front.{Answer, front, page_at};
+ghost use Rattle.bitmap_input.specs.Front.{front, page_at};
+ghost use Rattle.bitmap_input.specs.Front.Answer.{Page};
+ghost use Rattle.bitmap_input.specs.PageText.{IsPageText};
 ghost use Rattle.bitmap_input.specs.FilePages.{FilePages};
 
 /// What is cut off the front of a list of bytes is the longest member of its set: a run of
@@ -17,10 +19,13 @@ pub fn cuts_are_longest()
     ensures longest_gap { (bytes : List ℕ) (n : ℕ) → n ≤ length bytes → IsGap (take n bytes) → n ≤ gap_length false bytes }
 {}
 
-/// A list of bytes has exactly one front.
-pub fn fronts_are_one()
-    ensures { (later : Bool) (bytes : List ℕ) → (answer : Answer) × (front later bytes ≡ answer)
-        × ((other : Answer) → front later bytes ≡ other → other ≡ answer) }
+/// The bytes of a page are members of its parts one behind another: whitespace, a magic, and what the
+/// format has behind it.
+pub fn pages_are_parts()
+    ensures parts { (later : Bool) (bytes : List ℕ) (raw : Raw) (used : ℕ)
+        → front later bytes ≡ Page raw used → IsPageText raw (take used bytes) }
+    ensures within { (later : Bool) (bytes : List ℕ) (raw : Raw) (used : ℕ)
+        → front later bytes ≡ Page raw used → used ≤ length bytes }
 {}
 
 /// A front that isn't by the end of the bytes stays the same where bytes are added.

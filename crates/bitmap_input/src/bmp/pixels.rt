@@ -1,6 +1,7 @@
 //! The pixels of a BMP picture.
-ghost use Rattle.std.specs.Prelude.{◌≡◌, ℕ, ◌+◌, ◌*◌, ◌<◌, ◌≤◌, true, false, length, map, List};
+ghost use Rattle.std.specs.Prelude.{◌≡◌, ℕ, ◌+◌, ◌*◌, ◌<◌, ◌≤◌, true, false, not, length, map, List, slice_index_or};
 ghost use Rattle.std.specs.List.{range_with_len};
+ghost use Rattle.bit_image.specs.Words.{is_one};
 ghost use Rattle.bit_image.specs.Page.{Page, SameSides, image_of};
 ghost use Rattle.bitmap_input.specs.Reading.{Reads, Counts};
 ghost use Rattle.bitmap_input.specs.Parts.{block, times};
@@ -12,9 +13,11 @@ ghost use Rattle.bitmap_input.specs.Raster.{with_row, with_placed};
 
 use crate::bmp::fields::Depth;
 use crate::bmp::header::Header;
-use crate::raw::read_block;
+use crate::header::LONGEST_SIDE;
+use crate::raw::{place_row as place_bits, read_block};
 use crate::stop::Stop;
 use crate::window::Window;
+use crate::words::with_pixel;
 use bit_image::bitmap::Bitmap;
 use pt_base::inputs::Inputs;
 use threshold_map::level::Level;
@@ -78,7 +81,56 @@ fn shade(depth: Depth, tone: &Tone, table: &[bool], row: &[u8], x: usize) -> boo
     }
 }
 
-// Paints a row of bytes in row y.
+/// The word of so many pixels of a row, from one column on.
+fn word(
+    depth: Depth,
+    tone: &Tone,
+    table: &[bool],
+    row: &[u8],
+    from: usize,
+    count: usize,
+) -> u64
+    requires table { length table.now ≡ 256 }
+    requires few { count ≤ 64 }
+    requires column { from ≤ LONGEST_SIDE }
+    requires within { (from + count) * bits_in depth ≤ 8 * length row.now }
+    ensures { (k : ℕ) → k < count → is_one result k
+        ≡ shade_in depth tone.now.level tone.now.invert table.now row.now (from + k) }
+{
+    let mut word = 0;
+    for i in 0..count {
+        word = with_pixel(word, i, shade(depth, tone, table, row, from + i));
+    }
+    word
+}
+
+/// Puts a row of bytes into row y, word by word.
+fn place_words(page: &mut Bitmap, y: u32, depth: Depth, tone: &Tone, table: &[bool], row: &[u8])
+    requires row { y < page.old.height }
+    requires table { length table.now ≡ 256 }
+    requires whole { page.old.width * bits_in depth ≤ 8 * length row.now }
+    ensures sides { SameSides page.old page.new }
+    ensures pixels { image_of page.new ≡ with_row (image_of page.old) y (map (shade_in depth tone.now.level tone.now.invert table.now row.now) (range_with_len 0 page.old.width)) }
+{
+    let width = page.width();
+    for at in 0..(width + 63) / 64 {
+        let from = 64 * at;
+        let count = (width - from).min(64);
+        page.put_word(y, at, word(depth, tone, table, row, from as usize, count as usize));
+    }
+}
+
+/// Whether one of the first two colours is black and the other isn't.
+fn are_apart(table: &[bool]) -> bool
+    requires { length table.now ≡ 256 }
+    ensures { result ≡ true
+        → slice_index_or table.now 1 false ≡ not (slice_index_or table.now 0 false) }
+{
+    table[0] != table[1]
+}
+
+/// Puts a row of bytes into row y. Bits are taken as they are packed, where they tell two colours
+/// apart.
 fn place_row(page: &mut Bitmap, y: u32, depth: Depth, tone: &Tone, table: &[bool], row: &[u8])
     requires row { y < page.old.height }
     requires table { length table.now ≡ 256 }
@@ -86,9 +138,14 @@ fn place_row(page: &mut Bitmap, y: u32, depth: Depth, tone: &Tone, table: &[bool
     ensures sides { SameSides page.old page.new }
     ensures pixels { image_of page.new ≡ with_row (image_of page.old) y (map (shade_in depth tone.now.level tone.now.invert table.now row.now) (range_with_len 0 page.old.width)) }
 {
-    for x in 0..page.width() {
-        page.set(x, y, shade(depth, tone, table, row, x as usize));
+    if let Depth::One = depth {
+        if are_apart(table) {
+            let n = (page.width() as usize + 7) / 8;
+            place_bits(page, y, &row[..n], table[0]);
+            return;
+        }
     }
+    place_words(page, y, depth, tone, table, row);
 }
 
 // The row of the page that the picture's row of this number is: they come from the top, or from below.
