@@ -5,3 +5,4 @@ mod lists;
 mod memory;
 mod numbers;
 mod real;
+mod words;

@@ -1,1 +1,20 @@
+-- Corners and curves at the vertices of an outline (Selinger, "Potrace.
+--   IsInReach: the coordinate is on a page with sides of 32767 pixels, or at most half a pixel off it
+--   IsNearWidePage: both coordinates are
+--   signed_area_of: the cross product of the ways from the first place to the two others
+--   area_of: twice the area of the triangle of a vertex and its neighbours
+--   grid_distance_of: how far two places are from each other, along the columns and along the rows
+--   sharpness_by: Selinger's alpha, for a triangle of this doubled area whose neighbours of the
+--   sharpness_of: that of a vertex and its neighbours
+--   is_corner: the sharpness is at least so many millionths
+--   al_of: the sharpness in units of 1/65536, rounded down, but no less than 0.55 and no more than 1
+--   middle_of: halfway between two places, rounded down
+--   part_of: the coordinate that lies (65536 + al) / 131072 of the way from one to another
+--   control_of: the curve's control between a neighbour and the vertex
+--   curve_of: the curve at a vertex, of this roundness
+--   piece_of: the piece at a vertex between two others
+--   piece_at: the piece at vertex number j
+--   pieces_of: one piece for each vertex, in order
+--   StaysNear: the piece's places are near the page
+--   HasRoundness: a curve's `al` is from 0.55 to 1, in units of 1/65536
 pub mod Corner

@@ -1,1 +1,12 @@
+-- The text of a page as Encapsulated PostScript (PostScript Language Reference, third edition.
+--   line_text: a line from one point to another, by its step
+--   curve_text: a curve, whose two controls and end are relative to its beginning
+--   piece_text: a piece that begins at `from`
+--   pieces_text: the pieces, each of which begins where the one before ends
+--   move_text: the line that begins an outline
+--   outline_text: a closed subpath
+--   group_text: a shape and its holes, filled together by the even-odd rule
+--   comments_text: the comments
+--   scale_text: from here on a pixel has so many units
+--   eps_text: the whole document, where a pixel has so many units
 pub mod EpsText

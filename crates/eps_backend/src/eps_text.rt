@@ -68,7 +68,8 @@ fn put_groups(
 ) -> Result<(), NoMemory>
     requires some { 1 ≤ unit }
     requires most { unit ≤ 1000 }
-    ensures { OnOk result (out.new.items ≡ out.old.items ++ flat_map (group_text unit outlines.now) groups.now) }
+    ensures { OnOk result (out.new.items ≡ out.old.items
+        ++ flat_map (group_text unit outlines.now) groups.now) }
 {
     for group in groups {
         put_group(out, unit, outlines, group)?;
@@ -85,7 +86,8 @@ fn put_group(
 ) -> Result<(), NoMemory>
     requires some { 1 ≤ unit }
     requires most { unit ≤ 1000 }
-    ensures { OnOk result (out.new.items ≡ out.old.items ++ group_text unit outlines.now group.now) }
+    ensures { OnOk result (out.new.items ≡ out.old.items
+        ++ group_text unit outlines.now group.now) }
 {
     put_outline(out, unit, pieces_at(outlines, group.outer))?;
     put_holes(out, unit, outlines, group.holes.as_slice())?;
@@ -103,7 +105,8 @@ fn put_holes(
     requires some { 1 ≤ unit }
     requires most { unit ≤ 1000 }
     ensures { OnOk result (out.new.items
-        ≡ out.old.items ++ flat_map (λ hole. outline_text unit (outline_at outlines.now hole)) holes.now) }
+        ≡ out.old.items ++ flat_map (λ hole. outline_text unit (outline_at outlines.now hole))
+        holes.now) }
 {
     for hole in holes {
         put_outline(out, unit, pieces_at(outlines, *hole))?;

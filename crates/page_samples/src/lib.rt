@@ -3,4 +3,5 @@
 
 pub mod pages;
 pub mod plain;
+pub mod plain_page;
 pub mod walks;

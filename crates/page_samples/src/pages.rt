@@ -38,15 +38,6 @@ fn draw_row(page: &mut Bitmap, y: usize, row: &[u8]) {
     }
 }
 
-/// A black page.
-pub fn black(alloc: Global, width: usize, height: usize) -> Result<Bitmap, NoPage> {
-    let mut page = white(alloc, width, height)?;
-    for y in 0..page.height() {
-        page.flip_from(0, y);
-    }
-    Ok(page)
-}
-
 /// A checkerboard with a black lower left corner.
 pub fn checkered(alloc: Global, side: usize) -> Result<Bitmap, NoPage> {
     let mut page = white(alloc, side, side)?;
@@ -63,6 +54,20 @@ pub fn numbered(alloc: Global, number: u32) -> Result<Bitmap, NoPage> {
     for place in 0..9 {
         let black = number >> place & 1 == 1;
         put(&mut page, place as usize % 3, place as usize / 3, black);
+    }
+    Ok(page)
+}
+
+/// Black and white as a simple generator of numbers draws them, from this seed.
+pub fn noise(alloc: Global, width: usize, height: usize, seed: u64) -> Result<Bitmap, NoPage> {
+    let mut page = white(alloc, width, height)?;
+    let mut state = seed;
+    for place in 0..page.width() * page.height() {
+        let (x, y) = (place % page.width(), place / page.width());
+        state = state
+            .wrapping_mul(6364136223846793005)
+            .wrapping_add(1442695040888963407);
+        put(&mut page, x as usize, y as usize, state >> 62 == 0);
     }
     Ok(page)
 }

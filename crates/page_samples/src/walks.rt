@@ -10,7 +10,15 @@ pub fn round(alloc: Global, width: i32, height: i32) -> Result<Vec<Point>, NoMem
     put_side(&mut points, Point { x: 0, y: height }, (0, -1), height)?;
     put_side(&mut points, Point { x: 0, y: 0 }, (1, 0), width)?;
     put_side(&mut points, Point { x: width, y: 0 }, (0, 1), height)?;
-    put_side(&mut points, Point { x: width, y: height }, (-1, 0), width)?;
+    put_side(
+        &mut points,
+        Point {
+            x: width,
+            y: height,
+        },
+        (-1, 0),
+        width,
+    )?;
     Ok(points)
 }
 

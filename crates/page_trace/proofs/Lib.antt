@@ -3,3 +3,4 @@ pub mod Exists
 pub mod OneTrace
 pub mod Segments
 pub mod Zipping
+pub mod Joining

@@ -1,5 +1,5 @@
 -- A page has one trace, and one document.
-use Rattle.std.proofs.Common.{◌≡◌, ℕ, List, [], ◌∷◌, map, zip, refl, sym, ap, ◌∙◌, subst}
+use Rattle.std.proofs.Common.{◌≡◌, ℕ, Bool, true, false, List, [], ◌∷◌, zip, refl, sym, ap, ◌∙◌, subst}
 use Rattle.std.specs.List.{AllZip}
 use Rattle.pt_base.specs.PointsText.{points_text}
 use Rattle.pt_base.specs.PolygonsText.{polygons_text}
@@ -17,8 +17,11 @@ use Rattle.polygon_optimal.proofs.Best.{one_best}
 use Rattle.pt_base.specs.declared.point.Point.{Point}
 use Rattle.vertex_adjust.proofs.Single.{vertices_one}
 use Rattle.corner_smooth.specs.Corner.{pieces_of}
+use Rattle.curve_join.proofs.Single.{one_join}
+use Rattle.curve_join.specs.Outline.{outline}
+use Rattle.pt_base.specs.declared.piece.Piece.{Piece}
 use Rattle.svg_backend.specs.SvgText.{svg_text}
-use Rattle.page_trace.specs.Trace.{ArePaths, AreVerticesOf, HasPolygons, IsPolygonOf, IsTrace}
+use Rattle.page_trace.specs.Trace.{ArePaths, AreVerticesOf, HasPolygons, IsOutlineOf, IsOutlineWith, IsPolygonOf, IsTrace, tolerance_of}
 use Rattle.page_trace.specs.Document.{IsDocumentUnder, text_under}
 
 pub one_list_of_paths : (page : Page) (settings : Settings) (paths others : List Path) → ArePaths page settings paths → ArePaths page settings others → paths ≡ others
@@ -74,6 +77,24 @@ one_list_of_vertices (both ∷ traced) (one ∷ lists) (other ∷ others) these 
     ap (λ v. v ∷ lists) (vertices_one (both.0).points (both.1).at one other these.0 those.0)
     ∙ ap (λ vs. other ∷ vs) (one_list_of_vertices traced lists others these.1 those.1)
 
+-- some vertices have one outline
+one_outline : (joins : Bool) (settings : Settings) (vertices : List Point) (pieces other : List Piece) → IsOutlineWith joins settings vertices pieces
+    → IsOutlineWith joins settings vertices other → pieces ≡ other
+one_outline true settings vertices pieces other this that = this ∙ sym that
+one_outline false settings vertices pieces other this that =
+    one_join (tolerance_of settings.tolerance) (outline vertices (pieces_of settings.alphamax vertices)) pieces other this that
+
+one_list_of_outlines : (settings : Settings) (lists : List (List Point)) (outlines others : List (List Piece)) → AllZip (IsOutlineOf settings) lists outlines
+    → AllZip (IsOutlineOf settings) lists others → outlines ≡ others
+one_list_of_outlines settings [] [] [] these those = refl
+one_list_of_outlines settings [] [] (other ∷ others) these those = absurd those
+one_list_of_outlines settings [] (one ∷ outlines) others these those = absurd these
+one_list_of_outlines settings (vertices ∷ lists) [] others these those = absurd these
+one_list_of_outlines settings (vertices ∷ lists) (one ∷ outlines) [] these those = absurd those
+one_list_of_outlines settings (vertices ∷ lists) (one ∷ outlines) (other ∷ others) these those =
+    ap (λ v. v ∷ outlines) (one_outline settings.long_curve settings vertices one other these.0 those.0)
+    ∙ ap (λ vs. other ∷ vs) (one_list_of_outlines settings lists outlines others these.1 those.1)
+
 pub one_trace : (page : Page) (settings : Settings) (trace other : Trace) → IsTrace page settings trace → IsTrace page settings other → trace ≡ other
 one_trace page settings trace other this that =
     let paths = same_paths page settings trace other this.polygons that.polygons in
@@ -83,7 +104,8 @@ one_trace page settings trace other this that =
     let vertices = one_list_of_vertices (zip other.paths other.polygons) trace.vertices other.vertices
     (subst (λ both. AllZip AreVerticesOf both trace.vertices) traced this.vertices) that.vertices in
     same_trace trace other (this.polygons.width ∙ sym that.polygons.width) (this.polygons.height ∙ sym that.polygons.height) paths polygons vertices
-    (this.outlines ∙ ap (map (pieces_of settings.alphamax)) vertices ∙ sym that.outlines) (this.groups ∙ sym that.groups)
+    (one_list_of_outlines settings other.vertices trace.outlines other.outlines
+    (subst (λ lists. AllZip (IsOutlineOf settings) lists trace.outlines) vertices this.outlines) that.outlines) (this.groups ∙ sym that.groups)
 
 -- the polygons text shows no more than the sides, the paths and the polygons
 same_polygons_text : (page : Page) (settings : Settings) (trace other : Trace) → HasPolygons page settings trace → HasPolygons page settings other

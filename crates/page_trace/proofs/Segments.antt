@@ -1,5 +1,7 @@
 -- The segments of a best polygon, as runs of its path.
 use Rattle.std.proofs.Common.{◌≡◌, ℕ, zero, suc, ◌+◌, ◌<◌, ◌≤◌, List, [], ◌∷◌, ◌++◌, length, get_or, refl, ◌∙◌, subst, true, false, inl, inr, arith, length-append, add-one}
+use Rattle.std.specs.List.{All}
+use Rattle.std.proofs.lemmas.List.Elements.{All-head, All-tail}
 use Rattle.std.specs.Prelude.{nat_lt, slice_index}
 use Rattle.std.proofs.lemmas.Bool.{lt-ltb, le-ltb, cases_lt}
 use Rattle.pt_base.specs.declared.point.Point.{Point}
@@ -83,3 +85,18 @@ two_segments points (i ∷ []) some walk =
     let segment = segment_at points (i ∷ []) 0 walk (omega arith) in
     let start = starts_at_zero (length points) i [] (IsSegment points) walk in
     absurd (omega (arith, segment.possible.leaves_three))
+
+-- a walk has no more steps than its end's number
+rises_by : (size from : ℕ) (others : List ℕ) → All (λ (s : Step). s.from < s.to) (steps_from from (others ++ size ∷ [])) → from + length others < size
+rises_by size from [] rises =
+    let here = All-head (λ (s : Step). s.from < s.to) (record { from = from; to = size }) [] rises in
+    omega arith
+rises_by size from (next ∷ others) rises =
+    let step : Step = record { from = from; to = next } in
+    let here = All-head (λ (s : Step). s.from < s.to) step (steps_from next (others ++ size ∷ [])) rises in
+    let rest = rises_by size next others (All-tail (λ (s : Step). s.from < s.to) step (steps_from next (others ++ size ∷ [])) rises) in
+    omega arith
+
+pub as_many_at_most : (size : ℕ) (is_allowed : ℕ → ℕ → Type 0) (at : List ℕ) → IsWalk size is_allowed (walk_from at size) → length at ≤ size
+as_many_at_most size is_allowed [] walk = omega arith
+as_many_at_most size is_allowed (i ∷ rest) walk = (let rises = rises_by size i rest walk.rises in omega arith)

@@ -45,8 +45,16 @@ pub vertices_more : (paths : List Path) (i : ℕ) (path : Path) (polygons more :
 vertices_more paths i path polygons more best lists longer vertices below is of_paths pushed so_far of_both pushed' =
     let same : length (take i paths) ≡ length polygons = omega (arith, AllZip-long IsPolygonOf (take i paths) polygons of_paths) in
     let pairs : zip (take i paths) polygons ++ (path, best) ∷ [] ≡ zip (take (i + 1) paths) more =
-        sym (zip-more (take i paths) polygons path best same) ∙ ap (λ ps. zip ps (polygons ++ best ∷ [])) (taken paths i path below is)
-        ∙ ap (λ qs. zip (take (i + 1) paths) qs) (sym pushed) in
+    sym (zip-more (take i paths) polygons path best same) ∙ ap (λ ps. zip ps (polygons ++ best ∷ [])) (taken paths i path below is)
+    ∙ ap (λ qs. zip (take (i + 1) paths) qs) (sym pushed) in
     subst (λ both. AllZip AreVerticesOf both longer) pairs
     (subst (AllZip AreVerticesOf (zip (take i paths) polygons ++ (path, best) ∷ [])) (sym pushed')
     (all_zipped_more AreVerticesOf (zip (take i paths) polygons) lists (path, best) vertices so_far of_both))
+
+-- one more list of vertices has its outline
+pub outlines_more : {A B : Type 0} (R : A → B → Type 0) (xs : List A) (i : ℕ) (x : A) (ys more : List B) (y : B) → i < length xs → x ≡ get_or xs i x
+    → AllZip R (take i xs) ys → R x y → more ≡ ys ++ y ∷ [] → AllZip R (take (i + 1) xs) more
+outlines_more R xs i x ys more y below is so_far here pushed =
+    let taken : take i xs ++ x ∷ [] ≡ take (i + 1) xs = ap (λ p. take i xs ++ p ∷ []) is ∙ sym (take-suc xs i x below) ∙ ap (λ n. take n xs) (sym (add-one i)) in
+    subst (λ ps. AllZip R ps more) taken
+    (subst (AllZip R (take i xs ++ x ∷ [])) (sym pushed) (all_zipped_more R (take i xs) ys x y so_far here))

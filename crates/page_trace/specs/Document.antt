@@ -40,11 +40,10 @@ IsDocumentUnder GeoJson page settings text = ⊥
 abbrev pub IsDocument : Page → Settings → List ℕ → Type 0
 IsDocument page settings text = IsDocumentUnder settings.backend page settings text
 
--- what a whole trace needs of the settings: a corner threshold of at most 1000, and that curves aren't
--- to be joined
+-- what a whole trace needs of the settings: a corner threshold and a tolerance of at most 1000
 pub record CanTrace (settings : Settings) : Type 0 where
   pub alphamax : settings.alphamax ≤ 1000000000
-  pub long_curve : settings.long_curve ≡ true
+  pub tolerance : settings.tolerance ≤ 1000000000
 
 -- what an SVG text needs besides: a unit of 1 to 1000, and that all outlines are to be one path
 pub record CanDraw (settings : Settings) : Type 0 where

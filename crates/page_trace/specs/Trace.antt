@@ -1,8 +1,9 @@
 -- What is traced of a page: its paths without the speckles (Selinger, "Potrace", 2003, section 2.1), the best
--- polygon of each (section 2.2), and its adjusted vertices and smooth outline (section 2.3).
-use Rattle.std.specs.Prelude.{◌≡◌, List, [], map, zip}
+-- polygon of each (section 2.2), its adjusted vertices and smooth outline (section 2.3), and the joins of that (section 2.4).
+use Rattle.std.specs.Prelude.{◌≡◌, ℕ, ◌*◌, ◌/◌, Bool, true, false, List, [], zip}
 use Rattle.std.specs.List.{AllZip}
 use Rattle.pt_base.specs.declared.path.Path.{Path}
+use Rattle.pt_base.specs.declared.piece.Piece.{Piece}
 use Rattle.pt_base.specs.declared.point.Point.{Point}
 use Rattle.pt_base.specs.declared.polygon.Polygon.{Polygon}
 use Rattle.pt_base.specs.declared.settings.Settings.{Settings}
@@ -13,6 +14,8 @@ use Rattle.path_decompose.specs.Sums.{IsEvenOdd, IsEdgesOnce}
 use Rattle.polygon_optimal.specs.Polygon.{IsBestPolygon, total_penalty}
 use Rattle.vertex_adjust.specs.Vertex.{AreVertices}
 use Rattle.corner_smooth.specs.Corner.{pieces_of}
+use Rattle.curve_join.specs.Choice.{IsBestJoin}
+use Rattle.curve_join.specs.Outline.{outline}
 
 -- These are the page's paths which are no speckles. All its boundaries together sum even-odd to the page,
 -- and run along each edge between a black and a white pixel once.
@@ -39,10 +42,24 @@ pub record HasPolygons (page : Page) (settings : Settings) (trace : Trace) : Typ
 abbrev pub AreVerticesOf : Path × Polygon → List Point → Type 0
 AreVerticesOf both vertices = AreVertices (both.0).points (both.1).at vertices
 
--- a trace has the page's paths and polygons, the adjusted vertices of each polygon, and the smooth outline
--- round these vertices (curves aren't joined yet, and paths not put into groups)
+-- how far a joined curve may be off, in units of 1/1024 pixel, rounded down
+abbrev pub tolerance_of : ℕ → ℕ
+tolerance_of millionths = millionths * 1024 / 1000000
+
+-- these pieces go round the vertices: they are those of the smooth outline, or, where curves are joined, its
+-- best join (section 2.4)
+abbrev pub IsOutlineWith : Bool → Settings → List Point → List Piece → Type 0
+IsOutlineWith true settings vertices pieces = pieces ≡ pieces_of settings.alphamax vertices
+IsOutlineWith false settings vertices pieces =
+    IsBestJoin (tolerance_of settings.tolerance) (outline vertices (pieces_of settings.alphamax vertices)) pieces
+
+abbrev pub IsOutlineOf : Settings → List Point → List Piece → Type 0
+IsOutlineOf settings vertices pieces = IsOutlineWith settings.long_curve settings vertices pieces
+
+-- a trace has the page's paths and polygons, the adjusted vertices of each polygon, and the outline round these
+-- vertices (paths aren't put into groups yet)
 pub record IsTrace (page : Page) (settings : Settings) (trace : Trace) : Type 0 where
   pub polygons : HasPolygons page settings trace
   pub vertices : AllZip AreVerticesOf (zip trace.paths trace.polygons) trace.vertices
-  pub outlines : trace.outlines ≡ map (pieces_of settings.alphamax) trace.vertices
+  pub outlines : AllZip (IsOutlineOf settings) trace.vertices trace.outlines
   pub groups : trace.groups ≡ []

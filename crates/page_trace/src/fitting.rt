@@ -1,5 +1,5 @@
 //! The best polygons of paths, with their adjusted vertices.
-ghost use Rattle.std.specs.Prelude.{◌≤◌, ◌+◌, All, IfOk, zip, length};
+ghost use Rattle.std.specs.Prelude.{◌≤◌, ◌+◌, ◌^◌, All, IfOk, zip, length};
 ghost use Rattle.std.specs.List.{AllZip};
 ghost use Rattle.pt_base.specs.ClosedWalk.{IsClosedWalk};
 ghost use Rattle.pt_base.specs.OnPage.{AreOnPage};
@@ -33,6 +33,7 @@ pub(crate) fn fit_all(alloc: Global, paths: &[Path]) -> Result<Fitted, NoMemory>
     ensures vertices { IfOk result (λ all. AllZip AreVerticesOf (zip paths.now all.polygons.items) all.vertices.items) }
     ensures near { IfOk result (λ all. All (All IsNearWidePage) all.vertices.items) }
     ensures some { IfOk result (λ all. All (λ one. 2 ≤ length one) all.vertices.items) }
+    ensures most { IfOk result (λ all. All (λ one. length one ≤ 2 ^ 31) all.vertices.items) }
 {
     let mut polygons = Vec::with_capacity(alloc, paths.len())?;
     let mut vertices = Vec::with_capacity(alloc, paths.len())?;
@@ -52,6 +53,7 @@ fn fit(alloc: Global, path: &Path) -> Result<(Polygon, Sequence<Point>), NoMemor
     ensures vertices { IfOk result (λ both. AreVerticesOf (path.now, both.0) both.1) }
     ensures near { IfOk result (λ both. All IsNearWidePage both.1) }
     ensures some { IfOk result (λ both. 2 ≤ length both.1) }
+    ensures most { IfOk result (λ both. length both.1 ≤ 2 ^ 31) }
 {
     let points = path.points.as_slice();
     let moments = Moments::of(alloc, points)?;

@@ -1,29 +1,64 @@
-//! The smooth outlines of polygons.
-ghost use Rattle.std.specs.Prelude.{◌≡◌, ◌≤◌, All, IfOk, map, length};
-ghost use Rattle.corner_smooth.specs.Corner.{IsNearWidePage, pieces_of};
+//! The outlines of polygons.
+ghost use Rattle.std.specs.Prelude.{◌≡◌, ◌≤◌, ◌^◌, All, IfOk, length};
+ghost use Rattle.std.specs.List.{AllZip};
+ghost use Rattle.corner_smooth.specs.Corner.{IsNearWidePage};
+ghost use Rattle.page_trace.specs.Trace.{IsOutlineOf, tolerance_of};
+ghost use Rattle.page_trace.specs.Document.{CanTrace};
 
 use corner_smooth::outline::smooth;
+use curve_join::joins::join;
 use pt_base::fault::NoMemory;
 use pt_base::piece::Piece;
 use pt_base::point::Point;
 use pt_base::sequence::Sequence;
+use pt_base::settings::Settings;
 use std::alloc::Global;
 
-/// The smooth outline round each list of vertices.
+/// The outline round each list of vertices.
 pub(crate) fn all_outlines(
     alloc: Global,
     vertices: &[Sequence<Point>],
-    alphamax: u32,
+    settings: &Settings,
 ) -> Result<Vec<Sequence<Piece>>, NoMemory>
     requires near { All (All IsNearWidePage) vertices.now }
     requires some { All (λ one. 2 ≤ length one) vertices.now }
-    requires alphamax { alphamax ≤ 1000000000 }
-    ensures { IfOk result (λ outlines. outlines.items ≡ map (pieces_of alphamax) vertices.now) }
+    requires most { All (λ one. length one ≤ 2 ^ 31) vertices.now }
+    requires settings { CanTrace settings.now }
+    ensures { IfOk result (λ outlines. AllZip (IsOutlineOf settings.now) vertices.now outlines.items) }
 {
     let mut outlines = Vec::with_capacity(alloc, vertices.len())?;
     for one in vertices {
-        let outline = smooth(alloc, one.as_slice(), alphamax)?;
-        outlines.push(outline)?;
+        let pieces = outline_round(alloc, one.as_slice(), settings)?;
+        outlines.push(pieces)?;
     }
     Ok(outlines)
+}
+
+/// The outline round some vertices: the smooth one, joined unless curves are to stay as they are.
+fn outline_round(
+    alloc: Global,
+    vertices: &[Point],
+    settings: &Settings,
+) -> Result<Sequence<Piece>, NoMemory>
+    requires near { All IsNearWidePage vertices.now }
+    requires some { 2 ≤ length vertices.now }
+    requires most { length vertices.now ≤ 2 ^ 31 }
+    requires settings { CanTrace settings.now }
+    ensures { IfOk result (λ pieces. IsOutlineOf settings.now vertices.now pieces) }
+{
+    let pieces = smooth(alloc, vertices, settings.alphamax)?;
+    if settings.long_curve {
+        return Ok(pieces);
+    }
+    let joined = join(alloc, vertices, pieces, tolerance(settings.tolerance))?;
+    Ok(joined)
+}
+
+/// A tolerance in units of 1/1024 pixel.
+fn tolerance(millionths: u32) -> u32
+    requires { millionths ≤ 1000000000 }
+    ensures value { result ≡ tolerance_of millionths }
+    ensures most { result ≤ 1024000 }
+{
+    (u64::from(millionths) * 1024 / 1_000_000) as u32
 }

@@ -16,15 +16,15 @@ use pt_base::settings::Settings;
 use pt_base::trace::Trace;
 use std::alloc::Global;
 
-/// The paths of a page that are no speckles, the best polygon of each, its adjusted vertices, and its
-/// smooth outline.
+/// The paths of a page that are no speckles, the best polygon of each, its adjusted vertices, and the
+/// outline round them, whose curves are joined where the settings ask for it.
 pub fn trace(alloc: Global, page: &Bitmap, settings: &Settings) -> Result<Trace, NoMemory>
     requires { CanTrace settings.now }
     ensures { IfOk result (λ trace. IsTrace page.now settings.now trace) }
 {
     let paths = kept_paths(alloc, page, settings)?;
     let Fitted { polygons, vertices } = fit_all(alloc, &paths)?;
-    let outlines = all_outlines(alloc, &vertices, settings.alphamax)?;
+    let outlines = all_outlines(alloc, &vertices, settings)?;
     Ok(Trace {
         width: page.width(),
         height: page.height(),

@@ -20,7 +20,7 @@ all_lines_on b policy sign s es c width height fits =
     λ k d short. (edge_on b width height fits (get_or es k d) (all_boundary b policy sign s es c k d short)).line
 
 -- right of the page each upright line of the row has been crossed
-crossed_right : (width height x y : ℕ) (l : Line) → IsLineOn width height l → width ≤ x → is_crossed x y l ≡ is_in_row y l
+pub crossed_right : (width height x y : ℕ) (l : Line) → IsLineOn width height l → width ≤ x → is_crossed x y l ≡ is_in_row y l
 crossed_right width height x y (level u v) on right = refl
 crossed_right width height x y (upright u v) on right = grind (arith, nat_tests)
 

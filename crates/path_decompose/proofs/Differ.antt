@@ -11,12 +11,6 @@ pub differ_same : (a : Bool) → differ a a ≡ false
 differ_same true = refl
 differ_same false = refl
 
-pub differ_comm : (a b : Bool) → differ a b ≡ differ b a
-differ_comm true true = refl
-differ_comm true false = refl
-differ_comm false true = refl
-differ_comm false false = refl
-
 pub differ_assoc : (a b c : Bool) → differ (differ a b) c ≡ differ a (differ b c)
 differ_assoc true true true = refl
 differ_assoc true true false = refl
@@ -43,13 +37,6 @@ differ_swap false true true true = refl
 differ_swap false true true false = refl
 differ_swap false true false d = refl
 differ_swap false false c d = refl
-
--- what differs from nothing is the same
-pub same_from_differ : (a b : Bool) → differ a b ≡ false → a ≡ b
-same_from_differ true true e = refl
-same_from_differ true false e = cc
-same_from_differ false true e = cc
-same_from_differ false false e = refl
 
 pub differ_solve : (a b c : Bool) → differ a (differ b c) ≡ false → differ b a ≡ c
 differ_solve true true true e = cc

@@ -13,12 +13,12 @@ pub mod NextPath
 pub mod Scan
 pub mod Sums
 pub mod Unique
+pub mod Exists
 pub mod ClosedWalk
-pub mod Own
 pub mod Steps
-pub mod Flips
-pub mod Counting
-pub mod Area
+pub mod Corners
+pub mod Keys
+pub mod Pairs
 pub mod Prefix
 pub mod PathOn
 pub mod Rows

@@ -47,7 +47,7 @@ step_on b width height fits (suc x) (suc y) West black =
 pub edge_on : (b : Image) (width height : ℕ) → Fits b width height → (e : Edge) → IsBoundary b e → IsStepOn width height e.x e.y e.heading
 edge_on b width height fits e h = step_on b width height fits e.x e.y e.heading h.black_left
 
-number_of_heading : Dir → ℕ
+pub number_of_heading : Dir → ℕ
 number_of_heading North = 0
 number_of_heading East = 1
 number_of_heading South = 2
@@ -64,7 +64,7 @@ heading_below East = omega arith
 heading_below South = omega arith
 heading_below West = omega arith
 
-heading_back : (c d : Dir) → number_of_heading c ≡ number_of_heading d → c ≡ d
+pub heading_back : (c d : Dir) → number_of_heading c ≡ number_of_heading d → c ≡ d
 unfolding number_of_heading
 heading_back North North h = refl
 heading_back North East h = absurd (omega arith)

@@ -50,12 +50,3 @@ pub page_paths_on : (page copy : Page) (policy : Policy) (paths : List Path) →
 page_paths_on page copy policy paths same is_page fits d =
     let page_is : IsPage page = subst IsPage same is_page in
     paths_on page policy (image_of page) paths page.width page.height d (subst (λ p. Fits (image_of p) p.width p.height) same fits) page_is.most_width page_is.most_height
-
--- a page's corners are among those of a larger page
-pub corner_wider : (width height m n : ℕ) (p : Point) → IsCornerOf width height p → width ≤ m → height ≤ n → IsCornerOf m n p
-corner_wider width height m n p corner wide high = record {
-  from_left = corner.from_left;
-  to_right = omega (arith, ints, corner.to_right);
-  from_bottom = corner.from_bottom;
-  to_top = omega (arith, ints, corner.to_top);
-}

@@ -8,7 +8,7 @@ use Rattle.bit_image.specs.FirstBlack.{IsFirstBlack}
 use Rattle.turn_policies.specs.declared.edge.Edge.{Edge}
 use Rattle.turn_policies.specs.Boundary.{IsBoundary}
 use Rattle.turn_policies.specs.Turn.{next}
-use Rattle.path_decompose.specs.Walk.{IsRun, IsRound, first_edge}
+use Rattle.path_decompose.specs.Walk.{IsRun, IsRoundTrip, first_edge}
 use Rattle.path_decompose.proofs.Orbit.{orbit, run-orbit, get_or-orbit}
 use Rattle.turn_policies.proofs.Turning.{next_boundary}
 
@@ -28,7 +28,7 @@ pub first_boundary : (b : Image) (x y : ℕ) → IsFirstBlack b x y → IsBounda
 first_boundary b x y first = record { black_left = first.black; white_right = first_right b x y first.left }
 
 -- so a round of the definitions is one of the lemmas
-pub circuit_of : (b : Image) (policy : Policy) (sign : Sign) (x y : ℕ) (es : List Edge) → IsFirstBlack b x y → IsRound b policy sign x y es → IsCircuit b policy sign (first_edge x y) es
+pub circuit_of : (b : Image) (policy : Policy) (sign : Sign) (x y : ℕ) (es : List Edge) → IsFirstBlack b x y → IsRoundTrip b policy sign x y es → IsCircuit b policy sign (first_edge x y) es
 circuit_of b policy sign x y es first round =
     record { boundary = first_boundary b x y first; some = round.some; closes = round.closes; distinct = round.distinct }
 

@@ -1,5 +1,5 @@
 -- The points of a walk, by the edges that it goes along.
-use Rattle.std.proofs.Common.{◌≡◌, ℕ, ◌+◌, ◌<◌, Bool, true, false, List, All, map, sum_by, refl, ap, sym, subst, ◌∙◌, inl, inr, arith}
+use Rattle.std.proofs.Common.{◌≡◌, ℕ, ◌<◌, Bool, true, false, List, get_or, All, map, count_by, refl, ap, sym, subst, ◌∙◌, inl, inr, arith}
 use Rattle.std.proofs.Math.Path.{fun_ext}
 use Rattle.std.proofs.lemmas.Bool.{cases_lt}
 use Rattle.std.proofs.lemmas.List.Elements.{All-map}
@@ -8,36 +8,35 @@ use Rattle.pt_base.specs.declared.path.Sign.{Sign}
 use Rattle.pt_base.specs.declared.policy.Policy.{Policy}
 use Rattle.bit_image.specs.Image.{Image, Fits, differ}
 use Rattle.bit_image.specs.FirstBlack.{IsFirstBlack}
-use Rattle.path_decompose.specs.Line.{IsLineOn}
-use Rattle.path_decompose.specs.Walk.{first_edge, IsWalk}
-use Rattle.path_decompose.specs.Inside.{lines_of, inside, black_count}
-use Rattle.path_decompose.specs.Area.{right_of_down, right_of_up}
+use Rattle.path_decompose.specs.Line.{IsLineOn, is_in_row}
+use Rattle.path_decompose.specs.Walk.{first_edge, IsBoundaryWalk}
+use Rattle.path_decompose.specs.Inside.{lines_of, is_crossed, is_odd, inside}
 use Rattle.path_decompose.specs.Start.{IsWhiteThrough}
 use Rattle.path_decompose.proofs.EdgeLine.{line_of, lines_of-run, within, inside-run}
 use Rattle.path_decompose.proofs.Round.{IsCircuit, circuit_of}
-use Rattle.path_decompose.proofs.Area.{area}
+use Rattle.path_decompose.proofs.Parity.{is_odd-count, odd_by-agree}
 use Rattle.path_decompose.proofs.Start.{inside_before, inside_start}
-use Rattle.path_decompose.proofs.Beyond.{all_lines_on, fits_within}
+use Rattle.path_decompose.proofs.Beyond.{all_lines_on, crossed_right, fits_within, white_off}
 
-pub walk_circuit : (b : Image) (policy : Policy) (sign : Sign) (x y : ℕ) (points : List Point) → IsFirstBlack b x y → (w : IsWalk b policy sign x y points) → IsCircuit b policy sign (first_edge x y) w.edges
+pub walk_circuit : (b : Image) (policy : Policy) (sign : Sign) (x y : ℕ) (points : List Point) → IsFirstBlack b x y → (w : IsBoundaryWalk b policy sign x y points) → IsCircuit b policy sign (first_edge x y) w.edges
 walk_circuit b policy sign x y points first w = circuit_of b policy sign x y w.edges first w.round
 
-pub walk_lines : (b : Image) (policy : Policy) (sign : Sign) (x y : ℕ) (points : List Point) → IsFirstBlack b x y → (w : IsWalk b policy sign x y points) → lines_of points ≡ map line_of w.edges
+pub walk_lines : (b : Image) (policy : Policy) (sign : Sign) (x y : ℕ) (points : List Point) → IsFirstBlack b x y → (w : IsBoundaryWalk b policy sign x y points) → lines_of points ≡ map line_of w.edges
 walk_lines b policy sign x y points first w =
     let c = walk_circuit b policy sign x y points first w in
     ap lines_of w.starts ∙ lines_of-run b policy sign (first_edge x y) w.edges c.boundary c.closes
 
-pub walk_inside : (b : Image) (policy : Policy) (sign : Sign) (x y : ℕ) (points : List Point) → IsFirstBlack b x y → (w : IsWalk b policy sign x y points) → inside points ≡ within w.edges
+pub walk_inside : (b : Image) (policy : Policy) (sign : Sign) (x y : ℕ) (points : List Point) → IsFirstBlack b x y → (w : IsBoundaryWalk b policy sign x y points) → inside points ≡ within w.edges
 walk_inside b policy sign x y points first w =
     let c = walk_circuit b policy sign x y points first w in
     fun_ext (λ u. fun_ext (λ v. ap (λ ps. inside ps u v) w.starts ∙ inside-run b policy sign (first_edge x y) w.edges c.boundary c.closes u v))
 
-pub walk_lines_on : (b : Image) (policy : Policy) (sign : Sign) (x y : ℕ) (points : List Point) (width height : ℕ) → IsFirstBlack b x y → IsWalk b policy sign x y points → Fits b width height → All (IsLineOn width height) (lines_of points)
+pub walk_lines_on : (b : Image) (policy : Policy) (sign : Sign) (x y : ℕ) (points : List Point) (width height : ℕ) → IsFirstBlack b x y → IsBoundaryWalk b policy sign x y points → Fits b width height → All (IsLineOn width height) (lines_of points)
 walk_lines_on b policy sign x y points width height first w fits =
     subst (All (IsLineOn width height)) (sym (walk_lines b policy sign x y points first w))
     (All-map (IsLineOn width height) line_of w.edges (all_lines_on b policy sign (first_edge x y) w.edges (walk_circuit b policy sign x y points first w) width height fits))
 
-pub walk_fits : (b : Image) (policy : Policy) (sign : Sign) (x y : ℕ) (points : List Point) (width height : ℕ) → IsFirstBlack b x y → IsWalk b policy sign x y points → Fits b width height → Fits (inside points) width height
+pub walk_fits : (b : Image) (policy : Policy) (sign : Sign) (x y : ℕ) (points : List Point) (width height : ℕ) → IsFirstBlack b x y → IsBoundaryWalk b policy sign x y points → Fits b width height → Fits (inside points) width height
 walk_fits b policy sign x y points width height first w fits =
     subst (λ c. Fits c width height) (sym (walk_inside b policy sign x y points first w))
     (fits_within b policy sign (first_edge x y) w.edges (walk_circuit b policy sign x y points first w) width height fits)
@@ -50,7 +49,7 @@ both_white : (p q : Bool) → p ≡ false → q ≡ false → differ p q ≡ fal
 both_white p q white outside = ap (λ t. differ t q) white ∙ outside
 
 -- once the inside is inverted, all is white through the pixel where the walk starts
-pub white_through : (b c : Image) (policy : Policy) (sign : Sign) (x y width : ℕ) (points : List Point) → IsFirstBlack b x y → IsWalk b policy sign x y points → x < width → ((u v : ℕ) → u < width → c u v ≡ differ (b u v) (inside points u v)) → IsWhiteThrough c width x y
+pub white_through : (b c : Image) (policy : Policy) (sign : Sign) (x y width : ℕ) (points : List Point) → IsFirstBlack b x y → IsBoundaryWalk b policy sign x y points → x < width → ((u v : ℕ) → u < width → c u v ≡ differ (b u v) (inside points u v)) → IsWhiteThrough c width x y
 white_through b c policy sign x y width points first w on_page flipped =
     let circuit = walk_circuit b policy sign x y points first w in
     let to_edges : (u v : ℕ) → inside points u v ≡ within w.edges u v = λ u v. ap (λ i. i u v) (walk_inside b policy sign x y points first w) in
@@ -69,9 +68,13 @@ white_through b c policy sign x y width points first w on_page flipped =
       ];
     }
 
--- the pixels inside, by the edges
-pub walk_area : (b : Image) (policy : Policy) (sign : Sign) (x y : ℕ) (points : List Point) (width height : ℕ) → IsFirstBlack b x y → (w : IsWalk b policy sign x y points) → Fits b width height
-    → black_count (inside points) width height + sum_by (right_of_up width) w.edges ≡ sum_by (right_of_down width) w.edges
-walk_area b policy sign x y points width height first w fits =
-    ap (λ i. black_count i width height + sum_by (right_of_up width) w.edges) (walk_inside b policy sign x y points first w)
-    ∙ area b policy sign x y w.edges width height first (walk_circuit b policy sign x y points first w) fits
+-- each row has an even number of the walk's upright lines, since right of the page none is inside
+pub walk_rows_even : (b : Image) (policy : Policy) (sign : Sign) (x y : ℕ) (points : List Point) (width height : ℕ) → IsFirstBlack b x y → IsBoundaryWalk b policy sign x y points → Fits b width height
+    → (v : ℕ) → is_odd (count_by (is_in_row v) (lines_of points)) ≡ false
+walk_rows_even b policy sign x y points width height first w fits v =
+    let on = walk_lines_on b policy sign x y points width height first w fits in
+    is_odd-count (is_in_row v) (lines_of points)
+    ∙ odd_by-agree (is_in_row v) (is_crossed width v) (lines_of points)
+    (λ k d short. sym (crossed_right width height width v (get_or (lines_of points) k d) (on k d short) (omega arith)))
+    ∙ sym (is_odd-count (is_crossed width v) (lines_of points))
+    ∙ white_off (inside points) width height width v (walk_fits b policy sign x y points width height first w fits) (omega arith)

@@ -9,7 +9,7 @@ use Rattle.pt_base.specs.declared.policy.Policy.{Policy}
 use Rattle.bit_image.specs.Image.{Image, IsWhite, differ}
 use Rattle.bit_image.specs.Page.{Page, image_of}
 use Rattle.bit_image.specs.FirstBlack.{IsFirstBlack}
-use Rattle.path_decompose.specs.Walk.{IsWalk}
+use Rattle.path_decompose.specs.Walk.{IsBoundaryWalk}
 use Rattle.path_decompose.specs.Inside.{inside, black_count}
 
 -- the sign of a path that starts at pixel (x, y): plus where the page is black there
@@ -27,7 +27,7 @@ pub record IsNextPath (page : Page) (policy : Policy) (b : Image) (path : Path) 
   pub y : ℕ
   pub first : IsFirstBlack b x y
   pub sign : path.sign ≡ sign_at (image_of page) x y
-  pub walk : IsWalk b policy path.sign x y path.points
+  pub walk : IsBoundaryWalk b policy path.sign x y path.points
   pub area : path.area ≡ black_count (inside path.points) page.width page.height
 
 -- these paths come, one after another, where the page has become the image b: each one's inside is

@@ -23,13 +23,13 @@ IsRun step from (e ∷ es) after = (e ≡ from) × IsRun step (step e) es after
 
 -- The edges go once round in the image, under a policy and on a path of that sign: down the left side of
 -- pixel (x, y), on by the turns, and back to the first edge. No edge comes twice.
-pub record IsRound (b : Image) (policy : Policy) (sign : Sign) (x y : ℕ) (edges : List Edge) : Type 0 where
+pub record IsRoundTrip (b : Image) (policy : Policy) (sign : Sign) (x y : ℕ) (edges : List Edge) : Type 0 where
   pub some : 1 ≤ length edges
   pub closes : IsRun (next b policy sign) (first_edge x y) edges (first_edge x y)
   pub distinct : AllPairs (λ d e. d ≢ e) edges
 
 -- the points are where the edges of such a round begin
-pub record IsWalk (b : Image) (policy : Policy) (sign : Sign) (x y : ℕ) (points : List Point) : Type 0 where
+pub record IsBoundaryWalk (b : Image) (policy : Policy) (sign : Sign) (x y : ℕ) (points : List Point) : Type 0 where
   pub edges : List Edge
-  pub round : IsRound b policy sign x y edges
+  pub round : IsRoundTrip b policy sign x y edges
   pub starts : points ≡ map start_of edges

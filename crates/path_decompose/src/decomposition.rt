@@ -27,11 +27,13 @@ pub fn decompose(alloc: Global, page: &Bitmap, policy: Policy) -> Result<Vec<Pat
     // pixels of the page inside.
     ensures closed { IfOk result (λ paths. All (λ path. IsClosedWalk path.points) paths.items) }
     ensures corners { IfOk result
-        (λ paths. All (λ path. All (IsCornerOf page.now.width page.now.height) path.points) paths.items) }
+        (λ paths. All (λ path. All (IsCornerOf page.now.width page.now.height) path.points)
+        paths.items) }
     ensures starts { IfOk result
         (λ paths. All (λ path. pos 1 ≤ℤ (point_at path.points 0).y) paths.items) }
     ensures insides { IfOk result
-        (λ paths. All (λ path. Fits (inside path.points) page.now.width page.now.height) paths.items) }
+        (λ paths. All (λ path. Fits (inside path.points) page.now.width page.now.height)
+        paths.items) }
     ensures few { IfOk result (λ paths. length paths.items ≤ page.now.width * page.now.height) }
 
     // Together they come to the page, and use each of its edges once.
@@ -39,10 +41,11 @@ pub fn decompose(alloc: Global, page: &Bitmap, policy: Policy) -> Result<Vec<Pat
     ensures edges_once { IfOk result (λ paths. IsEdgesOnce (image_of page.now) paths.items) }
 {
     let mut rest = page.copy(alloc)?;
+    let mut keys = Vec::new(alloc);
     let mut paths = Vec::new(alloc);
     let mut start = rest.first_black(rest.height() - 1);
     'paths: while let Some((x, y)) = start {
-        let path = next_path(alloc, page, &mut rest, x, y, policy)?;
+        let path = next_path(alloc, page, &mut rest, x, y, policy, &mut keys)?;
         paths.push(path)?;
         start = start_after(&rest, x, y);
     }
@@ -57,6 +60,7 @@ fn next_path(
     x: u32,
     y: u32,
     policy: Policy,
+    keys: &mut Vec<u32>,
 ) -> Result<Path, NoMemory>
     requires first { IsFirstBlack (image_of rest.old) x y }
     requires column { x < rest.old.width }
@@ -68,12 +72,12 @@ fn next_path(
     ensures white { OnOk result (IsWhiteThrough (image_of rest.new) rest.new.width x y) }
 {
     let sign = sign_at(page, x, y);
-    let round = walk_round(alloc, rest, x, y, policy, sign)?;
-    invert(rest, &round.points);
+    let points = walk_round(alloc, rest, x, y, policy, sign)?;
+    let area = invert(rest, &points, keys)?;
     Ok(Path {
         sign,
-        area: round.area,
-        points: Sequence::from_vec(round.points),
+        area,
+        points: Sequence::from_vec(points),
     })
 }
 
@@ -96,18 +100,11 @@ fn start_after(page: &Bitmap, x: u32, y: u32) -> Option<(u32, u32)>
     ensures start { IsStart (image_of page.now) result }
     ensures fits { Fits (image_of page.now) page.now.width page.now.height }
 {
-    let width = page.width();
-    for column in x + 1..width {
-        if page.is_black(column, y) {
-            return Some((column, y));
-        }
-    }
-    if y == 0 {
-        None
-    } else {
-        page.first_black(y - 1)
+    // The sides are asked, so that the proof sees where a page's pixels lie.
+    let _ = page.width();
+    match page.first_black_in_row(x, y) {
+        Some(column) => Some((column, y)),
+        None if y > 0 => page.first_black(y - 1),
+        None => None,
     }
 }
-
-#[cfg(test)]
-mod tests;

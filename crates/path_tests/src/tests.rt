@@ -3,7 +3,10 @@
 mod best;
 mod chain;
 mod least;
+mod paths;
 mod penalties;
+mod plain;
 mod polygons;
 mod segments;
 mod table;
+mod turns;

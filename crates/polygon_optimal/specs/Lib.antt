@@ -1,3 +1,18 @@
+-- The best polygon of a path (Selinger, "Potrace.
+--   IsSegment: a polygon's segment may lead from point i to point j
+--   penalty_of: the penalty of the segment from point i to point j
+--   IsPolygon: the points with these numbers, in order
+--   total_penalty: the penalties of a polygon's segments together
+--   IsBestPolygon: they are the vertices of the best polygon
 pub mod Polygon
+-- How far the segments of a polygon reach.
+--   IsLast: the longest segment from point i leads to point `last`
+--   HasLasts: for each point, the list has where the longest segment from it leads
+--   LeadsOn: a segment of a path of so many points leads onwards, not beyond its end
+--   IsUpToLast: the segment from point i to point j goes no farther than the longest one
 pub mod Lasts
+-- A segment has one penalty, and it is small.
+--   penalty_is: it is the one that the sums over the segment's points give
+--   penalty_is_one
+--   penalty_most: a penalty fits with room to spare
 pub mod OnePenalty

@@ -28,5 +28,6 @@ pub fn polygons_have_vertices()
 
 /// A closed walk has a best polygon.
 pub fn closed_walks_have_best_polygons()
-    ensures { (points : List Point) → IsClosedWalk points → (at : List ℕ) × IsBestPolygon points at }
+    ensures { (points : List Point) → IsClosedWalk points
+        → (at : List ℕ) × IsBestPolygon points at }
 {}

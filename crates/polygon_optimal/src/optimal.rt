@@ -24,11 +24,7 @@ pub fn polygon(alloc: Global, points: &[Point]) -> Result<Polygon, NoMemory>
 }
 
 /// The same, where the walk's sums are made already.
-pub fn polygon_by(
-    alloc: Global,
-    points: &[Point],
-    moments: &Moments,
-) -> Result<Polygon, NoMemory>
+pub fn polygon_by(alloc: Global, points: &[Point], moments: &Moments) -> Result<Polygon, NoMemory>
     requires closed { IsClosedWalk points.now }
     requires on_page { AreOnPage points.now }
     requires moments { moments.now ≡ points.now }

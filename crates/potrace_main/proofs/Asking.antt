@@ -96,9 +96,17 @@ pub record Reads (words : List (List ℕ)) (head : Head) (level : ℕ) (invert :
   pub takes_invert : TakesWord (codes "-i") after_level invert after_invert
   pub takes_alphamax : TakesNumber (codes "-a") 1000000 1000000000 after_invert alphamax rest
 
-reads_asked : (words : List (List ℕ)) (settings : Settings) → IsAsked words settings
-    → Reads words (record { backend = settings.backend; policy = settings.policy; turd = settings.turd }) settings.level settings.invert settings.alphamax (ending settings.backend)
-reads_asked words settings a = record {
+-- and what the words before the last ones say of curves
+pub record ReadsCurves (words : List (List ℕ)) (head : Head) (level : ℕ) (invert : Bool) (alphamax : ℕ) (long_curve : Bool) (tolerance : ℕ) (rest : List (List ℕ)) : Type 0 where
+  pub after_alphamax : List (List ℕ)
+  pub after_curve : List (List ℕ)
+  pub reads : Reads words head level invert alphamax after_alphamax
+  pub takes_curve : TakesWord (codes "-n") after_alphamax long_curve after_curve
+  pub takes_tolerance : TakesNumber (codes "-O") 200000 1000000000 after_curve tolerance rest
+
+reads_first : (words : List (List ℕ)) (settings : Settings) → (a : IsAsked words settings)
+    → Reads words (record { backend = settings.backend; policy = settings.policy; turd = settings.turd }) settings.level settings.invert settings.alphamax a.after_alphamax
+reads_first words settings a = record {
   options = a.options;
   after_level = a.after_level;
   after_invert = a.after_invert;
@@ -106,6 +114,17 @@ reads_asked words settings a = record {
   takes_level = a.level;
   takes_invert = a.invert;
   takes_alphamax = a.alphamax;
+}
+
+reads_asked : (words : List (List ℕ)) (settings : Settings) → IsAsked words settings
+    → ReadsCurves words (record { backend = settings.backend; policy = settings.policy; turd = settings.turd }) settings.level settings.invert settings.alphamax
+    settings.long_curve settings.tolerance (ending settings.backend)
+reads_asked words settings a = record {
+  after_alphamax = a.after_alphamax;
+  after_curve = a.after_curve;
+  reads = reads_first words settings a;
+  takes_curve = a.long_curve;
+  takes_tolerance = a.tolerance;
 }
 
 -- the same words say the same
@@ -123,46 +142,61 @@ one_reading words rest others head other level also_level invert also_invert alp
     (subst (λ ws. TakesNumber (codes "-a") 1000000 1000000000 ws alphamax rest) inverts.1 a.takes_alphamax) b.takes_alphamax in
     (begin.0, begin.1, begin.2, levels.0, inverts.0, alphas.0, alphas.1)
 
+pub one_curves_reading : (words rest others : List (List ℕ)) (head other : Head) (level also_level : ℕ) (invert also_invert : Bool) (alphamax also_alphamax : ℕ)
+    (curve also_curve : Bool) (tolerance also_tolerance : ℕ)
+    → ReadsCurves words head level invert alphamax curve tolerance rest → ReadsCurves words other also_level also_invert also_alphamax also_curve also_tolerance others
+    → (head.backend ≡ other.backend) × (head.policy ≡ other.policy) × (head.turd ≡ other.turd) × (level ≡ also_level) × (invert ≡ also_invert)
+    × (alphamax ≡ also_alphamax) × (curve ≡ also_curve) × (tolerance ≡ also_tolerance) × (rest ≡ others)
+one_curves_reading words rest others head other level also_level invert also_invert alphamax also_alphamax curve also_curve tolerance also_tolerance a b =
+    let first = one_reading words a.after_alphamax b.after_alphamax head other level also_level invert also_invert alphamax also_alphamax a.reads b.reads in
+    let curves = one_word (codes "-n") b.after_alphamax a.after_curve b.after_curve curve also_curve
+    (subst (λ ws. TakesWord (codes "-n") ws curve a.after_curve) first.6 a.takes_curve) b.takes_curve in
+    let tolerances = one_number (codes "-O") 200000 1000000000 tolerance also_tolerance b.after_curve rest others
+    (subst (λ ws. TakesNumber (codes "-O") 200000 1000000000 ws tolerance rest) curves.1 a.takes_tolerance) b.takes_tolerance in
+    (first.0, first.1, first.2, first.3, first.4, first.5, curves.0, tolerances.0, tolerances.1)
+
 -- the same words ask for the same
 pub one_asked : (words : List (List ℕ)) (one other : Settings) → IsAsked words one → IsAsked words other → one ≡ other
 one_asked words one other a b =
-    let same = one_reading words _ _ _ _ one.level other.level one.invert other.invert one.alphamax other.alphamax (reads_asked words one a) (reads_asked words other b) in
-    same_settings one other same.0 same.1 same.2 same.5
-    (a.others.long_curve ∙ ap is_drawn same.0 ∙ sym b.others.long_curve) (a.others.tolerance ∙ sym b.others.tolerance) (a.others.unit ∙ sym b.others.unit)
+    let same = one_curves_reading words _ _ _ _ one.level other.level one.invert other.invert one.alphamax other.alphamax one.long_curve other.long_curve
+    one.tolerance other.tolerance (reads_asked words one a) (reads_asked words other b) in
+    same_settings one other same.0 same.1 same.2 same.5 same.6 same.7 (a.others.unit ∙ sym b.others.unit)
     (a.others.flat ∙ ap is_drawn same.0 ∙ sym b.others.flat) same.3 same.4
 
 -- where the words are read, but do not end as the backend's do, nothing is asked for
-pub asks_nothing : (words rest : List (List ℕ)) (head : Head) (level : ℕ) (invert : Bool) (alphamax : ℕ) → Reads words head level invert alphamax rest
-    → rest ≢ ending head.backend → (settings : Settings) → IsAsked words settings → ⊥
-asks_nothing words rest head level invert alphamax reads other settings a =
-    let same = one_reading words rest _ head _ level settings.level invert settings.invert alphamax settings.alphamax reads (reads_asked words settings a) in
-    other (same.6 ∙ ap ending (sym same.0))
+pub asks_nothing : (words rest : List (List ℕ)) (head : Head) (level : ℕ) (invert : Bool) (alphamax : ℕ) (curve : Bool) (tolerance : ℕ)
+    → ReadsCurves words head level invert alphamax curve tolerance rest → rest ≢ ending head.backend → (settings : Settings) → IsAsked words settings → ⊥
+asks_nothing words rest head level invert alphamax curve tolerance reads other settings a =
+    let same = one_curves_reading words rest _ head _ level settings.level invert settings.invert alphamax settings.alphamax curve settings.long_curve
+    tolerance settings.tolerance reads (reads_asked words settings a) in
+    other (same.8 ∙ ap ending (sym same.0))
 
 -- a number that is taken isn't above the greatest
 pub number_most : (name : List ℕ) (default most n : ℕ) (words rest : List (List ℕ)) → default ≤ most → TakesNumber name default most words n rest → n ≤ most
 number_most name default most n words rest few (inl a) = omega (arith, a.2)
 number_most name default most n words rest few (inr a) = a.3
 
-can_write_under : (backend : Backend) (settings : Settings) → IsBackend backend → settings.alphamax ≤ 1000000000 → settings.long_curve ≡ is_drawn backend
+can_write_under : (backend : Backend) (settings : Settings) → IsBackend backend → settings.alphamax ≤ 1000000000 → settings.tolerance ≤ 1000000000
     → settings.unit ≡ 10 → settings.flat ≡ is_drawn backend → CanWriteUnder backend settings
-can_write_under Points settings offered alphamax long_curve unit flat = tt
-can_write_under Polygons settings offered alphamax long_curve unit flat = tt
-can_write_under Svg settings offered alphamax long_curve unit flat = record {
-  traced = record { alphamax = alphamax; long_curve = long_curve };
+can_write_under Points settings offered alphamax tolerance unit flat = tt
+can_write_under Polygons settings offered alphamax tolerance unit flat = tt
+can_write_under Svg settings offered alphamax tolerance unit flat = record {
+  traced = record { alphamax = alphamax; tolerance = tolerance };
   some = omega (arith, unit);
   most = omega (arith, unit);
   flat = flat;
 }
-can_write_under Eps settings offered alphamax long_curve unit flat = absurd offered
-can_write_under Dxf settings offered alphamax long_curve unit flat = absurd offered
-can_write_under GeoJson settings offered alphamax long_curve unit flat = absurd offered
+can_write_under Eps settings offered alphamax tolerance unit flat = absurd offered
+can_write_under Dxf settings offered alphamax tolerance unit flat = absurd offered
+can_write_under GeoJson settings offered alphamax tolerance unit flat = absurd offered
 
 -- the program can do what is asked for
 pub asked_offered : (words : List (List ℕ)) (settings : Settings) → IsAsked words settings → IsOffered settings
 asked_offered words settings a = record {
   document = can_write_under settings.backend settings a.begins.valued.offered
-      (number_most (codes "-a") 1000000 1000000000 settings.alphamax a.after_invert (ending settings.backend) (omega arith) a.alphamax)
-      a.others.long_curve a.others.unit a.others.flat;
+      (number_most (codes "-a") 1000000 1000000000 settings.alphamax a.after_invert a.after_alphamax (omega arith) a.alphamax)
+      (number_most (codes "-O") 200000 1000000000 settings.tolerance a.after_curve (ending settings.backend) (omega arith) a.tolerance)
+      a.others.unit a.others.flat;
   level = number_most (codes "-k") 500000 1000000 settings.level a.options a.after_level (omega arith) a.level;
 }
 
@@ -189,5 +223,17 @@ no_alphamax words options after_level after_invert head level invert begins take
     (subst (λ ws. TakesNumber (codes "-k") 500000 1000000 ws level after_level) begin.3 takes_level) a.level in
     let inverts = one_word (codes "-i") a.after_level after_invert a.after_invert invert settings.invert
     (subst (λ ws. TakesWord (codes "-i") ws invert after_invert) levels.1 takes_invert) a.invert in
-    refused settings.alphamax (ending settings.backend)
-    (subst (λ ws. TakesNumber (codes "-a") 1000000 1000000000 ws settings.alphamax (ending settings.backend)) (sym inverts.1) a.alphamax)
+    refused settings.alphamax a.after_alphamax
+    (subst (λ ws. TakesNumber (codes "-a") 1000000 1000000000 ws settings.alphamax a.after_alphamax) (sym inverts.1) a.alphamax)
+
+-- the same up to the tolerance
+pub no_tolerance : (words after_alphamax after_curve : List (List ℕ)) (head : Head) (level : ℕ) (invert : Bool) (alphamax : ℕ) (curve : Bool)
+    → Reads words head level invert alphamax after_alphamax → TakesWord (codes "-n") after_alphamax curve after_curve
+    → ((n : ℕ) (rest : List (List ℕ)) → TakesNumber (codes "-O") 200000 1000000000 after_curve n rest → ⊥)
+    → (settings : Settings) → IsAsked words settings → ⊥
+no_tolerance words after_alphamax after_curve head level invert alphamax curve reads takes_curve refused settings a =
+    let first = one_reading words after_alphamax a.after_alphamax head _ level settings.level invert settings.invert alphamax settings.alphamax reads (reads_first words settings a) in
+    let curves = one_word (codes "-n") a.after_alphamax after_curve a.after_curve curve settings.long_curve
+    (subst (λ ws. TakesWord (codes "-n") ws curve after_curve) first.6 takes_curve) a.long_curve in
+    refused settings.tolerance (ending settings.backend)
+    (subst (λ ws. TakesNumber (codes "-O") 200000 1000000000 ws settings.tolerance (ending settings.backend)) (sym curves.1) a.tolerance)

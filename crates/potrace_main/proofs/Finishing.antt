@@ -177,64 +177,6 @@ run_outcome one settings same (Some files) mid outs outs_now errs errs_now fault
 no_end : (A : Type 0) (later : Bool) (rest : List ℕ) (ending : Ending) (raw : _) (used : ℕ) → front later rest ≡ Gives raw used → front later rest ≡ Ends ending → A
 no_end A later rest ending raw used e f = absurd (let clash : Gives raw used ≡ Ends ending = sym e ∙ f in cc)
 
--- the items of an input of these bytes
-abbrev pub KnownItems : Settings → List ℕ → Type 0
-KnownItems settings bytes = (items : List Item) × (raws : List Raw) × (ending : Ending) × FilePages false bytes raws ending × AreItems settings 0 raws ending items
-
-known_too_many : (settings : Settings) (bytes : List ℕ) (raws : List Raw) (texts : List (List ℕ)) (left : List ℕ) (raw : Raw) (used : ℕ)
-    → AreTraced settings raws texts → length raws ≡ most_pages → front (is_later false raws) left ≡ Gives raw used
-    → (all more : List Raw) (ending : Ending) → FilePages false bytes all ending → all ≡ raws ++ more → FilePages (is_later false raws) left more ending
-    → KnownItems settings bytes
-known_too_many settings bytes raws texts left raw used traced count here all [] ending pages split (Ended f) = no_end _ (is_later false raws) left ending raw used here f
-known_too_many settings bytes raws texts left raw used traced count here all (r ∷ more) ending pages split (Next f p) = (
-  docs texts ++ Stop (page_line dash (most_pages + 1) too_many) ∷ [],
-  raws ++ r ∷ more,
-  ending,
-  subst (λ rs. FilePages false bytes rs ending) split pages,
-  items_too_many settings 0 raws texts r more ending traced (omega (arith, count)),
-)
-
-known_left : (settings : Settings) (bytes : List ℕ) (raws : List Raw) (texts : List (List ℕ)) (left : List ℕ) (k : ℕ) (outs outs_now : Option Documents) (end : PagesEnd)
-    → BeginsWith false bytes raws left → AreTraced settings raws texts → k ≡ length raws → k ≤ most_pages
-    → EndsBy settings (is_later false raws) (Some left) outs outs_now end → (end ≡ why.TooMany → most_pages ≤ k)
-    → (status_of end ≡ 0) ⊎ (status_of end ≡ 2) → KnownItems settings bytes
-known_left settings bytes raws texts left k outs outs_now why.End begins traced count few ends full status =
-    (_, raws, End, pages_are false bytes raws left End begins ends.1, items_of settings 0 k raws texts End traced (omega (arith, count)) few)
-known_left settings bytes raws texts left k outs outs_now why.Trailing begins traced count few ends full status =
-    (_, raws, Trailing, pages_are false bytes raws left Trailing begins ends.1, items_of settings 0 k raws texts Trailing traced (omega (arith, count)) few)
-known_left settings bytes raws texts left k outs outs_now (why.Refused f) begins traced count few (documents, (kind, cause, here)) full status =
-    (_, raws, Refused kind, pages_are false bytes raws left (Refused kind) begins here, items_of settings 0 k raws texts (Refused kind) traced (omega (arith, count)) few)
-known_left settings bytes raws texts left k outs outs_now why.TooMany begins traced count few (documents, (raw, used, here)) full status =
-    let (all, ending, pages) = file_pages_some false bytes in
-    let (more, split, behind) = pages_after false bytes raws left all ending begins pages in
-    let at_most : most_pages ≤ k = full refl in
-    known_too_many settings bytes raws texts left raw used traced (omega (arith, count, few, at_most)) here all more ending pages split behind
-known_left settings bytes raws texts left k outs outs_now why.Unread begins traced count few ends full status =
-    absurd (elim status [ inl e ↦ omega (arith, e) | inr e ↦ omega (arith, e) ])
-known_left settings bytes raws texts left k outs outs_now why.Unwritten begins traced count few ends full status =
-    absurd (elim status [ inl e ↦ omega (arith, e) | inr e ↦ omega (arith, e) ])
-known_left settings bytes raws texts left k outs outs_now why.OutOfMemory begins traced count few ends full status =
-    absurd (elim status [ inl e ↦ omega (arith, e) | inr e ↦ omega (arith, e) ])
-
--- what there was to write is known where the run came to its end
-pub run_known : (one settings : Settings) → one ≡ settings → (told mid : Option Files) (outs outs_now : Option Documents) (k : ℕ) (end : PagesEnd)
-    → mid ≡ with_file told dash → (Lacks told dash → ⊥) → Traces one (unread mid) outs outs_now k end
-    → IfSome told (λ files. (status_of end ≡ 0) ⊎ (status_of end ≡ 2) → (items : List Item) × AreInputItems settings files items)
-run_known one settings same None mid outs outs_now k end opened there t = tt
-run_known one settings same (Some files) mid outs outs_now k end opened there traced = by_bytes (get files.contents dash) refl where
-  t : Traces settings (unread mid) outs outs_now k end
-  t = subst (λ x. Traces x (unread mid) outs outs_now k end) same traced
-
-  by_bytes : (o : Option (List ℕ)) → get files.contents dash ≡ o
-      → (status_of end ≡ 0) ⊎ (status_of end ≡ 2) → (items : List Item) × AreInputItems settings files items
-  by_bytes None is status = absurd (there is)
-  by_bytes (Some bytes) is status =
-      let here : unread mid ≡ Some bytes = ap unread opened ∙ unread_opened files bytes is in
-      let (left, rest_is, begins) = subst (λ (o : Option (List ℕ)). IfSome o (λ all. (left : List ℕ) × (t.rest ≡ Some left) × BeginsWith false all t.raws left)) here t.begins in
-      let (items, raws, ending, pages, are) = known_left settings bytes t.raws t.texts left k (with_items outs (docs t.texts)) outs_now end begins t.traced t.count t.few
-      (subst (λ o. EndsBy settings (is_later false t.raws) o (with_items outs (docs t.texts)) outs_now end) rest_is t.ends) t.full status in
-      (items, inr (bytes, raws, ending, is, pages, are))
-
 -- the message tells why the run ended, and counts the pages that were traced
 pub told_by : (settings : Settings) (later : Bool) (rest : Option (List ℕ)) (outs outs_now : Option Documents) (end : PagesEnd) (k : ℕ)
     (errs errs_now : Option Documents) (faults faults_now : ℕ) → EndsBy settings later rest outs outs_now end → (end ≡ why.TooMany → most_pages ≤ k)
@@ -319,15 +261,15 @@ run_written settings bytes outs outs_now errs errs_now k faults faults_now end t
       cut_off = written.1;
       told = subst (λ n. IsToldBy (status_of end) n errs errs_now faults faults_now) counted told;
     } where
-  ends_written : (e : PagesEnd) → EndsBy settings (is_later false t.raws) t.rest (with_items outs (docs t.texts)) outs_now e
-      → (status_of e ≢ 4 → outs_now ≡ with_items outs (docs t.texts)) × (status_of e ≡ 4 → (text : List ℕ) × IsCutOff (with_items outs (docs t.texts)) outs_now dash text)
-  ends_written why.End ends = (λ _. ends.0, λ e. absurd (omega (arith, e)))
-  ends_written why.Trailing ends = (λ _. ends.0, λ e. absurd (omega (arith, e)))
-  ends_written (why.Refused f) ends = (λ _. ends.0, λ e. absurd (omega (arith, e)))
-  ends_written why.TooMany ends = (λ _. ends.0, λ e. absurd (omega (arith, e)))
-  ends_written why.Unread ends = (λ _. ends, λ e. absurd (omega (arith, e)))
-  ends_written why.OutOfMemory ends = (λ _. ends, λ e. absurd (omega (arith, e)))
-  ends_written why.Unwritten (raw, used, text, is_text, here, cut) = (λ n. absurd (n refl), λ _. (text, cut))
+      ends_written : (e : PagesEnd) → EndsBy settings (is_later false t.raws) t.rest (with_items outs (docs t.texts)) outs_now e
+          → (status_of e ≢ 4 → outs_now ≡ with_items outs (docs t.texts)) × (status_of e ≡ 4 → (text : List ℕ) × IsCutOff (with_items outs (docs t.texts)) outs_now dash text)
+      ends_written why.End ends = (λ _. ends.0, λ e. absurd (omega (arith, e)))
+      ends_written why.Trailing ends = (λ _. ends.0, λ e. absurd (omega (arith, e)))
+      ends_written (why.Refused f) ends = (λ _. ends.0, λ e. absurd (omega (arith, e)))
+      ends_written why.TooMany ends = (λ _. ends.0, λ e. absurd (omega (arith, e)))
+      ends_written why.Unread ends = (λ _. ends, λ e. absurd (omega (arith, e)))
+      ends_written why.OutOfMemory ends = (λ _. ends, λ e. absurd (omega (arith, e)))
+      ends_written why.Unwritten (raw, used, text, is_text, here, cut) = (λ n. absurd (n refl), λ _. (text, cut))
 
 -- nothing was written
 pub none_written_at : (settings : Settings) (status : ℕ) (outs errs errs_now : Option Documents) (faults faults_now : ℕ) → status ≢ 4
@@ -448,3 +390,18 @@ complete_unopened settings (Some files) read read_now written written_now (inr l
     refusal = λ r. absurd (not_missing dash r.0 r.1 (sym e ∙ r.2));
   }
   by_items items (inr (bytes, raws, ending, is, pages, are)) no_read no_write = absurd (let clash : Some bytes ≡ None = sym is ∙ lacking in cc)
+
+-- what holds of all lists of items holds of one that is there
+pub of_items : (told : Option Files) (Are : Files → List Item → Type 0) (P : List Item → Type 0) → ((files : Files) → (items : List Item) × Are files items)
+    → IfSome told (λ files. (items : List Item) → Are files items → P items) → IfSome told (λ files. (items : List Item) × Are files items × P items)
+of_items None Are P found holds = tt
+of_items (Some files) Are P found holds = let items = found files in (items.0, items.1, holds items.0 items.1)
+
+-- nothing is said of the items where standard input can't be read
+pub outcome_unread : (items : List Item) (outs outs_now errs errs_now : Option Documents) (faults faults_now : ℕ) → IsOutcome 3 items outs outs_now errs errs_now faults faults_now
+outcome_unread items outs outs_now errs errs_now faults faults_now = record {
+  done = λ e. absurd (omega (arith, e));
+  refused = λ e. absurd (omega (arith, e));
+  unwritten = λ e. absurd (omega (arith, e));
+  out_of_memory = λ e. absurd (omega (arith, e));
+}

@@ -1,5 +1,7 @@
 pub mod Asking
+pub mod Exists
 pub mod Finishing
+pub mod OneItems
 pub mod Outcomes
 pub mod Paging
 pub mod Reading

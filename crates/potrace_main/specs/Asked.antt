@@ -46,10 +46,10 @@ is_drawn GeoJson = false
 is_drawn Points = false
 is_drawn Polygons = false
 
--- the words that end those of a backend: curves aren't joined and shapes aren't put into groups yet, so
--- these two are asked for where outlines are drawn
+-- the words that end those of a backend: shapes aren't put into groups yet, so this one is asked for where
+-- outlines are drawn
 abbrev pub ending : Backend → List (List ℕ)
-ending Svg = codes "-n" ∷ codes "--flat" ∷ []
+ending Svg = codes "--flat" ∷ []
 ending Eps = []
 ending Dxf = []
 ending GeoJson = []
@@ -99,21 +99,23 @@ TakesWord name words given rest =
 
 -- the settings that no word of its own changes
 pub record IsDefault (settings : Settings) : Type 0 where
-  pub long_curve : settings.long_curve ≡ is_drawn settings.backend
-  pub tolerance : settings.tolerance ≡ 200000
   pub unit : settings.unit ≡ 10
   pub flat : settings.flat ≡ is_drawn settings.backend
 
 -- the words ask for pages to be read, traced and written so: the values, then `-k D` or not, then `-i` or
--- not, then `-a D` or not, and then the backend's last words
+-- not, then `-a D` or not, then `-n` or not, then `-O D` or not, and then the backend's last words
 pub record IsAsked (words : List (List ℕ)) (settings : Settings) : Type 0 where
   pub options : List (List ℕ)
   pub after_level : List (List ℕ)
   pub after_invert : List (List ℕ)
+  pub after_alphamax : List (List ℕ)
+  pub after_curve : List (List ℕ)
   pub begins : Begins words (record { backend = settings.backend; policy = settings.policy; turd = settings.turd }) options
   pub level : TakesNumber (codes "-k") 500000 1000000 options settings.level after_level
   pub invert : TakesWord (codes "-i") after_level settings.invert after_invert
-  pub alphamax : TakesNumber (codes "-a") 1000000 1000000000 after_invert settings.alphamax (ending settings.backend)
+  pub alphamax : TakesNumber (codes "-a") 1000000 1000000000 after_invert settings.alphamax after_alphamax
+  pub long_curve : TakesWord (codes "-n") after_alphamax settings.long_curve after_curve
+  pub tolerance : TakesNumber (codes "-O") 200000 1000000000 after_curve settings.tolerance (ending settings.backend)
   pub others : IsDefault settings
 
 -- the program can do what the settings say

@@ -26,6 +26,12 @@ const DEFAULT_ALPHAMAX: u32 = 1_000_000;
 /// The greatest corner threshold, in millionths.
 const GREATEST_ALPHAMAX: u32 = 1_000_000_000;
 
+/// The tolerance of joined curves where no word says one, in millionths of a pixel.
+const DEFAULT_TOLERANCE: u32 = 200_000;
+
+/// The greatest tolerance, in millionths of a pixel.
+const GREATEST_TOLERANCE: u32 = 1_000_000_000;
+
 /// What the words that are always there ask for.
 #[derive(Clone, Copy, Debug)]
 pub struct Head {
@@ -36,7 +42,8 @@ pub struct Head {
 }
 
 /// What the words ask for, if they are the program's: `-b BACKEND -z POLICY -t N`, then `-k D` or not,
-/// then `-i` or not, then `-a D` or not, and then `-n --flat` for the backend `svg`.
+/// then `-i` or not, then `-a D` or not, then `-n` or not, then `-O D` or not, and then `--flat` for the
+/// backend `svg`.
 pub fn ask(words: &[String]) -> Option<Settings>
     ensures asked { IfSome result (IsAsked (map string_bytes words.now)) }
     ensures refused { IfNone result ((settings : Settings) → IsAsked (map string_bytes words.now) settings → ⊥) }
@@ -46,19 +53,20 @@ pub fn ask(words: &[String]) -> Option<Settings>
     let (level, options) = number_after(options, "-k", DEFAULT_LEVEL, GREATEST_LEVEL)?;
     let (invert, options) = word_after(options, "-i");
     let (alphamax, options) = number_after(options, "-a", DEFAULT_ALPHAMAX, GREATEST_ALPHAMAX)?;
+    let (long_curve, options) = word_after(options, "-n");
+    let (tolerance, options) = number_after(options, "-O", DEFAULT_TOLERANCE, GREATEST_TOLERANCE)?;
     if !are_ending(options, head.backend) {
         return None;
     }
-    let drawn = is_drawn(head.backend);
     Some(Settings {
         backend: head.backend,
         policy: head.policy,
         turd: head.turd,
         alphamax,
-        long_curve: drawn,
-        tolerance: 200_000,
+        long_curve,
+        tolerance,
         unit: 10,
-        flat: drawn,
+        flat: is_drawn(head.backend),
         level,
         invert,
     })
@@ -168,16 +176,13 @@ fn are_ending(words: &[String], backend: Backend) -> bool
     }
 }
 
-/// Whether the words are `-n --flat`.
+/// Whether the words are `--flat` alone.
 fn are_drawing(words: &[String]) -> bool
     ensures { IsTrue result ↔ (map string_bytes words.now ≡ ending Backend.Svg) }
 {
-    let [long_curve, flat] = words else {
+    let [flat] = words else {
         return false;
     };
-    if !is_word(long_curve, "-n") {
-        return false;
-    }
     is_word(flat, "--flat")
 }
 

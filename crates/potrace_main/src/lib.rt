@@ -3,6 +3,7 @@
 
 mod ask;
 mod document;
+pub mod laws;
 pub mod message;
 mod pages;
 pub mod top;

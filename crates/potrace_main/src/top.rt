@@ -39,19 +39,18 @@ pub fn run<R: Threads + Sync, I: Inputs, O: Outputs, E: Sink, G: Gate + Sync>(
     // Other words than the program's, exactly, are status 1.
     ensures bad_words { (result ≡ 1) ↔ ((settings : Settings) → IsAsked (map string_bytes words.now) settings → ⊥) }
 
-    // What the words and the told files give to be written is written, as far as the status says.
+    // What the words and the told files give to be written is written, as far as the status says. The law
+    // `items_are_one` says that this is one list.
     ensures outcome { (settings : Settings) → IsAsked (map string_bytes words.now) settings
-        → IfSome (I.files inputs.old) (λ files. (items : List Item) → AreInputItems settings files items
-        → IsOutcome result items (O.documents outs.old) (O.documents outs.new) (E.documents errs.old) (E.documents errs.new) (E.faults errs.old) (E.faults errs.new)) }
-    ensures known { (settings : Settings) → IsAsked (map string_bytes words.now) settings
-        → IfSome (I.files inputs.old) (λ files. (result ≡ 0) ⊎ (result ≡ 2) → (items : List Item) × AreInputItems settings files items) }
+        → IfSome (I.files inputs.old) (λ files. (items : List Item) × AreInputItems settings files items
+        × IsOutcome result items (O.documents outs.old) (O.documents outs.new)
+        (E.documents errs.old) (E.documents errs.new) (E.faults errs.old) (E.faults errs.new)) }
 
     // Where no device failed, all is done, or the run ends with the refusal, want of memory aside.
     ensures complete { (settings : Settings) → IsAsked (map string_bytes words.now) settings
-        → IfSome (I.files inputs.old) (λ files. (items : List Item) → AreInputItems settings files items
-        → (Rose (I.faults inputs.old) (I.faults inputs.new) → ⊥)
-        → (Rose (O.faults outs.old) (O.faults outs.new) → ⊥)
-        → IsComplete result items) }
+        → IfSome (I.files inputs.old) (λ files. (items : List Item) × AreInputItems settings files items
+        × ((Rose (I.faults inputs.old) (I.faults inputs.new) → ⊥)
+        → (Rose (O.faults outs.old) (O.faults outs.new) → ⊥) → IsComplete result items)) }
 
     // No file is opened but standard input, and that once; with other words than the program's none is.
     ensures opened { OpensOnly dash (I.files inputs.old) (I.files inputs.new) (I.openings inputs.old) (I.openings inputs.new) }

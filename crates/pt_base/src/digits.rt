@@ -41,7 +41,12 @@ fn put_decimals(out: &mut Vec<u8>, number: u64) -> Result<(), NoMemory>
     requires { number < 1000 }
     ensures { OnOk result (out.new.items ≡ out.old.items ++ decimals_text number) }
 {
-    out.extend_from_slice(&[b'.', digit(number / 100), digit(number / 10 % 10), digit(number % 10)])?;
+    out.extend_from_slice(&[
+        b'.',
+        digit(number / 100),
+        digit(number / 10 % 10),
+        digit(number % 10),
+    ])?;
     Ok(())
 }
 

@@ -45,7 +45,9 @@ pub fn polygons(alloc: Global, trace: &Trace) -> Result<Vec<u8>, NoMemory>
 
 /// Appends the rest of the first line.
 fn put_sides(out: &mut Vec<u8>, width: u32, height: u32, count: usize) -> Result<(), NoMemory>
-    ensures { OnOk result (out.new.items ≡ out.old.items ++ (decimal width ++ codes " " ++ decimal height ++ codes " " ++ decimal count ++ codes "\n")) }
+    ensures { OnOk result (out.new.items ≡ out.old.items
+        ++ (decimal width ++ codes " " ++ decimal height ++ codes " " ++ decimal count
+        ++ codes "\n")) }
 {
     put_number(out, width)?;
     out.extend_from_slice(b" ")?;

@@ -46,7 +46,8 @@ fn put_coordinate(out: &mut Vec<u8>, unit: u32, c: i32) -> Result<(), NoMemory>
 fn put_difference(out: &mut Vec<u8>, unit: u32, from: i32, to: i32) -> Result<(), NoMemory>
     requires some { 1 ≤ unit }
     requires most { unit ≤ 1000 }
-    ensures { OnOk result (out.new.items ≡ out.old.items ++ signed_decimal (rounded to unit -ℤ rounded from unit)) }
+    ensures { OnOk result (out.new.items ≡ out.old.items
+        ++ signed_decimal (rounded to unit -ℤ rounded from unit)) }
 {
     put_number(out, in_units(to, unit) - in_units(from, unit))
 }

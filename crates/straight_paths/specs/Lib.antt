@@ -1,3 +1,40 @@
+-- Straight subpaths and possible segments (Selinger, "Potrace.
+--   offset_of: how far the second point is from the first
+--   IsWithin: the whole number is from -q to q
+--   IsNear: the half-line from the origin through `end` comes within 1 of `middle`
+--   Takes: one of the first `count` steps of the path is this one
+--   east
+--   north
+--   west
+--   south
+--   TakesAllFour: all four directions occur in the first `count` steps of the path
+--   IsStraight: the first `count` steps of the path are straight
+--   path_from: the closed path from this index on
+--   IsPossible: the segment from point i to point j may stand for the path between them
+--   IsFarthest: d is the greatest number of steps that a possible segment from point i has
 pub mod Straight
+-- The offsets that a cone of half-lines holds.
+--   cross_of: the cross product
+--   nowhere
+--   IsBetween: the way lies from `low` to `high`, borders included, counted to the left
+--   Holds: the cone holds the way
+--   IsShort: neither coordinate is greater than this
+--   IsProper: the borders are short, and `high` lies to the left of `low`
+--   IsSound
+--   lead_of: 1 where the first number is positive, or is 0 and the second is positive
+--   low_of: of the square within 1 of the way's end, the corner that is farthest to the right
+--   high_of: and the corner that is farthest to the left
+--   IsSmall: the way ends within 1 of its start
+--   IsInside: the way lies strictly inside of the borders
+--   HoldsNear: the cone holds exactly the half-lines from the path's start that come near its next
+--   IsClear: from the path's start, each point of its first `count` steps is near the half-line
 pub mod Cones
+-- What is straight from an index on, within two laps of a closed path.
+--   limit_of: the most steps that matter
+--   last_of: the last index of two laps
+--   IsClearFor: of the steps from point i on, up to the limit
+--   IsStraightFor: of the steps from point i on, up to the limit
+--   IsNext: `index` is where this step is taken next, at `at` or after it
+--   IsAhead
+--   IsTail: of the subpaths from `at`, up to the limit and the last index
 pub mod Tails

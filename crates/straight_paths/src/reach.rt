@@ -94,7 +94,8 @@ fn fill_clear(laps: &Laps, steps: &mut [u32])
 fn first_lap(laps: &Laps, steps: &[u32]) -> Tail
     requires some { 1 ≤ length laps.now }
     requires places { length steps.now ≡ length laps.now }
-    requires clear { (i : ℕ) → i < length laps.now → IsClearFor laps.now i (slice_index steps.now i) }
+    requires clear { (i : ℕ) → i < length laps.now
+        → IsClearFor laps.now i (slice_index steps.now i) }
     ensures { IsTail laps.now (length laps.now) result }
 {
     let size = laps.size();
@@ -109,7 +110,8 @@ fn first_lap(laps: &Laps, steps: &[u32]) -> Tail
 /// hold.
 fn second_lap(laps: &Laps, tail: Tail, steps: &mut [u32])
     requires places { length steps.old ≡ length laps.now }
-    requires clear { (i : ℕ) → i < length laps.now → IsClearFor laps.now i (slice_index steps.old i) }
+    requires clear { (i : ℕ) → i < length laps.now
+        → IsClearFor laps.now i (slice_index steps.old i) }
     requires tail { IsTail laps.now (length laps.now) tail }
     ensures places { length steps.new ≡ length steps.old }
     ensures straight { (i : ℕ) → i < length laps.now

@@ -21,7 +21,8 @@ use std::alloc::Global;
 pub fn svg(alloc: Global, trace: &Trace, settings: &Settings) -> Result<Vec<u8>, NoMemory>
     requires some { 1 ≤ settings.now.unit }
     requires most { settings.now.unit ≤ 1000 }
-    ensures { IfOk result (λ text. text.items ≡ svg_text settings.now.unit settings.now.flat trace.now) }
+    ensures { IfOk result (λ text. text.items
+        ≡ svg_text settings.now.unit settings.now.flat trace.now) }
 {
     let unit = settings.unit;
     let outlines = trace.outlines.as_slice();
@@ -139,7 +140,8 @@ fn put_groups(
 ) -> Result<(), NoMemory>
     requires some { 1 ≤ unit }
     requires most { unit ≤ 1000 }
-    ensures { OnOk result (out.new.items ≡ out.old.items ++ flat_map (group_text unit outlines.now) groups.now) }
+    ensures { OnOk result (out.new.items ≡ out.old.items
+        ++ flat_map (group_text unit outlines.now) groups.now) }
 {
     for group in groups {
         put_group(out, unit, outlines, group)?;
@@ -156,7 +158,8 @@ fn put_group(
 ) -> Result<(), NoMemory>
     requires some { 1 ≤ unit }
     requires most { unit ≤ 1000 }
-    ensures { OnOk result (out.new.items ≡ out.old.items ++ group_text unit outlines.now group.now) }
+    ensures { OnOk result (out.new.items ≡ out.old.items
+        ++ group_text unit outlines.now group.now) }
 {
     out.extend_from_slice(b"<path fill-rule=\"evenodd\" d=\"")?;
     put_outline(out, unit, pieces_at(outlines, group.outer))?;
@@ -174,7 +177,8 @@ fn put_holes(
 ) -> Result<(), NoMemory>
     requires some { 1 ≤ unit }
     requires most { unit ≤ 1000 }
-    ensures { OnOk result (out.new.items ≡ out.old.items ++ more_text unit (map (outline_at outlines.now) holes.now)) }
+    ensures { OnOk result (out.new.items ≡ out.old.items
+        ++ more_text unit (map (outline_at outlines.now) holes.now)) }
 {
     for hole in holes {
         out.extend_from_slice(b" ")?;

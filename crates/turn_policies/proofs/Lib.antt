@@ -4,3 +4,6 @@ mod Majorities
 pub mod OnPage
 mod Rings
 pub mod Turning
+pub mod Counting
+pub mod Ring
+pub mod Square

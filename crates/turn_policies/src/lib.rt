@@ -4,6 +4,7 @@
 //! ahead and goes straight on, left or right.
 #![tactic(auto)]
 
+mod around;
 pub mod edge;
 pub mod heading;
 pub mod laws;

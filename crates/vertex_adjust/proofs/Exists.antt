@@ -9,7 +9,7 @@ use Rattle.pt_base.specs.declared.point.Point.{Point}
 use Rattle.prefix_moments.specs.Sums.{sums_of}
 use Rattle.prefix_moments.specs.declared.sums.Sums.{Sums}
 use Rattle.vertex_adjust.specs.Line.{AreSums, IsEnlarged, IsLine, covariance_of, direction_of, greatest_of, line_along, squares_of, times}
-use Rattle.vertex_adjust.specs.Vertex.{IsBefore, IsCandidate, IsLeast, IsLineOf, IsPolygonAlong, IsVertex, IsVertexOf, AreVertices, before_of, end_of, error_of, moved}
+use Rattle.vertex_adjust.specs.Vertex.{IsBefore, IsCandidate, IsLeast, IsLineOf, IsPolygonAlong, IsVertex, IsVertexOf, AreVertices, before_of, segment_end_of, error_of, moved}
 use Rattle.vertex_adjust.specs.Vertex.IsBefore.{by_error, by_length, by_height, by_side}
 use Rattle.vertex_adjust.specs.declared.line.Line.{Line}
 use Rattle.vertex_adjust.specs.declared.shift.Shift.{Shift}
@@ -183,8 +183,8 @@ before_below count (suc k) h = omega arith
 line_of_found : (points : List Point) (at : List ℕ) → AreOnPage points → IsPolygonAlong points at → (k : ℕ) → k < length at → (line : Line) × IsLineOf points at k line
 line_of_found points at on_page polygon k below =
     let segment = polygon.segments k below in
-    line_found (sums_of points (slice_index at k) (end_of points at k)) (point_at points (slice_index at k))
-    (segment_sums points on_page (slice_index at k) (end_of points at k) segment.onwards segment.steps)
+    line_found (sums_of points (slice_index at k) (segment_end_of points at k)) (point_at points (slice_index at k))
+    (segment_sums points on_page (slice_index at k) (segment_end_of points at k) segment.onwards segment.steps)
 
 vertex_of_found : (points : List Point) (at : List ℕ) → AreOnPage points → IsPolygonAlong points at → (k : ℕ) → k < length at → (a : Point) × IsVertexOf points at k a
 vertex_of_found points at on_page polygon k below =

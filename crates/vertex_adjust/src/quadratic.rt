@@ -67,7 +67,8 @@ fn distance(line: &Line, x: i64, y: i64) -> i64
     requires line { IsOverWidePage line.now }
     requires x { unsigned_abs x ≤ 2 ^ 25 }
     requires y { unsigned_abs y ≤ 2 ^ 25 }
-    ensures value { result ≡ line.now.nx *ℤ (x -ℤ line.now.cx) +ℤ line.now.ny *ℤ (y -ℤ line.now.cy) }
+    ensures value { result ≡ line.now.nx *ℤ (x -ℤ line.now.cx) +ℤ line.now.ny *ℤ
+        (y -ℤ line.now.cy) }
     ensures most { unsigned_abs result ≤ 2 ^ 41 }
 {
     line.nx * (x - line.cx) + line.ny * (y - line.cy)
@@ -214,7 +215,8 @@ fn rounded(size: u64, yy: u64) -> i64
     requires some { 1 ≤ yy }
     requires few { yy ≤ 2 ^ 25 }
     requires size { size ≤ 512 * yy }
-    ensures { IsRounded yy size (unsigned_abs result) × (pos 0 ≤ℤ result) }
+    ensures rounded { IsRounded yy size (unsigned_abs result) }
+    ensures least { pos 0 ≤ℤ result }
 {
     ((size + 8 * yy - 1) / (16 * yy)) as i64
 }

@@ -1,6 +1,6 @@
 //! Levels beside brightnesses that a person can compare.
-use threshold_map::level::Level;
 use std::test::Fail;
+use threshold_map::level::Level;
 
 #[test]
 fn gray_samples(rt: HostRuntime) -> Result<(), Fail> {

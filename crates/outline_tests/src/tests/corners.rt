@@ -97,7 +97,10 @@ fn to_and_fro(rt: HostRuntime) -> Result<(), Fail> {
     ];
     let sharp = smooth(rt.alloc(), &line, 1_333_333)?;
     let round = smooth(rt.alloc(), &line, 1_333_334)?;
-    assert_eq!(rt; (sharp.as_slice(), round.as_slice()), (corners.as_slice(), curves.as_slice()));
+    assert_eq!(rt;
+        (sharp.as_slice(), round.as_slice()),
+        (corners.as_slice(), curves.as_slice())
+    );
     Ok(())
 }
 

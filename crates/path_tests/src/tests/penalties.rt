@@ -55,7 +55,11 @@ fn penalties_round_rectangles(rt: HostRuntime) -> Result<(), Fail> {
         let points = round(rt.alloc(), width, height)?;
         assert!(rt; is_closed_walk(&points) && i < j && j < 100 && j as usize <= points.len());
         let moments = Moments::of(rt.alloc(), &points)?;
-        assert_eq!(rt; moments.penalty(i, j), penalty, "{width} by {height}: {i} to {j}");
+        assert_eq!(rt;
+            moments.penalty(i, j),
+            penalty,
+            "{width} by {height}: {i} to {j}"
+        );
     }
     Ok(())
 }

@@ -25,7 +25,11 @@ fn round_rectangles(rt: HostRuntime) -> Result<(), Fail> {
         let points = round(rt.alloc(), width, height)?;
         assert!(rt; is_closed_walk(&points));
         let best = polygon(rt.alloc(), &points)?;
-        assert_eq!(rt; (best.at.as_slice(), best.cost), (at, cost), "{width} by {height}");
+        assert_eq!(rt;
+            (best.at.as_slice(), best.cost),
+            (at, cost),
+            "{width} by {height}"
+        );
     }
     Ok(())
 }
@@ -42,7 +46,11 @@ fn best_of_all_polygons(rt: HostRuntime) -> Result<(), Fail> {
                 let polygon = polygon(rt.alloc(), points)?;
                 let listed = bits_of(polygon.at.as_slice());
                 let (vertices, cost) = best(points);
-                assert_eq!(rt; (listed, polygon.cost), (vertices, u128::from(cost)), "page {number}");
+                assert_eq!(rt;
+                    (listed, polygon.cost),
+                    (vertices, u128::from(cost)),
+                    "page {number}"
+                );
                 found = found.wrapping_add(1);
             }
         }

@@ -49,7 +49,11 @@ fn possible_round_rectangles(rt: HostRuntime) -> Result<(), Fail> {
         let points = round(rt.alloc(), width, height)?;
         assert!(rt; is_closed_walk(&points) && (i as usize) < points.len() && i < j);
         let reach = Reach::of(rt.alloc(), &points)?;
-        assert_eq!(rt; reach.possible(i, j), wanted, "{width} by {height}: {i} to {j}");
+        assert_eq!(rt;
+            reach.possible(i, j),
+            wanted,
+            "{width} by {height}: {i} to {j}"
+        );
     }
     Ok(())
 }

@@ -92,7 +92,11 @@ fn show(page: &Bitmap, text: &mut String) -> Result<(), Fail> {
 /// Appends a row, `#` for a black pixel.
 fn show_row(page: &Bitmap, y: u32, text: &mut String) -> Result<(), Fail> {
     for x in 0..page.width() {
-        text.push(if page.get(i64::from(x), i64::from(y)) { '#' } else { '.' })?;
+        text.push(if page.get(i64::from(x), i64::from(y)) {
+            '#'
+        } else {
+            '.'
+        })?;
     }
     text.push('/')?;
     Ok(())

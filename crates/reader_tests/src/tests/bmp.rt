@@ -88,19 +88,19 @@ pub(super) fn picture(alloc: Global, form: &Form, behind: &[&[u8]]) -> Result<Ve
     Ok(bytes)
 }
 
-// Black is colour 0, and white colour 1.
+/// Black is colour 0, and white colour 1.
 pub(super) const PALETTE: &[u8] = b"\0\0\0\0\xff\xff\xff\0";
 
-// The rows of the picture with one bit, and bits past the width.
+/// The rows of the picture with one bit, and bits past the width.
 pub(super) const LOW: &[u8] = b"\xbf\x55\x55\x55";
 
 const HIGH: &[u8] = b"\x5f\x55\x55\x55";
 
-// #.#
-// .#.
+/// #.#
+/// .#.
 const CHECKERS: &str = "#.#/.#./ end";
 
-// The same picture upside down.
+/// The same picture upside down.
 const TURNED: &str = ".#./#.#/ end";
 
 /// A picture of two rows, with unused bytes behind the first colours of its palette.
@@ -204,7 +204,7 @@ fn colors_at_the_level(rt: HostRuntime) -> Result<(), Fail> {
     Ok(())
 }
 
-// One by two pixels of 24 bits, from the top: black above white.
+/// One by two pixels of 24 bits, from the top: black above white.
 const TWO_HIGH: &[u8] =
     b"BM\x3e\0\0\0\0\0\0\0\x36\0\0\0\x28\0\0\0\x01\0\0\0\xfe\xff\xff\xff\x01\0\x18\0\0\0\0\0\x08\0\0\0\0\0\0\0\0\0\0\0\0\0\0\0\0\0\0\0\0\0\0\0\xff\xff\xff\0";
 

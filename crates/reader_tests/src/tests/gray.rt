@@ -4,8 +4,8 @@ use pt_base::mem_inputs::InCall;
 use std::test::Fail;
 use threshold_map::level::Level;
 
-// #.#
-// .#.
+/// #.#
+/// .#.
 const CHECKERS: &str = "#.#/.#./ end";
 
 #[test]
@@ -73,14 +73,7 @@ fn inverted_pages(rt: HostRuntime) -> Result<(), Fail> {
         (b"P5 2 1 65535\n\x7f\xff\x80\x00", ".#/ end"),
     ];
     for (bytes, text) in table {
-        let told = answers(
-            rt.alloc(),
-            bytes,
-            65536,
-            &[],
-            &half(),
-            true,
-        )?;
+        let told = answers(rt.alloc(), bytes, 65536, &[], &half(), true)?;
         assert_eq!(rt; told.as_str(), text, "{bytes:?}");
     }
     Ok(())
@@ -132,14 +125,7 @@ fn failing_reads_of_gray_pages(rt: HostRuntime) -> Result<(), Fail> {
     ];
     for (bytes, k, text) in table {
         let fails = [InCall::Read(k as u64)];
-        let told = answers(
-            rt.alloc(),
-            bytes,
-            1,
-            &fails,
-            &half(),
-            false,
-        )?;
+        let told = answers(rt.alloc(), bytes, 1, &fails, &half(), false)?;
         assert_eq!(rt; told.as_str(), text, "read {k} of {bytes:?} fails");
     }
     Ok(())
@@ -152,14 +138,7 @@ fn long_samples(rt: HostRuntime) -> Result<(), Fail> {
         for _ in 0..n {
             bytes.push(b'0')?;
         }
-        let told = answers(
-            rt.alloc(),
-            &bytes,
-            65536,
-            &[],
-            &half(),
-            false,
-        )?;
+        let told = answers(rt.alloc(), &bytes, 65536, &[], &half(), false)?;
         assert_eq!(rt; told.as_str(), text, "{n} digits");
     }
     Ok(())

@@ -83,7 +83,10 @@ fn split(alloc: Global, text: &str) -> Result<Vec<String>, Fail> {
 /// The run ended so, with these documents, all of them whole, and this message.
 pub fn expect(rt: &impl Abort, done: &Done, status: u8, documents: &[&str], message: &str) {
     let count = done.outs.count() as usize;
-    assert_eq!(rt; (done.errs.text(), done.status), (message.as_bytes(), status));
+    assert_eq!(rt;
+        (done.errs.text(), done.status),
+        (message.as_bytes(), status)
+    );
     assert_eq!(rt; count, documents.len(), "{message:?}");
     for (i, text) in documents.iter().enumerate() {
         if i < count {

@@ -16,7 +16,11 @@ fn failing_reads(rt: HostRuntime) -> Result<(), Fail> {
     let table: [(InCall, &[&str], &str); 3] = [
         (InCall::Open(1), &[], "potrace: -: cannot be opened\n"),
         (InCall::Read(1), &[], "potrace: -: page 1: read fault\n"),
-        (InCall::Read(2), &[pixel], "potrace: -: page 2: read fault\n"),
+        (
+            InCall::Read(2),
+            &[pixel],
+            "potrace: -: page 2: read fault\n",
+        ),
     ];
     for (unread, documents, said) in table {
         let unread = [unread];

@@ -57,7 +57,10 @@ fn pages_have_a_limit(rt: HostRuntime) -> Result<(), Fail> {
     }
     let done = Case::new("-b points -z left -t 2", &input).run(&rt, rt.alloc())?;
     let said = b"potrace: -: page 65537: too many pages\n".as_slice();
-    assert_eq!(rt; (done.status, done.outs.count(), done.errs.text()), (2, 65_536, said));
+    assert_eq!(rt;
+        (done.status, done.outs.count(), done.errs.text()),
+        (2, 65_536, said)
+    );
     Ok(())
 }
 

@@ -1,10 +1,6 @@
-use Rattle.std.proofs.Common.{◌<◌, ◌≤◌, ℕ, List, length, arith, subst}
-use Rattle.std.specs.Result.{IfOk}
-use Rattle.std.proofs.Common.{Result, Ok, Err}
-use Rattle.pt_base.specs.declared.point.Point.{Point}
-use Rattle.pt_base.specs.declared.fault.NoMemory.{NoMemory}
-use Rattle.vertex_adjust.specs.Vertex.{AreVertices}
-use Rattle.page_trace.proofs.Segments.{is_polygon, two_segments}
+use Rattle.std.proofs.Common.{◌<◌, length, arith}
+use Rattle.page_trace.proofs.Segments.{as_many_at_most, is_polygon, two_segments}
+use Rattle.polygon_optimal.specs.Polygon.{IsSegment}
 use Rattle.page_trace.proofs.Zipping.{polygon_of}
 use Rattle.page_trace.proofs.fitting.fit.Goals as goal
 
@@ -20,3 +16,10 @@ returns-clause-some c =
     let of_path = polygon_of c.args.path.now c.as_slice-points.result.now c.in_ok-best.best c.as_slice-points.ensures c.in_ok-best.ensures.best c.in_ok-best.ensures.cost in
     let two = two_segments c.args.path.now.points c.in_ok-best.best.at some of_path.best.is_walk in
     omega (arith, two, c.in_ok-adjusted.ensures.vertices.count)
+
+pub returns-clause-most : goal.returns-clause-most
+returns-clause-most c =
+    let of_path = polygon_of c.args.path.now c.as_slice-points.result.now c.in_ok-best.best c.as_slice-points.ensures c.in_ok-best.ensures.best c.in_ok-best.ensures.cost in
+    let few = as_many_at_most (length c.args.path.now.points) (IsSegment c.args.path.now.points) c.in_ok-best.best.at of_path.best.is_walk in
+    let most = c.requires.closed.most in
+    omega (arith, few, most, c.in_ok-adjusted.ensures.vertices.count)

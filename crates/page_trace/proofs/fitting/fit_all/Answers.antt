@@ -1,4 +1,4 @@
-use Rattle.std.proofs.Common.{◌≤◌, length}
+use Rattle.std.proofs.Common.{◌≤◌, ◌^◌, length}
 use Rattle.std.specs.List.{All}
 use Rattle.std.proofs.lemmas.List.Elements.{All-push}
 use Rattle.corner_smooth.specs.Corner.{IsNearWidePage}
@@ -17,4 +17,5 @@ loop-path-preserved c =
           c.loop-path-test.true c.path-item.is so_far.polygons c.in_ok-push.ensures.items so_far.vertices c.in_ok-best.ensures.vertices c.in_ok-push-2.ensures.items;
       near = rw c.in_ok-push-2.ensures.items (All-push (All IsNearWidePage) c.loop-path.vertices.items adjusted so_far.near c.in_ok-best.ensures.near);
       some = rw c.in_ok-push-2.ensures.items (All-push (λ one. 2 ≤ length one) c.loop-path.vertices.items adjusted so_far.some c.in_ok-best.ensures.some);
+      most = rw c.in_ok-push-2.ensures.items (All-push (λ one. length one ≤ 2 ^ 31) c.loop-path.vertices.items adjusted so_far.most c.in_ok-best.ensures.most);
     }

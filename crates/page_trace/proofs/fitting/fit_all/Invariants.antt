@@ -1,6 +1,6 @@
 use Rattle.std.proofs.Common.{length, take, zip}
 use Rattle.std.specs.List.{All, AllZip}
-use Rattle.std.specs.Prelude.{◌≤◌}
+use Rattle.std.specs.Prelude.{◌≤◌, ◌^◌}
 use Rattle.corner_smooth.specs.Corner.{IsNearWidePage}
 use Rattle.page_trace.specs.Trace.{AreVerticesOf, IsPolygonOf}
 use Rattle.page_trace.proofs.fitting.fit_all.Given as goal
@@ -12,4 +12,5 @@ invariant-loop-path l = record {
   vertices : AllZip AreVerticesOf (zip (take l.path-index l.paths) l.polygons.items) l.vertices.items;
   near : All (All IsNearWidePage) l.vertices.items;
   some : All (λ one. 2 ≤ length one) l.vertices.items;
+  most : All (λ one. length one ≤ 2 ^ 31) l.vertices.items;
 }

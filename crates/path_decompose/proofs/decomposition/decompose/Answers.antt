@@ -1,14 +1,30 @@
 -- Each start comes after the one before, and each path is the next one; at the end all is white.
-use Rattle.std.proofs.Common.{◌≡◌, ◌∙◌, ◌<◌, ◌+◌, ◌-◌, ◌*◌, sym, subst, arith}
+use Rattle.std.proofs.Common.{◌≡◌, ◌∙◌, ◌<◌, ◌≤◌, ◌+◌, ◌-◌, ◌*◌, ap, sym, subst, arith}
 use Rattle.bit_image.specs.FirstBlack.{IsFirstBlack}
 use Rattle.bit_image.specs.Image.{Fits}
-use Rattle.bit_image.specs.Page.{SameSides, image_of}
+use Rattle.bit_image.specs.Page.{Page, SameSides, image_of}
 use Rattle.path_decompose.specs.Start.{IsStart}
 use Rattle.path_decompose.proofs.PathOn.{page_paths_on}
 use Rattle.path_decompose.proofs.Prefix.{decomposed_push, decomposed_at_end}
 use Rattle.path_decompose.proofs.Sums.{even_odd, edges_once}
-use Rattle.path_decompose.proofs.Scan.{places_left, places_left_fall}
+use Rattle.path_decompose.proofs.Scan.{places_left, places_left_le, places_left_fall, start_from}
 use Rattle.path_decompose.proofs.decomposition.decompose.Goals as goal
+
+pub paths-init : goal.paths-init
+paths-init c =
+    let rest = c.in_ok-rest.rest in
+    let start = start_from (image_of rest) rest.width rest.height (c.height.result - 1) c.first_black-start.result c.height.ensures.fits (omega (arith, c.height.ensures.value))
+    c.first_black-start.ensures.none c.first_black-start.ensures.first in
+    record {
+      sides = record { width = ap (λ (p : Page). p.width) c.in_ok-rest.ensures; height = ap (λ (p : Page). p.height) c.in_ok-rest.ensures };
+      fits = c.height.ensures.fits;
+      start = start;
+      paths = rw c.new-paths.ensures.items (ap image_of (sym c.in_ok-rest.ensures));
+      few =
+          let few = places_left_le (image_of rest) rest.width rest.height c.first_black-start.result c.height.ensures.fits start in
+          let on_page = subst (λ (p : Page). places_left p.width c.first_black-start.result ≤ p.width * p.height) c.in_ok-rest.ensures few in
+          omega (arith, on_page, c.new-paths.ensures.len);
+    }
 
 pub paths-smaller : goal.paths-smaller
 paths-smaller c =

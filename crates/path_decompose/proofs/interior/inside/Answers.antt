@@ -3,7 +3,7 @@ use Rattle.std.proofs.Common.{◌∙◌, ap, sym}
 use Rattle.bit_image.specs.Image.{differ}
 use Rattle.path_decompose.specs.Inside.{lines_of, is_crossed}
 use Rattle.path_decompose.proofs.Differ.{not-beq, differ-false, differ_assoc}
-use Rattle.path_decompose.proofs.Flips.{lines_to-drop, lines_to-end}
+use Rattle.path_decompose.proofs.Corners.{lines_to-drop, lines_to-end}
 use Rattle.path_decompose.proofs.Parity.{odd_by, is_odd-count}
 use Rattle.path_decompose.proofs.interior.inside.Goals as goal
 

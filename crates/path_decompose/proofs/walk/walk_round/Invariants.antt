@@ -9,7 +9,7 @@ use Rattle.path_decompose.proofs.walk.walk_round.Given as goal
 abbrev pub invariant-steps : goal.invariant-steps
 invariant-steps l =
     record {
-      part : IsPartWalk (next (image_of l.page) l.policy l.sign) (first_edge l.x l.y) l.width (vec_len l.points) l.points.items l.down l.up l.here;
+      part : IsPartWalk (next (image_of l.page) l.policy l.sign) (first_edge l.x l.y) (vec_len l.points) l.points.items l.here;
       boundary : IsBoundary (image_of l.page) l.here;
     }
 

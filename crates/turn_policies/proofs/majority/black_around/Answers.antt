@@ -1,13 +1,16 @@
--- All columns together are the ring.
-use Rattle.std.proofs.Common.{◌≡◌, ◌*◌, ◌∙◌, ap, arith, ◌+◌, ◌&&◌}
-use Rattle.bit_image.specs.Page.{image_of}
-use Rattle.turn_policies.specs.Majority.{behind, is_rim, count_below, sum_below, black_in_ring}
+-- The ones under each mask.
+use Rattle.std.proofs.Common.{◌≡◌, sym, ap, ◌∙◌, arith}
+use Rattle.turn_policies.specs.Majority.{black_in_ring}
+use Rattle.turn_policies.proofs.Ring.{ones_2, ones_3, ones_4}
 use Rattle.turn_policies.proofs.majority.black_around.Goals as goal
 
-pub returns : goal.returns
-unfolding black_in_ring
-returns c =
-    let a = c.args in
-    let all : c.loop-column.column ≡ 2 * a.radius = omega arith in
-    c.loop-column.invariant.counted
-    ∙ ap (λ n. sum_below n (λ i. count_below (2 * a.radius) (λ j. is_rim (2 * a.radius) i j && behind (image_of a.page.now) a.radius (a.x + i) (a.y + j)))) all
+pub returns-in-2 : goal.returns-in-2
+returns-in-2 c = λ b x y square. ones_2 c.args.pixels b x y c.ranges.pixels.fits square ∙ ap (black_in_ring b x y) (sym c.in-2.is)
+
+pub returns-in-3 : goal.returns-in-3
+returns-in-3 c = λ b x y square. ones_3 c.args.pixels b x y c.ranges.pixels.fits square ∙ ap (black_in_ring b x y) (sym c.in-3.is)
+
+pub returns-in_default : goal.returns-in_default
+returns-in_default c = λ b x y square.
+    let last : 4 ≡ c.args.radius = omega arith in
+    ones_4 c.args.pixels b x y c.ranges.pixels.fits square ∙ ap (black_in_ring b x y) last

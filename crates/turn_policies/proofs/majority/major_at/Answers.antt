@@ -18,7 +18,7 @@ returns-then-black-white c =
     let size = ring_size page c.args.x c.args.y r (omega arith) (omega arith) in
     let white : 8 * r - 4 - c.black_around-black.result ≡ white_in_ring page c.args.x c.args.y r = omega (arith, size) in
     ap (λ n. nat_lt n c.black_around-black.result) white
-    ∙ ap (nat_lt (white_in_ring page c.args.x c.args.y r)) c.black_around-black.ensures
+    ∙ ap (nat_lt (white_in_ring page c.args.x c.args.y r)) (c.black_around-black.ensures (image_of c.args.page.now) c.args.x c.args.y c.square-pixels.ensures)
     ∙ sym (major-at page c.args.x c.args.y r (omega arith) (omega arith) c.loop-radius.invariant (λ e. c.if-black-white.true (omega (arith, size))))
 
 pub loop-radius-preserved : goal.loop-radius-preserved

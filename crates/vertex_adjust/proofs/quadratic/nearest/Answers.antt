@@ -6,15 +6,15 @@ use Rattle.vertex_adjust.proofs.quadratic.nearest.Goals as goal
 
 pub returns-then-aim-lt0 : goal.returns-then-aim-lt0
 returns-then-aim-lt0 c =
-    let is = c.rounded-size.ensures.0 in
+    let is = c.rounded-size.ensures.rounded in
     let few = is.few in
-    let least = c.rounded-size.ensures.1 in
+    let least = c.rounded-size.ensures.least in
     nearest_below c.args.yy c.args.aim c.rounded-size.result _ _ _ (omega (arith, ints)) (omega (arith, ints)) (omega (arith, ints)) is least (omega (arith, ints))
 
 pub returns-else-aim-lt0 : goal.returns-else-aim-lt0
 returns-else-aim-lt0 c =
-    let is = c.rounded-size.ensures.0 in
+    let is = c.rounded-size.ensures.rounded in
     let few = is.few in
-    let least = c.rounded-size.ensures.1 in
+    let least = c.rounded-size.ensures.least in
     let same : to_z w64 (of_z w64 c.rounded-size.result) ≡ c.rounded-size.result = back c.rounded-size.result (omega arith) in
     rw same (nearest_above c.args.yy c.args.aim c.rounded-size.result _ _ (omega (arith, ints)) (omega (arith, ints)) (omega (arith, ints)) is least)

@@ -1,0 +1,13 @@
+use Rattle.std.proofs.Common.{◌≡◌, ◌+◌, ℕ, ℤ, pos, ◌≤ℤ◌, w64, to_z, of_z, subst, arith}
+use Rattle.curve_join.specs.Cubic.{quadratic}
+use Rattle.curve_join.proofs.Crossing.{quadratic_back}
+use Rattle.curve_join.proofs.touch.last_above.Goals as goal
+
+pub returns-clause-behind : goal.returns-clause-behind
+returns-clause-behind c =
+    let r = c.requires in
+    let apart = c.loop-low.invariant.apart in
+    let next : c.loop-low.high ≡ c.loop-low.low + 1 = (let h = c.loop-low-test.false in omega arith) in
+    let P : ℤ → Type 0 = λ z. z ≤ℤ pos 0 in
+    subst P (quadratic_back (c.loop-low.low + 1) c.args.a c.args.b c.args.c r.a r.b r.c)
+    (subst (λ n. quadratic n (to_z w64 (of_z w64 c.args.a)) (to_z w64 (of_z w64 c.args.b)) (to_z w64 (of_z w64 c.args.c)) ≤ℤ pos 0) next c.loop-low.invariant.behind)

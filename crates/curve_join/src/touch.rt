@@ -1,0 +1,170 @@
+//! Where a line of some direction touches a curve.
+ghost use Rattle.std.specs.Prelude.{◌≡◌, ◌≤◌, ◌<◌, ◌+◌, ◌*◌, ◌-◌, ◌^◌, ℤ, pos, ◌+ℤ◌, ◌*ℤ◌, ◌<ℤ◌, ◌≤ℤ◌, unsigned_abs};
+ghost use Rattle.curve_join.specs.Cubic.{LiesWithin, quadratic, slant_at, touching_of, touching_part};
+ghost use Rattle.curve_join.specs.Least.{IsFirstLeast, least_at};
+ghost use Rattle.curve_join.specs.Vector.{IsPlaced, IsWithin};
+
+use crate::cubic::Cubic;
+use crate::sense::Sense;
+use crate::vector::{Vector, cross, way};
+use pt_base::point::Point;
+
+/// The part of the curve, in 64ths, where it goes along most with this direction: where the cross product of
+/// both is nearest to 0, and the first of several such parts.
+pub fn touching(cubic: &Cubic, direction: Vector) -> u32
+    requires cubic { LiesWithin (2 ^ 29) cubic.now }
+    requires direction { IsWithin (2 ^ 27) direction }
+    ensures value { result ≡ touching_part cubic.now direction }
+    ensures least { IsFirstLeast (slant_at cubic.now direction) 64 result }
+{
+    let a = cross(direction, way(cubic.start, cubic.first));
+    let b = cross(direction, way(cubic.first, cubic.second));
+    let c = cross(direction, way(cubic.second, cubic.end));
+    least_part(a, b, c)
+}
+
+/// Where a line of this direction touches the curve.
+pub(crate) fn touched(cubic: &Cubic, direction: Vector) -> Point
+    requires cubic { LiesWithin (2 ^ 29) cubic.now }
+    requires direction { IsWithin (2 ^ 27) direction }
+    ensures value { result ≡ touching_of cubic.now direction }
+    ensures near { IsPlaced (2 ^ 29) result }
+{
+    cubic.place(touching(cubic, direction))
+}
+
+/// The u from 0 to 64 at which the quadratic of these coefficients is nearest to 0, and the first of several.
+fn least_part(a: i64, b: i64, c: i64) -> u32
+    requires a { unsigned_abs a ≤ 2 ^ 58 }
+    requires b { unsigned_abs b ≤ 2 ^ 58 }
+    requires c { unsigned_abs c ≤ 2 ^ 58 }
+    ensures value { result ≡ least_at (λ u. unsigned_abs (quadratic u a b c)) 64 }
+    ensures within { result ≤ 64 }
+{
+    if a == 0 {
+        return 0;
+    }
+    let sense = Sense::of(a);
+    let end = sense.towards(c);
+    if 0 <= end {
+        return tried(a, b, c);
+    }
+    halved(sense.towards(a), sense.towards(b), end)
+}
+
+/// The same, by looking at each.
+fn tried(a: i64, b: i64, c: i64) -> u32
+    requires a { unsigned_abs a ≤ 2 ^ 58 }
+    requires b { unsigned_abs b ≤ 2 ^ 58 }
+    requires c { unsigned_abs c ≤ 2 ^ 58 }
+    ensures value { result ≡ least_at (λ u. unsigned_abs (quadratic u a b c)) 64 }
+    ensures within { result ≤ 64 }
+{
+    let mut best = 0;
+    let mut least = size(0, a, b, c);
+    for u in 0..64u32 {
+        let next = size(u + 1, a, b, c);
+        if next < least {
+            least = next;
+            best = u + 1;
+        }
+    }
+    best
+}
+
+/// The same, where the quadratic begins above 0 and ends below.
+//
+// Then it changes its sign once. Where it is concave, it is least at an end of the stretch that lies above 0, and
+// below 0 it falls from the change on. Where it is convex, it falls up to the change, and below 0 it is nearest
+// to 0 at an end of that stretch.
+fn halved(a: i64, b: i64, c: i64) -> u32
+    requires a { unsigned_abs a ≤ 2 ^ 58 }
+    requires b { unsigned_abs b ≤ 2 ^ 58 }
+    requires c { unsigned_abs c ≤ 2 ^ 58 }
+    requires above { pos 0 <ℤ a }
+    requires below { c <ℤ pos 0 }
+    ensures value { result ≡ least_at (λ u. unsigned_abs (quadratic u a b c)) 64 }
+    ensures within { result ≤ 64 }
+{
+    let last = last_above(a, b, c);
+    let before = nearer(a, b, c, 0, last);
+    let behind = nearer(a, b, c, last + 1, 64);
+    nearer(a, b, c, before, behind)
+}
+
+/// A number at which the quadratic is above 0 and behind which it isn't.
+fn last_above(a: i64, b: i64, c: i64) -> u32
+    requires a { unsigned_abs a ≤ 2 ^ 58 }
+    requires b { unsigned_abs b ≤ 2 ^ 58 }
+    requires c { unsigned_abs c ≤ 2 ^ 58 }
+    requires start { pos 0 <ℤ quadratic 0 a b c }
+    requires end { quadratic 64 a b c ≤ℤ pos 0 }
+    ensures within { result < 64 }
+    ensures above { pos 0 <ℤ quadratic result a b c }
+    ensures behind { quadratic (result + 1) a b c ≤ℤ pos 0 }
+{
+    let mut low = 0;
+    let mut high = 64;
+    while low + 1 < high {
+        let middle = (low + high) / 2;
+        if 0 < value(middle, a, b, c) {
+            low = middle;
+        } else {
+            high = middle;
+        }
+    }
+    low
+}
+
+/// The one of two numbers at which the quadratic is nearer to 0, and the first where both are as near.
+fn nearer(a: i64, b: i64, c: i64, u: u32, v: u32) -> u32
+    requires a { unsigned_abs a ≤ 2 ^ 58 }
+    requires b { unsigned_abs b ≤ 2 ^ 58 }
+    requires c { unsigned_abs c ≤ 2 ^ 58 }
+    requires u { u ≤ 64 }
+    requires v { v ≤ 64 }
+    ensures second { unsigned_abs (quadratic v a b c) < unsigned_abs (quadratic u a b c) → result ≡ v }
+    ensures first { unsigned_abs (quadratic u a b c) ≤ unsigned_abs (quadratic v a b c) → result ≡ u }
+    ensures within { result ≤ 64 }
+{
+    if size(v, a, b, c) < size(u, a, b, c) {
+        v
+    } else {
+        u
+    }
+}
+
+/// How far the quadratic of these coefficients is from 0 at u / 64.
+fn size(u: u32, a: i64, b: i64, c: i64) -> u128
+    requires u { u ≤ 64 }
+    requires a { unsigned_abs a ≤ 2 ^ 58 }
+    requires b { unsigned_abs b ≤ 2 ^ 58 }
+    requires c { unsigned_abs c ≤ 2 ^ 58 }
+    ensures value { result ≡ unsigned_abs (quadratic u a b c) }
+    ensures most { result ≤ 2 ^ 72 }
+{
+    value(u, a, b, c).unsigned_abs()
+}
+
+/// The quadratic of these coefficients at u / 64.
+fn value(u: u32, a: i64, b: i64, c: i64) -> i128
+    requires u { u ≤ 64 }
+    requires a { unsigned_abs a ≤ 2 ^ 58 }
+    requires b { unsigned_abs b ≤ 2 ^ 58 }
+    requires c { unsigned_abs c ≤ 2 ^ 58 }
+    ensures value { result ≡ quadratic u a b c }
+    ensures most { unsigned_abs result ≤ 2 ^ 72 }
+{
+    let r = 64 - u;
+    part(r * r, a) + part(2 * u * r, b) + part(u * u, c)
+}
+
+/// A coefficient, weighted.
+fn part(weight: u32, coefficient: i64) -> i128
+    requires weight { weight ≤ 2 ^ 12 }
+    requires coefficient { unsigned_abs coefficient ≤ 2 ^ 58 }
+    ensures value { result ≡ pos weight *ℤ coefficient }
+    ensures most { unsigned_abs result ≤ 2 ^ 70 }
+{
+    i128::from(weight) * i128::from(coefficient)
+}

@@ -1,0 +1,25 @@
+-- Each is a lemma.
+use Rattle.std.proofs.Common.{refl}
+use Rattle.bit_image.specs.Page.{image_of}
+use Rattle.bit_image.proofs.Pages.{Fits-page}
+use Rattle.path_decompose.proofs.PathOn.{page_paths_on}
+use Rattle.path_decompose.proofs.Sums.{even_odd, edges_once}
+use Rattle.path_decompose.proofs.laws.decompositions_come_to_the_page.Goals as goal
+
+pub returns-clause-closed : goal.returns-clause-closed
+returns-clause-closed c = λ page policy paths is_page d k path short.
+    (page_paths_on page page policy paths refl is_page (Fits-page page is_page) d k path short).closed
+
+pub returns-clause-corners : goal.returns-clause-corners
+returns-clause-corners c = λ page policy paths is_page d k path short.
+    (page_paths_on page page policy paths refl is_page (Fits-page page is_page) d k path short).on_page
+
+pub returns-clause-starts : goal.returns-clause-starts
+returns-clause-starts c = λ page policy paths is_page d k path short.
+    (page_paths_on page page policy paths refl is_page (Fits-page page is_page) d k path short).starts_above
+
+pub returns-clause-even_odd : goal.returns-clause-even_odd
+returns-clause-even_odd c = λ page policy paths d. even_odd page policy (image_of page) paths d
+
+pub returns-clause-edges_once : goal.returns-clause-edges_once
+returns-clause-edges_once c = λ page policy paths d. edges_once page policy (image_of page) paths d

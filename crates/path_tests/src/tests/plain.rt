@@ -1,0 +1,77 @@
+//! The plain program: the paths of a page of one entry a pixel under the turn policy `right`.
+
+use bit_image::bitmap::Bitmap;
+use page_samples::plain_page::PlainPage;
+use std::alloc::Global;
+use std::test::Fail;
+
+/// The start, the number of points and the area of each path, where each choice is a turn to the right.
+pub fn paths_to_the_right(
+    alloc: Global,
+    page: &Bitmap,
+) -> Result<Vec<(usize, usize, usize, usize)>, Fail> {
+    let mut rest = PlainPage::of(alloc, page)?;
+    let mut paths = Vec::new(alloc);
+    // Each path has a start of its own.
+    for _ in 0..rest.size() {
+        let Some((x, y)) = rest.first_black() else {
+            break;
+        };
+        let (length, area) = take_path(alloc, &mut rest, x, y)?;
+        paths.push((x, y.saturating_add(1), length, area))?;
+    }
+    Ok(paths)
+}
+
+/// Walks once round from the first black pixel, and inverts each row from each upright line on.
+fn take_path(
+    alloc: Global,
+    rest: &mut PlainPage,
+    x: usize,
+    y: usize,
+) -> Result<(usize, usize), Fail> {
+    let lines = walk(alloc, rest, x, y)?;
+    let before = rest.copy()?;
+    for line in &lines {
+        if let Some((column, row)) = *line {
+            let width = rest.width;
+            rest.flip_span(row, column, width);
+        }
+    }
+    let area = rest.differing(&before);
+    Ok((lines.len(), area))
+}
+
+/// The lines of the walk from pixel (x, y), each with its place where it is upright.
+fn walk(
+    alloc: Global,
+    page: &PlainPage,
+    x: usize,
+    y: usize,
+) -> Result<Vec<Option<(usize, usize)>>, Fail> {
+    let mut lines = Vec::new(alloc);
+    let (mut column, mut row, mut heading) = (x, y.saturating_add(1), 2u8);
+    for _ in 0..page.size().saturating_mul(4) {
+        let upright = match heading {
+            0 => Some((column, row)),
+            2 => Some((column, row.saturating_sub(1))),
+            _ => None,
+        };
+        lines.push(upright)?;
+        match heading {
+            0 => row = row.saturating_add(1),
+            1 => column = column.saturating_add(1),
+            2 => row = row.saturating_sub(1),
+            _ => column = column.saturating_sub(1),
+        }
+        heading = match page.ahead(column, row, heading) {
+            (true, false) => heading,
+            (_, true) => heading.wrapping_add(1) % 4,
+            (false, false) => heading.wrapping_add(3) % 4,
+        };
+        if (column, row, heading) == (x, y.saturating_add(1), 2) {
+            break;
+        }
+    }
+    Ok(lines)
+}

@@ -1,0 +1,64 @@
+//! The pixels around a corner, in one word.
+ghost use Rattle.std.specs.Prelude.{◌≡◌, ℕ, ◌+◌, ◌≤◌, ◌<◌, ◌^◌, ◌∷◌, slice_index_or};
+ghost use Rattle.bit_image.specs.Page.{image_of};
+ghost use Rattle.bit_image.specs.Words.{is_one, black_in};
+ghost use Rattle.turn_policies.specs.Majority.{behind};
+ghost use Rattle.turn_policies.specs.Square.{IsSquare};
+
+use bit_image::bitmap::Bitmap;
+
+/// The square of 64 pixels with corner (x, y) at its middle: bits 0 to 7 are its lowest row from the
+/// left, bits 8 to 15 the next one, and so on.
+pub fn square(page: &Bitmap, x: u32, y: u32) -> u64
+    requires x { x ≤ 32767 }
+    requires y { y ≤ 32767 }
+    ensures { IsSquare result (image_of page.now) x y }
+{
+    let mut pixels = 0;
+    for j in 0..8 {
+        pixels |= row_behind(page, x, y + j) << (8 * j);
+    }
+    pixels
+}
+
+/// The 8 pixels 4 rows below row `y`, from 4 columns left of column `x` on.
+fn row_behind(page: &Bitmap, x: u32, y: u32) -> u64
+    requires { x ≤ 32767 }
+    ensures pixels { (i : ℕ) → i < 8 → is_one result i ≡ behind (image_of page.now) 4 (x + i) y }
+    ensures small { result < 2 ^ 8 }
+{
+    // Below row 0 this goes round to the greatest numbers, above any page.
+    let row = y.wrapping_sub(4);
+    if row >= page.height() {
+        return 0;
+    }
+    eight(page.row_words(row), x + 60)
+}
+
+/// The 8 pixels from column `from` on of a row with a white word in front.
+fn eight(row: &[u64], from: u32) -> u64
+    requires { from ≤ 65535 }
+    ensures pixels { (i : ℕ) → i < 8 → is_one result i ≡ black_in (0 ∷ row.now) (from + i) }
+    ensures small { result < 2 ^ 8 }
+{
+    let at = from as usize / 64;
+    let first = word(row, at) >> (from % 64);
+    if from % 64 <= 56 {
+        first & 0xFF
+    } else {
+        (first | word(row, at + 1) << (64 - from % 64)) & 0xFF
+    }
+}
+
+/// A word of a row with a white word in front.
+fn word(row: &[u64], at: usize) -> u64
+    ensures { result ≡ slice_index_or (0 ∷ row.now) at 0 }
+{
+    if at == 0 {
+        return 0;
+    }
+    match row.get(at - 1) {
+        Some(word) => *word,
+        None => 0,
+    }
+}

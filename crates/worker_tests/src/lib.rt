@@ -1,0 +1,5 @@
+//! Tests of pages that workers share.
+#![tactic(auto)]
+
+#[cfg(test)]
+mod tests;
