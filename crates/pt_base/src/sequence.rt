@@ -1,6 +1,7 @@
 //! A list of values.
-ghost use Rattle.std.specs.Prelude.{◌≡◌};
+ghost use Rattle.std.specs.Prelude.{[], ◌≡◌, ◌∷◌, ◌++◌, OnOk};
 
+use crate::fault::NoMemory;
 use std::marker::Model;
 
 /// Values in order, such as the points of a path or the polygons of a page. Contracts see the list.
@@ -28,6 +29,16 @@ impl<T> Sequence<T> {
         ensures { result.items ≡ self }
     {
         self.items
+    }
+
+    /// Puts a value behind the others.
+    pub fn push(&mut self, value: T) -> Result<(), NoMemory>
+    where
+        T: Drop,
+        ensures { OnOk result (self.new ≡ self.old ++ value ∷ []) }
+    {
+        self.items.push(value)?;
+        Ok(())
     }
 
     pub fn as_slice(&self) -> &[T]

@@ -1,0 +1,3 @@
+pub mod Chords
+pub mod DxfText
+pub mod GeoJsonText

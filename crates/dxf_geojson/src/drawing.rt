@@ -1,0 +1,79 @@
+//! A page as a drawing of AutoCAD's interchange format.
+ghost use Rattle.std.specs.Prelude.{◌≡◌, ◌++◌, flat_map, IfOk, OnOk};
+ghost use Rattle.dxf_geojson.specs.DxfText.{all_but_last, dxf_text, polyline_text, vertex_text};
+
+use crate::chords::gather_chords;
+use crate::fixed::put_pixels;
+use pt_base::fault::NoMemory;
+use pt_base::piece::Piece;
+use pt_base::point::Point;
+use pt_base::sequence::Sequence;
+use pt_base::trace::Trace;
+use std::alloc::Global;
+
+/// The document of a page's trace: a closed polyline for each path, in their order.
+///
+/// Coordinates are in pixels, rounded to thousandths.
+pub fn dxf(alloc: Global, trace: &Trace) -> Result<Vec<u8>, NoMemory>
+    ensures { IfOk result (λ text. text.items ≡ dxf_text trace.now) }
+{
+    let mut out = Vec::new(alloc);
+    let mut points = Vec::new(alloc);
+    out.extend_from_slice(b"0\nSECTION\n2\nENTITIES\n")?;
+    put_polylines(&mut out, &mut points, trace.outlines.as_slice())?;
+    out.extend_from_slice(b"0\nENDSEC\n0\nEOF\n")?;
+    Ok(out)
+}
+
+/// Appends a polyline for each outline; `points` is room for the points of one.
+fn put_polylines(
+    out: &mut Vec<u8>,
+    points: &mut Vec<Point>,
+    outlines: &[Sequence<Piece>],
+) -> Result<(), NoMemory>
+    ensures { OnOk result (out.new.items ≡ out.old.items ++ flat_map polyline_text outlines.now) }
+{
+    for outline in outlines {
+        put_polyline(out, points, outline.as_slice())?;
+    }
+    Ok(())
+}
+
+/// Appends the polyline of an outline.
+fn put_polyline(
+    out: &mut Vec<u8>,
+    points: &mut Vec<Point>,
+    pieces: &[Piece],
+) -> Result<(), NoMemory>
+    ensures { OnOk result (out.new.items ≡ out.old.items ++ polyline_text pieces.now) }
+{
+    gather_chords(points, pieces)?;
+    out.extend_from_slice(b"0\nPOLYLINE\n8\n0\n66\n1\n70\n1\n")?;
+    put_vertices(out, points)?;
+    out.extend_from_slice(b"0\nSEQEND\n")?;
+    Ok(())
+}
+
+/// Appends a vertex for each of these points but the last.
+fn put_vertices(out: &mut Vec<u8>, points: &[Point]) -> Result<(), NoMemory>
+    ensures { OnOk result (out.new.items ≡ out.old.items ++ flat_map vertex_text (all_but_last points.now)) }
+{
+    if let Some((_last, vertices)) = points.split_last() {
+        for vertex in vertices {
+            put_vertex(out, *vertex)?;
+        }
+    }
+    Ok(())
+}
+
+/// Appends a vertex.
+fn put_vertex(out: &mut Vec<u8>, at: Point) -> Result<(), NoMemory>
+    ensures { OnOk result (out.new.items ≡ out.old.items ++ vertex_text at) }
+{
+    out.extend_from_slice(b"0\nVERTEX\n8\n0\n10\n")?;
+    put_pixels(out, at.x)?;
+    out.extend_from_slice(b"\n20\n")?;
+    put_pixels(out, at.y)?;
+    out.extend_from_slice(b"\n")?;
+    Ok(())
+}

@@ -1,0 +1,152 @@
+//! A page as a collection of GeoJSON's features.
+ghost use Rattle.std.specs.Prelude.{◌≡◌, ◌++◌, codes, flat_map, IfOk, OnOk};
+ghost use Rattle.std.specs.List.{join_by};
+ghost use Rattle.pt_base.specs.Outlines.{outline_at};
+ghost use Rattle.dxf_geojson.specs.GeoJsonText.{feature_text, features_text, geojson_text, hole_text, position_text, ring_text};
+
+use crate::chords::gather_chords;
+use crate::fixed::put_pixels;
+use pt_base::fault::NoMemory;
+use pt_base::outline::pieces_at;
+use pt_base::piece::Piece;
+use pt_base::point::Point;
+use pt_base::sequence::Sequence;
+use pt_base::trace::{Group, Trace};
+use std::alloc::Global;
+
+/// The document of a page's trace: a polygon for each shape, whose first ring goes round it against the
+/// clock, and whose other rings go round its holes with the clock.
+///
+/// Coordinates are in pixels, rounded to thousandths. A group's path that has no outline in the trace is
+/// written as an outline of no pieces.
+pub fn geojson(alloc: Global, trace: &Trace) -> Result<Vec<u8>, NoMemory>
+    ensures { IfOk result (λ text. text.items ≡ geojson_text trace.now) }
+{
+    let mut out = Vec::new(alloc);
+    let mut points = Vec::new(alloc);
+    out.extend_from_slice(b"{\"type\":\"FeatureCollection\",\"features\":[\n")?;
+    put_features(
+        &mut out,
+        &mut points,
+        trace.outlines.as_slice(),
+        trace.groups.as_slice(),
+    )?;
+    out.extend_from_slice(b"]}\n")?;
+    Ok(out)
+}
+
+/// Appends a line for each shape; `points` is room for the points of one ring.
+fn put_features(
+    out: &mut Vec<u8>,
+    points: &mut Vec<Point>,
+    outlines: &[Sequence<Piece>],
+    groups: &[Group],
+) -> Result<(), NoMemory>
+    ensures { OnOk result (out.new.items ≡ out.old.items ++ features_text outlines.now groups.now) }
+{
+    if let Some((first, more)) = groups.split_first() {
+        put_feature(out, points, outlines, first)?;
+        put_more_features(out, points, outlines, more)?;
+        out.extend_from_slice(b"\n")?;
+    }
+    Ok(())
+}
+
+/// Appends shapes, each on a line of its own behind a comma.
+fn put_more_features(
+    out: &mut Vec<u8>,
+    points: &mut Vec<Point>,
+    outlines: &[Sequence<Piece>],
+    groups: &[Group],
+) -> Result<(), NoMemory>
+    ensures { OnOk result (out.new.items
+        ≡ out.old.items ++ flat_map (λ group. codes ",\n" ++ feature_text outlines.now group) groups.now) }
+{
+    for group in groups {
+        out.extend_from_slice(b",\n")?;
+        put_feature(out, points, outlines, group)?;
+    }
+    Ok(())
+}
+
+/// Appends a shape with its holes.
+fn put_feature(
+    out: &mut Vec<u8>,
+    points: &mut Vec<Point>,
+    outlines: &[Sequence<Piece>],
+    group: &Group,
+) -> Result<(), NoMemory>
+    ensures { OnOk result (out.new.items ≡ out.old.items ++ feature_text outlines.now group.now) }
+{
+    gather_chords(points, pieces_at(outlines, group.outer))?;
+    out.extend_from_slice(
+        b"{\"type\":\"Feature\",\"properties\":{},\"geometry\":{\"type\":\"Polygon\",\"coordinates\":[",
+    )?;
+    put_ring(out, points)?;
+    put_holes(out, points, outlines, group.holes.as_slice())?;
+    out.extend_from_slice(b"]}}")?;
+    Ok(())
+}
+
+/// Appends the rings of the holes of these numbers.
+fn put_holes(
+    out: &mut Vec<u8>,
+    points: &mut Vec<Point>,
+    outlines: &[Sequence<Piece>],
+    holes: &[u32],
+) -> Result<(), NoMemory>
+    ensures { OnOk result (out.new.items
+        ≡ out.old.items ++ flat_map (λ hole. hole_text (outline_at outlines.now hole)) holes.now) }
+{
+    for hole in holes {
+        put_hole(out, points, pieces_at(outlines, *hole))?;
+    }
+    Ok(())
+}
+
+/// Appends the ring of a hole, against the direction of its outline.
+fn put_hole(out: &mut Vec<u8>, points: &mut Vec<Point>, pieces: &[Piece]) -> Result<(), NoMemory>
+    ensures { OnOk result (out.new.items ≡ out.old.items ++ hole_text pieces.now) }
+{
+    gather_chords(points, pieces)?;
+    points.reverse();
+    out.extend_from_slice(b",")?;
+    put_ring(out, points)?;
+    Ok(())
+}
+
+/// Appends a ring.
+fn put_ring(out: &mut Vec<u8>, points: &[Point]) -> Result<(), NoMemory>
+    ensures { OnOk result (out.new.items ≡ out.old.items ++ ring_text points.now) }
+{
+    out.extend_from_slice(b"[")?;
+    put_positions(out, points)?;
+    out.extend_from_slice(b"]")?;
+    Ok(())
+}
+
+/// Appends positions, with a comma between two.
+fn put_positions(out: &mut Vec<u8>, points: &[Point]) -> Result<(), NoMemory>
+    ensures { OnOk result (out.new.items ≡ out.old.items ++ join_by position_text (codes ",") points.now) }
+{
+    if let Some((first, more)) = points.split_first() {
+        put_position(out, *first)?;
+        for point in more {
+            out.extend_from_slice(b",")?;
+            put_position(out, *point)?;
+        }
+    }
+    Ok(())
+}
+
+/// Appends a position.
+fn put_position(out: &mut Vec<u8>, at: Point) -> Result<(), NoMemory>
+    ensures { OnOk result (out.new.items ≡ out.old.items ++ position_text at) }
+{
+    out.extend_from_slice(b"[")?;
+    put_pixels(out, at.x)?;
+    out.extend_from_slice(b",")?;
+    put_pixels(out, at.y)?;
+    out.extend_from_slice(b"]")?;
+    Ok(())
+}

@@ -1,0 +1,12 @@
+//! A page's outlines as polygons, for programs that know no curves: AutoCAD's drawing interchange
+//! files (DXF), and GeoJSON (RFC 7946).
+//!
+//! A curve is replaced by eight chords between points on it. Coordinates are pixels with three
+//! decimals, and y grows upwards.
+#![tactic(auto)]
+
+mod chords;
+pub mod drawing;
+pub mod features;
+mod fixed;
+mod mean;
