@@ -198,8 +198,10 @@ spells_sides bytes =
     (λ width rest. number_behind_gap BadHeader rest >>= λ height rest. checked width height rest) (spells_number_behind_gap BadHeader bytes)
     (λ w rest. spells_bind IsNumberBehindGap (λ h. IsNothing (w, h)) (λ s two. (s.0 ≡ w) × IsNumberBehindGap s.1 two) rest (number_behind_gap BadHeader rest)
     (λ height rest. checked w height rest) (spells_number_behind_gap BadHeader rest) (λ h rest. spells_checked w h rest)
-    (λ h s one two is last. (ap (λ (p : ℕ × ℕ). p.0) last.1,
-    subst (λ n. IsNumberBehindGap n (one ++ two)) (sym (ap (λ (p : ℕ × ℕ). p.1) last.1)) (and_nothing (IsNumberBehindGap h) one two last.0 is))))
+    (λ h s one two is last. (
+      ap (λ (p : ℕ × ℕ). p.0) last.1,
+      subst (λ n. IsNumberBehindGap n (one ++ two)) (sym (ap (λ (p : ℕ × ℕ). p.1) last.1)) (and_nothing (IsNumberBehindGap h) one two last.0 is),
+    )))
     (λ w s one two is both. joined (IsNumberBehindGap s.0) (IsNumberBehindGap s.1) one two (subst (λ n. IsNumberBehindGap n one) (sym both.0) is) both.1)
 
 spells_maxval : (bytes : List ℕ) → Spells IsNumberBehindGap bytes (maxval bytes)
