@@ -17,7 +17,7 @@ use Rattle.bitmap_input.specs.Raw.Entry.{Bit, Sample}
 use Rattle.bitmap_input.specs.BmpHeader.{header_size, is_known_size, is_known_kind, mask_bytes, has_known_colors, width, height, pixel_offset, palette_bytes, palette_end, palette_length, color_bytes, row_length, bits}
 use Rattle.bitmap_input.specs.BmpRaster as bmp_raster
 use Rattle.bitmap_input.specs.BmpRaster.{palette_color, pixel_in}
-use Rattle.bitmap_input.specs.Bmp.{passes, start, info, masks, placed, header, bmp}
+use Rattle.bitmap_input.specs.Bmp.{passes, start, info, masks, placed, header}
 use Rattle.bitmap_input.specs.Front.{Magic, no_magic, magic_of_name, magic_named, magic_behind, magic, sides, greatest_maxval, checked_maxval, maxval, plain_pixel, plain_sample, raw_row, is_wide, gray_row_bytes, raw_gray_row, raster, body, page_at, answer_of, front}
 use Rattle.bitmap_input.specs.Front.Answer.{Page}
 use Rattle.bitmap_input.specs.Front.Magic.{PlainBits, RawBits, PlainGray, RawGray, Picture}
@@ -25,7 +25,6 @@ use Rattle.bitmap_input.specs.PageText.{IsJoined, IsRepeated, IsBlock, IsSpace, 
 use Rattle.bitmap_input.proofs.Showing.{after_takes}
 use Rattle.bitmap_input.proofs.Bytes.{run_length-le, gap_length-le}
 use Rattle.bitmap_input.proofs.Longest.{run_is_run, gap_is_gap}
-use Rattle.bitmap_input.proofs.FrontKeeps.{front_takes_some}
 
 -- what the cut takes of these bytes, for a value, is in the value's set
 abbrev Spells : {A : Type 0} → (A → List ℕ → Type 0) → List ℕ → Cut A → Type 0
