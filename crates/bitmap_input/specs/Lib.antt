@@ -10,6 +10,7 @@ pub mod Front
 pub mod PageText
 pub mod FilePages
 pub mod Reading
+pub mod FaultText
 pub mod Window
 pub mod Run
 pub mod Number
