@@ -1,16 +1,16 @@
 -- A row of a page is known by its pixels: eight of them in a byte, or 64 in a word.
-use Rattle.std.proofs.Common.{◌≡◌, ◌≢◌, refl, ℕ, zero, suc, ◌+◌, ◌-◌, ◌*◌, ◌/◌, ◌%◌, ◌≤◌, ◌<◌, inl, inr, Bool, true, false, not, ◌&&◌, ◌||◌, ◌^◌, List, [], ◌∷◌, ◌++◌, length, take, map, get_or, arith, ap, sym, ◌∙◌, subst}
+use Rattle.std.proofs.Common.{◌≡◌, ◌≢◌, refl, ℕ, zero, suc, ◌+◌, ◌-◌, ◌*◌, ◌/◌, ◌%◌, ◌≤◌, ◌<◌, inl, inr, Bool, true, false, not, ◌&&◌, ◌||◌, ◌^◌, List, [], ◌∷◌, length, take, map, get_or, arith, ap, sym, ◌∙◌, subst}
 use Rattle.std.specs.Prelude.{nat_eq, nat_lt, min}
 use Rattle.std.specs.Int.RustNames.{bit_or}
 use mir.Val.{bool_byte}
 use Rattle.std.proofs.Math.Path.{fun_ext}
-use Rattle.std.proofs.lemmas.List.{get_or-map, get_or-take, get_or_default, length-map, length-take-le, map-id}
+use Rattle.std.proofs.lemmas.List.{get_or-map, get_or-take, length-map, length-take-le, map-id}
 use Rattle.std.proofs.lemmas.Bool.{eq-eqb, ne_eqb, lt-ltb, le-ltb, cases_eq, cases_lt, false_from_ne_true}
 use Rattle.bit_image.specs.Image.{Image, Fits, differ, within, is_between}
 use Rattle.bit_image.specs.Words.{is_one, bit_in}
 use Rattle.bit_image.proofs.Bits.{within-inside, within-right, differ-false, differ-true, and_true, is_one-zero, is_one-mask}
 use Rattle.bit_image.proofs.Turned.{is_one-or, is_one-shl, is_one-shl_below}
-use Rattle.bitmap_input.specs.Raw.{bits_of, unpacked}
+use Rattle.bitmap_input.specs.Raw.{unpacked}
 use Rattle.bitmap_input.specs.Raster.{with_row}
 use Rattle.bitmap_input.proofs.Placing.{with_pixels-at, with_pixels-other, length-unpacked}
 

@@ -17,7 +17,7 @@ use Rattle.bitmap_input.specs.Raw.Entry.{Bit, Sample}
 use Rattle.bitmap_input.specs.BmpHeader.{header_size, is_known_size, is_known_kind, mask_bytes, has_known_colors, width, height, pixel_offset, palette_bytes, palette_end, palette_length, color_bytes, row_length, bits}
 use Rattle.bitmap_input.specs.BmpRaster as bmp_raster
 use Rattle.bitmap_input.specs.BmpRaster.{palette_color, pixel_in}
-use Rattle.bitmap_input.specs.Bmp.{passes, start, info, masks, placed, header, bmp}
+use Rattle.bitmap_input.specs.Bmp.{passes, start, info, masks, placed, header}
 use Rattle.bitmap_input.specs.Front.{Magic, no_magic, magic_of_name, magic_named, magic_behind, magic, sides, greatest_maxval, checked_maxval, maxval, plain_pixel, plain_sample, raw_row, is_wide, gray_row_bytes, raw_gray_row, raster, body, page_at, answer_of, front}
 use Rattle.bitmap_input.specs.Front.Answer.{Page}
 use Rattle.bitmap_input.specs.Front.Magic.{PlainBits, RawBits, PlainGray, RawGray, Picture}
@@ -25,7 +25,6 @@ use Rattle.bitmap_input.specs.PageText.{IsJoined, IsRepeated, IsBlock, IsSpace, 
 use Rattle.bitmap_input.proofs.Showing.{after_takes}
 use Rattle.bitmap_input.proofs.Bytes.{run_length-le, gap_length-le}
 use Rattle.bitmap_input.proofs.Longest.{run_is_run, gap_is_gap}
-use Rattle.bitmap_input.proofs.FrontKeeps.{front_takes_some}
 
 -- what the cut takes of these bytes, for a value, is in the value's set
 abbrev Spells : {A : Type 0} → (A → List ℕ → Type 0) → List ℕ → Cut A → Type 0
@@ -198,8 +197,10 @@ spells_sides bytes =
     (λ width rest. number_behind_gap BadHeader rest >>= λ height rest. checked width height rest) (spells_number_behind_gap BadHeader bytes)
     (λ w rest. spells_bind IsNumberBehindGap (λ h. IsNothing (w, h)) (λ s two. (s.0 ≡ w) × IsNumberBehindGap s.1 two) rest (number_behind_gap BadHeader rest)
     (λ height rest. checked w height rest) (spells_number_behind_gap BadHeader rest) (λ h rest. spells_checked w h rest)
-    (λ h s one two is last. (ap (λ (p : ℕ × ℕ). p.0) last.1,
-    subst (λ n. IsNumberBehindGap n (one ++ two)) (sym (ap (λ (p : ℕ × ℕ). p.1) last.1)) (and_nothing (IsNumberBehindGap h) one two last.0 is))))
+    (λ h s one two is last. (
+      ap (λ (p : ℕ × ℕ). p.0) last.1,
+      subst (λ n. IsNumberBehindGap n (one ++ two)) (sym (ap (λ (p : ℕ × ℕ). p.1) last.1)) (and_nothing (IsNumberBehindGap h) one two last.0 is),
+    )))
     (λ w s one two is both. joined (IsNumberBehindGap s.0) (IsNumberBehindGap s.1) one two (subst (λ n. IsNumberBehindGap n one) (sym both.0) is) both.1)
 
 spells_maxval : (bytes : List ℕ) → Spells IsNumberBehindGap bytes (maxval bytes)

@@ -35,13 +35,14 @@ impl Shading {
     #[inline(always)]
     fn black(&self, sample: u32) -> bool
         ensures value { result ≡ black_of self.now sample }
-        ensures cut { IsInRange self.now → (a : ℕ) → IsCapped sample a → result ≡ black_of self.now a }
+        ensures cut { IsInRange self.now → (a : ℕ) → IsCapped sample a
+            → result ≡ black_of self.now a }
     {
         (sample <= self.limit) != self.invert
     }
 }
 
-// One row of samples as numbers, painted in row y.
+/// One row of samples as numbers, painted in row y.
 fn read_plain_row<I: Inputs>(
     window: &mut Window,
     inputs: &mut I,
@@ -52,7 +53,10 @@ fn read_plain_row<I: Inputs>(
     requires opened { I.is_opened inputs.old ≡ true }
     requires row { y < page.old.height }
     requires range { IsInRange shading.now }
-    ensures reads { Reads (λ _ row. image_of page.new ≡ with_row (image_of page.old) y (map (black_of shading.now) row)) (times plain_sample page.old.width) window.old (I.files inputs.old) result window.new (I.files inputs.new) }
+    ensures reads { Reads (λ _ row. image_of page.new
+        ≡ with_row (image_of page.old) y (map (black_of shading.now) row))
+        (times plain_sample page.old.width) window.old (I.files inputs.old) result window.new
+        (I.files inputs.new) }
     ensures sides { SameSides page.old page.new }
     ensures counts { Counts result (I.faults inputs.old) (I.faults inputs.new) }
     ensures stays_opened { I.is_opened inputs.new ≡ true }
@@ -74,7 +78,10 @@ pub(crate) fn read_plain_gray_rows<I: Inputs>(
 ) -> Result<(), Stop>
     requires opened { I.is_opened inputs.old ≡ true }
     requires range { IsInRange shading.now }
-    ensures reads { Reads (λ _ rows. image_of page.new ≡ with_rows (image_of page.old) page.old.height (map (map (black_of shading.now)) rows)) (times (times plain_sample page.old.width) page.old.height) window.old (I.files inputs.old) result window.new (I.files inputs.new) }
+    ensures reads { Reads (λ _ rows. image_of page.new
+        ≡ with_rows (image_of page.old) page.old.height (map (map (black_of shading.now)) rows))
+        (times (times plain_sample page.old.width) page.old.height) window.old
+        (I.files inputs.old) result window.new (I.files inputs.new) }
     ensures sides { SameSides page.old page.new }
     ensures counts { Counts result (I.faults inputs.old) (I.faults inputs.new) }
     ensures stays_opened { I.is_opened inputs.new ≡ true }
@@ -88,7 +95,7 @@ pub(crate) fn read_plain_gray_rows<I: Inputs>(
     Ok(())
 }
 
-// Whether each sample is two bytes.
+/// Whether each sample is two bytes.
 fn is_wide(white: u32) -> bool
     ensures { result ≡ is_wide white }
 {
@@ -107,7 +114,7 @@ pub(crate) fn row_bytes(width: u32, white: u32) -> usize
     }
 }
 
-// The sample in a column of a row, where all are wide or none is.
+/// The sample in a column of a row, where all are wide or none is.
 fn sample_at(row: &[u8], wide: bool, x: usize) -> u32
     requires { x < length (samples wide row.now) }
     ensures { result ≡ get_or (samples wide row.now) x 0 }
@@ -140,7 +147,8 @@ fn place_row(page: &mut Bitmap, y: u32, row: &[u8], shading: &Shading)
     requires row { y < page.old.height }
     requires whole { length row.now ≡ gray_row_bytes shading.now.white page.old.width }
     ensures sides { SameSides page.old page.new }
-    ensures pixels { image_of page.new ≡ with_row (image_of page.old) y (map (black_of shading.now) (samples (is_wide shading.now.white) row.now)) }
+    ensures pixels { image_of page.new ≡ with_row (image_of page.old) y
+        (map (black_of shading.now) (samples (is_wide shading.now.white) row.now)) }
 {
     let width = page.width();
     for at in 0..(width + 63) / 64 {
@@ -160,7 +168,10 @@ pub(crate) fn read_raw_gray_rows<I: Inputs>(
 ) -> Result<(), Stop>
     requires opened { I.is_opened inputs.old ≡ true }
     requires whole { length row.old ≡ gray_row_bytes shading.now.white page.old.width }
-    ensures reads { Reads (λ _ rows. image_of page.new ≡ with_rows (image_of page.old) page.old.height (map (map (black_of shading.now)) rows)) (times (raw_gray_row shading.now.white page.old.width) page.old.height) window.old (I.files inputs.old) result window.new (I.files inputs.new) }
+    ensures reads { Reads (λ _ rows. image_of page.new
+        ≡ with_rows (image_of page.old) page.old.height (map (map (black_of shading.now)) rows))
+        (times (raw_gray_row shading.now.white page.old.width) page.old.height) window.old
+        (I.files inputs.old) result window.new (I.files inputs.new) }
     ensures sides { SameSides page.old page.new }
     ensures counts { Counts result (I.faults inputs.old) (I.faults inputs.new) }
     ensures stays_opened { I.is_opened inputs.new ≡ true }

@@ -21,7 +21,8 @@ pub(crate) fn read_block<I: Inputs>(
     row: &mut [u8],
 ) -> Result<(), Stop>
     requires { I.is_opened inputs.old ≡ true }
-    ensures reads { Reads (λ _ bytes. bytes ≡ row.new) (block (length row.old)) window.old (I.files inputs.old) result window.new (I.files inputs.new) }
+    ensures reads { Reads (λ _ bytes. bytes ≡ row.new) (block (length row.old)) window.old
+        (I.files inputs.old) result window.new (I.files inputs.new) }
     ensures counts { Counts result (I.faults inputs.old) (I.faults inputs.new) }
     ensures stays_opened { I.is_opened inputs.new ≡ true }
     ensures same_openings { I.openings inputs.new ≡ I.openings inputs.old }
@@ -43,7 +44,8 @@ pub(crate) fn place_row(page: &mut Bitmap, y: u32, bytes: &[u8], invert: bool)
     requires whole { length bytes.now ≡ row_bytes page.old.width }
     ensures sides { SameSides page.old page.new }
     ensures pixels { image_of page.new
-        ≡ with_row (image_of page.old) y (map (differ invert) (take page.old.width (unpacked bytes.now))) }
+        ≡ with_row (image_of page.old) y
+        (map (differ invert) (take page.old.width (unpacked bytes.now))) }
 {
     let width = page.width();
     page.put_bytes(y, bytes);
@@ -63,7 +65,10 @@ pub(crate) fn read_raw_rows<I: Inputs>(
     invert: bool,
 ) -> Result<(), Stop>
     requires { I.is_opened inputs.old ≡ true }
-    ensures reads { Reads (λ _ rows. image_of page.new ≡ with_rows (image_of page.old) page.old.height (map (map (differ invert)) rows)) (times (raw_row page.old.width) page.old.height) window.old (I.files inputs.old) result window.new (I.files inputs.new) }
+    ensures reads { Reads (λ _ rows. image_of page.new
+        ≡ with_rows (image_of page.old) page.old.height (map (map (differ invert)) rows))
+        (times (raw_row page.old.width) page.old.height) window.old
+        (I.files inputs.old) result window.new (I.files inputs.new) }
     ensures sides { SameSides page.old page.new }
     ensures counts { Counts result (I.faults inputs.old) (I.faults inputs.new) }
     ensures stays_opened { I.is_opened inputs.new ≡ true }

@@ -1,5 +1,4 @@
-use Rattle.std.proofs.Common.{◌≡◌, ◌<◌, ◌+◌, ◌&&◌, ◌∙◌, ℕ, Bool, List, length, get_or, ap, sym, rules, arith}
-use Rattle.std.specs.Prelude.{nat_lt}
+use Rattle.std.proofs.Common.{◌+◌, ◌&&◌, ◌∙◌, ℕ, List, get_or, ap, arith}
 use Rattle.std.proofs.lemmas.Bool.{lt-ltb}
 use Rattle.bitmap_input.specs.Raw.{samples}
 use Rattle.bitmap_input.specs.Front.{is_wide}

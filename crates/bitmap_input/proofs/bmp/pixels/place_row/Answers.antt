@@ -1,4 +1,4 @@
-use Rattle.std.proofs.Common.{ℕ, ◌≡◌, ◌+◌, ◌/◌, ap, ◌∙◌, arith, rules}
+use Rattle.std.proofs.Common.{◌+◌, ◌/◌, ap, ◌∙◌, arith}
 use Rattle.bit_image.specs.Page.{image_of}
 use Rattle.bitmap_input.specs.Raster.{with_row}
 use Rattle.bitmap_input.proofs.BmpBits.{bits_shown}

@@ -1,4 +1,4 @@
-use Rattle.std.proofs.Common.{◌≡◌, ◌<◌, ◌≤◌, ◌-◌, ◌*◌, ◌+◌, ◌∙◌, ℕ, Bool, false, length, min, map, ap, sym, refl, rules, arith}
+use Rattle.std.proofs.Common.{◌-◌, ◌*◌, ◌+◌, ℕ, Bool, false, length, min, map, ap, sym, rules, arith}
 use Rattle.std.specs.List.{range_with_len}
 use Rattle.std.proofs.lemmas.List.FromFn.{get_or-map-range_with_len, length-map-range_with_len}
 use Rattle.bit_image.specs.Page.{image_of}

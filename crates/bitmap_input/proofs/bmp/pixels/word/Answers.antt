@@ -1,4 +1,4 @@
-use Rattle.std.proofs.Common.{◌≡◌, ◌<◌, ◌+◌, ◌&&◌, ◌∙◌, ℕ, length, ap, rules, arith}
+use Rattle.std.proofs.Common.{◌+◌, ◌&&◌, ◌∙◌, length, ap, arith}
 use Rattle.std.proofs.lemmas.Bool.{lt-ltb}
 use Rattle.bitmap_input.specs.BmpHead.{shade_in}
 use Rattle.bitmap_input.proofs.BmpPixels.{column_within}
