@@ -10,6 +10,6 @@ pub mod decomposition;
 pub mod interior;
 mod inversion;
 pub mod laws;
-mod line;
+pub mod line;
 pub mod speckle;
 mod walk;
