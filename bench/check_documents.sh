@@ -17,7 +17,7 @@
 set -euo pipefail
 
 top=$(cd "$(dirname "$(readlink -f "${BASH_SOURCE[0]}")")/.." && pwd)
-for tool in xmllint rsvg-convert gs ogrinfo ogr2ogr gdal_rasterize gdal_translate jq python3; do
+for tool in xmllint rsvg-convert gs ogrinfo gdal_rasterize gdal_translate jq python3; do
   command -v "$tool" >/dev/null || { echo "check_documents: $tool is missing" >&2; exit 2; }
 done
 work=$(mktemp -d)
@@ -119,11 +119,12 @@ read_page() {
   [ "$(jq '[.features[].geometry.coordinates[]] | length' "$page.geojson")" = "$paths" ] || fail "$name: DXF has $paths paths, and GeoJSON another number of rings"
   quiet "$name.geojson" ogrinfo -ro -so -al "$page.geojson" >"$work/geojson"
   [ "$(sed -n 's/^Feature Count: //p' "$work/geojson")" = "$shapes" ] || fail "$name.geojson: GDAL reads another number of shapes"
-  quiet "$name.geojson" gdal_rasterize -q -of PNM -ot Byte -init 255 -burn 0 -te 0 0 "$width" "$height" -ts "$width" "$height" "$page.geojson" "$work/geojson.pgm"
+  quiet "$name.geojson" gdal_rasterize -q -of GTiff -ot Byte -init 255 -burn 0 -te 0 0 "$width" "$height" -ts "$width" "$height" "$page.geojson" "$work/geojson.tif"
+  quiet "$name.geojson" gdal_translate -q -of PNM "$work/geojson.tif" "$work/geojson.pgm"
   same "$name.geojson" "$work/svg.pgm" "$work/geojson.pgm"
-  invalid=$(ogr2ogr -f CSV /vsistdout/ "$page.geojson" -dialect SQLite -sql 'SELECT COUNT(*) AS n FROM (SELECT * FROM SELECTED) WHERE NOT ST_IsValid(geometry)' 2>/dev/null | tail -1 || true)
+  invalid=$(ogrinfo -q -ro "$page.geojson" -dialect SQLite -sql "SELECT COUNT(*) AS n FROM \"$name\" WHERE NOT ST_IsValid(geometry)" | sed -n 's/^  n (Integer) = //p')
 
-  echo "$name: $width by $height pixels, $paths paths, $shapes shapes, ${invalid:-an unknown number of} of them invalid for GDAL; all documents read, and one drawing"
+  echo "$name: $width by $height pixels, $paths paths, $shapes shapes, $invalid of them invalid for GDAL; all documents read, and one drawing"
 }
 
 if [ $# -gt 0 ]; then
