@@ -4,7 +4,7 @@ use Rattle.std.proofs.Common.{◌≡◌, refl, ℕ, zero, suc, ◌≤◌, ◌<�
 use Rattle.std.specs.Prelude.{nat_eq, nat_lt}
 use Rattle.std.proofs.lemmas.List.{take-append-le, drop-append-le, length-append}
 use Rattle.std.proofs.lemmas.Bool.{ltb-true, lt-ltb, le-ltb, ltb-false}
-use Rattle.bitmap_input.specs.Cut.{Kind, Ending, Cut, is_by_end, after, with_more, ◌>>=◌}
+use Rattle.bitmap_input.specs.Cut.{Kind, Ending, Cut, is_by_end, after, ◌>>=◌}
 use Rattle.bitmap_input.specs.Cut.Kind.{BadHeader, ZeroSide, TooLarge, BadRaster}
 use Rattle.bitmap_input.specs.Cut.Ending.{Refused}
 use Rattle.bitmap_input.specs.Cut.Cut.{Takes, Stops}
@@ -12,6 +12,11 @@ use Rattle.bitmap_input.specs.Parts.{longest, is_zero, is_empty, is_space, is_di
 use Rattle.bitmap_input.specs.Raw.{Entry, entries_page, row_bytes, unpacked, samples}
 use Rattle.bitmap_input.specs.Front.{Magic, no_magic, magic_of_name, magic_named, magic_behind, magic, checked, sides, checked_maxval, maxval, greatest_maxval, plain_pixel, raw_row, plain_sample, is_wide, gray_row_bytes, raw_gray_row, raster, longest_side}
 use Rattle.bitmap_input.proofs.Bytes.{run_length-le, run_length-append-le, run_length-append, gap_length-le, gap_length-append-le, gap_length-append}
+
+-- the same cut of a list to which bytes were added
+abbrev pub with_more : {A : Type 0} → List ℕ → Cut A → Cut A
+with_more more (Takes e x rest) = Takes e x (rest ++ more)
+with_more more (Stops e ending) = Stops e ending
 
 -- where it isn't by the end, the part is the same where bytes are added
 abbrev pub Stays : {A : Type 0} → (List ℕ → Cut A) → Type 0

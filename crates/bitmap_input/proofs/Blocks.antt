@@ -13,11 +13,16 @@ use Rattle.bitmap_input.specs.Cut.Kind.{Truncated}
 use Rattle.bitmap_input.specs.Cut.Ending.{Refused}
 use Rattle.bitmap_input.specs.Cut.Cut.{Stops}
 use Rattle.bitmap_input.specs.Parts.{block}
-use Rattle.bitmap_input.specs.Reading.{Held, Reads}
+use Rattle.bitmap_input.specs.Reading.{Held, Moves, Reads}
 use Rattle.bitmap_input.specs.Window.{ReadsOn}
-use Rattle.bitmap_input.specs.Raster.{IsBlockSoFar}
 use Rattle.bitmap_input.proofs.Telling.{move_on}
 use Rattle.bitmap_input.proofs.Running.{two_splits}
+
+-- the first bytes of a block were read, `done` of them
+pub record IsBlockSoFar (old : Held) (before : Option Files) (done : ℕ) (row : List ℕ) (held : Held) (files : Option Files) : Type 0 where
+  pub more : List ℕ
+  pub moves : Moves old.ended before held.ended files more
+  pub split : old.bytes ++ more ≡ take done row ++ held.bytes
 
 -- a block that isn't there
 no_block : (n : ℕ) (bytes : List ℕ) → length bytes < n → block n bytes ≡ Stops true (Refused Truncated)

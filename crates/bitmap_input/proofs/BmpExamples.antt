@@ -7,7 +7,8 @@ use Rattle.std.specs.Prelude.{codes}
 use Rattle.bitmap_input.specs.Cut.Ending.{End}
 use Rattle.bitmap_input.specs.FilePages.{FilePages}
 use Rattle.bitmap_input.specs.FilePages.FilePages.{Ended, Next}
-use Rattle.bitmap_input.specs.Raw.{Raw, bits_page}
+use Rattle.bitmap_input.specs.Raw.{Raw}
+use Rattle.bitmap_input.proofs.Examples.{bits_page}
 use Rattle.bitmap_input.specs.Raw.Entry.{Color}
 use Rattle.bitmap_input.specs.BmpHeader.{byte_at, two_at, four_at}
 use Rattle.bitmap_input.specs.BmpRaster.{bit_at, half_at, palette_color}

@@ -17,6 +17,14 @@ column_within depth.Eight x w n less whole = omega arith
 column_within depth.TwentyFour x w n less whole = omega arith
 column_within depth.ThirtyTwo x w n less whole = omega arith
 
+-- and so are fewer columns than the page has
+pub columns_within : (d : Depth) (m w n : ℕ) → m ≤ w → w * bits_in d ≤ 8 * n → m * bits_in d ≤ 8 * n
+columns_within depth.One m w n less whole = omega arith
+columns_within depth.Four m w n less whole = omega arith
+columns_within depth.Eight m w n less whole = omega arith
+columns_within depth.TwentyFour m w n less whole = omega arith
+columns_within depth.ThirtyTwo m w n less whole = omega arith
+
 -- a pixel by the table is the one by the palette
 pub shade_is : (d : Depth) (level : ℕ) (invert : Bool) (color : ℕ → Entry) (table : List Bool) (row : List ℕ) → IsTable level invert color table → (x : ℕ) →
     shade_in d level invert table row x ≡ black level invert (pixel_in (bits_in d) color row x)

@@ -8,11 +8,16 @@ use Rattle.bitmap_input.specs.Cut.Cut.{Takes, Stops}
 use Rattle.bitmap_input.specs.Parts.{number, gap, gap_length, run_of}
 use Rattle.bitmap_input.specs.Sets.{IsGap}
 use Rattle.bitmap_input.specs.Sets.IsGap.{Nothing, Space, Comment}
-use Rattle.bitmap_input.specs.Raw.{Raw, bits_page, bits_of, picture_of}
+use Rattle.bitmap_input.specs.Raw.{Raw, entries_page, bits_of, picture_of}
+use Rattle.bitmap_input.specs.Raw.Entry.{Bit}
 use Rattle.bitmap_input.specs.Front.{front, page_at}
 use Rattle.bitmap_input.specs.Front.Answer.{Page}
 use Rattle.bitmap_input.specs.FilePages.{FilePages}
 use Rattle.bitmap_input.specs.FilePages.FilePages.{Ended, Next}
+
+-- a page of bits
+abbrev pub bits_page : ℕ → ℕ → List (List Bool) → Raw
+bits_page width height rows = entries_page (λ b. Bit b) width height rows
 
 -- one black pixel, whose page is not by the end: the line feed belongs to what follows
 one_pixel : page_at false (codes "P1 1 1 1\n") ≡ Takes false (bits_page 1 1 ((true ∷ []) ∷ [])) (10 ∷ [])

@@ -1,7 +1,8 @@
 -- A page's answer that isn't by the end of the bytes stays the same where bytes are added.
 use Rattle.std.proofs.Common.{◌≡◌, refl, ℕ, ◌-◌, Bool, false, List, ◌++◌, length, arith, ap, ◌∙◌}
 use Rattle.std.proofs.lemmas.List.{length-append}
-use Rattle.bitmap_input.specs.Cut.{Cut, is_by_end, with_more}
+use Rattle.bitmap_input.specs.Cut.{Cut, is_by_end}
+use Rattle.bitmap_input.proofs.Appending.{with_more}
 use Rattle.bitmap_input.specs.Cut.Cut.{Takes, Stops}
 use Rattle.bitmap_input.specs.Parts.{spaces, space, times}
 use Rattle.bitmap_input.specs.Raw.{Raw}

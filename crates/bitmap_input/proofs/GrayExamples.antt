@@ -1,13 +1,19 @@
 -- The definitions on small gray pages, and on inverted ones.
-use Rattle.std.proofs.Common.{◌≡◌, refl, true, false, [], ◌∷◌, ◌++◌}
+use Rattle.std.proofs.Common.{◌≡◌, refl, ℕ, true, false, List, [], ◌∷◌, ◌++◌}
 use Rattle.std.specs.Prelude.{codes}
 use Rattle.bitmap_input.specs.Cut.{is_by_end}
 use Rattle.bitmap_input.specs.Cut.Kind.{BadHeader, Truncated, BadRaster}
 use Rattle.bitmap_input.specs.Cut.Ending.{Refused}
 use Rattle.bitmap_input.specs.Cut.Cut.{Stops}
-use Rattle.bitmap_input.specs.Raw.{Raw, bits_page, gray_page, picture_of}
+use Rattle.bitmap_input.specs.Raw.{Raw, entries_page, picture_of}
+use Rattle.bitmap_input.specs.Raw.Entry.{Sample}
+use Rattle.bitmap_input.proofs.Examples.{bits_page}
 use Rattle.bitmap_input.specs.Front.{front, page_at}
 use Rattle.bitmap_input.specs.Front.Answer.{Page}
+
+-- a page of gray samples, of which `maxval` is white
+abbrev pub gray_page : ℕ → ℕ → ℕ → List (List ℕ) → Raw
+gray_page maxval width height rows = entries_page (λ v. Sample v maxval) width height rows
 
 -- two wide samples, the most significant byte first
 two_samples : Raw

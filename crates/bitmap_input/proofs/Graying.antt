@@ -1,10 +1,8 @@
 -- Samples that become pixels: how a row of bytes holds them, and when a number that was cut is the same
 -- pixel as the whole one.
-use Rattle.std.proofs.Common.{◌≡◌, refl, ℕ, zero, suc, ◌+◌, ◌*◌, ◌≤◌, ◌<◌, inl, inr, Bool, true, false, List, [], ◌∷◌, length, get_or, arith, ap, sym, ◌∙◌}
-use Rattle.std.specs.Prelude.{if◌then◌else◌}
+use Rattle.std.proofs.Common.{◌≡◌, refl, ℕ, zero, suc, ◌+◌, ◌*◌, ◌<◌, inl, inr, Bool, true, false, List, [], ◌∷◌, length, get_or, arith, ap, sym, ◌∙◌}
+use Rattle.std.specs.Prelude.{if◌then◌else◌, nat_le}
 use Rattle.std.proofs.lemmas.Bool.{lt-leb, cases_lt}
-use Rattle.std.proofs.lemmas.Nat.{mul-le}
-use Rattle.threshold_map.specs.Levels.{is_gray_black}
 use Rattle.bitmap_input.specs.Raw.{samples}
 use Rattle.bitmap_input.specs.Run.{cap, IsCapped}
 
@@ -39,17 +37,8 @@ wide_sample (suc x) (a ∷ b ∷ bytes) h =
 
 -- A number that is cut is above each sample that is black.
 
-above_black : (level white v : ℕ) → level ≤ 1000000 → white ≤ 65535 → cap ≤ v → is_gray_black level v white ≡ false
-above_black level white v l w above =
-    let product : level * white ≤ 1000000 * 65535 = mul-le level white 1000000 65535 l w in
-    let less : level * white < v * 1000000 = omega (arith, product) in
-    lt-leb (v * 1000000) (level * white) less
-
-pub capped_black : (level white x a : ℕ) → level ≤ 1000000 → white ≤ 65535 → IsCapped x a →
-    is_gray_black level x white ≡ is_gray_black level a white
-capped_black level white x a l w capped = elim (cases_lt a cap) [
-  | inl h ↦ let same : x ≡ a = omega arith in ap (λ v. is_gray_black level v white) same
-  | inr h ↦
-      let x_above : cap ≤ x = omega arith in
-      above_black level white x l w x_above ∙ sym (above_black level white a l w h)
+pub capped_limit : (limit x a : ℕ) → limit < cap → IsCapped x a → nat_le x limit ≡ nat_le a limit
+capped_limit limit x a less capped = elim (cases_lt a cap) [
+  | inl h ↦ let same : x ≡ a = omega arith in ap (λ v. nat_le v limit) same
+  | inr h ↦ lt-leb x limit (omega arith) ∙ sym (lt-leb a limit (omega arith))
 ]

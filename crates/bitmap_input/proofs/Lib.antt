@@ -16,7 +16,9 @@ pub mod Skipping
 pub mod Heads
 pub mod BmpReading
 pub mod BmpPixels
+pub mod BmpBits
 pub mod Placing
+pub mod Rows
 pub mod Graying
 pub mod Showing
 pub mod Bodies
@@ -25,6 +27,7 @@ pub mod Keeping
 pub mod BmpKeeps
 pub mod BmpLengths
 pub mod FrontKeeps
+pub mod Spelling
 pub mod Behind
 pub mod Answering
 pub mod Longest

@@ -1,5 +1,5 @@
 -- A raster is read and painted part by part.
-use Rattle.std.proofs.Common.{◌≡◌, refl, ℕ, suc, ◌+◌, Bool, false, true, not, List, [], ◌∷◌, map, ap, sym, ◌∙◌, subst, Option, Ok, Err}
+use Rattle.std.proofs.Common.{◌≡◌, refl, ℕ, suc, ◌+◌, Bool, false, true, not, List, [], ◌∷◌, map, ap, sym, ◌∙◌, subst, Option, Result, Ok, Err}
 use Rattle.std.proofs.Common.{add-one}
 use Rattle.std.proofs.Math.Path.{fun_ext}
 use Rattle.std.proofs.Math.Bool.{beq}
@@ -10,9 +10,16 @@ use Rattle.bitmap_input.specs.Cut.{Cut, ◌>>=◌}
 use Rattle.bitmap_input.specs.Cut.Cut.{Takes}
 use Rattle.bitmap_input.specs.Parts.{times}
 use Rattle.bitmap_input.specs.Reading.{Held, Reads}
-use Rattle.bitmap_input.specs.Raster.{with_pixels, IsPaintedSoFar}
+use Rattle.bitmap_input.specs.Raster.{with_pixels}
 use Rattle.bitmap_input.proofs.Appending.{Stays}
 use Rattle.bitmap_input.proofs.Telling.{reads_on, reads_stop, reads_map, reads_value}
+
+-- so far a part was read some times and its values were painted: what is read and painted from
+-- here on is the rest of the whole
+pub record IsPaintedSoFar {A : Type 0} (part : List ℕ → Cut A) (old : Held) (before : Option Files) (whole : List A → Image) (n : ℕ) (held : Held) (files : Option Files) (rest : List A → Image) (left : ℕ) : Type 0 where
+  pub then : (result : Result (Unit {0}) Stop) (new : Held) (now : Option Files) (final : Image) →
+      Reads (λ _ xs. final ≡ rest xs) (times part left) held files result new now →
+      Reads (λ _ xs. final ≡ whole xs) (times part n) old before result new now
 
 pub painting_begins : {A : Type 0} (part : List ℕ → Cut A) (old : Held) (before : Option Files) (whole : List A → Image) (n : ℕ) →
     IsPaintedSoFar part old before whole n old before whole n

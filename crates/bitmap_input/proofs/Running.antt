@@ -10,12 +10,21 @@ use Rattle.bitmap_input.specs.declared.stop.Stop.TheVariants as stop
 use Rattle.bitmap_input.specs.Cut.{is_by_end}
 use Rattle.bitmap_input.specs.Cut.Cut.{Takes}
 use Rattle.bitmap_input.specs.Parts.{longest, is_empty, run_of}
-use Rattle.bitmap_input.specs.Reading.{Held, Reads}
+use Rattle.bitmap_input.specs.Reading.{Held, Moves, Reads}
 use Rattle.bitmap_input.specs.Window.{ReadsOn}
-use Rattle.bitmap_input.specs.Run.{length_of, RunSoFar}
+use Rattle.bitmap_input.specs.Run.{length_of}
 use Rattle.bitmap_input.specs.declared.run.Run.{Run}
 use Rattle.bitmap_input.specs.declared.run.Run.TheVariants.{Space, Gap, Comment}
 use Rattle.bitmap_input.proofs.Telling.{not_true, stand, move_on}
+
+-- n bytes of a run were used: a run that begins as theirs did goes on as `len_now` says
+pub record RunSoFar (len len_now : List ℕ → ℕ) (old : Held) (before : Option Files) (n : ℕ) (new : Held) (now : Option Files) : Type 0 where
+  pub more : List ℕ
+  pub used : List ℕ
+  pub moves : Moves old.ended before new.ended now more
+  pub split : old.bytes ++ more ≡ used ++ new.bytes
+  pub count : length used ≡ n
+  pub goes_on : (tail : List ℕ) → len (used ++ tail) ≡ n + len_now tail
 
 -- the value of a step and that of the part are these two
 abbrev pub Exactly : {A X : Type 0} → X → A → X → A → Type 0

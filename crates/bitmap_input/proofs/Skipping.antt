@@ -10,13 +10,21 @@ use Rattle.bitmap_input.specs.declared.stop.Stop.{Stop}
 use Rattle.bitmap_input.specs.declared.stop.Stop.TheVariants as stop
 use Rattle.bitmap_input.specs.Cut.Cut.{Takes}
 use Rattle.bitmap_input.specs.Parts.{block}
-use Rattle.bitmap_input.specs.Reading.{Held, Same, Any, Reads, Cause, cause_of, StopsBy}
+use Rattle.bitmap_input.specs.Reading.{Held, Moves, Same, Any, Reads, Cause, cause_of, StopsBy}
 use Rattle.bitmap_input.specs.Reading.Cause.{Says, Device, Memory}
 use Rattle.bitmap_input.specs.Window.{ReadsOn}
-use Rattle.bitmap_input.specs.Skip.{passed_over, IsPassedSoFar}
+use Rattle.bitmap_input.specs.Skip.{passed_over}
 use Rattle.bitmap_input.proofs.Appending.{Stays}
 use Rattle.bitmap_input.proofs.Telling.{not_true, stand, move_on}
 use Rattle.bitmap_input.proofs.Running.{two_splits}
+
+-- so many of n bytes are still to be passed over
+pub record IsPassedSoFar (old : Held) (before : Option Files) (n left : ℕ) (held : Held) (files : Option Files) : Type 0 where
+  pub more : List ℕ
+  pub used : List ℕ
+  pub moves : Moves old.ended before held.ended files more
+  pub split : old.bytes ++ more ≡ used ++ held.bytes
+  pub count : length used + left ≡ n
 
 pub skip_begins : (old : Held) (files : Option Files) (n : ℕ) → IsPassedSoFar old files n n old files
 skip_begins old files n = record { more = []; used = []; moves = stand old.ended files; split = append-nil old.bytes; count = omega arith }

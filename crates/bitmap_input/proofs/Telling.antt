@@ -6,7 +6,8 @@ use Rattle.pt_base.specs.Files.{Files, Opened, taken_of, with_read, unread_of, u
 use Rattle.bitmap_input.specs.declared.stop.Stop.{Stop}
 use Rattle.bitmap_input.specs.declared.stop.Stop.TheVariants as stop
 use Rattle.bitmap_input.specs.declared.fault.InFault.TheVariants as fault
-use Rattle.bitmap_input.specs.Cut.{Cut, is_by_end, after, with_more, ◌>>=◌}
+use Rattle.bitmap_input.specs.Cut.{Cut, is_by_end, after, ◌>>=◌}
+use Rattle.bitmap_input.proofs.Appending.{with_more}
 use Rattle.bitmap_input.specs.Cut.Cut.{Takes, Stops}
 use Rattle.bitmap_input.specs.Reading.{Held, AtEnd, Moves, Cause, cause_of, StopsBy, Gives, Reads}
 use Rattle.bitmap_input.specs.Reading.Cause.{Says, Device, Memory}

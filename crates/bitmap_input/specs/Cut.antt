@@ -1,5 +1,5 @@
 -- Cutting a list of bytes: a part of a page takes a front of the list, or stops the reading.
-use Rattle.std.specs.Prelude.{ℕ, Bool, ◌||◌, List, ◌++◌}
+use Rattle.std.specs.Prelude.{ℕ, Bool, ◌||◌, List}
 
 -- why a page is refused
 pub data Kind : Type 0 where
@@ -41,8 +41,3 @@ infixl 10 ◌>>=◌
 abbrev pub ◌>>=◌ : {A B : Type 0} → Cut A → (A → List ℕ → Cut B) → Cut B
 (Takes e x rest) >>= f = after e (f x rest)
 (Stops e ending) >>= f = Stops e ending
-
--- the same cut of a list to which bytes were added
-abbrev pub with_more : {A : Type 0} → List ℕ → Cut A → Cut A
-with_more more (Takes e x rest) = Takes e x (rest ++ more)
-with_more more (Stops e ending) = Stops e ending

@@ -1,11 +1,6 @@
--- Painting the rows of a raster on a white page.
-use Rattle.std.specs.Prelude.{◌≡◌, ℕ, zero, suc, Bool, List, [], ◌∷◌, ◌++◌, take, Option, Result}
-use Rattle.pt_base.specs.Files.{Files}
+-- Putting the rows of a raster into a page.
+use Rattle.std.specs.Prelude.{ℕ, zero, suc, Bool, List, [], ◌∷◌}
 use Rattle.bit_image.specs.Image.{Image, with_pixel}
-use Rattle.bitmap_input.specs.declared.stop.Stop.{Stop}
-use Rattle.bitmap_input.specs.Cut.{Cut}
-use Rattle.bitmap_input.specs.Parts.{times}
-use Rattle.bitmap_input.specs.Reading.{Held, Moves, Reads}
 
 -- the image with these pixels in row y, from column x on, one after another
 abbrev pub with_pixels : Image → ℕ → ℕ → List Bool → Image
@@ -27,16 +22,3 @@ with_rows b (suc y) (r ∷ rs) = with_rows (with_row b y r) y rs
 abbrev pub with_placed : (ℕ → ℕ) → Image → ℕ → List (List Bool) → Image
 with_placed place b i [] = b
 with_placed place b i (r ∷ rs) = with_placed place (with_row b (place i) r) (suc i) rs
-
--- so far a part was read some times and its values were painted: what is read and painted from
--- here on is the rest of the whole
-pub record IsPaintedSoFar {A : Type 0} (part : List ℕ → Cut A) (old : Held) (before : Option Files) (whole : List A → Image) (n : ℕ) (held : Held) (files : Option Files) (rest : List A → Image) (left : ℕ) : Type 0 where
-  pub then : (result : Result (Unit {0}) Stop) (new : Held) (now : Option Files) (final : Image) →
-      Reads (λ _ xs. final ≡ rest xs) (times part left) held files result new now →
-      Reads (λ _ xs. final ≡ whole xs) (times part n) old before result new now
-
--- the first bytes of a block were read, `done` of them
-pub record IsBlockSoFar (old : Held) (before : Option Files) (done : ℕ) (row : List ℕ) (held : Held) (files : Option Files) : Type 0 where
-  pub more : List ℕ
-  pub moves : Moves old.ended before held.ended files more
-  pub split : old.bytes ++ more ≡ take done row ++ held.bytes

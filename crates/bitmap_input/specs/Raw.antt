@@ -25,14 +25,6 @@ abbrev pub entries_page : {A : Type 0} → (A → Entry) → ℕ → ℕ → Lis
 entries_page entry width height rows =
     record { width = width; height = height; rows = map (map entry) rows; least_length = 0 }
 
--- a page of bits
-abbrev pub bits_page : ℕ → ℕ → List (List Bool) → Raw
-bits_page width height rows = entries_page (λ b. Bit b) width height rows
-
--- a page of gray samples, of which `maxval` is white
-abbrev pub gray_page : ℕ → ℕ → ℕ → List (List ℕ) → Raw
-gray_page maxval width height rows = entries_page (λ v. Sample v maxval) width height rows
-
 -- the bytes of a row that holds eight pixels in a byte
 abbrev pub row_bytes : ℕ → ℕ
 row_bytes width = (width + 7) / 8

@@ -1,10 +1,8 @@
 -- Runs of bytes, read one byte after another.
-use Rattle.std.specs.Prelude.{◌≡◌, ℕ, suc, ◌+◌, true, false, List, ◌∷◌, ◌++◌, length, min, Option, Some, None}
-use Rattle.pt_base.specs.Files.{Files}
+use Rattle.std.specs.Prelude.{◌≡◌, ℕ, suc, true, false, List, ◌∷◌, min, Option, Some, None}
 use Rattle.bitmap_input.specs.Cut.{Cut, ◌>>=◌}
 use Rattle.bitmap_input.specs.Cut.Cut.{Takes}
 use Rattle.bitmap_input.specs.Parts.{run_length, gap_length, is_space, is_digit, run_of, value}
-use Rattle.bitmap_input.specs.Reading.{Held, Moves}
 use Rattle.bitmap_input.specs.declared.run.Run.{Run}
 use Rattle.bitmap_input.specs.declared.run.Run.TheVariants.{Space, Gap, Comment}
 
@@ -35,12 +33,3 @@ cap = 100000
 -- the number, cut where it is larger
 abbrev pub IsCapped : ℕ → ℕ → Type 0
 IsCapped x a = x ≡ min a cap
-
--- n bytes of a run were used: a run that begins as theirs did goes on as `len_now` says
-pub record RunSoFar (len len_now : List ℕ → ℕ) (old : Held) (before : Option Files) (n : ℕ) (new : Held) (now : Option Files) : Type 0 where
-  pub more : List ℕ
-  pub used : List ℕ
-  pub moves : Moves old.ended before new.ended now more
-  pub split : old.bytes ++ more ≡ used ++ new.bytes
-  pub count : length used ≡ n
-  pub goes_on : (tail : List ℕ) → len (used ++ tail) ≡ n + len_now tail

@@ -15,8 +15,7 @@ mod pixels;
 use crate::bmp::header::{Header, read_header};
 use crate::bmp::palette::read_palette;
 use crate::bmp::pixels::{Tone, read_rows};
-use crate::body::known;
-use crate::extent::ReadPage;
+use crate::extent::{ReadPage, known};
 use crate::fault::InFault;
 use crate::skip::skip_block;
 use crate::stop::Stop;
@@ -26,7 +25,7 @@ use pt_base::inputs::Inputs;
 use std::alloc::Global;
 use threshold_map::level::Level;
 
-// The bytes of a row.
+/// The bytes of a row.
 fn row_bytes(header: &Header) -> u32
     requires { IsReadable header.now }
     ensures value { result ≡ row_bytes_by header.now }
@@ -35,7 +34,7 @@ fn row_bytes(header: &Header) -> u32
     4 * ((header.width * header.depth.bits() + 31) / 32)
 }
 
-// The rows, on a page of their own.
+/// The rows, on a page of their own.
 fn read_pixels<I: Inputs>(
     alloc: Global,
     window: &mut Window,
@@ -48,7 +47,8 @@ fn read_pixels<I: Inputs>(
     requires readable { IsReadable header.now }
     requires table { length table.now ≡ 256 }
     ensures reads { (color : ℕ → Entry) → IsTable tone.now.level tone.now.invert color table.now
-        → Reads (IsShown tone.now.level tone.now.invert) (pixels_by header.now color) window.old (I.files inputs.old) result window.new (I.files inputs.new) }
+        → Reads (IsShown tone.now.level tone.now.invert) (pixels_by header.now color) window.old
+        (I.files inputs.old) result window.new (I.files inputs.new) }
     ensures counts { Counts result (I.faults inputs.old) (I.faults inputs.new) }
     ensures stays_opened { I.is_opened inputs.new ≡ true }
     ensures same_openings { I.openings inputs.new ≡ I.openings inputs.old }
@@ -66,7 +66,7 @@ fn read_pixels<I: Inputs>(
     Ok(page)
 }
 
-// What follows the header.
+/// What follows the header.
 fn read_raster<I: Inputs>(
     alloc: Global,
     window: &mut Window,
@@ -76,7 +76,8 @@ fn read_raster<I: Inputs>(
 ) -> Result<Bitmap, Stop>
     requires opened { I.is_opened inputs.old ≡ true }
     requires readable { IsReadable header.now }
-    ensures reads { Reads (IsShown tone.now.level tone.now.invert) (raster_by header.now) window.old (I.files inputs.old) result window.new (I.files inputs.new) }
+    ensures reads { Reads (IsShown tone.now.level tone.now.invert) (raster_by header.now) window.old
+        (I.files inputs.old) result window.new (I.files inputs.new) }
     ensures counts { Counts result (I.faults inputs.old) (I.faults inputs.new) }
     ensures stays_opened { I.is_opened inputs.new ≡ true }
     ensures same_openings { I.openings inputs.new ≡ I.openings inputs.old }
@@ -87,10 +88,11 @@ fn read_raster<I: Inputs>(
     read_pixels(alloc, window, inputs, header, tone, &table)
 }
 
-// How many bytes the picture claims behind its last row.
+/// How many bytes the picture claims behind its last row.
 fn behind(header: &Header) -> u32
     requires { IsReadable header.now }
-    ensures { result ≡ header.now.file_size - (header.now.pixel_offset + header.now.height * row_bytes_by header.now) }
+    ensures { result ≡ header.now.file_size -
+        (header.now.pixel_offset + header.now.height * row_bytes_by header.now) }
 {
     let rows_end = header.pixel_offset as u64 + header.height as u64 * row_bytes(header) as u64;
     if rows_end < header.file_size as u64 {
@@ -109,7 +111,8 @@ pub(crate) fn read_bmp<I: Inputs>(
     invert: bool,
 ) -> Result<ReadPage, Stop>
     requires { I.is_opened inputs.old ≡ true }
-    ensures reads { Reads (IsRead level.now invert) (counted_body picture) window.old (I.files inputs.old) result window.new (I.files inputs.new) }
+    ensures reads { Reads (IsRead level.now invert) (counted_body picture) window.old
+        (I.files inputs.old) result window.new (I.files inputs.new) }
     ensures counts { Counts result (I.faults inputs.old) (I.faults inputs.new) }
     ensures stays_opened { I.is_opened inputs.new ≡ true }
     ensures same_openings { I.openings inputs.new ≡ I.openings inputs.old }

@@ -1,6 +1,5 @@
 //! What follows the magic of a page.
 ghost use Rattle.std.specs.Prelude.{◌≡◌, ℕ, true};
-ghost use Rattle.bit_image.specs.Page.{Page, image_of, page_of};
 ghost use Rattle.bitmap_input.specs.Reading.{Reads, Counts};
 ghost use Rattle.bitmap_input.specs.Front.{body};
 ghost use Rattle.bitmap_input.specs.Front.Magic.{PlainBits as plain_bits, RawBits as raw_bits, PlainGray as plain_gray, RawGray as raw_gray};
@@ -9,7 +8,7 @@ ghost use Rattle.bitmap_input.specs.Header.{magic_of};
 ghost use Rattle.bitmap_input.specs.Raw.{IsShown};
 
 use crate::bmp::read_bmp;
-use crate::extent::{ReadPage, claiming_none};
+use crate::extent::{ReadPage, claiming_none, known};
 use crate::fault::InFault;
 use crate::gray::{Shading, read_plain_gray_rows, read_raw_gray_rows, row_bytes};
 use crate::header::{Format, read_maxval, read_sides, skip_space};
@@ -18,20 +17,11 @@ use crate::raw::read_raw_rows;
 use crate::stop::Stop;
 use crate::window::Window;
 use bit_image::bitmap::Bitmap;
-use bit_image::laws::pages_are_known_by_pixels;
 use pt_base::inputs::Inputs;
 use std::alloc::Global;
 use threshold_map::level::Level;
 
-/// A page is known by its pixels.
-pub(crate) fn known(page: &Bitmap)
-    ensures { page.now ≡ page_of page.now.width page.now.height (image_of page.now) }
-{
-    pages_are_known_by_pixels();
-    let _width = page.width();
-}
-
-// A plain page of bits, behind its magic.
+/// A plain page of bits, behind its magic.
 fn read_plain_body<I: Inputs>(
     alloc: Global,
     window: &mut Window,
@@ -39,7 +29,9 @@ fn read_plain_body<I: Inputs>(
     invert: bool,
 ) -> Result<Bitmap, Stop>
     requires { I.is_opened inputs.old ≡ true }
-    ensures reads { (level : ℕ) → Reads (IsShown level invert) (body plain_bits) window.old (I.files inputs.old) result window.new (I.files inputs.new) }
+    ensures reads { (level : ℕ)
+        → Reads (IsShown level invert) (body plain_bits) window.old
+        (I.files inputs.old) result window.new (I.files inputs.new) }
     ensures counts { Counts result (I.faults inputs.old) (I.faults inputs.new) }
     ensures stays_opened { I.is_opened inputs.new ≡ true }
     ensures same_openings { I.openings inputs.new ≡ I.openings inputs.old }
@@ -54,7 +46,7 @@ fn read_plain_body<I: Inputs>(
     Ok(page)
 }
 
-// A raw page of bits, behind its magic.
+/// A raw page of bits, behind its magic.
 fn read_raw_body<I: Inputs>(
     alloc: Global,
     window: &mut Window,
@@ -62,7 +54,9 @@ fn read_raw_body<I: Inputs>(
     invert: bool,
 ) -> Result<Bitmap, Stop>
     requires { I.is_opened inputs.old ≡ true }
-    ensures reads { (level : ℕ) → Reads (IsShown level invert) (body raw_bits) window.old (I.files inputs.old) result window.new (I.files inputs.new) }
+    ensures reads { (level : ℕ)
+        → Reads (IsShown level invert) (body raw_bits) window.old
+        (I.files inputs.old) result window.new (I.files inputs.new) }
     ensures counts { Counts result (I.faults inputs.old) (I.faults inputs.new) }
     ensures stays_opened { I.is_opened inputs.new ≡ true }
     ensures same_openings { I.openings inputs.new ≡ I.openings inputs.old }
@@ -78,7 +72,7 @@ fn read_raw_body<I: Inputs>(
     Ok(page)
 }
 
-// A plain gray page, behind its magic.
+/// A plain gray page, behind its magic.
 fn read_plain_gray_body<I: Inputs>(
     alloc: Global,
     window: &mut Window,
@@ -87,7 +81,8 @@ fn read_plain_gray_body<I: Inputs>(
     invert: bool,
 ) -> Result<Bitmap, Stop>
     requires { I.is_opened inputs.old ≡ true }
-    ensures reads { Reads (IsShown level.now invert) (body plain_gray) window.old (I.files inputs.old) result window.new (I.files inputs.new) }
+    ensures reads { Reads (IsShown level.now invert) (body plain_gray) window.old
+        (I.files inputs.old) result window.new (I.files inputs.new) }
     ensures counts { Counts result (I.faults inputs.old) (I.faults inputs.new) }
     ensures stays_opened { I.is_opened inputs.new ≡ true }
     ensures same_openings { I.openings inputs.new ≡ I.openings inputs.old }
@@ -99,8 +94,8 @@ fn read_plain_gray_body<I: Inputs>(
         Err(_) => return Err(Stop::Fault(InFault::NoMemory)),
     };
     let shading = Shading {
-        level: *level,
         white,
+        limit: level.gray_limit(white),
         invert,
     };
     read_plain_gray_rows(window, inputs, &mut page, &shading)?;
@@ -108,7 +103,7 @@ fn read_plain_gray_body<I: Inputs>(
     Ok(page)
 }
 
-// A raw gray page, behind its magic.
+/// A raw gray page, behind its magic.
 fn read_raw_gray_body<I: Inputs>(
     alloc: Global,
     window: &mut Window,
@@ -117,7 +112,8 @@ fn read_raw_gray_body<I: Inputs>(
     invert: bool,
 ) -> Result<Bitmap, Stop>
     requires { I.is_opened inputs.old ≡ true }
-    ensures reads { Reads (IsShown level.now invert) (body raw_gray) window.old (I.files inputs.old) result window.new (I.files inputs.new) }
+    ensures reads { Reads (IsShown level.now invert) (body raw_gray) window.old
+        (I.files inputs.old) result window.new (I.files inputs.new) }
     ensures counts { Counts result (I.faults inputs.old) (I.faults inputs.new) }
     ensures stays_opened { I.is_opened inputs.new ≡ true }
     ensures same_openings { I.openings inputs.new ≡ I.openings inputs.old }
@@ -134,8 +130,8 @@ fn read_raw_gray_body<I: Inputs>(
         Err(_) => return Err(Stop::Fault(InFault::NoMemory)),
     };
     let shading = Shading {
-        level: *level,
         white,
+        limit: level.gray_limit(white),
         invert,
     };
     read_raw_gray_rows(window, inputs, &mut page, &shading, &mut row)?;
@@ -153,7 +149,8 @@ pub(crate) fn read_body<I: Inputs>(
     invert: bool,
 ) -> Result<ReadPage, Stop>
     requires { I.is_opened inputs.old ≡ true }
-    ensures reads { Reads (IsRead level.now invert) (counted_body (magic_of format)) window.old (I.files inputs.old) result window.new (I.files inputs.new) }
+    ensures reads { Reads (IsRead level.now invert) (counted_body (magic_of format)) window.old
+        (I.files inputs.old) result window.new (I.files inputs.new) }
     ensures counts { Counts result (I.faults inputs.old) (I.faults inputs.new) }
     ensures stays_opened { I.is_opened inputs.new ≡ true }
     ensures same_openings { I.openings inputs.new ≡ I.openings inputs.old }

@@ -1,9 +1,11 @@
 //! Pages with what they claim of the file.
 ghost use Rattle.std.specs.Prelude.{◌≡◌};
+ghost use Rattle.bit_image.specs.Page.{image_of, page_of};
 ghost use Rattle.bitmap_input.specs.Behind.{claiming_none};
 
 use crate::stop::Stop;
 use bit_image::bitmap::Bitmap;
+use bit_image::laws::pages_are_known_by_pixels;
 
 /// A page that was read, and how many bytes it claims behind those that it takes.
 #[derive(Debug, Drop)]
@@ -20,4 +22,12 @@ pub(crate) fn claiming_none(page: Result<Bitmap, Stop>) -> Result<ReadPage, Stop
         Ok(page) => Ok(ReadPage { page, behind: 0 }),
         Err(stop) => Err(stop),
     }
+}
+
+/// A page is known by its pixels.
+pub(crate) fn known(page: &Bitmap)
+    ensures { page.now ≡ page_of page.now.width page.now.height (image_of page.now) }
+{
+    pages_are_known_by_pixels();
+    let _width = page.width();
 }

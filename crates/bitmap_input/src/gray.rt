@@ -1,5 +1,6 @@
 //! Gray rasters: a sample for each pixel, as a number or as a byte or two.
-ghost use Rattle.std.specs.Prelude.{◌≡◌, ℕ, ◌<◌, ◌≤◌, true, false, length, map, get_or};
+ghost use Rattle.std.specs.Prelude.{◌≡◌, ℕ, ◌+◌, ◌<◌, ◌≤◌, true, false, length, map, get_or};
+ghost use Rattle.bit_image.specs.Words.{is_one};
 ghost use Rattle.bit_image.specs.Page.{Page, SameSides, image_of};
 ghost use Rattle.bitmap_input.specs.Reading.{Reads, Counts};
 ghost use Rattle.bitmap_input.specs.Parts.{times};
@@ -9,43 +10,39 @@ ghost use Rattle.bitmap_input.specs.Raster.{with_row, with_rows};
 ghost use Rattle.bitmap_input.specs.Run.{IsCapped};
 ghost use Rattle.bitmap_input.specs.Shading.{black_of, IsInRange};
 
+use crate::header::LONGEST_SIDE;
 use crate::number::{Part, read_number_behind_gap};
 use crate::raw::read_block;
 use crate::stop::Stop;
 use crate::window::Window;
+use crate::words::with_pixel;
 use bit_image::bitmap::Bitmap;
 use pt_base::inputs::Inputs;
-use threshold_map::level::Level;
 
 /// How the samples of a page become pixels.
 #[derive(Clone, Copy, Debug)]
 pub(crate) struct Shading {
-    pub(crate) level: Level,
     /// The sample that is white, from 1 to 65535.
     pub(crate) white: u32,
+    /// The brightest sample that is black, at most the one that is white.
+    pub(crate) limit: u32,
     pub(crate) invert: bool,
 }
 
 impl Shading {
-    // Whether a sample is a black pixel.
+    /// Whether a sample is a black pixel. A number may have been cut where it is too large to be
+    /// black.
+    #[inline(always)]
     fn black(&self, sample: u32) -> bool
-        requires { IsInRange self.now }
         ensures value { result ≡ black_of self.now sample }
-        ensures most_level { self.now.level ≤ 1000000 }
+        ensures cut { IsInRange self.now → (a : ℕ) → IsCapped sample a
+            → result ≡ black_of self.now a }
     {
-        self.level.gray(sample, self.white) != self.invert
-    }
-
-    // The same of a number, which may have been cut where it is too large to be black.
-    fn black_number(&self, sample: u32) -> bool
-        requires { IsInRange self.now }
-        ensures { (a : ℕ) → IsCapped sample a → result ≡ black_of self.now a }
-    {
-        self.black(sample)
+        (sample <= self.limit) != self.invert
     }
 }
 
-// One row of samples as numbers, painted in row y.
+/// One row of samples as numbers, painted in row y.
 fn read_plain_row<I: Inputs>(
     window: &mut Window,
     inputs: &mut I,
@@ -56,7 +53,10 @@ fn read_plain_row<I: Inputs>(
     requires opened { I.is_opened inputs.old ≡ true }
     requires row { y < page.old.height }
     requires range { IsInRange shading.now }
-    ensures reads { Reads (λ _ row. image_of page.new ≡ with_row (image_of page.old) y (map (black_of shading.now) row)) (times plain_sample page.old.width) window.old (I.files inputs.old) result window.new (I.files inputs.new) }
+    ensures reads { Reads (λ _ row. image_of page.new
+        ≡ with_row (image_of page.old) y (map (black_of shading.now) row))
+        (times plain_sample page.old.width) window.old (I.files inputs.old) result window.new
+        (I.files inputs.new) }
     ensures sides { SameSides page.old page.new }
     ensures counts { Counts result (I.faults inputs.old) (I.faults inputs.new) }
     ensures stays_opened { I.is_opened inputs.new ≡ true }
@@ -64,7 +64,7 @@ fn read_plain_row<I: Inputs>(
 {
     for x in 0..page.width() {
         let sample = read_number_behind_gap(window, inputs, Part::Raster)?;
-        page.set(x, y, shading.black_number(sample));
+        page.set(x, y, shading.black(sample));
     }
     Ok(())
 }
@@ -78,7 +78,10 @@ pub(crate) fn read_plain_gray_rows<I: Inputs>(
 ) -> Result<(), Stop>
     requires opened { I.is_opened inputs.old ≡ true }
     requires range { IsInRange shading.now }
-    ensures reads { Reads (λ _ rows. image_of page.new ≡ with_rows (image_of page.old) page.old.height (map (map (black_of shading.now)) rows)) (times (times plain_sample page.old.width) page.old.height) window.old (I.files inputs.old) result window.new (I.files inputs.new) }
+    ensures reads { Reads (λ _ rows. image_of page.new
+        ≡ with_rows (image_of page.old) page.old.height (map (map (black_of shading.now)) rows))
+        (times (times plain_sample page.old.width) page.old.height) window.old
+        (I.files inputs.old) result window.new (I.files inputs.new) }
     ensures sides { SameSides page.old page.new }
     ensures counts { Counts result (I.faults inputs.old) (I.faults inputs.new) }
     ensures stays_opened { I.is_opened inputs.new ≡ true }
@@ -92,7 +95,7 @@ pub(crate) fn read_plain_gray_rows<I: Inputs>(
     Ok(())
 }
 
-// Whether each sample is two bytes.
+/// Whether each sample is two bytes.
 fn is_wide(white: u32) -> bool
     ensures { result ≡ is_wide white }
 {
@@ -111,7 +114,7 @@ pub(crate) fn row_bytes(width: u32, white: u32) -> usize
     }
 }
 
-// The sample in a column of a row, where all are wide or none is.
+/// The sample in a column of a row, where all are wide or none is.
 fn sample_at(row: &[u8], wide: bool, x: usize) -> u32
     requires { x < length (samples wide row.now) }
     ensures { result ≡ get_or (samples wide row.now) x 0 }
@@ -123,17 +126,35 @@ fn sample_at(row: &[u8], wide: bool, x: usize) -> u32
     }
 }
 
-// Paints a row of samples in row y.
+/// The word of so many samples of a row, from one column on.
+fn word(row: &[u8], from: usize, count: usize, shading: &Shading) -> u64
+    requires few { count ≤ 64 }
+    requires column { from ≤ LONGEST_SIDE }
+    requires within { from + count ≤ length (samples (is_wide shading.now.white) row.now) }
+    ensures { (k : ℕ) → k < count → is_one result k
+        ≡ black_of shading.now (get_or (samples (is_wide shading.now.white) row.now) (from + k) 0) }
+{
+    let wide = is_wide(shading.white);
+    let mut word = 0;
+    for i in 0..count {
+        word = with_pixel(word, i, shading.black(sample_at(row, wide, from + i)));
+    }
+    word
+}
+
+/// Puts a row of samples into row y, word by word.
 fn place_row(page: &mut Bitmap, y: u32, row: &[u8], shading: &Shading)
     requires row { y < page.old.height }
     requires whole { length row.now ≡ gray_row_bytes shading.now.white page.old.width }
-    requires range { IsInRange shading.now }
     ensures sides { SameSides page.old page.new }
-    ensures pixels { image_of page.new ≡ with_row (image_of page.old) y (map (black_of shading.now) (samples (is_wide shading.now.white) row.now)) }
+    ensures pixels { image_of page.new ≡ with_row (image_of page.old) y
+        (map (black_of shading.now) (samples (is_wide shading.now.white) row.now)) }
 {
-    let wide = is_wide(shading.white);
-    for x in 0..page.width() {
-        page.set(x, y, shading.black(sample_at(row, wide, x as usize)));
+    let width = page.width();
+    for at in 0..(width + 63) / 64 {
+        let from = 64 * at;
+        let count = (width - from).min(64);
+        page.put_word(y, at, word(row, from as usize, count as usize, shading));
     }
 }
 
@@ -146,9 +167,11 @@ pub(crate) fn read_raw_gray_rows<I: Inputs>(
     row: &mut [u8],
 ) -> Result<(), Stop>
     requires opened { I.is_opened inputs.old ≡ true }
-    requires range { IsInRange shading.now }
     requires whole { length row.old ≡ gray_row_bytes shading.now.white page.old.width }
-    ensures reads { Reads (λ _ rows. image_of page.new ≡ with_rows (image_of page.old) page.old.height (map (map (black_of shading.now)) rows)) (times (raw_gray_row shading.now.white page.old.width) page.old.height) window.old (I.files inputs.old) result window.new (I.files inputs.new) }
+    ensures reads { Reads (λ _ rows. image_of page.new
+        ≡ with_rows (image_of page.old) page.old.height (map (map (black_of shading.now)) rows))
+        (times (raw_gray_row shading.now.white page.old.width) page.old.height) window.old
+        (I.files inputs.old) result window.new (I.files inputs.new) }
     ensures sides { SameSides page.old page.new }
     ensures counts { Counts result (I.faults inputs.old) (I.faults inputs.new) }
     ensures stays_opened { I.is_opened inputs.new ≡ true }

@@ -40,7 +40,7 @@ pub(crate) struct Sides {
     pub(crate) height: u32,
 }
 
-// No known magic stands where one is due.
+/// No known magic stands where one is due.
 fn no_magic(later: bool) -> Stop
     ensures { result ≡ (if later then Stop.Trailing else Stop.Fault InFault.UnknownFormat) }
 {
@@ -51,7 +51,7 @@ fn no_magic(later: bool) -> Stop
     }
 }
 
-// The format that the two bytes name, if they are a magic.
+/// The format that the two bytes name, if they are a magic.
 fn format_named(first: u8, second: u8) -> Option<Format>
     ensures { magic_named first second ≡ option_map magic_of result }
 {
@@ -65,7 +65,7 @@ fn format_named(first: u8, second: u8) -> Option<Format>
     }
 }
 
-// The second byte of a magic, behind the first one.
+/// The second byte of a magic, behind the first one.
 fn read_magic_behind<I: Inputs>(
     window: &mut Window,
     inputs: &mut I,
@@ -73,7 +73,8 @@ fn read_magic_behind<I: Inputs>(
     first: u8,
 ) -> Result<Format, Stop>
     requires { I.is_opened inputs.old ≡ true }
-    ensures reads { Reads IsFormat (magic_behind later first) window.old (I.files inputs.old) result window.new (I.files inputs.new) }
+    ensures reads { Reads IsFormat (magic_behind later first) window.old
+        (I.files inputs.old) result window.new (I.files inputs.new) }
     ensures counts { Counts result (I.faults inputs.old) (I.faults inputs.new) }
     ensures stays_opened { I.is_opened inputs.new ≡ true }
     ensures same_openings { I.openings inputs.new ≡ I.openings inputs.old }
@@ -98,7 +99,8 @@ pub(crate) fn read_magic<I: Inputs>(
     later: bool,
 ) -> Result<Format, Stop>
     requires { I.is_opened inputs.old ≡ true }
-    ensures reads { Reads IsFormat (magic later) window.old (I.files inputs.old) result window.new (I.files inputs.new) }
+    ensures reads { Reads IsFormat (magic later) window.old (I.files inputs.old) result window.new
+        (I.files inputs.new) }
     ensures counts { Counts result (I.faults inputs.old) (I.faults inputs.new) }
     ensures stays_opened { I.is_opened inputs.new ≡ true }
     ensures same_openings { I.openings inputs.new ≡ I.openings inputs.old }
@@ -122,7 +124,8 @@ pub(crate) fn read_magic<I: Inputs>(
 /// Goes on behind one byte of whitespace.
 pub(crate) fn skip_space<I: Inputs>(window: &mut Window, inputs: &mut I) -> Result<(), Stop>
     requires { I.is_opened inputs.old ≡ true }
-    ensures reads { Reads Any space window.old (I.files inputs.old) result window.new (I.files inputs.new) }
+    ensures reads { Reads Any space window.old (I.files inputs.old) result window.new
+        (I.files inputs.new) }
     ensures counts { Counts result (I.faults inputs.old) (I.faults inputs.new) }
     ensures stays_opened { I.is_opened inputs.new ≡ true }
     ensures same_openings { I.openings inputs.new ≡ I.openings inputs.old }
@@ -141,7 +144,7 @@ pub(crate) fn skip_space<I: Inputs>(window: &mut Window, inputs: &mut I) -> Resu
     }
 }
 
-// The two numbers as the sides of a page.
+/// The two numbers as the sides of a page.
 pub(crate) fn check(width: u32, height: u32) -> Result<Sides, Stop>
     ensures checks { Checks width height result }
     ensures width { IfOk result (λ s. (1 ≤ s.width) × (s.width ≤ LONGEST_SIDE)) }
@@ -159,7 +162,8 @@ pub(crate) fn check(width: u32, height: u32) -> Result<Sides, Stop>
 /// The width and the height, each behind a gap.
 pub(crate) fn read_sides<I: Inputs>(window: &mut Window, inputs: &mut I) -> Result<Sides, Stop>
     requires { I.is_opened inputs.old ≡ true }
-    ensures reads { Reads IsSides sides window.old (I.files inputs.old) result window.new (I.files inputs.new) }
+    ensures reads { Reads IsSides sides window.old (I.files inputs.old) result window.new
+        (I.files inputs.new) }
     ensures counts { Counts result (I.faults inputs.old) (I.faults inputs.new) }
     ensures stays_opened { I.is_opened inputs.new ≡ true }
     ensures same_openings { I.openings inputs.new ≡ I.openings inputs.old }
@@ -171,7 +175,7 @@ pub(crate) fn read_sides<I: Inputs>(window: &mut Window, inputs: &mut I) -> Resu
     check(width, height)
 }
 
-// The number as the sample for white.
+/// The number as the sample for white.
 fn check_maxval(white: u32) -> Result<u32, Stop>
     ensures checks { ChecksMaxval white result }
     ensures range { IfOk result (λ white. (1 ≤ white) × (white ≤ GREATEST_MAXVAL)) }
@@ -185,7 +189,8 @@ fn check_maxval(white: u32) -> Result<u32, Stop>
 /// The sample for white, behind a gap.
 pub(crate) fn read_maxval<I: Inputs>(window: &mut Window, inputs: &mut I) -> Result<u32, Stop>
     requires { I.is_opened inputs.old ≡ true }
-    ensures reads { Reads Same maxval window.old (I.files inputs.old) result window.new (I.files inputs.new) }
+    ensures reads { Reads Same maxval window.old (I.files inputs.old) result window.new
+        (I.files inputs.new) }
     ensures counts { Counts result (I.faults inputs.old) (I.faults inputs.new) }
     ensures stays_opened { I.is_opened inputs.new ≡ true }
     ensures same_openings { I.openings inputs.new ≡ I.openings inputs.old }

@@ -5,22 +5,29 @@ ghost use Rattle.bitmap_input.specs.Parts.{run_length, gap_length};
 ghost use Rattle.bitmap_input.specs.Sets.{IsRun, IsGap};
 ghost use Rattle.bit_image.specs.Page.{IsPage};
 ghost use Rattle.bitmap_input.specs.Raw.{Raw, shown};
-ghost use Rattle.bitmap_input.specs.Front.{Answer, front, page_at};
+ghost use Rattle.bitmap_input.specs.Front.{front, page_at};
+ghost use Rattle.bitmap_input.specs.Front.Answer.{Page};
+ghost use Rattle.bitmap_input.specs.PageText.{IsPageText};
 ghost use Rattle.bitmap_input.specs.FilePages.{FilePages};
 
 /// What is cut off the front of a list of bytes is the longest member of its set: a run of
 /// whitespace or of digits, and a gap.
 pub fn cuts_are_longest()
     ensures run { (p : ℕ → Bool) (bytes : List ℕ) → IsRun p (take (run_length p bytes) bytes) }
-    ensures longest_run { (p : ℕ → Bool) (bytes : List ℕ) (n : ℕ) → n ≤ length bytes → IsRun p (take n bytes) → n ≤ run_length p bytes }
+    ensures longest_run { (p : ℕ → Bool) (bytes : List ℕ) (n : ℕ) → n ≤ length bytes
+        → IsRun p (take n bytes) → n ≤ run_length p bytes }
     ensures gap { (bytes : List ℕ) → IsGap (take (gap_length false bytes) bytes) }
-    ensures longest_gap { (bytes : List ℕ) (n : ℕ) → n ≤ length bytes → IsGap (take n bytes) → n ≤ gap_length false bytes }
+    ensures longest_gap { (bytes : List ℕ) (n : ℕ) → n ≤ length bytes → IsGap (take n bytes)
+        → n ≤ gap_length false bytes }
 {}
 
-/// A list of bytes has exactly one front.
-pub fn fronts_are_one()
-    ensures { (later : Bool) (bytes : List ℕ) → (answer : Answer) × (front later bytes ≡ answer)
-        × ((other : Answer) → front later bytes ≡ other → other ≡ answer) }
+/// The bytes of a page are members of its parts one behind another: whitespace, a magic, and what the
+/// format has behind it.
+pub fn pages_are_parts()
+    ensures parts { (later : Bool) (bytes : List ℕ) (raw : Raw) (used : ℕ)
+        → front later bytes ≡ Page raw used → IsPageText raw (take used bytes) }
+    ensures within { (later : Bool) (bytes : List ℕ) (raw : Raw) (used : ℕ)
+        → front later bytes ≡ Page raw used → used ≤ length bytes }
 {}
 
 /// A front that isn't by the end of the bytes stays the same where bytes are added.
@@ -31,13 +38,16 @@ pub fn fronts_stay()
 
 /// A file has one list of pages, and one ending.
 pub fn file_pages_are_one()
-    ensures some { (later : Bool) (bytes : List ℕ) → (raws : List Raw) × (ending : Ending) × FilePages later bytes raws ending }
+    ensures some { (later : Bool) (bytes : List ℕ)
+        → (raws : List Raw) × (ending : Ending) × FilePages later bytes raws ending }
     ensures same { (later : Bool) (bytes : List ℕ) (raws others : List Raw) (ending other : Ending)
-        → FilePages later bytes raws ending → FilePages later bytes others other → (others ≡ raws) × (other ≡ ending) }
+        → FilePages later bytes raws ending → FilePages later bytes others other
+        → (others ≡ raws) × (other ≡ ending) }
 {}
 
 /// What the pages of a file show are pages.
 pub fn file_pages_are_pages()
-    ensures { (later : Bool) (bytes : List ℕ) (raws : List Raw) (ending : Ending) (level : ℕ) (invert : Bool)
+    ensures { (later : Bool) (bytes : List ℕ) (raws : List Raw) (ending : Ending) (level : ℕ)
+        (invert : Bool)
         → FilePages later bytes raws ending → All (λ raw. IsPage (shown level invert raw)) raws }
 {}

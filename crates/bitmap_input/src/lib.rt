@@ -31,3 +31,4 @@ mod run;
 mod skip;
 mod stop;
 mod window;
+mod words;

@@ -13,8 +13,8 @@ use crate::stop::Stop;
 use crate::window::{Look, Window};
 use pt_base::inputs::Inputs;
 
-// A number is cut here where it is larger: it is too large for a side, for the sample for white and for a
-// black sample either way.
+/// A number is cut here where it is larger: it is too large for a side, for the sample for white and for a
+/// black sample either way.
 pub(crate) const CAP: u32 = 100000;
 
 /// A part of a page, to which a number belongs.
@@ -25,7 +25,7 @@ pub(crate) enum Part {
 }
 
 impl Part {
-    // What another byte than a digit or a gap's means here.
+    /// What another byte than a digit or a gap's means here.
     fn fault(self) -> InFault
         ensures { cause_of_fault result ≡ Says (Refused (kind_at self)) }
     {
@@ -42,10 +42,11 @@ fn is_digit(byte: u8) -> bool
     48 <= byte && byte <= 57
 }
 
-// The digits that stand at the front, of which there may be none.
+/// The digits that stand at the front, of which there may be none.
 fn read_digits<I: Inputs>(window: &mut Window, inputs: &mut I) -> Result<u32, Stop>
     requires { I.is_opened inputs.old ≡ true }
-    ensures reads { Reads IsCapped digits window.old (I.files inputs.old) result window.new (I.files inputs.new) }
+    ensures reads { Reads IsCapped digits window.old (I.files inputs.old) result window.new
+        (I.files inputs.new) }
     ensures counts { Counts result (I.faults inputs.old) (I.faults inputs.new) }
     ensures stays_opened { I.is_opened inputs.new ≡ true }
     ensures same_openings { I.openings inputs.new ≡ I.openings inputs.old }
@@ -69,10 +70,11 @@ fn read_digits<I: Inputs>(window: &mut Window, inputs: &mut I) -> Result<u32, St
     Err(Stop::Fault(InFault::TooLong))
 }
 
-// A number, or 100000 where it is larger.
+/// A number, or 100000 where it is larger.
 fn read_number<I: Inputs>(window: &mut Window, inputs: &mut I, part: Part) -> Result<u32, Stop>
     requires { I.is_opened inputs.old ≡ true }
-    ensures reads { Reads IsCapped (number (kind_at part)) window.old (I.files inputs.old) result window.new (I.files inputs.new) }
+    ensures reads { Reads IsCapped (number (kind_at part)) window.old
+        (I.files inputs.old) result window.new (I.files inputs.new) }
     ensures counts { Counts result (I.faults inputs.old) (I.faults inputs.new) }
     ensures stays_opened { I.is_opened inputs.new ≡ true }
     ensures same_openings { I.openings inputs.new ≡ I.openings inputs.old }
@@ -90,10 +92,11 @@ fn read_number<I: Inputs>(window: &mut Window, inputs: &mut I, part: Part) -> Re
     }
 }
 
-// Goes on behind whitespace and comments, of which there is at least a byte.
+/// Goes on behind whitespace and comments, of which there is at least a byte.
 fn skip_gap<I: Inputs>(window: &mut Window, inputs: &mut I, part: Part) -> Result<(), Stop>
     requires { I.is_opened inputs.old ≡ true }
-    ensures reads { Reads Any (some_gap (kind_at part)) window.old (I.files inputs.old) result window.new (I.files inputs.new) }
+    ensures reads { Reads Any (some_gap (kind_at part)) window.old
+        (I.files inputs.old) result window.new (I.files inputs.new) }
     ensures counts { Counts result (I.faults inputs.old) (I.faults inputs.new) }
     ensures stays_opened { I.is_opened inputs.new ≡ true }
     ensures same_openings { I.openings inputs.new ≡ I.openings inputs.old }
@@ -115,7 +118,8 @@ pub(crate) fn read_number_behind_gap<I: Inputs>(
     part: Part,
 ) -> Result<u32, Stop>
     requires { I.is_opened inputs.old ≡ true }
-    ensures reads { Reads IsCapped (number_behind_gap (kind_at part)) window.old (I.files inputs.old) result window.new (I.files inputs.new) }
+    ensures reads { Reads IsCapped (number_behind_gap (kind_at part)) window.old
+        (I.files inputs.old) result window.new (I.files inputs.new) }
     ensures counts { Counts result (I.faults inputs.old) (I.faults inputs.new) }
     ensures stays_opened { I.is_opened inputs.new ≡ true }
     ensures same_openings { I.openings inputs.new ≡ I.openings inputs.old }

@@ -14,10 +14,11 @@ use crate::window::{Look, Window};
 use bit_image::bitmap::Bitmap;
 use pt_base::inputs::Inputs;
 
-// The character of a pixel: whether it is black.
+/// The character of a pixel: whether it is black.
 fn read_pixel<I: Inputs>(window: &mut Window, inputs: &mut I) -> Result<bool, Stop>
     requires { I.is_opened inputs.old ≡ true }
-    ensures reads { Reads Same pixel window.old (I.files inputs.old) result window.new (I.files inputs.new) }
+    ensures reads { Reads Same pixel window.old (I.files inputs.old) result window.new
+        (I.files inputs.new) }
     ensures counts { Counts result (I.faults inputs.old) (I.faults inputs.new) }
     ensures stays_opened { I.is_opened inputs.new ≡ true }
     ensures same_openings { I.openings inputs.new ≡ I.openings inputs.old }
@@ -36,10 +37,11 @@ fn read_pixel<I: Inputs>(window: &mut Window, inputs: &mut I) -> Result<bool, St
     }
 }
 
-// A pixel, with whitespace and comments before it or not.
+/// A pixel, with whitespace and comments before it or not.
 fn read_plain_pixel<I: Inputs>(window: &mut Window, inputs: &mut I) -> Result<bool, Stop>
     requires { I.is_opened inputs.old ≡ true }
-    ensures reads { Reads Same plain_pixel window.old (I.files inputs.old) result window.new (I.files inputs.new) }
+    ensures reads { Reads Same plain_pixel window.old (I.files inputs.old) result window.new
+        (I.files inputs.new) }
     ensures counts { Counts result (I.faults inputs.old) (I.faults inputs.new) }
     ensures stays_opened { I.is_opened inputs.new ≡ true }
     ensures same_openings { I.openings inputs.new ≡ I.openings inputs.old }
@@ -63,7 +65,7 @@ fn read_plain_pixel<I: Inputs>(window: &mut Window, inputs: &mut I) -> Result<bo
     }
 }
 
-// One row of pixels, painted in row y, inverted or not.
+/// One row of pixels, painted in row y, inverted or not.
 fn read_plain_row<I: Inputs>(
     window: &mut Window,
     inputs: &mut I,
@@ -73,7 +75,10 @@ fn read_plain_row<I: Inputs>(
 ) -> Result<(), Stop>
     requires opened { I.is_opened inputs.old ≡ true }
     requires row { y < page.old.height }
-    ensures reads { Reads (λ _ pixels. image_of page.new ≡ with_row (image_of page.old) y (map (differ invert) pixels)) (times plain_pixel page.old.width) window.old (I.files inputs.old) result window.new (I.files inputs.new) }
+    ensures reads { Reads (λ _ pixels. image_of page.new
+        ≡ with_row (image_of page.old) y (map (differ invert) pixels))
+        (times plain_pixel page.old.width) window.old (I.files inputs.old) result window.new
+        (I.files inputs.new) }
     ensures sides { SameSides page.old page.new }
     ensures counts { Counts result (I.faults inputs.old) (I.faults inputs.new) }
     ensures stays_opened { I.is_opened inputs.new ≡ true }
@@ -94,7 +99,10 @@ pub(crate) fn read_plain_rows<I: Inputs>(
     invert: bool,
 ) -> Result<(), Stop>
     requires { I.is_opened inputs.old ≡ true }
-    ensures reads { Reads (λ _ rows. image_of page.new ≡ with_rows (image_of page.old) page.old.height (map (map (differ invert)) rows)) (times (times plain_pixel page.old.width) page.old.height) window.old (I.files inputs.old) result window.new (I.files inputs.new) }
+    ensures reads { Reads (λ _ rows. image_of page.new
+        ≡ with_rows (image_of page.old) page.old.height (map (map (differ invert)) rows))
+        (times (times plain_pixel page.old.width) page.old.height) window.old
+        (I.files inputs.old) result window.new (I.files inputs.new) }
     ensures sides { SameSides page.old page.new }
     ensures counts { Counts result (I.faults inputs.old) (I.faults inputs.new) }
     ensures stays_opened { I.is_opened inputs.new ≡ true }

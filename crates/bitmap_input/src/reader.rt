@@ -40,12 +40,18 @@ impl Model for PageReader {
 
     ghost Value = { Reader };
 
-    ghost view = { λ r. record { bytes = r.window.bytes; skip = r.skip; pages = r.pages; ended = r.window.ended; over = r.over } };
+    ghost view = { λ r. record {
+      bytes = r.window.bytes;
+      skip = r.skip;
+      pages = r.pages;
+      ended = r.window.ended;
+      over = r.over;
+    } };
 
     ghost invariant = { λ r. length r.window.bytes ≤ 65536 };
 }
 
-// The next page, behind whitespace.
+/// The next page, behind whitespace.
 fn read_page<I: Inputs>(
     alloc: Global,
     window: &mut Window,
@@ -55,7 +61,8 @@ fn read_page<I: Inputs>(
     invert: bool,
 ) -> Result<ReadPage, Stop>
     requires { I.is_opened inputs.old ≡ true }
-    ensures reads { Reads (IsRead level.now invert) (counted_page later) window.old (I.files inputs.old) result window.new (I.files inputs.new) }
+    ensures reads { Reads (IsRead level.now invert) (counted_page later) window.old
+        (I.files inputs.old) result window.new (I.files inputs.new) }
     ensures counts { Counts result (I.faults inputs.old) (I.faults inputs.new) }
     ensures stays_opened { I.is_opened inputs.new ≡ true }
     ensures same_openings { I.openings inputs.new ≡ I.openings inputs.old }
@@ -65,7 +72,7 @@ fn read_page<I: Inputs>(
     read_body(alloc, window, inputs, format, level, invert)
 }
 
-// The next page, behind bytes that the last one claims. Where the file ends sooner there is none.
+/// The next page, behind bytes that the last one claims. Where the file ends sooner there is none.
 fn read_ahead<I: Inputs>(
     alloc: Global,
     window: &mut Window,
@@ -76,7 +83,9 @@ fn read_ahead<I: Inputs>(
     invert: bool,
 ) -> Result<ReadPage, Stop>
     requires { I.is_opened inputs.old ≡ true }
-    ensures reads { Reads (IsRead level.now invert) (λ bytes. counted_page later (drop behind bytes)) window.old (I.files inputs.old) result window.new (I.files inputs.new) }
+    ensures reads { Reads (IsRead level.now invert)
+        (λ bytes. counted_page later (drop behind bytes)) window.old
+        (I.files inputs.old) result window.new (I.files inputs.new) }
     ensures counts { Counts result (I.faults inputs.old) (I.faults inputs.new) }
     ensures stays_opened { I.is_opened inputs.new ≡ true }
     ensures same_openings { I.openings inputs.new ≡ I.openings inputs.old }
@@ -139,24 +148,36 @@ impl PageReader {
         ensures idle { is_over result ≡ true → (self.new ≡ self.old) × (inputs.new ≡ inputs.old) }
 
         // What each answer says of the bytes that were taken.
-        ensures page { IfPage result (λ page. GivesPage level.now invert self.old (I.files inputs.old) page self.new (I.files inputs.new)) }
-        ensures ending { IfEnding result (λ ending. GivesEnding self.old (I.files inputs.old) ending self.new (I.files inputs.new)) }
-        ensures read_fault { IsErrOf result InFault.ReadFault → ReadFails self.old (I.files inputs.old) self.new (I.files inputs.new) }
-        ensures no_memory { IsErrOf result InFault.NoMemory → MemoryFails self.old (I.files inputs.old) self.new (I.files inputs.new) }
+        ensures page { IfPage result
+            (λ page. GivesPage level.now invert self.old (I.files inputs.old) page self.new
+            (I.files inputs.new)) }
+        ensures ending { IfEnding result
+            (λ ending. GivesEnding self.old (I.files inputs.old) ending self.new
+            (I.files inputs.new)) }
+        ensures read_fault { IsErrOf result InFault.ReadFault
+            → ReadFails self.old (I.files inputs.old) self.new (I.files inputs.new) }
+        ensures no_memory { IsErrOf result InFault.NoMemory
+            → MemoryFails self.old (I.files inputs.old) self.new (I.files inputs.new) }
 
         // The same of the whole rest of the file, where that is told.
-        ensures told_page { IfSome (unread (I.files inputs.old)) (λ rest. IfPage result (λ page. TellsPage level.now invert self.old rest page self.new (I.files inputs.new))) }
-        ensures told_ending { IfSome (unread (I.files inputs.old)) (λ rest. IfEnding result (λ ending. front (is_later self.old) (ahead self.old rest) ≡ Ends ending)) }
+        ensures told_page { IfSome (unread (I.files inputs.old))
+            (λ rest. IfPage result
+            (λ page. TellsPage level.now invert self.old rest page self.new (I.files inputs.new))) }
+        ensures told_ending { IfSome (unread (I.files inputs.old))
+            (λ rest. IfEnding result (λ ending. front (is_later self.old) (ahead self.old rest)
+            ≡ Ends ending)) }
 
         // Where no read failed and memory is there, the answer is what the rest of the file gives.
         ensures always { IfSome (unread (I.files inputs.old)) (λ rest. self.old.over ≡ false
             → (Rose (I.faults inputs.old) (I.faults inputs.new) → ⊥)
-            → IsAnswer level.now invert result (front (is_later self.old) (ahead self.old rest)) ⊎ IsErrOf result InFault.NoMemory) }
+            → IsAnswer level.now invert result (front (is_later self.old) (ahead self.old rest))
+            ⊎ IsErrOf result InFault.NoMemory) }
 
         // The inputs' count of faults rises with a read fault alone.
         ensures steady { OnOk result (I.faults inputs.new ≡ I.faults inputs.old) }
         ensures steady_ending { IfEnding result (λ _. I.faults inputs.new ≡ I.faults inputs.old) }
-        ensures cause { IsErrOf result InFault.ReadFault → Rose (I.faults inputs.old) (I.faults inputs.new) }
+        ensures cause { IsErrOf result InFault.ReadFault
+            → Rose (I.faults inputs.old) (I.faults inputs.new) }
         ensures never_falls { I.faults inputs.old ≤ I.faults inputs.new }
 
         ensures still_at_end { self.new.ended ≡ true → AtEnd (I.files inputs.new) }

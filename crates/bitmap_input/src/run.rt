@@ -29,7 +29,7 @@ pub(crate) fn is_space(byte: u8) -> bool
     (9 <= byte && byte <= 13) || byte == 32
 }
 
-// What the run is behind this byte, or none where it ends before it.
+/// What the run is behind this byte, or none where it ends before it.
 pub(crate) fn behind(run: Run, byte: u8) -> Option<Run>
     ensures { Continues run byte result }
 {
@@ -63,7 +63,8 @@ pub(crate) fn behind(run: Run, byte: u8) -> Option<Run>
 /// Goes on behind a run, which may be empty.
 pub(crate) fn skip<I: Inputs>(window: &mut Window, inputs: &mut I, run: Run) -> Result<(), Stop>
     requires { I.is_opened inputs.old ≡ true }
-    ensures reads { Reads Any (part_of run) window.old (I.files inputs.old) result window.new (I.files inputs.new) }
+    ensures reads { Reads Any (part_of run) window.old (I.files inputs.old) result window.new
+        (I.files inputs.new) }
     ensures counts { Counts result (I.faults inputs.old) (I.faults inputs.new) }
     ensures stays_opened { I.is_opened inputs.new ≡ true }
     ensures same_openings { I.openings inputs.new ≡ I.openings inputs.old }

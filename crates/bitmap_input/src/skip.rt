@@ -14,7 +14,8 @@ use pt_base::inputs::Inputs;
 /// No memory is taken for them.
 pub(crate) fn pass_over<I: Inputs>(window: &mut Window, inputs: &mut I, n: u32) -> Result<u32, Stop>
     requires { I.is_opened inputs.old ≡ true }
-    ensures reads { Reads Same (passed_over n) window.old (I.files inputs.old) result window.new (I.files inputs.new) }
+    ensures reads { Reads Same (passed_over n) window.old (I.files inputs.old) result window.new
+        (I.files inputs.new) }
     ensures counts { Counts result (I.faults inputs.old) (I.faults inputs.new) }
     ensures stays_opened { I.is_opened inputs.new ≡ true }
     ensures same_openings { I.openings inputs.new ≡ I.openings inputs.old }
@@ -33,7 +34,8 @@ pub(crate) fn pass_over<I: Inputs>(window: &mut Window, inputs: &mut I, n: u32) 
 /// Goes on behind n bytes.
 pub(crate) fn skip_block<I: Inputs>(window: &mut Window, inputs: &mut I, n: u32) -> Result<(), Stop>
     requires { I.is_opened inputs.old ≡ true }
-    ensures reads { Reads Any (block n) window.old (I.files inputs.old) result window.new (I.files inputs.new) }
+    ensures reads { Reads Any (block n) window.old (I.files inputs.old) result window.new
+        (I.files inputs.new) }
     ensures counts { Counts result (I.faults inputs.old) (I.faults inputs.new) }
     ensures stays_opened { I.is_opened inputs.new ≡ true }
     ensures same_openings { I.openings inputs.new ≡ I.openings inputs.old }

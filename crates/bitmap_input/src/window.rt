@@ -27,9 +27,14 @@ impl Model for Window {
 
     ghost Value = { Held };
 
-    ghost view = { λ w. record { bytes = take (w.end - w.start) (drop w.start w.buf.items); ended = w.ended } };
+    ghost view = { λ w. record {
+      bytes = take (w.end - w.start)
+          (drop w.start w.buf.items);
+      ended = w.ended;
+    } };
 
-    ghost invariant = { λ w. (w.start ≤ w.end) × (w.end ≤ length w.buf.items) × (length w.buf.items ≡ 65536) };
+    ghost invariant = { λ w. (w.start ≤ w.end) × (w.end ≤ length w.buf.items)
+        × (length w.buf.items ≡ 65536) };
 }
 
 /// What stands at the front of what is still to be used.
@@ -71,14 +76,15 @@ impl Window {
         let _start = &self.start;
     }
 
-    // Takes the next bytes from the inputs, where none are left here.
+    /// Takes the next bytes from the inputs, where none are left here.
     #[cold]
     #[inline(never)]
     fn fill<I: Inputs>(&mut self, inputs: &mut I) -> Result<(), DeviceFault>
         requires opened { I.is_opened inputs.old ≡ true }
         requires none_left { self.old.bytes ≡ [] }
         requires going_on { self.old.ended ≡ false }
-        ensures moves { OnOk result (Moves false (I.files inputs.old) self.new.ended (I.files inputs.new) self.new.bytes) }
+        ensures moves { OnOk result
+            (Moves false (I.files inputs.old) self.new.ended (I.files inputs.new) self.new.bytes) }
         ensures some { OnOk result (self.new.ended ≡ false → 0 < length self.new.bytes) }
         ensures none { OnOk result (self.new.ended ≡ true → self.new.bytes ≡ []) }
         ensures same { OnErr result (self.new ≡ self.old) }
@@ -96,7 +102,7 @@ impl Window {
         Ok(())
     }
 
-    // The first byte, where there is one here.
+    /// The first byte, where there is one here.
     fn first(&self) -> Option<u8>
         ensures { IsFirst self.now.bytes result }
     {

@@ -27,19 +27,11 @@ module _ (tol : ℕ) (k : Cubic) (b : Bend) (p : Point) (f : Vector) (x : ℤ) (
   pub not_near : ¬ IsNearBy tol n b.leaves_square → ¬ FollowsSide tol k b
   not_near far is = far (subst (λ m. IsNearBy tol m b.leaves_square) (sym gap_there) is.near)
 
-  pub before : (y : ℤ) → y ≡ dot_of b.leaves f → y <ℤ pos 0 → ¬ FollowsSide tol k b
-  before y ey less is =
-      let P : ℤ → Type 0 = λ v. v <ℤ pos 0 in
-      let there = subst P (along_there y ey) less in
-      let h = is.not_before in
-      omega (arith, ints)
-
-  pub behind : (y : ℤ) → y ≡ dot_of b.leaves f → pos b.leaves_square <ℤ y → ¬ FollowsSide tol k b
-  behind y ey more is =
-      let P : ℤ → Type 0 = λ v. pos b.leaves_square <ℤ v in
-      let there = subst P (along_there y ey) more in
-      let h = is.not_behind in
-      omega (arith, ints)
+  pub outside : (y : ℤ) → y ≡ dot_of b.leaves f → ¬ ((pos 0 ≤ℤ y) × (y ≤ℤ pos b.leaves_square)) → ¬ FollowsSide tol k b
+  outside y ey not is =
+      let P : ℤ → Type 0 = λ v. pos 0 ≤ℤ v in
+      let Q : ℤ → Type 0 = λ v. v ≤ℤ pos b.leaves_square in
+      not (subst P (sym (along_there y ey)) is.not_before, subst Q (sym (along_there y ey)) is.not_behind)
 
   pub follows : (y : ℤ) → 0 < b.leaves_square → IsNearBy tol n b.leaves_square → y ≡ dot_of b.leaves f → pos 0 ≤ℤ y → y ≤ℤ pos b.leaves_square → FollowsSide tol k b
   follows y some near ey least most =

@@ -10,6 +10,7 @@ mod Following
 mod Placing
 mod Running
 pub mod Single
+pub mod Smooth
 mod Joining
 mod Cutting
 mod Halving

@@ -11,7 +11,8 @@ pub(crate) fn own_area(first: Vector, second: Vector, end: Vector) -> i128
     requires first { IsWithin (2 ^ 27) first }
     requires second { IsWithin (2 ^ 27) second }
     requires end { IsWithin (2 ^ 27) end }
-    ensures value { result ≡ (pos 3 *ℤ cross_of first second +ℤ pos 3 *ℤ cross_of first end) +ℤ pos 6 *ℤ cross_of second end }
+    ensures value { result ≡ (pos 3 *ℤ cross_of first second +ℤ pos 3 *ℤ cross_of first end) +ℤ pos
+        6 *ℤ cross_of second end }
     ensures most { unsigned_abs result ≤ 12 * 2 ^ 58 }
 {
     times(3, cross(first, second)) + times(3, cross(first, end)) + times(6, cross(second, end))

@@ -60,7 +60,8 @@ fn led(from: Point, way: Vector, top: i64, bottom: i64) -> Option<Point>
     requires some { pos 0 <ℤ bottom }
     ensures value { IfSome result (λ p. p ≡ led from way top (unsigned_abs bottom)) }
     ensures near { IfSome result (λ p. IsWithin (2 ^ 27) (way_of from p)) }
-    ensures far { IfNone result (¬ IsWithin (2 ^ 27) (way_of from (led from way top (unsigned_abs bottom)))) }
+    ensures far { IfNone result
+        (¬ IsWithin (2 ^ 27) (way_of from (led from way top (unsigned_abs bottom)))) }
 {
     let Some(x) = shifted(from.x, way.x, top, bottom) else {
         return None;
@@ -79,7 +80,8 @@ fn shifted(from: i32, way: i64, top: i64, bottom: i64) -> Option<i32>
     requires some { pos 0 <ℤ bottom }
     ensures value { IfSome result (λ c. c ≡ from +ℤ floor_of (top *ℤ way) (unsigned_abs bottom)) }
     ensures near { IfSome result (λ c. unsigned_abs (c -ℤ from) ≤ 2 ^ 27) }
-    ensures far { IfNone result (2 ^ 27 < unsigned_abs (floor_of (top *ℤ way) (unsigned_abs bottom))) }
+    ensures far { IfNone result
+        (2 ^ 27 < unsigned_abs (floor_of (top *ℤ way) (unsigned_abs bottom))) }
 {
     let shift = div_floor(i128::from(top) * i128::from(way), i128::from(bottom));
     if shift.unsigned_abs() <= 1 << 27 {

@@ -57,7 +57,8 @@ pub(crate) fn round_count(sense: Sense, arrives: Vector, bends: &[Bend]) -> usiz
     requires small { All IsSmall bends.now }
     ensures within { result ≤ length bends.now }
     ensures round { AllWithin (GoesRound sense arrives) bends.now 0 result }
-    ensures end { result < length bends.now → ¬ GoesRound sense arrives (slice_index_or bends.now result no_bend) }
+    ensures end { result < length bends.now
+        → ¬ GoesRound sense arrives (slice_index_or bends.now result no_bend) }
 {
     for k in 0..bends.len() {
         if !goes_round(sense, arrives, &bends[k]) {
@@ -97,11 +98,14 @@ fn curve(sense: Sense, run: &[Bend]) -> Option<Joined>
     requires some { 2 ≤ length run.now }
     requires few { length run.now ≤ 64 }
     ensures tangents { IfSome result (λ curve. Meet (sense_at run.now) (tangents_at run.now)) }
-    ensures area { IfSome result (λ curve. Encloses (sense_at run.now) (triangle_at run.now) (area_at run.now)) }
+    ensures area { IfSome result
+        (λ curve. Encloses (sense_at run.now) (triangle_at run.now) (area_at run.now)) }
     ensures cubic { IfSome result (λ curve. curve.cubic ≡ cubic_at run.now) }
     ensures alpha { IfSome result (λ curve. curve.alpha ≡ alpha_at run.now) }
     ensures near { IfSome result (λ curve. LiesWithin (2 ^ 29) curve.cubic) }
-    ensures none { IfNone result (¬ (Meet (sense_at run.now) (tangents_at run.now) × Encloses (sense_at run.now) (triangle_at run.now) (area_at run.now))) }
+    ensures none { IfNone result
+        (¬ (Meet (sense_at run.now) (tangents_at run.now)
+        × Encloses (sense_at run.now) (triangle_at run.now) (area_at run.now))) }
 {
     let first = run[0];
     let last = run[run.len() - 1];

@@ -123,8 +123,10 @@ fn nearer(a: i64, b: i64, c: i64, u: u32, v: u32) -> u32
     requires c { unsigned_abs c ≤ 2 ^ 58 }
     requires u { u ≤ 64 }
     requires v { v ≤ 64 }
-    ensures second { unsigned_abs (quadratic v a b c) < unsigned_abs (quadratic u a b c) → result ≡ v }
-    ensures first { unsigned_abs (quadratic u a b c) ≤ unsigned_abs (quadratic v a b c) → result ≡ u }
+    ensures second { unsigned_abs (quadratic v a b c) < unsigned_abs (quadratic u a b c)
+        → result ≡ v }
+    ensures first { unsigned_abs (quadratic u a b c) ≤ unsigned_abs (quadratic v a b c)
+        → result ≡ u }
     ensures within { result ≤ 64 }
 {
     if size(v, a, b, c) < size(u, a, b, c) {

@@ -51,7 +51,7 @@ pub fn checkered(alloc: Global, side: usize) -> Result<Bitmap, NoPage> {
 /// The page of 3 by 3 pixels that a number has for its bits.
 pub fn numbered(alloc: Global, number: u32) -> Result<Bitmap, NoPage> {
     let mut page = white(alloc, 3, 3)?;
-    for place in 0..9 {
+    for place in 0..9u32 {
         let black = number >> place & 1 == 1;
         put(&mut page, place as usize % 3, place as usize / 3, black);
     }

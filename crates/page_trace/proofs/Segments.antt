@@ -8,7 +8,7 @@ use Rattle.pt_base.specs.declared.point.Point.{Point}
 use Rattle.least_walk.specs.LeastWalk.{IsWalk, Step, steps_from, walk_from}
 use Rattle.least_walk.proofs.Going.{length-steps_from}
 use Rattle.polygon_optimal.specs.Polygon.{IsSegment}
-use Rattle.vertex_adjust.specs.Vertex.{IsPolygonAlong, IsSegmentOf, end_of}
+use Rattle.vertex_adjust.specs.Vertex.{IsPolygonAlong, IsSegmentOf, segment_end_of}
 
 -- step number k leads from index number k to the one after it
 step_at : (i : ℕ) (rest : List ℕ) (n k : ℕ) (d : Step) → k < suc (length rest)
@@ -38,7 +38,7 @@ starts_somewhere n is_allowed some walk = let first = walk.first in let none : n
 
 -- where a segment ends, as the walk has it
 end_is : (points : List Point) (i : ℕ) (rest : List ℕ) (k : ℕ) → i ≡ 0 → k < suc (length rest)
-    → get_or (rest ++ length points ∷ []) k 0 ≡ end_of points (i ∷ rest) k
+    → get_or (rest ++ length points ∷ []) k 0 ≡ segment_end_of points (i ∷ rest) k
 end_is points i rest k start within = elim (cases_lt (k + 1) (suc (length rest))) [
   | inl h ↦
       let test : nat_lt (k + 1) (suc (length rest)) ≡ true = lt-ltb (k + 1) (suc (length rest)) h in
@@ -50,7 +50,7 @@ end_is points i rest k start within = elim (cases_lt (k + 1) (suc (length rest))
 
 -- segment number k is one that a polygon may have
 segment_at : (points : List Point) (at : List ℕ) (k : ℕ) → IsWalk (length points) (IsSegment points) (walk_from at (length points)) → k < length at
-    → IsSegment points (slice_index at k) (end_of points at k)
+    → IsSegment points (slice_index at k) (segment_end_of points at k)
 segment_at points [] k walk within = absurd (omega arith)
 segment_at points (i ∷ rest) k walk within =
     let d : Step = record { from = 0; to = 0 } in
@@ -68,7 +68,7 @@ is_polygon points (i ∷ rest) some walk = record {
   some = omega arith;
   segments = λ k within. run k (segment_at points (i ∷ rest) k walk within);
 } where
-  run : (k : ℕ) → IsSegment points (slice_index (i ∷ rest) k) (end_of points (i ∷ rest) k) → IsSegmentOf points (i ∷ rest) k
+  run : (k : ℕ) → IsSegment points (slice_index (i ∷ rest) k) (segment_end_of points (i ∷ rest) k) → IsSegmentOf points (i ∷ rest) k
   run k segment = record {
     starts = omega (arith, segment.possible.rises, segment.ends);
     onwards = segment.possible.rises;

@@ -6,3 +6,4 @@ mod bmp;
 mod bmp_refusals;
 mod gray;
 mod pages;
+mod rows;

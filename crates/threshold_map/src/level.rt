@@ -1,5 +1,5 @@
 //! Black levels.
-ghost use Rattle.std.specs.Prelude.{◌≡◌, ◌≤◌};
+ghost use Rattle.std.specs.Prelude.{◌≡◌, ℕ, ◌≤◌, nat_le};
 ghost use Rattle.threshold_map.specs.Levels.{is_gray_black, is_color_black};
 
 use std::marker::Model;
@@ -40,6 +40,16 @@ impl Level {
         ensures most_level { self.now ≤ 1000000 }
     {
         v as u64 * 1000000 <= self.micro as u64 * maxval as u64
+    }
+
+    /// The brightest sample of a gray pixel that is black, where `maxval` is full white.
+    pub fn gray_limit(&self, maxval: u32) -> u32
+        requires some { 1 ≤ maxval }
+        requires most { maxval ≤ 65535 }
+        ensures black { (v : ℕ) → is_gray_black self.now v maxval ≡ nat_le v result }
+        ensures most { result ≤ maxval }
+    {
+        (self.micro as u64 * maxval as u64 / 1000000) as u32
     }
 
     /// Whether a pixel of a colour is black: its brightness is the mean of red, green and blue.

@@ -84,7 +84,7 @@ pub(crate) fn colors_used(head: &Head) -> u32
     if is_short(head) { 0 } else { head.four_at(46) }
 }
 
-// The depth of pixels of so many bits, plainly stored or with masks.
+/// The depth of pixels of so many bits, plainly stored or with masks.
 fn known_depth(bits: u32, compression: u32) -> Option<Depth>
     ensures { IsKnownDepth bits compression result }
 {
@@ -184,7 +184,7 @@ pub(crate) fn mask_bytes(head: &Head) -> u32
     }
 }
 
-// The masks of red, green and blue are those of a pixel without masks.
+/// The masks of red, green and blue are those of a pixel without masks.
 fn has_known_masks(head: &Head) -> bool
     requires { 64 ≤ length head.now }
     ensures { result ≡ has_known_masks head.now }
@@ -194,7 +194,7 @@ fn has_known_masks(head: &Head) -> bool
         && head.four_at(62) == 0x000000ff
 }
 
-// How many colours pixels of this depth can number, where they are numbers of colours.
+/// How many colours pixels of this depth can number, where they are numbers of colours.
 fn most_colors(depth: Depth) -> Option<u32>
     ensures { IsMostColors depth result }
 {
@@ -206,11 +206,12 @@ fn most_colors(depth: Depth) -> Option<u32>
     }
 }
 
-// No more colours are used than the pixels can number.
+/// No more colours are used than the pixels can number.
 fn has_known_palette(head: &Head, depth: Depth) -> bool
     requires info { HasInfo head.now }
     requires kind { bits head.now ≡ bits_in depth }
-    ensures { result ≡ (not (has_palette head.now) || nat_le (colors_used head.now) (2 ^ bits head.now)) }
+    ensures { result ≡ (not (has_palette head.now) || nat_le (colors_used head.now)
+        (2 ^ bits head.now)) }
 {
     match most_colors(depth) {
         Some(most) => colors_used(head) <= most,

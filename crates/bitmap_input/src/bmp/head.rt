@@ -30,7 +30,7 @@ impl Model for Head {
     ghost invariant = { λ h. h.len ≤ 136 };
 }
 
-// Reads the bytes of a buffer between two places.
+/// Reads the bytes of a buffer between two places.
 fn read_into<I: Inputs>(
     window: &mut Window,
     inputs: &mut I,
@@ -41,7 +41,8 @@ fn read_into<I: Inputs>(
     requires opened { I.is_opened inputs.old ≡ true }
     requires order { from ≤ to }
     requires within { to ≤ length buffer.old }
-    ensures reads { Reads (λ _ more. take to buffer.new ≡ take from buffer.old ++ more) (block (to - from)) window.old (I.files inputs.old) result window.new (I.files inputs.new) }
+    ensures reads { Reads (λ _ more. take to buffer.new ≡ take from buffer.old ++ more)
+        (block (to - from)) window.old (I.files inputs.old) result window.new (I.files inputs.new) }
     ensures same_room { length buffer.new ≡ length buffer.old }
     ensures counts { Counts result (I.faults inputs.old) (I.faults inputs.new) }
     ensures stays_opened { I.is_opened inputs.new ≡ true }
@@ -70,7 +71,8 @@ impl Head {
     ) -> Result<(), Stop>
         requires opened { I.is_opened inputs.old ≡ true }
         requires room { length self.old + n ≤ 136 }
-        ensures reads { Reads (λ _ more. self.new ≡ self.old ++ more) (block n) window.old (I.files inputs.old) result window.new (I.files inputs.new) }
+        ensures reads { Reads (λ _ more. self.new ≡ self.old ++ more) (block n) window.old
+            (I.files inputs.old) result window.new (I.files inputs.new) }
         ensures reach { OnOk result (length self.new ≡ length self.old + n) }
         ensures counts { Counts result (I.faults inputs.old) (I.faults inputs.new) }
         ensures stays_opened { I.is_opened inputs.new ≡ true }

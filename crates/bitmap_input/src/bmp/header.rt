@@ -37,11 +37,12 @@ pub(crate) struct Header {
     pub(crate) file_size: u32,
 }
 
-// The header up to its size, which is a known one.
+/// The header up to its size, which is a known one.
 fn read_start<I: Inputs>(window: &mut Window, inputs: &mut I, head: &mut Head) -> Result<(), Stop>
     requires opened { I.is_opened inputs.old ≡ true }
     requires none { head.old ≡ [] }
-    ensures reads { Reads (λ _ bytes. bytes ≡ head.new) start window.old (I.files inputs.old) result window.new (I.files inputs.new) }
+    ensures reads { Reads (λ _ bytes. bytes ≡ head.new) start window.old
+        (I.files inputs.old) result window.new (I.files inputs.new) }
     ensures begun { OnOk result (IsStart head.new) }
     ensures counts { Counts result (I.faults inputs.old) (I.faults inputs.new) }
     ensures stays_opened { I.is_opened inputs.new ≡ true }
@@ -55,11 +56,12 @@ fn read_start<I: Inputs>(window: &mut Window, inputs: &mut I, head: &mut Head) -
     }
 }
 
-// The rest of the header, of a kind that is read.
+/// The rest of the header, of a kind that is read.
 fn read_info<I: Inputs>(window: &mut Window, inputs: &mut I, head: &mut Head) -> Result<Depth, Stop>
     requires opened { I.is_opened inputs.old ≡ true }
     requires begun { IsStart head.old }
-    ensures reads { Reads (λ _ bytes. bytes ≡ head.new) (info head.old) window.old (I.files inputs.old) result window.new (I.files inputs.new) }
+    ensures reads { Reads (λ _ bytes. bytes ≡ head.new) (info head.old) window.old
+        (I.files inputs.old) result window.new (I.files inputs.new) }
     ensures begun { OnOk result (IsInfo head.new) }
     ensures depth { IfOk result (λ d. bits head.new ≡ bits_in d) }
     ensures counts { Counts result (I.faults inputs.old) (I.faults inputs.new) }
@@ -74,7 +76,7 @@ fn read_info<I: Inputs>(window: &mut Window, inputs: &mut I, head: &mut Head) ->
     }
 }
 
-// The masks, where they stand behind the header.
+/// The masks, where they stand behind the header.
 fn read_masks<I: Inputs>(
     window: &mut Window,
     inputs: &mut I,
@@ -84,7 +86,8 @@ fn read_masks<I: Inputs>(
     requires opened { I.is_opened inputs.old ≡ true }
     requires begun { IsInfo head.old }
     requires kind { bits head.old ≡ bits_in depth }
-    ensures reads { Reads (λ _ bytes. bytes ≡ head.new) (masks head.old) window.old (I.files inputs.old) result window.new (I.files inputs.new) }
+    ensures reads { Reads (λ _ bytes. bytes ≡ head.new) (masks head.old) window.old
+        (I.files inputs.old) result window.new (I.files inputs.new) }
     ensures whole { OnOk result (IsWhole head.new) }
     ensures kind { OnOk result (bits head.new ≡ bits_in depth) }
     ensures colors { OnOk result (has_known_colors head.new ≡ true) }
@@ -101,8 +104,8 @@ fn read_masks<I: Inputs>(
     }
 }
 
-// What the program keeps of a header, where its sides are in range and its pixels begin behind all
-// that stands before them.
+/// What the program keeps of a header, where its sides are in range and its pixels begin behind all
+/// that stands before them.
 fn describe(head: &Head, depth: Depth) -> Result<Header, Stop>
     requires info { HasInfo head.now }
     requires kind { bits head.now ≡ bits_in depth }
@@ -132,7 +135,8 @@ fn describe(head: &Head, depth: Depth) -> Result<Header, Stop>
 /// The header with its masks.
 pub(crate) fn read_header<I: Inputs>(window: &mut Window, inputs: &mut I) -> Result<Header, Stop>
     requires { I.is_opened inputs.old ≡ true }
-    ensures reads { Reads IsHeader header window.old (I.files inputs.old) result window.new (I.files inputs.new) }
+    ensures reads { Reads IsHeader header window.old (I.files inputs.old) result window.new
+        (I.files inputs.new) }
     ensures readable { IfOk result IsReadable }
     ensures counts { Counts result (I.faults inputs.old) (I.faults inputs.new) }
     ensures stays_opened { I.is_opened inputs.new ≡ true }

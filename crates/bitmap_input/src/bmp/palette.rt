@@ -13,13 +13,14 @@ use crate::stop::Stop;
 use crate::window::Window;
 use pt_base::inputs::Inputs;
 
-// Whether a colour of a palette is a black pixel.
+/// Whether a colour of a palette is a black pixel.
 fn is_black(tone: &Tone, colors: u32, size: u32, palette: &[u8], i: u32) -> bool
     requires few { colors ≤ 256 }
     requires some { 3 ≤ size }
     requires small { size ≤ 4 }
     requires whole { length palette.now ≡ size * colors }
-    ensures { result ≡ black tone.now.level tone.now.invert (palette_color colors size palette.now i) }
+    ensures { result ≡ black tone.now.level tone.now.invert
+        (palette_color colors size palette.now i) }
 {
     if i < colors {
         tone.black(palette, (size * i) as usize)
@@ -28,14 +29,15 @@ fn is_black(tone: &Tone, colors: u32, size: u32, palette: &[u8], i: u32) -> bool
     }
 }
 
-// Fills the table of which colours of a palette are black pixels.
+/// Fills the table of which colours of a palette are black pixels.
 fn fill_table(tone: &Tone, colors: u32, size: u32, palette: &[u8], table: &mut [bool])
     requires few { colors ≤ 256 }
     requires some { 3 ≤ size }
     requires small { size ≤ 4 }
     requires whole { length palette.now ≡ size * colors }
     requires room { length table.old ≡ 256 }
-    ensures table { IsTable tone.now.level tone.now.invert (palette_color colors size palette.now) table.new }
+    ensures table { IsTable tone.now.level tone.now.invert
+        (palette_color colors size palette.now) table.new }
     ensures room { length table.new ≡ 256 }
 {
     for i in 0..256u32 {
@@ -43,7 +45,7 @@ fn fill_table(tone: &Tone, colors: u32, size: u32, palette: &[u8], table: &mut [
     }
 }
 
-// Reads the palette into its room, and the table of it.
+/// Reads the palette into its room, and the table of it.
 fn read_colors<I: Inputs>(
     window: &mut Window,
     inputs: &mut I,
@@ -56,7 +58,10 @@ fn read_colors<I: Inputs>(
     requires readable { IsReadable header.now }
     requires whole { length palette.old ≡ header.now.color_bytes * header.now.palette_length }
     requires room { length table.old ≡ 256 }
-    ensures reads { Reads (λ _ palette. IsTable tone.now.level tone.now.invert (palette_color header.now.palette_length header.now.color_bytes palette) table.new) (block (header.now.color_bytes * header.now.palette_length)) window.old (I.files inputs.old) result window.new (I.files inputs.new) }
+    ensures reads { Reads (λ _ palette. IsTable tone.now.level tone.now.invert
+        (palette_color header.now.palette_length header.now.color_bytes palette) table.new)
+        (block (header.now.color_bytes * header.now.palette_length)) window.old
+        (I.files inputs.old) result window.new (I.files inputs.new) }
     ensures room { length table.new ≡ 256 }
     ensures counts { Counts result (I.faults inputs.old) (I.faults inputs.new) }
     ensures stays_opened { I.is_opened inputs.new ≡ true }
@@ -87,7 +92,10 @@ pub(crate) fn read_palette<I: Inputs>(
     requires opened { I.is_opened inputs.old ≡ true }
     requires readable { IsReadable header.now }
     requires room { length table.old ≡ 256 }
-    ensures reads { Reads (λ _ palette. IsTable tone.now.level tone.now.invert (palette_color header.now.palette_length header.now.color_bytes palette) table.new) (block (header.now.color_bytes * header.now.palette_length)) window.old (I.files inputs.old) result window.new (I.files inputs.new) }
+    ensures reads { Reads (λ _ palette. IsTable tone.now.level tone.now.invert
+        (palette_color header.now.palette_length header.now.color_bytes palette) table.new)
+        (block (header.now.color_bytes * header.now.palette_length)) window.old
+        (I.files inputs.old) result window.new (I.files inputs.new) }
     ensures room { length table.new ≡ 256 }
     ensures counts { Counts result (I.faults inputs.old) (I.faults inputs.new) }
     ensures stays_opened { I.is_opened inputs.new ≡ true }

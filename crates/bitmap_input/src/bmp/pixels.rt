@@ -1,6 +1,7 @@
 //! The pixels of a BMP picture.
-ghost use Rattle.std.specs.Prelude.{◌≡◌, ℕ, ◌+◌, ◌*◌, ◌<◌, ◌≤◌, true, false, length, map, List};
+ghost use Rattle.std.specs.Prelude.{◌≡◌, ℕ, ◌+◌, ◌*◌, ◌<◌, ◌≤◌, true, false, not, length, map, List, slice_index_or};
 ghost use Rattle.std.specs.List.{range_with_len};
+ghost use Rattle.bit_image.specs.Words.{is_one};
 ghost use Rattle.bit_image.specs.Page.{Page, SameSides, image_of};
 ghost use Rattle.bitmap_input.specs.Reading.{Reads, Counts};
 ghost use Rattle.bitmap_input.specs.Parts.{block, times};
@@ -12,9 +13,11 @@ ghost use Rattle.bitmap_input.specs.Raster.{with_row, with_placed};
 
 use crate::bmp::fields::Depth;
 use crate::bmp::header::Header;
-use crate::raw::read_block;
+use crate::header::LONGEST_SIDE;
+use crate::raw::{place_row as place_bits, read_block};
 use crate::stop::Stop;
 use crate::window::Window;
+use crate::words::with_pixel;
 use bit_image::bitmap::Bitmap;
 use pt_base::inputs::Inputs;
 use threshold_map::level::Level;
@@ -43,7 +46,7 @@ impl Tone {
     }
 }
 
-// A bit of a row, the most significant one of each byte first.
+/// A bit of a row, the most significant one of each byte first.
 fn bit(row: &[u8], x: usize) -> usize
     requires { x < 8 * length row.now }
     ensures value { result ≡ bit_at row.now x }
@@ -52,7 +55,7 @@ fn bit(row: &[u8], x: usize) -> usize
     (row[x / 8] as usize >> (7 - x % 8)) % 2
 }
 
-// A number of four bits, the high half of each byte first.
+/// A number of four bits, the high half of each byte first.
 fn half(row: &[u8], x: usize) -> usize
     requires { x < 2 * length row.now }
     ensures value { result ≡ half_at row.now x }
@@ -62,7 +65,7 @@ fn half(row: &[u8], x: usize) -> usize
     if x % 2 == 0 { byte / 16 } else { byte % 16 }
 }
 
-// Whether the pixel in column x of a row is black, by a table of the palette.
+/// Whether the pixel in column x of a row is black, by a table of the palette.
 #[inline(always)]
 fn shade(depth: Depth, tone: &Tone, table: &[bool], row: &[u8], x: usize) -> bool
     requires table { length table.now ≡ 256 }
@@ -78,20 +81,75 @@ fn shade(depth: Depth, tone: &Tone, table: &[bool], row: &[u8], x: usize) -> boo
     }
 }
 
-// Paints a row of bytes in row y.
+/// The word of so many pixels of a row, from one column on.
+fn word(depth: Depth, tone: &Tone, table: &[bool], row: &[u8], from: usize, count: usize) -> u64
+    requires table { length table.now ≡ 256 }
+    requires few { count ≤ 64 }
+    requires column { from ≤ LONGEST_SIDE }
+    requires within { (from + count) * bits_in depth ≤ 8 * length row.now }
+    ensures { (k : ℕ) → k < count → is_one result k
+        ≡ shade_in depth tone.now.level tone.now.invert table.now row.now (from + k) }
+{
+    let mut word = 0;
+    for i in 0..count {
+        word = with_pixel(word, i, shade(depth, tone, table, row, from + i));
+    }
+    word
+}
+
+/// Puts a row of bytes into row y, word by word.
+fn place_words(page: &mut Bitmap, y: u32, depth: Depth, tone: &Tone, table: &[bool], row: &[u8])
+    requires row { y < page.old.height }
+    requires table { length table.now ≡ 256 }
+    requires whole { page.old.width * bits_in depth ≤ 8 * length row.now }
+    ensures sides { SameSides page.old page.new }
+    ensures pixels { image_of page.new ≡ with_row (image_of page.old) y
+        (map (shade_in depth tone.now.level tone.now.invert table.now row.now)
+        (range_with_len 0 page.old.width)) }
+{
+    let width = page.width();
+    for at in 0..(width + 63) / 64 {
+        let from = 64 * at;
+        let count = (width - from).min(64);
+        page.put_word(
+            y,
+            at,
+            word(depth, tone, table, row, from as usize, count as usize),
+        );
+    }
+}
+
+/// Whether one of the first two colours is black and the other isn't.
+fn are_apart(table: &[bool]) -> bool
+    requires { length table.now ≡ 256 }
+    ensures { result ≡ true
+        → slice_index_or table.now 1 false ≡ not (slice_index_or table.now 0 false) }
+{
+    table[0] != table[1]
+}
+
+/// Puts a row of bytes into row y. Bits are taken as they are packed, where they tell two colours
+/// apart.
 fn place_row(page: &mut Bitmap, y: u32, depth: Depth, tone: &Tone, table: &[bool], row: &[u8])
     requires row { y < page.old.height }
     requires table { length table.now ≡ 256 }
     requires whole { page.old.width * bits_in depth ≤ 8 * length row.now }
     ensures sides { SameSides page.old page.new }
-    ensures pixels { image_of page.new ≡ with_row (image_of page.old) y (map (shade_in depth tone.now.level tone.now.invert table.now row.now) (range_with_len 0 page.old.width)) }
+    ensures pixels { image_of page.new ≡ with_row (image_of page.old) y
+        (map (shade_in depth tone.now.level tone.now.invert table.now row.now)
+        (range_with_len 0 page.old.width)) }
 {
-    for x in 0..page.width() {
-        page.set(x, y, shade(depth, tone, table, row, x as usize));
+    if let Depth::One = depth {
+        if are_apart(table) {
+            let n = (page.width() as usize + 7) / 8;
+            place_bits(page, y, &row[..n], table[0]);
+            return;
+        }
     }
+    place_words(page, y, depth, tone, table, row);
 }
 
-// The row of the page that the picture's row of this number is: they come from the top, or from below.
+/// The row of the page that the picture's row of this number is: they come from the top, or from below.
 fn row_place(top_down: bool, height: u32, i: u32) -> u32
     requires { i < height }
     ensures value { result ≡ row_place top_down height i }
@@ -114,8 +172,14 @@ pub(crate) fn read_rows<I: Inputs>(
     requires table { length table.now ≡ 256 }
     requires room { length row.old ≡ row_bytes_by header.now }
     requires whole { page.old.width * bits_in header.now.depth ≤ 8 * length row.old }
-    ensures reads { (color_of : ℕ → Entry) → IsTable tone.now.level tone.now.invert color_of table.now
-        → Reads (λ _ rows. image_of page.new ≡ with_placed (row_place header.now.top_down page.old.height) (image_of page.old) 0 (map (map (black tone.now.level tone.now.invert)) rows)) (times (color_row (row_bytes_by header.now) (bits_in header.now.depth) color_of page.old.width) page.old.height) window.old (I.files inputs.old) result window.new (I.files inputs.new) }
+    ensures reads { (color_of : ℕ → Entry)
+        → IsTable tone.now.level tone.now.invert color_of table.now
+        → Reads (λ _ rows. image_of page.new
+        ≡ with_placed (row_place header.now.top_down page.old.height) (image_of page.old) 0
+        (map (map (black tone.now.level tone.now.invert)) rows))
+        (times (color_row (row_bytes_by header.now)
+        (bits_in header.now.depth) color_of page.old.width) page.old.height) window.old
+        (I.files inputs.old) result window.new (I.files inputs.new) }
     ensures sides { SameSides page.old page.new }
     ensures counts { Counts result (I.faults inputs.old) (I.faults inputs.new) }
     ensures stays_opened { I.is_opened inputs.new ≡ true }

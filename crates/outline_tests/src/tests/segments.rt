@@ -2,7 +2,7 @@
 ghost use Rattle.std.specs.Prelude.{◌≡◌, ◌+◌, ◌-◌, ◌≤◌, ◌<◌, ◌^◌, IsTrue, length};
 ghost use Rattle.pt_base.specs.OnPage.{AreOnPage};
 ghost use Rattle.vertex_adjust.specs.Line.{AreSums};
-ghost use Rattle.vertex_adjust.specs.Vertex.{IsPolygonAlong, IsSegmentOf, end_of};
+ghost use Rattle.vertex_adjust.specs.Vertex.{IsPolygonAlong, IsSegmentOf, segment_end_of};
 
 use prefix_moments::moments::Moments;
 use prefix_moments::sums::Sums;

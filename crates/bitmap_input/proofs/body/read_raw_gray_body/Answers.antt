@@ -1,8 +1,9 @@
-use Rattle.std.proofs.Common.{refl, Bool, ℕ}
+use Rattle.std.proofs.Common.{ap, Bool, ℕ, nat_le}
+use Rattle.bit_image.specs.Image.{differ}
 use Rattle.std.proofs.lemmas.Result.{err_from_is_err_and}
 use Rattle.bitmap_input.specs.Cut.{◌>>=◌}
 use Rattle.bitmap_input.specs.Parts.{space}
-use Rattle.bitmap_input.specs.Raw.{black, IsShown}
+use Rattle.bitmap_input.specs.Raw.{IsShown}
 use Rattle.bitmap_input.specs.Raw.Entry.{Sample}
 use Rattle.bitmap_input.specs.Front.{maxval, raw_gray_row, raster}
 use Rattle.bitmap_input.proofs.Appending.{sides_stay, maxval_stays, space_stays}
@@ -51,7 +52,7 @@ returns-in_err-read_raw_gray_rows-clause-reads g c =
     rw (p.1, p.2) (reads_on sides_stay c.in_ok-sides.ensures.reads
     (λ s is. reads_on maxval_stays c.in_ok-white.ensures.reads
     (λ n same. rw same (reads_on space_stays c.in_ok-skip_space.ensures.reads
-    (λ _ _. rows_stopped level invert (λ v. Sample v white) (λ v. black level invert (Sample v white)) (raw_gray_row white)
+    (λ _ _. rows_stopped level invert (λ v. Sample v white) (λ v. differ invert (nat_le v c.gray_limit.result)) (raw_gray_row white)
     c.in-Ok.page c.in_ok-sides.sides s is c.in-Ok.ensures.width c.in-Ok.ensures.height
     c.read_raw_gray_rows.new.page _ c.in_err-read_raw_gray_rows.ensures.reads)))))
 
@@ -63,6 +64,6 @@ returns-clause-reads g c =
     reads_on sides_stay c.in_ok-sides.ensures.reads
     (λ s is. reads_on maxval_stays c.in_ok-white.ensures.reads
     (λ n same. rw same (reads_on space_stays c.in_ok-skip_space.ensures.reads
-    (λ _ _. rows_shown level invert (λ v. Sample v white) (λ v. black level invert (Sample v white)) (raw_gray_row white)
+    (λ _ _. rows_shown level invert (λ v. Sample v white) (λ v. differ invert (nat_le v c.gray_limit.result)) (raw_gray_row white)
     c.in-Ok.page c.in_ok-sides.sides s is c.in-Ok.ensures.width c.in-Ok.ensures.height
-    c.read_raw_gray_rows.new.page (λ _. refl) c.in-Ok.ensures.white c.in_ok-read_raw_gray_rows.ensures.sides c.known.ensures c.in_ok-read_raw_gray_rows.ensures.reads))))
+    c.read_raw_gray_rows.new.page (λ v. ap (differ invert) (c.gray_limit.ensures.black v)) c.in-Ok.ensures.white c.in_ok-read_raw_gray_rows.ensures.sides c.known.ensures c.in_ok-read_raw_gray_rows.ensures.reads))))

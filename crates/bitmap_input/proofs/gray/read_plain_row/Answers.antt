@@ -20,7 +20,7 @@ loop-x-preserved g c =
       so_far = painting_goes_on (λ row. with_pixels (image_of c.set.new.self) c.args.y (c.loop-x.x + 1) (map (black_of c.args.shading.now) row)) plain_sample_stays
           c.loop-x.invariant.so_far one c.in_ok-sample.ensures.reads
           (λ a capped. pixel_painted (black_of c.args.shading.now) (image_of c.loop-x.page) (image_of c.set.new.self) c.loop-x.x c.args.y _ a c.set.ensures.pixels
-          (sym (c.black_number.ensures a capped)));
+          (sym (c.black.ensures.cut c.requires.range a capped)));
       sides = search rules;
       end = search rules;
       steady = search rules;

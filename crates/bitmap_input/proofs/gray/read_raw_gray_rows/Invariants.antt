@@ -2,7 +2,8 @@ use Rattle.std.proofs.Common.{◌≡◌, ◌≤◌, true, length, map}
 use Rattle.bitmap_input.specs.Shading.{black_of}
 use Rattle.bit_image.specs.Page.{SameSides, image_of}
 use Rattle.bitmap_input.specs.Front.{gray_row_bytes, raw_gray_row}
-use Rattle.bitmap_input.specs.Raster.{with_rows, IsPaintedSoFar}
+use Rattle.bitmap_input.specs.Raster.{with_rows}
+use Rattle.bitmap_input.proofs.Painting.{IsPaintedSoFar}
 use Rattle.bitmap_input.proofs.gray.read_raw_gray_rows.Given as goal
 
 abbrev pub invariant-loop-y : goal.invariant-loop-y

@@ -1,6 +1,7 @@
 use Rattle.std.proofs.Common.{◌-◌, ◌≡◌, true, ◌≤◌}
 use Rattle.bitmap_input.specs.Parts.{run_length, is_digit, value}
-use Rattle.bitmap_input.specs.Run.{IsCapped, RunSoFar}
+use Rattle.bitmap_input.specs.Run.{IsCapped}
+use Rattle.bitmap_input.proofs.Running.{RunSoFar}
 use Rattle.bitmap_input.proofs.number.read_digits.Given as goal
 
 abbrev pub invariant-loop-n : goal.invariant-loop-n

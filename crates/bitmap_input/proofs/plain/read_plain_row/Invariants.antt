@@ -2,7 +2,8 @@ use Rattle.std.proofs.Common.{◌-◌, ◌≡◌, true, map}
 use Rattle.bit_image.specs.Image.{differ}
 use Rattle.bit_image.specs.Page.{SameSides, image_of}
 use Rattle.bitmap_input.specs.Front.{plain_pixel}
-use Rattle.bitmap_input.specs.Raster.{with_pixels, IsPaintedSoFar}
+use Rattle.bitmap_input.specs.Raster.{with_pixels}
+use Rattle.bitmap_input.proofs.Painting.{IsPaintedSoFar}
 use Rattle.bitmap_input.proofs.plain.read_plain_row.Given as goal
 
 abbrev pub invariant-loop-x : goal.invariant-loop-x

@@ -3,7 +3,8 @@ use Rattle.bit_image.specs.Image.{differ}
 use Rattle.bit_image.specs.Page.{SameSides, image_of}
 use Rattle.bitmap_input.specs.Parts.{times}
 use Rattle.bitmap_input.specs.Front.{plain_pixel}
-use Rattle.bitmap_input.specs.Raster.{with_rows, IsPaintedSoFar}
+use Rattle.bitmap_input.specs.Raster.{with_rows}
+use Rattle.bitmap_input.proofs.Painting.{IsPaintedSoFar}
 use Rattle.bitmap_input.proofs.plain.read_plain_rows.Given as goal
 
 abbrev pub invariant-loop-y : goal.invariant-loop-y

@@ -1,5 +1,5 @@
 use Rattle.std.proofs.Common.{◌-◌, ◌≡◌, ◌≤◌, true, length}
-use Rattle.bitmap_input.specs.Raster.{IsBlockSoFar}
+use Rattle.bitmap_input.proofs.Blocks.{IsBlockSoFar}
 use Rattle.bitmap_input.proofs.raw.read_block.Given as goal
 
 abbrev pub invariant-loop-done : goal.invariant-loop-done

@@ -8,7 +8,7 @@ use Rattle.bitmap_input.specs.Raster.{with_row, with_rows}
 use Rattle.bitmap_input.proofs.Appending.{raw_row_stays}
 use Rattle.bitmap_input.proofs.Telling.{reads_map, reads_stop}
 use Rattle.bitmap_input.proofs.Painting.{painting_goes_on, painting_stops, painting_ends}
-use Rattle.bitmap_input.proofs.Placing.{row_painted, white_below}
+use Rattle.bitmap_input.proofs.Placing.{row_painted}
 use Rattle.bitmap_input.proofs.raw.read_raw_rows.Goals as goal
 
 pub loop-y-preserved : goal.loop-y-preserved
@@ -25,7 +25,6 @@ loop-y-preserved g c =
           (λ _ bytes same. pixels ∙ ap (λ bytes. with_row (image_of c.loop-y.page) (c.loop-y.y - 1) (turn (take c.args.page.now.width (unpacked bytes)))) (sym same)) row)
           (λ a painted rows. row_painted (image_of c.loop-y.page) (image_of c.place_row.new.page) c.loop-y.y (c.loop-y.y - 1) (turn a) one painted (map turn rows));
       sides = search rules;
-      white = λ u v below. white_below (image_of c.loop-y.page) (image_of c.place_row.new.page) (c.loop-y.y - 1) v u (turn (take c.loop-y.page.width (unpacked c.read_block.new.row))) c.place_row.ensures.pixels below (c.loop-y.invariant.white u v (omega arith));
       row = search rules;
       within = omega arith;
       steady = search rules;

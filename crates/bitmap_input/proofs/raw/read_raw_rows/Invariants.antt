@@ -1,9 +1,10 @@
-use Rattle.std.proofs.Common.{◌≡◌, ℕ, ◌<◌, ◌≤◌, true, false, length, map}
+use Rattle.std.proofs.Common.{◌≡◌, ◌≤◌, true, length, map}
 use Rattle.bit_image.specs.Image.{differ}
 use Rattle.bit_image.specs.Page.{SameSides, image_of}
 use Rattle.bitmap_input.specs.Raw.{row_bytes}
 use Rattle.bitmap_input.specs.Front.{raw_row}
-use Rattle.bitmap_input.specs.Raster.{with_rows, IsPaintedSoFar}
+use Rattle.bitmap_input.specs.Raster.{with_rows}
+use Rattle.bitmap_input.proofs.Painting.{IsPaintedSoFar}
 use Rattle.bitmap_input.proofs.raw.read_raw_rows.Given as goal
 
 abbrev pub invariant-loop-y : goal.invariant-loop-y
@@ -13,7 +14,6 @@ invariant-loop-y g l =
       so_far : IsPaintedSoFar (raw_row l.fn.page.width) l.fn.window (source.files l.fn.inputs) (λ rows. with_rows (image_of l.fn.page) l.fn.page.height (map (map (differ l.invert)) rows)) l.fn.page.height
           l.window (source.files l.inputs) (λ rows. with_rows (image_of l.page) l.y (map (map (differ l.invert)) rows)) l.y;
       sides : SameSides l.fn.page l.page;
-      white : (u v : ℕ) → v < l.y → image_of l.page u v ≡ false;
       row : length l.row ≡ row_bytes l.fn.page.width;
       within : l.y ≤ l.fn.page.height;
       steady : source.faults l.inputs ≡ source.faults l.fn.inputs;

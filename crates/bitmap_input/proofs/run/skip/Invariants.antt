@@ -1,5 +1,6 @@
 use Rattle.std.proofs.Common.{◌-◌, ◌≡◌, true, ◌≤◌}
-use Rattle.bitmap_input.specs.Run.{length_of, RunSoFar}
+use Rattle.bitmap_input.specs.Run.{length_of}
+use Rattle.bitmap_input.proofs.Running.{RunSoFar}
 use Rattle.bitmap_input.proofs.run.skip.Given as goal
 
 abbrev pub invariant-loop-n : goal.invariant-loop-n

@@ -1,5 +1,5 @@
 use Rattle.std.proofs.Common.{◌≡◌, true}
-use Rattle.bitmap_input.specs.Skip.{IsPassedSoFar}
+use Rattle.bitmap_input.proofs.Skipping.{IsPassedSoFar}
 use Rattle.bitmap_input.proofs.skip.pass_over.Given as goal
 
 abbrev pub invariant-loop-left : goal.invariant-loop-left

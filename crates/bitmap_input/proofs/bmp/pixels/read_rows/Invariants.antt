@@ -3,7 +3,8 @@ use Rattle.bit_image.specs.Page.{SameSides, image_of}
 use Rattle.bitmap_input.specs.Raw.{Entry, black}
 use Rattle.bitmap_input.specs.BmpRaster.{color_row}
 use Rattle.bitmap_input.specs.BmpHead.{IsTable, bits_in, row_place, row_bytes_by}
-use Rattle.bitmap_input.specs.Raster.{with_placed, IsPaintedSoFar}
+use Rattle.bitmap_input.specs.Raster.{with_placed}
+use Rattle.bitmap_input.proofs.Painting.{IsPaintedSoFar}
 use Rattle.bitmap_input.proofs.bmp.pixels.read_rows.Given as goal
 
 abbrev pub invariant-loop-i : goal.invariant-loop-i

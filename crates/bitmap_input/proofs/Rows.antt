@@ -1,0 +1,178 @@
+-- A row of a page is known by its pixels: eight of them in a byte, or 64 in a word.
+use Rattle.std.proofs.Common.{◌≡◌, ◌≢◌, refl, ℕ, zero, suc, ◌+◌, ◌-◌, ◌*◌, ◌/◌, ◌%◌, ◌≤◌, ◌<◌, inl, inr, Bool, true, false, not, ◌&&◌, ◌||◌, ◌^◌, List, [], ◌∷◌, length, take, map, get_or, arith, ap, sym, ◌∙◌, subst}
+use Rattle.std.specs.Prelude.{nat_eq, nat_lt, min}
+use Rattle.std.specs.Int.RustNames.{bit_or}
+use mir.Val.{bool_byte}
+use Rattle.std.proofs.Math.Path.{fun_ext}
+use Rattle.std.proofs.lemmas.List.{get_or-map, get_or-take, length-map, length-take-le, map-id}
+use Rattle.std.proofs.lemmas.Bool.{eq-eqb, ne_eqb, lt-ltb, le-ltb, cases_eq, cases_lt, false_from_ne_true}
+use Rattle.bit_image.specs.Image.{Image, Fits, differ, within, is_between}
+use Rattle.bit_image.specs.Words.{is_one, bit_in}
+use Rattle.bit_image.proofs.Bits.{within-inside, within-right, differ-false, differ-true, and_true, is_one-zero, is_one-mask}
+use Rattle.bit_image.proofs.Turned.{is_one-or, is_one-shl, is_one-shl_below}
+use Rattle.bitmap_input.specs.Raw.{unpacked}
+use Rattle.bitmap_input.specs.Raster.{with_row}
+use Rattle.bitmap_input.proofs.Placing.{with_pixels-at, with_pixels-other, length-unpacked}
+
+-- the image with these as the first pixels of a row
+pub row_by_pixels : (b c : Image) (y : ℕ) (pixels : List Bool) → ((u : ℕ) → u < length pixels → c u y ≡ get_or pixels u false) →
+    ((u : ℕ) → length pixels ≤ u → c u y ≡ b u y) → ((u v : ℕ) → v ≢ y → c u v ≡ b u v) → c ≡ with_row b y pixels
+row_by_pixels b c y pixels here past others = fun_ext (λ u. fun_ext (λ v. elim (cases_eq v y) [
+  | inl e ↦ elim (cases_lt u (length pixels)) [
+    | inl h ↦ subst (λ m. c u m ≡ with_row b y pixels u m) (sym e) (here u h ∙ sym (with_pixels-at b y 0 u u pixels (omega arith) h))
+    | inr h ↦ subst (λ m. c u m ≡ with_row b y pixels u m) (sym e) (past u h ∙ sym (with_pixels-other b y 0 u y pixels (λ _ _ below. omega arith)))
+  ]
+  | inr e ↦ others u v e ∙ sym (with_pixels-other b y 0 u v pixels (λ same _ _. e (sym same)))
+]))
+
+-- a bit behind the first byte
+bit_behind : (b : ℕ) (bytes : List ℕ) (n u : ℕ) → n ≡ u + 8 → bit_in (b ∷ bytes) n ≡ bit_in bytes u
+unfolding bit_in
+bit_behind b bytes n u e =
+    let byte : n / 8 ≡ suc (u / 8) = omega arith in
+    let bit : 7 - n % 8 ≡ 7 - u % 8 = omega arith in
+    ap (λ k. is_one (get_or (b ∷ bytes) k 0) (7 - n % 8)) byte ∙ ap (is_one (get_or bytes (u / 8) 0)) bit
+
+-- the pixel in a column of a row of bytes
+pub get_or-unpacked : (bytes : List ℕ) (u : ℕ) → u < 8 * length bytes → get_or (unpacked bytes) u false ≡ bit_in bytes u
+unfolding is_one bit_in
+get_or-unpacked [] u h = absurd (omega arith)
+get_or-unpacked (b ∷ bytes) zero h = refl
+get_or-unpacked (b ∷ bytes) (suc zero) h = refl
+get_or-unpacked (b ∷ bytes) (suc (suc zero)) h = refl
+get_or-unpacked (b ∷ bytes) (suc (suc (suc zero))) h = refl
+get_or-unpacked (b ∷ bytes) (suc (suc (suc (suc zero)))) h = refl
+get_or-unpacked (b ∷ bytes) (suc (suc (suc (suc (suc zero))))) h = refl
+get_or-unpacked (b ∷ bytes) (suc (suc (suc (suc (suc (suc zero)))))) h = refl
+get_or-unpacked (b ∷ bytes) (suc (suc (suc (suc (suc (suc (suc zero))))))) h = refl
+get_or-unpacked (b ∷ bytes) (suc (suc (suc (suc (suc (suc (suc (suc u)))))))) h =
+    get_or-unpacked bytes u (omega arith) ∙ sym (bit_behind b bytes (suc (suc (suc (suc (suc (suc (suc (suc u)))))))) u (omega arith))
+
+-- the row of a page that is put as bytes
+pub bytes_placed : (b c : Image) (y w : ℕ) (bytes : List ℕ) → length bytes ≡ (w + 7) / 8 → ((u : ℕ) → w ≤ u → b u y ≡ false) →
+    ((u : ℕ) → c u y ≡ (nat_lt u w && bit_in bytes u)) → ((u v : ℕ) → v ≢ y → c u v ≡ b u v) → c ≡ with_row b y (take w (unpacked bytes))
+bytes_placed b c y w bytes len past row others =
+    let all : length (take w (unpacked bytes)) ≡ w = length-take-le w (unpacked bytes) (omega (arith, length-unpacked bytes)) in
+    row_by_pixels b c y (take w (unpacked bytes))
+    (λ u h. let less : u < w = omega (arith, all) in
+    row u ∙ ap (λ t. t && bit_in bytes u) (lt-ltb u w less) ∙ sym (get_or-take w (unpacked bytes) u false less ∙ get_or-unpacked bytes u (omega arith)))
+    (λ u h. let more : w ≤ u = omega (arith, all) in
+    row u ∙ ap (λ t. t && bit_in bytes u) (le-ltb u w more) ∙ sym (past u more)) others
+
+and_none : (t : Bool) → t && false ≡ false
+and_none true = refl
+and_none false = refl
+
+-- a row that isn't inverted
+pub row_kept : (b c : Image) (y : ℕ) (pixels : List Bool) → c ≡ with_row b y pixels → c ≡ with_row b y (map (differ false) pixels)
+row_kept b c y pixels is = is ∙ ap (with_row b y) (sym (map-id pixels))
+
+-- a row that is inverted
+pub row_flipped : (b c d : Image) (y w : ℕ) (pixels : List Bool) → length pixels ≡ w → c ≡ with_row b y pixels →
+    ((u v : ℕ) → d u v ≡ differ (c u v) (is_between 0 w y u v)) → d ≡ with_row b y (map (differ true) pixels)
+row_flipped b c d y w pixels len is flipped =
+    let count : length (map (differ true) pixels) ≡ w = length-map pixels (differ true) ∙ len in
+    let row : nat_eq y y ≡ true = eq-eqb y y refl in
+    row_by_pixels b d y (map (differ true) pixels)
+    (λ u h. let less : u < w = omega (arith, count) in
+    let at : u < length pixels = omega arith in
+    flipped u y ∙ differ-true (c u y) (is_between 0 w y u y) (ap (λ t. t && nat_eq y y) (within-inside 0 w u (omega arith) less) ∙ row) ∙
+    ap not (ap (λ (i : Image). i u y) is ∙ with_pixels-at b y 0 u u pixels (omega arith) at) ∙ sym (get_or-map (differ true) pixels u false false at))
+    (λ u h. let more : w ≤ u = omega (arith, count) in
+    flipped u y ∙ differ-false (c u y) (is_between 0 w y u y) (ap (λ t. t && nat_eq y y) (within-right 0 w u more)) ∙
+    ap (λ (i : Image). i u y) is ∙ with_pixels-other b y 0 u y pixels (λ _ _ below. omega arith))
+    (λ u v other. flipped u v ∙ differ-false (c u v) (is_between 0 w y u v) (ap (λ t. within 0 w u && t) (ne_eqb y v (λ e. other (sym e))) ∙ and_none (within 0 w u)) ∙
+    ap (λ (i : Image). i u v) is ∙ with_pixels-other b y 0 u v pixels (λ e _ _. other (sym e)))
+
+-- right of the page all is white
+pub white_past : (b : Image) (w h : ℕ) → Fits b w h → (u v : ℕ) → w ≤ u → b u v ≡ false
+white_past b w h fits u v past = false_from_ne_true (b u v) (λ e. let at = (fits u v e).0 in omega arith)
+
+-- Pixels that are put into a word one after another.
+
+or_false : (b : Bool) → b || false ≡ b
+or_false true = refl
+or_false false = refl
+
+bit_of_one : (black : Bool) (i k : ℕ) → i ≤ k → is_one (bool_byte black) (k - i) ≡ nat_eq i k && black
+bit_of_one false i k h = is_one-zero (k - i) ∙ sym (and_none (nat_eq i k))
+bit_of_one true i k h = elim (cases_eq i k) [
+  | inl e ↦ is_one-mask 0 1 (k - i) ∙ within-inside 0 1 (k - i) (omega arith) (omega arith) ∙ sym (and_true (nat_eq i k) ∙ eq-eqb i k e)
+  | inr e ↦ is_one-mask 0 1 (k - i) ∙ within-right 0 1 (k - i) (omega arith) ∙ sym (and_true (nat_eq i k) ∙ ne_eqb i k e)
+]
+
+one_shifted : (black : Bool) (i k : ℕ) → k < 64 → is_one (bool_byte black * 2 ^ i % 2 ^ 64) k ≡ nat_eq i k && black
+one_shifted black i k g = elim (cases_lt k i) [
+  | inl h ↦ is_one-shl_below (bool_byte black) i k g h ∙ sym (ap (λ t. t && black) (ne_eqb i k (λ e. omega arith)))
+  | inr h ↦ is_one-shl (bool_byte black) i k g h ∙ bit_of_one black i k h
+]
+
+-- the word with one pixel more
+pub pixel_set : (word i k : ℕ) (black : Bool) → k < 64 →
+    is_one (bit_or word (bool_byte black * 2 ^ i % 2 ^ 64)) k ≡ is_one word k || (nat_eq i k && black)
+pixel_set word i k black g =
+    is_one-or word (bool_byte black * 2 ^ i % 2 ^ 64) k ∙ ap (λ t. is_one word k || t) (one_shifted black i k g)
+
+-- the first pixels of a word are these
+abbrev pub HasFirst : (ℕ → Bool) → ℕ → ℕ → Type 0
+HasFirst f word n = (k : ℕ) → k < 64 → is_one word k ≡ nat_lt k n && f k
+
+pub none_first : (f : ℕ → Bool) → HasFirst f 0 0
+none_first f = λ k _. is_one-zero k ∙ sym (ap (λ t. t && f k) (le-ltb k 0 (omega arith)))
+
+-- and one more
+pub one_more : (f : ℕ → Bool) (word word2 n : ℕ) → HasFirst f word n →
+    ((k : ℕ) → k < 64 → is_one word2 k ≡ (is_one word k || (nat_eq n k && f n))) → HasFirst f word2 (n + 1)
+one_more f word word2 n first set = λ k h. elim (cases_lt k n) [
+  | inl less ↦
+      set k h ∙ ap (λ t. t || (nat_eq n k && f n)) (first k h ∙ ap (λ t. t && f k) (lt-ltb k n less)) ∙
+      ap (λ t. f k || (t && f n)) (ne_eqb n k (λ e. omega arith)) ∙ or_false (f k) ∙ sym (ap (λ t. t && f k) (lt-ltb k (n + 1) (omega arith)))
+  | inr more ↦ elim (cases_eq n k) [
+    | inl e ↦
+        set k h ∙ ap (λ t. t || (nat_eq n k && f n)) (first k h ∙ ap (λ t. t && f k) (le-ltb k n more)) ∙
+        ap (λ t. t && f n) (eq-eqb n k e) ∙ ap f e ∙ sym (ap (λ t. t && f k) (lt-ltb k (n + 1) (omega arith)))
+    | inr e ↦
+        set k h ∙ ap (λ t. t || (nat_eq n k && f n)) (first k h ∙ ap (λ t. t && f k) (le-ltb k n more)) ∙
+        ap (λ t. t && f n) (ne_eqb n k e) ∙ sym (ap (λ t. t && f k) (le-ltb k (n + 1) (omega arith)))
+  ]
+]
+
+-- a row whose words are put one after another, up to one of them
+pub record WordsPlaced (f : ℕ → Bool) (w y : ℕ) (b c : Image) (at : ℕ) : Type 0 where
+  pub placed : (u : ℕ) → u < 64 * at → c u y ≡ nat_lt u w && f u
+  pub left : (u : ℕ) → 64 * at ≤ u → c u y ≡ b u y
+  pub others : (u v : ℕ) → v ≢ y → c u v ≡ b u v
+
+pub none_placed : (f : ℕ → Bool) (w y : ℕ) (b : Image) → WordsPlaced f w y b b 0
+none_placed f w y b = record { placed = λ u h. absurd (omega arith); left = λ u h. refl; others = λ u v h. refl }
+
+-- one word more
+pub word_placed : (f : ℕ → Bool) (w y : ℕ) (b c d : Image) (at word count : ℕ) → WordsPlaced f w y b c at →
+    (count ≡ min (w - 64 * at) 64) → ((k : ℕ) → k < count → is_one word k ≡ f (64 * at + k)) →
+    ((u : ℕ) → u / 64 ≡ at → d u y ≡ (nat_lt u w && is_one word (u % 64))) →
+    ((u : ℕ) → u / 64 ≢ at → d u y ≡ c u y) → ((u v : ℕ) → v ≢ y → d u v ≡ c u v) → WordsPlaced f w y b d (at + 1)
+word_placed f w y b c d at word count s many pixels here columns others = record {
+  placed = λ u h. elim (cases_lt u (64 * at)) [
+    | inl before ↦ columns u (λ e. omega arith) ∙ s.placed u before
+    | inr behind ↦ elim (cases_lt u w) [
+      | inl inside ↦
+          let same : 64 * at + u % 64 ≡ u = omega arith in
+          here u (omega arith) ∙ ap (λ t. nat_lt u w && t) (pixels (u % 64) (omega arith) ∙ ap f same)
+      | inr outside ↦
+          here u (omega arith) ∙ ap (λ t. t && is_one word (u % 64)) (le-ltb u w outside) ∙ sym (ap (λ t. t && f u) (le-ltb u w outside))
+    ]
+  ];
+  left = λ u h. columns u (λ e. omega arith) ∙ s.left u (omega arith);
+  others = λ u v h. others u v h ∙ s.others u v h;
+}
+
+-- all of them
+pub words_placed : (f : ℕ → Bool) (w y : ℕ) (b c : Image) (at : ℕ) (pixels : List Bool) → WordsPlaced f w y b c at → w ≤ 64 * at →
+    ((u : ℕ) → w ≤ u → b u y ≡ false) → length pixels ≡ w → ((u : ℕ) → u < w → f u ≡ get_or pixels u false) → c ≡ with_row b y pixels
+words_placed f w y b c at pixels s all past len same =
+    row_by_pixels b c y pixels
+    (λ u h. let inside : u < w = omega arith in s.placed u (omega arith) ∙ ap (λ t. t && f u) (lt-ltb u w inside) ∙ same u inside)
+    (λ u h. elim (cases_lt u (64 * at)) [
+      | inl before ↦ s.placed u before ∙ ap (λ t. t && f u) (le-ltb u w (omega arith)) ∙ sym (past u (omega arith))
+      | inr behind ↦ s.left u behind
+    ]) s.others

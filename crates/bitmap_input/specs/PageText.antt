@@ -1,0 +1,81 @@
+-- The bytes of a page as a set of byte lists: the sets of its parts, joined one behind another (Netpbm's
+-- format pages "pbm" and "pgm"; Microsoft's "Bitmap Storage").
+use Rattle.std.specs.Prelude.{◌≡◌, ℕ, zero, suc, ◌-◌, ◌≤◌, true, ◌⊎◌, List, [], ◌∷◌, ◌++◌, length, Some}
+use Rattle.bitmap_input.specs.Parts.{is_space, is_digit, value}
+use Rattle.bitmap_input.specs.Sets.{IsRun, IsGap}
+use Rattle.bitmap_input.specs.Raw.{Raw, row_bytes}
+use Rattle.bitmap_input.specs.BmpHeader.{width, height, palette_bytes, pixel_offset, palette_end, row_length}
+use Rattle.bitmap_input.specs.Front.{Magic, magic_named, gray_row_bytes}
+use Rattle.bitmap_input.specs.Front.Magic.{PlainBits, RawBits, PlainGray, RawGray, Picture}
+
+-- bytes of one set, and behind them bytes of another
+pub record IsJoined (P Q : List ℕ → Type 0) (bytes : List ℕ) : Type 0 where
+  pub first : List ℕ
+  pub second : List ℕ
+  pub split : bytes ≡ first ++ second
+  pub is_first : P first
+  pub is_second : Q second
+
+-- bytes of the same set so many times
+abbrev pub IsRepeated : (List ℕ → Type 0) → ℕ → List ℕ → Type 0
+IsRepeated P zero bytes = bytes ≡ []
+IsRepeated P (suc n) bytes = IsJoined P (IsRepeated P n) bytes
+
+-- so many bytes
+abbrev pub IsBlock : ℕ → List ℕ → Type 0
+IsBlock n bytes = length bytes ≡ n
+
+-- one byte of whitespace
+abbrev pub IsSpace : List ℕ → Type 0
+IsSpace bytes = (b : ℕ) × (bytes ≡ b ∷ []) × (is_space b ≡ true)
+
+-- whitespace and comments, and not nothing
+abbrev pub IsSomeGap : List ℕ → Type 0
+IsSomeGap bytes = IsGap bytes × (1 ≤ length bytes)
+
+-- digits that stand for this number
+abbrev pub IsNumber : ℕ → List ℕ → Type 0
+IsNumber n bytes = IsRun is_digit bytes × (1 ≤ length bytes) × (value 0 bytes ≡ n)
+
+-- the same with a gap before it
+abbrev pub IsNumberBehindGap : ℕ → List ℕ → Type 0
+IsNumberBehindGap n bytes = IsJoined IsSomeGap (IsNumber n) bytes
+
+-- the width and the height
+abbrev pub AreSides : ℕ → ℕ → List ℕ → Type 0
+AreSides w h bytes = IsJoined (IsNumberBehindGap w) (IsNumberBehindGap h) bytes
+
+-- a plain pixel's character
+abbrev pub IsPixel : List ℕ → Type 0
+IsPixel bytes = (bytes ≡ 48 ∷ []) ⊎ (bytes ≡ 49 ∷ [])
+
+-- the same with whitespace and comments before it or not
+abbrev pub IsPlainPixel : List ℕ → Type 0
+IsPlainPixel bytes = IsJoined IsGap IsPixel bytes
+
+-- a plain gray sample
+abbrev pub IsPlainSample : List ℕ → Type 0
+IsPlainSample bytes = (v : ℕ) × IsNumberBehindGap v bytes
+
+-- the two bytes of a magic
+abbrev pub IsMagic : Magic → List ℕ → Type 0
+IsMagic m bytes = (a : ℕ) × (b : ℕ) × (bytes ≡ a ∷ b ∷ []) × (magic_named a b ≡ Some m)
+
+-- what follows the magic
+abbrev pub IsBody : Magic → Raw → List ℕ → Type 0
+IsBody PlainBits raw bytes =
+    IsJoined (AreSides raw.width raw.height) (IsRepeated (IsRepeated IsPlainPixel raw.width) raw.height) bytes
+IsBody RawBits raw bytes =
+    IsJoined (AreSides raw.width raw.height) (IsJoined IsSpace (IsRepeated (IsBlock (row_bytes raw.width)) raw.height)) bytes
+IsBody PlainGray raw bytes = (white : ℕ)
+    × IsJoined (AreSides raw.width raw.height) (IsJoined (IsNumberBehindGap white) (IsRepeated (IsRepeated IsPlainSample raw.width) raw.height)) bytes
+IsBody RawGray raw bytes = (white : ℕ)
+    × IsJoined (AreSides raw.width raw.height) (IsJoined (IsNumberBehindGap white) (IsJoined IsSpace
+    (IsRepeated (IsBlock (gray_row_bytes white raw.width)) raw.height))) bytes
+IsBody Picture raw bytes = (head : List ℕ) × (raw.width ≡ width head) × (raw.height ≡ height head)
+    × IsJoined (λ first. first ≡ head) (IsJoined (IsBlock (palette_bytes head)) (IsJoined (IsBlock (pixel_offset head - palette_end head))
+    (IsRepeated (IsBlock (row_length head)) raw.height))) bytes
+
+-- a page: whitespace, its magic, and what follows the magic
+abbrev pub IsPageText : Raw → List ℕ → Type 0
+IsPageText raw bytes = (m : Magic) × IsJoined (IsRun is_space) (IsJoined (IsMagic m) (IsBody m raw)) bytes

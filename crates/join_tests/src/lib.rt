@@ -1,0 +1,5 @@
+//! Tests of joined curves.
+#![tactic(auto)]
+
+#[cfg(test)]
+mod tests;
