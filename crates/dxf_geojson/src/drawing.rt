@@ -56,7 +56,8 @@ fn put_polyline(
 
 /// Appends a vertex for each of these points but the last.
 fn put_vertices(out: &mut Vec<u8>, points: &[Point]) -> Result<(), NoMemory>
-    ensures { OnOk result (out.new.items ≡ out.old.items ++ flat_map vertex_text (all_but_last points.now)) }
+    ensures { OnOk result (out.new.items ≡ out.old.items
+        ++ flat_map vertex_text (all_but_last points.now)) }
 {
     if let Some((_last, vertices)) = points.split_last() {
         for vertex in vertices {

@@ -60,7 +60,8 @@ fn put_more_features(
     groups: &[Group],
 ) -> Result<(), NoMemory>
     ensures { OnOk result (out.new.items
-        ≡ out.old.items ++ flat_map (λ group. codes ",\n" ++ feature_text outlines.now group) groups.now) }
+        ≡ out.old.items ++ flat_map (λ group. codes ",\n"
+        ++ feature_text outlines.now group) groups.now) }
 {
     for group in groups {
         out.extend_from_slice(b",\n")?;
@@ -127,7 +128,8 @@ fn put_ring(out: &mut Vec<u8>, points: &[Point]) -> Result<(), NoMemory>
 
 /// Appends positions, with a comma between two.
 fn put_positions(out: &mut Vec<u8>, points: &[Point]) -> Result<(), NoMemory>
-    ensures { OnOk result (out.new.items ≡ out.old.items ++ join_by position_text (codes ",") points.now) }
+    ensures { OnOk result (out.new.items ≡ out.old.items
+        ++ join_by position_text (codes ",") points.now) }
 {
     if let Some((first, more)) = points.split_first() {
         put_position(out, *first)?;

@@ -4,6 +4,7 @@ use Rattle.std.proofs.Common.{◌≡◌, ℕ, ◌%◌, ◌<◌, ◌≤◌, List,
 use Rattle.std.specs.Prelude.{nat_lt}
 use Rattle.std.proofs.lemmas.Int.{ints}
 use Rattle.std.proofs.lemmas.List.Elements.{All-filter}
+use Rattle.std.proofs.lemmas.List.Sums.{count_by-le-length, length-filter}
 use Rattle.std.proofs.Math.Nat.{mod-lt}
 use Rattle.pt_base.specs.ClosedWalk.{IsClosedWalk, origin}
 use Rattle.pt_base.specs.OnPage.{AreOnPage}
@@ -25,3 +26,20 @@ pub all_on_page : (width height : ℕ) → width ≤ 16384 → height ≤ 16384 
 all_on_page width height w h paths closed corners k d below =
     let walk = closed k d below in
     on_page width height w h _ (omega (arith, walk.least)) (corners k d below)
+
+-- corners of a page are those of a page of the longest sides of all
+wider : (width height : ℕ) (p : Point) → width ≤ 32767 → height ≤ 32767 → IsCornerOf width height p → IsCornerOf 32767 32767 p
+wider width height p w h corner = record {
+  from_left = corner.from_left;
+  to_right = omega (arith, ints, corner.to_right);
+  from_bottom = corner.from_bottom;
+  to_top = omega (arith, ints, corner.to_top);
+}
+
+pub all_wider : (width height : ℕ) → width ≤ 32767 → height ≤ 32767 → (paths : List Path) → All (λ path. All (IsCornerOf width height) path.points) paths
+    → All (λ path. All (IsCornerOf 32767 32767) path.points) paths
+all_wider width height w h paths corners = λ k d below i e within. wider width height _ w h (corners k d below i e within)
+
+-- no more paths are kept than there are
+pub kept_few : (turd n : ℕ) (all paths : List Path) → paths ≡ kept turd all → length all ≤ n → length paths ≤ n
+kept_few turd n all paths is few = rw is (omega (arith, length-filter (λ path. nat_lt turd path.area) all, count_by-le-length (λ path. nat_lt turd path.area) all))

@@ -21,6 +21,10 @@ use Rattle.curve_join.proofs.Single.{one_join}
 use Rattle.curve_join.specs.Outline.{outline}
 use Rattle.pt_base.specs.declared.piece.Piece.{Piece}
 use Rattle.svg_backend.specs.SvgText.{svg_text}
+use Rattle.eps_backend.specs.EpsText.{eps_text}
+use Rattle.dxf_geojson.specs.DxfText.{dxf_text}
+use Rattle.dxf_geojson.specs.GeoJsonText.{geojson_text}
+use Rattle.path_tree.specs.Groups.{groups_of}
 use Rattle.page_trace.specs.Trace.{ArePaths, AreVerticesOf, HasPolygons, IsOutlineOf, IsOutlineWith, IsPolygonOf, IsTrace, tolerance_of}
 use Rattle.page_trace.specs.Document.{IsDocumentUnder, text_under}
 
@@ -105,7 +109,7 @@ one_trace page settings trace other this that =
     (subst (λ both. AllZip AreVerticesOf both trace.vertices) traced this.vertices) that.vertices in
     same_trace trace other (this.polygons.width ∙ sym that.polygons.width) (this.polygons.height ∙ sym that.polygons.height) paths polygons vertices
     (one_list_of_outlines settings other.vertices trace.outlines other.outlines
-    (subst (λ lists. AllZip (IsOutlineOf settings) lists trace.outlines) vertices this.outlines) that.outlines) (this.groups ∙ sym that.groups)
+    (subst (λ lists. AllZip (IsOutlineOf settings) lists trace.outlines) vertices this.outlines) that.outlines) (this.groups ∙ ap groups_of paths ∙ sym that.groups)
 
 -- the polygons text shows no more than the sides, the paths and the polygons
 same_polygons_text : (page : Page) (settings : Settings) (trace other : Trace) → HasPolygons page settings trace → HasPolygons page settings other
@@ -132,9 +136,10 @@ text_is Points page settings trace text is document =
 text_is Polygons page settings trace text is document = document.2 ∙ same_polygons_text page settings document.0 trace document.1 is.polygons
 text_is Svg page settings trace text is document =
     document.2 ∙ ap (svg_text settings.unit settings.flat) (one_trace page settings document.0 trace document.1 is)
-text_is Eps page settings trace text is document = absurd document
-text_is Dxf page settings trace text is document = absurd document
-text_is GeoJson page settings trace text is document = absurd document
+text_is Eps page settings trace text is document =
+    document.2 ∙ ap (eps_text settings.unit) (one_trace page settings document.0 trace document.1 is)
+text_is Dxf page settings trace text is document = document.2 ∙ ap dxf_text (one_trace page settings document.0 trace document.1 is)
+text_is GeoJson page settings trace text is document = document.2 ∙ ap geojson_text (one_trace page settings document.0 trace document.1 is)
 
 -- a page has one document under some settings
 pub one_document : (backend : Backend) (page : Page) (settings : Settings) (text other : List ℕ) → IsDocumentUnder backend page settings text
@@ -144,6 +149,7 @@ one_document Points page settings text other this that =
 one_document Polygons page settings text other this that = this.2 ∙ same_polygons_text page settings this.0 that.0 this.1 that.1 ∙ sym that.2
 one_document Svg page settings text other this that =
     this.2 ∙ ap (svg_text settings.unit settings.flat) (one_trace page settings this.0 that.0 this.1 that.1) ∙ sym that.2
-one_document Eps page settings text other this that = absurd this
-one_document Dxf page settings text other this that = absurd this
-one_document GeoJson page settings text other this that = absurd this
+one_document Eps page settings text other this that =
+    this.2 ∙ ap (eps_text settings.unit) (one_trace page settings this.0 that.0 this.1 that.1) ∙ sym that.2
+one_document Dxf page settings text other this that = this.2 ∙ ap dxf_text (one_trace page settings this.0 that.0 this.1 that.1) ∙ sym that.2
+one_document GeoJson page settings text other this that = this.2 ∙ ap geojson_text (one_trace page settings this.0 that.0 this.1 that.1) ∙ sym that.2

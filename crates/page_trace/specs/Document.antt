@@ -1,5 +1,5 @@
 -- The document of a page.
-use Rattle.std.specs.Prelude.{◌≡◌, ℕ, ◌≤◌, true, List, []}
+use Rattle.std.specs.Prelude.{◌≡◌, ℕ, ◌≤◌, List}
 use Rattle.pt_base.specs.PointsText.{points_text}
 use Rattle.pt_base.specs.PolygonsText.{polygons_text}
 use Rattle.pt_base.specs.declared.path.Path.{Path}
@@ -9,16 +9,19 @@ use Rattle.pt_base.specs.declared.settings.Settings.{Settings}
 use Rattle.pt_base.specs.declared.trace.Trace.{Trace}
 use Rattle.bit_image.specs.Page.{Page}
 use Rattle.svg_backend.specs.SvgText.{svg_text}
+use Rattle.eps_backend.specs.EpsText.{eps_text}
+use Rattle.dxf_geojson.specs.DxfText.{dxf_text}
+use Rattle.dxf_geojson.specs.GeoJsonText.{geojson_text}
 use Rattle.page_trace.specs.Trace.{ArePaths, HasPolygons, IsTrace}
 
--- the text of a trace under a backend (those that are left have none yet)
+-- the text of a trace under a backend
 abbrev pub text_under : Settings → Backend → Trace → List ℕ
 text_under settings Points trace = points_text trace.width trace.height trace.paths
 text_under settings Polygons trace = polygons_text trace
 text_under settings Svg trace = svg_text settings.unit settings.flat trace
-text_under settings Eps trace = []
-text_under settings Dxf trace = []
-text_under settings GeoJson trace = []
+text_under settings Eps trace = eps_text settings.unit trace
+text_under settings Dxf trace = dxf_text trace
+text_under settings GeoJson trace = geojson_text trace
 
 -- the text of a trace
 abbrev pub text_of : Settings → Trace → List ℕ
@@ -32,9 +35,12 @@ IsDocumentUnder Polygons page settings text =
     (trace : Trace) × HasPolygons page settings trace × (text ≡ polygons_text trace)
 IsDocumentUnder Svg page settings text =
     (trace : Trace) × IsTrace page settings trace × (text ≡ svg_text settings.unit settings.flat trace)
-IsDocumentUnder Eps page settings text = ⊥
-IsDocumentUnder Dxf page settings text = ⊥
-IsDocumentUnder GeoJson page settings text = ⊥
+IsDocumentUnder Eps page settings text =
+    (trace : Trace) × IsTrace page settings trace × (text ≡ eps_text settings.unit trace)
+IsDocumentUnder Dxf page settings text =
+    (trace : Trace) × IsTrace page settings trace × (text ≡ dxf_text trace)
+IsDocumentUnder GeoJson page settings text =
+    (trace : Trace) × IsTrace page settings trace × (text ≡ geojson_text trace)
 
 -- the text is the page's document
 abbrev pub IsDocument : Page → Settings → List ℕ → Type 0
@@ -45,21 +51,20 @@ pub record CanTrace (settings : Settings) : Type 0 where
   pub alphamax : settings.alphamax ≤ 1000000000
   pub tolerance : settings.tolerance ≤ 1000000000
 
--- what an SVG text needs besides: a unit of 1 to 1000, and that all outlines are to be one path
+-- what a text in units needs besides: a unit of 1 to 1000
 pub record CanDraw (settings : Settings) : Type 0 where
   pub traced : CanTrace settings
   pub some : 1 ≤ settings.unit
   pub most : settings.unit ≤ 1000
-  pub flat : settings.flat ≡ true
 
 -- what a document needs of the settings, under a backend
 abbrev pub CanWriteUnder : Backend → Settings → Type 0
 CanWriteUnder Points settings = Unit {0}
 CanWriteUnder Polygons settings = Unit {0}
 CanWriteUnder Svg settings = CanDraw settings
-CanWriteUnder Eps settings = ⊥
-CanWriteUnder Dxf settings = ⊥
-CanWriteUnder GeoJson settings = ⊥
+CanWriteUnder Eps settings = CanDraw settings
+CanWriteUnder Dxf settings = CanTrace settings
+CanWriteUnder GeoJson settings = CanTrace settings
 
 -- what a document needs of the settings
 abbrev pub CanWrite : Settings → Type 0

@@ -1,2 +1,20 @@
+-- What is traced of a page.
+--   ArePaths: These are the page's paths which are no speckles
+--   IsPolygonOf: the polygon is the best one of a path, with the penalty of all its segments
+--   HasPolygons: the trace has the page's sides, its paths, and the best polygon of each
+--   AreVerticesOf: they are the adjusted vertices of a path's polygon
+--   tolerance_of: how far a joined curve may be off, in units of 1/1024 pixel, rounded down
+--   IsOutlineWith: these pieces go round the vertices
+--   IsOutlineOf
+--   IsTrace: a trace has the page's paths and polygons, the adjusted vertices of each polygon
 pub mod Trace
+-- The document of a page.
+--   text_under: the text of a trace under a backend
+--   text_of: the text of a trace
+--   IsDocumentUnder: the text is the page's under a backend
+--   IsDocument: the text is the page's document
+--   CanTrace: what a whole trace needs of the settings
+--   CanDraw: what a text in units needs besides
+--   CanWriteUnder: what a document needs of the settings, under a backend
+--   CanWrite: what a document needs of the settings
 pub mod Document

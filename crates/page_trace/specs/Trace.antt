@@ -1,6 +1,6 @@
 -- What is traced of a page: its paths without the speckles (Selinger, "Potrace", 2003, section 2.1), the best
 -- polygon of each (section 2.2), its adjusted vertices and smooth outline (section 2.3), and the joins of that (section 2.4).
-use Rattle.std.specs.Prelude.{◌≡◌, ℕ, ◌*◌, ◌/◌, Bool, true, false, List, [], zip}
+use Rattle.std.specs.Prelude.{◌≡◌, ℕ, ◌*◌, ◌/◌, Bool, true, false, List, zip}
 use Rattle.std.specs.List.{AllZip}
 use Rattle.pt_base.specs.declared.path.Path.{Path}
 use Rattle.pt_base.specs.declared.piece.Piece.{Piece}
@@ -11,6 +11,7 @@ use Rattle.pt_base.specs.declared.trace.Trace.{Trace}
 use Rattle.bit_image.specs.Page.{Page, image_of}
 use Rattle.path_decompose.specs.Decomposition.{IsDecomposition, kept}
 use Rattle.path_decompose.specs.Sums.{IsEvenOdd, IsEdgesOnce}
+use Rattle.path_tree.specs.Groups.{groups_of}
 use Rattle.polygon_optimal.specs.Polygon.{IsBestPolygon, total_penalty}
 use Rattle.vertex_adjust.specs.Vertex.{AreVertices}
 use Rattle.corner_smooth.specs.Corner.{pieces_of}
@@ -56,10 +57,10 @@ IsOutlineWith false settings vertices pieces =
 abbrev pub IsOutlineOf : Settings → List Point → List Piece → Type 0
 IsOutlineOf settings vertices pieces = IsOutlineWith settings.long_curve settings vertices pieces
 
--- a trace has the page's paths and polygons, the adjusted vertices of each polygon, and the outline round these
--- vertices (paths aren't put into groups yet)
+-- a trace has the page's paths and polygons, the adjusted vertices of each polygon, the outline round these
+-- vertices, and the shapes with their holes
 pub record IsTrace (page : Page) (settings : Settings) (trace : Trace) : Type 0 where
   pub polygons : HasPolygons page settings trace
   pub vertices : AllZip AreVerticesOf (zip trace.paths trace.polygons) trace.vertices
   pub outlines : AllZip (IsOutlineOf settings) trace.vertices trace.outlines
-  pub groups : trace.groups ≡ []
+  pub groups : trace.groups ≡ groups_of trace.paths

@@ -5,17 +5,19 @@ ghost use Rattle.page_trace.specs.Document.{CanWrite, IsDocument};
 use crate::paths::kept_paths;
 use crate::tracing::{polygons_alone, trace};
 use bit_image::bitmap::Bitmap;
+use dxf_geojson::drawing::dxf;
+use dxf_geojson::features::geojson;
+use eps_backend::eps_text::eps;
 use pt_base::fault::NoMemory;
 use pt_base::list_text::{points, polygons};
 use pt_base::settings::{Backend, Settings};
 use std::alloc::Global;
 use svg_backend::svg_text::svg;
 
-/// The text of a page under the settings' backend, which is `Points`, `Polygons`, or `Svg` with long
-/// curves in one flat path.
+/// The text of a page under the settings' backend.
 ///
-/// What the text doesn't show isn't made: under `Points` no polygon is looked for, and under `Polygons` no
-/// vertex is moved.
+/// What the text doesn't show isn't made: under `Points` no polygon is looked for, and under `Polygons`
+/// no vertex is moved.
 pub fn document(alloc: Global, page: &Bitmap, settings: &Settings) -> Result<Vec<u8>, NoMemory>
     requires { CanWrite settings.now }
     ensures { IfOk result (λ text. IsDocument page.now settings.now text.items) }
@@ -33,6 +35,17 @@ pub fn document(alloc: Global, page: &Bitmap, settings: &Settings) -> Result<Vec
             let trace = trace(alloc, page, settings)?;
             svg(alloc, &trace, settings)
         }
-        Backend::Eps | Backend::Dxf | Backend::GeoJson => unreachable!(),
+        Backend::Eps => {
+            let trace = trace(alloc, page, settings)?;
+            eps(alloc, &trace, settings)
+        }
+        Backend::Dxf => {
+            let trace = trace(alloc, page, settings)?;
+            dxf(alloc, &trace)
+        }
+        Backend::GeoJson => {
+            let trace = trace(alloc, page, settings)?;
+            geojson(alloc, &trace)
+        }
     }
 }

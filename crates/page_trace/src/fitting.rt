@@ -30,7 +30,8 @@ pub(crate) fn fit_all(alloc: Global, paths: &[Path]) -> Result<Fitted, NoMemory>
     requires closed { All (λ path. IsClosedWalk path.points) paths.now }
     requires on_page { All (λ path. AreOnPage path.points) paths.now }
     ensures polygons { IfOk result (λ all. AllZip IsPolygonOf paths.now all.polygons.items) }
-    ensures vertices { IfOk result (λ all. AllZip AreVerticesOf (zip paths.now all.polygons.items) all.vertices.items) }
+    ensures vertices { IfOk result
+        (λ all. AllZip AreVerticesOf (zip paths.now all.polygons.items) all.vertices.items) }
     ensures near { IfOk result (λ all. All (All IsNearWidePage) all.vertices.items) }
     ensures some { IfOk result (λ all. All (λ one. 2 ≤ length one) all.vertices.items) }
     ensures most { IfOk result (λ all. All (λ one. length one ≤ 2 ^ 31) all.vertices.items) }

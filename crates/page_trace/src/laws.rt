@@ -15,7 +15,8 @@ pub fn traces_are_one()
 /// A page's document is the text of its trace.
 pub fn documents_are_texts_of_traces()
     ensures { (page : Page) (settings : Settings) (trace : Trace) (text : List ℕ)
-        → IsTrace page settings trace → IsDocument page settings text → text ≡ text_of settings trace }
+        → IsTrace page settings trace → IsDocument page settings text
+        → text ≡ text_of settings trace }
 {}
 
 /// A page has at most one document under some settings.
@@ -26,7 +27,8 @@ pub fn documents_are_one()
 
 /// A page has a trace under all settings.
 pub fn pages_have_traces()
-    ensures { (page : Page) (settings : Settings) → IsPage page → (trace : Trace) × IsTrace page settings trace }
+    ensures { (page : Page) (settings : Settings) → IsPage page
+        → (trace : Trace) × IsTrace page settings trace }
 {}
 
 /// A page has a document under all settings under which one is written.

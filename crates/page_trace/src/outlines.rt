@@ -24,7 +24,8 @@ pub(crate) fn all_outlines(
     requires some { All (λ one. 2 ≤ length one) vertices.now }
     requires most { All (λ one. length one ≤ 2 ^ 31) vertices.now }
     requires settings { CanTrace settings.now }
-    ensures { IfOk result (λ outlines. AllZip (IsOutlineOf settings.now) vertices.now outlines.items) }
+    ensures { IfOk result
+        (λ outlines. AllZip (IsOutlineOf settings.now) vertices.now outlines.items) }
 {
     let mut outlines = Vec::with_capacity(alloc, vertices.len())?;
     for one in vertices {

@@ -1,6 +1,7 @@
 //! The paths of a page that are no speckles.
-ghost use Rattle.std.specs.Prelude.{All, IfOk};
-ghost use Rattle.pt_base.specs.ClosedWalk.{IsClosedWalk};
+ghost use Rattle.std.specs.Prelude.{◌<◌, ◌≤ℤ◌, ◌^◌, All, IfOk, length, pos};
+ghost use Rattle.path_decompose.specs.Bounds.{IsCornerOf};
+ghost use Rattle.pt_base.specs.ClosedWalk.{IsClosedWalk, point_at};
 ghost use Rattle.pt_base.specs.OnPage.{AreOnPage};
 ghost use Rattle.page_trace.specs.Trace.{ArePaths};
 
@@ -21,6 +22,11 @@ pub(crate) fn kept_paths(
     ensures paths { IfOk result (λ paths. ArePaths page.now settings.now paths.items) }
     ensures closed { IfOk result (λ paths. All (λ path. IsClosedWalk path.points) paths.items) }
     ensures on_page { IfOk result (λ paths. All (λ path. AreOnPage path.points) paths.items) }
+    ensures corners { IfOk result
+        (λ paths. All (λ path. All (IsCornerOf 32767 32767) path.points) paths.items) }
+    ensures starts { IfOk result
+        (λ paths. All (λ path. pos 1 ≤ℤ (point_at path.points 0).y) paths.items) }
+    ensures few { IfOk result (λ paths. length paths.items < 2 ^ 32) }
 {
     let paths = decompose(alloc, page, settings.policy)?;
     // The proof reads here how long the page's sides are at most.

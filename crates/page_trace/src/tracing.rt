@@ -10,14 +10,16 @@ use crate::outlines::all_outlines;
 use crate::paths::kept_paths;
 use crate::polygons::best_polygons;
 use bit_image::bitmap::Bitmap;
+use path_tree::tree::group;
 use pt_base::fault::NoMemory;
 use pt_base::sequence::Sequence;
 use pt_base::settings::Settings;
 use pt_base::trace::Trace;
 use std::alloc::Global;
 
-/// The paths of a page that are no speckles, the best polygon of each, its adjusted vertices, and the
-/// outline round them, whose curves are joined where the settings ask for it.
+/// The paths of a page that are no speckles, the best polygon of each, its adjusted vertices, the
+/// outline round them, whose curves are joined where the settings ask for it, and the shapes with their
+/// holes.
 pub fn trace(alloc: Global, page: &Bitmap, settings: &Settings) -> Result<Trace, NoMemory>
     requires { CanTrace settings.now }
     ensures { IfOk result (λ trace. IsTrace page.now settings.now trace) }
@@ -25,6 +27,7 @@ pub fn trace(alloc: Global, page: &Bitmap, settings: &Settings) -> Result<Trace,
     let paths = kept_paths(alloc, page, settings)?;
     let Fitted { polygons, vertices } = fit_all(alloc, &paths)?;
     let outlines = all_outlines(alloc, &vertices, settings)?;
+    let groups = group(alloc, &paths)?;
     Ok(Trace {
         width: page.width(),
         height: page.height(),
@@ -32,7 +35,7 @@ pub fn trace(alloc: Global, page: &Bitmap, settings: &Settings) -> Result<Trace,
         polygons: Sequence::from_vec(polygons),
         vertices: Sequence::from_vec(vertices),
         outlines: Sequence::from_vec(outlines),
-        groups: Sequence::from_vec(Vec::new(alloc)),
+        groups: Sequence::from_vec(groups),
     })
 }
 

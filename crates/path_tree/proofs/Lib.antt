@@ -1,3 +1,9 @@
+pub mod Even
 pub mod Filling
-pub mod Parents
+pub mod Holding
+pub mod Listing
+pub mod Marking
+pub mod Passing
+pub mod Placing
+pub mod Rows
 pub mod Telling

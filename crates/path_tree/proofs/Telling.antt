@@ -1,9 +1,9 @@
 -- The groups that the list of holders tells are those of the paths.
-use Rattle.std.proofs.Common.{◌≡◌, ℕ, zero, suc, ◌+◌, ◌<◌, ◌≤◌, Bool, cond, Option, None, Some, List, ◌∷◌, length, map, get_or, refl, ap, ◌∙◌, arith}
+use Rattle.std.proofs.Common.{◌≡◌, ℕ, zero, suc, ◌+◌, ◌<◌, ◌≤◌, Bool, cond, Option, None, Some, List, ◌∷◌, is_none, length, map, get_or, refl, ap, ◌∙◌, arith}
 use Rattle.std.specs.List.{filter, range_with_len}
 use Rattle.std.proofs.lemmas.List.FromFn.{length-map-range_with_len, get_or-map-range_with_len}
 use Rattle.pt_base.specs.declared.path.Path.{Path}
-use Rattle.path_tree.specs.Groups.{is_none, is_number, holder_of, group_at, groups_of}
+use Rattle.path_tree.specs.Groups.{is_number, holder_of, group_at, groups_of}
 use Rattle.path_tree.specs.Holders.{is_hole_in, is_shape, group_below, groups_below}
 
 -- tests that agree on the numbers of a range

@@ -1,5 +1,5 @@
 -- Which paths bound the holes of which shapes. Paths are known by their places in a list, counted from 0.
-use Rattle.std.specs.Prelude.{ℕ, zero, suc, ◌-◌, Bool, true, false, ◌&&◌, cond, nat_abs, nat_eq, Option, None, Some, List, [], filter, length, map, slice_index_or}
+use Rattle.std.specs.Prelude.{ℕ, zero, suc, ◌-◌, Bool, true, false, ◌&&◌, cond, nat_abs, nat_eq, Option, None, Some, List, [], filter, is_none, length, map, slice_index_or}
 use Rattle.std.specs.List.{range_with_len}
 use Rattle.pt_base.specs.declared.path.Path.{Path}
 use Rattle.pt_base.specs.declared.path.Sign.{Sign}
@@ -49,11 +49,6 @@ holder_of paths i = cond (is_plus (path_at paths i).sign) None (parent_of paths 
 abbrev pub is_number : ℕ → Option ℕ → Bool
 is_number j None = false
 is_number j (Some k) = nat_eq k j
-
--- it is no number
-abbrev pub is_none : Option ℕ → Bool
-is_none None = true
-is_none (Some k) = false
 
 -- those of the first n paths that bound holes in the shape of path j, in order
 abbrev pub holes_below : List Path → ℕ → ℕ → List ℕ

@@ -1,8 +1,8 @@
 -- The groups that a list tells, which has for each path the path in whose shape it bounds a hole, or none.
-use Rattle.std.specs.Prelude.{ℕ, Bool, Option, None, Some, List, [], ◌∷◌, ◌++◌, filter, length, map, slice_index_or, slice_set}
+use Rattle.std.specs.Prelude.{ℕ, Bool, Option, None, Some, List, [], ◌∷◌, ◌++◌, filter, is_none, length, map, slice_index_or, slice_set}
 use Rattle.std.specs.List.{range_with_len}
 use Rattle.pt_base.specs.declared.trace.Group.{Group}
-use Rattle.path_tree.specs.Groups.{is_none, is_number}
+use Rattle.path_tree.specs.Groups.{is_number}
 
 -- path i bounds a hole in the shape of path j
 abbrev pub is_hole_in : List (Option ℕ) → ℕ → ℕ → Bool

@@ -1,16 +1,27 @@
 //! Which path has which hole in its shape.
-ghost use Rattle.std.specs.Prelude.{◌≡◌, ◌<◌, ◌^◌, All, IfOk, length, map, pos, ◌≤ℤ◌};
+ghost use Rattle.std.specs.Prelude.{◌≡◌, ◌<◌, ◌^◌, ◌/◌, ◌%◌, ◌≤◌, true, false, slice_index_or, All, IfOk, length, map, pos, ◌≤ℤ◌};
 ghost use Rattle.std.specs.List.{range_with_len};
+ghost use Rattle.std.specs.List.Sorted.{IsNonDecreasingBy};
 ghost use Rattle.pt_base.specs.ClosedWalk.{IsClosedWalk, point_at};
 ghost use Rattle.path_decompose.specs.Bounds.{IsCornerOf};
-ghost use Rattle.path_tree.specs.Groups.{holder_of, is_round, last_round, parent_of, path_at, start_column, start_row};
+ghost use Rattle.path_tree.specs.Groups.{holder_of};
+ghost use Rattle.path_tree.specs.Starts.{is_in, marked};
+ghost use Rattle.path_tree.specs.declared.starts.TheConstants.{ROW};
 
-use path_decompose::interior::inside;
+use crate::lines::gather_lines;
+use crate::marks::mark_inside;
+use crate::starts::{Start, rows_of, sorted_starts};
 use pt_base::fault::NoMemory;
 use pt_base::path::{Path, Sign};
 use std::alloc::Global;
 
 /// For each path the path in whose shape it bounds a hole, or none.
+///
+/// 1. The starts of the paths of minus sign are put in order, row by row.
+/// 2. For each path of plus sign, in order, its upright lines in rows that have a start are put in
+///    order too. Between the first of them and the second, the third and the fourth, and so on, is its
+///    inside.
+/// 3. It becomes the holder of each later path whose start is there, in place of an earlier one.
 pub(crate) fn holders_of(alloc: Global, paths: &[Path]) -> Result<Vec<Option<u32>>, NoMemory>
     requires few { length paths.now < 2 ^ 32 }
     requires closed { All (λ path. IsClosedWalk path.points) paths.now }
@@ -18,60 +29,48 @@ pub(crate) fn holders_of(alloc: Global, paths: &[Path]) -> Result<Vec<Option<u32
     requires starts { All (λ path. pos 1 ≤ℤ (point_at path.points 0).y) paths.now }
     ensures { IfOk result (λ holders. holders.items ≡ map (holder_of paths.now) (range_with_len 0 (length paths.now))) }
 {
-    let mut holders = Vec::with_capacity(alloc, paths.len())?;
+    let starts = sorted_starts(alloc, paths)?;
+    let rows = rows_of(alloc, &starts)?;
+    let mut places = Vec::new(alloc);
+    let mut holders = vec![in alloc; None; paths.len()]?;
     for path in 0..paths.len() {
-        holders.push(holder_of(paths, path))?;
+        hold(
+            &mut holders,
+            &starts,
+            &rows,
+            &mut places,
+            &paths[path],
+            path as u32,
+        )?;
     }
     Ok(holders)
 }
 
-/// The path in whose shape a path bounds a hole.
-fn holder_of(paths: &[Path], path: usize) -> Option<u32>
-    requires few { length paths.now < 2 ^ 32 }
-    requires closed { All (λ path. IsClosedWalk path.points) paths.now }
-    requires corners { All (λ path. All (IsCornerOf 32767 32767) path.points) paths.now }
-    requires starts { All (λ path. pos 1 ≤ℤ (point_at path.points 0).y) paths.now }
-    requires within { path < length paths.now }
-    ensures { result ≡ holder_of paths.now path }
-{
-    match paths[path].sign {
-        Sign::Plus => None,
-        Sign::Minus => parent_of(paths, path),
-    }
-}
-
-/// The last path before this one of plus sign that has its start inside.
-fn parent_of(paths: &[Path], path: usize) -> Option<u32>
-    requires few { length paths.now < 2 ^ 32 }
-    requires closed { All (λ path. IsClosedWalk path.points) paths.now }
-    requires corners { All (λ path. All (IsCornerOf 32767 32767) path.points) paths.now }
-    requires starts { All (λ path. pos 1 ≤ℤ (point_at path.points 0).y) paths.now }
-    requires within { path < length paths.now }
-    ensures { result ≡ parent_of paths.now path }
-{
-    let mut after = path;
-    while 0 < after {
-        after -= 1;
-        if is_round(&paths[after], &paths[path]) {
-            return Some(after as u32);
-        }
-    }
-    None
-}
-
-/// Whether a path is of plus sign and has the start of the other one inside.
-fn is_round(path: &Path, other: &Path) -> bool
+/// Makes a path of plus sign the holder of each later path whose start it has inside; `places` is room
+/// for its upright lines.
+fn hold(
+    holders: &mut [Option<u32>],
+    starts: &[Start],
+    rows: &[bool],
+    places: &mut Vec<u32>,
+    path: &Path,
+    number: u32,
+) -> Result<(), NoMemory>
     requires closed { IsClosedWalk path.now.points }
     requires corners { All (IsCornerOf 32767 32767) path.now.points }
-    requires other_closed { IsClosedWalk other.now.points }
-    requires other_start { pos 1 ≤ℤ (point_at other.now.points 0).y }
-    ensures { result ≡ is_round path.now other.now }
+    requires within { All (λ start. start.path < length holders.old) starts.now }
+    requires order { IsNonDecreasingBy (λ start. start.place) starts.now }
+    requires columns { All (λ start. start.place % ROW ≤ 32767) starts.now }
+    requires asked { All (λ start. slice_index_or rows.now (start.place / ROW) false ≡ true) starts.now }
+    ensures { IfOk result (λ _. holders.new ≡ marked number (is_in path.now) starts.now holders.old) }
 {
     match path.sign {
         Sign::Plus => {
-            let start = other.points.as_slice()[0];
-            inside(path, start.x.unsigned_abs(), start.y.unsigned_abs() - 1)
+            gather_lines(places, rows, path.points.as_slice())?;
+            places.sort_unstable();
+            mark_inside(holders, starts, places, number);
         }
-        Sign::Minus => false,
+        Sign::Minus => {}
     }
+    Ok(())
 }

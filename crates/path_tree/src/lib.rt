@@ -13,5 +13,8 @@
 #![tactic(auto)]
 
 mod holders;
+mod lines;
+mod marks;
 mod shapes;
+mod starts;
 pub mod tree;

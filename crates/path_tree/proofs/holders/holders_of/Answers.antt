@@ -1,12 +1,64 @@
-use Rattle.std.proofs.Common.{arith}
-use Rattle.std.proofs.lemmas.List.FromFn.{map-range_with_len_more}
-use Rattle.path_tree.specs.Groups.{holder_of}
+use Rattle.std.proofs.Common.{◌≡◌, ◌+◌, ◌/◌, ◌%◌, ◌<◌, ◌≤◌, Option, ℕ, List, All, length, ap, sym, subst, ◌∙◌, arith}
+use Rattle.std.proofs.lemmas.List.Sorted.{All-permutation}
+use Rattle.path_tree.specs.declared.starts.Start.{Start}
+use Rattle.path_tree.specs.declared.starts.TheConstants.{ROW, ROWS}
+use Rattle.path_tree.specs.Starts.{is_in, marked, starts_from}
+use Rattle.path_tree.proofs.Holding.{IsHeld, come_back, held_all, held_more}
+use Rattle.path_tree.proofs.Listing.{starts_columns, starts_low, starts_within}
+use Rattle.path_tree.proofs.Marking.{all_below, length-marked}
 use Rattle.path_tree.proofs.holders.holders_of.Goals as goal
+
+pub rows_of-requires : goal.rows_of-requires
+rows_of-requires c =
+    let paths = c.args.paths.now in
+    rw c.deref.ensures.value
+    (All-permutation (λ s. s.place / ROW < ROWS) (starts_from 0 paths) c.in_ok-starts.starts.items c.in_ok-starts.ensures.those
+    (starts_low paths c.requires.closed c.requires.corners))
+
+pub hold-requires-clause-within : goal.hold-requires-clause-within
+hold-requires-clause-within c =
+    let paths = c.args.paths.now in
+    let starts = c.deref-in-loop-path.result.now in
+    let same : length c.deref_mut.result.now ≡ length paths = ap length c.deref_mut.ensures.value ∙ c.loop-path.invariant.len in
+    let P : List Start → Type 0 = All (λ s. s.path < length paths) in
+    all_below starts (length paths) (length c.deref_mut.result.now) (sym same)
+    (subst P (sym c.deref-in-loop-path.ensures.value)
+    (All-permutation (λ s. s.path < length paths) (starts_from 0 paths) c.in_ok-starts.starts.items c.in_ok-starts.ensures.those (starts_within paths)))
+
+pub hold-requires-clause-columns : goal.hold-requires-clause-columns
+hold-requires-clause-columns c =
+    let paths = c.args.paths.now in
+    let P : List Start → Type 0 = All (λ s. s.place % ROW ≤ 32767) in
+    subst P (sym c.deref-in-loop-path.ensures.value)
+    (All-permutation (λ s. s.place % ROW ≤ 32767) (starts_from 0 paths) c.in_ok-starts.starts.items c.in_ok-starts.ensures.those
+    (starts_columns paths c.requires.closed c.requires.corners))
+
+pub hold-requires-clause-asked : goal.hold-requires-clause-asked
+hold-requires-clause-asked c =
+    rw (c.deref-in-loop-path.ensures.value, c.deref-in-loop-path-2.ensures.value) (rw c.deref.ensures.value at c.in_ok-rows.ensures)
 
 pub loop-path-preserved : goal.loop-path-preserved
 loop-path-preserved c =
-    let more = map-range_with_len_more (holder_of c.args.paths.now) 0 c.loop-path.path c.loop-path.path (omega arith) in
-    let made = c.in_ok-push.ensures.items in
-    let before = c.loop-path.invariant in
-    let holder = c.holder_of.ensures in
-    cc (more, made, before, holder)
+    let paths = c.args.paths.now in
+    let path = c.loop-path.path in
+    let old = c.loop-path.holders.items in
+    let item = c.index-paths-path.result in
+    let starts = c.in_ok-starts.starts.items in
+    let made : c.hold.new.holders ≡ marked path (is_in item) starts old =
+    c.in_ok-hold.ensures
+    ∙ ap (λ ss. marked path (is_in item) ss c.deref_mut.result.now) c.deref-in-loop-path.ensures.value
+    ∙ ap (marked path (is_in item) starts) c.deref_mut.ensures.value in
+    let held = held_more paths starts old c.hold.new.holders path item c.requires.closed c.requires.corners c.in_ok-starts.ensures.those
+    c.loop-path-test.true c.index-paths-path.is c.loop-path.invariant made in
+    let lent = c.deref_mut.ensures.len in
+    let value = ap length c.deref_mut.ensures.value in
+    let len : length old ≡ c.loop-path.holders.len = omega arith in
+    let same : length c.hold.new.holders ≡ length old = ap length made ∙ length-marked path (is_in item) starts old in
+    let P : List (Option ℕ) → Type 0 = λ hs. IsHeld paths hs (path + 1) in
+    subst P (sym (come_back c.loop-path.holders.len c.hold.new.holders old len same)) held
+
+pub returns : goal.returns
+returns c =
+    let paths = c.args.paths.now in
+    let all : c.loop-path.path ≡ length paths = omega arith in
+    held_all paths c.loop-path.holders.items (subst (λ n. IsHeld paths c.loop-path.holders.items n) all c.loop-path.invariant)

@@ -1,0 +1,5 @@
+mod drawings;
+mod groups;
+mod numbers;
+mod postscript;
+mod samples;

@@ -1,0 +1,95 @@
+//! Shapes with their holes on small pages.
+ghost use Rattle.std.specs.Prelude.{◌≡◌, All, IfOk, pos, ◌≤ℤ◌, ◌<◌, ◌^◌, length};
+ghost use Rattle.pt_base.specs.ClosedWalk.{IsClosedWalk, point_at};
+ghost use Rattle.path_decompose.specs.Bounds.{IsCornerOf};
+
+use page_samples::pages::drawn;
+use path_decompose::decomposition::decompose;
+use path_tree::tree::group;
+use pt_base::path::Path;
+use pt_base::policy::Policy;
+use pt_base::trace::Group;
+use std::alloc::Global;
+use std::fmt::Write;
+use std::test::Fail;
+
+const RING: &[&str] = &["###", "#.#", "###"];
+
+const RING_IN_RING: &[&str] = &[
+    "#######", "#.....#", "#.###.#", "#.#.#.#", "#.###.#", "#.....#", "#######",
+];
+
+const TWO_IN_HOLE: &[&str] = &["#######", "#.....#", "#.#.#.#", "#.....#", "#######"];
+
+const CORNER_IN_HOLE: &[&str] = &["#####", "#...#", "#.#.#", "#..##", "#####"];
+
+const TWO_HOLES: &[&str] = &["..####", "###.#.", "#.####", "####.."];
+
+#[test]
+fn shapes_of_small_pages(rt: HostRuntime) -> Result<(), Fail> {
+    for (rows, text) in [
+        (RING, "0:1 "),
+        (RING_IN_RING, "0:1 2:3 "),
+        (TWO_IN_HOLE, "0:1 2: 3: "),
+        (CORNER_IN_HOLE, "0:1 2: "),
+        (TWO_HOLES, "0:1,2 "),
+    ] {
+        let paths = paths_of(rt.alloc(), rows)?;
+        let groups = group(rt.alloc(), &paths)?;
+        assert_eq!(rt; told(rt.alloc(), &groups)?.as_str(), text);
+    }
+    Ok(())
+}
+
+#[test]
+fn a_hole_without_its_shape(rt: HostRuntime) -> Result<(), Fail> {
+    let paths = paths_of(rt.alloc(), RING_IN_RING)?;
+    let groups = group(rt.alloc(), without_first(&paths))?;
+    assert_eq!(rt; told(rt.alloc(), &groups)?.as_str(), "0: 1:2 ");
+    Ok(())
+}
+
+/// All paths of a page.
+fn paths_of(alloc: Global, rows: &[&str]) -> Result<Vec<Path>, Fail>
+    ensures few { IfOk result (λ paths. length paths.items < 2 ^ 32) }
+    ensures closed { IfOk result (λ paths. All (λ path. IsClosedWalk path.points) paths.items) }
+    ensures corners { IfOk result
+        (λ paths. All (λ path. All (IsCornerOf 32767 32767) path.points) paths.items) }
+    ensures starts { IfOk result
+        (λ paths. All (λ path. pos 1 ≤ℤ (point_at path.points 0).y) paths.items) }
+{
+    let page = drawn(alloc, rows)?;
+    // The proof reads here how long the page's sides are at most.
+    let _ = page.width();
+    Ok(decompose(alloc, &page, Policy::Minority)?)
+}
+
+/// All paths but the first.
+fn without_first(paths: &[Path]) -> &[Path]
+    requires few { length paths.now < 2 ^ 32 }
+    requires closed { All (λ path. IsClosedWalk path.points) paths.now }
+    requires corners { All (λ path. All (IsCornerOf 32767 32767) path.points) paths.now }
+    requires starts { All (λ path. pos 1 ≤ℤ (point_at path.points 0).y) paths.now }
+    ensures few { length result.now < 2 ^ 32 }
+    ensures closed { All (λ path. IsClosedWalk path.points) result.now }
+    ensures corners { All (λ path. All (IsCornerOf 32767 32767) path.points) result.now }
+    ensures starts { All (λ path. pos 1 ≤ℤ (point_at path.points 0).y) result.now }
+{
+    match paths.split_first() {
+        Some((_first, rest)) => rest,
+        None => paths,
+    }
+}
+
+/// A word for each group: its outer path, and behind a colon its holes with a comma between two.
+fn told(alloc: Global, groups: &[Group]) -> Result<String, Fail> {
+    let mut text = String::new(alloc);
+    for group in groups {
+        write!(text, "{}:", group.outer)?;
+        for (i, hole) in group.holes.as_slice().iter().enumerate() {
+            write!(text, "{}{hole}", if i == 0 { "" } else { "," })?;
+        }
+        text.push_str(" ")?;
+    }
+    Ok(text)
+}
