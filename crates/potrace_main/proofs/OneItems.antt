@@ -28,8 +28,8 @@ one_list settings before (raw ∷ raws) ending items others (inr (full, made)) (
 pub one_input : (settings : Settings) (files : Files) (items others : List Item) → AreInputItems settings files items → AreInputItems settings files others
     → items ≡ others
 one_input settings files items others (inl (none, made)) (inl (none', made')) = made ∙ sym made'
-one_input settings files items others (inl (none, made)) (inr (bytes, raws, ending, held, more)) = absurd (let clash : None ≡ Some bytes = sym none ∙ held in cc)
-one_input settings files items others (inr (bytes, raws, ending, held, more)) (inl (none, made)) = absurd (let clash : None ≡ Some bytes = sym none ∙ held in cc)
+one_input settings files items others (inl (none, made)) (inr (bytes, raws, ending, held, pages, more)) = absurd (let clash : None ≡ Some bytes = sym none ∙ held in cc)
+one_input settings files items others (inr (bytes, raws, ending, held, pages, more)) (inl (none, made)) = absurd (let clash : None ≡ Some bytes = sym none ∙ held in cc)
 one_input settings files items others (inr (bytes, raws, ending, held, pages, are)) (inr (bytes', raws', ending', held', pages', are')) =
     let same : bytes' ≡ bytes = (let e : Some bytes' ≡ Some bytes = sym held' ∙ held in cc) in
     let here : FilePages false bytes raws' ending' = subst (λ bs. FilePages false bs raws' ending') same pages' in

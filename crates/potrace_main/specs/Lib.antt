@@ -1,6 +1,77 @@
+-- The lines that the program writes to standard error.
+--   dash: the name of standard input and of standard output
+--   bad_words: the words aren't the program's
+--   out_of_memory: memory ran out
+--   page_line: a line about a page of a file, counted from 1
+--   not_opened: a file couldn't be opened
+--   not_written: a document couldn't be written
+--   trailing_line: the bytes after so many pages of a file begin no page
+--   read_fault: a read failed
+--   no_memory: memory was wanting for a page
 pub mod Messages
+-- What the words of the command line ask for.
+--   policy_word: the word of a policy (the potrace manual page, option "turnpolicy")
+--   backend_word: the word of a backend
+--   IsBackend: the backends that the program has
+--   is_drawn: the backend draws outlines
+--   ending: the words that end those of a backend
+--   greatest_speckle: the greatest speckle limit
+--   form: the words `-b BACKEND -z POLICY -t N`, and then others
+--   IsValued: the three values name a backend, a policy and a speckle limit
+--   Begins: the words begin with these values, and the options follow
+--   LacksWord: the words don't begin with this one
+--   TakesNumber: where the words begin with this name
+--   TakesWord: whether the words begin with this one
+--   IsDefault: the settings that no word of its own changes
+--   IsAsked: the words ask for pages to be read, traced and written so
+--   IsOffered: the program can do what the settings say
 pub mod Asked
+-- What a run is to write, in order.
+--   Item: one thing to write
+--   most_pages: how many pages a run accepts
+--   kind_text: why a page is refused, as the message tells it
+--   too_many: the pages of the run are more than it accepts
+--   end_items: what follows the documents of a file of so many pages that ends like this
+--   AreItems: These are the items of the pages of a file, after so many pages before
+--   AreInputItems: the items of standard input, as the files are told
 pub mod Items
+-- What a run has written, against the items that it was to write.
+--   GoesOn: the run goes on after each of the items
+--   with_items: the documents of the items are added, whole and in order
+--   notes: the messages of the notes, in order
+--   AreFronts: each part is a front of its message
+--   AreSaid: the messages were said
+--   IsDone: all items are carried out
+--   IsRefused: the last item is a page that is refused
+--   IsUnwritten: all items before a document are carried out, and that document is cut off
+--   IsOutOfMemory: some first items are carried out, and then memory ran out
 pub mod Outcome
+-- How far a run has come.
+--   BeginsWith: the first pages of the bytes are these, and `rest` is what follows them
+--   AreTraced: these are the texts of these pages, in order
+--   is_later: a page came before, or one of these did
+--   docs: the items of the documents of these texts
+--   ahead: the bytes that the reader has still to read pages from, where they are told
+--   opened_name: the name of the opened file, where that is told and a file is opened
+--   ReadsPage: the next page of what is ahead was read
+--   EndsReading: no page was read for this reason, where `later` says whether a page came before
+--   EndsWriting: the page wasn't written for this reason
+--   TracesPage: the next page was traced, and its document written
+--   EndsBy: no further page was traced for this reason
+--   end_of_fault: why no further page is traced, where the reader tells of a fault
+--   InputCount: how the inputs' count of faults moved
+--   OutputCount: how the outputs moved
+--   Traces: k pages were traced, and then the run ended so
 pub mod Progress
+-- What the top call promises, by its status.
+--   IsOutcome: what was written and said, against the items that there were to write
+--   OpensOnly: nothing was opened
+--   EndsRefused: the last of the items is a refusal
+--   IsComplete: what the status is where no device failed
+--   IsToldBy: the message that belongs to the status of a run that wrote so many documents
+--   IsWritten: the documents are the texts of some pages, in order
+--   status_of: the status with which the run ends
+--   cause_text: why a page can't be read, as the message tells it
+--   fault_text
+--   SaysEnd: what is said where the run ends so after k pages
 pub mod Run

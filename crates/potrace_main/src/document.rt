@@ -12,10 +12,12 @@ use pt_base::write::write_whole;
 /// After a fault nothing more is written: the document is cut off there.
 pub fn write_document<O: Outputs>(outs: &mut O, name: &str, text: &[u8]) -> Result<(), SinkFault>
     requires { O.is_ready outs.old ≡ false }
-    ensures whole { OnOk result (O.documents outs.new ≡ with_whole (O.documents outs.old) name.now text.now) }
+    ensures whole { OnOk result (O.documents outs.new
+        ≡ with_whole (O.documents outs.old) name.now text.now) }
     ensures steady { OnOk result (O.faults outs.new ≡ O.faults outs.old) }
     ensures closed { OnOk result (O.is_ready outs.new ≡ false) }
-    ensures cut_off { OnErr result (IsCutOff (O.documents outs.old) (O.documents outs.new) name.now text.now) }
+    ensures cut_off { OnErr result
+        (IsCutOff (O.documents outs.old) (O.documents outs.new) name.now text.now) }
     ensures cause { OnErr result (Rose (O.faults outs.old) (O.faults outs.new)) }
     ensures never_falls { O.faults outs.old ≤ O.faults outs.new }
 {

@@ -11,7 +11,8 @@ use pt_base::write::write_whole;
 /// Says that the words aren't the program's.
 pub fn say_bad_words<E: Sink>(errs: &mut E)
     requires { E.is_ready errs.old ≡ true }
-    ensures said { IsSaid (E.documents errs.old) (E.documents errs.new) (E.faults errs.old) (E.faults errs.new) bad_words }
+    ensures said { IsSaid (E.documents errs.old) (E.documents errs.new) (E.faults errs.old)
+        (E.faults errs.new) bad_words }
     ensures never_falls { E.faults errs.old ≤ E.faults errs.new }
     ensures stays_ready { E.is_ready errs.new ≡ true }
 {
@@ -21,7 +22,8 @@ pub fn say_bad_words<E: Sink>(errs: &mut E)
 /// Says that memory ran out.
 pub fn say_out_of_memory<E: Sink>(errs: &mut E)
     requires { E.is_ready errs.old ≡ true }
-    ensures said { IsSaid (E.documents errs.old) (E.documents errs.new) (E.faults errs.old) (E.faults errs.new) out_of_memory }
+    ensures said { IsSaid (E.documents errs.old) (E.documents errs.new) (E.faults errs.old)
+        (E.faults errs.new) out_of_memory }
     ensures never_falls { E.faults errs.old ≤ E.faults errs.new }
     ensures stays_ready { E.is_ready errs.new ≡ true }
 {
@@ -31,7 +33,8 @@ pub fn say_out_of_memory<E: Sink>(errs: &mut E)
 /// Says that a file couldn't be opened.
 pub fn say_not_opened<E: Sink>(errs: &mut E, name: &str)
     requires { E.is_ready errs.old ≡ true }
-    ensures said { IsSaid (E.documents errs.old) (E.documents errs.new) (E.faults errs.old) (E.faults errs.new) (not_opened name.now) }
+    ensures said { IsSaid (E.documents errs.old) (E.documents errs.new) (E.faults errs.old)
+        (E.faults errs.new) (not_opened name.now) }
     ensures never_falls { E.faults errs.old ≤ E.faults errs.new }
     ensures stays_ready { E.is_ready errs.new ≡ true }
 {
@@ -44,7 +47,8 @@ pub fn say_not_opened<E: Sink>(errs: &mut E, name: &str)
 /// Says that a document couldn't be written.
 pub fn say_not_written<E: Sink>(errs: &mut E, name: &str)
     requires { E.is_ready errs.old ≡ true }
-    ensures said { IsSaid (E.documents errs.old) (E.documents errs.new) (E.faults errs.old) (E.faults errs.new) (not_written name.now) }
+    ensures said { IsSaid (E.documents errs.old) (E.documents errs.new) (E.faults errs.old)
+        (E.faults errs.new) (not_written name.now) }
     ensures never_falls { E.faults errs.old ≤ E.faults errs.new }
     ensures stays_ready { E.is_ready errs.new ≡ true }
 {
@@ -54,7 +58,8 @@ pub fn say_not_written<E: Sink>(errs: &mut E, name: &str)
 /// Says something of a page of a file, counted from 1.
 pub fn say_of_page<E: Sink>(errs: &mut E, name: &str, page: u64, text: &str)
     requires { E.is_ready errs.old ≡ true }
-    ensures said { IsSaid (E.documents errs.old) (E.documents errs.new) (E.faults errs.old) (E.faults errs.new) (page_line name.now page text.now) }
+    ensures said { IsSaid (E.documents errs.old) (E.documents errs.new) (E.faults errs.old)
+        (E.faults errs.new) (page_line name.now page text.now) }
     ensures never_falls { E.faults errs.old ≤ E.faults errs.new }
     ensures stays_ready { E.is_ready errs.new ≡ true }
 {
@@ -77,7 +82,8 @@ pub fn say_of_page<E: Sink>(errs: &mut E, name: &str, page: u64, text: &str)
 /// Says that bytes after so many pages of a file begin no page.
 pub fn say_trailing<E: Sink>(errs: &mut E, name: &str, pages: u64)
     requires { E.is_ready errs.old ≡ true }
-    ensures said { IsSaid (E.documents errs.old) (E.documents errs.new) (E.faults errs.old) (E.faults errs.new) (trailing_line name.now pages) }
+    ensures said { IsSaid (E.documents errs.old) (E.documents errs.new) (E.faults errs.old)
+        (E.faults errs.new) (trailing_line name.now pages) }
     ensures never_falls { E.faults errs.old ≤ E.faults errs.new }
     ensures stays_ready { E.is_ready errs.new ≡ true }
 {
@@ -98,7 +104,8 @@ pub fn say_trailing<E: Sink>(errs: &mut E, name: &str, pages: u64)
 /// Writes the pieces one after another, and gives up the rest where a write fails.
 fn say<E: Sink>(errs: &mut E, pieces: &[&[u8]])
     requires { E.is_ready errs.old ≡ true }
-    ensures said { IsSaid (E.documents errs.old) (E.documents errs.new) (E.faults errs.old) (E.faults errs.new) (concat (map (λ piece. piece.now) pieces.now)) }
+    ensures said { IsSaid (E.documents errs.old) (E.documents errs.new) (E.faults errs.old)
+        (E.faults errs.new) (concat (map (λ piece. piece.now) pieces.now)) }
     ensures never_falls { E.faults errs.old ≤ E.faults errs.new }
     ensures stays_ready { E.is_ready errs.new ≡ true }
 {

@@ -64,10 +64,12 @@ pub fn trace_pages<I: Inputs, O: Outputs>(
     requires opened { I.is_opened inputs.old ≡ true }
     requires fresh { reader.old ≡ at_start }
     requires closed { O.is_ready outs.old ≡ false }
-    ensures traced { Traces settings (unread (I.files inputs.old)) (O.documents outs.old) (O.documents outs.new) result.pages result.end }
+    ensures traced { Traces settings (unread (I.files inputs.old)) (O.documents outs.old)
+        (O.documents outs.new) result.pages result.end }
     ensures few { result.pages ≤ MOST_PAGES }
     ensures input { InputCount result.end (I.faults inputs.old) (I.faults inputs.new) }
-    ensures output { OutputCount result.end (O.faults outs.old) (O.faults outs.new) (O.is_ready outs.new) }
+    ensures output { OutputCount result.end (O.faults outs.old) (O.faults outs.new)
+        (O.is_ready outs.new) }
     ensures inputs_never_fall { I.faults inputs.old ≤ I.faults inputs.new }
     ensures outputs_never_fall { O.faults outs.old ≤ O.faults outs.new }
     ensures same_openings { I.openings inputs.new ≡ I.openings inputs.old }
@@ -98,13 +100,19 @@ fn trace_next<I: Inputs, O: Outputs>(
     requires at_end { reader.old.ended ≡ true → AtEnd (I.files inputs.old) }
     requires going_on { reader.old.over ≡ false }
     requires closed { O.is_ready outs.old ≡ false }
-    ensures traced { OnOk result (TracesPage settings reader.old (I.files inputs.old) (O.documents outs.old) reader.new (I.files inputs.new) (O.documents outs.new)) }
-    ensures ends { IfErr result (EndsBy settings (reader_is_later reader.old) (ahead reader.old (I.files inputs.old)) (O.documents outs.old) (O.documents outs.new)) }
+    ensures traced { OnOk result
+        (TracesPage settings reader.old (I.files inputs.old) (O.documents outs.old) reader.new
+        (I.files inputs.new) (O.documents outs.new)) }
+    ensures ends { IfErr result
+        (EndsBy settings (reader_is_later reader.old) (ahead reader.old (I.files inputs.old))
+        (O.documents outs.old) (O.documents outs.new)) }
     ensures not_full { IfErr result (λ end. end ≢ PagesEnd.TooMany) }
     ensures steady_input { OnOk result (I.faults inputs.new ≡ I.faults inputs.old) }
-    ensures steady_output { OnOk result ((O.faults outs.new ≡ O.faults outs.old) × (O.is_ready outs.new ≡ false)) }
+    ensures steady_output { OnOk result ((O.faults outs.new ≡ O.faults outs.old)
+        × (O.is_ready outs.new ≡ false)) }
     ensures input { IfErr result (λ end. InputCount end (I.faults inputs.old) (I.faults inputs.new)) }
-    ensures output { IfErr result (λ end. OutputCount end (O.faults outs.old) (O.faults outs.new) (O.is_ready outs.new)) }
+    ensures output { IfErr result
+        (λ end. OutputCount end (O.faults outs.old) (O.faults outs.new) (O.is_ready outs.new)) }
     ensures inputs_never_fall { I.faults inputs.old ≤ I.faults inputs.new }
     ensures outputs_never_fall { O.faults outs.old ≤ O.faults outs.new }
     ensures still_at_end { reader.new.ended ≡ true → AtEnd (I.files inputs.new) }
@@ -130,8 +138,11 @@ fn read_next<I: Inputs>(
     requires room { reader.old.pages < 4294967295 }
     requires at_end { reader.old.ended ≡ true → AtEnd (I.files inputs.old) }
     requires going_on { reader.old.over ≡ false }
-    ensures reads { IfOk result (λ page. ReadsPage settings reader.old (I.files inputs.old) page reader.new (I.files inputs.new)) }
-    ensures ends { IfErr result (EndsReading (reader_is_later reader.old) (ahead reader.old (I.files inputs.old))) }
+    ensures reads { IfOk result
+        (λ page. ReadsPage settings reader.old (I.files inputs.old) page reader.new
+        (I.files inputs.new)) }
+    ensures ends { IfErr result
+        (EndsReading (reader_is_later reader.old) (ahead reader.old (I.files inputs.old))) }
     ensures steady { OnOk result (I.faults inputs.new ≡ I.faults inputs.old) }
     ensures input { IfErr result (λ end. InputCount end (I.faults inputs.old) (I.faults inputs.new)) }
     ensures never_falls { I.faults inputs.old ≤ I.faults inputs.new }
@@ -170,10 +181,14 @@ fn write_page<O: Outputs>(
 ) -> Result<(), PagesEnd>
     requires document { CanWrite settings }
     requires closed { O.is_ready outs.old ≡ false }
-    ensures written { OnOk result ((text : List ℕ) × IsDocument page.now settings text × (O.documents outs.new ≡ with_whole (O.documents outs.old) dash text)) }
-    ensures ends { IfErr result (EndsWriting settings page.now (O.documents outs.old) (O.documents outs.new)) }
-    ensures steady { OnOk result ((O.faults outs.new ≡ O.faults outs.old) × (O.is_ready outs.new ≡ false)) }
-    ensures output { IfErr result (λ end. OutputCount end (O.faults outs.old) (O.faults outs.new) (O.is_ready outs.new)) }
+    ensures written { OnOk result ((text : List ℕ) × IsDocument page.now settings text
+        × (O.documents outs.new ≡ with_whole (O.documents outs.old) dash text)) }
+    ensures ends { IfErr result
+        (EndsWriting settings page.now (O.documents outs.old) (O.documents outs.new)) }
+    ensures steady { OnOk result ((O.faults outs.new ≡ O.faults outs.old)
+        × (O.is_ready outs.new ≡ false)) }
+    ensures output { IfErr result
+        (λ end. OutputCount end (O.faults outs.old) (O.faults outs.new) (O.is_ready outs.new)) }
     ensures never_falls { O.faults outs.old ≤ O.faults outs.new }
 {
     match document(alloc, page, &settings) {
@@ -197,7 +212,9 @@ fn end_after_most<I: Inputs>(
     requires room { reader.old.pages < 4294967295 }
     requires at_end { reader.old.ended ≡ true → AtEnd (I.files inputs.old) }
     requires going_on { reader.old.over ≡ false }
-    ensures ends { (outs : Option Documents) → EndsBy settings (reader_is_later reader.old) (ahead reader.old (I.files inputs.old)) outs outs result }
+    ensures ends { (outs : Option Documents)
+        → EndsBy settings (reader_is_later reader.old)
+        (ahead reader.old (I.files inputs.old)) outs outs result }
     ensures input { InputCount result (I.faults inputs.old) (I.faults inputs.new) }
     ensures never_falls { I.faults inputs.old ≤ I.faults inputs.new }
     ensures nothing_unwritten { result ≢ PagesEnd.Unwritten }

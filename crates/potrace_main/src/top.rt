@@ -37,42 +37,50 @@ pub fn run<R: Threads + Sync, I: Inputs, O: Outputs, E: Sink, G: Gate + Sync>(
     requires ready { E.is_ready errs.old ≡ true }
 
     // Other words than the program's, exactly, are status 1.
-    ensures bad_words { (result ≡ 1) ↔ ((settings : Settings) → IsAsked (map string_bytes words.now) settings → ⊥) }
+    ensures bad_words { (result ≡ 1)
+        ↔ ((settings : Settings) → IsAsked (map string_bytes words.now) settings → ⊥) }
 
     // What the words and the told files give to be written is written, as far as the status says. The law
     // `items_are_one` says that this is one list.
     ensures outcome { (settings : Settings) → IsAsked (map string_bytes words.now) settings
-        → IfSome (I.files inputs.old) (λ files. (items : List Item) × AreInputItems settings files items
+        → IfSome (I.files inputs.old) (λ files. (items : List Item)
+        × AreInputItems settings files items
         × IsOutcome result items (O.documents outs.old) (O.documents outs.new)
         (E.documents errs.old) (E.documents errs.new) (E.faults errs.old) (E.faults errs.new)) }
 
     // Where no device failed, all is done, or the run ends with the refusal, want of memory aside.
     ensures complete { (settings : Settings) → IsAsked (map string_bytes words.now) settings
-        → IfSome (I.files inputs.old) (λ files. (items : List Item) × AreInputItems settings files items
+        → IfSome (I.files inputs.old) (λ files. (items : List Item)
+        × AreInputItems settings files items
         × ((Rose (I.faults inputs.old) (I.faults inputs.new) → ⊥)
         → (Rose (O.faults outs.old) (O.faults outs.new) → ⊥) → IsComplete result items)) }
 
     // No file is opened but standard input, and that once; with other words than the program's none is.
-    ensures opened { OpensOnly dash (I.files inputs.old) (I.files inputs.new) (I.openings inputs.old) (I.openings inputs.new) }
+    ensures opened { OpensOnly dash (I.files inputs.old) (I.files inputs.new)
+        (I.openings inputs.old) (I.openings inputs.new) }
     ensures unopened { result ≡ 1 → inputs.new ≡ inputs.old }
 
     // Each fault has its cause.
-    ensures unread { result ≡ 3 → Rose (I.faults inputs.old) (I.faults inputs.new) ⊎ Lacks (I.files inputs.old) dash }
+    ensures unread { result ≡ 3 → Rose (I.faults inputs.old) (I.faults inputs.new)
+        ⊎ Lacks (I.files inputs.old) dash }
     ensures absent { (settings : Settings) → IsAsked (map string_bytes words.now) settings
         → Lacks (I.files inputs.old) dash → (result ≡ 3) ⊎ (result ≡ 5) }
-    ensures read { (result ≡ 0) ⊎ (result ≡ 1) ⊎ (result ≡ 2) → I.faults inputs.new ≡ I.faults inputs.old }
+    ensures read { (result ≡ 0) ⊎ (result ≡ 1) ⊎ (result ≡ 2)
+        → I.faults inputs.new ≡ I.faults inputs.old }
     ensures unwritten { result ≡ 4 → Rose (O.faults outs.old) (O.faults outs.new) }
     ensures unwritten_always { O.faults outs.old < O.faults outs.new → result ≡ 4 }
     ensures known_statuses { result ≤ 5 }
 
     // Each document is a page's text, and none stays open but for a fault of the outputs.
     ensures written { (settings : Settings) → IsAsked (map string_bytes words.now) settings
-        → IsWritten settings result (O.documents outs.old) (O.documents outs.new) (E.documents errs.old) (E.documents errs.new) (E.faults errs.old) (E.faults errs.new) }
+        → IsWritten settings result (O.documents outs.old) (O.documents outs.new)
+        (E.documents errs.old) (E.documents errs.new) (E.faults errs.old) (E.faults errs.new) }
     ensures closed { result ≢ 4 → O.is_ready outs.new ≡ false }
     ensures nothing { result ≡ 1 → O.documents outs.new ≡ O.documents outs.old }
 
     // The message that belongs to the status is said, and a failing one changes no status.
-    ensures said { (pages : ℕ) × IsToldBy result pages (E.documents errs.old) (E.documents errs.new) (E.faults errs.old) (E.faults errs.new) }
+    ensures said { (pages : ℕ) × IsToldBy result pages (E.documents errs.old) (E.documents errs.new)
+        (E.faults errs.old) (E.faults errs.new) }
 {
     let Some(settings) = ask(words) else {
         say_bad_words(errs);
@@ -99,7 +107,8 @@ fn finish<E: Sink>(errs: &mut E, traced: Traced) -> u8
     requires ready { E.is_ready errs.old ≡ true }
     requires few { traced.pages ≤ 65536 }
     ensures status { result ≡ status_of traced.end }
-    ensures said { SaysEnd traced.end traced.pages (E.documents errs.old) (E.documents errs.new) (E.faults errs.old) (E.faults errs.new) }
+    ensures said { SaysEnd traced.end traced.pages (E.documents errs.old) (E.documents errs.new)
+        (E.faults errs.old) (E.faults errs.new) }
 {
     match traced.end {
         PagesEnd::End => 0,
