@@ -2,7 +2,7 @@
 ghost use Rattle.std.specs.Prelude.{◌≡◌, ◌<◌, ◌≤◌, ◌/◌, ℕ, true, false, All, length, count_by, nat_lt};
 ghost use Rattle.std.specs.List.Sorted.{IsNonDecreasing, IsNonDecreasingBy, IsPartitionPoint};
 ghost use Rattle.path_decompose.specs.Inside.{is_odd};
-ghost use Rattle.path_tree.specs.Starts.{is_between, is_passed, is_place_in, marked};
+ghost use Rattle.path_tree.specs.Starts.{is_in_span, is_passed, is_place_in, marked};
 
 use crate::starts::Start;
 
@@ -34,7 +34,7 @@ pub(crate) fn mark_inside(holders: &mut [Option<u32>], starts: &[Start], places:
 fn mark_span(holders: &mut [Option<u32>], starts: &[Start], low: u32, high: u32, path: u32)
     requires within { All (λ start. start.path < length holders.old) starts.now }
     requires order { IsNonDecreasingBy (λ start. start.place) starts.now }
-    ensures { holders.new ≡ marked path (is_between low high) starts.now holders.old }
+    ensures { holders.new ≡ marked path (is_in_span low high) starts.now holders.old }
 {
     let first = count_below(starts, low);
     let from_low = &starts[first..];
