@@ -17,7 +17,8 @@ pub(crate) fn mark_inside(holders: &mut [Option<u32>], starts: &[Start], places:
     requires sorted { IsNonDecreasing places.now }
     requires even { (y : ℕ) → is_odd (count_by (is_place_in y) places.now) ≡ false }
     ensures { holders.new
-        ≡ marked path (λ place. is_odd (count_by (is_passed place) places.now)) starts.now holders.old }
+        ≡ marked path (λ place. is_odd (count_by (is_passed place) places.now)) starts.now
+        holders.old }
 {
     for pair in 0..places.len() / 2 {
         mark_span(

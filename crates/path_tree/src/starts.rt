@@ -86,7 +86,9 @@ fn place_of_start(path: &Path) -> u32
 /// Which rows have a start.
 pub(crate) fn rows_of(alloc: Global, starts: &[Start]) -> Result<Vec<bool>, NoMemory>
     requires { All (λ start. start.place / ROW < ROWS) starts.now }
-    ensures { IfOk result (λ rows. All (λ start. slice_index_or rows.items (start.place / ROW) false ≡ true) starts.now) }
+    ensures { IfOk result
+        (λ rows. All (λ start. slice_index_or rows.items (start.place / ROW) false ≡ true)
+        starts.now) }
 {
     let mut rows = vec![in alloc; false; ROWS as usize]?;
     for start in starts {

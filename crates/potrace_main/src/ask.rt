@@ -58,7 +58,8 @@ pub struct Head {
 /// number of at most 1,000,000,000 behind `-t`, and of 1 to 1000 behind `-u`.
 pub fn ask(words: &[String]) -> Option<Settings>
     ensures asked { IfSome result (IsAsked (map string_bytes words.now)) }
-    ensures refused { IfNone result ((settings : Settings) → IsAsked (map string_bytes words.now) settings → ⊥) }
+    ensures refused { IfNone result ((settings : Settings)
+        → IsAsked (map string_bytes words.now) settings → ⊥) }
     ensures offered { IfSome result IsOffered }
 {
     let (head, options) = head_of(words)?;
@@ -88,8 +89,10 @@ pub fn ask(words: &[String]) -> Option<Settings>
 
 /// The words that are always there, and those behind them.
 fn head_of(words: &[String]) -> Option<(Head, &[String])>
-    ensures begins { IfSome result (λ p. Begins (map string_bytes words.now) p.0 (map string_bytes p.1.now)) }
-    ensures refused { IfNone result ((head : Head) (options : List (List ℕ)) → Begins (map string_bytes words.now) head options → ⊥) }
+    ensures begins { IfSome result
+        (λ p. Begins (map string_bytes words.now) p.0 (map string_bytes p.1.now)) }
+    ensures refused { IfNone result ((head : Head) (options : List (List ℕ))
+        → Begins (map string_bytes words.now) head options → ⊥) }
 {
     if !has_form(words) {
         return None;
@@ -119,7 +122,8 @@ fn has_form(words: &[String]) -> bool
 /// What the three values ask for.
 fn values_of(backend: &str, policy: &str, number: &str) -> Option<Head>
     ensures asked { IfSome result (IsValued backend.now policy.now number.now) }
-    ensures refused { IfNone result ((head : Head) → IsValued backend.now policy.now number.now head → ⊥) }
+    ensures refused { IfNone result ((head : Head) → IsValued backend.now policy.now number.now head
+        → ⊥) }
 {
     let backend = backend_of(backend)?;
     let policy = policy_of(policy)?;
@@ -142,7 +146,9 @@ fn number_after<'a>(
     most: u32,
 ) -> Option<(u32, &'a [String])>
     requires { most ≤ 1000 * 10 ^ 6 }
-    ensures taken { IfSome result (λ p. TakesNumber name.now default most (map string_bytes words.now) p.0 (map string_bytes p.1.now)) }
+    ensures taken { IfSome result
+        (λ p. TakesNumber name.now default most (map string_bytes words.now) p.0
+        (map string_bytes p.1.now)) }
     ensures refused { IfNone result ((n : ℕ) (rest : List (List ℕ))
         → TakesNumber name.now default most (map string_bytes words.now) n rest → ⊥) }
 {
@@ -178,7 +184,9 @@ fn whole_after<'a>(
     least: u32,
     most: u32,
 ) -> Option<(u32, &'a [String])>
-    ensures taken { IfSome result (λ p. TakesWhole name.now default least most (map string_bytes words.now) p.0 (map string_bytes p.1.now)) }
+    ensures taken { IfSome result
+        (λ p. TakesWhole name.now default least most (map string_bytes words.now) p.0
+        (map string_bytes p.1.now)) }
     ensures refused { IfNone result ((n : ℕ) (rest : List (List ℕ))
         → TakesWhole name.now default least most (map string_bytes words.now) n rest → ⊥) }
 {
@@ -197,7 +205,8 @@ fn whole_after<'a>(
 
 /// Whether the words begin with this one, and the words behind it.
 fn word_after<'a>(words: &'a [String], name: &str) -> (bool, &'a [String])
-    ensures { TakesWord name.now (map string_bytes words.now) result.0 (map string_bytes result.1.now) }
+    ensures { TakesWord name.now (map string_bytes words.now) result.0
+        (map string_bytes result.1.now) }
 {
     match words.split_first() {
         Some((first, rest)) if is_word(first, name) => (true, rest),

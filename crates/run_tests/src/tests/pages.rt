@@ -102,7 +102,12 @@ fn worked_outlines(rt: HostRuntime) -> Result<(), Fail> {
         ("-b svg -z minority -t 0 -n --flat", b"P1 1 1 1\n", 1, dot),
         // In a rectangle no two curves may be joined.
         ("-b svg -z minority -t 0 --flat", b"P1 1 1 1\n", 1, dot),
-        ("-b svg -z minority -t 0 -O 0.5 --flat", b"P1 1 1 1\n", 1, dot),
+        (
+            "-b svg -z minority -t 0 -O 0.5 --flat",
+            b"P1 1 1 1\n",
+            1,
+            dot,
+        ),
         (
             "-b svg -z minority -t 0 -k 0.4 -i -a 1 -n --flat",
             b"P2 1 1 10 5",
