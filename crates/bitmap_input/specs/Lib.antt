@@ -6,7 +6,6 @@
 --   after: a cut that came after another one, which was or wasn't by the end itself
 --   ◌>>=◌: one part, and then another that begins where the first one ended
 pub mod Cut
-
 -- The parts of a PBM or PGM page (Netpbm's format pages "pbm" and "pgm").
 --   longest: the greatest length of a gap, and of a run of digits
 --   is_space: tab, line feed, vertical tab, form feed, carriage return and blank
@@ -29,14 +28,12 @@ pub mod Cut
 --   block: as many bytes as stated
 --   times: the same part so many times
 pub mod Parts
-
 -- The parts of a page as sets of byte lists (Netpbm's format page "pbm").
 --   IsRun: each byte passes the test
 --   is_quiet: a byte inside of a comment
 --   EndsComment: nothing follows a comment, or the byte that ends its line
 --   IsGap: whitespace and comments
 pub mod Sets
-
 -- Raw pages, as a file holds them.
 --   Entry: what the raster holds for one pixel
 --   Raw: a page as the file holds it, with its rows from the top
@@ -52,12 +49,10 @@ pub mod Sets
 --   shown: the page of a raw page, at a level and inverted or not
 --   IsShown: the bitmap is the page that the raw page shows, at a level and inverted or not
 pub mod Raw
-
 -- The sides of a page.
 --   longest_side: the greatest side of a page
 --   checked: both sides are in range
 pub mod Sides
-
 -- The header of a BMP picture (Microsoft's "Bitmap Storage": BITMAPFILEHEADER.
 --   byte_at: the byte at a place
 --   two_at: the number of two bytes from a place on
@@ -91,7 +86,6 @@ pub mod Sides
 --   row_length: the bytes of a row, which are whole fours
 --   rows_end: the place behind the last row
 pub mod BmpHeader
-
 -- The pixels of a BMP picture (Microsoft's "Bitmap Storage").
 --   color_at: a colour
 --   palette_color: the colour of this number in a palette of so many colours, each of so many bytes
@@ -103,7 +97,6 @@ pub mod BmpHeader
 --   picture: the picture whose rows come in this order
 --   raster: what follows the header
 pub mod BmpRaster
-
 -- A BMP picture behind its magic `BM` (Microsoft's "Bitmap Storage").
 --   passes: a check of what was read, which takes no bytes
 --   start: the header up to its size, which is a known one
@@ -113,7 +106,6 @@ pub mod BmpRaster
 --   header: the header with its masks
 --   bmp: the picture
 pub mod Bmp
-
 -- The first page of a list of bytes.
 --   use
 --   Magic: the known formats
@@ -139,7 +131,6 @@ pub mod Bmp
 --   answer_of: the answer that a cut of these bytes is
 --   front: the front of a list of bytes
 pub mod Front
-
 -- The bytes of a page as a set of byte lists.
 --   IsJoined: bytes of one set, and behind them bytes of another
 --   IsRepeated: bytes of the same set so many times
@@ -156,12 +147,10 @@ pub mod Front
 --   IsBody: what follows the magic
 --   IsPageText: a page
 pub mod PageText
-
 -- The pages of a file, one after another.
 --   next_begins: where the next page begins
 --   FilePages: the pages at the front of the bytes, one behind another, and how they end
 pub mod FilePages
-
 -- Reading from inputs through a window.
 --   Held: the bytes that were taken from the inputs and not used yet
 --   AtEnd: nothing is left to be read, where that is told
@@ -177,20 +166,17 @@ pub mod FilePages
 --   CountsBy: how the inputs' count of faults moves
 --   Counts: the same after a step, which reads with no fault where it gives a value
 pub mod Reading
-
 -- Why a page can't be read, in words, as messages tell it.
 --   kind_text: why a page is refused
 --   cause_text: why reading stopped
 --   fault_text: why a page can't be read
 pub mod FaultText
-
 -- A look at the next byte through a window.
 --   IsFirst: the first byte of a list, if there is one
 --   ReadsOn: bytes were read or not, and all are still there
 --   Looks: the next byte
 --   CountsLook: the inputs' count of faults rises where the read failed, and else it stays
 pub mod Window
-
 -- Runs of bytes, read one byte after another.
 --   length_of: how many bytes of the run stand at the front
 --   part_of: the run as a part of a page
@@ -199,11 +185,9 @@ pub mod Window
 --   cap: the number, or this where it is less
 --   IsCapped: the number, cut where it is larger
 pub mod Run
-
 -- Where a number stands in a page, and what another byte than its own means there.
 --   kind_at: why a page is refused where this part of it has another byte than a gap's or a digit's
 pub mod Number
-
 -- The header of a page in the program.
 --   magic_of: the format that a magic names
 --   IsFormat: the magic names this format
@@ -211,7 +195,6 @@ pub mod Number
 --   Checks: two numbers of a header, each maybe cut where it is too large
 --   ChecksMaxval: a number of a header, maybe cut where it is too large
 pub mod Header
-
 -- The bytes of a BMP header in the program, and what it makes of them.
 --   IsStart: the first bytes of a header, with a known size
 --   IsInfo: the bytes up to the end of the header without its masks
@@ -232,23 +215,19 @@ pub mod Header
 --   pixels_by: the rows
 --   raster_by: all of it
 pub mod BmpHead
-
 -- How the samples of a gray page become pixels, in the program.
 --   black_of: whether a sample is a black pixel
 --   IsInRange: the sample for white is at most 65535, and no brighter sample is black
 pub mod Shading
-
 -- Putting the rows of a raster into a page.
 --   with_pixels: the image with these pixels in row y, from column x on, one after another
 --   with_row: the image with these as the first pixels of row y
 --   with_rows: the image with these rows, the first one below row y, and the others downwards
 --   with_placed: the image with these rows, of which the one with number i, and those after it
 pub mod Raster
-
 -- Bytes that are passed over.
 --   passed_over: n bytes are passed over, or all where there are fewer
 pub mod Skip
-
 -- Pages with the number of bytes that they take.
 --   counted: the value of a cut of these bytes, and how many of them it takes
 --   counted_body: what follows the magic, and how many bytes it takes
@@ -256,7 +235,6 @@ pub mod Skip
 --   IsRead: the page is what the raw page shows
 --   claiming_none: a page that claims no bytes behind it
 pub mod Behind
-
 -- The reader of a file's pages, and what its answers say of the file.
 --   Reader: the bytes that were taken from the file and not used yet
 --   at_start: a reader before the first byte of a file

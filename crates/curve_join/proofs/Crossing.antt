@@ -1,16 +1,15 @@
 -- A quadratic of whole numbers whose ends have strictly opposite signs, and the places where it is least.
-use Rattle.std.proofs.Common.{◌≡◌, ℕ, ◌+◌, ◌-◌, ◌*◌, ◌<◌, ◌≤◌, ◌^◌, ℤ, zero, suc, pos, negsuc, neg_ℤ, w64, to_z, of_z, refl, ◌+ℤ◌, ◌*ℤ◌, ◌<ℤ◌, ◌≤ℤ◌, sym, ap, subst, ◌∙◌, arith}
+use Rattle.std.proofs.Common.{◌≡◌, ℕ, ◌+◌, ◌-◌, ◌*◌, ◌<◌, ◌≤◌, ◌^◌, ℤ, pos, negsuc, neg_ℤ, w64, to_z, of_z, refl, ◌+ℤ◌, ◌*ℤ◌, ◌<ℤ◌, ◌≤ℤ◌, ap, ◌∙◌, arith}
 use Rattle.std.proofs.Math.Path.{fun_ext}
-use Rattle.std.proofs.Math.Decide.{dec_le}
 use Rattle.std.proofs.lemmas.Int.{ints}
 use Rattle.std.specs.Prelude.{unsigned_abs}
 use borrow.Author.Differences.{up, down}
 use Rattle.curve_join.proofs.Halving.{between, beyond}
 use Rattle.curve_join.proofs.Leasts.{least_is, least_is_one}
-use Rattle.curve_join.proofs.Nearest.{IsLeastAmong, least_end, least_of_both}
+use Rattle.curve_join.proofs.Nearest.{least_end, least_of_both}
 use Rattle.curve_join.proofs.Fitting.{back}
 use Rattle.curve_join.specs.Cubic.{quadratic}
-use Rattle.curve_join.specs.Vector.{sense_of, towards}
+use Rattle.curve_join.specs.Vector.{towards}
 use Rattle.curve_join.specs.declared.sense.Sense.{Sense}
 use Rattle.curve_join.specs.declared.sense.Sense.TheVariants.{Left, Right}
 use Rattle.curve_join.specs.Least.{IsFirstLeast, least_at}

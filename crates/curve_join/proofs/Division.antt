@@ -1,5 +1,5 @@
 -- Quotients that are rounded down, and what the code works out with them.
-use Rattle.std.proofs.Common.{◌≡◌, ℕ, zero, suc, ◌+◌, ◌-◌, ◌*◌, ◌/◌, ◌<◌, ◌≤◌, ◌^◌, ℤ, pos, negsuc, neg_ℤ, ◌+ℤ◌, ◌-ℤ◌, ◌*ℤ◌, ◌<ℤ◌, w32, w64, to_z, of_z, refl, sym, ap, ◌∙◌, subst, arith}
+use Rattle.std.proofs.Common.{◌≡◌, ℕ, ◌+◌, ◌-◌, ◌*◌, ◌/◌, ◌<◌, ◌≤◌, ◌^◌, ℤ, pos, negsuc, neg_ℤ, ◌+ℤ◌, ◌-ℤ◌, ◌*ℤ◌, ◌<ℤ◌, w32, w64, to_z, of_z, refl, ap, ◌∙◌, arith}
 use Rattle.std.proofs.lemmas.Int.{ints, to_z-of_z, fits_signed_from_abs}
 use Rattle.std.proofs.lemmas.Nat.{div_below, mul-le}
 use Rattle.std.specs.Prelude.{unsigned_abs}
@@ -8,7 +8,7 @@ use Rattle.std.specs.Int.RustNames.{FitsSigned}
 use mir.Syntax.{w128}
 use Rattle.pt_base.proofs.Roots.{root_below, root_is, root_is_one}
 use Rattle.pt_base.specs.Floor.{floor_of}
-use Rattle.pt_base.specs.Root.{IsRoot, root_of}
+use Rattle.pt_base.specs.Root.{IsRoot}
 use Rattle.curve_join.proofs.Fitting.{back, long_back, product_most}
 use Rattle.curve_join.specs.Cubic.{alpha_of}
 

@@ -4,7 +4,6 @@ use Rattle.std.proofs.lemmas.Int.{ints}
 use Rattle.std.specs.List.{All, AllWithin}
 use Rattle.std.specs.Prelude.{sum_by, unsigned_abs}
 use mir.Syntax.{w128}
-use Rattle.pt_base.specs.declared.piece.Piece.{Piece}
 use Rattle.pt_base.specs.declared.piece.Piece.TheVariants.{Curve}
 use Rattle.pt_base.specs.declared.point.Point.{Point}
 use Rattle.curve_join.proofs.Fitting.{back, long_back}

@@ -1,5 +1,5 @@
 -- Weighted sums.
-use Rattle.std.proofs.Common.{◌≡◌, ℕ, ◌+◌, ◌-◌, ◌*◌, ◌<◌, ◌≤◌, ◌^◌, ℤ, pos, ◌+ℤ◌, ◌*ℤ◌, w32, w64, to_z, of_z, refl, ap, subst, ◌∙◌, arith}
+use Rattle.std.proofs.Common.{◌≡◌, ℕ, ◌+◌, ◌-◌, ◌*◌, ◌≤◌, ◌^◌, ℤ, pos, ◌+ℤ◌, ◌*ℤ◌, w32, w64, to_z, of_z, refl, ap, subst, ◌∙◌, arith}
 use Rattle.std.proofs.lemmas.Int.{ints, to_z-of_z, fits_signed_from_abs}
 use Rattle.std.specs.Prelude.{unsigned_abs}
 use Rattle.std.specs.Int.{int_div_euclid}
@@ -7,7 +7,7 @@ use Rattle.std.specs.Int.RustNames.{FitsSigned}
 use mir.Syntax.{w128}
 use Rattle.pt_base.specs.Floor.{floor_of}
 use Rattle.curve_join.proofs.Division.{divided, floor_most}
-use Rattle.curve_join.proofs.Fitting.{back, long_back, product_most, sum_most}
+use Rattle.curve_join.proofs.Fitting.{back, long_back, product_most}
 
 -- the weights of a cubic curve's places together are 64 * 64 * 64
 weights_by : (u r : ℕ) → u + r ≡ 64 → r * r * r + 3 * u * r * r + 3 * u * u * r + u * u * u ≡ 262144

@@ -1,6 +1,6 @@
 -- One cubic curve in place of several (Selinger, "Potrace: a polygon-based tracing algorithm", 2003,
 -- section 2.4). The form in whole numbers is our own.
-use Rattle.std.specs.Prelude.{ℕ, ◌+◌, ◌-◌, ◌*◌, ◌/◌, ◌^◌, ℤ, pos, ◌+ℤ◌, ◌-ℤ◌, ◌*ℤ◌, ◌<ℤ◌, ◌≤ℤ◌, unsigned_abs}
+use Rattle.std.specs.Prelude.{ℕ, ◌-◌, ◌*◌, ◌/◌, ◌^◌, ℤ, pos, ◌+ℤ◌, ◌-ℤ◌, ◌*ℤ◌, ◌<ℤ◌, ◌≤ℤ◌, unsigned_abs}
 use Rattle.pt_base.specs.Floor.{floor_of}
 use Rattle.pt_base.specs.Root.{root_of}
 use Rattle.pt_base.specs.declared.point.Point.{Point}

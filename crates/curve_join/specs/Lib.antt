@@ -8,7 +8,6 @@
 --   IsWithin: neither coordinate goes farther
 --   IsPlaced: neither coordinate is farther from 0
 pub mod Vector
-
 -- The pieces of an outline, each with its vertex.
 --   Outline: vertices and pieces of one outline
 --   outline
@@ -25,7 +24,6 @@ pub mod Vector
 --   IsNear: the places of a piece are near the page
 --   IsOutline: what joining asks of an outline
 pub mod Outline
-
 -- What the vertices of an outline and their pieces bring to each run of pieces that holds them.
 --   own_area: ten times the doubled area between a curve and its chord
 --   bulge_of: how far a curve goes out from its chord, times the chord's length, rounded down
@@ -34,12 +32,10 @@ pub mod Outline
 --   bends_of: all of them, in order
 --   IsSmall: all is near enough to work with
 pub mod Bends
-
 -- Where a function is least.
 --   IsFirstLeast: u is at most n, f is nowhere less up to n, and before u it is greater
 --   least_at: this u
 pub mod Least
-
 -- One cubic curve in place of several (Selinger, "Potrace.
 --   led: the place to which a part of a way leads
 --   turn_of: the cross product of both tangents
@@ -57,7 +53,6 @@ pub mod Least
 --   touching_part: the part of the curve that goes most in this direction, in 64ths
 --   touching_of: where a line in this direction touches the curve
 pub mod Cubic
-
 -- Which neighbouring curves may be joined, and at which penalty (Selinger, "Potrace.
 --   no_way: the bend that a list without any is said to have
 --   no_bend
@@ -88,7 +83,6 @@ pub mod Cubic
 --   penalty_at: the penalty of the joined curve
 --   MayJoin: the pieces of a run may be joined
 pub mod Join
-
 -- The choice among all ways to cut an outline into runs (Selinger, "Potrace.
 --   IsRun: pieces number i up to before j may become one
 --   run_penalty: the penalty of it, which a single piece doesn't have
@@ -97,7 +91,6 @@ pub mod Join
 --   IsBestJoin: these pieces are what the best cut leaves
 --   IsLastRun: no run that begins here goes on beyond this number
 pub mod Choice
-
 -- Runs lead onwards, and their penalties are small.
 --   slice_most: a part of a list isn't longer than from where to where it goes
 --   goes_up

@@ -14,7 +14,7 @@ use Rattle.path_decompose.specs.Inside.{inside}
 use Rattle.path_tree.specs.declared.starts.Start.{Start}
 use Rattle.path_tree.specs.declared.starts.TheConstants.{ROW}
 use Rattle.path_tree.specs.Groups.{holder_of, is_plus, is_round, last_round, no_path, path_at, start_column, start_row}
-use Rattle.path_tree.specs.Starts.{is_in, marked, start_of, starts_from}
+use Rattle.path_tree.specs.Starts.{is_in, marked, path_start, starts_from}
 use Rattle.path_tree.proofs.Listing.{StartsOn, hit_is, starts_on, starts_within}
 use Rattle.path_tree.proofs.Marking.{all_below, is_hit, length-marked, marked-at}
 
@@ -41,7 +41,7 @@ held_none paths holders len none = record {
   each = λ k h. none k h ∙ both_same (is_plus (path_at paths k).sign) None ∙ ap (λ n. cond (is_plus (path_at paths k).sign) None (last_round paths (path_at paths k) n)) (least_zero k);
 }
 
-in_start : (path other : Path) → StartsOn other → is_in path (start_of 0 other).place ≡ is_round path other
+in_start : (path other : Path) → StartsOn other → is_in path (path_start 0 other).place ≡ is_round path other
 in_start path other on =
     let low = on.column in
     let column : (ROW * start_row other + start_column other) % ROW ≡ start_column other = omega arith in

@@ -12,19 +12,19 @@ use Rattle.path_decompose.specs.Bounds.{IsCornerOf}
 use Rattle.path_tree.specs.declared.starts.Start.{Start}
 use Rattle.path_tree.specs.declared.starts.TheConstants.{ROW}
 use Rattle.path_tree.specs.Groups.{is_plus, no_path, start_column, start_row}
-use Rattle.path_tree.specs.Starts.{place_at, start_of, starts_from}
+use Rattle.path_tree.specs.Starts.{place_at, path_start, starts_from}
 use Rattle.path_tree.proofs.Marking.{and-false, is_hit}
 
 -- the start of one path, where it is of minus sign
 abbrev pub start_list : ℕ → Path → List Start
-start_list i path = cond (is_plus path.sign) [] (start_of i path ∷ [])
+start_list i path = cond (is_plus path.sign) [] (path_start i path ∷ [])
 
 -- a start in a list of one or none
 one_hit : (i k n : ℕ) (test : ℕ → Bool) (path : Path) (plus : Bool)
-    → list_any (is_hit i test k) (cond plus [] (start_of n path ∷ []))
-    ≡ (nat_eq n k && (not plus && (nat_lt i n && test (start_of n path).place)))
+    → list_any (is_hit i test k) (cond plus [] (path_start n path ∷ []))
+    ≡ (nat_eq n k && (not plus && (nat_lt i n && test (path_start n path).place)))
 one_hit i k n test path true = sym (and-false (nat_eq n k))
-one_hit i k n test path false = or-false (nat_eq n k && (nat_lt i n && test (start_of n path).place))
+one_hit i k n test path false = or-false (nat_eq n k && (nat_lt i n && test (path_start n path).place))
   where
     or-false : (b : Bool) → (b || false) ≡ b
     or-false true = refl
@@ -37,22 +37,22 @@ no_later i k n test (path ∷ paths) below =
     list_any-append (is_hit i test k) (start_list n path) (starts_from (suc n) paths)
     ∙ ap (λ b. b || list_any (is_hit i test k) (starts_from (suc n) paths))
     (one_hit i k n test path (is_plus path.sign)
-    ∙ ap (λ b. b && (not (is_plus path.sign) && (nat_lt i n && test (start_of n path).place))) (ne_eqb n k (λ e. omega arith)))
+    ∙ ap (λ b. b && (not (is_plus path.sign) && (nat_lt i n && test (path_start n path).place))) (ne_eqb n k (λ e. omega arith)))
     ∙ no_later i k (suc n) test paths (omega arith)
 
 -- path k is hit where it is of minus sign, comes after path i, and its start passes
 pub hit_is : (i k n m : ℕ) (test : ℕ → Bool) (paths : List Path) → n + m ≡ k → m < length paths
     → list_any (is_hit i test k) (starts_from n paths)
-    ≡ (not (is_plus (get_or paths m no_path).sign) && (nat_lt i k && test (start_of k (get_or paths m no_path)).place))
+    ≡ (not (is_plus (get_or paths m no_path).sign) && (nat_lt i k && test (path_start k (get_or paths m no_path)).place))
 hit_is i k n m test [] at within = absurd (omega arith)
 hit_is i k n zero test (path ∷ paths) at within =
     let same : n ≡ k = omega arith in
     list_any-append (is_hit i test k) (start_list n path) (starts_from (suc n) paths)
     ∙ ap (λ b. list_any (is_hit i test k) (start_list n path) || b) (no_later i k (suc n) test paths (omega arith))
     ∙ ap (λ b. b || false) (one_hit i k n test path (is_plus path.sign)
-    ∙ ap (λ b. b && (not (is_plus path.sign) && (nat_lt i n && test (start_of n path).place))) (eq-eqb n k same))
-    ∙ or_false (not (is_plus path.sign) && (nat_lt i n && test (start_of n path).place))
-    ∙ ap (λ j. not (is_plus path.sign) && (nat_lt i j && test (start_of j path).place)) same
+    ∙ ap (λ b. b && (not (is_plus path.sign) && (nat_lt i n && test (path_start n path).place))) (eq-eqb n k same))
+    ∙ or_false (not (is_plus path.sign) && (nat_lt i n && test (path_start n path).place))
+    ∙ ap (λ j. not (is_plus path.sign) && (nat_lt i j && test (path_start j path).place)) same
   where
     or_false : (b : Bool) → ((true && b) || false) ≡ b
     or_false true = refl
@@ -61,21 +61,21 @@ hit_is i k n (suc m) test (path ∷ paths) at within =
     list_any-append (is_hit i test k) (start_list n path) (starts_from (suc n) paths)
     ∙ ap (λ b. b || list_any (is_hit i test k) (starts_from (suc n) paths))
     (one_hit i k n test path (is_plus path.sign)
-    ∙ ap (λ b. b && (not (is_plus path.sign) && (nat_lt i n && test (start_of n path).place))) (ne_eqb n k (λ e. omega arith)))
+    ∙ ap (λ b. b && (not (is_plus path.sign) && (nat_lt i n && test (path_start n path).place))) (ne_eqb n k (λ e. omega arith)))
     ∙ hit_is i k (suc n) m test paths (omega arith) (omega arith)
 
 -- what holds of the starts of the paths of a list
 all_starts : (P : Start → Type 0) (n : ℕ) (paths : List Path)
-    → ((m : ℕ) → m < length paths → P (start_of (n + m) (get_or paths m no_path))) → All P (starts_from n paths)
+    → ((m : ℕ) → m < length paths → P (path_start (n + m) (get_or paths m no_path))) → All P (starts_from n paths)
 all_starts P n [] each = All-nil P
 all_starts P n (path ∷ paths) each =
     All-append P (start_list n path) (starts_from (suc n) paths)
-    (first (is_plus path.sign) (let e : n + 0 ≡ n = omega arith in subst (λ j. P (start_of j path)) e (each 0 (omega arith))))
-    (all_starts P (suc n) paths (λ m h. let e : n + suc m ≡ suc n + m = omega arith in subst (λ j. P (start_of j (get_or paths m no_path))) e (each (suc m) (omega arith))))
+    (first (is_plus path.sign) (let e : n + 0 ≡ n = omega arith in subst (λ j. P (path_start j path)) e (each 0 (omega arith))))
+    (all_starts P (suc n) paths (λ m h. let e : n + suc m ≡ suc n + m = omega arith in subst (λ j. P (path_start j (get_or paths m no_path))) e (each (suc m) (omega arith))))
   where
-    first : (plus : Bool) → P (start_of n path) → All P (cond plus [] (start_of n path ∷ []))
+    first : (plus : Bool) → P (path_start n path) → All P (cond plus [] (path_start n path ∷ []))
     first true p = All-nil P
-    first false p = All-cons P (start_of n path) [] p (All-nil P)
+    first false p = All-cons P (path_start n path) [] p (All-nil P)
 
 pub starts_within : (paths : List Path) → All (λ s. s.path < length paths) (starts_from 0 paths)
 starts_within paths = all_starts (λ s. s.path < length paths) 0 paths (λ m h. omega arith)

@@ -1,3 +1,36 @@
+-- Which paths bound the holes of which shapes.
+--   start_column: The column and the row of the pixel where a path starts
+--   start_row
+--   is_plus: the path is one of plus sign
+--   is_round: the path is one of plus sign, and the other one's start is inside it
+--   no_path: a path that is no path, which stands for those that aren't in a list
+--   path_at: the path of this number
+--   last_round: the last of the first n paths that is of plus sign
+--   parent_of: the parent of a path
+--   holder_of: the path in whose shape this one bounds a hole
+--   is_number: it is this number
+--   holes_below: those of the first n paths that bound holes in the shape of path j, in order
+--   group_at: path j with the paths that bound holes in its shape
+--   groups_of: a group for each path that bounds no hole, in order
 pub mod Groups
+-- The groups that a list tells, which has for each path the path in whose shape it bounds a.
+--   is_hole_in: path i bounds a hole in the shape of path j
+--   group_below: path j with those of the first n paths that bound holes in its shape
+--   groups_below: such a group for each path
+--   is_shape: the path is in the list, and bounds no hole
+--   no_group: no group, which stands for those that aren't in a list
+--   with_one_more: a group with one more hole
+--   with_hole: the groups, where the path is one more hole in the group of its holder
 pub mod Holders
+-- The starts of the paths of minus sign, and which paths have them inside.
+--   place_at: where a pixel, or the upright line at its left, stands in the order of the rows
+--   path_start: the start of path number i
+--   starts_from: the starts of those of these paths that are of minus sign
+--   place_of_line: the place of a line, where it is upright and stands in a row that is asked for
+--   places_of: the places of the upright ones of these lines in the rows that are asked for
+--   is_place_in: the place stands in row y
+--   is_passed: on the way along its row from the left into a pixel a line is passed
+--   is_in_span: a place is one from `low` on and before `high`
+--   marked: the list with path i for each later path whose start passes a test
+--   is_in: the path is one of plus sign, and the pixel of this place is inside it
 pub mod Starts

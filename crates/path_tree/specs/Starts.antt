@@ -12,13 +12,13 @@ abbrev pub place_at : ℕ → ℕ → ℕ
 place_at x y = ROW * y + x
 
 -- the start of path number i
-abbrev pub start_of : ℕ → Path → Start
-start_of i path = record { place = place_at (start_column path) (start_row path); path = i }
+abbrev pub path_start : ℕ → Path → Start
+path_start i path = record { place = place_at (start_column path) (start_row path); path = i }
 
 -- the starts of those of these paths that are of minus sign, where the first one has number i
 abbrev pub starts_from : ℕ → List Path → List Start
 starts_from i [] = []
-starts_from i (path ∷ paths) = cond (is_plus path.sign) [] (start_of i path ∷ []) ++ starts_from (suc i) paths
+starts_from i (path ∷ paths) = cond (is_plus path.sign) [] (path_start i path ∷ []) ++ starts_from (suc i) paths
 
 -- the place of a line, where it is upright and stands in a row that is asked for
 abbrev pub place_of_line : List Bool → Line → List ℕ
@@ -39,8 +39,8 @@ abbrev pub is_passed : ℕ → ℕ → Bool
 is_passed pixel line = nat_eq (line / ROW) (pixel / ROW) && nat_le line pixel
 
 -- a place is one from `low` on and before `high`
-abbrev pub is_between : ℕ → ℕ → ℕ → Bool
-is_between low high place = nat_le low place && nat_lt place high
+abbrev pub is_in_span : ℕ → ℕ → ℕ → Bool
+is_in_span low high place = nat_le low place && nat_lt place high
 
 -- the list with path i for each later path whose start passes a test
 abbrev pub marked : ℕ → (ℕ → Bool) → List Start → List (Option ℕ) → List (Option ℕ)

@@ -27,7 +27,8 @@ pub(crate) fn holders_of(alloc: Global, paths: &[Path]) -> Result<Vec<Option<u32
     requires closed { All (λ path. IsClosedWalk path.points) paths.now }
     requires corners { All (λ path. All (IsCornerOf 32767 32767) path.points) paths.now }
     requires starts { All (λ path. pos 1 ≤ℤ (point_at path.points 0).y) paths.now }
-    ensures { IfOk result (λ holders. holders.items ≡ map (holder_of paths.now) (range_with_len 0 (length paths.now))) }
+    ensures { IfOk result (λ holders. holders.items
+        ≡ map (holder_of paths.now) (range_with_len 0 (length paths.now))) }
 {
     let starts = sorted_starts(alloc, paths)?;
     let rows = rows_of(alloc, &starts)?;
@@ -61,7 +62,8 @@ fn hold(
     requires within { All (λ start. start.path < length holders.old) starts.now }
     requires order { IsNonDecreasingBy (λ start. start.place) starts.now }
     requires columns { All (λ start. start.place % ROW ≤ 32767) starts.now }
-    requires asked { All (λ start. slice_index_or rows.now (start.place / ROW) false ≡ true) starts.now }
+    requires asked { All (λ start. slice_index_or rows.now (start.place / ROW) false ≡ true)
+        starts.now }
     ensures { IfOk result (λ _. holders.new ≡ marked number (is_in path.now) starts.now holders.old) }
 {
     match path.sign {

@@ -35,7 +35,8 @@ pub(crate) fn gather_lines(
 fn add_line(places: &mut Vec<u32>, rows: &[bool], from: Point, to: Point) -> Result<(), NoMemory>
     requires start { IsCornerOf 32767 32767 from }
     requires end { IsCornerOf 32767 32767 to }
-    ensures { OnOk result (places.new.items ≡ places.old.items ++ place_of_line rows.now (line_between from to)) }
+    ensures { OnOk result (places.new.items ≡ places.old.items
+        ++ place_of_line rows.now (line_between from to)) }
 {
     if let Some((x, y)) = upright_between(from, to) {
         if is_asked(rows, y) {

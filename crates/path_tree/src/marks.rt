@@ -2,7 +2,7 @@
 ghost use Rattle.std.specs.Prelude.{◌≡◌, ◌<◌, ◌≤◌, ◌/◌, ℕ, true, false, All, length, count_by, nat_lt};
 ghost use Rattle.std.specs.List.Sorted.{IsNonDecreasing, IsNonDecreasingBy, IsPartitionPoint};
 ghost use Rattle.path_decompose.specs.Inside.{is_odd};
-ghost use Rattle.path_tree.specs.Starts.{is_between, is_passed, is_place_in, marked};
+ghost use Rattle.path_tree.specs.Starts.{is_in_span, is_passed, is_place_in, marked};
 
 use crate::starts::Start;
 
@@ -17,7 +17,8 @@ pub(crate) fn mark_inside(holders: &mut [Option<u32>], starts: &[Start], places:
     requires sorted { IsNonDecreasing places.now }
     requires even { (y : ℕ) → is_odd (count_by (is_place_in y) places.now) ≡ false }
     ensures { holders.new
-        ≡ marked path (λ place. is_odd (count_by (is_passed place) places.now)) starts.now holders.old }
+        ≡ marked path (λ place. is_odd (count_by (is_passed place) places.now)) starts.now
+        holders.old }
 {
     for pair in 0..places.len() / 2 {
         mark_span(
@@ -34,7 +35,7 @@ pub(crate) fn mark_inside(holders: &mut [Option<u32>], starts: &[Start], places:
 fn mark_span(holders: &mut [Option<u32>], starts: &[Start], low: u32, high: u32, path: u32)
     requires within { All (λ start. start.path < length holders.old) starts.now }
     requires order { IsNonDecreasingBy (λ start. start.place) starts.now }
-    ensures { holders.new ≡ marked path (is_between low high) starts.now holders.old }
+    ensures { holders.new ≡ marked path (is_in_span low high) starts.now holders.old }
 {
     let first = count_below(starts, low);
     let from_low = &starts[first..];

@@ -4,7 +4,7 @@ ghost use Rattle.std.specs.List.Sorted.{IsNonDecreasingBy, IsPermutation};
 ghost use Rattle.pt_base.specs.ClosedWalk.{IsClosedWalk, point_at};
 ghost use Rattle.path_decompose.specs.Bounds.{IsCornerOf};
 ghost use Rattle.path_tree.specs.Groups.{is_plus};
-ghost use Rattle.path_tree.specs.Starts.{place_at, start_of, starts_from};
+ghost use Rattle.path_tree.specs.Starts.{place_at, path_start, starts_from};
 
 use pt_base::fault::NoMemory;
 use pt_base::path::{Path, Sign};
@@ -60,7 +60,7 @@ fn add_start(starts: &mut Vec<Start>, path: &Path, number: u32) -> Result<(), No
     requires corners { All (IsCornerOf 32767 32767) path.now.points }
     requires start { pos 1 ≤ℤ (point_at path.now.points 0).y }
     ensures { OnOk result (starts.new.items
-        ≡ starts.old.items ++ cond (is_plus path.now.sign) [] (start_of number path.now ∷ [])) }
+        ≡ starts.old.items ++ cond (is_plus path.now.sign) [] (path_start number path.now ∷ [])) }
 {
     if path.sign == Sign::Minus {
         let place = place_of_start(path);
@@ -77,7 +77,7 @@ fn place_of_start(path: &Path) -> u32
     requires closed { IsClosedWalk path.now.points }
     requires corners { All (IsCornerOf 32767 32767) path.now.points }
     requires start { pos 1 ≤ℤ (point_at path.now.points 0).y }
-    ensures { result ≡ (start_of 0 path.now).place }
+    ensures { result ≡ (path_start 0 path.now).place }
 {
     let corner = path.points.as_slice()[0];
     ROW * (corner.y.unsigned_abs() - 1) + corner.x.unsigned_abs()
@@ -86,7 +86,9 @@ fn place_of_start(path: &Path) -> u32
 /// Which rows have a start.
 pub(crate) fn rows_of(alloc: Global, starts: &[Start]) -> Result<Vec<bool>, NoMemory>
     requires { All (λ start. start.place / ROW < ROWS) starts.now }
-    ensures { IfOk result (λ rows. All (λ start. slice_index_or rows.items (start.place / ROW) false ≡ true) starts.now) }
+    ensures { IfOk result
+        (λ rows. All (λ start. slice_index_or rows.items (start.place / ROW) false ≡ true)
+        starts.now) }
 {
     let mut rows = vec![in alloc; false; ROWS as usize]?;
     for start in starts {

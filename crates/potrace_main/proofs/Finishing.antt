@@ -12,12 +12,9 @@ use Rattle.bitmap_input.specs.Reading.Cause.{Says}
 use Rattle.bitmap_input.specs.Raw.{Raw}
 use Rattle.bitmap_input.specs.Front.{front}
 use Rattle.bitmap_input.specs.Front.Answer.{Page as Gives, Ends}
-use Rattle.bitmap_input.specs.FilePages.{FilePages}
-use Rattle.bitmap_input.specs.FilePages.FilePages.{Ended, Next}
-use Rattle.bitmap_input.proofs.Files.{file_pages_some}
 use Rattle.bitmap_input.specs.declared.fault.InFault.{InFault}
 use Rattle.potrace_main.specs.Messages.{bad_words, dash, not_opened, not_written, out_of_memory, page_line, trailing_line}
-use Rattle.potrace_main.specs.Items.{Item, AreInputItems, AreItems, kind_text, most_pages, too_many}
+use Rattle.potrace_main.specs.Items.{Item, AreInputItems, kind_text, most_pages, too_many}
 use Rattle.potrace_main.specs.Items.Item.{Doc, Missing, Note, Stop}
 use Rattle.potrace_main.specs.Outcome.{AreSaid, GoesOn, IsDone, IsOutOfMemory, IsRefused, IsUnwritten, notes, with_items}
 use Rattle.potrace_main.specs.Progress.{InputCount, OutputCount, AreTraced, BeginsWith, EndsBy, Traces, docs, is_later}
@@ -26,7 +23,6 @@ use Rattle.pt_base.specs.declared.settings.Settings.{Settings}
 use Rattle.potrace_main.specs.declared.pages.PagesEnd.{PagesEnd}
 use Rattle.potrace_main.specs.declared.pages.PagesEnd.TheVariants as why
 use Rattle.potrace_main.proofs.Outcomes.{IsLeft, goes_on-docs, left_at_end, left_too_many, left_with_page, none_said, notes-docs, one_said, what_is_left, with_items-docs}
-use Rattle.potrace_main.proofs.Paging.{items_of, items_too_many, pages_after, pages_are}
 
 -- the message of a fault tells the kind of the refusal
 fault_text-kind : (f : InFault) (kind : Kind) → cause_of_fault f ≡ Says (Refused kind) → fault_text f ≡ kind_text kind

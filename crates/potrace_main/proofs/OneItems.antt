@@ -1,6 +1,5 @@
 -- What a run is to write is one list.
-use Rattle.std.proofs.Common.{◌≡◌, ℕ, suc, ◌<◌, ◌≤◌, ◌⊎◌, inl, inr, false, None, Some, List, [], ◌∷◌, refl, sym, ◌∙◌, ap, subst, arith}
-use Rattle.std.specs.FinMap.{get}
+use Rattle.std.proofs.Common.{◌≡◌, ℕ, suc, inl, inr, false, None, Some, List, [], ◌∷◌, sym, ◌∙◌, ap, subst, arith}
 use Rattle.pt_base.specs.Files.{Files}
 use Rattle.pt_base.specs.declared.settings.Settings.{Settings}
 use Rattle.bitmap_input.specs.Cut.{Ending}

@@ -12,6 +12,7 @@ use Rattle.bitmap_input.specs.Reader.{Reader, ahead as reader_ahead, at_start, i
 use Rattle.potrace_main.specs.Messages.{dash}
 use Rattle.page_trace.specs.Document.{IsDocument}
 use Rattle.potrace_main.specs.Items.{most_pages}
+use Rattle.potrace_main.specs.Outcome.{with_items}
 use Rattle.potrace_main.specs.Progress.{AreTraced, BeginsWith, EndsBy, Traces, TracesPage, ahead, docs, is_later}
 use Rattle.pt_base.specs.declared.settings.Settings.{Settings}
 use Rattle.potrace_main.specs.declared.pages.PagesEnd.{PagesEnd}

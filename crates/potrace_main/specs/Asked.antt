@@ -28,34 +28,6 @@ backend_word GeoJson = codes "geojson"
 backend_word Points = codes "points"
 backend_word Polygons = codes "polygons"
 
--- the backends that the program has
-abbrev pub IsBackend : Backend → Type 0
-IsBackend Points = Unit {0}
-IsBackend Polygons = Unit {0}
-IsBackend Svg = Unit {0}
-IsBackend Eps = ⊥
-IsBackend Dxf = ⊥
-IsBackend GeoJson = ⊥
-
--- the backend draws outlines
-abbrev pub is_drawn : Backend → Bool
-is_drawn Svg = true
-is_drawn Eps = false
-is_drawn Dxf = false
-is_drawn GeoJson = false
-is_drawn Points = false
-is_drawn Polygons = false
-
--- the words that end those of a backend: shapes aren't put into groups yet, so this one is asked for where
--- outlines are drawn
-abbrev pub ending : Backend → List (List ℕ)
-ending Svg = codes "--flat" ∷ []
-ending Eps = []
-ending Dxf = []
-ending GeoJson = []
-ending Points = []
-ending Polygons = []
-
 -- the greatest speckle limit
 abbrev pub greatest_speckle : ℕ
 greatest_speckle = 1000000000
@@ -68,7 +40,6 @@ form backend policy number options =
 -- the three values name a backend, a policy and a speckle limit
 pub record IsValued (backend policy number : List ℕ) (head : Head) : Type 0 where
   pub format : backend ≡ backend_word head.backend
-  pub offered : IsBackend head.backend
   pub named : policy ≡ policy_word head.policy
   pub numbered : IsWhole number head.turd
   pub within : head.turd ≤ greatest_speckle
@@ -85,38 +56,52 @@ pub record Begins (words : List (List ℕ)) (head : Head) (options : List (List 
 abbrev pub LacksWord : List ℕ → List (List ℕ) → Type 0
 LacksWord name words = (rest : List (List ℕ)) → words ≢ name ∷ rest
 
--- where the words begin with this name, the next word is a decimal number of n millionths, at most so many;
--- where they don't, the number is the default
-abbrev pub TakesNumber : List ℕ → ℕ → ℕ → List (List ℕ) → ℕ → List (List ℕ) → Type 0
-TakesNumber name default most words n rest =
+-- where the words begin with this name, the next word spells the number n; where they don't, the number is
+-- the default
+abbrev pub TakesValue : (List ℕ → ℕ → Type 0) → List ℕ → ℕ → List (List ℕ) → ℕ → List (List ℕ) → Type 0
+TakesValue Spells name default words n rest =
     (LacksWord name words × (words ≡ rest) × (n ≡ default))
-    ⊎ ((text : List ℕ) × (words ≡ name ∷ text ∷ rest) × IsMicro text n × (n ≤ most))
+    ⊎ ((text : List ℕ) × (words ≡ name ∷ text ∷ rest) × Spells text n)
+
+-- the text is a decimal number of n millionths, at most so many
+abbrev pub SpellsNumber : ℕ → List ℕ → ℕ → Type 0
+SpellsNumber most text n = IsMicro text n × (n ≤ most)
+
+-- the text is the whole number n, in this range
+abbrev pub SpellsWhole : ℕ → ℕ → List ℕ → ℕ → Type 0
+SpellsWhole least most text n = IsWhole text n × (least ≤ n) × (n ≤ most)
+
+-- the number behind this name is a decimal one
+abbrev pub TakesNumber : List ℕ → ℕ → ℕ → List (List ℕ) → ℕ → List (List ℕ) → Type 0
+TakesNumber name default most words n rest = TakesValue (SpellsNumber most) name default words n rest
+
+-- the number behind this name is a whole one
+abbrev pub TakesWhole : List ℕ → ℕ → ℕ → ℕ → List (List ℕ) → ℕ → List (List ℕ) → Type 0
+TakesWhole name default least most words n rest = TakesValue (SpellsWhole least most) name default words n rest
 
 -- whether the words begin with this one
 abbrev pub TakesWord : List ℕ → List (List ℕ) → Bool → List (List ℕ) → Type 0
 TakesWord name words given rest =
     (LacksWord name words × (words ≡ rest) × (given ≡ false)) ⊎ ((words ≡ name ∷ rest) × (given ≡ true))
 
--- the settings that no word of its own changes
-pub record IsDefault (settings : Settings) : Type 0 where
-  pub unit : settings.unit ≡ 10
-  pub flat : settings.flat ≡ is_drawn settings.backend
-
 -- the words ask for pages to be read, traced and written so: the values, then `-k D` or not, then `-i` or
--- not, then `-a D` or not, then `-n` or not, then `-O D` or not, and then the backend's last words
+-- not, then `-a D` or not, then `-n` or not, then `-O D` or not, then `-u N` or not, and then `--flat` or not
 pub record IsAsked (words : List (List ℕ)) (settings : Settings) : Type 0 where
   pub options : List (List ℕ)
   pub after_level : List (List ℕ)
   pub after_invert : List (List ℕ)
   pub after_alphamax : List (List ℕ)
   pub after_curve : List (List ℕ)
+  pub after_tolerance : List (List ℕ)
+  pub after_unit : List (List ℕ)
   pub begins : Begins words (record { backend = settings.backend; policy = settings.policy; turd = settings.turd }) options
   pub level : TakesNumber (codes "-k") 500000 1000000 options settings.level after_level
   pub invert : TakesWord (codes "-i") after_level settings.invert after_invert
   pub alphamax : TakesNumber (codes "-a") 1000000 1000000000 after_invert settings.alphamax after_alphamax
   pub long_curve : TakesWord (codes "-n") after_alphamax settings.long_curve after_curve
-  pub tolerance : TakesNumber (codes "-O") 200000 1000000000 after_curve settings.tolerance (ending settings.backend)
-  pub others : IsDefault settings
+  pub tolerance : TakesNumber (codes "-O") 200000 1000000000 after_curve settings.tolerance after_tolerance
+  pub unit : TakesWhole (codes "-u") 10 1 1000 after_tolerance settings.unit after_unit
+  pub flat : TakesWord (codes "--flat") after_unit settings.flat []
 
 -- the program can do what the settings say
 pub record IsOffered (settings : Settings) : Type 0 where

@@ -1,6 +1,6 @@
 //! Reading the words of the command line.
 ghost use Rattle.std.specs.Prelude.{◌≡◌, ◌≤◌, ◌↔◌, ◌*◌, ◌^◌, ℕ, List, [], map, drop, string_bytes, slice_index_or, IfSome, IfNone, IsTrue};
-ghost use Rattle.potrace_main.specs.Asked.{Begins, IsAsked, IsBackend, IsOffered, IsValued, TakesNumber, TakesWord, backend_word, ending, form, is_drawn, policy_word};
+ghost use Rattle.potrace_main.specs.Asked.{Begins, IsAsked, IsOffered, IsValued, TakesNumber, TakesWhole, TakesWord, backend_word, form, policy_word};
 ghost use Rattle.potrace_main.specs.declared.ask.Head.{Head};
 ghost use Rattle.pt_base.specs.Micro.{IsMicro};
 ghost use Rattle.pt_base.specs.declared.policy.Policy.{Policy};
@@ -32,6 +32,15 @@ const DEFAULT_TOLERANCE: u32 = 200_000;
 /// The greatest tolerance, in millionths of a pixel.
 const GREATEST_TOLERANCE: u32 = 1_000_000_000;
 
+/// The unit where no word says one: so many of it are a pixel.
+const DEFAULT_UNIT: u32 = 10;
+
+/// The least unit.
+const LEAST_UNIT: u32 = 1;
+
+/// The greatest unit.
+const GREATEST_UNIT: u32 = 1000;
+
 /// What the words that are always there ask for.
 #[derive(Clone, Copy, Debug)]
 pub struct Head {
@@ -42,11 +51,15 @@ pub struct Head {
 }
 
 /// What the words ask for, if they are the program's: `-b BACKEND -z POLICY -t N`, then `-k D` or not,
-/// then `-i` or not, then `-a D` or not, then `-n` or not, then `-O D` or not, and then `--flat` for the
-/// backend `svg`.
+/// then `-i` or not, then `-a D` or not, then `-n` or not, then `-O D` or not, then `-u N` or not, and then
+/// `--flat` or not, each for every backend.
+///
+/// `D` is a decimal number of at most 1 behind `-k` and at most 1000 behind `-a` and `-O`. `N` is a whole
+/// number of at most 1,000,000,000 behind `-t`, and of 1 to 1000 behind `-u`.
 pub fn ask(words: &[String]) -> Option<Settings>
     ensures asked { IfSome result (IsAsked (map string_bytes words.now)) }
-    ensures refused { IfNone result ((settings : Settings) → IsAsked (map string_bytes words.now) settings → ⊥) }
+    ensures refused { IfNone result ((settings : Settings)
+        → IsAsked (map string_bytes words.now) settings → ⊥) }
     ensures offered { IfSome result IsOffered }
 {
     let (head, options) = head_of(words)?;
@@ -55,7 +68,9 @@ pub fn ask(words: &[String]) -> Option<Settings>
     let (alphamax, options) = number_after(options, "-a", DEFAULT_ALPHAMAX, GREATEST_ALPHAMAX)?;
     let (long_curve, options) = word_after(options, "-n");
     let (tolerance, options) = number_after(options, "-O", DEFAULT_TOLERANCE, GREATEST_TOLERANCE)?;
-    if !are_ending(options, head.backend) {
+    let (unit, options) = whole_after(options, "-u", DEFAULT_UNIT, LEAST_UNIT, GREATEST_UNIT)?;
+    let (flat, options) = word_after(options, "--flat");
+    if !options.is_empty() {
         return None;
     }
     Some(Settings {
@@ -65,8 +80,8 @@ pub fn ask(words: &[String]) -> Option<Settings>
         alphamax,
         long_curve,
         tolerance,
-        unit: 10,
-        flat: is_drawn(head.backend),
+        unit,
+        flat,
         level,
         invert,
     })
@@ -74,8 +89,10 @@ pub fn ask(words: &[String]) -> Option<Settings>
 
 /// The words that are always there, and those behind them.
 fn head_of(words: &[String]) -> Option<(Head, &[String])>
-    ensures begins { IfSome result (λ p. Begins (map string_bytes words.now) p.0 (map string_bytes p.1.now)) }
-    ensures refused { IfNone result ((head : Head) (options : List (List ℕ)) → Begins (map string_bytes words.now) head options → ⊥) }
+    ensures begins { IfSome result
+        (λ p. Begins (map string_bytes words.now) p.0 (map string_bytes p.1.now)) }
+    ensures refused { IfNone result ((head : Head) (options : List (List ℕ))
+        → Begins (map string_bytes words.now) head options → ⊥) }
 {
     if !has_form(words) {
         return None;
@@ -105,7 +122,8 @@ fn has_form(words: &[String]) -> bool
 /// What the three values ask for.
 fn values_of(backend: &str, policy: &str, number: &str) -> Option<Head>
     ensures asked { IfSome result (IsValued backend.now policy.now number.now) }
-    ensures refused { IfNone result ((head : Head) → IsValued backend.now policy.now number.now head → ⊥) }
+    ensures refused { IfNone result ((head : Head) → IsValued backend.now policy.now number.now head
+        → ⊥) }
 {
     let backend = backend_of(backend)?;
     let policy = policy_of(policy)?;
@@ -128,7 +146,9 @@ fn number_after<'a>(
     most: u32,
 ) -> Option<(u32, &'a [String])>
     requires { most ≤ 1000 * 10 ^ 6 }
-    ensures taken { IfSome result (λ p. TakesNumber name.now default most (map string_bytes words.now) p.0 (map string_bytes p.1.now)) }
+    ensures taken { IfSome result
+        (λ p. TakesNumber name.now default most (map string_bytes words.now) p.0
+        (map string_bytes p.1.now)) }
     ensures refused { IfNone result ((n : ℕ) (rest : List (List ℕ))
         → TakesNumber name.now default most (map string_bytes words.now) n rest → ⊥) }
 {
@@ -155,42 +175,43 @@ fn number_of(text: &str, most: u32) -> Option<u32>
     if n <= most { Some(n) } else { None }
 }
 
+/// The whole number behind a name, if the words begin with the name, and else the default; and the words
+/// behind that.
+fn whole_after<'a>(
+    words: &'a [String],
+    name: &str,
+    default: u32,
+    least: u32,
+    most: u32,
+) -> Option<(u32, &'a [String])>
+    ensures taken { IfSome result
+        (λ p. TakesWhole name.now default least most (map string_bytes words.now) p.0
+        (map string_bytes p.1.now)) }
+    ensures refused { IfNone result ((n : ℕ) (rest : List (List ℕ))
+        → TakesWhole name.now default least most (map string_bytes words.now) n rest → ⊥) }
+{
+    let Some((first, rest)) = words.split_first() else {
+        return Some((default, words));
+    };
+    if !is_word(first, name) {
+        return Some((default, words));
+    }
+    let (text, rest) = rest.split_first()?;
+    match read_whole(text.as_str(), least, most) {
+        Ok(n) => Some((n, rest)),
+        Err(_) => None,
+    }
+}
+
 /// Whether the words begin with this one, and the words behind it.
 fn word_after<'a>(words: &'a [String], name: &str) -> (bool, &'a [String])
-    ensures { TakesWord name.now (map string_bytes words.now) result.0 (map string_bytes result.1.now) }
+    ensures { TakesWord name.now (map string_bytes words.now) result.0
+        (map string_bytes result.1.now) }
 {
     match words.split_first() {
         Some((first, rest)) if is_word(first, name) => (true, rest),
         _ => (false, words),
     }
-}
-
-/// Whether the words are those that end a backend's.
-fn are_ending(words: &[String], backend: Backend) -> bool
-    ensures { IsTrue result ↔ (map string_bytes words.now ≡ ending backend) }
-{
-    match backend {
-        Backend::Svg => are_drawing(words),
-        Backend::Eps | Backend::Dxf | Backend::GeoJson | Backend::Points | Backend::Polygons =>
-            words.is_empty(),
-    }
-}
-
-/// Whether the words are `--flat` alone.
-fn are_drawing(words: &[String]) -> bool
-    ensures { IsTrue result ↔ (map string_bytes words.now ≡ ending Backend.Svg) }
-{
-    let [flat] = words else {
-        return false;
-    };
-    is_word(flat, "--flat")
-}
-
-/// Whether the backend draws outlines.
-fn is_drawn(backend: Backend) -> bool
-    ensures { result ≡ is_drawn backend }
-{
-    matches!(backend, Backend::Svg)
 }
 
 fn is_word(word: &String, text: &str) -> bool
@@ -199,16 +220,18 @@ fn is_word(word: &String, text: &str) -> bool
     word.as_str() == text
 }
 
-/// The backend of this word, if it is one of those that the program has.
+/// The backend of this word.
 fn backend_of(word: &str) -> Option<Backend>
     ensures named { IfSome result (λ backend. word.now ≡ backend_word backend) }
-    ensures offered { IfSome result IsBackend }
-    ensures unnamed { IfNone result ((backend : Backend) → word.now ≡ backend_word backend → IsBackend backend → ⊥) }
+    ensures unnamed { IfNone result ((backend : Backend) → word.now ≡ backend_word backend → ⊥) }
 {
     match word {
+        "eps" => Some(Backend::Eps),
+        "svg" => Some(Backend::Svg),
+        "dxf" => Some(Backend::Dxf),
+        "geojson" => Some(Backend::GeoJson),
         "points" => Some(Backend::Points),
         "polygons" => Some(Backend::Polygons),
-        "svg" => Some(Backend::Svg),
         _ => None,
     }
 }

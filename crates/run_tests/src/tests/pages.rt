@@ -90,7 +90,7 @@ fn worked_outlines(rt: HostRuntime) -> Result<(), Fail> {
         "M40 80 c-40 0 -40 0 -40 -40 c0 -40 0 -40 40 -40 c40 0 40 0 40 40 c0 40 0 40 -40 40 z";
     let sharp = "M40 80 l-40 0 l0 -40 l0 -40 l40 0 l40 0 l0 40 l0 40 l-40 0 z";
     let dot = "M5 10 c-3 0 -5 -2 -5 -5 c0 -3 2 -5 5 -5 c3 0 5 2 5 5 c0 3 -2 5 -5 5 z";
-    let cases: [(&str, &[u8], u32, &str); 4] = [
+    let cases: [(&str, &[u8], u32, &str); 6] = [
         (
             "-b svg -z minority -t 2 -a 1.000001 -n --flat",
             square,
@@ -100,6 +100,14 @@ fn worked_outlines(rt: HostRuntime) -> Result<(), Fail> {
         // The sharpness of all four vertices is exactly 1.
         ("-b svg -z minority -t 2 -n --flat", square, 8, sharp),
         ("-b svg -z minority -t 0 -n --flat", b"P1 1 1 1\n", 1, dot),
+        // In a rectangle no two curves may be joined.
+        ("-b svg -z minority -t 0 --flat", b"P1 1 1 1\n", 1, dot),
+        (
+            "-b svg -z minority -t 0 -O 0.5 --flat",
+            b"P1 1 1 1\n",
+            1,
+            dot,
+        ),
         (
             "-b svg -z minority -t 0 -k 0.4 -i -a 1 -n --flat",
             b"P2 1 1 10 5",

@@ -1,4 +1,4 @@
-use Rattle.std.proofs.Common.{◌≡◌, ◌≤◌, ◌*◌, ◌^◌, ℤ, w64, sym, subst, arith, rules}
+use Rattle.std.proofs.Common.{◌≤◌, ◌^◌, ℤ, w64, sym, subst, rules}
 use Rattle.std.specs.Prelude.{unsigned_abs}
 use Rattle.std.specs.Int.RustNames.{FitsSigned}
 use Rattle.curve_join.proofs.Mixing.{weights, second_of, third_of, two_fit, three_fit, four_fit, mixed_is, mixed_most, rounded_fits}

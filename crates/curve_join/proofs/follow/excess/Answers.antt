@@ -1,6 +1,6 @@
 use Rattle.std.proofs.Common.{arith}
 use Rattle.std.proofs.lemmas.Int.{ints}
-use Rattle.curve_join.proofs.Following.{excess_there, excess_small, clipped, unclipped}
+use Rattle.curve_join.proofs.Following.{excess_there, clipped, unclipped}
 use Rattle.curve_join.proofs.follow.excess.Goals as goal
 
 pub returns-then-excess-lt0-clause-value : goal.returns-then-excess-lt0-clause-value

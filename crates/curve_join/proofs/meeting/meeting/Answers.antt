@@ -1,4 +1,4 @@
-use Rattle.std.proofs.Common.{◌≡◌, ◌≤◌, ◌^◌, pos, ◌<ℤ◌, ◌≤ℤ◌, w64, to_z, of_z, ◌∙◌, subst, sym, ap, ℤ, arith}
+use Rattle.std.proofs.Common.{◌^◌, ◌∙◌, subst, ap, arith}
 use Rattle.std.proofs.lemmas.Int.{ints}
 use Rattle.std.specs.Prelude.{unsigned_abs}
 use Rattle.curve_join.proofs.Fitting.{back}

@@ -1,4 +1,4 @@
-use Rattle.std.proofs.Common.{pos, ◌<ℤ◌, w64, to_z, of_z, ◌∙◌, arith}
+use Rattle.std.proofs.Common.{w64, to_z, of_z, ◌∙◌, arith}
 use Rattle.std.proofs.lemmas.Int.{ints}
 use Rattle.curve_join.proofs.Crossing.{at_back, first_least, least_found}
 use Rattle.curve_join.proofs.touch.halved.Goals as goal

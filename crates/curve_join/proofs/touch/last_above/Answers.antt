@@ -1,4 +1,4 @@
-use Rattle.std.proofs.Common.{◌≡◌, ◌+◌, ℕ, ℤ, pos, ◌≤ℤ◌, w64, to_z, of_z, subst, arith}
+use Rattle.std.proofs.Common.{◌≡◌, ◌+◌, ℤ, pos, ◌≤ℤ◌, w64, to_z, of_z, subst, arith}
 use Rattle.curve_join.specs.Cubic.{quadratic}
 use Rattle.curve_join.proofs.Crossing.{quadratic_back}
 use Rattle.curve_join.proofs.touch.last_above.Goals as goal

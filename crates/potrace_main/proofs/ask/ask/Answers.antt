@@ -1,8 +1,8 @@
-use Rattle.std.proofs.Common.{◌≡◌, Bool, true, false, codes, map, subst, sym, rules}
-use Rattle.std.specs.Bool.{IsTrue}
+use Rattle.std.proofs.Common.{◌≡◌, ◌≢◌, List, [], ◌∷◌, false, length, codes, map, subst, sym}
+use Rattle.std.specs.Prelude.{◌==◌}
 use Rattle.std.specs.String.{string_bytes}
 use Rattle.potrace_main.specs.Asked.{TakesNumber}
-use Rattle.potrace_main.proofs.Asking.{asks_nothing, no_alphamax, no_tolerance, one_head}
+use Rattle.potrace_main.proofs.Asking.{asks_nothing, no_alphamax, no_tolerance, no_unit, one_head}
 use Rattle.potrace_main.proofs.ask.ask.Goals as goal
 
 pub returns-in_err-head-clause-refused : goal.returns-in_err-head-clause-refused
@@ -37,13 +37,10 @@ returns-in_err-tolerance-clause-refused c =
     })
     c.word_after-long_curve.ensures c.in_err-tolerance.ensures.refused)
 
-both_ways : (b : Bool) → IsTrue b → b ≡ false → ⊥
-both_ways true t e = cc
-both_ways false t e = search rules
-
-pub returns-then-not-are_ending-clause-refused : goal.returns-then-not-are_ending-clause-refused
-returns-then-not-are_ending-clause-refused c =
-    asks_nothing _ (map string_bytes c.in_ok-tolerance.options.now) c.in_ok-head.head c.in_ok-level.level _ c.in_ok-alphamax.alphamax _ c.in_ok-tolerance.tolerance
+pub returns-in_err-unit-clause-refused : goal.returns-in_err-unit-clause-refused
+returns-in_err-unit-clause-refused c =
+    rw c.from_residual-in_err-unit.ensures
+    (no_unit _ (map string_bytes c.in_ok-tolerance.options.now) c.in_ok-head.head c.in_ok-level.level _ c.in_ok-alphamax.alphamax _ c.in_ok-tolerance.tolerance
     (record {
       after_alphamax = map string_bytes c.in_ok-alphamax.options.now;
       after_curve = _;
@@ -59,4 +56,29 @@ returns-then-not-are_ending-clause-refused c =
       takes_curve = c.word_after-long_curve.ensures;
       takes_tolerance = c.in_ok-tolerance.ensures.taken;
     })
-    (λ e. both_ways c.are_ending.result (c.are_ending.ensures.1 e) c.if-not-are_ending.true)
+    c.in_err-unit.ensures.refused)
+
+words_left : {A B : Type 0} (f : A → B) (xs : List A) → false ≡ (length xs == 0) → map f xs ≢ []
+words_left f [] e m = cc
+words_left f (x ∷ xs) e m = cc
+
+pub returns-then-not-is_empty-clause-refused : goal.returns-then-not-is_empty-clause-refused
+returns-then-not-is_empty-clause-refused c =
+    asks_nothing _ (map string_bytes c.in_ok-tolerance.options.now) (map string_bytes c.in_ok-unit.options.now) _ c.in_ok-head.head c.in_ok-level.level _
+    c.in_ok-alphamax.alphamax _ c.in_ok-tolerance.tolerance c.in_ok-unit.unit _
+    (record {
+      after_alphamax = map string_bytes c.in_ok-alphamax.options.now;
+      after_curve = _;
+      reads = record {
+        options = map string_bytes c.in_ok-head.options.now;
+        after_level = map string_bytes c.in_ok-level.options.now;
+        after_invert = _;
+        begins = c.in_ok-head.ensures.begins;
+        takes_level = c.in_ok-level.ensures.taken;
+        takes_invert = c.word_after-invert.ensures;
+        takes_alphamax = c.in_ok-alphamax.ensures.taken;
+      };
+      takes_curve = c.word_after-long_curve.ensures;
+      takes_tolerance = c.in_ok-tolerance.ensures.taken;
+    })
+    c.in_ok-unit.ensures.taken c.word_after-flat.ensures (words_left string_bytes _ c.if-not-is_empty.ensures)

@@ -1,5 +1,4 @@
-use Rattle.std.proofs.Common.{ℕ, ◌≤◌, ◌^◌, ◌*◌, sym, subst, arith}
-use Rattle.pt_base.specs.declared.point.Point.{Point}
+use Rattle.std.proofs.Common.{◌≤◌, ◌^◌, ◌*◌, sym, subst, arith}
 use Rattle.curve_join.specs.Vector.{IsPlaced}
 use Rattle.curve_join.proofs.Fitting.{size_back, long_size_back}
 use Rattle.curve_join.proofs.Placing.{first_near, second_near, end_near, al_most}
