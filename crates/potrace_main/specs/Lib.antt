@@ -12,17 +12,17 @@ pub mod Messages
 -- What the words of the command line ask for.
 --   policy_word: the word of a policy (the potrace manual page, option "turnpolicy")
 --   backend_word: the word of a backend
---   IsBackend: the backends that the program has
---   is_drawn: the backend draws outlines
---   ending: the words that end those of a backend
 --   greatest_speckle: the greatest speckle limit
 --   form: the words `-b BACKEND -z POLICY -t N`, and then others
 --   IsValued: the three values name a backend, a policy and a speckle limit
 --   Begins: the words begin with these values, and the options follow
 --   LacksWord: the words don't begin with this one
---   TakesNumber: where the words begin with this name
+--   TakesValue: the words begin with this name and a number, or not
+--   SpellsNumber: the text is a decimal number of n millionths, at most so many
+--   SpellsWhole: the text is the whole number n, in this range
+--   TakesNumber: the number behind this name is a decimal one
+--   TakesWhole: the number behind this name is a whole one
 --   TakesWord: whether the words begin with this one
---   IsDefault: the settings that no word of its own changes
 --   IsAsked: the words ask for pages to be read, traced and written so
 --   IsOffered: the program can do what the settings say
 pub mod Asked
