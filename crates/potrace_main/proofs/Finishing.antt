@@ -7,6 +7,7 @@ use Rattle.pt_base.specs.Files.{Files, Lacks, unread, unread_of, with_file}
 use Rattle.pt_base.specs.Documents.{Documents, IsCutOff, IsSaid}
 use Rattle.bitmap_input.specs.Cut.{Ending, Kind}
 use Rattle.bitmap_input.specs.Cut.Ending.{End, Trailing, Refused}
+use Rattle.bitmap_input.specs.FaultText.{cause_text, fault_text, kind_text}
 use Rattle.bitmap_input.specs.Reading.{cause_of_fault}
 use Rattle.bitmap_input.specs.Reading.Cause.{Says}
 use Rattle.bitmap_input.specs.Raw.{Raw}
@@ -14,11 +15,11 @@ use Rattle.bitmap_input.specs.Front.{front}
 use Rattle.bitmap_input.specs.Front.Answer.{Page as Gives, Ends}
 use Rattle.bitmap_input.specs.declared.fault.InFault.{InFault}
 use Rattle.potrace_main.specs.Messages.{bad_words, dash, not_opened, not_written, out_of_memory, page_line, trailing_line}
-use Rattle.potrace_main.specs.Items.{Item, AreInputItems, kind_text, most_pages, too_many}
+use Rattle.potrace_main.specs.Items.{Item, AreInputItems, most_pages, too_many}
 use Rattle.potrace_main.specs.Items.Item.{Doc, Missing, Note, Stop}
 use Rattle.potrace_main.specs.Outcome.{AreSaid, GoesOn, IsDone, IsOutOfMemory, IsRefused, IsUnwritten, notes, with_items}
 use Rattle.potrace_main.specs.Progress.{InputCount, OutputCount, AreTraced, BeginsWith, EndsBy, Traces, docs, is_later}
-use Rattle.potrace_main.specs.Run.{EndsRefused, IsComplete, IsOutcome, IsToldBy, IsWritten, SaysEnd, cause_text, fault_text, status_of}
+use Rattle.potrace_main.specs.Run.{EndsRefused, IsComplete, IsOutcome, IsToldBy, IsWritten, SaysEnd, status_of}
 use Rattle.pt_base.specs.declared.settings.Settings.{Settings}
 use Rattle.potrace_main.specs.declared.pages.PagesEnd.{PagesEnd}
 use Rattle.potrace_main.specs.declared.pages.PagesEnd.TheVariants as why

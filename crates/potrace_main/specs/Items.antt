@@ -2,9 +2,9 @@
 use Rattle.std.specs.Prelude.{◌≡◌, ℕ, suc, ◌+◌, ◌<◌, ◌≤◌, ◌⊎◌, false, List, [], ◌∷◌, codes, None, Some}
 use Rattle.std.specs.FinMap.{get}
 use Rattle.pt_base.specs.Files.{Files}
-use Rattle.bitmap_input.specs.Cut.{Kind, Ending}
-use Rattle.bitmap_input.specs.Cut.Kind.{UnknownFormat, BadHeader, ZeroSide, TooLarge, Truncated, BadRaster, BmpKind, BadOffset, TooLong}
+use Rattle.bitmap_input.specs.Cut.{Ending}
 use Rattle.bitmap_input.specs.Cut.Ending.{End, Trailing, Refused}
+use Rattle.bitmap_input.specs.FaultText.{kind_text}
 use Rattle.bitmap_input.specs.Raw.{Raw, shown}
 use Rattle.bitmap_input.specs.FilePages.{FilePages}
 use Rattle.potrace_main.specs.Messages.{dash, page_line, trailing_line}
@@ -22,18 +22,6 @@ pub data Item : Type 0 where
 -- how many pages a run accepts
 abbrev pub most_pages : ℕ
 most_pages = 65536
-
--- why a page is refused, as the message tells it
-abbrev pub kind_text : Kind → List ℕ
-kind_text UnknownFormat = codes "unknown format"
-kind_text BadHeader = codes "bad header"
-kind_text ZeroSide = codes "zero side"
-kind_text TooLarge = codes "side too large"
-kind_text Truncated = codes "truncated"
-kind_text BadRaster = codes "bad raster"
-kind_text BmpKind = codes "unsupported BMP kind"
-kind_text BadOffset = codes "bad BMP offset"
-kind_text TooLong = codes "gap too long"
 
 -- the pages of the run are more than it accepts
 abbrev pub too_many : List ℕ

@@ -7,7 +7,6 @@
 --   not_written: a document couldn't be written
 --   trailing_line: the bytes after so many pages of a file begin no page
 --   read_fault: a read failed
---   no_memory: memory was wanting for a page
 pub mod Messages
 -- What the words of the command line ask for.
 --   policy_word: the word of a policy (the potrace manual page, option "turnpolicy")
@@ -29,7 +28,6 @@ pub mod Asked
 -- What a run is to write, in order.
 --   Item: one thing to write
 --   most_pages: how many pages a run accepts
---   kind_text: why a page is refused, as the message tells it
 --   too_many: the pages of the run are more than it accepts
 --   end_items: what follows the documents of a file of so many pages that ends like this
 --   AreItems: These are the items of the pages of a file, after so many pages before
@@ -71,7 +69,5 @@ pub mod Progress
 --   IsToldBy: the message that belongs to the status of a run that wrote so many documents
 --   IsWritten: the documents are the texts of some pages, in order
 --   status_of: the status with which the run ends
---   cause_text: why a page can't be read, as the message tells it
---   fault_text
 --   SaysEnd: what is said where the run ends so after k pages
 pub mod Run

@@ -33,7 +33,3 @@ trailing_line name pages = concat (codes "potrace: " ∷ name ∷ codes ": trail
 -- a read failed
 abbrev pub read_fault : List ℕ
 read_fault = codes "read fault"
-
--- memory was wanting for a page
-abbrev pub no_memory : List ℕ
-no_memory = codes "out of memory"

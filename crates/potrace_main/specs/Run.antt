@@ -4,13 +4,10 @@ use Rattle.pt_base.specs.Counts.{next_count}
 use Rattle.pt_base.specs.Documents.{Documents, IsCutOff, IsSaid}
 use Rattle.pt_base.specs.Files.{Files}
 use Rattle.bitmap_input.specs.Raw.{Raw}
-use Rattle.bitmap_input.specs.declared.fault.InFault.{InFault}
 use Rattle.bitmap_input.specs.Cut.{Kind}
-use Rattle.bitmap_input.specs.Cut.Ending.{End, Trailing, Refused}
-use Rattle.bitmap_input.specs.Reading.{Cause, cause_of_fault}
-use Rattle.bitmap_input.specs.Reading.Cause.{Says, Device, Memory}
-use Rattle.potrace_main.specs.Messages.{dash, bad_words, no_memory, not_opened, not_written, out_of_memory, page_line, trailing_line, read_fault}
-use Rattle.potrace_main.specs.Items.{Item, kind_text, most_pages, too_many}
+use Rattle.bitmap_input.specs.FaultText.{fault_text, kind_text}
+use Rattle.potrace_main.specs.Messages.{dash, bad_words, not_opened, not_written, out_of_memory, page_line, trailing_line, read_fault}
+use Rattle.potrace_main.specs.Items.{Item, most_pages, too_many}
 use Rattle.potrace_main.specs.Items.Item.{Stop}
 use Rattle.potrace_main.specs.Outcome.{GoesOn, IsDone, IsRefused, IsUnwritten, IsOutOfMemory, with_items}
 use Rattle.potrace_main.specs.Progress.{AreTraced, docs, opened_name}
@@ -71,17 +68,6 @@ status_of why.TooMany = 2
 status_of why.Unread = 3
 status_of why.Unwritten = 4
 status_of why.OutOfMemory = 5
-
--- why a page can't be read, as the message tells it
-abbrev pub cause_text : Cause → List ℕ
-cause_text (Says (Refused kind)) = kind_text kind
-cause_text (Says End) = []
-cause_text (Says Trailing) = []
-cause_text Device = read_fault
-cause_text Memory = no_memory
-
-abbrev pub fault_text : InFault → List ℕ
-fault_text fault = cause_text (cause_of_fault fault)
 
 -- what is said where the run ends so after k pages
 abbrev pub SaysEnd : PagesEnd → ℕ → Option Documents → Option Documents → ℕ → ℕ → Type 0

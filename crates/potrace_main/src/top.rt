@@ -5,7 +5,7 @@ ghost use Rattle.pt_base.specs.Files.{Lacks};
 ghost use Rattle.potrace_main.specs.Asked.{IsAsked};
 ghost use Rattle.potrace_main.specs.Items.{Item, AreInputItems};
 ghost use Rattle.potrace_main.specs.Messages.{dash};
-ghost use Rattle.potrace_main.specs.Run.{IsComplete, IsOutcome, IsToldBy, IsWritten, OpensOnly, SaysEnd, fault_text, status_of};
+ghost use Rattle.potrace_main.specs.Run.{IsComplete, IsOutcome, IsToldBy, IsWritten, OpensOnly, SaysEnd, status_of};
 ghost use Rattle.pt_base.specs.declared.settings.Settings.{Settings};
 
 use crate::ask::ask;
@@ -13,7 +13,6 @@ use crate::message::{
     say_bad_words, say_not_opened, say_not_written, say_of_page, say_out_of_memory, say_trailing,
 };
 use crate::pages::{PagesEnd, Traced, trace_pages};
-use bitmap_input::fault::InFault;
 use bitmap_input::reader::PageReader;
 use pt_base::gate::Gate;
 use pt_base::inputs::Inputs;
@@ -117,7 +116,7 @@ fn finish<E: Sink>(errs: &mut E, traced: Traced) -> u8
             0
         }
         PagesEnd::Refused(fault) => {
-            say_of_page(errs, "-", u64::from(traced.pages) + 1, text_of(fault));
+            say_of_page(errs, "-", u64::from(traced.pages) + 1, fault.text());
             2
         }
         PagesEnd::TooMany => {
@@ -136,24 +135,5 @@ fn finish<E: Sink>(errs: &mut E, traced: Traced) -> u8
             say_out_of_memory(errs);
             5
         }
-    }
-}
-
-/// Why a page is refused, as the message tells it.
-fn text_of(fault: InFault) -> &'static str
-    ensures { result.now ≡ fault_text fault }
-{
-    match fault {
-        InFault::UnknownFormat => "unknown format",
-        InFault::BadHeader => "bad header",
-        InFault::ZeroSide => "zero side",
-        InFault::TooLarge => "side too large",
-        InFault::Truncated => "truncated",
-        InFault::BadRaster => "bad raster",
-        InFault::BmpKind => "unsupported BMP kind",
-        InFault::BadOffset => "bad BMP offset",
-        InFault::TooLong => "gap too long",
-        InFault::ReadFault => "read fault",
-        InFault::NoMemory => "out of memory",
     }
 }
