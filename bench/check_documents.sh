@@ -45,7 +45,7 @@ sides() {
 trace() {
   local format
   for format in svg eps dxf geojson; do
-    "$top/potrace" -b "$format" <"$1.pbm" >"$1.$format"
+    "$top/potrace" -b "$format" -z minority -t 2 <"$1.pbm" >"$1.$format"
   done
 }
 
