@@ -62,7 +62,8 @@ fn possible_round_rectangles(rt: HostRuntime) -> Result<(), Fail> {
 #[test]
 fn farthest_round_a_scan(rt: HostRuntime) -> Result<(), Fail> {
     let points = round(rt.alloc(), 2480, 3508)?;
-    assert!(rt; points.len() == 11_976 && is_closed_walk(&points));
+    assert_eq!(rt; points.len(), 11_976);
+    assert!(rt; is_closed_walk(&points));
     let reach = Reach::of(rt.alloc(), &points)?;
     for (i, far) in [
         (0, 3508),
