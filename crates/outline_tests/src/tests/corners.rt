@@ -1,5 +1,6 @@
 //! Pieces that were worked out by hand.
-ghost use Rattle.std.specs.Prelude.{◌≡◌};
+ghost use Rattle.std.specs.Prelude.{◌≡◌, All, length};
+ghost use Rattle.corner_smooth.specs.Corner.{IsNearWidePage};
 
 use corner_smooth::outline::smooth;
 use pt_base::piece::Piece;
@@ -11,6 +12,15 @@ fn at(x: i32, y: i32) -> Point
     ensures y { result.y ≡ y }
 {
     Point { x, y }
+}
+
+/// The vertices of a square with one at 0.
+fn square_of(side: u16) -> [Point; 4]
+    ensures near { All IsNearWidePage result }
+    ensures four { length result ≡ 4 }
+{
+    let side = i32::from(side);
+    [at(0, side), at(0, 0), at(side, 0), at(side, side)]
 }
 
 fn corner(at: Point, end: Point) -> Piece {
@@ -30,8 +40,9 @@ fn curve(first: Point, second: Point, end: Point, al: u32) -> Piece {
 // of a pixel is not sharp at all, but no blunter than 0.55.
 #[test]
 fn corners_as_sharp_as_asked(rt: HostRuntime) -> Result<(), Fail> {
-    for (side, alphamax) in [(8192, 1_000_000), (5120, 800_000), (1024, 0)] {
-        let square = [at(0, side), at(0, 0), at(side, 0), at(side, side)];
+    for (side, alphamax) in [(8192u16, 1_000_000), (5120, 800_000), (1024, 0)] {
+        let square = square_of(side);
+        let side = i32::from(side);
         let half = side / 2;
         let wanted = [
             corner(at(0, side), at(0, half)),
@@ -49,14 +60,15 @@ fn corners_as_sharp_as_asked(rt: HostRuntime) -> Result<(), Fail> {
 fn curves_of_less_sharp_corners(rt: HostRuntime) -> Result<(), Fail> {
     // The side; where the first control stands, and the second one, by the way from the corner.
     let table = [
-        (8192, 1_000_001, 0, 8192, 65536),
+        (8192u16, 1_000_001, 0, 8192, 65536),
         (5120, 800_001, 512, 4607, 52428),
         (1024, 1, 230, 793, 36045),
         // Sharper, but no rounder than 1.
         (16384, 1_000_000_000, 0, 16384, 65536),
     ];
     for (side, alphamax, near, far, al) in table {
-        let square = [at(0, side), at(0, 0), at(side, 0), at(side, side)];
+        let square = square_of(side);
+        let side = i32::from(side);
         let half = side / 2;
         let wanted = [
             curve(at(near, side), at(0, far), at(0, half), al),
