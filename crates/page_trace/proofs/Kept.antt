@@ -4,7 +4,6 @@ use Rattle.std.proofs.Common.{◌≡◌, ℕ, ◌%◌, ◌<◌, ◌≤◌, List,
 use Rattle.std.specs.Prelude.{nat_lt}
 use Rattle.std.proofs.lemmas.Int.{ints}
 use Rattle.std.proofs.lemmas.List.Elements.{All-filter}
-use Rattle.std.proofs.lemmas.List.Sums.{count_by-le-length, length-filter}
 use Rattle.std.proofs.Math.Nat.{mod-lt}
 use Rattle.pt_base.specs.ClosedWalk.{IsClosedWalk, origin}
 use Rattle.pt_base.specs.OnPage.{AreOnPage}
@@ -39,7 +38,3 @@ wider width height p w h corner = record {
 pub all_wider : (width height : ℕ) → width ≤ 32767 → height ≤ 32767 → (paths : List Path) → All (λ path. All (IsCornerOf width height) path.points) paths
     → All (λ path. All (IsCornerOf 32767 32767) path.points) paths
 all_wider width height w h paths corners = λ k d below i e within. wider width height _ w h (corners k d below i e within)
-
--- no more paths are kept than there are
-pub kept_few : (turd n : ℕ) (all paths : List Path) → paths ≡ kept turd all → length all ≤ n → length paths ≤ n
-kept_few turd n all paths is few = rw is (omega (arith, length-filter (λ path. nat_lt turd path.area) all, count_by-le-length (λ path. nat_lt turd path.area) all))

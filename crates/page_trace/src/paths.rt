@@ -6,8 +6,7 @@ ghost use Rattle.pt_base.specs.OnPage.{AreOnPage};
 ghost use Rattle.page_trace.specs.Trace.{ArePaths};
 
 use bit_image::bitmap::Bitmap;
-use path_decompose::decomposition::decompose;
-use path_decompose::speckle::keep;
+use path_decompose::decomposition::decompose_above;
 use pt_base::fault::NoMemory;
 use pt_base::path::Path;
 use pt_base::settings::Settings;
@@ -28,8 +27,8 @@ pub(crate) fn kept_paths(
         (λ paths. All (λ path. pos 1 ≤ℤ (point_at path.points 0).y) paths.items) }
     ensures few { IfOk result (λ paths. length paths.items < 2 ^ 32) }
 {
-    let paths = decompose(alloc, page, settings.policy)?;
+    let paths = decompose_above(alloc, page, settings.policy, settings.turd)?;
     // The proof reads here how long the page's sides are at most.
     let _ = page.width();
-    Ok(keep(paths, settings.turd))
+    Ok(paths)
 }

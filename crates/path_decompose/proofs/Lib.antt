@@ -20,6 +20,7 @@ pub mod Corners
 pub mod Keys
 pub mod Pairs
 pub mod Prefix
+pub mod Above
 pub mod PathOn
 pub mod Rows
 mod Examples

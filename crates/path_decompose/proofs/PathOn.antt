@@ -8,20 +8,11 @@ use Rattle.pt_base.specs.declared.policy.Policy.{Policy}
 use Rattle.pt_base.specs.declared.point.Point.{Point}
 use Rattle.bit_image.specs.Image.{Image, Fits}
 use Rattle.bit_image.specs.Page.{Page, IsPage, image_of}
-use Rattle.path_decompose.specs.Bounds.{IsCornerOf}
+use Rattle.path_decompose.specs.Bounds.{IsCornerOf, IsPathOn}
 use Rattle.path_decompose.specs.Decomposition.{inverted, IsNextPath, IsDecomposed, IsDecomposition}
-use Rattle.path_decompose.specs.Inside.{inside}
 use Rattle.path_decompose.specs.Walk.{start_of, first_edge}
 use Rattle.path_decompose.proofs.ClosedWalk.{closed_walk, corners, point_of_round}
 use Rattle.path_decompose.proofs.NextPath.{next_circuit, next_fits, fits_inverted}
-
--- a closed walk over the corners of a page of this width and height, that starts above row 0's lower sides, with
--- nothing inside that lies off the page
-pub record IsPathOn (width height : ℕ) (path : Path) : Type 0 where
-  pub closed : IsClosedWalk path.points
-  pub on_page : All (IsCornerOf width height) path.points
-  pub starts_above : pos 1 ≤ℤ (point_at path.points 0).y
-  pub inside_on_page : Fits (inside path.points) width height
 
 one_above : (points : List Point) (x y : ℕ) → point_at points 0 ≡ start_of (first_edge x y) → pos 1 ≤ℤ (point_at points 0).y
 one_above points x y at =

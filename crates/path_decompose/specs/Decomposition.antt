@@ -1,6 +1,6 @@
 -- The decomposition of a page into paths (Selinger, "Potrace", 2003, section 2.1.1), and the removal of
 -- speckles (section 2.1.3).
-use Rattle.std.specs.Prelude.{◌≡◌, ℕ, cond, List, [], ◌∷◌, filter, nat_lt}
+use Rattle.std.specs.Prelude.{◌≡◌, ℕ, Bool, true, cond, List, [], ◌∷◌, filter, nat_lt, Option, None, Some}
 use Rattle.pt_base.specs.declared.point.Point.{Point}
 use Rattle.pt_base.specs.declared.path.Path.{Path}
 use Rattle.pt_base.specs.declared.path.Sign.{Sign}
@@ -44,3 +44,12 @@ IsDecomposition page policy paths = IsDecomposed page policy (image_of page) pat
 -- the paths that are no speckles: those with more than t pixels inside, in order
 abbrev pub kept : ℕ → List Path → List Path
 kept t paths = filter (λ path. nat_lt t path.area) paths
+
+-- the path has more pixels inside than the limit, where there is one
+abbrev pub is_above : Option ℕ → Path → Bool
+is_above None path = true
+is_above (Some t) path = nat_lt t path.area
+
+-- the paths above the limit, in order
+abbrev pub above : Option ℕ → List Path → List Path
+above limit paths = filter (is_above limit) paths

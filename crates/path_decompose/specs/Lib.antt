@@ -23,8 +23,9 @@ pub mod Walk
 --   inside: the pixels inside a path of these points
 --   black_count: how many pixels of the first columns and the first rows are black
 pub mod Inside
--- Where the points of a path lie.
+-- Where the points of a path lie, and the pixels inside.
 --   IsCornerOf: the point is a corner of a pixel of a page of this width and height
+--   IsPathOn: a closed walk over the corners of a page of this width and height, that starts above row 0's lower sides
 pub mod Bounds
 -- The upright lines of a path as numbers, so that their order is that of rows.
 --   key_of: the key of a line, where it is upright
@@ -43,6 +44,8 @@ pub mod Start
 --   IsDecomposed: these paths come, one after another, where the page has become the image b
 --   IsDecomposition: the paths of a page under a policy
 --   kept: the paths that are no speckles
+--   is_above: the path has more pixels inside than the limit, where there is one
+--   above: the paths above the limit, in order
 pub mod Decomposition
 -- What the paths of a page come to together.
 --   IsEvenOdd: a pixel is black exactly where it is inside an odd number of the paths

@@ -1,14 +1,15 @@
 //! The paths of a page, one after another.
-ghost use Rattle.std.specs.Prelude.{◌≡◌, ℕ, ◌*◌, ◌<◌, ◌≤◌, ◌≤ℤ◌, pos, All, length, OnOk, IfOk};
+ghost use Rattle.std.specs.Prelude.{◌≡◌, ℕ, ◌+◌, ◌*◌, ◌<◌, ◌≤◌, ◌≤ℤ◌, pos, List, [], ◌∷◌, ◌++◌, All, length, OnOk, OnErr, IfOk};
 ghost use Rattle.pt_base.specs.ClosedWalk.{point_at, IsClosedWalk};
 ghost use Rattle.bit_image.specs.FirstBlack.{IsFirstBlack};
 ghost use Rattle.bit_image.specs.Image.{Fits};
 ghost use Rattle.bit_image.specs.Page.{SameSides, image_of};
-ghost use Rattle.path_decompose.specs.Bounds.{IsCornerOf};
-ghost use Rattle.path_decompose.specs.Decomposition.{sign_at, inverted, IsNextPath, IsDecomposition};
+ghost use Rattle.path_decompose.specs.Bounds.{IsCornerOf, IsPathOn};
+ghost use Rattle.path_decompose.specs.Decomposition.{above, is_above, kept, sign_at, inverted, IsNextPath, IsDecomposition};
 ghost use Rattle.path_decompose.specs.Inside.{inside};
 ghost use Rattle.path_decompose.specs.Start.{IsWhiteThrough, IsStart};
 ghost use Rattle.path_decompose.specs.Sums.{IsEvenOdd, IsEdgesOnce};
+ghost use Rattle.pt_base.specs.declared.path.Path.{Path};
 
 use crate::inversion::invert;
 use crate::walk::walk_round;
@@ -40,16 +41,87 @@ pub fn decompose(alloc: Global, page: &Bitmap, policy: Policy) -> Result<Vec<Pat
     ensures even_odd { IfOk result (λ paths. IsEvenOdd (image_of page.now) paths.items) }
     ensures edges_once { IfOk result (λ paths. IsEdgesOnce (image_of page.now) paths.items) }
 {
+    let paths = found(alloc, page, policy, None)?;
+    Ok(paths)
+}
+
+/// The paths of a page with more than `most` pixels inside, in the order in which they are found: those
+/// with at most so many are speckles.
+///
+/// Each speckle is dropped before the next path is looked for, so that a page of speckles takes no more
+/// room than its copy.
+pub fn decompose_above(
+    alloc: Global,
+    page: &Bitmap,
+    policy: Policy,
+    most: u32,
+) -> Result<Vec<Path>, NoMemory>
+    ensures kept { IfOk result (λ paths. (all : List Path) × IsDecomposition page.now policy all
+        × IsEvenOdd (image_of page.now) all × IsEdgesOnce (image_of page.now) all
+        × (paths.items ≡ kept most all)) }
+
+    // Each path is a closed walk over corners of the page, starts above row 0's lower sides, and has only
+    // pixels of the page inside.
+    ensures closed { IfOk result (λ paths. All (λ path. IsClosedWalk path.points) paths.items) }
+    ensures corners { IfOk result
+        (λ paths. All (λ path. All (IsCornerOf page.now.width page.now.height) path.points)
+        paths.items) }
+    ensures starts { IfOk result
+        (λ paths. All (λ path. pos 1 ≤ℤ (point_at path.points 0).y) paths.items) }
+    ensures insides { IfOk result
+        (λ paths. All (λ path. Fits (inside path.points) page.now.width page.now.height)
+        paths.items) }
+    ensures few { IfOk result (λ paths. length paths.items ≤ page.now.width * page.now.height) }
+{
+    let paths = found(alloc, page, policy, Some(most))?;
+    Ok(paths)
+}
+
+/// The paths of a page above a limit, where there is one.
+fn found(
+    alloc: Global,
+    page: &Bitmap,
+    policy: Policy,
+    limit: Option<u32>,
+) -> Result<Vec<Path>, NoMemory>
+    ensures found { IfOk result (λ paths. (all : List Path) × IsDecomposition page.now policy all
+        × (paths.items ≡ above limit all)) }
+    ensures on_page { IfOk result
+        (λ paths. All (IsPathOn page.now.width page.now.height) paths.items) }
+    ensures few { IfOk result (λ paths. length paths.items ≤ page.now.width * page.now.height) }
+{
     let mut rest = page.copy(alloc)?;
     let mut keys = Vec::new(alloc);
     let mut paths = Vec::new(alloc);
     let mut start = rest.first_black(rest.height() - 1);
     'paths: while let Some((x, y)) = start {
         let path = next_path(alloc, page, &mut rest, x, y, policy, &mut keys)?;
-        paths.push(path)?;
+        push_above(&mut paths, path, limit)?;
         start = start_after(&rest, x, y);
     }
     Ok(paths)
+}
+
+/// Adds a path, where it is above the limit.
+fn push_above(paths: &mut Vec<Path>, path: Path, limit: Option<u32>) -> Result<(), NoMemory>
+    ensures added { OnOk result
+        (paths.new.items ≡ paths.old.items ++ above limit (path ∷ [])) }
+    ensures more { OnOk result (length paths.new.items ≤ length paths.old.items + 1) }
+    ensures kept { OnErr result (paths.new.items ≡ paths.old.items) }
+{
+    if is_above(&path, limit) {
+        paths.push(path)?;
+    }
+    Ok(())
+}
+
+fn is_above(path: &Path, limit: Option<u32>) -> bool
+    ensures { result ≡ is_above limit path.now }
+{
+    match limit {
+        None => true,
+        Some(most) => path.area > u64::from(most),
+    }
 }
 
 /// The path from the first black pixel, pixel (x, y); its inside is inverted in `rest`.

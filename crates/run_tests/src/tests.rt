@@ -4,5 +4,6 @@ mod cases;
 mod documents;
 mod failing;
 mod formats;
+mod one_picture;
 mod pages;
 mod refusals;
