@@ -11,6 +11,8 @@
 #![tactic(auto)]
 
 pub mod laws;
+mod marks;
 pub mod steps;
 mod suffixes;
 pub mod walk;
+pub mod windows;
