@@ -6,7 +6,7 @@ use Rattle.least_walk.specs.Suffix.{HasCosts, HasNexts, IsLeastCost, IsLeastNext
 use Rattle.least_walk.specs.Places.{IsPlace}
 
 -- what holds of each value from `i + 1` on, and of the new one at i, holds from i on
-filled : (Holds : ℕ → ℕ → Type 0) (values : List ℕ) (i v : ℕ) → i < length values → Holds i v
+pub filled : (Holds : ℕ → ℕ → Type 0) (values : List ℕ) (i v : ℕ) → i < length values → Holds i v
     → ((k : ℕ) → i < k → Holds k (get_or values k 0))
     → (k : ℕ) → i ≤ k → Holds k (get_or (set values i v) k 0)
 filled Holds values i v room here later k above =

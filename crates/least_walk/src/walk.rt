@@ -52,8 +52,10 @@ pub fn least<S: Steps>(alloc: Global, steps: &S) -> Result<Walk, NoMemory>
     walk_by(alloc, steps, &counts, &costs, &nexts)
 }
 
-/// The least walk, by what is known of each index.
-fn walk_by<S: Steps>(
+/// The least walk, by what is known of each index that walks of fewest steps go through.
+///
+/// For those who know more of their steps than `Steps` says, and find this faster than `least` does.
+pub fn walk_by<S: Steps>(
     alloc: Global,
     steps: &S,
     counts: &[u32],
