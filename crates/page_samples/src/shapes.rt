@@ -25,20 +25,25 @@ impl Shape {
             }
             Shape::Comb { width } => y < width || x / width.max(1) % 2 == 0,
             Shape::Disc => {
-                let across = (2 * x + 1).abs_diff(side);
-                let up = (2 * y + 1).abs_diff(side);
+                let across = twice_and_one(x).abs_diff(side);
+                let up = twice_and_one(y).abs_diff(side);
                 across
                     .saturating_mul(across)
                     .saturating_add(up.saturating_mul(up))
                     < side.saturating_mul(side)
             }
             Shape::Nest { width } => {
-                let in_x = x.min(side.saturating_sub(x + 1));
-                let in_y = y.min(side.saturating_sub(y + 1));
+                let in_x = x.min(side.saturating_sub(x.saturating_add(1)));
+                let in_y = y.min(side.saturating_sub(y.saturating_add(1)));
                 in_x.min(in_y) / width.max(1) % 2 == 0
             }
         }
     }
+}
+
+/// Twice as far as the middle of a pixel.
+fn twice_and_one(place: usize) -> usize {
+    place.saturating_mul(2).saturating_add(1)
 }
 
 /// A square page with a shape on it.
