@@ -1,9 +1,10 @@
 -- The definitions of least walks, on pictures.
-use Rattle.std.proofs.Common.{◌≡◌, ℕ, ◌+◌, ◌*◌, ◌≤◌, ◌⊎◌, List, [], ◌∷◌, suc, zero, refl, ap, subst, inl, inr, arith, lit<}
-use Rattle.std.specs.List.{Contains}
-use Rattle.least_walk.specs.LeastWalk.{Step, steps_of, step_count, total_cost, IsBefore, IsFewest, IsFewestStep, walk_from}
+use Rattle.std.proofs.Common.{◌≡◌, ℕ, ◌+◌, ◌*◌, ◌≤◌, ◌⊎◌, List, [], ◌∷◌, suc, zero, refl, ap, subst, inl, inr, arith, lit<, Some}
+use Rattle.std.specs.List.{Contains, slice_get}
+use Rattle.least_walk.specs.LeastWalk.{Step, steps_of, step_count, total_cost, IsBefore, IsFewest, IsFewestPlace, IsFewestStep, walk_from}
 use Rattle.least_walk.specs.LeastWalk.IsBefore.{by_steps, by_cost, by_list}
 use Rattle.least_walk.specs.Suffix.{GoesOn}
+use Rattle.least_walk.specs.Windows.{IsWindow}
 use Rattle.least_walk.proofs.Walks.{walk_from_goes, goes_from_walk}
 
 -- 0 ------- 2 -- 3
@@ -95,3 +96,33 @@ middle_step step =
     let few : step_count step.walk ≤ 2 = step.is_fewest.none_fewer by_one by_one_is_fewest.is_walk in
     not_between rest goes (omega (arith, ap step_count same))
     (subst (λ walk. Contains (steps_of walk) (record { from = 1; to = 2 })) same step.goes)
+
+by_two_is_fewest : IsFewest 3 IsShort by_two
+unfolding IsShort by_two
+by_two_is_fewest = record {
+  is_walk = walk_from_goes 3 IsShort (2 ∷ 3 ∷ []) (lit< tt, inr refl, (lit< tt, inl refl, refl));
+  none_fewer = λ other walk.
+      let (rest, same, goes) = goes_from_walk 3 IsShort other walk in
+      omega (arith, two_at_least rest goes, ap step_count same);
+}
+
+-- after one step such a walk stands at 1 or at 2
+after_one : (rest : List ℕ) (i : ℕ) → GoesOn 3 IsShort 0 rest → slice_get (0 ∷ rest) 1 ≡ Some i → (1 ≤ i) × (i ≤ 2)
+unfolding IsShort
+after_one [] i goes is = absurd cc
+after_one (j ∷ rest) i goes is = let same : j ≡ i = cc in (omega (arith, goes.1), omega (arith, goes.1))
+
+place_after_one : (i : ℕ) → IsFewestPlace 3 IsShort 1 i → (1 ≤ i) × (i ≤ 2)
+place_after_one i place =
+    let (rest, same, goes) = goes_from_walk 3 IsShort place.walk place.is_fewest.is_walk in
+    after_one rest i goes (subst (λ walk. slice_get walk 1 ≡ Some i) same place.stands)
+
+-- and the window after one step goes from 1 to 2
+second_window : IsWindow 3 IsShort 1 (record { least = 1; greatest = 2 })
+unfolding by_one by_two
+second_window = record {
+  least_stands = record { walk = by_one; is_fewest = by_one_is_fewest; stands = refl };
+  greatest_stands = record { walk = by_two; is_fewest = by_two_is_fewest; stands = refl };
+  none_below = λ i place. (place_after_one i place).0;
+  none_above = λ i place. (place_after_one i place).1;
+}

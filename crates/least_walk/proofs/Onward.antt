@@ -9,7 +9,7 @@ use Rattle.std.proofs.lemmas.Bool.{cases_lt}
 use Rattle.least_walk.specs.LeastWalk.{total_cost, IsBefore}
 use Rattle.least_walk.specs.LeastWalk.IsBefore.{by_steps, by_cost, by_list}
 use Rattle.least_walk.proofs.OneLeast.{same_from_neither}
-use Rattle.least_walk.specs.Suffix.{GoesOn, IsFewestFrom, IsLeastFrom, IsLeastCost, IsLeastNext, HasFewest, HasCosts}
+use Rattle.least_walk.specs.Suffix.{GoesOn, IsFewestFrom, IsLeastFrom, IsLeastCost, IsLeastNext, HasFewest}
 use Rattle.least_walk.proofs.Going.{goes_below, length-steps_from, total_cost-cons}
 use Rattle.least_walk.proofs.Before.{slice_cmp-cons, nat_cmp_above, not_before_itself, IsBefore-cons}
 
@@ -39,7 +39,7 @@ module _ (size : ℕ) (is_allowed : ℕ → ℕ → Type 0) where
   -- where the fewest steps are known from i and from each later index
   module _ (counts : List ℕ) (i : ℕ) (below : i < size) (fewest : HasFewest size is_allowed i counts) where
     -- a step leads to where at most one step fewer is left
-    count_bound : (k : ℕ) → i < k → k ≤ size → is_allowed i k → slice_index counts i ≤ slice_index counts k + 1
+    pub count_bound : (k : ℕ) → i < k → k ≤ size → is_allowed i k → slice_index counts i ≤ slice_index counts k + 1
     count_bound k onwards within allowed =
         let after = fewest k (omega arith) within in
         let here = fewest i (omega arith) (omega arith) in
@@ -128,7 +128,9 @@ module _ (size : ℕ) (is_allowed : ℕ → ℕ → Type 0) where
     -- the step to j keeps to the fewest; of all such steps it is the cheapest, and of several the shortest
     module _ (counts costs : List ℕ) (i j : ℕ) (below : i < size) (onwards : i < j) (within : j ≤ size)
         (allowed : is_allowed i j) (keeps : slice_index counts j + 1 ≡ slice_index counts i)
-        (fewest : HasFewest size is_allowed i counts) (later : HasCosts size is_allowed cost (i + 1) costs)
+        (fewest : HasFewest size is_allowed i counts)
+        (later : (k : ℕ) → i < k → k ≤ size → is_allowed i k → slice_index counts k + 1 ≡ slice_index counts i
+        → IsLeastCost size is_allowed cost k (slice_index costs k))
         (after : IsLeastCost size is_allowed cost j (slice_index costs j))
         (cheapest : (k : ℕ) → i < k → k ≤ size → is_allowed i k → slice_index counts k + 1 ≡ slice_index counts i
         → cost i j + slice_index costs j ≤ cost i k + slice_index costs k)
@@ -154,7 +156,7 @@ module _ (size : ℕ) (is_allowed : ℕ → ℕ → Type 0) where
 
         k_costs : slice_index costs k ≤ total_cost cost (k ∷ v)
         k_costs =
-            let least = later k (omega arith) k_within in
+            let least = later k goes.0 k_within goes.1 k_keeps in
             let counted = length-least k (slice_index counts k) least.rest least.is_least (fewest k (omega arith) k_within) in
             let bound = cost_bound k least.rest v least.is_least goes.2 (omega (arith, k_count)) in
             omega (arith, least.costs)

@@ -1,6 +1,12 @@
 -- The least walk, while its indices are written down.
-use Rattle.std.proofs.Common.{◌≡◌, ℕ, ◌≤◌, List, [], ◌∷◌, ◌++◌, append_assoc, ap, sym, ◌∙◌, subst, arith}
-use Rattle.least_walk.specs.LeastWalk.{IsLeast}
+use Rattle.std.proofs.Common.{◌≡◌, ℕ, ◌<◌, ◌≤◌, List, [], ◌∷◌, ◌++◌, length, Some, append_assoc, ap, sym, ◌∙◌, subst}
+use Rattle.std.proofs.Common.{inl, inr, arith, length-append}
+use Rattle.std.proofs.Math.Seq.{get_or-append_seam}
+use Rattle.std.proofs.lemmas.Bool.{cases_lt}
+use Rattle.std.proofs.lemmas.Option.{slice_get-get_or}
+use Rattle.least_walk.specs.LeastWalk.{step_count, IsLeast}
+use Rattle.least_walk.specs.LeastWalk.IsBefore.{by_steps}
+use Rattle.least_walk.specs.Places.{IsPlace}
 use Rattle.least_walk.specs.Suffix.{GoesOn, IsLeastFrom, IsLeastNext}
 use Rattle.least_walk.proofs.Going.{goes_below}
 use Rattle.least_walk.proofs.Walks.{least_from_goes}
@@ -20,6 +26,25 @@ module _ (size : ℕ) (is_allowed : ℕ → ℕ → Type 0) (cost : ℕ → ℕ 
         rest,
         next.is_least,
         subst (λ v. IsLeast size is_allowed cost (v ++ 0 ∷ rest)) (sym none) (least_from_goes size is_allowed cost rest next.is_least),
+      )
+
+  -- the least walk has the fewest steps, so walks of fewest steps go through i
+  pub written_place : (starts : List ℕ) (i : ℕ) → IsWritten size is_allowed cost starts i → IsPlace size is_allowed i
+  written_place starts i (rest, least, walk) =
+      let whole = starts ++ i ∷ rest in
+      let within : length starts < length whole = simp length-append (omega arith) in (
+        length starts,
+        record {
+          walk = whole;
+          is_fewest = record {
+            is_walk = walk.is_walk;
+            none_fewer = λ other other_walk. elim (cases_lt (step_count other) (step_count whole)) [
+              | inl fewer ↦ absurd (walk.none_before other other_walk (by_steps fewer))
+              | inr most ↦ most
+            ];
+          };
+          stands = slice_get-get_or whole (length starts) 0 within ∙ ap Some (get_or-append_seam starts i rest 0);
+        },
       )
 
   -- then i is written down, and the walk goes on from the next index

@@ -68,6 +68,12 @@ pub record IsFewestStep (size : ℕ) (is_allowed : ℕ → ℕ → Type 0) (i j 
   pub is_fewest : IsFewest size is_allowed walk
   pub goes : Contains (steps_of walk) (record { from = i; to = j })
 
+-- some walk of fewest steps stands at i after c of them
+pub record IsFewestPlace (size : ℕ) (is_allowed : ℕ → ℕ → Type 0) (c i : ℕ) : Type 0 where
+  pub walk : List ℕ
+  pub is_fewest : IsFewest size is_allowed walk
+  pub stands : slice_get walk c ≡ Some i
+
 -- the walk whose steps begin at these indices, and which ends at `size`
 abbrev pub walk_from : List ℕ → ℕ → List ℕ
 walk_from starts size = starts ++ size ∷ []

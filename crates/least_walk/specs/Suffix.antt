@@ -1,6 +1,7 @@
 -- Walks as the search sees them: from an index on to the end.
 use Rattle.std.specs.Prelude.{◌≡◌, ℕ, ◌<◌, ◌≤◌, List, [], ◌∷◌, length, slice_index}
 use Rattle.least_walk.specs.LeastWalk.{total_cost, IsBefore}
+use Rattle.least_walk.specs.Places.{IsPlace}
 
 -- from the index i a walk goes on by these indices, and ends at `size`
 abbrev pub GoesOn : ℕ → (ℕ → ℕ → Type 0) → ℕ → List ℕ → Type 0
@@ -39,12 +40,13 @@ abbrev pub HasFewest : ℕ → (ℕ → ℕ → Type 0) → ℕ → List ℕ →
 HasFewest size is_allowed low counts = (k : ℕ) → low ≤ k → k ≤ size
     → IsFewestFrom size is_allowed k (slice_index counts k)
 
--- at each index from `low` to the end stands what the least way to go on from there costs
+-- at each index from `low` to the end that walks of fewest steps go through stands what the least way
+-- to go on from there costs
 abbrev pub HasCosts : ℕ → (ℕ → ℕ → Type 0) → (ℕ → ℕ → ℕ) → ℕ → List ℕ → Type 0
-HasCosts size is_allowed cost low costs = (k : ℕ) → low ≤ k → k ≤ size
+HasCosts size is_allowed cost low costs = (k : ℕ) → low ≤ k → k ≤ size → IsPlace size is_allowed k
     → IsLeastCost size is_allowed cost k (slice_index costs k)
 
--- at each index from `low` and before the end stands where the least way goes on to from there
+-- at each such index before the end stands where the least way to go on from there leads first
 abbrev pub HasNexts : ℕ → (ℕ → ℕ → Type 0) → (ℕ → ℕ → ℕ) → ℕ → List ℕ → Type 0
-HasNexts size is_allowed cost low nexts = (k : ℕ) → low ≤ k → k < size
+HasNexts size is_allowed cost low nexts = (k : ℕ) → low ≤ k → k < size → IsPlace size is_allowed k
     → IsLeastNext size is_allowed cost k (slice_index nexts k)

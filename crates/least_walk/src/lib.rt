@@ -8,9 +8,13 @@
 //!      \_____________/              to 2 is too. Of the two walks, 0 1 2 3 and 0 2 3, the second
 //!                                   is the least, since it has fewer steps.
 //! ```
+//!
+//! No step is priced that no walk of fewest steps takes.
 #![tactic(auto)]
 
 pub mod laws;
+mod marks;
 pub mod steps;
 mod suffixes;
 pub mod walk;
+pub mod windows;

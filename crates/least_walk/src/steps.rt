@@ -1,5 +1,6 @@
 //! What a walk is chosen from: the steps that are allowed, and what each costs.
 ghost use Rattle.std.specs.Prelude.{◌≡◌, ℕ, ◌+◌, ◌^◌, ◌<◌, ◌≤◌, ◌↔◌, IsTrue};
+ghost use Rattle.least_walk.specs.LeastWalk.{IsFewestStep};
 
 /// The steps that a walk from 0 to `size` may take, and what each costs.
 ///
@@ -35,9 +36,10 @@ pub trait Steps {
         requires within { to ≤ size_of self.now }
         ensures { IsTrue result ↔ is_allowed self.now from to };
 
-    /// What an allowed step costs.
+    /// What a step costs that some walk of fewest steps takes.
     fn cost(&self, from: u32, to: u32) -> u64
-        requires { is_allowed self.now from to }
+        requires allowed { is_allowed self.now from to }
+        requires fewest { IsFewestStep (size_of self.now) (is_allowed self.now) from to }
         ensures { result ≡ cost_of self.now from to };
 
     /// A walk has at least one step.

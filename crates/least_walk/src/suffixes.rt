@@ -2,6 +2,7 @@
 ghost use Rattle.std.specs.Prelude.{◌≡◌, ◌+◌, ◌<◌, length};
 ghost use Rattle.least_walk.specs.Suffix.{HasFewest, HasCosts, HasNexts, IsFewestFrom};
 ghost use Rattle.least_walk.specs.Suffix.{IsLeastCost, IsLeastNext};
+ghost use Rattle.least_walk.specs.Places.{HasMarks, IsPlace};
 
 use crate::steps::Steps;
 
@@ -47,12 +48,21 @@ fn fewest_from<S: Steps>(steps: &S, from: u32, counts: &[u32]) -> u32
     fewest
 }
 
-/// Writes down what the least walk from each index to the end costs, and where it goes first.
-pub(crate) fn fill_costs<S: Steps>(steps: &S, counts: &[u32], costs: &mut [u128], nexts: &mut [u32])
+/// Writes down, for each index that walks of fewest steps go through, what the least walk from there to
+/// the end costs, and where it goes first.
+pub(crate) fn fill_costs<S: Steps>(
+    steps: &S,
+    counts: &[u32],
+    marks: &[bool],
+    costs: &mut [u128],
+    nexts: &mut [u32],
+)
     requires count_places { length counts.now ≡ S.size_of steps.now + 1 }
+    requires mark_places { length marks.now ≡ S.size_of steps.now + 1 }
     requires cost_places { length costs.old ≡ S.size_of steps.now + 1 }
     requires next_places { length nexts.old ≡ S.size_of steps.now + 1 }
     requires fewest { HasFewest (S.size_of steps.now) (S.is_allowed steps.now) 0 counts.now }
+    requires marks { HasMarks (S.size_of steps.now) (S.is_allowed steps.now) marks.now }
     ensures costs { HasCosts (S.size_of steps.now) (S.is_allowed steps.now) (S.cost_of steps.now)
         0 costs.new }
     ensures nexts { HasNexts (S.size_of steps.now) (S.is_allowed steps.now) (S.cost_of steps.now)
@@ -61,9 +71,11 @@ pub(crate) fn fill_costs<S: Steps>(steps: &S, counts: &[u32], costs: &mut [u128]
     let size = steps.size();
     costs[size as usize] = 0;
     for from in (0..size).rev() {
-        let onward = cheapest_from(steps, from, counts, costs);
-        costs[from as usize] = onward.cost;
-        nexts[from as usize] = onward.next;
+        if marks[from as usize] {
+            let onward = cheapest_from(steps, from, counts, costs);
+            costs[from as usize] = onward.cost;
+            nexts[from as usize] = onward.next;
+        }
     }
 }
 
@@ -73,6 +85,7 @@ fn cheapest_from<S: Steps>(steps: &S, from: u32, counts: &[u32], costs: &[u128])
     requires count_places { length counts.now ≡ S.size_of steps.now + 1 }
     requires cost_places { length costs.now ≡ S.size_of steps.now + 1 }
     requires fewest { HasFewest (S.size_of steps.now) (S.is_allowed steps.now) 0 counts.now }
+    requires place { IsPlace (S.size_of steps.now) (S.is_allowed steps.now) from }
     requires later { HasCosts (S.size_of steps.now) (S.is_allowed steps.now) (S.cost_of steps.now)
         (from + 1) costs.now }
     ensures cost { IsLeastCost (S.size_of steps.now) (S.is_allowed steps.now) (S.cost_of steps.now)

@@ -4,4 +4,5 @@
 pub mod pages;
 pub mod plain;
 pub mod plain_page;
+pub mod shapes;
 pub mod walks;

@@ -73,7 +73,7 @@ pub fn noise(alloc: Global, width: usize, height: usize, seed: u64) -> Result<Bi
 }
 
 /// A white page.
-fn white(alloc: Global, width: usize, height: usize) -> Result<Bitmap, NoPage> {
+pub(crate) fn white(alloc: Global, width: usize, height: usize) -> Result<Bitmap, NoPage> {
     let longest = LONGEST_SIDE as usize;
     if width == 0 || longest < width || height == 0 || longest < height {
         return Err(NoPage::BadSide);
@@ -82,7 +82,7 @@ fn white(alloc: Global, width: usize, height: usize) -> Result<Bitmap, NoPage> {
 }
 
 /// Gives a pixel of the page its colour, and passes others over.
-fn put(page: &mut Bitmap, x: usize, y: usize, black: bool) {
+pub(crate) fn put(page: &mut Bitmap, x: usize, y: usize, black: bool) {
     if x < page.width() as usize && y < page.height() as usize {
         page.set(x as u32, y as u32, black);
     }

@@ -1,5 +1,11 @@
 pub mod Best
+pub mod Counting
 pub mod Exists
+pub mod Greedy
+pub mod Leasts
+pub mod Placing
 pub mod Reaching
+pub mod Rising
+pub mod Scanning
 pub mod Vertices
 mod Examples

@@ -1,5 +1,5 @@
 -- How far the segments of a polygon reach.
-use Rattle.std.specs.Prelude.{◌≡◌, ℕ, ◌-◌, ◌<◌, ◌≤◌, List, length, slice_index}
+use Rattle.std.specs.Prelude.{◌≡◌, ℕ, ◌+◌, ◌-◌, ◌<◌, ◌≤◌, List, length, slice_index}
 use Rattle.pt_base.specs.declared.point.Point.{Point}
 use Rattle.pt_base.specs.declared.limits.TheConstants.{MOST_STEPS}
 use Rattle.polygon_optimal.specs.Polygon.{IsSegment}
@@ -19,6 +19,10 @@ pub record LeadsOn (size i last : ℕ) : Type 0 where
   pub beyond : i < last
   pub within : last ≤ size
   pub short : last - i ≤ MOST_STEPS
+
+-- no segment reaches farther than the longest one from the next point
+abbrev pub AreRising : ℕ → List ℕ → Type 0
+AreRising size lasts = (i : ℕ) → i + 1 < size → slice_index lasts i ≤ slice_index lasts (i + 1)
 
 -- the segment from point i to point j goes no farther than the longest one
 abbrev pub IsUpToLast : List ℕ → ℕ → ℕ → Type 0

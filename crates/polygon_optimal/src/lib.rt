@@ -12,4 +12,5 @@
 
 pub mod laws;
 pub mod optimal;
+mod search;
 mod segments;

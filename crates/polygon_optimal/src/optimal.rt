@@ -4,8 +4,8 @@ ghost use Rattle.pt_base.specs.ClosedWalk.{IsClosedWalk};
 ghost use Rattle.pt_base.specs.OnPage.{AreOnPage};
 ghost use Rattle.polygon_optimal.specs.Polygon.{IsBestPolygon, total_penalty};
 
+use crate::search::least_by_windows;
 use crate::segments::Segments;
-use least_walk::walk::least;
 use prefix_moments::moments::Moments;
 use pt_base::fault::NoMemory;
 use pt_base::point::Point;
@@ -32,7 +32,7 @@ pub fn polygon_by(alloc: Global, points: &[Point], moments: &Moments) -> Result<
     ensures cost { IfOk result (λ polygon. polygon.cost ≡ total_penalty points.now polygon.at) }
 {
     let segments = Segments::of(alloc, points, moments)?;
-    let walk = least(alloc, &segments)?;
+    let walk = least_by_windows(alloc, &segments)?;
     Ok(Polygon {
         at: walk.at,
         cost: walk.cost,

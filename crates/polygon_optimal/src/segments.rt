@@ -3,7 +3,7 @@ ghost use Rattle.std.specs.Prelude.{◌≡◌, ℕ, ◌+◌, ◌<◌, ◌≤◌,
 ghost use Rattle.pt_base.specs.ClosedWalk.{IsClosedWalk};
 ghost use Rattle.pt_base.specs.OnPage.{AreOnPage};
 ghost use Rattle.polygon_optimal.specs.Polygon.{penalty_of};
-ghost use Rattle.polygon_optimal.specs.Lasts.{IsLast, HasLasts, LeadsOn, IsUpToLast};
+ghost use Rattle.polygon_optimal.specs.Lasts.{AreRising, IsLast, HasLasts, LeadsOn, IsUpToLast};
 
 use least_walk::steps::Steps;
 use prefix_moments::moments::Moments;
@@ -15,15 +15,16 @@ use straight_paths::reach::Reach;
 /// The segments of a closed walk's polygons, and their penalties.
 #[derive(Drop)]
 pub(crate) struct Segments<'a> {
-    moments: &'a Moments,
+    pub(crate) moments: &'a Moments,
     /// For each point, where the longest segment from it leads.
-    lasts: Vec<u32>,
+    pub(crate) lasts: Vec<u32>,
     ghost some: { 1 ≤ length moments.now },
     ghost few: { length moments.now ≤ 2 ^ 31 },
     ghost on_page: { AreOnPage moments.now },
     ghost places: { length lasts.items ≡ length moments.now },
     ghost onwards: { (i : ℕ) → i < length moments.now
         → LeadsOn (length moments.now) i (slice_index lasts.items i) },
+    ghost rising: { AreRising (length moments.now) lasts.items },
 }
 
 impl<'a> Segments<'a> {

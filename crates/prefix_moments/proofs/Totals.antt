@@ -1,6 +1,9 @@
 -- The total under a penalty.
-use Rattle.std.proofs.Common.{◌≡◌, ℕ, ◌*◌, ◌/◌, ◌<◌, ◌≤◌, ◌^◌, ℤ, pos, ◌-ℤ◌, ◌≤ℤ◌, List, w32, w64, to_z, of_z, sym, ap, ◌∙◌, subst, arith}
+use Rattle.std.proofs.Common.{◌≡◌, ℕ, ◌+◌, ◌*◌, ◌/◌, ◌<◌, ◌≤◌, ◌^◌, ℤ, pos, ◌-ℤ◌, ◌≤ℤ◌, List, w32, w64, to_z, of_z, sym, ap, ◌∙◌, subst, inl, inr, arith}
+use Rattle.std.proofs.Math.Nat.{le-div_iff_mul-le}
+use Rattle.std.proofs.lemmas.Bool.{cases_lt}
 use Rattle.std.proofs.lemmas.Int.{ints, to_z-of_z}
+use Rattle.std.proofs.lemmas.Nat.{div_below, mul-le}
 use Rattle.std.specs.Prelude.{unsigned_abs}
 use Rattle.std.specs.Int.RustNames.{FitsSigned}
 use mir.Syntax.{w128}
@@ -10,8 +13,9 @@ use Rattle.pt_base.specs.Root.{IsRoot}
 use Rattle.pt_base.specs.declared.limits.TheConstants.{LONGEST_SIDE}
 use Rattle.prefix_moments.specs.declared.sums.Sums.{Sums}
 use Rattle.pt_base.specs.OnPage.{IsOnPage}
-use Rattle.prefix_moments.specs.Sums.{sums_of, spread_of, right_of, above_of, IsPenalty}
+use Rattle.prefix_moments.specs.Sums.{sums_of, spread_of, right_of, above_of}
 use Rattle.prefix_moments.specs.Table.{spread_by}
+use Rattle.pt_base.proofs.Roots.{root_below}
 use Rattle.pt_base.proofs.Sizes.{back, long_back}
 use Rattle.prefix_moments.proofs.Rows.{total_is, spread_at_least}
 
@@ -42,10 +46,22 @@ total_at_least points i j t e =
     let P : ℤ → Type 0 = λ v. pos 0 ≤ℤ v in
     subst P (sym e) (spread_at_least points i j)
 
--- the root of the mean of the total
-pub penalty_is : (points : List Point) (i j : ℕ) (s : Sums) (t : ℤ) (r : ℕ) → s ≡ sums_of points i j → t ≡ spread_of points i j → unsigned_abs t < 2 ^ 110
-    → IsRoot (65536 * unsigned_abs (to_z w128 (of_z w128 t)) / s.count) r → IsPenalty points i j r
-penalty_is points i j s t r es et most root =
-    let P : ℤ → Type 0 = λ v. IsRoot (65536 * unsigned_abs v / s.count) r in
-    let Q : Sums → Type 0 = λ v. IsRoot (65536 * unsigned_abs (spread_of points i j) / v.count) r in
-    subst Q es (subst P (long_back t (omega arith) ∙ et) root)
+-- the total's value in its type
+pub total_back : (t s : ℤ) → t ≡ s → unsigned_abs t < 2 ^ 110 → unsigned_abs (to_z w128 (of_z w128 t)) ≡ unsigned_abs s
+total_back t s e most = ap unsigned_abs (long_back t (omega arith) ∙ e)
+
+-- a root reaches a limit where the limit's square is reached by the mean
+pub limit_reached : (total count limit root : ℕ) → 0 < count → limit * limit * count ≤ total → IsRoot (total / count) root → limit ≤ root
+limit_reached total count limit root some reached is =
+    let mean : limit * limit ≤ total / count = (le-div_iff_mul-le some).1 reached in
+    elim (cases_lt root limit) [
+      | inl below ↦
+          let next : root + 1 ≤ limit = omega arith in
+          absurd (omega (arith, is.falls_short, mul-le (root + 1) (root + 1) limit limit next next))
+      | inr at_least ↦ at_least
+    ]
+
+-- and is below it where it isn't
+pub limit_missed : (total count limit root : ℕ) → 0 < count → ¬ (limit * limit * count ≤ total) → IsRoot (total / count) root → root < limit
+limit_missed total count limit root some missed is =
+    root_below (total / count) root limit is (div_below total count (limit * limit) some (omega arith))

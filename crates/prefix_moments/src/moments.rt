@@ -1,9 +1,9 @@
 //! The table of a path's sums.
-ghost use Rattle.std.specs.Prelude.{◌≡◌, ℕ, pos, unsigned_abs, ◌-ℤ◌, ◌≤ℤ◌, ◌+◌, ◌-◌, ◌*◌, ◌/◌, ◌<◌, ◌≤◌, ◌^◌, List, length, IfOk};
+ghost use Rattle.std.specs.Prelude.{◌≡◌, ℕ, pos, unsigned_abs, ◌-ℤ◌, ◌≤ℤ◌, ◌+◌, ◌-◌, ◌*◌, ◌/◌, ◌<◌, ◌≤◌, ◌^◌, List, length, IfOk, IfSome, IfNone, IsTrue, ◌↔◌};
 ghost use Rattle.pt_base.specs.ClosedWalk.{IsClosedWalk, point_at};
 ghost use Rattle.pt_base.specs.Root.{IsRoot};
 ghost use Rattle.pt_base.specs.OnPage.{AreOnPage, IsOnPage};
-ghost use Rattle.prefix_moments.specs.Sums.{sums_of, IsPenalty};
+ghost use Rattle.prefix_moments.specs.Sums.{sums_of, spread_of, IsPenalty};
 ghost use Rattle.prefix_moments.specs.Table.{raw_of, IsRawOf, IsTable, offsets_of};
 
 use crate::raw::{Raw, moved, moved_products, spread};
@@ -91,13 +91,45 @@ impl Moments {
         requires lap { j - i ≤ length self.now }
         ensures { IsPenalty self.now i j result }
     {
+        root_of_mean(self.total(i, j), j - i + 1)
+    }
+
+    /// The same penalty, where it is below a limit; no root is taken where it isn't.
+    pub fn penalty_below(&self, i: u32, j: u32, limit: u64) -> Option<u64>
+        requires start { i < length self.now }
+        requires onwards { i < j }
+        requires steps { j - i ≤ MOST_STEPS }
+        requires lap { j - i ≤ length self.now }
+        requires limit { limit ≤ 2 ^ 56 }
+        ensures some { IfSome result (λ penalty. IsPenalty self.now i j penalty) }
+        ensures below { IfSome result (λ penalty. penalty < limit) }
+        ensures none { IfNone result ((penalty : ℕ)
+            → IsPenalty self.now i j penalty → limit ≤ penalty) }
+    {
+        let total = self.total(i, j);
+        let count = j - i + 1;
+        if is_reached(limit, total, count) {
+            return None;
+        }
+        Some(root_of_mean(total, count))
+    }
+
+    /// The sum of the squared cross products of the points from number `i` to number `j`.
+    fn total(&self, i: u32, j: u32) -> u128
+        requires start { i < length self.now }
+        requires onwards { i < j }
+        requires steps { j - i ≤ MOST_STEPS }
+        requires lap { j - i ≤ length self.now }
+        ensures value { result ≡ unsigned_abs (spread_of self.now i j) }
+        ensures most { result < 2 ^ 110 }
+    {
         let sums = self.sums(i, j);
         let first = self.place(i);
         let last = self.place(j);
         let right = between(first.x, last.x);
         let above = between(first.y, last.y);
         let total = spread(sums.xx, sums.xy, sums.yy, right, above);
-        root_of_mean(total as u128, sums.count)
+        total as u128
     }
 }
 
@@ -172,4 +204,33 @@ fn root_of_mean(total: u128, count: u32) -> u64
     } else {
         isqrt(65536 * total / u128::from(count))
     }
+}
+
+/// Whether the root of 65536 times the mean of `count` numbers reaches a limit: by squares, without a
+/// division.
+fn is_reached(limit: u64, total: u128, count: u32) -> bool
+    requires limit { limit ≤ 2 ^ 56 }
+    requires few { count ≤ 2 ^ 15 }
+    requires total { total < 2 ^ 110 }
+    ensures { IsTrue result ↔ (limit * limit * count ≤ 65536 * total) }
+{
+    times(square(limit), count) <= 65536 * total
+}
+
+/// A limit's square.
+fn square(limit: u64) -> u128
+    requires { limit ≤ 2 ^ 56 }
+    ensures value { result ≡ limit * limit }
+    ensures most { result ≤ 2 ^ 112 }
+{
+    u128::from(limit) * u128::from(limit)
+}
+
+/// A square for each of `count` points.
+fn times(square: u128, count: u32) -> u128
+    requires square { square ≤ 2 ^ 112 }
+    requires few { count ≤ 2 ^ 15 }
+    ensures { result ≡ square * count }
+{
+    square * u128::from(count)
 }

@@ -1,37 +1,8 @@
-use Rattle.std.proofs.Common.{◌≡◌, ◌≤ℤ◌, pos, w64, arith, rules}
-use Rattle.std.proofs.lemmas.Int.{ints}
-use Rattle.std.specs.Int.RustNames.{FitsSigned}
-use Rattle.prefix_moments.specs.Sums.{spread_of}
-use Rattle.prefix_moments.proofs.Totals.{total_from, total_at_least, penalty_is}
+use Rattle.std.proofs.Common.{ℕ, ◌+◌, ◌-◌, ◌*◌, ◌/◌, subst}
+use Rattle.pt_base.specs.Root.{IsRoot}
 use Rattle.prefix_moments.proofs.moments.Moments.penalty.Goals as goal
-
-pub overflow_cast-total : goal.overflow_cast-total
-overflow_cast-total c =
-    let s = c.sums-sums.result in
-    let first = c.place-first.ensures in
-    let last = c.place-last.ensures in
-    let xx : FitsSigned w64 s.xx = search rules in
-    let xy : FitsSigned w64 s.xy = search rules in
-    let yy : FitsSigned w64 s.yy = search rules in
-    let is : c.spread-total.result ≡ spread_of c.args.self.now c.args.i c.args.j =
-    total_from c.args.self.now c.args.i c.args.j s c.place-first.result c.place-last.result c.between-right.result c.between-above.result c.spread-total.result
-    first.on_page last.on_page first.value last.value c.sums-sums.ensures xx xy yy c.between-right.ensures.most c.between-above.ensures.most
-    c.between-right.ensures.value c.between-above.ensures.value c.spread-total.ensures.value in
-    let at_least : pos 0 ≤ℤ c.spread-total.result = total_at_least c.args.self.now c.args.i c.args.j c.spread-total.result is in
-    let most = c.spread-total.ensures.most in
-    (omega (arith, ints), omega (arith, ints))
 
 pub returns : goal.returns
 returns c =
-    let s = c.sums-sums.result in
-    let first = c.place-first.ensures in
-    let last = c.place-last.ensures in
-    let xx : FitsSigned w64 s.xx = search rules in
-    let xy : FitsSigned w64 s.xy = search rules in
-    let yy : FitsSigned w64 s.yy = search rules in
-    let is : c.spread-total.result ≡ spread_of c.args.self.now c.args.i c.args.j =
-    total_from c.args.self.now c.args.i c.args.j s c.place-first.result c.place-last.result c.between-right.result c.between-above.result c.spread-total.result
-    first.on_page last.on_page first.value last.value c.sums-sums.ensures xx xy yy c.between-right.ensures.most c.between-above.ensures.most
-    c.between-right.ensures.value c.between-above.ensures.value c.spread-total.ensures.value in
-    penalty_is c.args.self.now c.args.i c.args.j s c.spread-total.result c.root_of_mean.result c.sums-sums.ensures is c.spread-total.ensures.most
-    c.root_of_mean.ensures
+    let P : ℕ → Type 0 = λ total. IsRoot (65536 * total / (c.args.j - c.args.i + 1)) c.root_of_mean.result in
+    subst P c.total.ensures.value c.root_of_mean.ensures

@@ -1,0 +1,58 @@
+//! Shapes with long sides, with many corners, and round ones.
+
+use crate::pages::{NoPage, put, white};
+use bit_image::bitmap::Bitmap;
+use std::alloc::Global;
+
+/// What is black on a square page.
+#[derive(Clone, Copy, Debug, PartialEq, Eq)]
+pub enum Shape {
+    /// What lies below a line that rises by so many rows to so many columns.
+    Stairs { rows: usize, columns: usize },
+    /// Teeth of this width and as far apart, upright on a bar as high as they are wide.
+    Comb { width: usize },
+    /// What is nearer to the middle than the sides are.
+    Disc,
+    /// The frames of squares within squares, of this width and as far apart.
+    Nest { width: usize },
+}
+
+impl Shape {
+    fn is_black(self, side: usize, x: usize, y: usize) -> bool {
+        match self {
+            Shape::Stairs { rows, columns } => {
+                y.saturating_mul(columns) <= x.saturating_mul(rows)
+            }
+            Shape::Comb { width } => y < width || x / width.max(1) % 2 == 0,
+            Shape::Disc => {
+                let across = twice_and_one(x).abs_diff(side);
+                let up = twice_and_one(y).abs_diff(side);
+                across
+                    .saturating_mul(across)
+                    .saturating_add(up.saturating_mul(up))
+                    < side.saturating_mul(side)
+            }
+            Shape::Nest { width } => {
+                let in_x = x.min(side.saturating_sub(x.saturating_add(1)));
+                let in_y = y.min(side.saturating_sub(y.saturating_add(1)));
+                in_x.min(in_y) / width.max(1) % 2 == 0
+            }
+        }
+    }
+}
+
+/// Twice as far as the middle of a pixel.
+fn twice_and_one(place: usize) -> usize {
+    place.saturating_mul(2).saturating_add(1)
+}
+
+/// A square page with a shape on it.
+pub fn shaped(alloc: Global, side: usize, shape: Shape) -> Result<Bitmap, NoPage> {
+    let mut page = white(alloc, side, side)?;
+    for place in 0..page.width() * page.height() {
+        let x = (place % page.width()) as usize;
+        let y = (place / page.width()) as usize;
+        put(&mut page, x, y, shape.is_black(side, x, y));
+    }
+    Ok(page)
+}

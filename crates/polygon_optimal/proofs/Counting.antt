@@ -1,0 +1,125 @@
+-- The fewest segments to the end, where the longest segments rise.
+use Rattle.std.proofs.Common.{◌≡◌, ◌≢◌, ℕ, zero, suc, ◌+◌, ◌<◌, ◌≤◌, List, length, refl, ap, set, get_or-set_same, inl, inr, arith}
+use Rattle.std.proofs.lemmas.List.{get_or-set_other}
+use Rattle.std.proofs.lemmas.Bool.{cases_eq, cases_lt}
+use Rattle.std.specs.Prelude.{slice_index}
+use Rattle.least_walk.specs.Suffix.{HasFewest, IsFewestFrom}
+use Rattle.least_walk.proofs.Filling.{filled}
+use Rattle.least_walk.proofs.Going.{fewest_below}
+use Rattle.least_walk.proofs.Onward.{count_bound, fewest_onward, some_fewest}
+use Rattle.polygon_optimal.specs.Lasts.{AreRising, IsUpToLast, LeadsOn}
+use Rattle.polygon_optimal.specs.Search.{AreFalling, IsBegin}
+
+module _ (size : ℕ) (lasts : List ℕ) (leads : (i : ℕ) → i < size → LeadsOn size i (slice_index lasts i))
+    (rising : AreRising size lasts) where
+  pub rises : (d i : ℕ) → i + d < size → slice_index lasts i ≤ slice_index lasts (i + d)
+  rises zero i below = let e : i + 0 ≡ i = omega arith in omega (arith, ap (slice_index lasts) e)
+  rises (suc d) i below =
+      let e : i + d + 1 ≡ i + suc d = omega arith in
+      omega (arith, rises d i (omega arith), rising (i + d) (omega arith), ap (slice_index lasts) e)
+
+  -- the segments from i and from each later point
+  module _ (counts : List ℕ) (i : ℕ) (below : i < size) (fewest : HasFewest size (IsUpToLast lasts) (i + 1) counts)
+      (falling : AreFalling size (i + 1) counts) where
+    abbrev here : ℕ
+    here = slice_index counts (slice_index lasts i) + 1
+
+    -- the longest one leaves the fewest
+    fewest_here : IsFewestFrom size (IsUpToLast lasts) i here
+    fewest_here =
+        let on = leads i below in
+        fewest_onward size (IsUpToLast lasts) counts i here below fewest
+        (λ k onwards within allowed. omega (arith, falling k (slice_index lasts i) (omega arith) allowed.1 on.within))
+        (slice_index lasts i) on.beyond on.within (on.beyond, omega arith) refl
+
+    here_most : (k : ℕ) → i < k → k ≤ size → slice_index counts k ≤ here
+    here_most k onwards within =
+        let on = leads i below in
+        let first = falling (i + 1) k (omega arith) (omega arith) within in
+        elim (cases_lt (i + 1) (slice_index lasts i)) [
+          | inl beyond ↦
+              let inside : i + 1 < size = omega (arith, on.within) in
+              let bound = count_bound size (IsUpToLast lasts) counts (i + 1) inside fewest (slice_index lasts i) beyond on.within
+              (beyond, rising i inside) in
+              omega arith
+          | inr near ↦
+              let same : slice_index lasts i ≡ i + 1 = omega (arith, on.beyond) in
+              omega (arith, ap (slice_index counts) same)
+        ]
+
+    pub counts_more : i < length counts → HasFewest size (IsUpToLast lasts) i (set counts i here)
+    counts_more room k above within =
+        filled (λ k n. k ≤ size → IsFewestFrom size (IsUpToLast lasts) k n) counts i here room
+        (λ within. fewest_here) (λ k onwards. fewest k (omega arith)) k above within
+
+    pub falling_more : i < length counts → AreFalling size i (set counts i here)
+    falling_more room j k above onwards within =
+        elim (cases_eq j i) [
+          | inl first ↦ elim (cases_eq k i) [
+            | inl same ↦ omega (arith, ap (slice_index (set counts i here)) first, ap (slice_index (set counts i here)) same)
+            | inr later ↦ omega (
+              arith,
+              ap (slice_index (set counts i here)) first,
+              get_or-set_same counts i here 0 room,
+              get_or-set_other counts i k here 0 later,
+              here_most k (omega arith) within,
+            )
+          ]
+          | inr later ↦ omega (
+            arith,
+            get_or-set_other counts i j here 0 later,
+            get_or-set_other counts i k here 0 (λ same. omega arith),
+            falling j k (omega arith) onwards within,
+          )
+        ]
+
+  -- what is known of all points
+  module _ (counts : List ℕ) (fewest : HasFewest size (IsUpToLast lasts) 0 counts) (falling : AreFalling size 0 counts) where
+    from_here : (i : ℕ) → HasFewest size (IsUpToLast lasts) i counts
+    from_here i k above within = fewest k (omega arith) within
+
+    pub next_most : (i : ℕ) → i < size → slice_index counts i ≤ slice_index counts (i + 1) + 1
+    next_most i below =
+        let on = leads i below in
+        count_bound size (IsUpToLast lasts) counts i below (from_here i) (i + 1) (omega arith) (omega arith) (omega arith, omega (arith, on.beyond))
+
+    -- the longest segment leaves one fewer
+    pub last_keeps : (i : ℕ) → i < size → slice_index counts (slice_index lasts i) + 1 ≡ slice_index counts i
+    last_keeps i below =
+        let on = leads i below in
+        let bound = count_bound size (IsUpToLast lasts) counts i below (from_here i) (slice_index lasts i) on.beyond on.within (on.beyond, omega arith) in
+        let (j, onwards, within, allowed, keeps) = some_fewest size (IsUpToLast lasts) counts i below (from_here i) in
+        omega (arith, falling j (slice_index lasts i) (omega arith) allowed.1 on.within)
+
+    pub some_left : (i : ℕ) → i < size → 0 < slice_index counts i
+    some_left i below = omega (arith, last_keeps i below)
+
+    pub none_left : slice_index counts size ≡ 0
+    none_left = omega (arith, fewest_below size (IsUpToLast lasts) size (slice_index counts size) (fewest size (omega arith) (omega arith)))
+
+    pub before_end : (i : ℕ) → i ≤ size → 0 < slice_index counts i → i < size
+    before_end i within some = omega (arith, fewest_below size (IsUpToLast lasts) i (slice_index counts i) (fewest i (omega arith) within))
+
+-- where the next window begins: where it did from the next point, if as many segments are left from there
+pub begin_same : (size : ℕ) (counts : List ℕ) (i begin : ℕ) → slice_index counts i ≡ slice_index counts (i + 1)
+    → IsBegin size counts (i + 1) begin → IsBegin size counts i begin
+begin_same size counts i begin same is = record {
+  above = omega (arith, is.above);
+  within = is.within;
+  count = omega (arith, is.count);
+  none_before = λ k onwards within keeps. elim (cases_eq k (i + 1)) [
+    | inl next ↦ absurd (omega (arith, ap (slice_index counts) next))
+    | inr later ↦ is.none_before k (omega arith) within (omega arith)
+  ];
+}
+
+-- and else there
+pub begin_next : (size : ℕ) (counts : List ℕ) (i : ℕ) → i < size → slice_index counts i ≢ slice_index counts (i + 1)
+    → slice_index counts i ≤ slice_index counts (i + 1) + 1 → slice_index counts (i + 1) ≤ slice_index counts i
+    → IsBegin size counts i (i + 1)
+begin_next size counts i below other most least = record {
+  above = omega arith;
+  within = omega arith;
+  count = omega arith;
+  none_before = λ k onwards within keeps. omega arith;
+}

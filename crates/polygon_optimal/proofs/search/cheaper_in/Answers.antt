@@ -1,0 +1,24 @@
+use Rattle.std.proofs.Common.{◌≡◌, ℕ, ◌+◌, subst, arith}
+use Rattle.std.specs.Prelude.{slice_index}
+use Rattle.polygon_optimal.specs.Polygon.{penalty_of}
+use Rattle.polygon_optimal.specs.Search.{IsCheaperIn}
+use Rattle.polygon_optimal.proofs.Scanning.{tried_none, tried_more}
+use Rattle.polygon_optimal.proofs.search.cheaper_in.Goals as goal
+
+abbrev cost_by : (c : goal.After-loop-to) → ℕ → ℕ
+cost_by c k = penalty_of c.args.segments.now.moments.now c.args.from k + slice_index c.args.costs.now k
+
+pub loop-to-init : goal.loop-to-init
+loop-to-init c =
+    tried_none (λ k. penalty_of c.args.segments.now.moments.now c.args.from k + slice_index c.args.costs.now k) c.args.begin c.args.best
+
+pub loop-to-preserved : goal.loop-to-preserved
+loop-to-preserved c =
+    tried_more (λ k. penalty_of c.args.segments.now.moments.now c.args.from k + slice_index c.args.costs.now k)
+    c.args.begin c.loop-to.to c.args.best c.loop-to.cheapest c.cheaper-cheapest.result (omega arith) c.cheaper-cheapest.ensures.cheaper c.cheaper-cheapest.ensures.same
+    c.loop-to.invariant
+
+pub returns : goal.returns
+returns c =
+    let whole : c.loop-to.to ≡ c.args.end = omega arith in
+    subst (λ n. IsCheaperIn (cost_by c) c.args.begin n c.args.best c.loop-to.cheapest) whole c.loop-to.invariant

@@ -1,0 +1,244 @@
+//! The least walk through a path's segments.
+//!
+//! What `least` asks of each pair of indices follows here from how far the segments reach: no segment
+//! reaches farther than the longest one from the next point. So the fewest segments from a point to the
+//! end begin with its longest one, and where polygons of fewest segments have their vertices is told by
+//! the farthest of them.
+//!
+//! ```text
+//!     0 . . . [ . . . ] . . [ . . ] . . n     Each window has the vertices after so many segments:
+//!     first    second         third           it ends with the farthest, and begins where the next
+//!                                             window is reached.
+//! ```
+ghost use Rattle.std.specs.Prelude.{◌≡◌, ℕ, ◌+◌, ◌-◌, ◌^◌, ◌<◌, ◌≤◌, length, slice_index, IfOk};
+ghost use Rattle.least_walk.specs.LeastWalk.{IsLeast, walk_from, step_count, total_cost};
+ghost use Rattle.least_walk.specs.Suffix.{HasFewest, HasCosts, HasNexts};
+ghost use Rattle.polygon_optimal.specs.Lasts.{IsUpToLast};
+ghost use Rattle.polygon_optimal.specs.Polygon.{penalty_of};
+ghost use Rattle.polygon_optimal.specs.Search.{AreFalling, AreFarthest, HasCheapest, IsBegin, IsCheaperIn};
+
+use crate::segments::Segments;
+use least_walk::walk::{Walk, walk_by};
+use pt_base::fault::NoMemory;
+use std::alloc::Global;
+
+/// A segment to go on by.
+#[derive(Clone, Copy)]
+struct Onward {
+    /// What the polygon costs from this segment on to the end.
+    cost: u128,
+    /// Where the segment leads.
+    next: u32,
+}
+
+/// The same as `least` finds.
+//
+// 1. `counts`: the fewest segments from each point to the end.
+// 2. `farthest`: the farthest point after so many segments. The points up to it from which as few are
+//    left as can be are vertices of polygons of fewest segments.
+// 3. `costs` and `nexts`, from the end down and for these points alone: the cheapest segment to the next
+//    window, and of several the shortest.
+pub(crate) fn least_by_windows(alloc: Global, segments: &Segments) -> Result<Walk, NoMemory>
+    ensures least { IfOk result (λ walk. IsLeast (length segments.now.moments.now)
+        (IsUpToLast segments.now.lasts.items) (penalty_of segments.now.moments.now)
+        (walk_from walk.at (length segments.now.moments.now))) }
+    ensures starts { IfOk result (λ walk. walk.count ≡ length walk.at) }
+    ensures count { IfOk result (λ walk. walk.count
+        ≡ step_count (walk_from walk.at (length segments.now.moments.now))) }
+    ensures cost { IfOk result (λ walk. walk.cost
+        ≡ total_cost (penalty_of segments.now.moments.now)
+        (walk_from walk.at (length segments.now.moments.now))) }
+{
+    let places = segments.lasts.len() + 1;
+    let mut counts = vec![in alloc; 0u32; places]?;
+    let mut costs = vec![in alloc; 0u128; places]?;
+    let mut nexts = vec![in alloc; 0u32; places]?;
+    fill_counts(segments, &mut counts);
+    let farthest = farthest(alloc, segments, &counts)?;
+    fill_costs(segments, &counts, &farthest, &mut costs, &mut nexts);
+    walk_by(alloc, segments, &counts, &costs, &nexts)
+}
+
+/// Writes down the fewest segments from each point to the end.
+fn fill_counts(segments: &Segments, counts: &mut [u32])
+    requires places { length counts.old ≡ length segments.now.moments.now + 1 }
+    ensures fewest { HasFewest (length segments.now.moments.now)
+        (IsUpToLast segments.now.lasts.items) 0 counts.new }
+    ensures falling { AreFalling (length segments.now.moments.now) 0 counts.new }
+{
+    let size = segments.lasts.len();
+    counts[size] = 0;
+    for from in (0..size).rev() {
+        counts[from] = counts[segments.lasts[from] as usize] + 1;
+    }
+}
+
+/// The farthest points that one segment reaches, two segments, and so on to the end.
+fn farthest(alloc: Global, segments: &Segments, counts: &[u32]) -> Result<Vec<u32>, NoMemory>
+    requires places { length counts.now ≡ length segments.now.moments.now + 1 }
+    requires fewest { HasFewest (length segments.now.moments.now)
+        (IsUpToLast segments.now.lasts.items) 0 counts.now }
+    requires falling { AreFalling (length segments.now.moments.now) 0 counts.now }
+    ensures { IfOk result (λ farthest. AreFarthest (length segments.now.moments.now)
+        segments.now.lasts.items counts.now (slice_index counts.now 0) farthest.items) }
+{
+    let mut farthest = Vec::with_capacity(alloc, counts[0] as usize + 1)?;
+    let mut at = 0;
+    for _ in 0..counts[0] {
+        farthest.push(at)?;
+        at = segments.lasts[at as usize];
+    }
+    farthest.push(at)?;
+    Ok(farthest)
+}
+
+/// Writes down, for each vertex of a polygon of fewest segments, what the best way from there to the end
+/// costs, and where it goes first.
+fn fill_costs(
+    segments: &Segments,
+    counts: &[u32],
+    farthest: &[u32],
+    costs: &mut [u128],
+    nexts: &mut [u32],
+)
+    requires count_places { length counts.now ≡ length segments.now.moments.now + 1 }
+    requires cost_places { length costs.old ≡ length segments.now.moments.now + 1 }
+    requires next_places { length nexts.old ≡ length segments.now.moments.now + 1 }
+    requires fewest { HasFewest (length segments.now.moments.now)
+        (IsUpToLast segments.now.lasts.items) 0 counts.now }
+    requires falling { AreFalling (length segments.now.moments.now) 0 counts.now }
+    requires farthest { AreFarthest (length segments.now.moments.now) segments.now.lasts.items
+        counts.now (slice_index counts.now 0) farthest.now }
+    ensures costs { HasCosts (length segments.now.moments.now) (IsUpToLast segments.now.lasts.items)
+        (penalty_of segments.now.moments.now) 0 costs.new }
+    ensures nexts { HasNexts (length segments.now.moments.now) (IsUpToLast segments.now.lasts.items)
+        (penalty_of segments.now.moments.now) 0 nexts.new }
+{
+    let size = segments.lasts.len();
+    costs[size] = 0;
+    let mut begin = size as u32;
+    for from in (0..size).rev() {
+        begin = begin_from(counts, from, begin);
+        if from as u32 <= farthest[(counts[0] - counts[from]) as usize] {
+            let onward = cheapest_from(segments, from as u32, begin, nexts[from + 1], costs);
+            costs[from] = onward.cost;
+            nexts[from] = onward.next;
+        }
+    }
+}
+
+/// Where the next window begins: the first point from which one segment fewer is left.
+fn begin_from(counts: &[u32], from: usize, later: u32) -> u32
+    requires within { from + 1 < length counts.now }
+    requires few { length counts.now ≤ 2 ^ 31 + 1 }
+    requires steps { slice_index counts.now from ≤ slice_index counts.now (from + 1) + 1 }
+    requires falling { AreFalling (length counts.now - 1) from counts.now }
+    requires some { 0 < slice_index counts.now from }
+    requires end { slice_index counts.now (length counts.now - 1) ≡ 0 }
+    requires later { from + 2 < length counts.now
+        → IsBegin (length counts.now - 1) counts.now (from + 1) later }
+    ensures { IsBegin (length counts.now - 1) counts.now from result }
+{
+    if counts[from] == counts[from + 1] {
+        later
+    } else {
+        from as u32 + 1
+    }
+}
+
+/// The cheapest segment from a point into the next window, and of several the shortest.
+//
+// The segment to where the best one from the next point leads is mostly the best here too, or nearly. So it
+// comes first, and hardly any of the others is better: they are refused without a root.
+fn cheapest_from(segments: &Segments, from: u32, begin: u32, guess: u32, costs: &[u128]) -> Onward
+    requires from { from < length segments.now.moments.now }
+    requires onwards { from < begin }
+    requires some { begin ≤ slice_index segments.now.lasts.items from }
+    requires places { length costs.now ≡ length segments.now.moments.now + 1 }
+    requires small { (k : ℕ) → begin ≤ k → k ≤ slice_index segments.now.lasts.items from
+        → slice_index costs.now k < 2 ^ 88 }
+    ensures { HasCheapest
+        (λ k. penalty_of segments.now.moments.now from k + slice_index costs.now k)
+        begin (slice_index segments.now.lasts.items from + 1) result }
+{
+    let last = segments.lasts[from as usize];
+    let to = guess.max(begin).min(last);
+    let cost = u128::from(segments.moments.penalty(from, to)) + costs[to as usize];
+    let tried = Onward { cost, next: to };
+    // A nearer one that costs as much is better.
+    let bound = Onward {
+        cost: cost + 1,
+        next: to,
+    };
+    let nearer = cheaper_in(segments, from, begin, to, costs, bound);
+    cheaper_in(
+        segments,
+        from,
+        to + 1,
+        last + 1,
+        costs,
+        lower(nearer, tried),
+    )
+}
+
+/// The first of two segments, if it isn't dearer than the other one.
+fn lower(nearer: Onward, tried: Onward) -> Onward
+    ensures nearer { nearer.cost ≤ tried.cost → result ≡ nearer }
+    ensures tried { tried.cost < nearer.cost → result ≡ tried }
+{
+    if nearer.cost <= tried.cost {
+        nearer
+    } else {
+        tried
+    }
+}
+
+/// The cheapest segment to one of the points from `begin` to before `end`, and of several the shortest;
+/// or `best`, where none of them is cheaper.
+fn cheaper_in(
+    segments: &Segments,
+    from: u32,
+    begin: u32,
+    end: u32,
+    costs: &[u128],
+    best: Onward,
+) -> Onward
+    requires from { from < length segments.now.moments.now }
+    requires onwards { from < begin }
+    requires ordered { begin ≤ end }
+    requires ends { end ≤ slice_index segments.now.lasts.items from + 1 }
+    requires places { length costs.now ≡ length segments.now.moments.now + 1 }
+    ensures { IsCheaperIn
+        (λ k. penalty_of segments.now.moments.now from k + slice_index costs.now k)
+        begin end best result }
+{
+    let mut cheapest = best;
+    for to in begin..end {
+        cheapest = cheaper(segments, from, to, costs[to as usize], cheapest);
+    }
+    cheapest
+}
+
+/// The segment to this point, from which the rest costs so much, where it is cheaper than `best`.
+//
+// Where the rest alone isn't cheaper, the segment isn't looked at.
+fn cheaper(segments: &Segments, from: u32, to: u32, rest: u128, best: Onward) -> Onward
+    requires from { from < length segments.now.moments.now }
+    requires onwards { from < to }
+    requires reached { to ≤ slice_index segments.now.lasts.items from }
+    ensures cheaper { penalty_of segments.now.moments.now from to + rest < best.cost
+        → (result.cost ≡ penalty_of segments.now.moments.now from to + rest) × (result.next ≡ to) }
+    ensures same { best.cost ≤ penalty_of segments.now.moments.now from to + rest → result ≡ best }
+{
+    if best.cost <= rest {
+        return best;
+    }
+    let limit = (best.cost - rest).min(1 << 56) as u64;
+    match segments.moments.penalty_below(from, to, limit) {
+        Some(penalty) => Onward {
+            cost: u128::from(penalty) + rest,
+            next: to,
+        },
+        None => best,
+    }
+}
