@@ -1,6 +1,7 @@
 pub mod Ahead
 pub mod Around
 pub mod Bounds
+pub mod Cevian
 pub mod Clear
 pub mod Cyclic
 pub mod Decided
@@ -8,9 +9,14 @@ pub mod Ends
 pub mod Examples
 pub mod Far
 pub mod Keeping
+pub mod Mixing
 pub mod Narrowing
 pub mod Nearness
 pub mod Pieces
 pub mod Places
+pub mod Running
+pub mod Seen
 pub mod Signs
+pub mod Stairs
 pub mod Turning
+pub mod Turns

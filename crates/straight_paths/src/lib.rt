@@ -12,9 +12,12 @@
 #![tactic(auto)]
 
 mod cone;
+mod corners;
 mod first;
 mod laps;
 pub mod laws;
 mod offset;
 pub mod reach;
+mod sweep;
 mod tail;
+mod track;
