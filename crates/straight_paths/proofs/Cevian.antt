@@ -1,6 +1,6 @@
 -- In a staircase, the points of a straight run see as far as the run's two ends do.
 use Rattle.std.proofs.Common.{◌≡◌, ◌⊎◌, inl, inr, ℕ, ◌+◌, ◌-◌, ◌<◌, ◌≤◌, ℤ, pos, ◌+ℤ◌, ◌-ℤ◌, ◌*ℤ◌, neg_ℤ, ◌≤ℤ◌, refl, sym, ◌∙◌, ap, subst, arith}
-use Rattle.std.proofs.lemmas.Int.{ints}
+use Rattle.std.proofs.lemmas.Int.{ints, by_lt_z}
 use Rattle.std.proofs.lemmas.Bool.{cases_lt}
 use Rattle.pt_base.specs.declared.point.Point.{Point}
 use Rattle.straight_paths.specs.Straight.{offset_of, IsNear, IsWithin}
@@ -39,22 +39,38 @@ falls k z h =
 rises : (k : ℕ) (z : ℤ) → pos 0 ≤ℤ z → pos 0 ≤ℤ (pos k *ℤ z)
 rises k z h = product_at_least (pos k) z (omega (arith, ints)) h
 
+at_most : (q : ℕ) (z : ℤ) → z ≤ℤ pos 1 → (pos q *ℤ z) ≤ℤ pos q
+at_most q z h =
+    let s = product_at_least (pos q) (pos 1 -ℤ z) (omega (arith, ints)) (omega (arith, ints)) in
+    let e : pos q *ℤ (pos 1 -ℤ z) ≡ pos q -ℤ pos q *ℤ z = same_value (times (num (pos q)) (less (num (pos 1)) (num z))) (less (num (pos q)) (times (num (pos q)) (num z))) (omega arith) in
+    omega (arith, ints)
+
+at_least : (q : ℕ) (z : ℤ) → neg_ℤ (pos 1) ≤ℤ z → neg_ℤ (pos q) ≤ℤ (pos q *ℤ z)
+at_least q z h =
+    let s = product_at_least (pos q) (pos 1 +ℤ z) (omega (arith, ints)) (omega (arith, ints)) in
+    let e : pos q *ℤ (pos 1 +ℤ z) ≡ pos q +ℤ pos q *ℤ z = same_value (times (num (pos q)) (plus (num (pos 1)) (num z))) (plus (num (pos q)) (times (num (pos q)) (num z))) (omega arith) in
+    omega (arith, ints)
+
 within_back : (q r : ℕ) (a b c : ℤ) → IsOrdered a b c → IsWithin q (pos q *ℤ (b -ℤ a) -ℤ pos (q + r) *ℤ (c -ℤ a))
     → IsWithin q (pos q *ℤ (b -ℤ c))
 within_back q r a b c order w =
     let e = beyond q r a b c in
     elim order [
-      | inl up ↦
-          let f = falls q (b -ℤ c) (omega (arith, ints, up.1)) in
-          let g = falls r (a -ℤ c) (omega (arith, ints, up.0, up.1)) in
-          record { low = omega (arith, ints, w.low); high = omega (arith, ints) }
-      | inr down ↦
-          let f = rises q (b -ℤ c) (omega (arith, ints, down.0)) in
-          let g = rises r (a -ℤ c) (omega (arith, ints, down.0, down.1)) in
-          record { low = omega (arith, ints); high = omega (arith, ints, w.high) }
+      | inl up ↦ record {
+        low = by_lt_z c a
+            (λ past. let f = rises q (b -ℤ c) (omega (arith, ints, up.0)) in omega (arith, ints))
+            (λ on. let g = falls r (a -ℤ c) (omega (arith, ints)) in omega (arith, ints, w.low));
+        high = at_most q (b -ℤ c) (omega (arith, ints, up.1));
+      }
+      | inr down ↦ record {
+        low = at_least q (b -ℤ c) (omega (arith, ints, down.0));
+        high = by_lt_z a c
+            (λ past. let f = falls q (b -ℤ c) (omega (arith, ints, down.1)) in omega (arith, ints))
+            (λ on. let g = rises r (a -ℤ c) (omega (arith, ints)) in omega (arith, ints, w.high));
+      }
     ]
 
--- in the box between two points, near is the same from both of them
+-- on a way that doesn't go back by more than 1, near is the same from both ends
 pub near_back : (a b c : Point) → IsOnWay a b c → IsNear (offset_of a b) (offset_of a c) → IsNear (offset_of c b) (offset_of c a)
 near_back a b c on near =
     let p = near.p in
@@ -83,7 +99,7 @@ near_back a b c on near =
           }
     ]
 
-order_back : (a b c : ℤ) → IsOrdered a b c → IsOrdered c b a
+pub order_back : (a b c : ℤ) → IsOrdered a b c → IsOrdered c b a
 order_back a b c order = elim order [ inl h ↦ inr h | inr h ↦ inl h ]
 
 -- seen from c, which lies between a and b, the half-line through `far` is as near to `middle`

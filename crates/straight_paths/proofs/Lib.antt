@@ -14,6 +14,7 @@ pub mod Narrowing
 pub mod Nearness
 pub mod Pieces
 pub mod Places
+pub mod Regular
 pub mod Running
 pub mod Seen
 pub mod Signs

@@ -1,5 +1,5 @@
 -- A path in which neither of two opposite steps comes after the other is a staircase.
-use Rattle.std.proofs.Common.{◌≡◌, ◌≢◌, ◌⊎◌, inl, inr, ℕ, zero, suc, ◌+◌, ◌-◌, ◌<◌, ◌≤◌, ℤ, neg_ℤ, ◌≤ℤ◌, List, refl, sym, ◌∙◌, ap, subst, arith}
+use Rattle.std.proofs.Common.{◌≡◌, ◌≢◌, ◌⊎◌, inl, inr, ℕ, zero, suc, ◌+◌, ◌-◌, ◌<◌, ◌≤◌, ℤ, pos, ◌+ℤ◌, neg_ℤ, ◌≤ℤ◌, List, refl, sym, ◌∙◌, ap, subst, arith}
 use Rattle.std.proofs.lemmas.Int.{ints}
 use Rattle.std.proofs.lemmas.Bool.{cases_lt}
 use Rattle.pt_base.specs.ClosedWalk.{point_at, IsClosedWalk, IsUnitStep}
@@ -77,24 +77,27 @@ falling f c step i j a b =
 abbrev IsWithout : (ℕ → Point) → ℕ → Offset → Type 0
 IsWithout path c step = (k : ℕ) → k < c → step_from path k ≢ step
 
+slack : {a b : ℤ} → a ≤ℤ b → a ≤ℤ (b +ℤ pos 1)
+slack h = omega (arith, ints)
+
 stairs_of : (path : ℕ → Point) (c : ℕ) → ((k : ℕ) → IsUnitStep (path k) (path (suc k)))
     → (IsWithout path c east ⊎ IsWithout path c west) → (IsWithout path c north ⊎ IsWithout path c south) → IsStaircase path c
 stairs_of path c steps in_x in_y i j k a b d = record {
   x = elim in_x [
     | inl no_east ↦
         let f = falling (λ m. (path m).x) c (λ m h. falls_in_x (path m) (path (suc m)) (steps m) (no_east m h)) in
-        inr (f j k b d, f i j a (omega arith))
+        inr (slack (f j k b d), slack (f i j a (omega arith)))
     | inr no_west ↦
         let f = rising (λ m. (path m).x) c (λ m h. rises_in_x (path m) (path (suc m)) (steps m) (no_west m h)) in
-        inl (f i j a (omega arith), f j k b d)
+        inl (slack (f i j a (omega arith)), slack (f j k b d))
   ];
   y = elim in_y [
     | inl no_north ↦
         let f = falling (λ m. (path m).y) c (λ m h. falls_in_y (path m) (path (suc m)) (steps m) (no_north m h)) in
-        inr (f j k b d, f i j a (omega arith))
+        inr (slack (f j k b d), slack (f i j a (omega arith)))
     | inr no_south ↦
         let f = rising (λ m. (path m).y) c (λ m h. rises_in_y (path m) (path (suc m)) (steps m) (no_south m h)) in
-        inl (f i j a (omega arith), f j k b d)
+        inl (slack (f i j a (omega arith)), slack (f j k b d))
   ];
 }
 

@@ -1,5 +1,5 @@
 -- Corners of a closed path, and the straight runs between them.
-use Rattle.std.specs.Prelude.{◌≡◌, ◌≢◌, ◌⊎◌, ℕ, suc, ◌+◌, ◌-◌, ◌<◌, ◌≤◌, ℤ, ◌≤ℤ◌, List, length, slice_index}
+use Rattle.std.specs.Prelude.{◌≡◌, ◌≢◌, ◌⊎◌, ℕ, suc, ◌+◌, ◌-◌, ◌<◌, ◌≤◌, ℤ, pos, ◌+ℤ◌, ◌≤ℤ◌, List, length, slice_index}
 use Rattle.pt_base.specs.ClosedWalk.{point_at}
 use Rattle.pt_base.specs.declared.point.Point.{Point}
 use Rattle.straight_paths.specs.Straight.{offset_of}
@@ -26,16 +26,22 @@ AreNextCorners points corners = (i : ℕ) → i < length points
 abbrev pub IsRun : (ℕ → Point) → ℕ → ℕ → Type 0
 IsRun path s r = (t : ℕ) → t < r → step_from path (s + t) ≡ step_from path s
 
--- the middle number lies between the two others
-abbrev pub IsOrdered : ℤ → ℤ → ℤ → Type 0
-IsOrdered a b c = ((a ≤ℤ b) × (b ≤ℤ c)) ⊎ ((c ≤ℤ b) × (b ≤ℤ a))
+-- each of the path's first r steps is taken again q steps later
+abbrev pub IsRegular : (ℕ → Point) → ℕ → ℕ → Type 0
+IsRegular path q r = (t : ℕ) → t < r → step_from path (t + q) ≡ step_from path t
 
--- the second point lies in the upright box from the first to the third
+-- on the way from the first number up or down to the third, none of the two steps goes back by more
+-- than 1
+abbrev pub IsOrdered : ℤ → ℤ → ℤ → Type 0
+IsOrdered a b c = ((a ≤ℤ (b +ℤ pos 1)) × (b ≤ℤ (c +ℤ pos 1)))
+    ⊎ ((c ≤ℤ (b +ℤ pos 1)) × (b ≤ℤ (a +ℤ pos 1)))
+
+-- so it is from the first point by the second one to the third, in both coordinates
 pub record IsOnWay (a b c : Point) : Type 0 where
   pub x : IsOrdered a.x b.x c.x
   pub y : IsOrdered a.y b.y c.y
 
--- the path's first `count` steps never go back along a row or a column
+-- the path's first `count` steps never go back along a row or a column by more than 1
 abbrev pub IsStaircase : (ℕ → Point) → ℕ → Type 0
 IsStaircase path count = (i j k : ℕ) → i ≤ j → j ≤ k → k ≤ count
     → IsOnWay (path i) (path j) (path k)
