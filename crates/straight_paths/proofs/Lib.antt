@@ -3,6 +3,7 @@ pub mod Around
 pub mod Bounds
 pub mod Cevian
 pub mod Clear
+pub mod Courses
 pub mod Cyclic
 pub mod Decided
 pub mod Ends
@@ -12,9 +13,9 @@ pub mod Keeping
 pub mod Mixing
 pub mod Narrowing
 pub mod Nearness
+pub mod Periods
 pub mod Pieces
 pub mod Places
-pub mod Regular
 pub mod Running
 pub mod Seen
 pub mod Signs

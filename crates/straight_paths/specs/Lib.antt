@@ -34,10 +34,16 @@ pub mod Cones
 --   IsNextCorner: d is the least number of steps, at least one, from point i to a corner
 --   AreNextCorners: for each point, the number of steps to the next corner
 --   IsRun: the path goes straight on for r steps from its point number s
---   IsOrdered: the middle number lies between the two others
---   IsOnWay: the second point lies in the upright box from the first to the third
+--   IsRegular: each of the path's first r steps is taken again q steps later
+--   IsOrdered: on the way from the first number up or down to the third
+--   IsOnWay: so it is from the first point by the second one to the third, in both coordinates
 --   IsStaircase: the path's first `count` steps never go back along a row or a column
 pub mod Corners
+-- How one coordinate goes along a path.
+--   Rises: in the first `count` steps it never goes back by more than 1 on its way up
+--   Falls: nor on its way down
+--   IsCourse
+pub mod Courses
 -- What is straight from an index on, within two laps of a closed path.
 --   limit_of: the most steps that matter
 --   last_of: the last index of two laps

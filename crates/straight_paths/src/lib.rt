@@ -13,11 +13,13 @@
 
 mod cone;
 mod corners;
+mod course;
 mod first;
 mod laps;
 pub mod laws;
 mod offset;
 pub mod reach;
+mod regular;
 mod sweep;
 mod tail;
 mod track;

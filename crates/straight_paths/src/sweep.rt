@@ -6,9 +6,16 @@ ghost use Rattle.straight_paths.specs.Straight.{path_from};
 ghost use Rattle.straight_paths.specs.Tails.{IsTail, IsSweep, IsAtPlace, IsClearBefore, AreKnown, AreSeen, last_of};
 
 use crate::first::clear_steps;
+use crate::regular::{seen_from, two_runs_after};
 use crate::tail::Tail;
 use crate::track::Track;
 use std::cmp::min;
+
+/// The shortest straight run that a look goes back along.
+const SHORTEST_RUN: usize = 8;
+
+/// The shortest leap over steps that repeat.
+const SHORTEST_LEAP: usize = 16;
 
 /// What is straight from an index on, and what is known of the indices before it.
 #[derive(Clone, Copy)]
@@ -16,6 +23,10 @@ pub(crate) struct Sweep {
     pub tail: Tail,
     /// From this index on, the cones of the indices before hold to the tail's end.
     pub seen: usize,
+    /// How far back a leap over steps that repeat may go.
+    pub leap: usize,
+    /// No such leap is tried from this index on.
+    pub rest: usize,
 }
 
 impl Sweep {
@@ -23,10 +34,12 @@ impl Sweep {
     pub(crate) fn at_last(track: &Track) -> Sweep
         ensures { IsSweep track.now (last_of track.now) result }
     {
-        let tail = Tail::at_last(track);
+        let last = 2 * track.size() - 1;
         Sweep {
-            tail,
-            seen: 2 * track.size() - 1,
+            tail: Tail::at_last(track),
+            seen: last,
+            leap: SHORTEST_LEAP,
+            rest: last,
         }
     }
 
@@ -38,26 +51,97 @@ impl Sweep {
         ensures sweep { IsSweep track.now index result }
         ensures clear { IsClear (path_from track.now index) (result.tail.end - index) }
     {
-        let seen = self.seen_at(track, known, index);
-        let clear = self.clear_at(track, known, seen, index);
+        let sweep = self.looked(track, known, index);
+        let clear = sweep.clear_at(track, known, index);
         Sweep {
-            tail: self.tail.earlier(track, index, clear),
-            seen,
+            tail: sweep.tail.earlier(track, index, clear),
+            seen: sweep.seen,
+            leap: sweep.leap,
+            rest: sweep.rest,
         }
     }
 
-    /// From which index on the cones of those up to this one hold to the tail's end.
-    fn seen_at(self, track: &Track, known: &[u32], index: usize) -> usize
+    /// The same after a look at what the indices up to this one see.
+    fn looked(self, track: &Track, known: &[u32], index: usize) -> Sweep
         requires known { AreKnown track.now known.now }
         requires index { index + 1 < 2 * length track.now }
         requires later { IsSweep track.now (index + 1) self }
-        ensures { AreSeen track.now result (index + 1) self.tail.end }
+        ensures { IsSweep track.now (index + 1) result }
     {
-        let place = track.place(index);
-        if track.next_corner(place) == 1 {
-            seen_from(track, known, self.tail, place, index)
+        if self.seen <= index {
+            return self;
+        }
+        let steps = track.next_corner(track.place(index)) as usize;
+        let next = index + 1;
+        if steps == 1 && next <= self.rest {
+            return self
+                .by_period(track, known, next)
+                .by_run(track, known, next, steps);
+        }
+        self.by_run(track, known, next, steps)
+    }
+
+    /// The same after a look along the straight run that goes on to the next corner in so many steps.
+    //
+    // It looks again where the steps are 2, 4, 8 .., so a long run takes few looks.
+    fn by_run(self, track: &Track, known: &[u32], next: usize, steps: usize) -> Sweep
+        requires known { AreKnown track.now known.now }
+        requires next { next < 2 * length track.now }
+        requires later { IsSweep track.now next self }
+        ensures { IsSweep track.now next result }
+    {
+        let last = 2 * track.size() - 1;
+        if self.seen < next || last <= next || !steps.is_power_of_two() {
+            return self;
+        }
+        let most = steps.max(SHORTEST_RUN);
+        Sweep {
+            tail: self.tail,
+            seen: seen_from(track, known, self.tail, next, 1, most),
+            leap: self.leap,
+            rest: self.rest,
+        }
+    }
+
+    /// The same after a look back over steps that may repeat from two runs to the next two, or from
+    /// four to the next four.
+    fn by_period(self, track: &Track, known: &[u32], next: usize) -> Sweep
+        requires known { AreKnown track.now known.now }
+        requires next { next < 2 * length track.now }
+        requires later { IsSweep track.now next self }
+        ensures { IsSweep track.now next result }
+    {
+        let middle = two_runs_after(track, next);
+        let seen = seen_from(track, known, self.tail, next, middle - next, self.leap);
+        if seen < next {
+            return self.leapt(track, next, seen);
+        }
+        let end = two_runs_after(track, middle);
+        let seen = seen_from(track, known, self.tail, next, end - next, self.leap);
+        self.leapt(track, next, seen)
+    }
+
+    /// After a leap back to this index, or none.
+    fn leapt(self, track: &Track, next: usize, seen: usize) -> Sweep
+        requires tail { IsTail track.now next self.tail }
+        requires seen { AreSeen track.now seen next self.tail.end }
+        ensures { IsSweep track.now next result }
+    {
+        let _ = track;
+        if seen < next {
+            Sweep {
+                tail: self.tail,
+                seen,
+                leap: (next - seen).saturating_mul(2),
+                rest: next,
+            }
         } else {
-            self.seen
+            Sweep {
+                tail: self.tail,
+                seen,
+                leap: SHORTEST_LEAP,
+                rest: next.saturating_sub(SHORTEST_RUN),
+            }
         }
     }
 
@@ -65,16 +149,16 @@ impl Sweep {
     //
     // A straight subpath from here ends where the later ones end, at the latest, so the cones are
     // asked no further.
-    fn clear_at(self, track: &Track, known: &[u32], seen: usize, index: usize) -> usize
+    fn clear_at(self, track: &Track, known: &[u32], index: usize) -> usize
         requires known { AreKnown track.now known.now }
         requires index { index < 2 * length track.now }
         requires end { index ≤ self.tail.end }
-        requires seen { AreSeen track.now seen (index + 1) self.tail.end }
+        requires seen { AreSeen track.now self.seen (index + 1) self.tail.end }
         ensures { IsClearBefore track.now index self.tail.end result }
     {
         let place = track.place(index);
         let most = min(track.limit(), self.tail.end - index);
-        if seen <= index {
+        if self.seen <= index {
             return most;
         }
         if self.tail.end - index <= known[place] as usize {
@@ -82,60 +166,4 @@ impl Sweep {
         }
         clear_steps(track, place, most)
     }
-}
-
-/// From which index on the cones of the run that ends at the next index hold to the tail's end.
-//
-// In a staircase, which never goes back along a row or a column, those of the run's points do where
-// those of its first point do, since those of its last point do.
-fn seen_from(track: &Track, known: &[u32], tail: Tail, place: usize, index: usize) -> usize
-    requires known { AreKnown track.now known.now }
-    requires place { place < length track.now }
-    requires corner { IsNextCorner track.now place 1 }
-    requires at { IsAtPlace track.now place index }
-    requires index { index + 1 < 2 * length track.now }
-    requires later { IsTail track.now (index + 1) tail }
-    ensures { AreSeen track.now result (index + 1) tail.end }
-{
-    let run = run_before(track, place);
-    let begin = index - run;
-    let steps = tail.end - begin;
-    if run == 0 || 2 * track.size() - 1 < tail.end || track.limit() < steps {
-        return index + 1;
-    }
-    if !tail.ahead.earlier(track, index).is_one_way(tail.end) {
-        return index + 1;
-    }
-    if !is_clear(track, known, place - run, steps) {
-        return index + 1;
-    }
-    begin
-}
-
-/// Whether the cones from this point hold for so many steps, which may be known.
-fn is_clear(track: &Track, known: &[u32], first: usize, steps: usize) -> bool
-    requires known { AreKnown track.now known.now }
-    requires first { first < length track.now }
-    requires steps { steps < length track.now }
-    ensures { IsTrue result → IsClear (path_from track.now first) steps }
-{
-    if steps <= known[first] as usize {
-        return true;
-    }
-    clear_steps(track, first, steps) == steps
-}
-
-/// How many steps the path goes straight on before this place, which comes right before a corner.
-fn run_before(track: &Track, place: usize) -> usize
-    requires place { place < length track.now }
-    requires corner { IsNextCorner track.now place 1 }
-    ensures most { result ≤ place }
-    ensures corner { IsNextCorner track.now (place - result) (result + 1) }
-{
-    for begin in (0..place).rev() {
-        if track.next_corner(begin) as usize - 1 != place - begin {
-            return place - (begin + 1);
-        }
-    }
-    place
 }

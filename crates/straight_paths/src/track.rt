@@ -1,9 +1,9 @@
 //! A closed walk with its corners.
-ghost use Rattle.std.specs.Prelude.{◌≡◌, ◌+◌, ◌-◌, ◌*◌, ◌<◌, ◌≤◌, length, IfOk};
+ghost use Rattle.std.specs.Prelude.{◌≡◌, ◌↔◌, ◌+◌, ◌-◌, ◌*◌, ◌<◌, ◌≤◌, length, IfOk, IsTrue};
 ghost use Rattle.pt_base.specs.ClosedWalk.{IsClosedWalk, point_at};
 ghost use Rattle.pt_base.specs.OnPage.{AreOnPage};
 ghost use Rattle.straight_paths.specs.Cones.{IsShort};
-ghost use Rattle.straight_paths.specs.Corners.{IsNextCorner};
+ghost use Rattle.straight_paths.specs.Corners.{IsNextCorner, step_from};
 ghost use Rattle.straight_paths.specs.Straight.{offset_of, path_from};
 ghost use Rattle.straight_paths.specs.Tails.{limit_of, way_along, IsAtPlace};
 
@@ -79,6 +79,25 @@ impl Track {
         self.laps.step(index)
     }
 
+    /// Whether the step from this index of two laps is taken again so many steps later.
+    pub(crate) fn repeats(&self, index: usize, period: usize) -> bool
+        requires { index + period + 1 < 2 * length self.now }
+        ensures { IsTrue result ↔ (step_from (point_at self.now) (index + period)
+            ≡ step_from (point_at self.now) index) }
+    {
+        // The proof reads here how many points there are at most.
+        let _ = self.size();
+        self.step(index + period).is_same(self.step(index))
+    }
+
+    /// The point at this index of two laps.
+    pub(crate) fn at(&self, index: usize) -> Point
+        requires { index < 2 * length self.now }
+        ensures { result ≡ point_at self.now index }
+    {
+        self.laps.at(index)
+    }
+
     /// The number of steps from this point to the next corner.
     pub(crate) fn next_corner(&self, point: usize) -> u32
         requires { point < length self.now }
@@ -106,6 +125,7 @@ impl Track {
     /// The place in the first lap of an index of two laps.
     pub(crate) fn place(&self, index: usize) -> usize
         requires { index < 2 * length self.now }
+        ensures few { length self.now ≤ 2147483648 }
         ensures at { IsAtPlace self.now result index }
         ensures within { result < length self.now }
     {

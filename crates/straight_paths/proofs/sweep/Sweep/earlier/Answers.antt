@@ -8,8 +8,8 @@ returns-clause-sweep c =
     let shorter = c.earlier.ensures.no_later in
     record {
       tail = c.earlier.ensures.tail;
-      seen = λ k h l. clear_shorter (path_from c.args.track.now k) (c.earlier.result.end - k) (c.args.self.tail.end - k)
-          (omega arith) (c.seen_at-seen.ensures k h (omega arith));
+      seen = λ k h l. clear_shorter (path_from c.args.track.now k) (c.earlier.result.end - k) (c.looked-sweep.result.tail.end - k)
+          (omega arith) (c.looked-sweep.ensures.seen k h (omega arith));
     }
 
 pub returns-clause-clear : goal.returns-clause-clear
