@@ -29,12 +29,35 @@ pub mod Straight
 --   HoldsNear: the cone holds exactly the half-lines from the path's start that come near its next
 --   IsClear: from the path's start, each point of its first `count` steps is near the half-line
 pub mod Cones
+-- Corners of a closed path, and the straight runs between them.
+--   step_from: the step that leaves the path's point number k
+--   IsNextCorner: d is the least number of steps, at least one, from point i to a corner
+--   AreNextCorners: for each point, the number of steps to the next corner
+--   IsRun: the path goes straight on for r steps from its point number s
+--   IsRegular: each of the path's first r steps is taken again q steps later
+--   IsOrdered: on the way from the first number up or down to the third
+--   IsOnWay: so it is from the first point by the second one to the third, in both coordinates
+--   IsStaircase: the path's first `count` steps never go back along a row or a column
+pub mod Corners
+-- How one coordinate goes along a path.
+--   Rises: in the first `count` steps it never goes back by more than 1 on its way up
+--   Falls: nor on its way down
+--   IsCourse
+pub mod Courses
 -- What is straight from an index on, within two laps of a closed path.
 --   limit_of: the most steps that matter
 --   last_of: the last index of two laps
---   IsClearFor: of the steps from point i on, up to the limit
+--   IsAtPlace: an index of the two laps, and its place in one lap
+--   way_along: the way from the path's start to its point number k
+--   IsClearUpTo: of the path's first `most` steps, the cones from its start hold for exactly the
+--   IsClearBefore: of the steps from an index on, up to the limit and to this end
 --   IsStraightFor: of the steps from point i on, up to the limit
+--   AreStraight: for each point, how many steps from there on are straight
 --   IsNext: `index` is where this step is taken next, at `at` or after it
 --   IsAhead
 --   IsTail: of the subpaths from `at`, up to the limit and the last index
+--   AreKnown: for each point, a number of steps from there for which the cones hold
+--   AreSeen: from each index that isn't below the first one and is below the second
+--   IsSweep
+--   IsOneWay: one of east and west isn't taken before the end, and one of north and south
 pub mod Tails

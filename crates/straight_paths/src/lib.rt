@@ -12,9 +12,14 @@
 #![tactic(auto)]
 
 mod cone;
+mod corners;
+mod course;
 mod first;
 mod laps;
 pub mod laws;
 mod offset;
 pub mod reach;
+mod regular;
+mod sweep;
 mod tail;
+mod track;

@@ -1,13 +1,13 @@
 //! How far the possible segments from each point reach.
-ghost use Rattle.std.specs.Prelude.{◌≡◌, ◌↔◌, ◌+◌, ◌<◌, ◌≤◌, ℕ, length, slice_index, IfOk, IsTrue};
+ghost use Rattle.std.specs.Prelude.{◌≡◌, ◌↔◌, ◌<◌, ◌≤◌, length, IfOk, IsTrue};
 ghost use Rattle.pt_base.specs.ClosedWalk.{IsClosedWalk};
 ghost use Rattle.pt_base.specs.OnPage.{AreOnPage};
 ghost use Rattle.straight_paths.specs.Straight.{IsPossible, IsFarthest};
-ghost use Rattle.straight_paths.specs.Tails.{IsTail, IsClearFor, IsStraightFor};
+ghost use Rattle.straight_paths.specs.Corners.{IsNextCorner};
+ghost use Rattle.straight_paths.specs.Tails.{IsSweep, AreKnown, AreStraight};
 
-use crate::first::clear_steps;
-use crate::laps::Laps;
-use crate::tail::Tail;
+use crate::sweep::Sweep;
+use crate::track::Track;
 use pt_base::fault::NoMemory;
 use pt_base::point::Point;
 use std::alloc::Global;
@@ -16,26 +16,24 @@ use std::marker::Model;
 /// The possible segments of a closed walk. Contracts see the walk's points.
 #[derive(Drop)]
 pub struct Reach {
-    laps: Laps,
+    track: Track,
     /// For each point, how many steps from there on are straight.
     straight: Vec<u32>,
 }
 
 impl Model for Reach {
-    ghost use Rattle.std.specs.Prelude.{◌≡◌, ◌<◌, ℕ, List, length, slice_index};
+    ghost use Rattle.std.specs.Prelude.{List};
     ghost use Rattle.pt_base.specs.declared.point.Point.{Point};
     ghost use Rattle.pt_base.specs.ClosedWalk.{IsClosedWalk};
-    ghost use Rattle.straight_paths.specs.Tails.{IsStraightFor};
+    ghost use Rattle.straight_paths.specs.Tails.{AreStraight};
 
     ghost Value = { List Point };
 
-    ghost view = { λ reach. reach.laps };
+    ghost view = { λ reach. reach.track };
 
     ghost invariant = { λ reach. record {
-      closed : IsClosedWalk reach.laps;
-      places : length reach.straight.items ≡ length reach.laps;
-      straight : (i : ℕ) → i < length reach.laps
-          → IsStraightFor reach.laps i (slice_index reach.straight.items i);
+      closed : IsClosedWalk reach.track;
+      straight : AreStraight reach.track reach.straight.items;
     } };
 }
 
@@ -46,12 +44,9 @@ impl Reach {
         requires on_page { AreOnPage points.now }
         ensures { IfOk result (λ reach. reach ≡ points.now) }
     {
-        let laps = Laps::of(alloc, points)?;
-        let mut straight = vec![in alloc; 0; points.len()]?;
-        fill_clear(&laps, &mut straight);
-        let tail = first_lap(&laps, &straight);
-        second_lap(&laps, tail, &mut straight);
-        Ok(Reach { laps, straight })
+        let track = Track::of(alloc, points)?;
+        let straight = straight_of(alloc, &track)?;
+        Ok(Reach { track, straight })
     }
 
     /// The greatest number of steps that a possible segment from this point has.
@@ -61,7 +56,7 @@ impl Reach {
         ensures some { 1 ≤ result }
     {
         let before = if i == 0 {
-            self.laps.size() - 1
+            self.track.size() - 1
         } else {
             i as usize - 1
         };
@@ -77,49 +72,63 @@ impl Reach {
     {
         j - i <= self.far(i)
     }
-}
 
-/// Writes down for how many steps the cones from each point hold.
-fn fill_clear(laps: &Laps, steps: &mut [u32])
-    requires on_page { AreOnPage laps.now }
-    requires places { length steps.old ≡ length laps.now }
-    ensures { (i : ℕ) → i < length laps.now → IsClearFor laps.now i (slice_index steps.new i) }
-{
-    for first in 0..laps.size() {
-        steps[first] = clear_steps(laps, first) as u32;
+    /// The number of steps from this point to the next corner of the walk: a point that it comes to
+    /// by one step and leaves by a step of another direction.
+    pub fn next_corner(&self, i: u32) -> u32
+        requires { i < length self.now }
+        ensures { IsNextCorner self.now i result }
+    {
+        self.track.next_corner(i as usize)
     }
 }
 
-/// What is straight from the first point of the second lap on.
-fn first_lap(laps: &Laps, steps: &[u32]) -> Tail
-    requires some { 1 ≤ length laps.now }
-    requires places { length steps.now ≡ length laps.now }
-    requires clear { (i : ℕ) → i < length laps.now
-        → IsClearFor laps.now i (slice_index steps.now i) }
-    ensures { IsTail laps.now (length laps.now) result }
+/// For each point, how many steps from there on are straight.
+fn straight_of(alloc: Global, track: &Track) -> Result<Vec<u32>, NoMemory>
+    ensures { IfOk result (λ steps. AreStraight track.now steps.items) }
 {
-    let size = laps.size();
-    let mut tail = Tail::at_last(laps);
-    for index in (0..size - 1).rev() {
-        tail = tail.earlier(laps, index + size, steps[index] as usize);
-    }
-    tail
+    let mut steps = vec![in alloc; 0; track.size()]?;
+    fill_straight(track, &mut steps);
+    Ok(steps)
 }
 
-/// Writes down how many steps are straight from each point on, in place of for how many the cones
-/// hold.
-fn second_lap(laps: &Laps, tail: Tail, steps: &mut [u32])
-    requires places { length steps.old ≡ length laps.now }
-    requires clear { (i : ℕ) → i < length laps.now
-        → IsClearFor laps.now i (slice_index steps.old i) }
-    requires tail { IsTail laps.now (length laps.now) tail }
+/// Writes down how many steps are straight from each point on.
+fn fill_straight(track: &Track, steps: &mut [u32])
+    requires known { AreKnown track.now steps.old }
     ensures places { length steps.new ≡ length steps.old }
-    ensures straight { (i : ℕ) → i < length laps.now
-        → IsStraightFor laps.now i (slice_index steps.new i) }
+    ensures straight { AreStraight track.now steps.new }
 {
-    let mut tail = tail;
-    for index in (0..laps.size()).rev() {
-        tail = tail.earlier(laps, index, steps[index] as usize);
-        steps[index] = (tail.end - index) as u32;
+    let sweep = first_lap(track, steps);
+    second_lap(track, sweep, steps);
+}
+
+/// What is straight from the first point of the second lap on. Writes down for how many steps the
+/// cones from each point are known to hold.
+fn first_lap(track: &Track, known: &mut [u32]) -> Sweep
+    requires known { AreKnown track.now known.old }
+    ensures sweep { IsSweep track.now (length track.now) result }
+    ensures places { length known.new ≡ length known.old }
+    ensures known { AreKnown track.now known.new }
+{
+    let size = track.size();
+    let mut sweep = Sweep::at_last(track);
+    for place in (0..size - 1).rev() {
+        sweep = sweep.earlier(track, known, place + size);
+        known[place] = (sweep.tail.end - (place + size)) as u32;
+    }
+    sweep
+}
+
+/// Writes down how many steps are straight from each point on.
+fn second_lap(track: &Track, sweep: Sweep, steps: &mut [u32])
+    requires known { AreKnown track.now steps.old }
+    requires sweep { IsSweep track.now (length track.now) sweep }
+    ensures places { length steps.new ≡ length steps.old }
+    ensures straight { AreStraight track.now steps.new }
+{
+    let mut sweep = sweep;
+    for index in (0..track.size()).rev() {
+        sweep = sweep.earlier(track, steps, index);
+        steps[index] = (sweep.tail.end - index) as u32;
     }
 }

@@ -1,9 +1,9 @@
 //! What is straight from an index on, within two laps.
-ghost use Rattle.std.specs.Prelude.{◌≡◌, ◌≢◌, ◌⊎◌, ◌+◌, ◌*◌, ◌<◌, ◌≤◌, max, length};
-ghost use Rattle.straight_paths.specs.Tails.{IsTail, IsAhead, IsClearFor, last_of};
+ghost use Rattle.std.specs.Prelude.{◌≡◌, ◌≢◌, ◌⊎◌, ◌+◌, ◌*◌, ◌<◌, ◌≤◌, max, length, IsTrue};
+ghost use Rattle.straight_paths.specs.Tails.{IsTail, IsAhead, IsOneWay, IsClearBefore, last_of};
 
-use crate::laps::Laps;
 use crate::offset::Offset;
+use crate::track::Track;
 
 /// Where each step is taken next.
 #[derive(Clone, Copy)]
@@ -16,11 +16,10 @@ pub(crate) struct Ahead {
 
 impl Ahead {
     /// At the last index of two laps: no step is known to be taken.
-    fn at_last(laps: &Laps) -> Ahead
-        requires { 1 ≤ length laps.now }
-        ensures { IsAhead laps.now (last_of laps.now) result }
+    fn at_last(track: &Track) -> Ahead
+        ensures { IsAhead track.now (last_of track.now) result }
     {
-        let last = 2 * laps.size() - 1;
+        let last = 2 * track.size() - 1;
         Ahead {
             east: last,
             north: last,
@@ -30,12 +29,12 @@ impl Ahead {
     }
 
     /// The same from one index earlier.
-    fn earlier(self, laps: &Laps, index: usize) -> Ahead
-        requires index { index + 1 < 2 * length laps.now }
-        requires later { IsAhead laps.now (index + 1) self }
-        ensures { IsAhead laps.now index result }
+    pub(crate) fn earlier(self, track: &Track, index: usize) -> Ahead
+        requires index { index + 1 < 2 * length track.now }
+        requires later { IsAhead track.now (index + 1) self }
+        ensures { IsAhead track.now index result }
     {
-        let step = laps.step(index);
+        let step = track.step(index);
         Ahead {
             east: sooner(step, Offset { x: 1, y: 0 }, index, self.east),
             north: sooner(step, Offset { x: 0, y: 1 }, index, self.north),
@@ -49,6 +48,13 @@ impl Ahead {
         ensures { result ≡ max (max self.east self.north) (max self.west self.south) }
     {
         self.east.max(self.north).max(self.west.max(self.south))
+    }
+
+    /// Whether the path never goes back along a row or a column before this end.
+    pub(crate) fn is_one_way(self, end: usize) -> bool
+        ensures { IsTrue result → IsOneWay self end }
+    {
+        (end <= self.east || end <= self.west) && (end <= self.north || end <= self.south)
     }
 }
 
@@ -72,30 +78,30 @@ pub(crate) struct Tail {
 
 impl Tail {
     /// At the last index of two laps: nothing is known that ends a subpath.
-    pub(crate) fn at_last(laps: &Laps) -> Tail
-        requires { 1 ≤ length laps.now }
-        ensures { IsTail laps.now (last_of laps.now) result }
+    pub(crate) fn at_last(track: &Track) -> Tail
+        ensures { IsTail track.now (last_of track.now) result }
     {
         Tail {
-            end: 2 * laps.size() - 1 + laps.limit(),
-            ahead: Ahead::at_last(laps),
+            end: 2 * track.size() - 1 + track.limit(),
+            ahead: Ahead::at_last(track),
         }
     }
 
-    /// The same from one index earlier, from which the cones hold for so many steps.
+    /// The same from one index earlier, from which the cones hold for so many steps before the end.
     //
     // A subpath is straight if the rest after its first step is, if the cones from its first point
     // hold to its end, and if it ends before the last of the four directions is taken.
-    pub(crate) fn earlier(self, laps: &Laps, index: usize, clear: usize) -> Tail
-        requires size { length laps.now ≤ 2147483648 }
-        requires index { index + 1 < 2 * length laps.now }
-        requires clear { IsClearFor laps.now index clear }
-        requires later { IsTail laps.now (index + 1) self }
-        ensures { IsTail laps.now index result }
+    pub(crate) fn earlier(self, track: &Track, index: usize, clear: usize) -> Tail
+        requires index { index + 1 < 2 * length track.now }
+        requires clear { IsClearBefore track.now index self.end clear }
+        requires later { IsTail track.now (index + 1) self }
+        ensures tail { IsTail track.now index result }
+        ensures no_later { result.end ≤ self.end }
+        ensures clear { result.end ≤ index + clear }
     {
-        let ahead = self.ahead.earlier(laps, index);
+        let ahead = self.ahead.earlier(track, index);
         Tail {
-            end: self.end.min(index + clear).min(ahead.all()),
+            end: ahead.all().min(index + clear),
             ahead,
         }
     }

@@ -1,48 +1,50 @@
-use Rattle.std.proofs.Common.{◌≡◌, ℕ, suc, ◌+◌, subst, rules, arith}
+use Rattle.std.proofs.Common.{◌≡◌, ◌-◌, ◌<◌, min, subst, rules, arith}
 use Rattle.straight_paths.specs.Straight.{path_from}
-use Rattle.straight_paths.specs.Cones.{HoldsNear, Holds, IsClear}
-use Rattle.straight_paths.proofs.Clear.{narrowed_holds, next_clear, not_clear, way_is_next}
+use Rattle.straight_paths.specs.Cones.{Holds, IsClear}
+use Rattle.straight_paths.specs.Corners.{IsRun}
+use Rattle.straight_paths.proofs.Clear.{path_run, next_holds, next_clear, ends_within}
 use Rattle.straight_paths.proofs.first.clear_steps.Goals as goal
 
 pub loop-steps-preserved : goal.loop-steps-preserved
 loop-steps-preserved c =
     let s = c.loop-steps.steps in
-    let points = c.args.laps.now in
-    let path = path_from points c.args.first in
-    let way = c.between-way.result in
-    let way_is = way_is_next points c.args.first s _ _ way c.between-way.ensures c.at-start.ensures c.at.ensures in
-    let held : Holds c.loop-steps.cone way = search rules in
-    let e : suc s ≡ s + 1 = omega arith in
+    let next = c.min-next.result in
+    let path = path_from c.args.track.now c.args.first in
     let inv = c.loop-steps.invariant in
+    let corner = c.corner_after.ensures.corner in
+    let after = c.corner_after.ensures.later in
+    let at : next ≡ min c.corner_after.result c.args.most = search rules in
+    let more : s < next = omega arith in
+    let run : IsRun path s (next - s) = path_run c.args.track.now c.args.first s (c.corner_after.result - s) (next - s) corner (omega arith) in
+    let held : Holds c.loop-steps.cone c.way-way.result = search rules in
     record {
+      within = omega arith;
       sound = c.narrowed-cone.ensures.sound;
-      holds = subst (λ (n : ℕ). HoldsNear path n c.narrowed-cone.result) e
-          (narrowed_holds path s c.loop-steps.cone way way_is inv.holds c.narrowed-cone.result c.narrowed-cone.ensures.both);
-      clear = subst (λ (n : ℕ). IsClear path n) e
-          (next_clear path s c.loop-steps.cone way way_is inv.holds inv.clear held);
+      holds = next_holds path s next c.loop-steps.cone c.way-way.result c.way-way.ensures.value more run inv.holds
+          c.narrowed-cone.result c.narrowed-cone.ensures.both;
+      clear = next_clear path s next c.loop-steps.cone c.way-way.result c.way-way.ensures.value more run inv.holds inv.clear held;
     }
 
 pub returns-then-not-holds : goal.returns-then-not-holds
 returns-then-not-holds c =
     let s = c.loop-steps.steps in
-    let points = c.args.laps.now in
-    let path = path_from points c.args.first in
-    let way = c.between-way.result in
-    let way_is = way_is_next points c.args.first s _ _ way c.between-way.ensures c.at-start.ensures c.at.ensures in
-    let out : ¬ Holds c.loop-steps.cone way = search rules in
+    let next = c.min-next.result in
+    let path = path_from c.args.track.now c.args.first in
     let inv = c.loop-steps.invariant in
-    record {
-      most = omega arith;
-      clear = inv.clear;
-      no_more = λ n m k. not_clear path s c.loop-steps.cone way way_is inv.holds out n k;
-    }
+    let corner = c.corner_after.ensures.corner in
+    let after = c.corner_after.ensures.later in
+    let at : next ≡ min c.corner_after.result c.args.most = search rules in
+    let run : IsRun path s (next - s) = path_run c.args.track.now c.args.first s (c.corner_after.result - s) (next - s) corner (omega arith) in
+    ends_within path s next c.last_held.result c.args.most c.loop-steps.cone
+    c.last_held.ensures.at_least c.last_held.ensures.below (omega arith) run inv.holds inv.clear
+    c.last_held.ensures.last c.last_held.ensures.next
 
 pub returns : goal.returns
 returns c =
     let inv = c.loop-steps.invariant in
-    let e : c.loop-steps.steps ≡ c.limit-limit.result = omega arith in
+    let e : c.loop-steps.steps ≡ c.args.most = omega (arith, inv.within) in
     record {
-      most = omega arith;
-      clear = subst (λ (n : ℕ). IsClear (path_from c.args.laps.now c.args.first) n) e inv.clear;
-      no_more = λ n m k. omega arith;
+      within = omega arith;
+      clear = subst (IsClear (path_from c.args.track.now c.args.first)) e inv.clear;
+      no_more = λ n m k. m;
     }

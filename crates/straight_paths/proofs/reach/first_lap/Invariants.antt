@@ -1,6 +1,9 @@
 use Rattle.std.proofs.Common.{◌+◌, length}
-use Rattle.straight_paths.specs.Tails.{IsTail}
+use Rattle.straight_paths.specs.Tails.{IsSweep, AreKnown}
 use Rattle.straight_paths.proofs.reach.first_lap.Given as goal
 
-abbrev pub invariant-loop-index : goal.invariant-loop-index
-invariant-loop-index l = IsTail l.laps (l.index + length l.laps) l.tail
+abbrev pub invariant-loop-place : goal.invariant-loop-place
+invariant-loop-place l = record {
+  sweep : IsSweep l.track (l.place + length l.track) l.sweep;
+  known : AreKnown l.track l.known;
+}
