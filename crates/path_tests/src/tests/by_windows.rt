@@ -1,4 +1,6 @@
 //! Best polygons beside those of the plain program.
+ghost use Rattle.pt_base.specs.ClosedWalk.{IsClosedWalk};
+ghost use Rattle.pt_base.specs.OnPage.{AreOnPage};
 
 use crate::tests::plain_best::plain_polygon;
 use bit_image::bitmap::Bitmap;
@@ -6,6 +8,8 @@ use page_samples::pages::{noise, numbered};
 use page_samples::shapes::{Shape, shaped};
 use path_decompose::decomposition::decompose;
 use polygon_optimal::optimal::polygon;
+use pt_base::closed_walk::is_closed_walk;
+use pt_base::point::Point;
 use pt_base::policy::Policy;
 use std::alloc::Global;
 use std::test::Fail;
@@ -80,12 +84,20 @@ fn compared(alloc: Global, page: &Bitmap, policy: Policy) -> Result<(u32, u32), 
     let (mut paths, mut alike) = (0u32, 0u32);
     for path in decompose(alloc, page, policy)? {
         let points = path.points.as_slice();
-        let best = polygon(alloc, points)?;
-        let (at, cost) = plain_polygon(alloc, points)?;
         paths = paths.wrapping_add(1);
-        if best.at.as_slice() == at.as_slice() && best.cost == cost {
+        if is_closed_walk(points) && is_alike(alloc, points)? {
             alike = alike.wrapping_add(1);
         }
     }
     Ok((paths, alike))
+}
+
+/// Whether the plain program gives the same polygon of a path.
+fn is_alike(alloc: Global, points: &[Point]) -> Result<bool, Fail>
+    requires closed { IsClosedWalk points.now }
+    requires on_page { AreOnPage points.now }
+{
+    let best = polygon(alloc, points)?;
+    let (at, cost) = plain_polygon(alloc, points)?;
+    Ok(best.at.as_slice() == at.as_slice() && best.cost == cost)
 }
