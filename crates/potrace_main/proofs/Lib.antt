@@ -1,6 +1,7 @@
-pub mod Asking
 pub mod Exists
 pub mod Finishing
+pub mod OneAsk
+pub mod Possible
 pub mod OneItems
 pub mod Outcomes
 pub mod Paging

@@ -11,19 +11,19 @@ pub mod Messages
 -- What the words of the command line ask for.
 --   policy_word: the word of a policy (the potrace manual page, option "turnpolicy")
 --   backend_word: the word of a backend
---   greatest_speckle: the greatest speckle limit
---   form: the words `-b BACKEND -z POLICY -t N`, and then others
---   IsValued: the three values name a backend, a policy and a speckle limit
---   Begins: the words begin with these values, and the options follow
---   LacksWord: the words don't begin with this one
---   TakesValue: where the words begin with this name, the next word spells the number n
---   SpellsNumber: the text is a decimal number of n millionths, at most so many
---   SpellsWhole: the text is the whole number n, in this range
---   TakesNumber: the number behind this name is a decimal one
---   TakesWhole: the number behind this name is a whole one
---   TakesWord: whether the words begin with this one
---   IsAsked: the words ask for pages to be read, traced and written so
---   IsOffered: the program can do what the settings say
+--   NamesBackend: the value of `-b`, and whether `-s` and `-e` are given, name this backend
+--   NamesPolicy: the value of `-z` names this policy
+--   IsWholeOr: n is the default where there is no value; else the value is the whole number n, in a range
+--   IsMicroOr: n is the default where there is no value; else the value is a decimal number of n millionths
+--   GivesSettings: the options give these settings
+--   AreProper: no file name is empty, and standard input is named at most once
+--   inputs_of: the files to be read
+--   AsksFiles: files are to be traced
+--   AsksOf: what the options and files ask for
+--   Asks: what words that come to this ask for
+--   IsAsked: the words ask for this
+--   IsOffered: pages can be read, and documents written, under the settings
+--   CanBeDone: the program can do what is asked for
 pub mod Asked
 -- What a run is to write, in order.
 --   Item: one thing to write
