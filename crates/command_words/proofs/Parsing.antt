@@ -70,14 +70,14 @@ pub helps_by : (a : App) (words : List (List ℕ)) (k : ErrorKind) → a ≡ com
     → (is_simple_and_free a ≡ true → (k ≡ kind.OutOfMemory) ⊎ IsAmong k (fault_of a words)) → k ≡ kind.DisplayHelp → Help ≡ parsed words
 helps_by a words k e has is = go (has (ap is_simple_and_free e ∙ is_simple_command))
   where
-  go : (k ≡ kind.OutOfMemory) ⊎ IsAmong k (fault_of a words) → Help ≡ parsed words
-  go (inl m) = absurd (true≢false (sym (ap is_memory m) ∙ ap is_memory is))
-  go (inr among) = helps words (subst (λ (x : App). IsAmong kind.DisplayHelp (fault_of x words)) e (subst (λ (x : ErrorKind). IsAmong x (fault_of a words)) is among))
+    go : (k ≡ kind.OutOfMemory) ⊎ IsAmong k (fault_of a words) → Help ≡ parsed words
+    go (inl m) = absurd (true≢false (sym (ap is_memory m) ∙ ap is_memory is))
+    go (inr among) = helps words (subst (λ (x : App). IsAmong kind.DisplayHelp (fault_of x words)) e (subst (λ (x : ErrorKind). IsAmong x (fault_of a words)) is among))
 
 pub refuses_by : (a : App) (words : List (List ℕ)) (k : ErrorKind) → a ≡ command
     → (is_simple_and_free a ≡ true → (k ≡ kind.OutOfMemory) ⊎ IsAmong k (fault_of a words)) → k ≢ kind.DisplayHelp → k ≢ kind.OutOfMemory → Refused ≡ parsed words
 refuses_by a words k e has other memory = go (has (ap is_simple_and_free e ∙ is_simple_command))
   where
-  go : (k ≡ kind.OutOfMemory) ⊎ IsAmong k (fault_of a words) → Refused ≡ parsed words
-  go (inl m) = absurd (memory m)
-  go (inr among) = refuses words k (subst (λ (x : App). IsAmong k (fault_of x words)) e among) other
+    go : (k ≡ kind.OutOfMemory) ⊎ IsAmong k (fault_of a words) → Refused ≡ parsed words
+    go (inl m) = absurd (memory m)
+    go (inr among) = refuses words k (subst (λ (x : App). IsAmong k (fault_of x words)) e among) other

@@ -100,9 +100,7 @@ fn with_long_flag<'a>(
     ensures { IfOk result
         (λ c. app_of c ≡ with_rule (app_of command.entry) (long_flag name.entry.now)) }
 {
-    let arg = Arg::new(alloc, name)
-        .long(name)
-        .action(ArgAction::SetTrue);
+    let arg = Arg::new(alloc, name).long(name).action(ArgAction::SetTrue);
     command.arg(arg)
 }
 

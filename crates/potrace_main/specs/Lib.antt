@@ -25,6 +25,10 @@ pub mod Messages
 --   IsOffered: pages can be read, and documents written, under the settings
 --   CanBeDone: the program can do what is asked for
 pub mod Asked
+-- What the program tells of itself.
+--   help_text: how the program is used
+--   version_text: which version the program is
+pub mod Usage
 -- What a run is to write, in order.
 --   Item: one thing to write
 --   most_pages: how many pages a run accepts

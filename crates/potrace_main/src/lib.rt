@@ -10,4 +10,5 @@ mod numbers;
 mod pages;
 mod settings_given;
 pub mod top;
+pub mod usage;
 pub mod words;

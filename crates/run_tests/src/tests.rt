@@ -6,3 +6,4 @@ mod failing;
 mod formats;
 mod pages;
 mod refusals;
+mod words;
