@@ -1,4 +1,3 @@
-use Rattle.std.proofs.Common.{map, string_bytes}
 use Rattle.std.proofs.lemmas.Result.{IfOk-weaker}
 use Rattle.potrace_main.specs.Asked.{Asks, CanBeDone}
 use Rattle.potrace_main.proofs.Possible.{possible_of_parsed}
