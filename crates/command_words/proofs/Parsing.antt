@@ -1,5 +1,5 @@
 -- What `clap` answers is what the definitions say.
-use Rattle.std.proofs.Common.{◌≡◌, ◌≢◌, ◌∙◌, ◌∷◌, ◌⊎◌, ℕ, Bool, true, false, List, [], refl, sym, ap, subst, inl, inr, true≢false}
+use Rattle.std.proofs.Common.{◌≡◌, ◌≢◌, ◌∙◌, ◌⊎◌, ℕ, Bool, true, false, List, [], refl, sym, ap, subst, inl, inr, true≢false}
 use Rattle.clap.specs.Walk.{Row}
 use Rattle.clap.specs.Simple.{App, is_simple, matches_of}
 use Rattle.clap.specs.Kinds.{Kinds, IsAmong}
@@ -9,7 +9,6 @@ use Rattle.clap.specs.declared.error.kind.ErrorKind.TheVariants as kind
 use Rattle.command_words.specs.Command.{command, faults_of_words, rows_of_words}
 use Rattle.command_words.specs.Given.{Given, given_of}
 use Rattle.command_words.specs.Parsed.{parsed, parsed_by, parsed_by_fault}
-use Rattle.command_words.specs.declared.parsed.Parsed.{Parsed}
 use Rattle.command_words.specs.declared.parsed.Parsed.TheVariants.{Help, Refused, Gives}
 use Rattle.command_words.proofs.OneFault.{IsFew, among_few, few_faults}
 

@@ -6,7 +6,7 @@ ghost use Rattle.command_words.specs.Command.{command, document_options, flag, l
 use clap::{Arg, ArgAction, Command};
 use std::alloc::{AllocError, Global};
 
-/// The program's command. Each option stands at most once, and all words come without the program's name.
+/// The program's command. Its words come without the program's name.
 pub fn program<'a>(alloc: Global) -> Result<Command<'a>, AllocError>
     ensures { IfOk result (λ c. app_of c ≡ command) }
 {

@@ -1,22 +1,18 @@
 -- Words ask for one thing, and what they ask for can be done.
-use Rattle.std.proofs.Common.{◌≡◌, ◌≢◌, ◌≤◌, ◌∙◌, ℕ, Bool, true, false, List, [], ◌∷◌, Option, Some, None, All, refl, sym, ap, sum, codes, arith}
-use Rattle.pt_base.specs.Micro.{IsMicro}
-use Rattle.pt_base.specs.Whole.{IsWhole}
+use Rattle.std.proofs.Common.{◌≡◌, ◌∙◌, ℕ, Bool, true, false, List, Option, Some, None, refl, sym, ap, sum, arith}
 use Rattle.pt_base.proofs.Decimals.{one_micro}
 use Rattle.pt_base.specs.declared.policy.Policy.{Policy}
 use Rattle.pt_base.specs.declared.policy.Policy.TheVariants.{Left, Right, Black, White, Majority, Minority}
 use Rattle.pt_base.specs.declared.settings.Backend.{Backend}
 use Rattle.pt_base.specs.declared.settings.Backend.TheVariants.{Eps, Svg, Dxf, GeoJson, Points, Polygons}
 use Rattle.pt_base.specs.declared.settings.Settings.{Settings}
-use Rattle.page_trace.specs.Document.{CanDraw, CanTrace, CanWrite}
 use Rattle.command_words.specs.Given.{Given}
 use Rattle.command_words.specs.Parsed.{parsed}
 use Rattle.command_words.specs.declared.parsed.Parsed.{Parsed}
 use Rattle.command_words.specs.declared.parsed.Parsed.TheVariants as words
 use Rattle.potrace_main.specs.declared.ask.Ask.{Ask}
 use Rattle.potrace_main.specs.declared.ask.Ask.TheVariants.{Help, Version, Demo, Files}
-use Rattle.potrace_main.specs.Asked.{Asks, AsksFiles, AsksOf, CanBeDone, GivesSettings, IsAsked, IsMicroOr, IsOffered, IsWholeOr, NamesBackend, NamesPolicy, backend_word, inputs_of, policy_word}
-use Rattle.potrace_main.specs.Messages.{dash}
+use Rattle.potrace_main.specs.Asked.{Asks, AsksOf, GivesSettings, IsAsked, IsMicroOr, IsWholeOr, NamesBackend, NamesPolicy, backend_word, policy_word}
 
 -- One ask.
 

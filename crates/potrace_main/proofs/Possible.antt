@@ -1,5 +1,6 @@
 -- What words ask for can be done.
-use Rattle.std.proofs.Common.{◌≡◌, ◌≢◌, ◌≤◌, ◌∙◌, ℕ, Bool, true, false, List, [], ◌∷◌, Option, Some, None, All, refl, sym, ap, subst, codes, length, arith}
+use Rattle.std.proofs.Common.{◌≡◌, ◌≢◌, ◌≤◌, ℕ, Bool, true, false, List, [], ◌∷◌, Option, Some, None, All, sym, ap, subst, codes, length, arith}
+use Rattle.std.proofs.lemmas.List.Elements.{All-cons, All-nil}
 use Rattle.pt_base.specs.declared.settings.Backend.{Backend}
 use Rattle.pt_base.specs.declared.settings.Backend.TheVariants.{Eps, Svg, Dxf, GeoJson, Points, Polygons}
 use Rattle.pt_base.specs.declared.settings.Settings.{Settings}
@@ -11,12 +12,13 @@ use Rattle.command_words.specs.declared.parsed.Parsed.TheVariants as words
 use Rattle.potrace_main.specs.declared.ask.Ask.{Ask}
 use Rattle.potrace_main.specs.declared.ask.Ask.TheVariants.{Help, Version, Demo, Files}
 use Rattle.potrace_main.specs.Asked.{Asks, AsksFiles, AsksOf, CanBeDone, GivesSettings, IsAsked, IsMicroOr, IsOffered, IsWholeOr, inputs_of}
+use Rattle.potrace_main.specs.Messages.{dash}
 
 -- a number is in its range where its default is
 whole_within : (text : Option (List ℕ)) (default least most n : ℕ) → least ≤ default → default ≤ most → IsWholeOr text default least most n
     → (least ≤ n) × (n ≤ most)
 whole_within None default least most n from to is = rw is (from, to)
-whole_within (Some text) default least most n from to is = is.1
+whole_within (Some text) default least most n from to is = (is.1, is.2)
 
 micro_within : (text : Option (List ℕ)) (default most n : ℕ) → default ≤ most → IsMicroOr text default most n → n ≤ most
 micro_within None default most n to is = rw is to
@@ -24,8 +26,8 @@ micro_within (Some text) default most n to is = is.1
 
 -- what can be drawn can be written by each backend
 can_write : (backend : Backend) (settings : Settings) → CanDraw settings → CanWriteUnder backend settings
-can_write Points settings can = ()
-can_write Polygons settings can = ()
+can_write Points settings can = tt
+can_write Polygons settings can = tt
 can_write Svg settings can = can
 can_write Eps settings can = can
 can_write Dxf settings can = can.traced
@@ -48,14 +50,14 @@ offered g settings gives =
     }
 
 some_input : (files : List (List ℕ)) → inputs_of files ≢ []
-some_input [] e = let n : length (inputs_of []) ≡ length [] = ap length e in omega (arith, n)
-some_input (file ∷ files) e = let n : length (file ∷ files) ≡ length [] = ap length e in omega (arith, n)
+some_input [] e = let n : length (inputs_of []) ≡ 0 = ap (λ (names : List (List ℕ)). length names) e in omega (arith, n)
+some_input (file ∷ files) e = let n : length (file ∷ files) ≡ 0 = ap (λ (names : List (List ℕ)). length names) e in omega (arith, n)
 
 dash_named : codes "-" ≢ []
-dash_named e = let n : length (codes "-") ≡ length [] = ap length e in omega (arith, n)
+dash_named e = let n : length (codes "-") ≡ 0 = ap (λ (name : List ℕ). length name) e in omega (arith, n)
 
 named_inputs : (files : List (List ℕ)) → All (λ name. name ≢ []) files → All (λ name. name ≢ []) (inputs_of files)
-named_inputs [] named = (dash_named, ())
+named_inputs [] named = All-cons (λ (name : List ℕ). name ≢ []) dash [] dash_named (All-nil (λ (name : List ℕ). name ≢ []))
 named_inputs (file ∷ files) named = named
 
 files_can_be_done : (g : Given) (names : List (List ℕ)) (output : Option (List ℕ)) (workers : ℕ) (settings : Settings)
@@ -64,8 +66,8 @@ files_can_be_done g names output workers settings asks =
     (offered g settings asks.under, rw asks.inputs (some_input g.files), rw asks.inputs (named_inputs g.files asks.proper.not_empty), rw asks.named asks.output_not_empty)
 
 possible_of_given : (version : Bool) (g : Given) (ask : Ask) → AsksOf version g ask → CanBeDone ask
-possible_of_given true g Help asks = ()
-possible_of_given true g Version asks = ()
+possible_of_given true g Help asks = tt
+possible_of_given true g Version asks = tt
 possible_of_given true g (Demo pages workers settings) asks = absurd (let e : Demo pages workers settings ≡ Version = asks in cc)
 possible_of_given true g (Files names output workers settings) asks = absurd (let e : Files names output workers settings ≡ Version = asks in cc)
 possible_of_given false g Help asks = absurd asks
@@ -73,8 +75,8 @@ possible_of_given false g Version asks = absurd asks
 possible_of_given false g (Demo pages workers settings) asks = absurd asks
 possible_of_given false g (Files names output workers settings) asks = files_can_be_done g names output workers settings asks
 
-possible_of_parsed : (p : Parsed) (ask : Ask) → Asks p ask → CanBeDone ask
-possible_of_parsed words.Help ask asks = subst CanBeDone (sym asks) ()
+pub possible_of_parsed : (p : Parsed) (ask : Ask) → Asks p ask → CanBeDone ask
+possible_of_parsed words.Help ask asks = subst CanBeDone (sym asks) tt
 possible_of_parsed words.Refused ask asks = absurd asks
 possible_of_parsed (words.Gives g) ask asks = possible_of_given g.version g ask asks
 

@@ -202,28 +202,32 @@ fn split(alloc: Global, line: &str) -> Result<Vec<String>, Fail> {
 
 /// What the words ask for.
 fn told(alloc: Global, words: &[String]) -> Result<String, Fail> {
+    let text = match settings_of(alloc, words) {
+        Ok(ask) => shown(alloc, &ask)?,
+        Err(WordFault::Bad) => String::from_str(alloc, "Bad")?,
+        Err(WordFault::NoMemory) => String::from_str(alloc, "NoMemory")?,
+    };
+    Ok(text)
+}
+
+fn shown(alloc: Global, ask: &Ask) -> Result<String, Fail> {
     let mut text = String::new(alloc);
-    match settings_of(alloc, words) {
-        Ok(Ask::Help) => text.push_str("Help")?,
-        Ok(Ask::Version) => text.push_str("Version")?,
-        Ok(Ask::Demo { .. }) => text.push_str("Demo")?,
-        Ok(Ask::Files {
+    match ask {
+        Ask::Help => text.push_str("Help")?,
+        Ask::Version => text.push_str("Version")?,
+        Ask::Demo { .. } => text.push_str("Demo")?,
+        Ask::Files {
             names,
             output,
             workers,
             settings,
-        }) => {
-            put_values(alloc, &mut text, &settings)?;
-            put_flags(&mut text, &settings)?;
-            put_number(alloc, &mut text, "workers", workers, 1)?;
+        } => {
+            put_values(alloc, &mut text, settings)?;
+            put_flags(&mut text, settings)?;
+            put_number(alloc, &mut text, "workers", *workers, 1)?;
             put_names(&mut text, names.as_slice())?;
-            if let Some(output) = output {
-                text.push_str(" > ")?;
-                text.push_str(output.as_str())?;
-            }
+            put_output(&mut text, output)?;
         }
-        Err(WordFault::Bad) => text.push_str("Bad")?,
-        Err(WordFault::NoMemory) => text.push_str("NoMemory")?,
     }
     Ok(text)
 }
@@ -277,6 +281,15 @@ fn put_names(text: &mut String, names: &[Name]) -> Result<(), Fail> {
         if i > 0 {
             text.push_str(" ")?;
         }
+        text.push_str(name.as_str())?;
+    }
+    Ok(())
+}
+
+/// The output's name behind `>`, where there is one.
+fn put_output(text: &mut String, output: &Option<Name>) -> Result<(), Fail> {
+    if let Some(name) = output {
+        text.push_str(" > ")?;
         text.push_str(name.as_str())?;
     }
     Ok(())

@@ -1,6 +1,6 @@
-use Rattle.std.proofs.Common.{◌≡◌, ◌∙◌, ap, codes, true}
+use Rattle.std.proofs.Common.{◌≡◌, ◌∙◌, ap, true}
 use Rattle.std.proofs.lemmas.Result.{IfOk-weaker}
-use Rattle.clap.specs.Simple.{App, app_of, app_of_fields, new_app}
+use Rattle.clap.specs.Simple.{App, app_of, app_of_fields}
 use Rattle.command_words.specs.Command.{document_options, outline_options, page_options, run_options, unnamed, with_rules}
 use Rattle.command_words.proofs.command.program.Goals as goal
 
