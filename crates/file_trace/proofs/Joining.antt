@@ -29,23 +29,33 @@ pages_join settings name base ending F G after on (raw ∷ raws) pages made item
 pages_join settings name base ending F G after on (raw ∷ raws) pages made items goes (inr (full, is)) = absurd (subst GoesOn is goes)
 
 -- the items of files, and then those of files behind them
-pub items_join : (contents : Option Contents) (settings : Settings) (output : Option (List ℕ)) (F : Rest) (back mid : List (List ℕ)) (after : List Item)
-    → AreItems contents settings output F back mid after → (front made : List (List ℕ)) (before : List Item) → GoesOn before
-    → AreItems contents settings output (EndsWith mid) front made before → AreItems contents settings output F (front ++ back) made (before ++ after)
-items_join contents settings output F back mid after follow [] made before goes (same, none) =
-    let P : List (List ℕ) → Type 0 = λ m. AreItems contents settings output F back m (before ++ after) in
-    let Q : List Item → Type 0 = λ l. AreItems contents settings output F back mid (l ++ after) in
-    subst P (sym same) (subst Q (sym none) follow)
-items_join contents settings output F back mid after follow (name ∷ front) made before goes (inl (absent, is)) = absurd (subst GoesOn is goes)
-items_join contents settings output F back mid after follow (name ∷ front) made before goes (inr (raws, ending, holds, are)) =
+pub items_behind : (contents : Option Contents) (settings : Settings) (output : Option (List ℕ)) (F G : Rest) (back : List (List ℕ)) (after : List Item)
+    → ((made : List (List ℕ)) (items : List Item) → GoesOn items → F made items → AreItems contents settings output G back made (items ++ after))
+    → (front made : List (List ℕ)) (before : List Item) → GoesOn before
+    → AreItems contents settings output F front made before → AreItems contents settings output G (front ++ back) made (before ++ after)
+items_behind contents settings output F G back after on [] made before goes are = on made before goes are
+items_behind contents settings output F G back after on (name ∷ front) made before goes (inl (absent, is)) = absurd (subst GoesOn is goes)
+items_behind contents settings output F G back after on (name ∷ front) made before goes (inr (raws, ending, holds, are)) =
     inr (
       raws,
       ending,
       holds,
-      pages_join settings name (base_name output settings.backend name) ending (AreItems contents settings output (EndsWith mid) front)
-          (AreItems contents settings output F (front ++ back)) after
-          (λ m items goes_on h. items_join contents settings output F back mid after follow front m items goes_on h) raws 0 made before goes are,
+      pages_join settings name (base_name output settings.backend name) ending (AreItems contents settings output F front)
+          (AreItems contents settings output G (front ++ back)) after
+          (λ m items goes_on h. items_behind contents settings output F G back after on front m items goes_on h) raws 0 made before goes are,
     )
+
+-- the same where those of the first files end with these base names
+pub items_join : (contents : Option Contents) (settings : Settings) (output : Option (List ℕ)) (F : Rest) (back mid : List (List ℕ)) (after : List Item)
+    → AreItems contents settings output F back mid after → (front made : List (List ℕ)) (before : List Item) → GoesOn before
+    → AreItems contents settings output (EndsWith mid) front made before → AreItems contents settings output F (front ++ back) made (before ++ after)
+items_join contents settings output F back mid after follow front made before goes are =
+    items_behind contents settings output (EndsWith mid) F back after on front made before goes are where
+      on : (m : List (List ℕ)) (items : List Item) → GoesOn items → EndsWith mid m items → AreItems contents settings output F back m (items ++ after)
+      on m items goes_on (same, none) =
+          let P : List (List ℕ) → Type 0 = λ n. AreItems contents settings output F back n (items ++ after) in
+          let Q : List Item → Type 0 = λ l. AreItems contents settings output F back mid (l ++ after) in
+          subst P (sym same) (subst Q (sym none) follow)
 
 opened_on : (n k l m o : ℕ) → m ≡ min (l + n) last_count → o ≡ min (m + (k + 1)) last_count → o ≡ min (l + (n + k + 1)) last_count
 opened_on n k l m o e f = omega (arith, e, f)

@@ -1,10 +1,5 @@
-pub mod Exists
-pub mod Finishing
+pub mod Completing
+pub mod Known
 pub mod OneAsk
 pub mod Possible
-pub mod OneItems
-pub mod Outcomes
-pub mod Paging
-pub mod Reading
-pub mod Saying
-pub mod Tracing
+pub mod Running

@@ -11,8 +11,9 @@ use Rattle.command_words.specs.declared.parsed.Parsed.{Parsed}
 use Rattle.command_words.specs.declared.parsed.Parsed.TheVariants as words
 use Rattle.potrace_main.specs.declared.ask.Ask.{Ask}
 use Rattle.potrace_main.specs.declared.ask.Ask.TheVariants.{Help, Version, Demo, Files}
-use Rattle.potrace_main.specs.Asked.{Asks, AsksFiles, AsksOf, CanBeDone, GivesSettings, IsAsked, IsMicroOr, IsOffered, IsWholeOr, inputs_of}
-use Rattle.potrace_main.specs.Messages.{dash}
+use Rattle.potrace_main.specs.Asked.{Asks, AsksFiles, AsksOf, CanBeDone, GivesSettings, IsAsked, IsMicroOr, IsWholeOr, inputs_of}
+use Rattle.file_trace.specs.Offered.{IsOffered}
+use Rattle.file_trace.specs.Names.{dash}
 
 -- a number is in its range where its default is
 whole_within : (text : Option (List ℕ)) (default least most n : ℕ) → least ≤ default → default ≤ most → IsWholeOr text default least most n

@@ -8,12 +8,12 @@ use Rattle.pt_base.specs.declared.policy.Policy.TheVariants.{Left, Right, Black,
 use Rattle.pt_base.specs.declared.settings.Backend.{Backend}
 use Rattle.pt_base.specs.declared.settings.Backend.TheVariants.{Eps, Svg, Dxf, GeoJson, Points, Polygons}
 use Rattle.pt_base.specs.declared.settings.Settings.{Settings}
-use Rattle.page_trace.specs.Document.{CanWrite}
+use Rattle.file_trace.specs.Offered.{IsOffered}
 use Rattle.command_words.specs.Given.{Given}
 use Rattle.command_words.specs.Parsed.{parsed}
 use Rattle.command_words.specs.declared.parsed.Parsed.{Parsed}
 use Rattle.command_words.specs.declared.parsed.Parsed.TheVariants as words
-use Rattle.potrace_main.specs.Messages.{dash}
+use Rattle.file_trace.specs.Names.{dash}
 use Rattle.potrace_main.specs.declared.ask.Ask.{Ask}
 use Rattle.potrace_main.specs.declared.ask.Ask.TheVariants.{Help, Version, Demo, Files}
 
@@ -109,11 +109,6 @@ Asks (words.Gives given) ask = AsksOf given.version given ask
 -- the words ask for this
 abbrev pub IsAsked : List (List ℕ) → Ask → Type 0
 IsAsked words ask = Asks (parsed words) ask
-
--- pages can be read, and documents written, under the settings
-pub record IsOffered (settings : Settings) : Type 0 where
-  pub document : CanWrite settings
-  pub level : settings.level ≤ 1000000
 
 -- the program can do what is asked for: the settings are in range, there is a file, and no name is empty
 abbrev pub CanBeDone : Ask → Type 0

@@ -1,13 +1,10 @@
-//! All that the program does: what its words ask, its messages, and its run over the pages.
+//! All that the program does: what its words ask, and its run over the files.
 #![tactic(auto)]
 
 pub mod ask;
 pub mod asking;
-mod document;
-pub mod laws;
-pub mod message;
+mod files;
 mod numbers;
-mod pages;
 mod settings_given;
 pub mod top;
 pub mod usage;

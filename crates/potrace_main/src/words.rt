@@ -2,7 +2,7 @@
 ghost use Rattle.std.specs.Str.{bytes_eq};
 ghost use Rattle.std.specs.Prelude.{◌≡◌, ◌≢◌, ◌↔◌, [], All, IfOk, IsErrOf, IsTrue, Some, count_by, false, map, option_map, string_bytes};
 ghost use Rattle.potrace_main.specs.Asked.{AreProper, Asks, AsksOf, CanBeDone, GivesSettings, IsAsked, inputs_of};
-ghost use Rattle.potrace_main.specs.Messages.{dash};
+ghost use Rattle.file_trace.specs.Names.{dash};
 ghost use Rattle.potrace_main.specs.declared.ask.Ask.{Ask};
 
 use crate::ask::{Ask, WordFault};

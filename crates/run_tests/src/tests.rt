@@ -3,6 +3,7 @@
 mod cases;
 mod documents;
 mod failing;
+mod files;
 mod formats;
 mod pages;
 mod refusals;

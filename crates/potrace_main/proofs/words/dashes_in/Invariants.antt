@@ -1,7 +1,7 @@
 use Rattle.std.proofs.Common.{◌≡◌, take}
 use Rattle.std.specs.Prelude.{count_by}
 use Rattle.std.specs.Str.{bytes_eq}
-use Rattle.potrace_main.specs.Messages.{dash}
+use Rattle.file_trace.specs.Names.{dash}
 use Rattle.potrace_main.proofs.words.dashes_in.Given as goal
 
 -- the names so far are counted
