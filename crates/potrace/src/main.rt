@@ -1,7 +1,7 @@
 //! potrace: traces bitmaps to outlines. All that it does is one call, `run` of `potrace_main`.
 #![tactic(auto)]
 
-use potrace_main::message::{say_bad_words, say_out_of_memory};
+use file_trace::message::{say_bad_words, say_out_of_memory};
 use potrace_main::top::run;
 use pt_base::err_sink::ErrSink;
 use pt_base::file_inputs::FileInputs;
@@ -17,7 +17,7 @@ fn main(rt: HostRuntime) -> ExitCode {
     let args = match env::args(&rt) {
         Ok(args) => args,
         Err(error) => {
-            // A word that isn't text is none of the program's.
+            // A word that isn't UTF-8 is none of the program's.
             if error.kind() == ErrorKind::OutOfMemory {
                 say_out_of_memory(&mut errs);
                 return ExitCode::from(5);

@@ -1,9 +1,5 @@
-pub mod Asking
-pub mod Exists
-pub mod Finishing
-pub mod OneItems
-pub mod Outcomes
-pub mod Paging
-pub mod Reading
-pub mod Saying
-pub mod Tracing
+pub mod Completing
+pub mod Known
+pub mod OneAsk
+pub mod Possible
+pub mod Running

@@ -1,5 +1,6 @@
--- What the words of the command line ask for.
-use Rattle.std.specs.Prelude.{◌≡◌, ◌≢◌, ℕ, ◌≤◌, ◌⊎◌, Bool, true, false, List, [], ◌∷◌, codes}
+-- What the words of the command line ask for (the potrace manual page).
+use Rattle.std.specs.Prelude.{◌≡◌, ◌≢◌, ℕ, ◌≤◌, Bool, true, false, List, [], ◌∷◌, Option, None, Some, All, codes, count_by}
+use Rattle.std.specs.Str.{bytes_eq}
 use Rattle.pt_base.specs.Micro.{IsMicro}
 use Rattle.pt_base.specs.Whole.{IsWhole}
 use Rattle.pt_base.specs.declared.policy.Policy.{Policy}
@@ -7,8 +8,14 @@ use Rattle.pt_base.specs.declared.policy.Policy.TheVariants.{Left, Right, Black,
 use Rattle.pt_base.specs.declared.settings.Backend.{Backend}
 use Rattle.pt_base.specs.declared.settings.Backend.TheVariants.{Eps, Svg, Dxf, GeoJson, Points, Polygons}
 use Rattle.pt_base.specs.declared.settings.Settings.{Settings}
-use Rattle.page_trace.specs.Document.{CanWrite}
-use Rattle.potrace_main.specs.declared.ask.Head.{Head}
+use Rattle.file_trace.specs.Offered.{IsOffered}
+use Rattle.command_words.specs.Given.{Given}
+use Rattle.command_words.specs.Parsed.{parsed}
+use Rattle.command_words.specs.declared.parsed.Parsed.{Parsed}
+use Rattle.command_words.specs.declared.parsed.Parsed.TheVariants as words
+use Rattle.file_trace.specs.Names.{dash}
+use Rattle.potrace_main.specs.declared.ask.Ask.{Ask}
+use Rattle.potrace_main.specs.declared.ask.Ask.TheVariants.{Help, Version, Demo, Files}
 
 -- the word of a policy (the potrace manual page, option "turnpolicy")
 abbrev pub policy_word : Policy → List ℕ
@@ -28,82 +35,84 @@ backend_word GeoJson = codes "geojson"
 backend_word Points = codes "points"
 backend_word Polygons = codes "polygons"
 
--- the greatest speckle limit
-abbrev pub greatest_speckle : ℕ
-greatest_speckle = 1000000000
+-- the value of `-b`, and whether `-s` and `-e` are given, name this backend: at most one of the three is given
+abbrev pub NamesBackend : Option (List ℕ) → Bool → Bool → Backend → Type 0
+NamesBackend None false false backend = backend ≡ Eps
+NamesBackend None true false backend = backend ≡ Svg
+NamesBackend None false true backend = backend ≡ Eps
+NamesBackend (Some name) false false backend = name ≡ backend_word backend
+NamesBackend None true true backend = ⊥
+NamesBackend (Some name) true eps backend = ⊥
+NamesBackend (Some name) false true backend = ⊥
 
--- the words `-b BACKEND -z POLICY -t N`, and then others
-abbrev pub form : List ℕ → List ℕ → List ℕ → List (List ℕ) → List (List ℕ)
-form backend policy number options =
-    codes "-b" ∷ backend ∷ codes "-z" ∷ policy ∷ codes "-t" ∷ number ∷ options
+-- the value of `-z` names this policy
+abbrev pub NamesPolicy : Option (List ℕ) → Policy → Type 0
+NamesPolicy None policy = policy ≡ Minority
+NamesPolicy (Some name) policy = name ≡ policy_word policy
 
--- the three values name a backend, a policy and a speckle limit
-pub record IsValued (backend policy number : List ℕ) (head : Head) : Type 0 where
-  pub format : backend ≡ backend_word head.backend
-  pub named : policy ≡ policy_word head.policy
-  pub numbered : IsWhole number head.turd
-  pub within : head.turd ≤ greatest_speckle
+-- n is the default where there is no value; else the value is a whole number n from least to most
+abbrev pub IsWholeOr : Option (List ℕ) → ℕ → ℕ → ℕ → ℕ → Type 0
+IsWholeOr None default least most n = n ≡ default
+IsWholeOr (Some text) default least most n = IsWhole text n × (least ≤ n) × (n ≤ most)
 
--- the words begin with these values, and the options follow
-pub record Begins (words : List (List ℕ)) (head : Head) (options : List (List ℕ)) : Type 0 where
-  pub backend : List ℕ
-  pub policy : List ℕ
-  pub number : List ℕ
-  pub formed : words ≡ form backend policy number options
-  pub valued : IsValued backend policy number head
+-- n is the default where there is no value; else the value is a decimal number of n millionths, at most so many
+abbrev pub IsMicroOr : Option (List ℕ) → ℕ → ℕ → ℕ → Type 0
+IsMicroOr None default most n = n ≡ default
+IsMicroOr (Some text) default most n = IsMicro text n × (n ≤ most)
 
--- the words don't begin with this one
-abbrev pub LacksWord : List ℕ → List (List ℕ) → Type 0
-LacksWord name words = (rest : List (List ℕ)) → words ≢ name ∷ rest
+-- the options give these settings; behind a value stand its default, then its least and its greatest
+pub record GivesSettings (given : Given) (settings : Settings) : Type 0 where
+  pub backend : NamesBackend given.backend given.svg given.eps settings.backend
+  pub policy : NamesPolicy given.turnpolicy settings.policy
+  pub turd : IsWholeOr given.turdsize 2 0 1000000000 settings.turd
+  pub alphamax : IsMicroOr given.alphamax 1000000 1000000000 settings.alphamax
+  pub long_curve : settings.long_curve ≡ given.longcurve
+  pub tolerance : IsMicroOr given.opttolerance 200000 1000000000 settings.tolerance
+  pub unit : IsWholeOr given.unit 10 1 1000 settings.unit
+  pub flat : settings.flat ≡ given.flat
+  pub level : IsMicroOr given.blacklevel 500000 1000000 settings.level
+  pub invert : settings.invert ≡ given.invert
 
--- where the words begin with this name, the next word spells the number n; where they don't, the number is
--- the default
-abbrev pub TakesValue : (List ℕ → ℕ → Type 0) → List ℕ → ℕ → List (List ℕ) → ℕ → List (List ℕ) → Type 0
-TakesValue Spells name default words n rest =
-    (LacksWord name words × (words ≡ rest) × (n ≡ default))
-    ⊎ ((text : List ℕ) × (words ≡ name ∷ text ∷ rest) × Spells text n)
+-- no file name is empty, and standard input is named at most once
+pub record AreProper (files : List (List ℕ)) : Type 0 where
+  pub not_empty : All (λ name. name ≢ []) files
+  pub dash_once : count_by (λ name. bytes_eq name dash) files ≤ 1
 
--- the text is a decimal number of n millionths, at most so many
-abbrev pub SpellsNumber : ℕ → List ℕ → ℕ → Type 0
-SpellsNumber most text n = IsMicro text n × (n ≤ most)
+-- the files to be read: standard input, where none is named
+abbrev pub inputs_of : List (List ℕ) → List (List ℕ)
+inputs_of [] = dash ∷ []
+inputs_of (file ∷ files) = file ∷ files
 
--- the text is the whole number n, in this range
-abbrev pub SpellsWhole : ℕ → ℕ → List ℕ → ℕ → Type 0
-SpellsWhole least most text n = IsWhole text n × (least ≤ n) × (n ≤ most)
+-- files are to be traced, by one worker
+pub record AsksFiles (given : Given) (names : List (List ℕ)) (output : Option (List ℕ)) (workers : ℕ) (settings : Settings) : Type 0 where
+  pub proper : AreProper given.files
+  pub inputs : names ≡ inputs_of given.files
+  pub named : output ≡ given.output
+  pub output_not_empty : given.output ≢ Some []
+  pub by : workers ≡ 1
+  pub under : GivesSettings given settings
 
--- the number behind this name is a decimal one
-abbrev pub TakesNumber : List ℕ → ℕ → ℕ → List (List ℕ) → ℕ → List (List ℕ) → Type 0
-TakesNumber name default most words n rest = TakesValue (SpellsNumber most) name default words n rest
+-- what the options and files ask for; where the version is asked for, nothing else is looked at
+abbrev pub AsksOf : Bool → Given → Ask → Type 0
+AsksOf true given ask = ask ≡ Version
+AsksOf false given Help = ⊥
+AsksOf false given Version = ⊥
+AsksOf false given (Demo pages workers settings) = ⊥
+AsksOf false given (Files names output workers settings) = AsksFiles given names output workers settings
 
--- the number behind this name is a whole one
-abbrev pub TakesWhole : List ℕ → ℕ → ℕ → ℕ → List (List ℕ) → ℕ → List (List ℕ) → Type 0
-TakesWhole name default least most words n rest = TakesValue (SpellsWhole least most) name default words n rest
+-- what words that come to this ask for
+abbrev pub Asks : Parsed → Ask → Type 0
+Asks words.Help ask = ask ≡ Help
+Asks words.Refused ask = ⊥
+Asks (words.Gives given) ask = AsksOf given.version given ask
 
--- whether the words begin with this one
-abbrev pub TakesWord : List ℕ → List (List ℕ) → Bool → List (List ℕ) → Type 0
-TakesWord name words given rest =
-    (LacksWord name words × (words ≡ rest) × (given ≡ false)) ⊎ ((words ≡ name ∷ rest) × (given ≡ true))
+-- the words ask for this
+abbrev pub IsAsked : List (List ℕ) → Ask → Type 0
+IsAsked words ask = Asks (parsed words) ask
 
--- the words ask for pages to be read, traced and written so: the values, then `-k D` or not, then `-i` or
--- not, then `-a D` or not, then `-n` or not, then `-O D` or not, then `-u N` or not, and then `--flat` or not
-pub record IsAsked (words : List (List ℕ)) (settings : Settings) : Type 0 where
-  pub options : List (List ℕ)
-  pub after_level : List (List ℕ)
-  pub after_invert : List (List ℕ)
-  pub after_alphamax : List (List ℕ)
-  pub after_curve : List (List ℕ)
-  pub after_tolerance : List (List ℕ)
-  pub after_unit : List (List ℕ)
-  pub begins : Begins words (record { backend = settings.backend; policy = settings.policy; turd = settings.turd }) options
-  pub level : TakesNumber (codes "-k") 500000 1000000 options settings.level after_level
-  pub invert : TakesWord (codes "-i") after_level settings.invert after_invert
-  pub alphamax : TakesNumber (codes "-a") 1000000 1000000000 after_invert settings.alphamax after_alphamax
-  pub long_curve : TakesWord (codes "-n") after_alphamax settings.long_curve after_curve
-  pub tolerance : TakesNumber (codes "-O") 200000 1000000000 after_curve settings.tolerance after_tolerance
-  pub unit : TakesWhole (codes "-u") 10 1 1000 after_tolerance settings.unit after_unit
-  pub flat : TakesWord (codes "--flat") after_unit settings.flat []
-
--- the program can do what the settings say
-pub record IsOffered (settings : Settings) : Type 0 where
-  pub document : CanWrite settings
-  pub level : settings.level ≤ 1000000
+-- the program can do what is asked for: the settings are in range, there is a file, and no name is empty
+abbrev pub CanBeDone : Ask → Type 0
+CanBeDone Help = Unit {0}
+CanBeDone Version = Unit {0}
+CanBeDone (Demo pages workers settings) = IsOffered settings
+CanBeDone (Files names output workers settings) = IsOffered settings × (names ≢ []) × All (λ name. name ≢ []) names × (output ≢ Some [])

@@ -1,73 +1,34 @@
--- The lines that the program writes to standard error.
---   dash: the name of standard input and of standard output
---   bad_words: the words aren't the program's
---   out_of_memory: memory ran out
---   page_line: a line about a page of a file, counted from 1
---   not_opened: a file couldn't be opened
---   not_written: a document couldn't be written
---   trailing_line: the bytes after so many pages of a file begin no page
---   read_fault: a read failed
-pub mod Messages
 -- What the words of the command line ask for.
 --   policy_word: the word of a policy (the potrace manual page, option "turnpolicy")
 --   backend_word: the word of a backend
---   greatest_speckle: the greatest speckle limit
---   form: the words `-b BACKEND -z POLICY -t N`, and then others
---   IsValued: the three values name a backend, a policy and a speckle limit
---   Begins: the words begin with these values, and the options follow
---   LacksWord: the words don't begin with this one
---   TakesValue: where the words begin with this name, the next word spells the number n
---   SpellsNumber: the text is a decimal number of n millionths, at most so many
---   SpellsWhole: the text is the whole number n, in this range
---   TakesNumber: the number behind this name is a decimal one
---   TakesWhole: the number behind this name is a whole one
---   TakesWord: whether the words begin with this one
---   IsAsked: the words ask for pages to be read, traced and written so
---   IsOffered: the program can do what the settings say
+--   NamesBackend: the value of `-b`, and whether `-s` and `-e` are given, name this backend
+--   NamesPolicy: the value of `-z` names this policy
+--   IsWholeOr: n is the default where there is no value; else the value is the whole number n, in a range
+--   IsMicroOr: n is the default where there is no value; else the value is a decimal number of n millionths
+--   GivesSettings: the options give these settings
+--   AreProper: no file name is empty, and standard input is named at most once
+--   inputs_of: the files to be read
+--   AsksFiles: files are to be traced
+--   AsksOf: what the options and files ask for
+--   Asks: what words that come to this ask for
+--   IsAsked: the words ask for this
+--   CanBeDone: the program can do what is asked for
 pub mod Asked
--- What a run is to write, in order.
---   Item: one thing to write
---   most_pages: how many pages a run accepts
---   too_many: the pages of the run are more than it accepts
---   end_items: what follows the documents of a file of so many pages that ends like this
---   AreItems: These are the items of the pages of a file, after so many pages before
---   AreInputItems: the items of standard input, as the files are told
-pub mod Items
--- What a run has written, against the items that it was to write.
---   GoesOn: the run goes on after each of the items
---   with_items: the documents of the items are added, whole and in order
---   notes: the messages of the notes, in order
---   AreFronts: each part is a front of its message
---   AreSaid: the messages were said
---   IsDone: all items are carried out
---   IsRefused: the last item is a page that is refused
---   IsUnwritten: all items before a document are carried out, and that document is cut off
---   IsOutOfMemory: some first items are carried out, and then memory ran out
-pub mod Outcome
--- How far a run has come.
---   BeginsWith: the first pages of the bytes are these, and `rest` is what follows them
---   AreTraced: these are the texts of these pages, in order
---   is_later: a page came before, or one of these did
---   docs: the items of the documents of these texts
---   ahead: the bytes that the reader has still to read pages from, where they are told
---   opened_name: the name of the opened file, where that is told and a file is opened
---   ReadsPage: the next page of what is ahead was read
---   EndsReading: no page was read for this reason, where `later` says whether a page came before
---   EndsWriting: the page wasn't written for this reason
---   TracesPage: the next page was traced, and its document written
---   EndsBy: no further page was traced for this reason
---   end_of_fault: why no further page is traced, where the reader tells of a fault
---   InputCount: how the inputs' count of faults moved
---   OutputCount: how the outputs moved
---   Traces: k pages were traced, and then the run ended so
-pub mod Progress
--- What the top call promises, by its status.
---   IsOutcome: what was written and said, against the items that there were to write
---   OpensOnly: nothing was opened
+-- What the program tells of itself.
+--   help_text: how the program is used
+--   version_text: which version the program is
+pub mod Usage
+-- What the top call promises.
+--   IsCodeOf: the exit status is the code of a status of which this holds
+--   AreItemsOf: what a run is to write that is asked for this
+--   IsOutcomeOf: what a run has done that was asked for this
+--   names_of: the files that a run may open
+--   IsKnown: the program does this
+--   IsMissing: one of these files isn't there
+--   RefusesWords: words were refused
+--   OpensFirst: nothing was opened; or the first of these files were
 --   EndsRefused: the last of the items is a refusal
+--   EndsMissing: the last of the items is a file that isn't there
 --   IsComplete: what the status is where no device failed
---   IsToldBy: the message that belongs to the status of a run that wrote so many documents
---   IsWritten: the documents are the texts of some pages, in order
---   status_of: the status with which the run ends
---   SaysEnd: what is said where the run ends so after k pages
+--   IsRun: all that a run does that is asked for this
 pub mod Run

@@ -1,9 +1,11 @@
-//! All that the program does: what its words ask, its messages, and its run over the pages.
+//! All that the program does: what its words ask, and its run over the files.
 #![tactic(auto)]
 
-mod ask;
-mod document;
-pub mod laws;
-pub mod message;
-mod pages;
+pub mod ask;
+pub mod asking;
+mod files;
+mod numbers;
+mod settings_given;
 pub mod top;
+pub mod usage;
+pub mod words;

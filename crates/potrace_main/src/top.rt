@@ -1,28 +1,32 @@
 //! The top call: all that the program does.
-ghost use Rattle.std.specs.Prelude.{◌≡◌, ◌≢◌, ◌<◌, ◌≤◌, ◌⊎◌, ◌↔◌, ℕ, List, true, false, map, string_bytes, IfSome};
+ghost use Rattle.std.specs.Prelude.{◌≡◌, ◌≢◌, ◌<◌, ◌≤◌, ◌⊎◌, ◌∷◌, ℕ, List, true, false, map, option_map, string_bytes};
 ghost use Rattle.pt_base.specs.Counts.{Rose};
-ghost use Rattle.pt_base.specs.Files.{Lacks};
-ghost use Rattle.potrace_main.specs.Asked.{IsAsked};
-ghost use Rattle.potrace_main.specs.Items.{Item, AreInputItems};
-ghost use Rattle.potrace_main.specs.Messages.{dash};
-ghost use Rattle.potrace_main.specs.Run.{IsComplete, IsOutcome, IsToldBy, IsWritten, OpensOnly, SaysEnd, status_of};
-ghost use Rattle.pt_base.specs.declared.settings.Settings.{Settings};
+ghost use Rattle.file_trace.specs.Items.{IsAbsent, Item, contents_of};
+ghost use Rattle.file_trace.specs.Progress.{InputCount, OutputCount};
+ghost use Rattle.file_trace.specs.Status.{code_of};
+ghost use Rattle.file_trace.specs.declared.status.Status.{Status};
+ghost use Rattle.potrace_main.specs.Asked.{CanBeDone, IsAsked};
+ghost use Rattle.potrace_main.specs.Run.{AreItemsOf, IsCodeOf, IsComplete, IsKnown, IsMissing, IsOutcomeOf, IsRun, OpensFirst, RefusesWords, names_of};
+ghost use Rattle.potrace_main.specs.declared.ask.Ask.{Ask};
 
-use crate::ask::ask;
-use crate::message::{
-    say_bad_words, say_not_opened, say_not_written, say_of_page, say_out_of_memory, say_trailing,
-};
-use crate::pages::{PagesEnd, Traced, trace_pages};
-use bitmap_input::reader::PageReader;
+use crate::ask::{Ask, WordFault};
+use crate::files::trace_files;
+use crate::usage::{help_text, version_text};
+use crate::words::settings_of;
+use command_words::name::Name;
+use file_trace::message::{say_bad_words, say_out_of_memory};
+use file_trace::status::Status;
+use file_trace::text::write_text;
 use pt_base::gate::Gate;
 use pt_base::inputs::Inputs;
 use pt_base::sink::{Outputs, Sink};
 use std::alloc::Global;
 use std::thread::Threads;
 
-/// Traces the pages of standard input, writes a document for each, and answers the exit status.
+/// Does all that the words ask for, and answers the exit status.
 ///
-/// After a fault of the outputs nothing more is written to them.
+/// The files are taken in order: each is opened once, its pages are read one after another, and each page's
+/// document is written under its name. After a fault of the outputs nothing more is written to them.
 pub fn run<R: Threads + Sync, I: Inputs, O: Outputs, E: Sink, G: Gate + Sync>(
     _rt: &R,
     alloc: Global,
@@ -35,105 +39,157 @@ pub fn run<R: Threads + Sync, I: Inputs, O: Outputs, E: Sink, G: Gate + Sync>(
     requires closed { O.is_ready outs.old ≡ false }
     requires ready { E.is_ready errs.old ≡ true }
 
-    // Other words than the program's, exactly, are status 1.
-    ensures bad_words { (result ≡ 1)
-        ↔ ((settings : Settings) → IsAsked (map string_bytes words.now) settings → ⊥) }
-
     // What the words and the told files give to be written is written, as far as the status says. The law
-    // `items_are_one` says that this is one list.
-    ensures outcome { (settings : Settings) → IsAsked (map string_bytes words.now) settings
-        → IfSome (I.files inputs.old) (λ files. (items : List Item)
-        × AreInputItems settings files items
-        × IsOutcome result items (O.documents outs.old) (O.documents outs.new)
-        (E.documents errs.old) (E.documents errs.new) (E.faults errs.old) (E.faults errs.new)) }
+    // `items_are_one` says that this is one list. Where the files aren't told, it is so for some pages.
+    ensures outcome { (ask : Ask) → IsAsked (map string_bytes words.now) ask → IsCodeOf result
+        (λ status. IsOutcomeOf ask status
+        (record { files = I.files inputs.old; is_opened = I.is_opened inputs.old;
+        openings = I.openings inputs.old; faults = I.faults inputs.old })
+        (record { files = I.files inputs.new; is_opened = I.is_opened inputs.new;
+        openings = I.openings inputs.new; faults = I.faults inputs.new })
+        (record { outs = O.documents outs.old; outs_faults = O.faults outs.old;
+        is_open = O.is_ready outs.old; errs = E.documents errs.old; errs_faults = E.faults errs.old })
+        (record { outs = O.documents outs.new; outs_faults = O.faults outs.new;
+        is_open = O.is_ready outs.new; errs = E.documents errs.new;
+        errs_faults = E.faults errs.new })) }
 
-    // Where no device failed, all is done, or the run ends with the refusal, want of memory aside.
-    ensures complete { (settings : Settings) → IsAsked (map string_bytes words.now) settings
-        → IfSome (I.files inputs.old) (λ files. (items : List Item)
-        × AreInputItems settings files items
+    // Where no device failed, all is done, or the run ends with the refusal or the missing file, want of
+    // memory aside.
+    ensures complete { (ask : Ask) → IsAsked (map string_bytes words.now) ask → (items : List Item)
+        × AreItemsOf ask (contents_of (I.files inputs.old)) items
         × ((Rose (I.faults inputs.old) (I.faults inputs.new) → ⊥)
-        → (Rose (O.faults outs.old) (O.faults outs.new) → ⊥) → IsComplete result items)) }
+        → (Rose (O.faults outs.old) (O.faults outs.new) → ⊥)
+        → IsCodeOf result (λ status. IsComplete status items)) }
 
-    // No file is opened but standard input, and that once; with other words than the program's none is.
-    ensures opened { OpensOnly dash (I.files inputs.old) (I.files inputs.new)
-        (I.openings inputs.old) (I.openings inputs.new) }
-    ensures unopened { result ≡ 1 → inputs.new ≡ inputs.old }
+    // Words that ask for nothing, exactly, are refused, want of memory aside; nothing else is done.
+    ensures bad_words { result ≡ code_of Status.BadWords
+        → (ask : Ask) → IsAsked (map string_bytes words.now) ask → ⊥ }
+    ensures refused { ((ask : Ask) → IsAsked (map string_bytes words.now) ask → ⊥)
+        → (inputs.new ≡ inputs.old) × IsCodeOf result (λ status. RefusesWords status
+        (record { outs = O.documents outs.old; outs_faults = O.faults outs.old;
+        is_open = O.is_ready outs.old; errs = E.documents errs.old; errs_faults = E.faults errs.old })
+        (record { outs = O.documents outs.new; outs_faults = O.faults outs.new;
+        is_open = O.is_ready outs.new; errs = E.documents errs.new;
+        errs_faults = E.faults errs.new })) }
+
+    // The first files of the words are opened, each once and in order, and no other.
+    ensures opened { (ask : Ask) → IsAsked (map string_bytes words.now) ask → OpensFirst (names_of ask)
+        (record { files = I.files inputs.old; is_opened = I.is_opened inputs.old;
+        openings = I.openings inputs.old; faults = I.faults inputs.old })
+        (record { files = I.files inputs.new; is_opened = I.is_opened inputs.new;
+        openings = I.openings inputs.new; faults = I.faults inputs.new }) }
 
     // Each fault has its cause.
-    ensures unread { result ≡ 3 → Rose (I.faults inputs.old) (I.faults inputs.new)
-        ⊎ Lacks (I.files inputs.old) dash }
-    ensures absent { (settings : Settings) → IsAsked (map string_bytes words.now) settings
-        → Lacks (I.files inputs.old) dash → (result ≡ 3) ⊎ (result ≡ 5) }
-    ensures read { (result ≡ 0) ⊎ (result ≡ 1) ⊎ (result ≡ 2)
-        → I.faults inputs.new ≡ I.faults inputs.old }
-    ensures unwritten { result ≡ 4 → Rose (O.faults outs.old) (O.faults outs.new) }
-    ensures unwritten_always { O.faults outs.old < O.faults outs.new → result ≡ 4 }
-    ensures known_statuses { result ≤ 5 }
+    ensures unread { (ask : Ask) → IsAsked (map string_bytes words.now) ask → result ≡ code_of Status.Unread
+        → Rose (I.faults inputs.old) (I.faults inputs.new)
+        ⊎ IsMissing (names_of ask) (contents_of (I.files inputs.old)) }
+    ensures absent { (ask : Ask) (name : List ℕ) (names : List (List ℕ))
+        → IsAsked (map string_bytes words.now) ask → names_of ask ≡ name ∷ names
+        → IsAbsent (contents_of (I.files inputs.old)) name
+        → (result ≡ code_of Status.Unread) ⊎ (result ≡ code_of Status.OutOfMemory) }
+    ensures read { IsCodeOf result
+        (λ status. InputCount status (I.faults inputs.old) (I.faults inputs.new)) }
+    ensures unwritten { result ≡ code_of Status.Unwritten
+        → Rose (O.faults outs.old) (O.faults outs.new) }
+    ensures unwritten_always { O.faults outs.old < O.faults outs.new
+        → result ≡ code_of Status.Unwritten }
 
-    // Each document is a page's text, and none stays open but for a fault of the outputs.
-    ensures written { (settings : Settings) → IsAsked (map string_bytes words.now) settings
-        → IsWritten settings result (O.documents outs.old) (O.documents outs.new)
-        (E.documents errs.old) (E.documents errs.new) (E.faults errs.old) (E.faults errs.new) }
-    ensures closed { result ≢ 4 → O.is_ready outs.new ≡ false }
-    ensures nothing { result ≡ 1 → O.documents outs.new ≡ O.documents outs.old }
-
-    // The message that belongs to the status is said, and a failing one changes no status.
-    ensures said { (pages : ℕ) × IsToldBy result pages (E.documents errs.old) (E.documents errs.new)
-        (E.faults errs.old) (E.faults errs.new) }
+    // No document stays open but for a fault of the outputs.
+    ensures closed { result ≢ code_of Status.Unwritten → O.is_ready outs.new ≡ false }
 {
-    let Some(settings) = ask(words) else {
-        say_bad_words(errs);
-        return 1;
-    };
-    let Ok(mut reader) = PageReader::new(alloc) else {
-        say_out_of_memory(errs);
-        return 5;
-    };
-    match inputs.open("-") {
-        Ok(()) => {
-            let traced = trace_pages(alloc, settings, &mut reader, inputs, outs);
-            finish(errs, traced)
+    answer(alloc, words, inputs, outs, errs).code()
+}
+
+/// Does all that the words ask for.
+fn answer<I: Inputs, O: Outputs, E: Sink>(
+    alloc: Global,
+    words: &[String],
+    inputs: &mut I,
+    outs: &mut O,
+    errs: &mut E,
+) -> Status
+    requires closed { O.is_ready outs.old ≡ false }
+    requires ready { E.is_ready errs.old ≡ true }
+    ensures ran { (ask : Ask) → IsAsked (map string_bytes words.now) ask → IsRun ask result
+        (record { files = I.files inputs.old; is_opened = I.is_opened inputs.old;
+        openings = I.openings inputs.old; faults = I.faults inputs.old })
+        (record { files = I.files inputs.new; is_opened = I.is_opened inputs.new;
+        openings = I.openings inputs.new; faults = I.faults inputs.new })
+        (record { outs = O.documents outs.old; outs_faults = O.faults outs.old;
+        is_open = O.is_ready outs.old; errs = E.documents errs.old; errs_faults = E.faults errs.old })
+        (record { outs = O.documents outs.new; outs_faults = O.faults outs.new;
+        is_open = O.is_ready outs.new; errs = E.documents errs.new;
+        errs_faults = E.faults errs.new }) }
+    ensures bad_words { result ≡ Status.BadWords → (ask : Ask) → IsAsked (map string_bytes words.now) ask → ⊥ }
+    ensures refused { ((ask : Ask) → IsAsked (map string_bytes words.now) ask → ⊥)
+        → (inputs.new ≡ inputs.old) × RefusesWords result
+        (record { outs = O.documents outs.old; outs_faults = O.faults outs.old;
+        is_open = O.is_ready outs.old; errs = E.documents errs.old; errs_faults = E.faults errs.old })
+        (record { outs = O.documents outs.new; outs_faults = O.faults outs.new;
+        is_open = O.is_ready outs.new; errs = E.documents errs.new;
+        errs_faults = E.faults errs.new }) }
+    ensures input { InputCount result (I.faults inputs.old) (I.faults inputs.new) }
+    ensures output { OutputCount result (O.faults outs.old) (O.faults outs.new)
+        (O.is_ready outs.new) }
+{
+    match settings_of(alloc, words) {
+        Ok(ask) => carry_out(alloc, ask, inputs, outs, errs),
+        Err(WordFault::Bad) => {
+            say_bad_words(errs);
+            Status::BadWords
         }
-        Err(_) => {
-            say_not_opened(errs, "-");
-            3
+        Err(WordFault::NoMemory) => {
+            say_out_of_memory(errs);
+            Status::OutOfMemory
         }
     }
 }
 
-/// Says how the pages ended, and answers the status.
-fn finish<E: Sink>(errs: &mut E, traced: Traced) -> u8
+/// Does what is asked for.
+fn carry_out<I: Inputs, O: Outputs, E: Sink>(
+    alloc: Global,
+    ask: Ask,
+    inputs: &mut I,
+    outs: &mut O,
+    errs: &mut E,
+) -> Status
+    requires possible { CanBeDone ask }
+    requires known { IsKnown ask }
+    requires closed { O.is_ready outs.old ≡ false }
     requires ready { E.is_ready errs.old ≡ true }
-    requires few { traced.pages ≤ 65536 }
-    ensures status { result ≡ status_of traced.end }
-    ensures said { SaysEnd traced.end traced.pages (E.documents errs.old) (E.documents errs.new)
-        (E.faults errs.old) (E.faults errs.new) }
+    ensures ran { IsRun ask result
+        (record { files = I.files inputs.old; is_opened = I.is_opened inputs.old;
+        openings = I.openings inputs.old; faults = I.faults inputs.old })
+        (record { files = I.files inputs.new; is_opened = I.is_opened inputs.new;
+        openings = I.openings inputs.new; faults = I.faults inputs.new })
+        (record { outs = O.documents outs.old; outs_faults = O.faults outs.old;
+        is_open = O.is_ready outs.old; errs = E.documents errs.old; errs_faults = E.faults errs.old })
+        (record { outs = O.documents outs.new; outs_faults = O.faults outs.new;
+        is_open = O.is_ready outs.new; errs = E.documents errs.new;
+        errs_faults = E.faults errs.new }) }
 {
-    match traced.end {
-        PagesEnd::End => 0,
-        PagesEnd::Trailing => {
-            say_trailing(errs, "-", u64::from(traced.pages));
-            0
+    match ask {
+        Ask::Help => write_text(outs, errs, help_text()),
+        Ask::Version => write_text(outs, errs, version_text()),
+        Ask::Demo { .. } => unreachable!(),
+        Ask::Files {
+            names,
+            output,
+            settings,
+            ..
+        } => {
+            let output = text_of(&output);
+            trace_files(alloc, settings, output, names.as_slice(), inputs, outs, errs)
         }
-        PagesEnd::Refused(fault) => {
-            say_of_page(errs, "-", u64::from(traced.pages) + 1, fault.text());
-            2
-        }
-        PagesEnd::TooMany => {
-            say_of_page(errs, "-", u64::from(traced.pages) + 1, "too many pages");
-            2
-        }
-        PagesEnd::Unread => {
-            say_of_page(errs, "-", u64::from(traced.pages) + 1, "read fault");
-            3
-        }
-        PagesEnd::Unwritten => {
-            say_not_written(errs, "-");
-            4
-        }
-        PagesEnd::OutOfMemory => {
-            say_out_of_memory(errs);
-            5
-        }
+    }
+}
+
+/// The text of a name, if there is one.
+fn text_of(name: &Option<Name>) -> Option<&str>
+    ensures { option_map (λ s. s.now) result ≡ name.now }
+{
+    match name {
+        Some(name) => Some(name.as_str()),
+        None => None,
     }
 }

@@ -3,7 +3,9 @@
 mod cases;
 mod documents;
 mod failing;
+mod files;
 mod formats;
 mod one_picture;
 mod pages;
 mod refusals;
+mod words;

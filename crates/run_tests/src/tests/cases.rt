@@ -1,4 +1,5 @@
-//! Runs over standard input in memory.
+//! Runs over files in memory.
+ghost use Rattle.std.specs.Prelude.{◌≡◌, IfOk, string_bytes};
 
 use potrace_main::top::run;
 use pt_base::gate::NoGate;
@@ -18,12 +19,14 @@ pub struct Done {
     pub errs: MemSink,
 }
 
-/// What a run is made of: the words with a space between them, the bytes of the file `-`, how many
-/// bytes a call takes, and the calls that fail.
+/// What a run is made of: the words with a space between them, a file's name and its bytes, perhaps those of
+/// another file, how many bytes a call takes, and the calls that fail.
 #[derive(Drop)]
 pub struct Case<'a> {
     pub words: &'a str,
+    pub name: &'a str,
     pub input: &'a [u8],
+    pub other: Option<(&'a str, &'a [u8])>,
     pub most: u32,
     pub unread: &'a [InCall],
     pub unwritten: &'a [OutCall],
@@ -31,10 +34,18 @@ pub struct Case<'a> {
 }
 
 impl<'a> Case<'a> {
+    /// The words, over standard input.
     pub fn new(words: &'a str, input: &'a [u8]) -> Case<'a> {
+        Case::over(words, "-", input)
+    }
+
+    /// The words, over a file.
+    pub fn over(words: &'a str, name: &'a str, input: &'a [u8]) -> Case<'a> {
         Case {
             words,
+            name,
             input,
+            other: None,
             most: 4096,
             unread: &[],
             unwritten: &[],
@@ -63,13 +74,26 @@ impl<'a> Case<'a> {
     }
 
     fn inputs(&self, alloc: Global) -> Result<MemInputs, Fail> {
-        let file = NamedBytes {
-            name: String::from_str(alloc, "-")?,
-            bytes: Vec::from_slice(alloc, self.input)?,
-        };
+        let file = named(alloc, self.name, self.input)?;
         let unread = Vec::from_slice(alloc, self.unread)?;
-        Ok(MemInputs::new(vec![in alloc; file]?, self.most.max(1), unread))
+        match self.other {
+            Some((name, input)) if name != self.name => {
+                let other = named(alloc, name, input)?;
+                let files = vec![in alloc; file, other]?;
+                Ok(MemInputs::new(files, self.most.max(1), unread))
+            }
+            _ => Ok(MemInputs::new(vec![in alloc; file]?, self.most.max(1), unread)),
+        }
     }
+}
+
+fn named(alloc: Global, name: &str, bytes: &[u8]) -> Result<NamedBytes, Fail>
+    ensures { IfOk result (λ file. string_bytes file.name ≡ name.now) }
+{
+    Ok(NamedBytes {
+        name: String::from_str(alloc, name)?,
+        bytes: Vec::from_slice(alloc, bytes)?,
+    })
 }
 
 fn split(alloc: Global, text: &str) -> Result<Vec<String>, Fail> {
@@ -80,26 +104,41 @@ fn split(alloc: Global, text: &str) -> Result<Vec<String>, Fail> {
     Ok(words)
 }
 
-/// The run ended so, with these documents, all of them whole, and this message.
+/// The run ended so, with these documents, all of them whole and named for standard output, and this message.
 pub fn expect(rt: &impl Abort, done: &Done, status: u8, documents: &[&str], message: &str) {
-    let count = done.outs.count() as usize;
-    assert_eq!(rt;
-        (done.errs.text(), done.status),
-        (message.as_bytes(), status)
-    );
-    assert_eq!(rt; count, documents.len(), "{message:?}");
+    expect_end(rt, done, status, documents.len(), message);
     for (i, text) in documents.iter().enumerate() {
-        if i < count {
-            expect_whole(rt, &done.outs, i as u32, text);
-        }
+        expect_whole(rt, &done.outs, i as u32, "-", text);
     }
 }
 
-/// The document is whole, named for standard output, and has this text.
-fn expect_whole(rt: &impl Abort, outs: &MemOutputs, i: u32, text: &str) {
+/// The same, with names.
+pub fn expect_named(
+    rt: &impl Abort,
+    done: &Done,
+    status: u8,
+    documents: &[(&str, &str)],
+    message: &str,
+) {
+    expect_end(rt, done, status, documents.len(), message);
+    for (i, (name, text)) in documents.iter().enumerate() {
+        expect_whole(rt, &done.outs, i as u32, name, text);
+    }
+}
+
+/// The run ended so, with so many documents and this message.
+fn expect_end(rt: &impl Abort, done: &Done, status: u8, count: usize, message: &str) {
+    assert_eq!(rt;
+        (done.errs.text(), done.status, done.outs.count() as usize),
+        (message.as_bytes(), status, count)
+    );
+}
+
+/// The document is whole, and has this name and this text.
+fn expect_whole(rt: &impl Abort, outs: &MemOutputs, i: u32, name: &str, text: &str) {
     if i < outs.count() {
         let found = (outs.name(i), outs.text(i), outs.whole(i));
-        let wanted = (b"-".as_slice(), text.as_bytes(), true);
+        let wanted = (name.as_bytes(), text.as_bytes(), true);
         assert_eq!(rt; found, wanted, "document {i}");
     }
 }

@@ -67,71 +67,17 @@ fn pages_have_a_limit(rt: HostRuntime) -> Result<(), Fail> {
 #[test]
 fn other_words(rt: HostRuntime) -> Result<(), Fail> {
     for words in [
-        "-b points -z left",
-        "-b points -z left -t 0 x",
-        "-z left -b points -t 0",
-        "-b svg -z left -t 0 --flat -n",
-        "-b svg -z left -t 0 --flat -u 10",
-        "-b svg -z left -t 0 --flat --flat",
-        "-b svg -z left -t 0 -u 10 -O 0.2",
-        "-b svg -z left -t 0 -u 10 -u 10",
-        "-b svg -z left -t 0 -u 0",
-        "-b svg -z left -t 0 -u 1001",
-        "-b svg -z left -t 0 -u 1.5",
-        "-b svg -z left -t 0 -u",
-        "-b svg -z left -t 0 -O 0.2 -n",
-        "-b svg -z left -t 0 -O 1000.000001",
-        "-b svg -z left -t 0 -n -a 1",
-        "-b svg -z left -t 0 -a 1000.000001",
-        "-b points -z left -t 0 -a 1 -i",
-        "-b points -z random -t 0",
-        "-b points -z left -t 1000000001",
-        "-b points -z left -t -1",
-        "-b points -z left -t 0 -k 1.000001",
-        "-b points -z left -t 0 -k .",
-        "-b points -z left -t 0 -k",
-        "-b points -z left -t 0 -i -k 0.5",
-        "-b points -z left -t 0 -i -i",
-        "-b polygon -z left -t 0",
-        "-b EPS -z left -t 0",
-        "",
+        "-s -e",
+        "-z random",
+        "-k 1.5",
+        "-b pdf",
+        "--workers 0",
+        "-t",
+        "- -",
     ] {
         let done = Case::new(words, b"P1 1 1 1").run(&rt, rt.alloc())?;
-        expect(
-            &rt,
-            &done,
-            1,
-            &[],
-            "potrace: bad arguments, see potrace -h\n",
-        );
-    }
-    Ok(())
-}
-
-/// The words are the program's. With `-t 1` no path of the one pixel is left, and the document isn't
-/// compared.
-#[test]
-fn accepted_words(rt: HostRuntime) -> Result<(), Fail> {
-    for words in [
-        "-b eps -z left -t 1",
-        "-b svg -z right -t 1",
-        "-b dxf -z black -t 1",
-        "-b geojson -z white -t 1",
-        "-b points -z majority -t 1",
-        "-b polygons -z minority -t 1000000000",
-        "-b eps -z left -t 1 -u 1",
-        "-b svg -z left -t 1 -u 1000",
-        "-b dxf -z left -t 1 -u 0010 --flat",
-        "-b geojson -z left -t 1 --flat",
-        "-b points -z left -t 1 -n --flat",
-        "-b polygons -z left -t 1 -O 1000 -u 7",
-        "-b svg -z left -t 1 -i -n",
-        "-b svg -z left -t 1 -k 1 -a 1000 -O 0",
-        "-b svg -z left -t 1 -k 0.5 -i -a 1 -n -O 0.2 -u 10 --flat",
-    ] {
-        let done = Case::new(words, b"P1 1 1 1").run(&rt, rt.alloc())?;
-        let found = (done.status, done.errs.text());
-        assert_eq!(rt; found, (0, b"".as_slice()), "{words}");
+        let said = "potrace: bad arguments, see potrace -h\n";
+        expect(&rt, &done, 1, &[], said);
     }
     Ok(())
 }

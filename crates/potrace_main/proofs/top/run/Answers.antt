@@ -1,113 +1,46 @@
-use Rattle.std.proofs.Common.{◌≡◌, ◌⊎◌, ◌∙◌, Err, ap, inl, inr, refl, subst, sym, arith}
-use Rattle.pt_base.specs.Counts.{Rose}
-use Rattle.pt_base.specs.Files.{Files, Lacks}
-use Rattle.pt_base.specs.declared.fault.OpenFault.{OpenFault}
-use Rattle.pt_base.specs.declared.fault.OpenFault.TheVariants as opening
-use Rattle.potrace_main.specs.Items.{AreInputItems}
-use Rattle.potrace_main.specs.Messages.{dash}
-use Rattle.pt_base.specs.declared.settings.Settings.{Settings}
-use Rattle.potrace_main.specs.Run.{IsWritten, status_of}
-use Rattle.potrace_main.proofs.Asking.{asked_offered, one_asked}
-use Rattle.potrace_main.proofs.Exists.{items_found}
-use Rattle.potrace_main.proofs.Reading.{name-with_file, no_name}
-use Rattle.potrace_main.proofs.Finishing.{IfSome-all, complete_unopened, none_written_at, of_items, outcome_unread, out_of_memory_at_once, run_complete, run_outcome, run_written, told_bad_words, told_by, told_no_memory, told_unopened}
+use Rattle.std.proofs.Common.{◌≡◌, ◌⊎◌, ◌∙◌, ap, inl, inr, map, refl, sym}
+use Rattle.std.specs.Prelude.{string_bytes}
+use Rattle.file_trace.specs.Status.{code_of}
+use Rattle.potrace_main.proofs.Completing.{closed_else, code_one, rose_unwritten, run_absent, run_complete, run_unread, written_rose}
+use Rattle.potrace_main.proofs.Possible.{possible}
 use Rattle.potrace_main.proofs.top.run.Goals as goal
 
-pub returns-in_default-clause-absent : goal.returns-in_default-clause-absent
-returns-in_default-clause-absent g c = λ settings asked lacking. absurd (c.in_default.ensures.refused settings asked)
-
-pub returns-in_default-clause-written : goal.returns-in_default-clause-written
-returns-in_default-clause-written g c = λ settings asked. absurd (c.in_default.ensures.refused settings asked)
-
-pub returns-in_default-new-clause-outcome : goal.returns-in_default-new-clause-outcome
-returns-in_default-new-clause-outcome g c = λ settings asked.
-    of_items (g.I.Inputs.files c.args.inputs.now) (AreInputItems settings) _ (λ files. items_found settings (asked_offered _ settings asked).document files)
-    (IfSome-all Files (g.I.Inputs.files c.args.inputs.now) _ (λ files items are. out_of_memory_at_once items _ _ _ _ _ c.say_out_of_memory.ensures.said))
-
-pub returns-in_default-new-clause-written : goal.returns-in_default-new-clause-written
-returns-in_default-new-clause-written g c = λ settings asked.
-    none_written_at settings 5 _ _ _ _ _ (λ e. omega (arith, e)) (told_no_memory _ _ _ _ c.say_out_of_memory.ensures.said)
-
-pub returns-in-Ok-open-clause-outcome : goal.returns-in-Ok-open-clause-outcome
-returns-in-Ok-open-clause-outcome g c = λ settings asked.
-    let same = one_asked _ c.in-Some.settings settings c.in-Some.ensures.asked asked in
-    rw c.finish.ensures.status
-    (of_items (g.I.Inputs.files c.args.inputs.now) (AreInputItems settings) _ (λ files. items_found settings (asked_offered _ settings asked).document files)
-    (run_outcome _ _ same (g.I.Inputs.files c.args.inputs.now) _ _ _ _ _ _ _ _ c.trace_pages-traced.result.end c.in-Ok-open.ensures.file
-    (λ lacking. let clash = c.in-Ok-open.ensures.absent.1 lacking in cc) c.trace_pages-traced.ensures.traced c.finish.ensures.said))
-
-pub returns-in-Ok-open-clause-written : goal.returns-in-Ok-open-clause-written
-returns-in-Ok-open-clause-written g c = λ settings asked.
-    let same = one_asked _ c.in-Some.settings settings c.in-Some.ensures.asked asked in
-    let P : Settings → Type 0 = λ s. IsWritten s (status_of c.trace_pages-traced.result.end) (g.O.Sink.documents c.args.outs.now) (g.O.Sink.documents c.trace_pages-traced.new.outs)
-    (g.E.Sink.documents c.args.errs.now) (g.E.Sink.documents c.finish.new.errs) (g.E.Sink.faults c.args.errs.now) (g.E.Sink.faults c.finish.new.errs) in
-    rw c.finish.ensures.status (subst P same (run_written c.in-Some.settings _ _ _ _ _ _ _ _ _ c.trace_pages-traced.ensures.traced c.finish.ensures.said))
-
-pub returns-in-Ok-open-clause-said : goal.returns-in-Ok-open-clause-said
-returns-in-Ok-open-clause-said g c =
-    let t = c.trace_pages-traced.ensures.traced in
-    rw c.finish.ensures.status
-    (c.trace_pages-traced.result.pages, told_by c.in-Some.settings _ t.rest _ _ c.trace_pages-traced.result.end _ _ _ _ _ t.ends t.full c.finish.ensures.said)
-
-pub returns-clause-written : goal.returns-clause-written
-returns-clause-written g c = λ settings asked.
-    none_written_at settings 3 _ _ _ _ _ (λ e. omega (arith, e)) (told_unopened _ _ _ _ c.say_not_opened.ensures.said)
-
-pub returns-in_default-clause-complete : goal.returns-in_default-clause-complete
-returns-in_default-clause-complete g c = λ settings asked. absurd (c.in_default.ensures.refused settings asked)
-
-pub returns-in-Ok-open-clause-complete : goal.returns-in-Ok-open-clause-complete
-returns-in-Ok-open-clause-complete g c = λ settings asked.
-    let same = one_asked _ c.in-Some.settings settings c.in-Some.ensures.asked asked in
-    let outcome = run_outcome _ _ same (g.I.Inputs.files c.args.inputs.now) _ _ _ _ _ _ _ _ c.trace_pages-traced.result.end c.in-Ok-open.ensures.file
-    (λ lacking. let clash = c.in-Ok-open.ensures.absent.1 lacking in cc) c.trace_pages-traced.ensures.traced c.finish.ensures.said in
-    rw c.finish.ensures.status
-    (of_items (g.I.Inputs.files c.args.inputs.now) (AreInputItems settings) _ (λ files. items_found settings (asked_offered _ settings asked).document files)
-    (run_complete settings (g.I.Inputs.files c.args.inputs.now) c.trace_pages-traced.result.end _ _ _ _ _ _ _ _ _ _ _ _ outcome
-    c.in-Ok-open.ensures.steady c.trace_pages-traced.ensures.input c.trace_pages-traced.ensures.output))
+pub returns-clause-outcome : goal.returns-clause-outcome
+returns-clause-outcome g c = λ ask asked. (c.answer.result, c.code.ensures, (c.answer.ensures.ran ask asked).outcome)
 
 pub returns-clause-complete : goal.returns-clause-complete
-returns-clause-complete g c = λ settings asked.
-    of_items (g.I.Inputs.files c.args.inputs.now) (AreInputItems settings) _ (λ files. items_found settings (asked_offered _ settings asked).document files)
-    (complete_unopened settings (g.I.Inputs.files c.args.inputs.now) _ _ _ _ (by_fault c.in-Err.field-0 refl)) where
-      by_fault : (f : OpenFault) → f ≡ c.in-Err.field-0 → Rose (g.I.Inputs.faults c.args.inputs.now) (g.I.Inputs.faults c.open.new.self) ⊎ Lacks (g.I.Inputs.files c.args.inputs.now) dash
-      by_fault opening.Absent e = inr (c.in-Err.ensures.absent.0 (ap Err (sym e)))
-      by_fault opening.Device e = inl (c.in-Err.ensures.cause (ap Err (sym e)))
+returns-clause-complete g c = λ ask asked.
+    let all = run_complete ask c.answer.result _ _ _ _ (possible (map string_bytes c.args.words.now) ask asked) (c.answer.ensures.ran ask asked) in
+    (all.0, all.1, λ no_read no_write. (c.answer.result, c.code.ensures, all.2 no_read no_write))
 
-pub returns-in_default-clause-opened : goal.returns-in_default-clause-opened
-returns-in_default-clause-opened g c = inl (refl, refl)
+pub returns-clause-bad_words : goal.returns-clause-bad_words
+returns-clause-bad_words g c = λ is. c.answer.ensures.bad_words (code_one c.answer.result _ (sym c.code.ensures ∙ is))
 
-pub returns-in_default-new-clause-opened : goal.returns-in_default-new-clause-opened
-returns-in_default-new-clause-opened g c = inl (refl, refl)
-
-pub returns-in-Ok-open-clause-opened : goal.returns-in-Ok-open-clause-opened
-returns-in-Ok-open-clause-opened g c =
-    inr (
-      c.trace_pages-traced.ensures.same_openings ∙ c.in-Ok-open.ensures.one_more,
-      rw (c.trace_pages-traced.ensures.same_name, c.in-Ok-open.ensures.file) (name-with_file (g.I.Inputs.files c.args.inputs.now) dash),
-    )
+pub returns-clause-refused : goal.returns-clause-refused
+returns-clause-refused g c = λ none. let refused = c.answer.ensures.refused none in (refused.0, (c.answer.result, c.code.ensures, refused.1))
 
 pub returns-clause-opened : goal.returns-clause-opened
-returns-clause-opened g c = inr (c.in-Err.ensures.one_more, rw c.in-Err.ensures.no_file (no_name (g.I.Inputs.files c.args.inputs.now) dash))
+returns-clause-opened g c = λ ask asked. (c.answer.ensures.ran ask asked).opened
 
-pub returns-in_default-clause-said : goal.returns-in_default-clause-said
-returns-in_default-clause-said g c = (0, told_bad_words _ _ _ _ c.say_bad_words.ensures.said)
+pub returns-clause-unread : goal.returns-clause-unread
+returns-clause-unread g c = λ ask asked is.
+    run_unread ask c.answer.result _ _ _ _ (c.answer.ensures.ran ask asked) (code_one c.answer.result _ (sym c.code.ensures ∙ is))
 
-pub returns-in_default-new-clause-said : goal.returns-in_default-new-clause-said
-returns-in_default-new-clause-said g c = (0, told_no_memory _ _ _ _ c.say_out_of_memory.ensures.said)
+pub returns-clause-absent : goal.returns-clause-absent
+returns-clause-absent g c = λ ask name names asked listed absent.
+    elim (run_absent ask c.answer.result name names _ _ _ _ (c.answer.ensures.ran ask asked) listed absent) [
+      | inl unread ↦ inl (c.code.ensures ∙ ap code_of unread)
+      | inr out ↦ inr (c.code.ensures ∙ ap code_of out)
+    ]
 
-pub returns-clause-said : goal.returns-clause-said
-returns-clause-said g c = (0, told_unopened _ _ _ _ c.say_not_opened.ensures.said)
+pub returns-clause-read : goal.returns-clause-read
+returns-clause-read g c = (c.answer.result, c.code.ensures, c.answer.ensures.input)
 
-pub returns-in_default-clause-outcome : goal.returns-in_default-clause-outcome
-returns-in_default-clause-outcome g c = λ settings asked. absurd (c.in_default.ensures.refused settings asked)
+pub returns-clause-unwritten : goal.returns-clause-unwritten
+returns-clause-unwritten g c = λ is. written_rose c.answer.result _ _ _ c.answer.ensures.output (code_one c.answer.result _ (sym c.code.ensures ∙ is))
 
-pub returns-clause-outcome : goal.returns-clause-outcome
-returns-clause-outcome g c = λ settings asked.
-    of_items (g.I.Inputs.files c.args.inputs.now) (AreInputItems settings) _ (λ files. items_found settings (asked_offered _ settings asked).document files)
-    (IfSome-all Files (g.I.Inputs.files c.args.inputs.now) _ (λ files items are. outcome_unread items _ _ _ _ _ _))
+pub returns-clause-unwritten_always : goal.returns-clause-unwritten_always
+returns-clause-unwritten_always g c = λ less. c.code.ensures ∙ ap code_of (rose_unwritten c.answer.result _ _ _ c.answer.ensures.output less)
 
-pub returns-in_default-new-clause-complete : goal.returns-in_default-new-clause-complete
-returns-in_default-new-clause-complete g c = λ settings asked.
-    of_items (g.I.Inputs.files c.args.inputs.now) (AreInputItems settings) _ (λ files. items_found settings (asked_offered _ settings asked).document files)
-    (IfSome-all Files (g.I.Inputs.files c.args.inputs.now) _ (λ files items are read wrote. record { all = λ _. inr refl; refusal = λ _. inr refl }))
+pub returns-clause-closed : goal.returns-clause-closed
+returns-clause-closed g c = λ other. closed_else c.answer.result _ _ _ c.answer.ensures.output (λ is. other (c.code.ensures ∙ ap code_of is))

@@ -1,0 +1,51 @@
+-- What some words come to.
+use Rattle.std.proofs.Common.{◌≡◌, ◌∷◌, [], refl, codes, None, Some, true, false}
+use Rattle.clap.proofs.OnLiterals.{clap_on_literals}
+use Rattle.command_words.specs.Given.{Given}
+use Rattle.command_words.specs.Parsed.{parsed}
+use Rattle.command_words.specs.declared.parsed.Parsed.TheVariants.{Help, Refused, Gives}
+
+abbrev nothing : Given
+nothing = record {
+  backend = None;
+  svg = false;
+  eps = false;
+  output = None;
+  turnpolicy = None;
+  turdsize = None;
+  alphamax = None;
+  longcurve = false;
+  opttolerance = None;
+  unit = None;
+  blacklevel = None;
+  invert = false;
+  flat = false;
+  version = false;
+  files = [];
+}
+
+no_words : parsed [] ≡ Gives nothing
+unfolding clap_on_literals
+no_words = refl
+
+-- `-vh`: help is met while the words are read
+version_and_help : parsed (codes "-vh" ∷ []) ≡ Help
+unfolding clap_on_literals
+version_and_help = refl
+
+-- `-t -h`: an option that waits for its value is settled first
+help_for_a_value : parsed (codes "-t" ∷ codes "-h" ∷ []) ≡ Refused
+unfolding clap_on_literals
+help_for_a_value = refl
+
+-- `--workers 2`: there is no such option
+unknown_option : parsed (codes "--workers" ∷ codes "2" ∷ []) ≡ Refused
+unfolding clap_on_literals
+unknown_option = refl
+
+-- `a -n -t=5 -`: files stand between options, and `-` is one
+files_between_options :
+    parsed (codes "a" ∷ codes "-n" ∷ codes "-t=5" ∷ codes "-" ∷ [])
+    ≡ Gives (record nothing { turdsize = Some (codes "5"); longcurve = true; files = codes "a" ∷ codes "-" ∷ [] })
+unfolding clap_on_literals
+files_between_options = refl

@@ -1,0 +1,12 @@
+pub mod Carrying
+pub mod Ending
+pub mod Exists
+pub mod Filing
+pub mod Joining
+pub mod NameExamples
+pub mod Naming
+pub mod OneItems
+pub mod Paging
+pub mod Reading
+pub mod Saying
+pub mod Tracing

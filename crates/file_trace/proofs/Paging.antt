@@ -1,0 +1,47 @@
+-- The pages of a file, found one after another.
+use Rattle.std.proofs.Common.{◌≡◌, ℕ, suc, Bool, true, false, List, [], ◌∷◌, ◌++◌, drop, refl, sym, ◌∙◌, ap, subst}
+use Rattle.bitmap_input.specs.Cut.{Ending, is_by_end}
+use Rattle.bitmap_input.specs.Raw.{Raw, shown}
+use Rattle.bitmap_input.specs.Front.{front, page_at}
+use Rattle.bitmap_input.specs.Front.Answer.{Page as Gives}
+use Rattle.bitmap_input.specs.FilePages.{FilePages, next_begins}
+use Rattle.bitmap_input.specs.FilePages.FilePages.{Next}
+use Rattle.page_trace.specs.Document.{IsDocument}
+use Rattle.file_trace.specs.Outcome.{BeginsSettled, is_later}
+use Rattle.file_trace.specs.Progress.{AreTraced, BeginsWith, Settles}
+use Rattle.pt_base.specs.declared.settings.Settings.{Settings}
+
+is_later-true : (raws : List Raw) → is_later true raws ≡ true
+is_later-true [] = refl
+is_later-true (raw ∷ raws) = refl
+
+-- one page more
+pub BeginsWith-more : (later : Bool) (bytes : List ℕ) (raws : List Raw) (rest : List ℕ) (raw : Raw) (used : ℕ)
+    → BeginsWith later bytes raws rest → front (is_later later raws) rest ≡ Gives raw used
+    → BeginsWith later bytes (raws ++ raw ∷ []) (drop (next_begins rest raw used) rest)
+BeginsWith-more later bytes [] rest raw used b e =
+    (used, rw b e, ap (λ bs. drop (next_begins bs raw used) bs) b)
+BeginsWith-more later bytes (r ∷ raws) rest raw used (n, f, b) e =
+    (n, f, BeginsWith-more true _ raws rest raw used b (rw (is_later-true raws) e))
+
+-- one page more that isn't by the end
+pub BeginsSettled-more : (later : Bool) (bytes : List ℕ) (raws : List Raw) (rest : List ℕ) (raw : Raw) (used : ℕ) (left : List ℕ)
+    → BeginsSettled later bytes raws rest → Settles (is_later later raws) rest raw used left → BeginsSettled later bytes (raws ++ raw ∷ []) left
+BeginsSettled-more later bytes [] rest raw used left b s =
+    (used, ap (front later) b ∙ s.is, ap (λ bs. is_by_end (page_at later bs)) b ∙ s.open_end, ap (λ bs. drop (next_begins bs raw used) bs) b ∙ sym s.behind)
+BeginsSettled-more later bytes (r ∷ raws) rest raw used left (n, f, o, b) s =
+    (n, f, o, BeginsSettled-more true _ raws rest raw used left b (subst (λ l. Settles l rest raw used left) (sym (is_later-true raws)) s))
+
+pub AreTraced-more : (settings : Settings) (raws : List Raw) (texts : List (List ℕ)) (raw : Raw) (text : List ℕ)
+    → AreTraced settings raws texts → IsDocument (shown settings.level settings.invert raw) settings text → AreTraced settings (raws ++ raw ∷ []) (texts ++ text ∷ [])
+AreTraced-more settings [] [] raw text h p = (p, tt)
+AreTraced-more settings (r ∷ raws) (t ∷ texts) raw text h p = (h.0, AreTraced-more settings raws texts raw text h.1 p)
+AreTraced-more settings [] (t ∷ texts) raw text h p = absurd h
+AreTraced-more settings (r ∷ raws) [] raw text h p = absurd h
+
+-- the pages of a file that begins with these, and goes on with those behind them
+pub pages_on : (later : Bool) (bytes : List ℕ) (raws : List Raw) (rest : List ℕ) (more : List Raw) (ending : Ending)
+    → BeginsWith later bytes raws rest → FilePages (is_later later raws) rest more ending → FilePages later bytes (raws ++ more) ending
+pages_on later bytes [] rest more ending b pages = subst (λ bs. FilePages later bs more ending) (sym b) pages
+pages_on later bytes (raw ∷ raws) rest more ending (n, f, b) pages =
+    Next f (pages_on true _ raws rest more ending b (subst (λ l. FilePages l rest more ending) (sym (is_later-true raws)) pages))

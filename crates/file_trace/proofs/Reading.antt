@@ -1,0 +1,224 @@
+-- The reader's answers, as the run sees them.
+use Rattle.std.proofs.Common.{◌≡◌, ◌≤◌, ℕ, ◌+◌, ◌-◌, Bool, true, false, List, ◌++◌, length, take, drop, Option, None, Some, IfSome, option_map, refl, sym, ◌∙◌, ap, subst, append_assoc, arith}
+use Rattle.std.specs.FinMap.{get}
+use Rattle.std.proofs.lemmas.List.{drop-append-le, drop-drop, take-append-drop}
+use Rattle.pt_base.specs.Files.{Contents, Files, Lacks, Opened, taken_of, unread, unread_of, with_file, with_no_file, with_read}
+use Rattle.bit_image.specs.Page.{Page as Pixels}
+use Rattle.bitmap_input.specs.declared.fault.InFault.{InFault}
+use Rattle.bitmap_input.specs.declared.fault.InFault.TheVariants as fault
+use Rattle.bitmap_input.specs.Cut.{Cut, is_by_end}
+use Rattle.bitmap_input.specs.Cut.Cut.{Takes, Stops}
+use Rattle.bitmap_input.specs.Cut.Kind.{UnknownFormat, BadHeader, ZeroSide, TooLarge, Truncated, BadRaster, BmpKind, BadOffset, TooLong}
+use Rattle.bitmap_input.specs.Cut.Ending.{Refused}
+use Rattle.bitmap_input.specs.Front.{front, page_at}
+use Rattle.bitmap_input.specs.Front.Answer.{Page, Ends}
+use Rattle.bitmap_input.specs.FilePages.{next_begins}
+use Rattle.bitmap_input.specs.Raw.{Raw, shown}
+use Rattle.bitmap_input.specs.Reading.{cause_of_fault}
+use Rattle.bitmap_input.specs.Reader.{Reader, ahead as reader_ahead, is_later, GivesEnding, GivesPage, IfSays, MemoryFails, ReadFails, TellsPage}
+use Rattle.bitmap_input.proofs.Appending.{with_more}
+use Rattle.bitmap_input.proofs.FrontStays.{front_stays, page_stays}
+use Rattle.bitmap_input.proofs.Behind.{ahead_with_more, begins_with_more, front_within}
+use Rattle.pt_base.specs.declared.settings.Settings.{Settings}
+use Rattle.file_trace.specs.Items.{contents_of}
+use Rattle.file_trace.specs.Progress.{EndsReading, ReadsPage, Settles, ahead, end_of_fault, opened_name}
+
+mapped : (o : Option (List ℕ)) (f : List ℕ → List ℕ) (P : List ℕ → Type 0) → IfSome o (λ rest. P (f rest)) → IfSome (option_map f o) P
+mapped None f P h = tt
+mapped (Some rest) f P h = h
+
+unread_after : (file : Option Opened) (n : ℕ) (rest : List ℕ) → option_map unread_of file ≡ Some rest
+    → option_map unread_of (option_map (taken_of n) file) ≡ Some (drop n rest)
+unread_after None n rest h = cc
+unread_after (Some file) n rest h = let same : file.rest ≡ rest = cc in ap (λ r. Some (drop n r)) same
+
+-- after n bytes are taken the others are unread
+pub unread-with_read : (before : Option Files) (n : ℕ) (rest : List ℕ) → unread before ≡ Some rest → unread (with_read before n) ≡ Some (drop n rest)
+unread-with_read None n rest h = cc
+unread-with_read (Some files) n rest h = unread_after files.opened n rest h
+
+-- whether a cut is by the end stays where bytes are added to what it leaves
+is_by_end-with_more : {A : Type 0} (more : List ℕ) (c : Cut A) → is_by_end (with_more more c) ≡ is_by_end c
+is_by_end-with_more more (Takes e x rest) = refl
+is_by_end-with_more more (Stops e ending) = refl
+
+-- the bytes behind the used ones and then behind the skipped ones
+left_behind : (used skipped begins : ℕ) (taken tail : List ℕ) → used ≤ length taken → used ≤ begins → skipped ≡ begins - used
+    → drop skipped (drop used taken ++ tail) ≡ drop begins (taken ++ tail)
+left_behind used skipped begins taken tail within least is =
+    let n : used + skipped ≡ begins = omega arith in
+    ap (drop skipped) (sym (drop-append-le used taken tail within)) ∙ drop-drop skipped used (taken ++ tail) ∙ ap (λ m. drop m (taken ++ tail)) n
+
+-- what isn't by the end as long as a read gives something is not by the end before one gives nothing
+not_by_end : (by_end ended : Bool) → (by_end ≡ true → ended ≡ true) → ended ≡ false → by_end ≡ false
+not_by_end false ended settled going = refl
+not_by_end true ended settled going = absurd (let wrong : true ≡ false = sym (settled refl) ∙ going in cc)
+
+-- a page that was given before a read gave nothing is the next page, whatever comes behind the bytes taken
+settles : (settings : Settings) (old new : Reader) (before now : Option Files) (page : Pixels)
+    → (gives : GivesPage settings.level settings.invert old before page new now) → new.ended ≡ false → (tail : List ℕ)
+    → Settles (is_later old) (reader_ahead old (gives.answers.more ++ tail)) gives.raw gives.used (reader_ahead new tail)
+settles settings old new before now page gives going tail =
+    let taken : List ℕ = reader_ahead old gives.answers.more in
+    let open_end : is_by_end (page_at (is_later old) taken) ≡ false = not_by_end _ new.ended gives.answers.settled going in
+    let split : reader_ahead old (gives.answers.more ++ tail) ≡ taken ++ tail =
+    ap (drop old.skip) (sym (append_assoc old.bytes gives.answers.more tail)) ∙ ahead_with_more old.skip (is_later old) (old.bytes ++ gives.answers.more) tail open_end in
+    let within = front_within (is_later old) taken gives.raw gives.used gives.answers.is in
+    let begins = begins_with_more taken tail gives.raw gives.used within.1 in
+    rw split (record {
+      is = front_stays (is_later old) taken tail open_end ∙ gives.answers.is;
+      open_end = ap is_by_end (page_stays (is_later old) taken tail open_end) ∙ is_by_end-with_more tail (page_at (is_later old) taken) ∙ open_end;
+      behind = rw (begins, gives.left) (left_behind gives.used new.skip (next_begins taken gives.raw gives.used) taken tail within.0 (omega arith) gives.skipped);
+    })
+
+-- the bytes taken are the first ones of the rest
+pub first_taken : (before : Option Files) (more rest : List ℕ) → IfSome (unread before) (λ all. more ≡ take (length more) all) → unread before ≡ Some rest
+    → rest ≡ more ++ drop (length more) rest
+first_taken before more rest told is =
+    let front_of = subst (λ (o : Option (List ℕ)). IfSome o (λ all. more ≡ take (length more) all)) is told in
+    sym (take-append-drop (length more) rest) ∙ ap (λ l. l ++ drop (length more) rest) (sym front_of)
+
+-- the same where the whole rest of the file tells the page
+settles_told : (settings : Settings) (old new : Reader) (before now : Option Files) (page : Pixels) (rest : List ℕ)
+    → (gives : GivesPage settings.level settings.invert old before page new now) → unread before ≡ Some rest
+    → (raw : Raw) (used : ℕ) → front (is_later old) (reader_ahead old rest) ≡ Page raw used → new.ended ≡ false → (tail : List ℕ)
+    → Settles (is_later old) (reader_ahead old (gives.answers.more ++ tail)) raw used (reader_ahead new tail)
+settles_told settings old new before now page rest gives is raw used here going tail =
+    let whole = first_taken before gives.answers.more rest gives.answers.moves.told is in
+    let at_rest = settles settings old new before now page gives going (drop (length gives.answers.more) rest) in
+    let there : front (is_later old) (reader_ahead old rest) ≡ Page gives.raw gives.used = ap (λ bs. front (is_later old) (reader_ahead old bs)) whole ∙ at_rest.is in
+    let same : Page gives.raw gives.used ≡ Page raw used = sym there ∙ here in
+    let same_raw : gives.raw ≡ raw = cc in
+    let same_used : gives.used ≡ used = cc in
+    let bytes : List ℕ = reader_ahead old (gives.answers.more ++ tail) in
+    subst (λ (r : Raw). Settles (is_later old) bytes r used (reader_ahead new tail)) same_raw
+    (subst (λ (n : ℕ). Settles (is_later old) bytes gives.raw n (reader_ahead new tail)) same_used (settles settings old new before now page gives going tail))
+
+pub reads_page : (settings : Settings) (old new : Reader) (before now : Option Files) (page : Pixels)
+    → GivesPage settings.level settings.invert old before page new now
+    → IfSome (unread before) (λ rest. TellsPage settings.level settings.invert old rest page new now) → ReadsPage settings old before page new now
+reads_page settings old new before now page gives tells = by_told (unread before) refl tells where
+  by_told : (o : Option (List ℕ)) → unread before ≡ o → IfSome o (λ rest. TellsPage settings.level settings.invert old rest page new now) → ReadsPage settings old before page new now
+  by_told None is h = record {
+    raw = gives.raw;
+    used = gives.used;
+    more = gives.answers.more;
+    moves = gives.answers.moves;
+    shows = gives.shows;
+    told = subst (λ (o : Option (List ℕ)). IfSome (option_map (reader_ahead old) o)
+        (λ bytes. (front (is_later old) bytes ≡ Page gives.raw gives.used) × (ahead new now ≡ Some (drop (next_begins bytes gives.raw gives.used) bytes)))) (sym is) tt;
+    settled = settles settings old new before now page gives;
+    counted = gives.counted;
+    going_on = gives.going_on;
+  }
+  by_told (Some rest) is h =
+      let still : unread now ≡ Some (drop (length gives.answers.more) rest) =
+      ap unread gives.answers.moves.files ∙ unread-with_read before (length gives.answers.more) rest is in
+      let left = subst (λ (o : Option (List ℕ)). IfSome o
+      (λ more. reader_ahead new more ≡ drop (next_begins (reader_ahead old rest) h.raw h.used) (reader_ahead old rest))) still h.left in
+      record {
+        raw = h.raw;
+        used = h.used;
+        more = gives.answers.more;
+        moves = gives.answers.moves;
+        shows = h.shows;
+        told = subst (λ (o : Option (List ℕ)). IfSome (option_map (reader_ahead old) o)
+            (λ bytes. (front (is_later old) bytes ≡ Page h.raw h.used) × (ahead new now ≡ Some (drop (next_begins bytes h.raw h.used) bytes)))) (sym is)
+            (h.is, ap (option_map (reader_ahead new)) still ∙ ap Some left);
+        settled = settles_told settings old new before now page rest gives is h.raw h.used h.is;
+        counted = gives.counted;
+        going_on = gives.going_on;
+      }
+
+-- why a refused page ends the reading
+pub fault_ends : (f : InFault) (o : Option (List ℕ)) (g : List ℕ → List ℕ) (later : Bool)
+    → IfSome o (λ rest. IfSays (cause_of_fault f) (λ ending. front later (g rest) ≡ Ends ending))
+    → EndsReading later (option_map g o) (end_of_fault f)
+fault_ends fault.ReadFault o g later h = tt
+fault_ends fault.NoMemory o g later h = tt
+fault_ends fault.UnknownFormat o g later h = (UnknownFormat, refl, mapped o g (λ all. front later all ≡ Ends (Refused UnknownFormat)) h)
+fault_ends fault.BadHeader o g later h = (BadHeader, refl, mapped o g (λ all. front later all ≡ Ends (Refused BadHeader)) h)
+fault_ends fault.ZeroSide o g later h = (ZeroSide, refl, mapped o g (λ all. front later all ≡ Ends (Refused ZeroSide)) h)
+fault_ends fault.TooLarge o g later h = (TooLarge, refl, mapped o g (λ all. front later all ≡ Ends (Refused TooLarge)) h)
+fault_ends fault.Truncated o g later h = (Truncated, refl, mapped o g (λ all. front later all ≡ Ends (Refused Truncated)) h)
+fault_ends fault.BadRaster o g later h = (BadRaster, refl, mapped o g (λ all. front later all ≡ Ends (Refused BadRaster)) h)
+fault_ends fault.BmpKind o g later h = (BmpKind, refl, mapped o g (λ all. front later all ≡ Ends (Refused BmpKind)) h)
+fault_ends fault.BadOffset o g later h = (BadOffset, refl, mapped o g (λ all. front later all ≡ Ends (Refused BadOffset)) h)
+fault_ends fault.TooLong o g later h = (TooLong, refl, mapped o g (λ all. front later all ≡ Ends (Refused TooLong)) h)
+
+-- taking bytes keeps the opened file's name
+name-with_read : (before : Option Files) (n : ℕ) → opened_name (with_read before n) ≡ opened_name before
+name-with_read None n = refl
+name-with_read (Some files) n = by_file files.opened where
+  by_file : (file : Option Opened) → option_map (λ f. f.name) (option_map (taken_of n) file) ≡ option_map (λ f. f.name) file
+  by_file None = refl
+  by_file (Some file) = refl
+
+pub same_name : (before now : Option Files) (n : ℕ) → now ≡ with_read before n → opened_name now ≡ opened_name before
+same_name before now n e = ap opened_name e ∙ name-with_read before n
+
+-- so does a page that isn't read
+pub fault_name : (f : InFault) (old new : Reader) (before now : Option Files)
+    → IfSays (cause_of_fault f) (λ ending. GivesEnding old before ending new now)
+    → (f ≡ fault.ReadFault → ReadFails old before new now) → (f ≡ fault.NoMemory → MemoryFails old before new now)
+    → opened_name now ≡ opened_name before
+fault_name fault.ReadFault old new before now ends fails wants = same_name before now (length (fails refl).more) (fails refl).moves.files
+fault_name fault.NoMemory old new before now ends fails wants = same_name before now (length (wants refl).more) (wants refl).moves.files
+fault_name fault.UnknownFormat old new before now ends fails wants = same_name before now (length ends.answers.more) ends.answers.moves.files
+fault_name fault.BadHeader old new before now ends fails wants = same_name before now (length ends.answers.more) ends.answers.moves.files
+fault_name fault.ZeroSide old new before now ends fails wants = same_name before now (length ends.answers.more) ends.answers.moves.files
+fault_name fault.TooLarge old new before now ends fails wants = same_name before now (length ends.answers.more) ends.answers.moves.files
+fault_name fault.Truncated old new before now ends fails wants = same_name before now (length ends.answers.more) ends.answers.moves.files
+fault_name fault.BadRaster old new before now ends fails wants = same_name before now (length ends.answers.more) ends.answers.moves.files
+fault_name fault.BmpKind old new before now ends fails wants = same_name before now (length ends.answers.more) ends.answers.moves.files
+fault_name fault.BadOffset old new before now ends fails wants = same_name before now (length ends.answers.more) ends.answers.moves.files
+fault_name fault.TooLong old new before now ends fails wants = same_name before now (length ends.answers.more) ends.answers.moves.files
+
+-- taking bytes keeps what the files hold
+contents-with_read : (before : Option Files) (n : ℕ) → contents_of (with_read before n) ≡ contents_of before
+contents-with_read None n = refl
+contents-with_read (Some files) n = refl
+
+pub same_contents : (before now : Option Files) (n : ℕ) → now ≡ with_read before n → contents_of now ≡ contents_of before
+same_contents before now n e = ap contents_of e ∙ contents-with_read before n
+
+-- and so does a page that isn't read
+pub fault_contents : (f : InFault) (old new : Reader) (before now : Option Files)
+    → IfSays (cause_of_fault f) (λ ending. GivesEnding old before ending new now)
+    → (f ≡ fault.ReadFault → ReadFails old before new now) → (f ≡ fault.NoMemory → MemoryFails old before new now)
+    → contents_of now ≡ contents_of before
+fault_contents fault.ReadFault old new before now ends fails wants = same_contents before now (length (fails refl).more) (fails refl).moves.files
+fault_contents fault.NoMemory old new before now ends fails wants = same_contents before now (length (wants refl).more) (wants refl).moves.files
+fault_contents fault.UnknownFormat old new before now ends fails wants = same_contents before now (length ends.answers.more) ends.answers.moves.files
+fault_contents fault.BadHeader old new before now ends fails wants = same_contents before now (length ends.answers.more) ends.answers.moves.files
+fault_contents fault.ZeroSide old new before now ends fails wants = same_contents before now (length ends.answers.more) ends.answers.moves.files
+fault_contents fault.TooLarge old new before now ends fails wants = same_contents before now (length ends.answers.more) ends.answers.moves.files
+fault_contents fault.Truncated old new before now ends fails wants = same_contents before now (length ends.answers.more) ends.answers.moves.files
+fault_contents fault.BadRaster old new before now ends fails wants = same_contents before now (length ends.answers.more) ends.answers.moves.files
+fault_contents fault.BmpKind old new before now ends fails wants = same_contents before now (length ends.answers.more) ends.answers.moves.files
+fault_contents fault.BadOffset old new before now ends fails wants = same_contents before now (length ends.answers.more) ends.answers.moves.files
+fault_contents fault.TooLong old new before now ends fails wants = same_contents before now (length ends.answers.more) ends.answers.moves.files
+
+-- opening a file keeps it too
+pub contents-with_file : (before : Option Files) (name : List ℕ) → contents_of (with_file before name) ≡ contents_of before
+contents-with_file None name = refl
+contents-with_file (Some files) name = refl
+
+pub contents-with_no_file : (before : Option Files) → contents_of (with_no_file before) ≡ contents_of before
+contents-with_no_file None = refl
+contents-with_no_file (Some files) = refl
+
+abbrev opened_as : List ℕ → List ℕ → Opened
+opened_as name bytes = record { name = name; rest = bytes }
+
+-- the opened file has the name that was asked for
+pub name-with_file : (before : Option Files) (name : List ℕ) → IfSome (opened_name (with_file before name)) (λ opened. opened ≡ name)
+name-with_file None name = tt
+name-with_file (Some files) name = by_bytes (get files.contents name) where
+  by_bytes : (bytes : Option (List ℕ)) → IfSome (option_map (λ f. f.name) (option_map (opened_as name) bytes)) (λ opened. opened ≡ name)
+  by_bytes None = tt
+  by_bytes (Some bytes) = refl
+
+pub no_name : (before : Option Files) (name : List ℕ) → IfSome (opened_name (with_no_file before)) (λ opened. opened ≡ name)
+no_name None name = tt
+no_name (Some files) name = tt

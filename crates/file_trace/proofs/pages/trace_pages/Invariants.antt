@@ -1,0 +1,28 @@
+use Rattle.std.proofs.Common.{◌≡◌, ◌≤◌, ◌-◌, false, true}
+use Rattle.pt_base.specs.Files.{unread}
+use Rattle.bitmap_input.specs.Reading.{AtEnd}
+use Rattle.file_trace.specs.Items.{contents_of}
+use Rattle.file_trace.specs.Progress.{opened_name}
+use Rattle.file_trace.proofs.Tracing.{IsTraced}
+use Rattle.file_trace.proofs.pages.trace_pages.Given as goal
+
+-- the first pages are traced, and their documents written
+abbrev pub invariant-loop-pages : goal.invariant-loop-pages
+invariant-loop-pages g l =
+    let inputs = g.I.Inputs in
+    let outs = g.O.Sink in
+    record {
+      most : l.pages ≤ l.room;
+      traced : IsTraced l.settings l.base l.made (unread (inputs.files l.fn.inputs)) (outs.documents l.fn.outs) l.reader (inputs.files l.inputs) (outs.documents l.outs) l.pages;
+      at_end : l.reader.ended ≡ true → AtEnd (inputs.files l.inputs);
+      opened : inputs.is_opened l.inputs ≡ true;
+      closed : outs.is_ready l.outs ≡ false;
+      openings : inputs.openings l.inputs ≡ inputs.openings l.fn.inputs;
+      name : opened_name (inputs.files l.inputs) ≡ opened_name (inputs.files l.fn.inputs);
+      contents : contents_of (inputs.files l.inputs) ≡ contents_of (inputs.files l.fn.inputs);
+      input : inputs.faults l.inputs ≡ inputs.faults l.fn.inputs;
+      output : outs.faults l.outs ≡ outs.faults l.fn.outs;
+    }
+
+abbrev pub decreases-loop-pages : goal.decreases-loop-pages
+decreases-loop-pages g l = l.room - l.pages

@@ -1,0 +1,17 @@
+use Rattle.std.proofs.Common.{[], refl}
+use Rattle.file_trace.specs.Names.{dash}
+use Rattle.file_trace.proofs.Carrying.{one_said}
+use Rattle.file_trace.proofs.text.write_text.Goals as goal
+
+-- the document is cut off
+pub returns-in-Err-clause-ended : goal.returns-in-Err-clause-ended
+returns-in-Err-clause-ended g c = record {
+  before = [];
+  name = dash;
+  text = c.args.text.now;
+  after = [];
+  split = refl;
+  goes_on = tt;
+  cut_off = c.in-Err.ensures.cut_off;
+  messages = one_said _ _ _ _ _ c.say_not_written.ensures.said c.say_not_written.ensures.never_falls;
+}

@@ -1,0 +1,193 @@
+-- What a run has done, against the items that it was to write.
+use Rattle.std.specs.Prelude.{◌≡◌, ℕ, ◌+◌, ◌≤◌, ◌⊎◌, Bool, true, false, List, [], ◌∷◌, ◌++◌, length, min, take, drop, Option, None, Some, IfSome}
+use Rattle.std.specs.List.{concat}
+use Rattle.std.specs.FinMap.{get}
+use Rattle.pt_base.specs.Counts.{Rose, last_count}
+use Rattle.pt_base.specs.Documents.{Documents, with_bytes, with_whole, IsCutOff}
+use Rattle.pt_base.specs.Files.{Contents, Files}
+use Rattle.pt_base.specs.declared.settings.Settings.{Settings}
+use Rattle.bitmap_input.specs.Cut.{is_by_end}
+use Rattle.bitmap_input.specs.Cut.Ending.{End}
+use Rattle.bitmap_input.specs.Raw.{Raw}
+use Rattle.bitmap_input.specs.Front.{front, page_at}
+use Rattle.bitmap_input.specs.Front.Answer.{Page}
+use Rattle.bitmap_input.specs.FilePages.{next_begins}
+use Rattle.file_trace.specs.Names.{base_name}
+use Rattle.file_trace.specs.Messages.{not_opened, not_written, out_of_memory, page_line, read_fault}
+use Rattle.file_trace.specs.Items.{Item, AreItems, ArePageItems, IsAbsent, Nothing, contents_of}
+use Rattle.file_trace.specs.Items.Item.{Doc, Note, Stop, Missing}
+use Rattle.file_trace.specs.declared.status.Status.{Status}
+use Rattle.file_trace.specs.declared.status.Status.TheVariants as status
+
+-- the outputs and the sink for messages: the documents that they tell, their counts of faults, and whether
+-- a document is open
+pub record Sinks : Type 0 where
+  pub outs : Option Documents
+  pub outs_faults : ℕ
+  pub is_open : Bool
+  pub errs : Option Documents
+  pub errs_faults : ℕ
+
+-- the inputs: the files that they tell, whether one is opened, how many openings there were, and their count
+-- of faults
+pub record Source : Type 0 where
+  pub files : Option Files
+  pub is_opened : Bool
+  pub openings : ℕ
+  pub faults : ℕ
+
+-- the run goes on after each of the items
+abbrev pub GoesOn : List Item → Type 0
+GoesOn [] = Unit {0}
+GoesOn (Doc name text ∷ items) = GoesOn items
+GoesOn (Note message ∷ items) = GoesOn items
+GoesOn (Stop message ∷ items) = ⊥
+GoesOn (Missing name ∷ items) = ⊥
+
+-- the documents of the items are added, whole and in order
+abbrev pub with_items : Option Documents → List Item → Option Documents
+with_items told [] = told
+with_items told (Doc name text ∷ items) = with_items (with_whole told name text) items
+with_items told (Note message ∷ items) = with_items told items
+with_items told (Stop message ∷ items) = with_items told items
+with_items told (Missing name ∷ items) = with_items told items
+
+-- the messages of the notes, in order
+abbrev pub notes : List Item → List (List ℕ)
+notes [] = []
+notes (Doc name text ∷ items) = notes items
+notes (Note message ∷ items) = message ∷ notes items
+notes (Stop message ∷ items) = notes items
+notes (Missing name ∷ items) = notes items
+
+-- each part is a front of its message
+abbrev pub AreFronts : List (List ℕ) → List (List ℕ) → Type 0
+AreFronts [] [] = Unit {0}
+AreFronts (part ∷ parts) (message ∷ messages) = ((n : ℕ) × (n ≤ length message) × (part ≡ take n message)) × AreFronts parts messages
+AreFronts [] (message ∷ messages) = ⊥
+AreFronts (part ∷ parts) [] = ⊥
+
+-- the messages were said: a front of each stands there, one after another, and each is whole where the
+-- count of faults didn't rise
+pub record AreSaid (old new : Option Documents) (faults faults_now : ℕ) (messages : List (List ℕ)) : Type 0 where
+  pub parts : List (List ℕ)
+  pub fronts : AreFronts parts messages
+  pub appended : new ≡ with_bytes old (concat parts)
+  pub whole : (parts ≡ messages) ⊎ Rose faults faults_now
+  pub never_falls : faults ≤ faults_now
+
+-- these items are carried out: their documents are added, their notes were said, and then these messages
+pub record AreCarriedOut (items : List Item) (last : List (List ℕ)) (old new : Sinks) : Type 0 where
+  pub goes_on : GoesOn items
+  pub documents : new.outs ≡ with_items old.outs items
+  pub messages : AreSaid old.errs new.errs old.errs_faults new.errs_faults (notes items ++ last)
+
+-- the last item is a page that is refused: all before it are carried out, and its message is the last one
+pub record IsRefused (items : List Item) (old new : Sinks) : Type 0 where
+  pub before : List Item
+  pub message : List ℕ
+  pub split : items ≡ before ++ Stop message ∷ []
+  pub done : AreCarriedOut before (message ∷ []) old new
+
+-- all items before a document are carried out, and that document is cut off; its fault is the last message
+pub record IsUnwritten (items : List Item) (old new : Sinks) : Type 0 where
+  pub before : List Item
+  pub name : List ℕ
+  pub text : List ℕ
+  pub after : List Item
+  pub split : items ≡ before ++ Doc name text ∷ after
+  pub goes_on : GoesOn before
+  pub cut_off : IsCutOff (with_items old.outs before) new.outs name text
+  pub messages : AreSaid old.errs new.errs old.errs_faults new.errs_faults (notes before ++ not_written name ∷ [])
+
+-- some first items are carried out, and then memory ran out
+pub record IsOutOfMemory (items : List Item) (old new : Sinks) : Type 0 where
+  pub before : List Item
+  pub after : List Item
+  pub split : items ≡ before ++ after
+  pub done : AreCarriedOut before (out_of_memory ∷ []) old new
+
+-- the items are carried out as far as the status says
+abbrev pub HasEnded : Status → List Item → Sinks → Sinks → Type 0
+HasEnded status.Done items old new = AreCarriedOut items [] old new
+HasEnded status.Refused items old new = IsRefused items old new
+HasEnded status.Unwritten items old new = IsUnwritten items old new
+HasEnded status.OutOfMemory items old new = IsOutOfMemory items old new
+HasEnded status.BadWords items old new = ⊥
+HasEnded status.Unread items old new = ⊥
+
+-- the file of this name is the last one that was asked for: those in front of it were opened before, each
+-- once and in order
+pub record IsReached (names : List (List ℕ)) (name : List ℕ) (front : List (List ℕ)) (openings openings_now : ℕ) : Type 0 where
+  pub back : List (List ℕ)
+  pub listed : names ≡ front ++ name ∷ back
+  pub grew : openings_now ≡ min (openings + (length front + 1)) last_count
+
+-- a file can't be opened: it isn't there, or a device failed. All items of the files in front of it are
+-- carried out, and its message is the last one.
+pub record IsUnopened (contents : Option Contents) (settings : Settings) (output : Option (List ℕ)) (names made : List (List ℕ)) (source source_now : Source) (old new : Sinks) : Type 0 where
+  pub name : List ℕ
+  pub front : List (List ℕ)
+  pub before : List Item
+  pub reached : IsReached names name front source.openings source_now.openings
+  pub closed : source_now.is_opened ≡ false
+  pub cause : IsAbsent contents name ⊎ Rose source.faults source_now.faults
+  pub items : AreItems contents settings output Nothing front made before
+  pub done : AreCarriedOut before (not_opened name ∷ []) old new
+
+-- the first pages of the bytes are these, none of them is by the end of the bytes, and `rest` is what follows them
+abbrev pub BeginsSettled : Bool → List ℕ → List Raw → List ℕ → Type 0
+BeginsSettled later bytes [] rest = bytes ≡ rest
+BeginsSettled later bytes (raw ∷ raws) rest =
+    (used : ℕ) × (front later bytes ≡ Page raw used) × (is_by_end (page_at later bytes) ≡ false)
+    × BeginsSettled true (drop (next_begins bytes raw used) bytes) raws rest
+
+-- a page came before, or one of these did
+abbrev pub is_later : Bool → List Raw → Bool
+is_later later [] = later
+is_later later (raw ∷ raws) = true
+
+-- a read failed behind these pages: the bytes that were taken of the file begin with them, and what follows
+-- is cut short by the end of those bytes
+pub record StopsReading (taken : List ℕ) (raws : List Raw) : Type 0 where
+  pub left : List ℕ
+  pub pages : BeginsSettled false taken raws left
+  pub by_end : is_by_end (page_at (is_later false raws) left) ≡ true
+
+-- the bytes of the file of this name, where they are told, are those that were taken and those still unread
+abbrev pub HoldsBytes : Option Contents → List ℕ → List ℕ → List ℕ → Type 0
+HoldsBytes None name taken rest = Unit {0}
+HoldsBytes (Some contents) name taken rest = get contents name ≡ Some (taken ++ rest)
+
+-- a read failed: all items of the files in front of the opened one, and the documents of its pages that had
+-- been taken whole, are carried out, and the message of the page behind them is the last one
+pub record IsUnread (contents : Option Contents) (settings : Settings) (output : Option (List ℕ)) (names made : List (List ℕ)) (source source_now : Source) (old new : Sinks) : Type 0 where
+  pub name : List ℕ
+  pub front : List (List ℕ)
+  pub taken : List ℕ
+  pub rest : List ℕ
+  pub raws : List Raw
+  pub before : List Item
+  pub reached : IsReached names name front source.openings source_now.openings
+  pub opened : IfSome source_now.files (λ files. files.opened ≡ Some (record { name = name; rest = rest }))
+  pub bytes : HoldsBytes contents name taken rest
+  pub rose : Rose source.faults source_now.faults
+  pub stops : StopsReading taken raws
+  pub items : AreItems contents settings output
+      (λ made items. ArePageItems settings name (base_name output settings.backend name) End Nothing raws 0 made items) front made before
+  pub done : AreCarriedOut before (page_line name (length raws + 1) read_fault ∷ []) old new
+
+-- what was done of the items of the files of these names, after documents with these base names
+abbrev pub IsOutcome : Status → Option Contents → Settings → Option (List ℕ) → List (List ℕ) → List (List ℕ) → Source → Source → Sinks → Sinks → Type 0
+IsOutcome status.Unread contents settings output names made source source_now old new =
+    IsUnopened contents settings output names made source source_now old new ⊎ IsUnread contents settings output names made source source_now old new
+IsOutcome status.Done contents settings output names made source source_now old new =
+    (items : List Item) × AreItems contents settings output Nothing names made items × HasEnded status.Done items old new
+IsOutcome status.BadWords contents settings output names made source source_now old new =
+    (items : List Item) × AreItems contents settings output Nothing names made items × HasEnded status.BadWords items old new
+IsOutcome status.Refused contents settings output names made source source_now old new =
+    (items : List Item) × AreItems contents settings output Nothing names made items × HasEnded status.Refused items old new
+IsOutcome status.Unwritten contents settings output names made source source_now old new =
+    (items : List Item) × AreItems contents settings output Nothing names made items × HasEnded status.Unwritten items old new
+IsOutcome status.OutOfMemory contents settings output names made source source_now old new =
+    (items : List Item) × AreItems contents settings output Nothing names made items × HasEnded status.OutOfMemory items old new

@@ -1,0 +1,17 @@
+//! The whole of one file: its pages are read, traced and written one after another, under the names of their
+//! documents, and what went wrong is said.
+//!
+//! A run is a list of items: documents to write and messages to say, in order. What a file adds to that list
+//! follows from its bytes, and from the documents of the files in front of it, which have numbers in their
+//! names.
+#![tactic(auto)]
+
+mod document;
+pub mod file;
+pub mod laws;
+pub mod made;
+pub mod message;
+mod names;
+mod pages;
+pub mod status;
+pub mod text;

@@ -1,0 +1,30 @@
+//! A text of the program's own, as a whole run.
+ghost use Rattle.std.specs.Prelude.{◌≡◌, ◌≤◌, [], ◌∷◌, false, true};
+ghost use Rattle.file_trace.specs.Items.Item.{Doc};
+ghost use Rattle.file_trace.specs.Names.{dash};
+ghost use Rattle.file_trace.specs.Outcome.{HasEnded};
+ghost use Rattle.file_trace.specs.Progress.{OutputCount};
+
+use crate::document::write_document;
+use crate::message::say_not_written;
+use crate::status::Status;
+use pt_base::sink::{Outputs, Sink};
+
+/// Writes a text as the one document, to standard output.
+pub fn write_text<O: Outputs, E: Sink>(outs: &mut O, errs: &mut E, text: &[u8]) -> Status
+    requires closed { O.is_ready outs.old ≡ false }
+    requires ready { E.is_ready errs.old ≡ true }
+    ensures ended { HasEnded result (Doc dash text.now ∷ [])
+        (record { outs = O.documents outs.old; outs_faults = O.faults outs.old; is_open = O.is_ready outs.old; errs = E.documents errs.old; errs_faults = E.faults errs.old })
+        (record { outs = O.documents outs.new; outs_faults = O.faults outs.new; is_open = O.is_ready outs.new; errs = E.documents errs.new; errs_faults = E.faults errs.new }) }
+    ensures output { OutputCount result (O.faults outs.old) (O.faults outs.new) (O.is_ready outs.new) }
+    ensures never_falls { O.faults outs.old ≤ O.faults outs.new }
+{
+    match write_document(outs, "-", text) {
+        Ok(()) => Status::Done,
+        Err(_) => {
+            say_not_written(errs, "-");
+            Status::Unwritten
+        }
+    }
+}

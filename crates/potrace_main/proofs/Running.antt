@@ -1,0 +1,84 @@
+-- Files traced one after another.
+use Rattle.std.proofs.Common.{◌≡◌, ◌≤◌, ◌<◌, ◌⊎◌, ℕ, ◌+◌, min, Bool, false, List, [], ◌∷◌, ◌++◌, length, take, drop, get_or, Option, None, Some, IfSome, inl, inr, refl, sym, ◌∙◌, ap, subst, append-nil, arith}
+use Rattle.std.proofs.lemmas.List.{length-take-le, take-append-drop, take_more}
+use Rattle.pt_base.specs.Counts.{last_count, next_count}
+use Rattle.pt_base.specs.Files.{Contents}
+use Rattle.pt_base.specs.declared.settings.Settings.{Settings}
+use Rattle.file_trace.specs.Items.{AreItems, Item, Nothing, contents_of}
+use Rattle.file_trace.specs.Outcome.{AreCarriedOut, HasEnded, IsOutcome, IsReached, Sinks, Source}
+use Rattle.file_trace.specs.Progress.{EndsWith, TracesFile, opened_name}
+use Rattle.file_trace.specs.declared.status.Status.{Status}
+use Rattle.file_trace.specs.declared.status.Status.TheVariants as status
+use Rattle.file_trace.proofs.Carrying.{carried_on, nothing_done}
+use Rattle.file_trace.proofs.Joining.{items_join, outcome_on}
+use Rattle.potrace_main.specs.Run.{OpensFirst}
+
+-- the items of these files are carried out
+pub record AreDone (contents : Option Contents) (settings : Settings) (output : Option (List ℕ)) (front made : List (List ℕ)) (a b : Sinks) : Type 0 where
+  pub items : List Item
+  pub are : AreItems contents settings output (EndsWith made) front [] items
+  pub done : AreCarriedOut items [] a b
+
+pub none_done : (contents : Option Contents) (settings : Settings) (output : Option (List ℕ)) (a : Sinks) → AreDone contents settings output [] [] a a
+none_done contents settings output a = record { items = []; are = (refl, refl); done = nothing_done a }
+
+-- one file more
+pub one_done : (contents : Option Contents) (settings : Settings) (output : Option (List ℕ)) (names : List (List ℕ)) (i : ℕ) (name : List ℕ) (made made_now : List (List ℕ)) (a b c : Sinks)
+    → i < length names → name ≡ get_or names i name → AreDone contents settings output (take i names) made a b
+    → TracesFile contents settings output name made made_now b c → AreDone contents settings output (take (i + 1) names) made_now a c
+one_done contents settings output names i name made made_now a b c within is front file =
+    let more : take (i + 1) names ≡ take i names ++ name ∷ [] = take_more names i name within ∙ ap (λ n. take i names ++ n ∷ []) (sym is) in
+    let are = items_join contents settings output (EndsWith made_now) (name ∷ []) made file.items file.are (take i names) [] front.items front.done.goes_on front.are in
+    record {
+      items = front.items ++ file.items;
+      are = subst (λ ns. AreItems contents settings output (EndsWith made_now) ns [] (front.items ++ file.items)) (sym more) are;
+      done = carried_on front.items file.items [] a b c front.done file.done;
+    }
+
+-- all files are done
+pub all_done : (contents : Option Contents) (settings : Settings) (output : Option (List ℕ)) (names made : List (List ℕ)) (a b : Sinks) → AreDone contents settings output names made a b
+    → (items : List Item) × AreItems contents settings output Nothing names [] items × HasEnded status.Done items a b
+all_done contents settings output names made a b all =
+    let are = items_join contents settings output Nothing [] made [] refl names [] all.items all.done.goes_on all.are in
+    (all.items,
+    subst (λ ns. AreItems contents settings output Nothing ns [] all.items) (append-nil names)
+    (subst (λ (l : List Item). AreItems contents settings output Nothing (names ++ []) [] l) (append-nil all.items) are),
+    all.done)
+
+-- a list around its i-th item
+around : (names : List (List ℕ)) (i : ℕ) (name : List ℕ) → i < length names → name ≡ get_or names i name → names ≡ take i names ++ name ∷ drop (i + 1) names
+around names i name within is =
+    let more : take (i + 1) names ≡ take i names ++ name ∷ [] = take_more names i name within ∙ ap (λ n. take i names ++ n ∷ []) (sym is) in
+    sym (take-append-drop (i + 1) names) ∙ ap (λ l. l ++ drop (i + 1) names) more ∙ assoc_one (take i names) name (drop (i + 1) names) where
+      assoc_one : (xs : List (List ℕ)) (x : List ℕ) (ys : List (List ℕ)) → (xs ++ x ∷ []) ++ ys ≡ xs ++ x ∷ ys
+      assoc_one [] x ys = refl
+      assoc_one (y ∷ xs) x ys = ap (λ l. y ∷ l) (assoc_one xs x ys)
+
+opened_more : (n k m o : ℕ) → m ≡ min (n + k) last_count → o ≡ next_count m → o ≡ min (n + (k + 1)) last_count
+opened_more n k m o e f = omega (arith, e, f)
+
+pub openings_more : (n k m o : ℕ) → m ≡ min (n + k) last_count → o ≡ next_count m → o ≡ min (n + (k + 1)) last_count
+openings_more = opened_more
+
+-- the i-th file was opened
+pub opens_to : (names : List (List ℕ)) (i : ℕ) (name : List ℕ) (source then now : Source) → i < length names → name ≡ get_or names i name
+    → then.openings ≡ min (source.openings + i) last_count → now.openings ≡ next_count then.openings → IfSome (opened_name now.files) (λ opened. opened ≡ name)
+    → OpensFirst names source now
+opens_to names i name source then now within is openings one named =
+    let short : length (take i names) ≡ i = length-take-le i names (omega (arith, within)) in
+    inr (name, take i names, record {
+      back = drop (i + 1) names;
+      listed = around names i name within is;
+      grew = opened_more source.openings (length (take i names)) then.openings now.openings (rw short openings) one;
+    }, named)
+
+-- the run ends in the i-th file
+pub ends_in : (s : Status) (contents : Option Contents) (settings : Settings) (output : Option (List ℕ)) (names : List (List ℕ)) (i : ℕ) (name : List ℕ) (made : List (List ℕ)) (source then now : Source) (a b c : Sinks)
+    → i < length names → name ≡ get_or names i name → AreDone contents settings output (take i names) made a b
+    → then.openings ≡ min (source.openings + i) last_count → then.faults ≡ source.faults
+    → ((back : List (List ℕ)) → IsOutcome s contents settings output (name ∷ back) made then now b c) → IsOutcome s contents settings output names [] source now a c
+ends_in s contents settings output names i name made source then now a b c within is front openings faults ends =
+    let short : length (take i names) ≡ i = length-take-le i names (omega (arith, within)) in
+    let all = outcome_on s contents settings output (take i names) (name ∷ drop (i + 1) names) [] made front.items source then now a b c front.are front.done
+    (rw short openings) faults (ends (drop (i + 1) names)) in
+    subst (λ ns. IsOutcome s contents settings output ns [] source now a c) (sym (around names i name within is)) all

@@ -1,0 +1,77 @@
+use Rattle.std.proofs.Common.{◌≡◌, ◌∙◌, [], ℕ, List, Option, inl, option_map, refl, subst, sym, arith}
+use Rattle.std.proofs.lemmas.List.{take_all}
+use Rattle.file_trace.specs.Items.{contents_of}
+use Rattle.file_trace.specs.Outcome.{Source}
+use Rattle.file_trace.proofs.Ending.{ends_at_once}
+use Rattle.potrace_main.proofs.Running.{all_done, ends_in, none_done, one_done, openings_more, opens_to}
+use Rattle.potrace_main.proofs.files.trace_files.Goals as goal
+
+-- memory ran out before the first file
+pub returns-in_default-clause-outcome : goal.returns-in_default-clause-outcome
+returns-in_default-clause-outcome g c =
+    let output : Option (List ℕ) = option_map (λ s. s.now) c.args.output in
+    ends_at_once (contents_of (g.I.Inputs.files c.args.inputs.now)) c.args.settings c.requires.offered.document output c.args.names.now [] _ _ refl
+    c.say_out_of_memory.ensures.said c.say_out_of_memory.ensures.never_falls
+
+pub returns-in_default-clause-opened : goal.returns-in_default-clause-opened
+returns-in_default-clause-opened g c = inl (refl, refl)
+
+-- no file is done yet
+pub loop-name-init : goal.loop-name-init
+loop-name-init g c =
+    let output : Option (List ℕ) = option_map (λ s. s.now) c.args.output in
+    record {
+      done = rw c.new-made.ensures (none_done (contents_of (g.I.Inputs.files c.args.inputs.now)) c.args.settings output _);
+      openings = (let most = g.met.I.Inputs.openings_counted c.args.inputs.now in omega (arith, most));
+      opened = inl (refl, refl);
+      contents = refl;
+      input = refl;
+      output = refl;
+      closed = c.requires.closed;
+      ready = c.requires.ready;
+    }
+
+-- one file more is done
+pub loop-name-preserved : goal.loop-name-preserved
+loop-name-preserved g c =
+    let file = rw (c.loop-name.invariant.contents, c.as_str.ensures) at c.in-Ok-traced.ensures.traced in
+    let source : Source = record { files = g.I.Inputs.files c.args.inputs.now; is_opened = g.I.Inputs.is_opened c.args.inputs.now; openings = g.I.Inputs.openings c.args.inputs.now; faults = g.I.Inputs.faults c.args.inputs.now } in
+    let then : Source = record { files = g.I.Inputs.files c.loop-name.inputs; is_opened = g.I.Inputs.is_opened c.loop-name.inputs; openings = g.I.Inputs.openings c.loop-name.inputs; faults = g.I.Inputs.faults c.loop-name.inputs } in
+    let now : Source = record { files = g.I.Inputs.files c.trace_file-traced.new.inputs; is_opened = g.I.Inputs.is_opened c.trace_file-traced.new.inputs; openings = g.I.Inputs.openings c.trace_file-traced.new.inputs; faults = g.I.Inputs.faults c.trace_file-traced.new.inputs } in
+    let named = rw c.as_str.ensures at c.trace_file-traced.ensures.name in
+    record {
+      done = one_done _ _ _ _ c.loop-name.name-index c.name-item.result _ _ _ _ _ c.loop-name-test.true c.name-item.is c.loop-name.invariant.done file;
+      openings = openings_more _ c.loop-name.name-index _ _ c.loop-name.invariant.openings c.trace_file-traced.ensures.one_more;
+      opened = opens_to c.args.names.now c.loop-name.name-index c.name-item.result source then now c.loop-name-test.true c.name-item.is c.loop-name.invariant.openings c.trace_file-traced.ensures.one_more named;
+      contents = c.trace_file-traced.ensures.same_contents ∙ c.loop-name.invariant.contents;
+      input = c.in-Ok-traced.ensures.steady_input ∙ c.loop-name.invariant.input;
+      output = c.in-Ok-traced.ensures.steady_output.0 ∙ c.loop-name.invariant.output;
+      closed = c.in-Ok-traced.ensures.steady_output.1;
+      ready = c.trace_file-traced.ensures.stays_ready;
+    }
+
+-- the run ends in a file
+pub returns-in-Err-clause-outcome : goal.returns-in-Err-clause-outcome
+returns-in-Err-clause-outcome g c =
+    let ends = rw (c.loop-name.invariant.contents, c.as_str.ensures) at c.in-Err.ensures.ends in
+    ends_in c.in-Err.status _ _ _ _ c.loop-name.name-index c.name-item.result _ _ _ _ _ _ _ c.loop-name-test.true c.name-item.is c.loop-name.invariant.done
+    c.loop-name.invariant.openings c.loop-name.invariant.input ends
+
+pub returns-in-Err-clause-opened : goal.returns-in-Err-clause-opened
+returns-in-Err-clause-opened g c =
+    let source : Source = record { files = g.I.Inputs.files c.args.inputs.now; is_opened = g.I.Inputs.is_opened c.args.inputs.now; openings = g.I.Inputs.openings c.args.inputs.now; faults = g.I.Inputs.faults c.args.inputs.now } in
+    let then : Source = record { files = g.I.Inputs.files c.loop-name.inputs; is_opened = g.I.Inputs.is_opened c.loop-name.inputs; openings = g.I.Inputs.openings c.loop-name.inputs; faults = g.I.Inputs.faults c.loop-name.inputs } in
+    let now : Source = record { files = g.I.Inputs.files c.trace_file-traced.new.inputs; is_opened = g.I.Inputs.is_opened c.trace_file-traced.new.inputs; openings = g.I.Inputs.openings c.trace_file-traced.new.inputs; faults = g.I.Inputs.faults c.trace_file-traced.new.inputs } in
+    let named = rw c.as_str.ensures at c.trace_file-traced.ensures.name in
+    opens_to c.args.names.now c.loop-name.name-index c.name-item.result source then now c.loop-name-test.true c.name-item.is c.loop-name.invariant.openings c.trace_file-traced.ensures.one_more named
+
+pub returns-in-Err-clause-input : goal.returns-in-Err-clause-input
+returns-in-Err-clause-input g c = rw c.loop-name.invariant.input at c.in-Err.ensures.input
+
+pub returns-in-Err-clause-output : goal.returns-in-Err-clause-output
+returns-in-Err-clause-output g c = rw c.loop-name.invariant.output at c.in-Err.ensures.output
+
+-- all files are done
+pub returns-clause-outcome : goal.returns-clause-outcome
+returns-clause-outcome g c =
+    all_done _ _ _ _ _ _ _ (rw (take_all c.loop-name.name-index c.args.names.now c.loop-name-test.false) at c.loop-name.invariant.done)

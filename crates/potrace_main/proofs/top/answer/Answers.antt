@@ -1,0 +1,39 @@
+use Rattle.std.proofs.Common.{◌≡◌, ℕ, List, inl, map, refl, subst}
+use Rattle.std.specs.Prelude.{string_bytes}
+use Rattle.file_trace.specs.Messages.{bad_words, out_of_memory}
+use Rattle.file_trace.proofs.Carrying.{only_said}
+use Rattle.potrace_main.proofs.Completing.{never_refuses, out_at_once}
+use Rattle.potrace_main.proofs.Known.{asked_known}
+use Rattle.potrace_main.proofs.OneAsk.{one_ask}
+use Rattle.potrace_main.proofs.Possible.{possible}
+use Rattle.potrace_main.proofs.top.answer.Goals as goal
+
+-- what the words ask for is done
+pub carry_out-requires-clause-known : goal.carry_out-requires-clause-known
+carry_out-requires-clause-known g c = asked_known (map string_bytes c.args.words.now) c.in-Ok.ask c.in-Ok.ensures.ok
+
+pub returns-in-Ok-clause-ran : goal.returns-in-Ok-clause-ran
+returns-in-Ok-clause-ran g c = λ ask asked. rw (one_ask (map string_bytes c.args.words.now) ask c.in-Ok.ask asked c.in-Ok.ensures.ok) c.carry_out.ensures.ran
+
+pub returns-in-Ok-clause-bad_words : goal.returns-in-Ok-clause-bad_words
+returns-in-Ok-clause-bad_words g c = λ is ask asked. never_refuses c.in-Ok.ask _ _ _ _ (rw is at c.carry_out.ensures.ran)
+
+pub returns-in-Ok-clause-refused : goal.returns-in-Ok-clause-refused
+returns-in-Ok-clause-refused g c = λ none. absurd (none c.in-Ok.ask c.in-Ok.ensures.ok)
+
+-- the words ask for nothing
+pub returns-in-Err-Bad-clause-refused : goal.returns-in-Err-Bad-clause-refused
+returns-in-Err-Bad-clause-refused g c = λ none. (refl, only_said bad_words _ _ refl c.say_bad_words.ensures.said c.say_bad_words.ensures.never_falls)
+
+-- memory ran out while they were read
+pub returns-in-Err-NoMemory-clause-ran : goal.returns-in-Err-NoMemory-clause-ran
+returns-in-Err-NoMemory-clause-ran g c = λ ask asked. record {
+  outcome = out_at_once ask _ _ _ (possible (map string_bytes c.args.words.now) ask asked) (asked_known (map string_bytes c.args.words.now) ask asked)
+      (only_said out_of_memory _ _ refl c.say_out_of_memory.ensures.said c.say_out_of_memory.ensures.never_falls);
+  opened = inl (refl, refl);
+  input = tt;
+  output = (refl, c.requires.closed);
+}
+
+pub returns-in-Err-NoMemory-clause-refused : goal.returns-in-Err-NoMemory-clause-refused
+returns-in-Err-NoMemory-clause-refused g c = λ none. (refl, only_said out_of_memory _ _ refl c.say_out_of_memory.ensures.said c.say_out_of_memory.ensures.never_falls)

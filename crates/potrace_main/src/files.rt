@@ -1,0 +1,76 @@
+//! The files of a run, one after another.
+ghost use Rattle.std.specs.Prelude.{◌≡◌, [], false, true, option_map};
+ghost use Rattle.file_trace.specs.Items.{contents_of};
+ghost use Rattle.file_trace.specs.Offered.{IsOffered};
+ghost use Rattle.file_trace.specs.Outcome.{IsOutcome};
+ghost use Rattle.file_trace.specs.Progress.{InputCount, OutputCount};
+ghost use Rattle.potrace_main.specs.Run.{OpensFirst};
+
+use bitmap_input::reader::PageReader;
+use command_words::name::Name;
+use file_trace::file::trace_file;
+use file_trace::made::Made;
+use file_trace::message::say_out_of_memory;
+use file_trace::status::Status;
+use pt_base::inputs::Inputs;
+use pt_base::settings::Settings;
+use pt_base::sink::{Outputs, Sink};
+use std::alloc::Global;
+
+/// Traces the files in order, each opened once, and writes a document for each of their pages.
+pub fn trace_files<I: Inputs, O: Outputs, E: Sink>(
+    alloc: Global,
+    settings: Settings,
+    output: Option<&str>,
+    names: &[Name],
+    inputs: &mut I,
+    outs: &mut O,
+    errs: &mut E,
+) -> Status
+    requires offered { IsOffered settings }
+    requires closed { O.is_ready outs.old ≡ false }
+    requires ready { E.is_ready errs.old ≡ true }
+    ensures outcome { IsOutcome result (contents_of (I.files inputs.old)) settings
+        (option_map (λ s. s.now) output.entry) names.now []
+        (record { files = I.files inputs.old; is_opened = I.is_opened inputs.old;
+        openings = I.openings inputs.old; faults = I.faults inputs.old })
+        (record { files = I.files inputs.new; is_opened = I.is_opened inputs.new;
+        openings = I.openings inputs.new; faults = I.faults inputs.new })
+        (record { outs = O.documents outs.old; outs_faults = O.faults outs.old;
+        is_open = O.is_ready outs.old; errs = E.documents errs.old; errs_faults = E.faults errs.old })
+        (record { outs = O.documents outs.new; outs_faults = O.faults outs.new;
+        is_open = O.is_ready outs.new; errs = E.documents errs.new;
+        errs_faults = E.faults errs.new }) }
+    ensures opened { OpensFirst names.now
+        (record { files = I.files inputs.old; is_opened = I.is_opened inputs.old;
+        openings = I.openings inputs.old; faults = I.faults inputs.old })
+        (record { files = I.files inputs.new; is_opened = I.is_opened inputs.new;
+        openings = I.openings inputs.new; faults = I.faults inputs.new }) }
+    ensures input { InputCount result (I.faults inputs.old) (I.faults inputs.new) }
+    ensures output { OutputCount result (O.faults outs.old) (O.faults outs.new)
+        (O.is_ready outs.new) }
+{
+    let Ok(mut reader) = PageReader::new(alloc) else {
+        say_out_of_memory(errs);
+        return Status::OutOfMemory;
+    };
+    let mut made = Made::new(alloc);
+    for name in names {
+        let traced = trace_file(
+            alloc,
+            settings,
+            output,
+            name.as_str(),
+            &mut made,
+            &mut reader,
+            inputs,
+            outs,
+            errs,
+        );
+        match traced {
+            Ok(()) => {}
+            Err(status) => return status,
+        }
+    }
+    Status::Done
+}
