@@ -3,5 +3,6 @@
 
 pub mod pages;
 pub mod plain;
+pub mod plain_cones;
 pub mod plain_page;
 pub mod walks;

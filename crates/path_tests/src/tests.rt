@@ -7,6 +7,7 @@ mod paths;
 mod penalties;
 mod plain;
 mod polygons;
+mod reaches;
 mod segments;
 mod table;
 mod turns;
