@@ -3,6 +3,7 @@
 
 pub mod pages;
 pub mod plain;
+pub mod plain_cones;
 pub mod plain_page;
 pub mod shapes;
 pub mod walks;

@@ -9,6 +9,7 @@ mod penalties;
 mod plain;
 mod plain_best;
 mod polygons;
+mod reaches;
 mod segments;
 mod table;
 mod turns;

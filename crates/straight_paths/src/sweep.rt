@@ -14,6 +14,9 @@ use std::cmp::min;
 /// The shortest straight run that a look goes back along.
 const SHORTEST_RUN: usize = 8;
 
+/// How many steps no leap is tried after one that failed.
+const REST: usize = 32;
+
 /// The shortest leap over steps that repeat.
 const SHORTEST_LEAP: usize = 16;
 
@@ -73,10 +76,8 @@ impl Sweep {
         }
         let steps = track.next_corner(track.place(index)) as usize;
         let next = index + 1;
-        if steps == 1 && next <= self.rest {
-            return self
-                .by_period(track, known, next)
-                .by_run(track, known, next, steps);
+        if steps == 1 {
+            return self.by_period(track, known, next);
         }
         self.by_run(track, known, next, steps)
     }
@@ -91,7 +92,7 @@ impl Sweep {
         ensures { IsSweep track.now next result }
     {
         let last = 2 * track.size() - 1;
-        if self.seen < next || last <= next || !steps.is_power_of_two() {
+        if last <= next || !steps.is_power_of_two() {
             return self;
         }
         let most = steps.max(SHORTEST_RUN);
@@ -111,6 +112,9 @@ impl Sweep {
         requires later { IsSweep track.now next self }
         ensures { IsSweep track.now next result }
     {
+        if self.rest < next {
+            return self;
+        }
         let middle = two_runs_after(track, next);
         let seen = seen_from(track, known, self.tail, next, middle - next, self.leap);
         if seen < next {
@@ -140,7 +144,7 @@ impl Sweep {
                 tail: self.tail,
                 seen,
                 leap: SHORTEST_LEAP,
-                rest: next.saturating_sub(SHORTEST_RUN),
+                rest: next.saturating_sub(REST),
             }
         }
     }
