@@ -68,8 +68,8 @@ Gives {A = A} is cut (Ok x) held =
     (e : Bool) × (a : A) × is x a × (cut ≡ Takes e a held.bytes) × (e ≡ true → held.ended ≡ true)
 Gives is cut (Err s) held = StopsBy cut (cause_of s) held
 
--- bytes were taken only as far as the cut of them asks for more: none, or a last block of at most
--- 65,536 bytes, before which the cut is by their end
+-- the cut of these bytes needs them, but for the rest of a last block: there are none, or at most
+-- 65,536 of them stand behind a front of them that doesn't decide the cut, which is by its end
 pub record AreNeeded {A : Type 0} (cut : List ℕ → Cut A) (more : List ℕ) : Type 0 where
   pub before : List ℕ
   pub block : List ℕ
