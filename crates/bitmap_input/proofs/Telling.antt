@@ -147,7 +147,7 @@ reads_on {js = js} {part = part} {next = next} {old = old} {mid = mid} {new = ne
           let front_none : e ≡ true → t.needed.before ≡ [] = λ h. front_of_none t.needed.before t.needed.block (sym t.needed.split ∙ none h) in
           let early : part (old.bytes ++ (r.more ++ t.needed.before)) ≡ Takes e a (mid.bytes ++ t.needed.before)
           = ap part (sym (append_assoc old.bytes r.more t.needed.before)) ∙
-              first_stays part e a (old.bytes ++ r.more) mid.bytes t.needed.before stays takes front_none in
+          first_stays part e a (old.bytes ++ r.more) mid.bytes t.needed.before stays takes front_none in
           rw early (is_by_end-after e (next a (mid.bytes ++ t.needed.before)) ∙ ap (λ t. e || t) still ∙ or_true e));
       gives = rw whole (after_gives js e (next a (mid.bytes ++ t.more)) result new ended t.gives);
     }

@@ -69,7 +69,7 @@ Gives {A = A} is cut (Ok x) held =
 Gives is cut (Err s) held = StopsBy cut (cause_of s) held
 
 -- the cut of these bytes needs them, but for the rest of a last block: there are none, or at most
--- 65,536 of them stand behind a front of them that doesn't decide the cut, which is by its end
+-- 65,536 of them stand behind a front of them that decides nothing, since the cut is by its end
 pub record AreNeeded {A : Type 0} (cut : List ℕ → Cut A) (more : List ℕ) : Type 0 where
   pub before : List ℕ
   pub block : List ℕ
