@@ -20,13 +20,14 @@ use Rattle.bitmap_input.specs.declared.extent.ReadPage.{ReadPage}
 use Rattle.bitmap_input.specs.Front.{Answer, front, page_at, answer_of}
 use Rattle.bitmap_input.specs.Front.Answer.{Page, Ends}
 use Rattle.bitmap_input.specs.FilePages.{next_begins}
-use Rattle.bitmap_input.specs.Reading.{Held, AtEnd, Moves, Cause, cause_of, cause_of_fault, StopsBy, Reads, CountsBy}
+use Rattle.bitmap_input.specs.Reading.{Held, AtEnd, Moves, AreNeeded, Cause, cause_of, cause_of_fault, StopsBy, Reads, CountsBy}
 use Rattle.bitmap_input.specs.Reading.Cause.{Says, Device, Memory}
-use Rattle.bitmap_input.specs.Reader.{Reader, is_later, ahead, Answers, GivesPage, GivesEnding, ReadFails, TellsPage, IfSays, IsAnswer}
+use Rattle.bitmap_input.specs.Reader.{Reader, is_later, ahead, Answers, GivesPage, GivesEnding, ReadFails, MemoryFails, TellsPage, IfSays, IsAnswer}
 use Rattle.bitmap_input.proofs.FrontStays.{front_stays}
+use Rattle.bitmap_input.proofs.Needing.{needs_as}
 use Rattle.bitmap_input.proofs.Telling.{not_true}
 use Rattle.bitmap_input.proofs.FrontKeeps.{rest_behind}
-use Rattle.bitmap_input.proofs.Behind.{forget, forget-page, stops_forget, begins_behind, front_within, begins_with_more, ahead_with_more}
+use Rattle.bitmap_input.proofs.Behind.{forget, forget-page, is_by_end-forget, stops_forget, begins_behind, front_within, begins_with_more, ahead_with_more}
 
 -- a reader that holds this
 abbrev pub reader_of : Held → ℕ → ℕ → Bool → Reader
@@ -91,6 +92,13 @@ module _ (level : ℕ) (invert : Bool) (h h2 : Held) (skip skip2 pages pages2 : 
   abbrev pub ReadsAhead : Result ReadPage Stop → Type 0
   ReadsAhead result = Reads (IsRead level invert) (λ bytes. counted_page (is_later old) (drop skip bytes)) h before result h2 now
 
+  -- what the page needs with its count, it needs without
+  needed_ahead : {more : List ℕ} → AreNeeded (λ bytes. counted_page (is_later old) (ahead old bytes)) more →
+      AreNeeded (λ bytes. page_at (is_later old) (ahead old bytes)) more
+  needed_ahead n =
+      needs_as (λ bytes. page_at (is_later old) (ahead old bytes)) (λ bytes still.
+      ap is_by_end (sym (forget-page (is_later old) (ahead old bytes))) ∙ is_by_end-forget (counted_page (is_later old) (ahead old bytes)) ∙ still) n
+
   pub gives_page : {read : ReadPage} → ReadsAhead (Ok read) → skip2 ≡ read.behind → pages2 ≡ pages + 1 → over ≡ false →
       GivesPage level invert old before read.page new now
   gives_page r claimed counted going_on =
@@ -105,6 +113,7 @@ module _ (level : ℕ) (invert : Bool) (h h2 : Held) (skip skip2 pages pages2 : 
         answers = record {
           more = r.more;
           moves = r.moves;
+          needed = needed_ahead r.needed;
           is = ap (answer_of bytes) page;
           settled = λ end. settled (sym (ap is_by_end page) ∙ end);
         };
@@ -129,6 +138,7 @@ module _ (level : ℕ) (invert : Bool) (h h2 : Held) (skip skip2 pages pages2 : 
         answers = record {
           more = r.more;
           moves = r.moves;
+          needed = needed_ahead r.needed;
           is = ap (answer_of (ahead old r.more)) is;
           settled = λ end. settled (sym (ap is_by_end is) ∙ end);
         };
@@ -140,6 +150,10 @@ module _ (level : ℕ) (invert : Bool) (h h2 : Held) (skip skip2 pages pages2 : 
   fails_read stop r counted is_over why =
       let stops = subst (λ why. StopsBy (page_at (is_later old) (ahead old r.more)) why h2) why (stops_ahead stop r) in
       record { more = r.more; moves = r.moves; by_end = stops.0; going_on = stops.1; counted = counted; over = is_over }
+
+  pub wants_memory : (stop : Stop) → ReadsAhead (Err stop) → pages2 ≡ pages → over ≡ true → MemoryFails old before new now
+  wants_memory stop r counted is_over =
+      record { more = r.more; moves = r.moves; needed = needed_ahead r.needed; counted = counted; over = is_over }
 
   -- no byte is left of the rest: by then all of it had been taken
   none_left : {more : List ℕ} (rest : List ℕ) → (h.ended ≡ true → AtEnd before) → unread before ≡ Some rest →

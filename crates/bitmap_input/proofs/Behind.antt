@@ -15,7 +15,7 @@ use Rattle.bitmap_input.specs.Front.{Magic, no_magic, magic_of_name, magic_named
 use Rattle.bitmap_input.specs.Front.Magic.{PlainBits, RawBits, PlainGray, RawGray}
 use Rattle.bitmap_input.specs.Front.Answer.{Page}
 use Rattle.bitmap_input.specs.FilePages.{next_begins}
-use Rattle.bitmap_input.specs.Reading.{Held, Cause, cause_of, StopsBy, Reads}
+use Rattle.bitmap_input.specs.Reading.{Held, Cause, cause_of, StopsBy, AreNeeded, Reads}
 use Rattle.bitmap_input.specs.Reading.Cause.{Says, Device, Memory}
 use Rattle.bitmap_input.specs.Skip.{passed_over}
 use Rattle.bitmap_input.specs.Behind.{counted, counted_body, counted_page, IsRead, claiming_none}
@@ -24,6 +24,7 @@ use Rattle.bitmap_input.proofs.Keeping.{Keeps}
 use Rattle.bitmap_input.proofs.FrontKeeps.{keeps_body}
 use Rattle.bitmap_input.proofs.BmpLengths.{Cuts, cuts_bind, cuts_take}
 use Rattle.bitmap_input.proofs.Appending.{after-false}
+use Rattle.bitmap_input.proofs.Needing.{needs_as}
 
 -- Pages of bits and gray pages claim no bytes.
 
@@ -74,6 +75,10 @@ stops_counted bytes c (Says ending) held (e, is, settled) = (e, ap (counted byte
 stops_counted bytes c Device held (by_end, going_on) = (is_by_end-counted bytes c ∙ by_end, going_on)
 stops_counted bytes c Memory held stops = tt
 
+needed_counted : (start : List ℕ) {more : List ℕ} (m : Magic) → AreNeeded (λ bytes. body m (start ++ bytes)) more → AreNeeded (λ bytes. counted_body m (start ++ bytes)) more
+needed_counted start m n =
+    needs_as (λ bytes. counted_body m (start ++ bytes)) (λ bytes still. is_by_end-counted (start ++ bytes) (body m (start ++ bytes)) ∙ still) n
+
 -- such a page, with how many bytes it takes
 pub reads_unclaimed : {old new : Held} {files now : Option Files} {result : Result Pixels Stop} (level : ℕ) (invert : Bool) (m : Magic) →
     ((bytes : List ℕ) → Cuts ClaimsNone (body m bytes)) → Reads (IsShown level invert) (body m) old files result new now →
@@ -84,9 +89,9 @@ reads_unclaimed {old} {new} {result = Ok page} level invert m unclaimed r =
     let none : raw.least_length ≡ 0 = unclaimed bytes e raw new.bytes takes in
     let n : ℕ = length bytes - length new.bytes in
     let behind : 0 ≡ raw.least_length - (2 + n) = omega (arith, none) in
-    record { more = r.more; moves = r.moves; gives = (e, (raw, n), (shown, behind), ap (counted bytes) takes, settled) }
+    record { more = r.more; moves = r.moves; needed = needed_counted old.bytes m r.needed; gives = (e, (raw, n), (shown, behind), ap (counted bytes) takes, settled) }
 reads_unclaimed {old} {new} {result = Err s} level invert m unclaimed r =
-    record { more = r.more; moves = r.moves; gives = stops_counted (old.bytes ++ r.more) (body m (old.bytes ++ r.more)) (cause_of s) new r.gives }
+    record { more = r.more; moves = r.moves; needed = needed_counted old.bytes m r.needed; gives = stops_counted (old.bytes ++ r.more) (body m (old.bytes ++ r.more)) (cause_of s) new r.gives }
 
 -- The page without the count.
 
@@ -112,7 +117,7 @@ forget-page later bytes =
     forget-bind (spaces bytes) (λ _ rest. magic later rest >>= λ m rest. body m rest) (λ _ rest. magic later rest >>= λ m rest. counted_body m rest)
     (λ _ rest. forget-bind (magic later rest) (λ m rest. body m rest) (λ m rest. counted_body m rest) (λ m rest. forget-counted rest (body m rest)))
 
-is_by_end-forget : {A : Type 0} (c : Cut (A × ℕ)) → is_by_end (forget c) ≡ is_by_end c
+pub is_by_end-forget : {A : Type 0} (c : Cut (A × ℕ)) → is_by_end (forget c) ≡ is_by_end c
 is_by_end-forget (Takes e p rest) = refl
 is_by_end-forget (Stops e ending) = refl
 

@@ -162,7 +162,7 @@ reads_with : {A X : Type 0} {is : X → A → Type 0} {part : List ℕ → Cut A
     Reads (λ x a. is x a × P a) part old files (Ok x) mid fmid
 reads_with {old = old} {mid = mid} P meets r =
     let (e, a, same, takes, settled) = r.gives in
-    record { more = r.more; moves = r.moves; gives = (e, a, (same, meets (old.bytes ++ r.more) e a mid.bytes takes), takes, settled) }
+    record { more = r.more; moves = r.moves; needed = r.needed; gives = (e, a, (same, meets (old.bytes ++ r.more) e a mid.bytes takes), takes, settled) }
 
 -- the picture as its header and what follows
 abbrev bmp_parts : List ℕ → Cut (Raw × ℕ)

@@ -17,14 +17,16 @@ use Rattle.std.specs.Prelude.{nat_le}
 use Rattle.std.proofs.lemmas.Bool.{lt-leb}
 use Rattle.bitmap_input.specs.BmpHead.{Passes, IsStart, IsInfo, IsWhole}
 use Rattle.bitmap_input.proofs.BmpLengths.{info_grown, masks_grown, bits_grown, info_has}
+use Rattle.bitmap_input.proofs.Needing.{needs_none}
 use Rattle.bitmap_input.proofs.Telling.{not_true, stand}
 
 -- a check as a step that reads nothing
 pub reads_passes : {X A : Type 0} {is : X → A → Type 0} {part : List ℕ → Cut A} {held : Held} {files : Option Files} {result : Result X Stop} →
     Passes is part result → Reads is part held files result held files
-reads_passes {held = held} {files = files} {result = Ok x} (a, same, takes) = record {
+reads_passes {part = part} {held = held} {files = files} {result = Ok x} (a, same, takes) = record {
   more = [];
   moves = stand held.ended files;
+  needed = needs_none (λ bytes. part (held.bytes ++ bytes));
   gives = (false, a, same, takes (held.bytes ++ []) ∙ ap (Takes false a) (append-nil held.bytes), λ e. absurd (not_true e));
 }
 reads_passes {part = part} {held = held} {files = files} {result = Err s} (ending, cause, stops) =
@@ -32,6 +34,7 @@ reads_passes {part = part} {held = held} {files = files} {result = Err s} (endin
     record {
       more = [];
       moves = stand held.ended files;
+      needed = needs_none (λ bytes. part (held.bytes ++ bytes));
       gives = subst (λ why. StopsBy (part (held.bytes ++ [])) why held) (sym cause) here;
     }
 

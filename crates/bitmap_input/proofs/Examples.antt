@@ -1,5 +1,5 @@
 -- The definitions on small files, most of them made by hand for a format's edge.
-use Rattle.std.proofs.Common.{◌≡◌, refl, ℕ, Bool, true, false, List, [], ◌∷◌, ◌++◌, arith}
+use Rattle.std.proofs.Common.{◌≡◌, refl, ℕ, Bool, true, false, inl, inr, List, [], ◌∷◌, ◌++◌, arith}
 use Rattle.std.specs.Prelude.{codes}
 use Rattle.bitmap_input.specs.Cut.{is_by_end}
 use Rattle.bitmap_input.specs.Cut.Kind.{UnknownFormat, BadHeader, ZeroSide, TooLarge, Truncated, BadRaster, TooLong}
@@ -13,7 +13,9 @@ use Rattle.bitmap_input.specs.Raw.Entry.{Bit}
 use Rattle.bitmap_input.specs.Front.{front, page_at}
 use Rattle.bitmap_input.specs.Front.Answer.{Page}
 use Rattle.bitmap_input.specs.FilePages.{FilePages}
+use Rattle.bitmap_input.specs.Reading.{AreNeeded}
 use Rattle.bitmap_input.specs.FilePages.FilePages.{Ended, Next}
+use Rattle.bitmap_input.proofs.Telling.{not_true}
 
 -- a page of bits
 abbrev pub bits_page : ℕ → ℕ → List (List Bool) → Raw
@@ -126,6 +128,16 @@ longest_gap = refl
 
 gap_too_long : (bytes : List ℕ) → run_of 1048577 bytes ≡ Stops false (Refused TooLong)
 gap_too_long bytes = refl
+
+-- the second byte of a magic is needed, and no third one where there is no magic
+second_byte : AreNeeded (λ bytes. page_at false (codes "X" ++ bytes)) (codes "Y")
+second_byte = record { before = []; block = codes "Y"; split = refl; within = omega arith; undecided = inr refl }
+
+no_third_byte : AreNeeded (λ bytes. page_at false (codes "XY" ++ bytes)) (codes "Z") → ⊥
+no_third_byte needed = elim needed.undecided [
+  | inl none ↦ cc
+  | inr still ↦ not_true still
+]
 
 -- a gap of a blank, a comment and the end of its line; its length is not that of the list
 blank_and_comment : IsGap (32 ∷ 35 ∷ 120 ∷ 10 ∷ [])

@@ -59,3 +59,12 @@ pub front_stays : (later : Bool) (bytes more : List ℕ) → is_by_end (page_at 
 front_stays later bytes more not_end =
     let e = page_stays later bytes more not_end in
     ap (answer_of (bytes ++ more)) e ∙ answer_stays bytes more (page_at later bytes)
+
+is_by_end-with_more : {A : Type 0} (more : List ℕ) (c : Cut A) → is_by_end (with_more more c) ≡ is_by_end c
+is_by_end-with_more more (Takes e x rest) = refl
+is_by_end-with_more more (Stops e ending) = refl
+
+pub page_decided : (later : Bool) (bytes more : List ℕ) → is_by_end (page_at later bytes) ≡ false →
+    is_by_end (page_at later (bytes ++ more)) ≡ false
+page_decided later bytes more not_end =
+    ap is_by_end (page_stays later bytes more not_end) ∙ is_by_end-with_more more (page_at later bytes) ∙ not_end

@@ -2,7 +2,7 @@
 use Rattle.std.proofs.Common.{subst, Option, Result, Ok, Err, append-nil, ◌++◌, ◌≡◌, refl, ℕ, zero, suc, ◌≤◌, ◌<◌, Bool, true, false, ◌||◌, ◌⊎◌, inl, inr, List, [], ◌∷◌, arith, ap, sym, ◌∙◌}
 use Rattle.std.specs.Prelude.{nat_lt}
 use Rattle.std.proofs.lemmas.Bool.{lt-ltb, le-ltb}
-use Rattle.bitmap_input.specs.Cut.{Kind, Ending}
+use Rattle.bitmap_input.specs.Cut.{Kind, Ending, is_by_end}
 use Rattle.bitmap_input.specs.Cut.Kind.{ZeroSide, TooLarge, BadHeader}
 use Rattle.bitmap_input.specs.Cut.Ending.{Refused}
 use Rattle.bitmap_input.specs.Cut.Cut.{Takes, Stops}
@@ -14,6 +14,7 @@ use Rattle.bitmap_input.specs.declared.header.Sides.{Sides}
 use Rattle.bitmap_input.specs.Header.{IsSides, Checks, ChecksMaxval}
 use Rattle.pt_base.specs.Files.{Files}
 use Rattle.bitmap_input.specs.Reading.{Held, StopsBy, Reads, Same}
+use Rattle.bitmap_input.proofs.Needing.{needs_none}
 use Rattle.bitmap_input.proofs.Telling.{not_true, stand}
 use Rattle.bitmap_input.specs.Reading.Cause.{Says}
 
@@ -24,6 +25,10 @@ some_gap_at kind b n bs some = rw (ap is_zero some) refl
 pub magic_at : (later : Bool) (a : ℕ) (bs : List ℕ) → magic later (a ∷ bs) ≡ magic_behind later a bs
 magic_at true a bs = refl
 magic_at false a bs = refl
+
+pub magic_of_none : (later : Bool) → is_by_end (magic later []) ≡ true
+magic_of_none true = refl
+magic_of_none false = refl
 
 some_zero : (m n : ℕ) → (m ≡ 0) ⊎ (n ≡ 0) → (is_zero m || is_zero n) ≡ true
 some_zero zero n h = refl
@@ -84,6 +89,7 @@ reads_checked {held = held} {files = files} {result = Ok s} width height a b che
     record {
       more = [];
       moves = stand held.ended files;
+      needed = needs_none (λ bytes. checked width height (held.bytes ++ bytes));
       gives = (false, (width, height), (w, h), is (held.bytes ++ []) ∙ ap (Takes false (width, height)) (append-nil held.bytes), λ e. absurd (not_true e));
     }
 reads_checked {held = held} {files = files} {result = Err stop} width height a b checks =
@@ -93,6 +99,7 @@ reads_checked {held = held} {files = files} {result = Err stop} width height a b
     record {
       more = [];
       moves = stand held.ended files;
+      needed = needs_none (λ bytes. checked width height (held.bytes ++ bytes));
       gives = subst (λ why. StopsBy (checked width height (held.bytes ++ [])) why held) (sym cause) stops;
     }
 
@@ -126,6 +133,7 @@ reads_checked_maxval {held = held} {files = files} {result = Ok white} n a check
     record {
       more = [];
       moves = stand held.ended files;
+      needed = needs_none (λ bytes. checked_maxval n (held.bytes ++ bytes));
       gives = (false, n, same, is (held.bytes ++ []) ∙ ap (Takes false n) (append-nil held.bytes), λ e. absurd (not_true e));
     }
 reads_checked_maxval {held = held} {files = files} {result = Err stop} n a checks =
@@ -135,5 +143,6 @@ reads_checked_maxval {held = held} {files = files} {result = Err stop} n a check
     record {
       more = [];
       moves = stand held.ended files;
+      needed = needs_none (λ bytes. checked_maxval n (held.bytes ++ bytes));
       gives = subst (λ why. StopsBy (checked_maxval n (held.bytes ++ [])) why held) (sym cause) stops;
     }

@@ -5,6 +5,7 @@ pub mod Bytes
 pub mod Appending
 pub mod BmpStays
 pub mod FrontStays
+pub mod Needing
 pub mod Telling
 pub mod Places
 pub mod Running

@@ -120,6 +120,7 @@ reads_counted {old = old} {new = new} {result = Ok x} part n r =
     record {
       more = r.more;
       moves = r.moves;
+      needed = r.needed;
       gives = (e, xs, (same, times_length part n (old.bytes ++ r.more) e xs new.bytes takes), takes, settled);
     }
-reads_counted {result = Err s} part n r = record { more = r.more; moves = r.moves; gives = r.gives }
+reads_counted {result = Err s} part n r = record { more = r.more; moves = r.moves; needed = r.needed; gives = r.gives }

@@ -10,11 +10,13 @@ use Rattle.bitmap_input.specs.declared.stop.Stop.{Stop}
 use Rattle.bitmap_input.specs.declared.stop.Stop.TheVariants as stop
 use Rattle.bitmap_input.specs.Cut.Cut.{Takes}
 use Rattle.bitmap_input.specs.Parts.{block}
-use Rattle.bitmap_input.specs.Reading.{Held, Moves, Same, Any, Reads, Cause, cause_of, StopsBy}
+use Rattle.bitmap_input.specs.Reading.{Held, Moves, AreNeeded, Same, Any, Reads, Cause, cause_of, StopsBy}
 use Rattle.bitmap_input.specs.Reading.Cause.{Says, Device, Memory}
 use Rattle.bitmap_input.specs.Window.{ReadsOn}
 use Rattle.bitmap_input.specs.Skip.{passed_over}
+use Rattle.bitmap_input.specs.Cut.{is_by_end}
 use Rattle.bitmap_input.proofs.Appending.{Stays}
+use Rattle.bitmap_input.proofs.Needing.{needs_none, needs_as, needs_look}
 use Rattle.bitmap_input.proofs.Telling.{not_true, stand, move_on}
 use Rattle.bitmap_input.proofs.Running.{two_splits}
 
@@ -23,20 +25,43 @@ pub record IsPassedSoFar (old : Held) (before : Option Files) (n left : ℕ) (he
   pub more : List ℕ
   pub used : List ℕ
   pub moves : Moves old.ended before held.ended files more
+  pub needed : AreNeeded (λ bytes. passed_over n (old.bytes ++ bytes)) more
   pub split : old.bytes ++ more ≡ used ++ held.bytes
   pub count : length used + left ≡ n
 
 pub skip_begins : (old : Held) (files : Option Files) (n : ℕ) → IsPassedSoFar old files n n old files
-skip_begins old files n = record { more = []; used = []; moves = stand old.ended files; split = append-nil old.bytes; count = omega arith }
+skip_begins old files n = record {
+  more = [];
+  used = [];
+  moves = stand old.ended files;
+  needed = needs_none (λ bytes. passed_over n (old.bytes ++ bytes));
+  split = append-nil old.bytes;
+  count = omega arith;
+}
+
+module _ {old held : Held} {before files : Option Files} {n left : ℕ} (s : IsPassedSoFar old before n left held files) (some : 0 < left) where
+  -- where no byte is left, fewer than n are there
+  pub skip_is_open : held.bytes ≡ [] → is_by_end (passed_over n (old.bytes ++ s.more)) ≡ true
+  skip_is_open none =
+      let whole : old.bytes ++ s.more ≡ s.used = s.split ∙ ap (λ xs. s.used ++ xs) none ∙ append-nil s.used in
+      let less : length s.used < n = omega (arith, s.count) in
+      let test : nat_lt (length s.used) n ≡ true = lt-ltb (length s.used) n less in
+      rw (whole, test) refl
+
+  -- the next look reads where it has to
+  pub skip_needs : {look : Held} {now : Option Files} → (on : ReadsOn held files look now) →
+      AreNeeded (λ bytes. passed_over n (old.bytes ++ bytes)) (s.more ++ on.more)
+  skip_needs on = needs_look (λ bytes. passed_over n (old.bytes ++ bytes)) s.more s.needed on skip_is_open
 
 -- k more bytes were passed over
-pub skip_goes_on : {old held look new : Held} {before files now : Option Files} {n : ℕ} (left k less : ℕ) → IsPassedSoFar old before n left held files →
+pub skip_goes_on : {old held look new : Held} {before files now : Option Files} {n : ℕ} (left k less : ℕ) → IsPassedSoFar old before n left held files → 0 < left →
     ReadsOn held files look now → k ≤ left → k ≤ length look.bytes → new.bytes ≡ drop k look.bytes → new.ended ≡ look.ended → less ≡ left - k →
     IsPassedSoFar old before n less new now
-skip_goes_on {old} {held} {look} {new} {n = n} left k less s on within fits bytes ended is = record {
+skip_goes_on {old} {held} {look} {new} {n = n} left k less s some on within fits bytes ended is = record {
   more = s.more ++ on.more;
   used = s.used ++ take k look.bytes;
   moves = rw ended (move_on s.moves on.moves);
+  needed = skip_needs s some on;
   split = two_splits old.bytes s.more s.used held.bytes on.more look.bytes s.split on.bytes ∙
       ap (λ xs. s.used ++ xs) (sym (take-append-drop k look.bytes) ∙ ap (λ xs. take k look.bytes ++ xs) (sym bytes)) ∙
       sym (append_assoc s.used (take k look.bytes) new.bytes);
@@ -57,6 +82,7 @@ skip_ends {old} {held} {n = n} {left = left} s none =
     record {
       more = s.more;
       moves = s.moves;
+      needed = s.needed;
       gives = (false, 0, refl, rw (test, missing, rest) refl, λ h. absurd (not_true h));
     }
 
@@ -73,17 +99,15 @@ skip_is_short {old} {held} {new} {n = n} left s some on none ended =
     record {
       more = s.more ++ on.more;
       moves = move_on s.moves on.moves;
+      needed = skip_needs s some on;
       gives = (true, left, refl, rw (whole, test, missing, rest, none) refl, λ _. ended);
     }
 
 -- a read failed before all were passed over
 pub skip_fails : {old held new : Held} {before files now : Option Files} {n : ℕ} (left : ℕ) → IsPassedSoFar old before n left held files → 0 < left →
     new ≡ held → now ≡ files → held.bytes ≡ [] → held.ended ≡ false → Reads {X = ℕ} Same (passed_over n) old before (Err (stop.Fault fault.ReadFault)) new now
-skip_fails {old} {held} {n = n} left s some same same_files none going_on =
-    let whole : old.bytes ++ s.more ≡ s.used = s.split ∙ ap (λ xs. s.used ++ xs) none ∙ append-nil s.used in
-    let less : length s.used < n = omega (arith, s.count) in
-    let test : nat_lt (length s.used) n ≡ true = lt-ltb (length s.used) n less in
-    rw (same, same_files) record { more = s.more; moves = s.moves; gives = (rw (whole, test) refl, going_on) }
+skip_fails left s some same same_files none going_on =
+    rw (same, same_files) record { more = s.more; moves = s.moves; needed = s.needed; gives = (skip_is_open s some none, going_on) }
 
 -- The bytes passed over, as a part.
 
@@ -103,6 +127,9 @@ passed_over_stays n bytes more not_end =
     let none : n - length bytes ≡ 0 = omega arith in
     over_at (nat_lt (length bytes) n) n bytes more refl not_end ∙ rw (not_end, none) refl
 
+needed_block : (start : List ℕ) {more : List ℕ} (n : ℕ) → AreNeeded (λ bytes. passed_over n (start ++ bytes)) more → AreNeeded (λ bytes. block n (start ++ bytes)) more
+needed_block start n needed = needs_as (λ bytes. block n (start ++ bytes)) (λ bytes still. rw still refl) needed
+
 -- none was missing: a block was passed over
 pub block_passed : {old new : Held} {files now : Option Files} {left : ℕ} (n : ℕ) → left ≡ 0 → Reads Same (passed_over n) old files (Ok left) new now →
     Reads Any (block n) old files (Ok (tt {0})) new now
@@ -113,7 +140,7 @@ block_passed {old} {new} n none r =
     let within : n ≤ length bytes = omega (arith, missing, same) in
     let test : nat_lt (length bytes) n ≡ false = le-ltb (length bytes) n within in
     let rest : drop n bytes ≡ new.bytes = cc in
-    record { more = r.more; moves = r.moves; gives = (false, take n bytes, tt, rw (test, rest) refl, λ h. absurd (not_true h)) }
+    record { more = r.more; moves = r.moves; needed = needed_block old.bytes n r.needed; gives = (false, take n bytes, tt, rw (test, rest) refl, λ h. absurd (not_true h)) }
 
 -- some were missing
 pub block_missing : {old new : Held} {files now : Option Files} {left : ℕ} (n : ℕ) → 0 < left → Reads Same (passed_over n) old files (Ok left) new now →
@@ -125,7 +152,7 @@ block_missing {old} {new} n some r =
     let less : length bytes < n = omega (arith, missing, same) in
     let test : nat_lt (length bytes) n ≡ true = lt-ltb (length bytes) n less in
     let by_end : e ≡ true = (let at : nat_lt (length bytes) n ≡ e = cc in sym at ∙ test) in
-    record { more = r.more; moves = r.moves; gives = (true, rw test refl, λ _. settled by_end) }
+    record { more = r.more; moves = r.moves; needed = needed_block old.bytes n r.needed; gives = (true, rw test refl, λ _. settled by_end) }
 
 fails_by : (n : ℕ) (bytes : List ℕ) (why : Cause) (held : Held) → StopsBy (passed_over n bytes) why held → StopsBy (block n bytes) why held
 fails_by n bytes (Says ending) held (e, is, settled) = cc
@@ -135,4 +162,5 @@ fails_by n bytes Memory held stops = tt
 -- a read failed
 pub block_failed : {old new : Held} {files now : Option Files} (n : ℕ) (s : Stop) → Reads {X = ℕ} Same (passed_over n) old files (Err s) new now →
     Reads {X = Unit {0}} Any (block n) old files (Err s) new now
-block_failed {old} {new} n s r = record { more = r.more; moves = r.moves; gives = fails_by n (old.bytes ++ r.more) (cause_of s) new r.gives }
+block_failed {old} {new} n s r =
+    record { more = r.more; moves = r.moves; needed = needed_block old.bytes n r.needed; gives = fails_by n (old.bytes ++ r.more) (cause_of s) new r.gives }

@@ -13,6 +13,7 @@ use Rattle.bitmap_input.specs.Reading.{Held, AtEnd, Moves, Cause, cause_of, Stop
 use Rattle.bitmap_input.specs.Reading.Cause.{Says, Device, Memory}
 use Rattle.bitmap_input.specs.Window.{ReadsOn}
 use Rattle.bitmap_input.proofs.Appending.{Stays, is_by_end-after}
+use Rattle.bitmap_input.proofs.Needing.{needs_none, needs_as, needs_behind, needs_first, by_end-bind, front_of_none}
 
 -- Reading twice is reading both.
 
@@ -141,6 +142,13 @@ reads_on {js = js} {part = part} {next = next} {old = old} {mid = mid} {new = ne
     record {
       more = r.more ++ t.more;
       moves = move_on r.moves t.moves;
+      needed = needs_behind (λ bytes. part (old.bytes ++ bytes) >>= next) (λ bytes. next a (mid.bytes ++ bytes)) r.more t.more
+          (needs_as (λ bytes. part (old.bytes ++ bytes) >>= next) (λ bytes. by_end-bind (part (old.bytes ++ bytes)) next) r.needed) t.needed (λ still.
+          let front_none : e ≡ true → t.needed.before ≡ [] = λ h. front_of_none t.needed.before t.needed.block (sym t.needed.split ∙ none h) in
+          let early : part (old.bytes ++ (r.more ++ t.needed.before)) ≡ Takes e a (mid.bytes ++ t.needed.before)
+          = ap part (sym (append_assoc old.bytes r.more t.needed.before)) ∙
+          first_stays part e a (old.bytes ++ r.more) mid.bytes t.needed.before stays takes front_none in
+          rw early (is_by_end-after e (next a (mid.bytes ++ t.needed.before)) ∙ ap (λ t. e || t) still ∙ or_true e));
       gives = rw whole (after_gives js e (next a (mid.bytes ++ t.more)) result new ended t.gives);
     }
 
@@ -159,6 +167,7 @@ pub reads_stop : {A B X Y : Type 0} {is : X → A → Type 0} {js : Y → B → 
 reads_stop {part = part} {old = old} {new = new} {s = s} next r = record {
   more = r.more;
   moves = r.moves;
+  needed = needs_as (λ bytes. part (old.bytes ++ bytes) >>= next) (λ bytes. by_end-bind (part (old.bytes ++ bytes)) next) r.needed;
   gives = stops_bind (part (old.bytes ++ r.more)) next (cause_of s) new r.gives;
 }
 
@@ -168,6 +177,7 @@ pub reads_value : {B Y : Type 0} {js : Y → B → Type 0} {y : Y} {b : B} {held
 reads_value {b = b} {held = held} {files = files} same = record {
   more = [];
   moves = stand held.ended files;
+  needed = needs_none (λ bytes. Takes false b (held.bytes ++ bytes));
   gives = (false, b, same, ap (Takes false b) (append-nil held.bytes), λ h. absurd (not_true h));
 }
 
@@ -177,30 +187,39 @@ pub reads_weaken : {A X : Type 0} {is js : X → A → Type 0} {part : List ℕ 
     Reads js part old files result new now
 reads_weaken {result = Ok x} less r =
     let (e, a, same, takes, settled) = r.gives in
-    record { more = r.more; moves = r.moves; gives = (e, a, less x a same, takes, settled) }
-reads_weaken {result = Err s} less r = record { more = r.more; moves = r.moves; gives = r.gives }
+    record { more = r.more; moves = r.moves; needed = r.needed; gives = (e, a, less x a same, takes, settled) }
+reads_weaken {result = Err s} less r = record { more = r.more; moves = r.moves; needed = r.needed; gives = r.gives }
+
+-- a step that stopped, whatever its value would be
+pub reads_failed : {A X Y : Type 0} {is : X → A → Type 0} {js : Y → A → Type 0} {part : List ℕ → Cut A} {old new : Held} {files now : Option Files}
+    {s : Stop} → Reads is part old files (Err s) new now → Reads js part old files (Err s) new now
+reads_failed r = record { more = r.more; moves = r.moves; needed = r.needed; gives = r.gives }
 
 -- a step with its value looked at in another way
 pub reads_map : {A B X : Type 0} {is : X → A → Type 0} {js : X → B → Type 0} {part : List ℕ → Cut A}
     {old new : Held} {files now : Option Files} {result : Result X Stop} (f : A → B) →
     ((x : X) (a : A) → is x a → js x (f a)) → Reads is part old files result new now →
     Reads js (λ bytes. part bytes >>= λ a rest. Takes false (f a) rest) old files result new now
-reads_map {result = Ok x} f same r =
+reads_map {part = part} {old = old} {result = Ok x} f same r =
     let (e, a, is_x, takes, settled) = r.gives in
     record {
       more = r.more;
       moves = r.moves;
+      needed = needs_as (λ bytes. part (old.bytes ++ bytes) >>= λ a rest. Takes false (f a) rest)
+          (λ bytes. by_end-bind (part (old.bytes ++ bytes)) (λ a rest. Takes false (f a) rest)) r.needed;
       gives = (e || false, f a, same x a is_x, ap (λ c. c >>= λ a rest. Takes false (f a) rest) takes, λ h. settled (or_false e h));
     }
 reads_map {result = Err s} f same r = reads_stop (λ a rest. Takes false (f a) rest) r
 
--- a step that begins after some bytes were read
+-- a step that begins after some bytes were read, of a part that is by the end of nothing
 pub reads_after : {A X : Type 0} {is : X → A → Type 0} {part : List ℕ → Cut A} {old mid new : Held}
-    {files fmid now : Option Files} {result : Result X Stop} → ReadsOn old files mid fmid →
+    {files fmid now : Option Files} {result : Result X Stop} → is_by_end (part []) ≡ true → ReadsOn old files mid fmid →
     Reads is part mid fmid result new now → Reads is part old files result new now
-reads_after {is = is} {part = part} {old = old} {new = new} {result = result} on r = record {
+reads_after {is = is} {part = part} {old = old} {mid = mid} {new = new} {result = result} by_end on r = record {
   more = on.more ++ r.more;
   moves = move_on on.moves r.moves;
+  needed = needs_behind (λ bytes. part (old.bytes ++ bytes)) (λ bytes. part (mid.bytes ++ bytes)) on.more r.more
+      (needs_first part on by_end) r.needed (λ still. rw (← append_assoc old.bytes on.more r.needed.before, ← on.bytes) still);
   gives = rw (← append_assoc old.bytes on.more r.more, ← on.bytes) r.gives;
 }
 
@@ -208,43 +227,56 @@ reads_after {is = is} {part = part} {old = old} {new = new} {result = result} on
 pub reads_as : {A X : Type 0} {is : X → A → Type 0} {part other : List ℕ → Cut A} {old new : Held} {files now : Option Files}
     {result : Result X Stop} → ((more : List ℕ) → part (old.bytes ++ more) ≡ other (old.bytes ++ more)) →
     Reads is other old files result new now → Reads is part old files result new now
-reads_as same r = record { more = r.more; moves = r.moves; gives = rw same r.gives }
+reads_as {part = part} {old = old} same r = record {
+  more = r.more;
+  moves = r.moves;
+  needed = needs_as (λ bytes. part (old.bytes ++ bytes)) (λ bytes still. ap is_by_end (same bytes) ∙ still) r.needed;
+  gives = rw same r.gives;
+}
 
 -- a step that begins with a look at a byte that is there, and goes on as another part does at that byte
 pub reads_look : {A X : Type 0} {is : X → A → Type 0} {part other : List ℕ → Cut A} {old mid new : Held}
-    {files fmid now : Option Files} {result : Result X Stop} {b : ℕ} (look : (bs : List ℕ) × (mid.bytes ≡ b ∷ bs)) →
-    ReadsOn old files mid fmid → ((xs : List ℕ) → part (b ∷ xs) ≡ other (b ∷ xs)) →
+    {files fmid now : Option Files} {result : Result X Stop} {b : ℕ} → is_by_end (part []) ≡ true →
+    (look : (bs : List ℕ) × (mid.bytes ≡ b ∷ bs)) → ReadsOn old files mid fmid → ((xs : List ℕ) → part (b ∷ xs) ≡ other (b ∷ xs)) →
     Reads is other mid fmid result new now → Reads is part old files result new now
-reads_look {part = part} {other = other} (bs, here) on same r =
-    reads_after on (reads_as (λ xs. rw here (same (bs ++ xs))) r)
+reads_look {part = part} {other = other} by_end (bs, here) on same r =
+    reads_after by_end on (reads_as (λ xs. rw here (same (bs ++ xs))) r)
 
 -- a step that uses a byte that is there, and goes on as another part does behind that byte
 pub reads_pass : {A X : Type 0} {is : X → A → Type 0} {part other : List ℕ → Cut A} {old mid passed new : Held}
-    {files fmid now : Option Files} {result : Result X Stop} {b : ℕ} (look : (bs : List ℕ) × (mid.bytes ≡ b ∷ bs)) →
-    ReadsOn old files mid fmid → passed.bytes ≡ drop 1 mid.bytes → passed.ended ≡ mid.ended →
+    {files fmid now : Option Files} {result : Result X Stop} {b : ℕ} → is_by_end (part []) ≡ true →
+    (look : (bs : List ℕ) × (mid.bytes ≡ b ∷ bs)) → ReadsOn old files mid fmid → passed.bytes ≡ drop 1 mid.bytes → passed.ended ≡ mid.ended →
     ((xs : List ℕ) → part (b ∷ xs) ≡ other xs) →
     Reads is other passed fmid result new now → Reads is part old files result new now
-reads_pass {is = is} {part = part} {other = other} {mid = mid} {passed = passed} {new = new} {result = result} (bs, here) on bytes ended same r =
+reads_pass {is = is} {part = part} {other = other} {mid = mid} {passed = passed} {new = new} {result = result} by_end (bs, here) on bytes ended same r =
     let left : passed.bytes ≡ bs = bytes ∙ ap (drop 1) here in
-    let whole : part (mid.bytes ++ r.more) ≡ other (passed.bytes ++ r.more) = rw (here, left) (same (bs ++ r.more)) in
-    reads_after on record { more = r.more; moves = rw (← ended) r.moves; gives = rw whole r.gives }
+    let whole : (xs : List ℕ) → part (mid.bytes ++ xs) ≡ other (passed.bytes ++ xs) = λ xs. rw (here, left) (same (bs ++ xs)) in
+    reads_after by_end on record {
+      more = r.more;
+      moves = rw (← ended) r.moves;
+      needed = needs_as (λ xs. part (mid.bytes ++ xs)) (λ xs still. ap is_by_end (whole xs) ∙ still) r.needed;
+      gives = rw (whole r.more) r.gives;
+    }
 
 -- a step that makes another value of the one that it read
 pub reads_made : {A B X Y : Type 0} {is : X → A → Type 0} {js : Y → B → Type 0} {part : List ℕ → Cut A}
     {old new : Held} {files now : Option Files} {x : X} (f : A → B) (y : Y) → ((a : A) → is x a → js y (f a)) →
     Reads is part old files (Ok x) new now → Reads js (λ bytes. part bytes >>= λ a rest. Takes false (f a) rest) old files (Ok y) new now
-reads_made f y same r =
+reads_made {part = part} {old = old} f y same r =
     let (e, a, is_x, takes, settled) = r.gives in
     record {
       more = r.more;
       moves = r.moves;
+      needed = needs_as (λ bytes. part (old.bytes ++ bytes) >>= λ a rest. Takes false (f a) rest)
+          (λ bytes. by_end-bind (part (old.bytes ++ bytes)) (λ a rest. Takes false (f a) rest)) r.needed;
       gives = (e || false, f a, same a is_x, ap (λ c. c >>= λ a rest. Takes false (f a) rest) takes, λ h. settled (or_false e h));
     }
 
 -- memory is wanting, and nothing was read
 pub reads_memory : {A X : Type 0} (is : X → A → Type 0) (part : List ℕ → Cut A) (held : Held) (files : Option Files) →
     Reads is part held files (Err (stop.Fault fault.NoMemory)) held files
-reads_memory is part held files = record { more = []; moves = stand held.ended files; gives = tt }
+reads_memory is part held files =
+    record { more = []; moves = stand held.ended files; needed = needs_none (λ bytes. part (held.bytes ++ bytes)); gives = tt }
 
 -- a read failed where no byte was left, and the part is by the end of nothing
 pub reads_fault : {A X : Type 0} {is : X → A → Type 0} {part : List ℕ → Cut A} {old new : Held} {files now : Option Files} →
@@ -254,5 +286,6 @@ reads_fault {part = part} {old = old} {files = files} by_end same same_files non
     rw (same, same_files) record {
       more = [];
       moves = stand old.ended files;
+      needed = needs_none (λ bytes. part (old.bytes ++ bytes));
       gives = (ap (λ bytes. is_by_end (part (bytes ++ []))) none ∙ by_end, going_on);
     }

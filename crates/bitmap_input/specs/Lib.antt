@@ -160,6 +160,7 @@ pub mod FilePages
 --   cause_of: the cause that an end of reading tells
 --   StopsBy: the cut of the bytes stops by this cause
 --   Gives: the result is what the cut of the bytes says, with `held` as the rest
+--   AreNeeded: the cut of these bytes needs them, but for the rest of a last block
 --   Reads: a step of the reader
 --   Any: the value doesn't matter
 --   Same: the value is the same

@@ -11,7 +11,7 @@ use Rattle.bitmap_input.specs.Raw.{Raw, shown}
 use Rattle.bitmap_input.specs.Front.{Answer, front, page_at}
 use Rattle.bitmap_input.specs.Front.Answer.{Page, Ends}
 use Rattle.bitmap_input.specs.FilePages.{next_begins}
-use Rattle.bitmap_input.specs.Reading.{Moves, Cause, cause_of_fault}
+use Rattle.bitmap_input.specs.Reading.{Moves, AreNeeded, Cause, cause_of_fault}
 use Rattle.bitmap_input.specs.Reading.Cause.{Says, Device, Memory}
 
 -- the bytes that were taken from the file and not used yet, how many bytes are still to be skipped
@@ -37,11 +37,12 @@ is_later reader = nat_lt 0 reader.pages
 abbrev pub ahead : Reader → List ℕ → List ℕ
 ahead reader more = drop reader.skip (reader.bytes ++ more)
 
--- bytes were taken for this answer, and together with those that were at hand they say it; where they
--- say it by their end, a read has given nothing
+-- bytes were taken for this answer, as far as it needs them, and together with those that were at hand
+-- they say it; where they say it by their end, a read has given nothing
 pub record Answers (old : Reader) (before : Option Files) (answer : Answer) (new : Reader) (now : Option Files) : Type 0 where
   pub more : List ℕ
   pub moves : Moves old.ended before new.ended now more
+  pub needed : AreNeeded (λ bytes. page_at (is_later old) (ahead old bytes)) more
   pub is : front (is_later old) (ahead old more) ≡ answer
   pub settled : is_by_end (page_at (is_later old) (ahead old more)) ≡ true → new.ended ≡ true
 
@@ -63,8 +64,8 @@ pub record GivesEnding (old : Reader) (before : Option Files) (ending : Ending) 
   pub counted : new.pages ≡ old.pages
   pub over : new.over ≡ true
 
--- a read failed: the bytes that were taken for this page say what they say by their end alone, and no
--- read had given nothing
+-- a read failed: the bytes that were taken for this page say what they say by their end alone, so that
+-- all are needed, and no read had given nothing
 pub record ReadFails (old : Reader) (before : Option Files) (new : Reader) (now : Option Files) : Type 0 where
   pub more : List ℕ
   pub moves : Moves old.ended before new.ended now more
@@ -73,10 +74,12 @@ pub record ReadFails (old : Reader) (before : Option Files) (new : Reader) (now 
   pub counted : new.pages ≡ old.pages
   pub over : new.over ≡ true
 
--- memory is wanting: the inputs stand where the reading left them
+-- memory is wanting: the inputs stand where the reading left them, which took bytes as far as the page
+-- needs them
 pub record MemoryFails (old : Reader) (before : Option Files) (new : Reader) (now : Option Files) : Type 0 where
   pub more : List ℕ
   pub moves : Moves old.ended before new.ended now more
+  pub needed : AreNeeded (λ bytes. page_at (is_later old) (ahead old bytes)) more
   pub counted : new.pages ≡ old.pages
   pub over : new.over ≡ true
 

@@ -68,11 +68,21 @@ Gives {A = A} is cut (Ok x) held =
     (e : Bool) × (a : A) × is x a × (cut ≡ Takes e a held.bytes) × (e ≡ true → held.ended ≡ true)
 Gives is cut (Err s) held = StopsBy cut (cause_of s) held
 
--- a step of the reader: it takes bytes from the inputs and answers as the part says of the bytes
--- that were at hand and those
+-- the cut of these bytes needs them, but for the rest of a last block: there are none, or at most
+-- 65,536 of them stand behind a front of them that decides nothing, since the cut is by its end
+pub record AreNeeded {A : Type 0} (cut : List ℕ → Cut A) (more : List ℕ) : Type 0 where
+  pub before : List ℕ
+  pub block : List ℕ
+  pub split : more ≡ before ++ block
+  pub within : length block ≤ 65536
+  pub undecided : (more ≡ []) ⊎ (is_by_end (cut before) ≡ true)
+
+-- a step of the reader: it takes bytes from the inputs, as far as the part needs them, and answers as
+-- the part says of the bytes that were at hand and those
 pub record Reads {A X : Type 0} (is : X → A → Type 0) (part : List ℕ → Cut A) (old : Held) (before : Option Files) (result : Result X Stop) (new : Held) (now : Option Files) : Type 0 where
   pub more : List ℕ
   pub moves : Moves old.ended before new.ended now more
+  pub needed : AreNeeded (λ bytes. part (old.bytes ++ bytes)) more
   pub gives : Gives is (part (old.bytes ++ more)) result new
 
 -- the value doesn't matter

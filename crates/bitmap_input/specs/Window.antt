@@ -1,5 +1,5 @@
 -- A look at the next byte through a window.
-use Rattle.std.specs.Prelude.{◌≡◌, ℕ, ◌≤◌, true, false, List, [], ◌∷◌, ◌++◌, Option, Some, None}
+use Rattle.std.specs.Prelude.{◌≡◌, ℕ, ◌≤◌, ◌⊎◌, true, false, List, [], ◌∷◌, ◌++◌, length, Option, Some, None}
 use Rattle.pt_base.specs.Counts.{Rose}
 use Rattle.pt_base.specs.Files.{Files}
 use Rattle.bitmap_input.specs.Reading.{Held, Moves}
@@ -11,11 +11,12 @@ abbrev pub IsFirst : List ℕ → Option ℕ → Type 0
 IsFirst bytes (Some b) = (bs : List ℕ) × (bytes ≡ b ∷ bs)
 IsFirst bytes None = bytes ≡ []
 
--- bytes were read or not, and all are still there
+-- bytes were read or not, at most 65,536 and only where none were there, and all are still there
 pub record ReadsOn (old : Held) (before : Option Files) (new : Held) (now : Option Files) : Type 0 where
   pub more : List ℕ
   pub moves : Moves old.ended before new.ended now more
   pub bytes : new.bytes ≡ old.bytes ++ more
+  pub one_block : (more ≡ []) ⊎ ((old.bytes ≡ []) × (length more ≤ 65536))
 
 -- the next byte; or none comes any more; or none was there and the read of more failed
 abbrev pub Looks : Held → Option Files → Look → Held → Option Files → Type 0

@@ -30,10 +30,14 @@ pub fn pages_are_parts()
         → front later bytes ≡ Page raw used → used ≤ length bytes }
 {}
 
-/// A front that isn't by the end of the bytes stays the same where bytes are added.
+/// A front that isn't by the end of the bytes stays the same where bytes are added, and isn't by their
+/// end then either.
 pub fn fronts_stay()
-    ensures { (later : Bool) (bytes more : List ℕ) → is_by_end (page_at later bytes) ≡ false
+    ensures same { (later : Bool) (bytes more : List ℕ) → is_by_end (page_at later bytes) ≡ false
         → front later (bytes ++ more) ≡ front later bytes }
+    ensures decided { (later : Bool) (bytes more : List ℕ)
+        → is_by_end (page_at later bytes) ≡ false
+        → is_by_end (page_at later (bytes ++ more)) ≡ false }
 {}
 
 /// A file has one list of pages, and one ending.

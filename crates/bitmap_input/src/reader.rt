@@ -125,7 +125,8 @@ impl PageReader {
         self.pages
     }
 
-    /// Reads the next page of the opened file, at most 65,536 bytes ahead of what it uses.
+    /// Reads the next page of the opened file, at most 65,536 bytes ahead of what it uses, or of what
+    /// decides that there is none.
     ///
     /// A gray pixel or one of a colour is black where it isn't brighter than the level; a bit is
     /// what it is. Then each pixel is inverted where that is asked for.
@@ -147,7 +148,7 @@ impl PageReader {
         ensures over { is_over result ≡ self.old.over }
         ensures idle { is_over result ≡ true → (self.new ≡ self.old) × (inputs.new ≡ inputs.old) }
 
-        // What each answer says of the bytes that were taken.
+        // What each answer says of the bytes that were taken, and that it needed them.
         ensures page { IfPage result
             (λ page. GivesPage level.now invert self.old (I.files inputs.old) page self.new
             (I.files inputs.new)) }

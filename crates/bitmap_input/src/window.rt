@@ -87,6 +87,7 @@ impl Window {
             (Moves false (I.files inputs.old) self.new.ended (I.files inputs.new) self.new.bytes) }
         ensures some { OnOk result (self.new.ended ≡ false → 0 < length self.new.bytes) }
         ensures none { OnOk result (self.new.ended ≡ true → self.new.bytes ≡ []) }
+        ensures within { OnOk result (length self.new.bytes ≤ 65536) }
         ensures same { OnErr result (self.new ≡ self.old) }
         ensures nothing { OnErr result (I.files inputs.new ≡ I.files inputs.old) }
         ensures steady { OnOk result (I.faults inputs.new ≡ I.faults inputs.old) }

@@ -8,4 +8,4 @@ pub returns-then-is_space-clause-reads : goal.returns-then-is_space-clause-reads
 returns-then-is_space-clause-reads g c =
     let look = c.in-Byte.ensures.looks in
     let test : is_space c.in-Byte.byte ≡ true = search rules in
-    reads_pass {other = λ bytes. Takes false (c.in-Byte.byte ∷ []) bytes} look.1 look.0 c.pass.ensures.bytes c.pass.ensures.ended (λ xs. rw test refl) (reads_value tt)
+    reads_pass {other = λ bytes. Takes false (c.in-Byte.byte ∷ []) bytes} refl look.1 look.0 c.pass.ensures.bytes c.pass.ensures.ended (λ xs. rw test refl) (reads_value tt)

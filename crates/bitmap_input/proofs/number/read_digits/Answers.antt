@@ -24,7 +24,7 @@ returns-then-not-is_digit-clause-reads g c =
     (λ y a (is, same). rw (is, same) c.loop-n.invariant.number)
     (run_ends_at (run_length is_digit) (run_length is_digit) c.args.window.now c.loop-n.window c.look.new.self
     (g.I.Inputs.files c.args.inputs.now) (g.I.Inputs.files c.loop-n.inputs) (g.I.Inputs.files c.look.new.inputs) c.loop-n.n s
-    c.loop-n.value c.in-Byte.byte look.1.0 look.0 look.1.1 (λ xs. rw test refl) (omega arith))
+    c.loop-n.value c.in-Byte.byte look.1.0 look.0 look.1.1 refl (λ xs. rw test refl) (omega arith))
 
 pub returns-in-End-clause-reads : goal.returns-in-End-clause-reads
 returns-in-End-clause-reads g c =
@@ -44,7 +44,7 @@ loop-n-preserved g c =
     record {
       so_far = run_goes_on (run_length is_digit) (run_length is_digit) (run_length is_digit) c.args.window.now c.loop-n.window c.look.new.self c.pass.new.self
           (g.I.Inputs.files c.args.inputs.now) (g.I.Inputs.files c.loop-n.inputs) (g.I.Inputs.files c.look.new.inputs) c.loop-n.n _ c.in-Byte.byte look.1.0
-          s look.0 look.1.1 (λ xs. rw test refl) c.pass.ensures.bytes c.pass.ensures.ended (omega arith);
+          s refl (omega arith) look.0 look.1.1 (λ xs. rw test refl) c.pass.ensures.bytes c.pass.ensures.ended (omega arith);
       number = rw value_more (capped_more c.loop-n.value c.min-value.result (value 0 s.used) _ c.loop-n.invariant.number (c.min-value.ensures));
       most = omega arith;
       steady = search rules;

@@ -1,9 +1,15 @@
+use Rattle.std.proofs.Common.{refl}
+use Rattle.bitmap_input.specs.Parts.{some_gap}
 use Rattle.bitmap_input.specs.Number.{kind_at}
-use Rattle.bitmap_input.proofs.Telling.{reads_look}
+use Rattle.bitmap_input.proofs.Telling.{reads_look, reads_fault}
 use Rattle.bitmap_input.proofs.Headers.{some_gap_at}
 use Rattle.bitmap_input.proofs.number.skip_gap.Goals as goal
 
 pub returns-in-Some-clause-reads : goal.returns-in-Some-clause-reads
 returns-in-Some-clause-reads g c =
     let look = c.in-Byte.ensures.looks in
-    reads_look look.1 look.0 (λ xs. some_gap_at (kind_at c.args.part) c.in-Byte.byte _ xs (c.in-Some.ensures xs)) c.skip.ensures.reads
+    reads_look {part = some_gap (kind_at c.args.part)} refl look.1 look.0 (λ xs. some_gap_at (kind_at c.args.part) c.in-Byte.byte _ xs (c.in-Some.ensures xs)) c.skip.ensures.reads
+
+pub returns-in-Fault-clause-reads : goal.returns-in-Fault-clause-reads
+returns-in-Fault-clause-reads g c =
+    let look = c.in-Fault.ensures.looks in reads_fault {part = some_gap (kind_at c.args.part)} refl look.0 look.1 look.2 look.3

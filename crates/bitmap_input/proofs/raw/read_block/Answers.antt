@@ -1,13 +1,22 @@
 use Rattle.std.proofs.Common.{arith, rules, ◌≤◌, length}
-use Rattle.bitmap_input.proofs.Blocks.{block_is_short, block_goes_on, filled_within}
+use Rattle.bitmap_input.proofs.Blocks.{block_begins, block_is_short, block_goes_on, filled_within}
 use Rattle.bitmap_input.proofs.raw.read_block.Goals as goal
+
+pub loop-done-init : goal.loop-done-init
+loop-done-init g c = record {
+  so_far = block_begins (length c.args.row.now) c.args.window.now (g.I.Inputs.files c.args.inputs.now) c.args.row.now;
+  within = omega arith;
+  steady = search rules;
+  opened = search rules;
+  openings = search rules;
+}
 
 pub loop-done-preserved : goal.loop-done-preserved
 loop-done-preserved g c =
     let look = c.in-Byte.ensures.looks in
     let fits : c.give-done.result ≤ length c.give-done.new.to = omega (arith, c.give-done.auto.to) in
     record {
-      so_far = block_goes_on c.loop-done.done c.give-done.result c.loop-done.row c.give-done.new.to c.loop-done.invariant.so_far look.0
+      so_far = block_goes_on c.loop-done.done c.give-done.result c.loop-done.row c.give-done.new.to c.loop-done.invariant.so_far (omega (arith, c.loop-done.auto.row)) look.0
           (omega arith) fits c.give-done.ensures.copied c.give-done.ensures.bytes c.give-done.ensures.ended;
       within = filled_within c.loop-done.done c.give-done.result c.loop-done.row c.give-done.new.to (omega arith) fits;
       steady = search rules;

@@ -20,7 +20,7 @@ returns-in-None-clause-reads g c =
     reads_weaken (λ _ _ _. tt)
     (run_ends_at (length_of c.args.run) (length_of c.loop-n.run) c.args.window.now c.loop-n.window c.look.new.self
     (g.I.Inputs.files c.args.inputs.now) (g.I.Inputs.files c.loop-n.inputs) (g.I.Inputs.files c.look.new.inputs) c.loop-n.n s
-    (tt {0}) c.in-Byte.byte look.1.0 look.0 look.1.1 c.in-None.ensures (omega arith))
+    (tt {0}) c.in-Byte.byte look.1.0 look.0 look.1.1 (length_of-nil c.loop-n.run) c.in-None.ensures (omega arith))
 
 pub returns-in-End-clause-reads : goal.returns-in-End-clause-reads
 returns-in-End-clause-reads g c =
@@ -37,7 +37,7 @@ loop-n-preserved g c =
     record {
       so_far = run_goes_on (length_of c.args.run) (length_of c.loop-n.run) (length_of c.in-Some.next) c.args.window.now c.loop-n.window c.look.new.self c.pass.new.self
           (g.I.Inputs.files c.args.inputs.now) (g.I.Inputs.files c.loop-n.inputs) (g.I.Inputs.files c.look.new.inputs) c.loop-n.n _ c.in-Byte.byte look.1.0
-          c.loop-n.invariant.so_far look.0 look.1.1 c.in-Some.ensures c.pass.ensures.bytes c.pass.ensures.ended (omega arith);
+          c.loop-n.invariant.so_far (length_of-nil c.loop-n.run) (omega arith) look.0 look.1.1 c.in-Some.ensures c.pass.ensures.bytes c.pass.ensures.ended (omega arith);
       most = omega arith;
       steady = search rules;
       opened = search rules;

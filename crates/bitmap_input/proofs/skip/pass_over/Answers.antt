@@ -14,7 +14,7 @@ pub loop-left-preserved : goal.loop-left-preserved
 loop-left-preserved g c =
     let look = c.in-Byte.ensures.looks in
     record {
-      so_far = skip_goes_on c.loop-left.left c.pass_some-left.result _ c.loop-left.invariant.so_far look.0 c.pass_some-left.ensures.within c.pass_some-left.ensures.fits c.pass_some-left.ensures.bytes c.pass_some-left.ensures.ended refl;
+      so_far = skip_goes_on c.loop-left.left c.pass_some-left.result _ c.loop-left.invariant.so_far c.loop-left-test.true look.0 c.pass_some-left.ensures.within c.pass_some-left.ensures.fits c.pass_some-left.ensures.bytes c.pass_some-left.ensures.ended refl;
       steady = search rules;
       opened = search rules;
       openings = search rules;

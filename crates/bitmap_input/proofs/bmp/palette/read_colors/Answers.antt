@@ -6,7 +6,7 @@ pub returns-in_err-read_block-clause-reads : goal.returns-in_err-read_block-clau
 returns-in_err-read_block-clause-reads g c =
     let p = err_from_is_err_and c.from_residual.result c.from_residual.ensures.1 in
     let read = rw c.requires.whole at c.in_err-read_block.ensures.reads in
-    rw (p.1, p.2) record { more = read.more; moves = read.moves; gives = read.gives }
+    rw (p.1, p.2) record { more = read.more; moves = read.moves; needed = read.needed; gives = read.gives }
 
 pub returns-clause-reads : goal.returns-clause-reads
 returns-clause-reads g c =

@@ -3,7 +3,7 @@ use Rattle.bitmap_input.specs.declared.fault.InFault.TheVariants as fault
 use Rattle.bitmap_input.specs.Cut.Ending.{End, Trailing}
 use Rattle.bitmap_input.specs.Reading.{cause_of, cause_of_fault}
 use Rattle.bitmap_input.specs.Reader.{Reader}
-use Rattle.bitmap_input.proofs.Answering.{reader_of, gives_page, gives_ending, fails_read, if_says, told_page, told_says, over_comes, page_comes, end_comes, trailing_comes, fault_comes}
+use Rattle.bitmap_input.proofs.Answering.{reader_of, gives_page, gives_ending, fails_read, wants_memory, if_says, told_page, told_says, over_comes, page_comes, end_comes, trailing_comes, fault_comes}
 use Rattle.bitmap_input.proofs.reader.PageReader.next.Goals as goal
 use Rattle.bitmap_input.proofs.reader.PageReader.next.Goals.{in-End, in-Trailing, in-Fault}
 
@@ -49,6 +49,11 @@ returns-after-stop-clause-read_fault g c = λ err.
       | in-Trailing w ↦ let e = rw w.result-is at err in (cc)
       | in-Fault w ↦ let e = rw w.result-is at err in let same : w.in-Fault.fault ≡ fault.ReadFault = cc in rw w.in-Fault.is (ap cause_of_fault same)
     ]))
+
+pub returns-after-stop-clause-no_memory : goal.returns-after-stop-clause-no_memory
+returns-after-stop-clause-no_memory g c = λ _.
+    rw (← c.self.view_is) (wants_memory c.args.level.now c.args.invert c.self.inside.window c.read_ahead-answer.new.window c.self.inside.skip c.self.inside.skip c.self.inside.pages c.self.inside.pages c.self.inside.over true
+    (g.I.Inputs.files c.args.inputs.now) (g.I.Inputs.files c.read_ahead-answer.new.inputs) c.in-Err.stop c.in-Err.ensures.reads refl refl)
 
 pub returns-then-self-clause-always : goal.returns-then-self-clause-always
 returns-then-self-clause-always g c =
