@@ -1,5 +1,5 @@
 -- The fewest segments to the end, where the longest segments rise.
-use Rattle.std.proofs.Common.{◌≡◌, ◌≢◌, ℕ, zero, suc, ◌+◌, ◌<◌, ◌≤◌, List, length, refl, ap, set, get_or-set_same, inl, inr, arith}
+use Rattle.std.proofs.Common.{◌≡◌, ℕ, zero, suc, ◌+◌, ◌<◌, ◌≤◌, List, length, refl, ap, set, get_or-set_same, inl, inr, arith}
 use Rattle.std.proofs.lemmas.List.{get_or-set_other}
 use Rattle.std.proofs.lemmas.Bool.{cases_eq, cases_lt}
 use Rattle.std.specs.Prelude.{slice_index}
@@ -8,7 +8,7 @@ use Rattle.least_walk.proofs.Filling.{filled}
 use Rattle.least_walk.proofs.Going.{fewest_below}
 use Rattle.least_walk.proofs.Onward.{count_bound, fewest_onward, some_fewest}
 use Rattle.polygon_optimal.specs.Lasts.{AreRising, IsUpToLast, LeadsOn}
-use Rattle.polygon_optimal.specs.Search.{AreFalling, IsBegin}
+use Rattle.polygon_optimal.specs.Search.{AreFalling}
 
 module _ (size : ℕ) (lasts : List ℕ) (leads : (i : ℕ) → i < size → LeadsOn size i (slice_index lasts i))
     (rising : AreRising size lasts) where
@@ -99,27 +99,3 @@ module _ (size : ℕ) (lasts : List ℕ) (leads : (i : ℕ) → i < size → Lea
 
     pub before_end : (i : ℕ) → i ≤ size → 0 < slice_index counts i → i < size
     before_end i within some = omega (arith, fewest_below size (IsUpToLast lasts) i (slice_index counts i) (fewest i (omega arith) within))
-
--- where the next window begins: where it did from the next point, if as many segments are left from there
-pub begin_same : (size : ℕ) (counts : List ℕ) (i begin : ℕ) → slice_index counts i ≡ slice_index counts (i + 1)
-    → IsBegin size counts (i + 1) begin → IsBegin size counts i begin
-begin_same size counts i begin same is = record {
-  above = omega (arith, is.above);
-  within = is.within;
-  count = omega (arith, is.count);
-  none_before = λ k onwards within keeps. elim (cases_eq k (i + 1)) [
-    | inl next ↦ absurd (omega (arith, ap (slice_index counts) next))
-    | inr later ↦ is.none_before k (omega arith) within (omega arith)
-  ];
-}
-
--- and else there
-pub begin_next : (size : ℕ) (counts : List ℕ) (i : ℕ) → i < size → slice_index counts i ≢ slice_index counts (i + 1)
-    → slice_index counts i ≤ slice_index counts (i + 1) + 1 → slice_index counts (i + 1) ≤ slice_index counts i
-    → IsBegin size counts i (i + 1)
-begin_next size counts i below other most least = record {
-  above = omega arith;
-  within = omega arith;
-  count = omega arith;
-  none_before = λ k onwards within keeps. omega arith;
-}

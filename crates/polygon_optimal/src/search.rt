@@ -6,8 +6,8 @@
 //! the farthest of them.
 //!
 //! ```text
-//!     0 . . . [ . . . ] . . [ . . ] . . n     Each window has the vertices after so many segments:
-//!     first    second         third           it ends with the farthest, and begins where the next
+//!     0     [3 .. 7]     [12 .. 15]     n     Windows: where the vertices are after one segment more.
+//!                                             Each ends with the farthest, and begins where the next
 //!                                             window is reached.
 //! ```
 ghost use Rattle.std.specs.Prelude.{◌≡◌, ℕ, ◌+◌, ◌-◌, ◌^◌, ◌<◌, ◌≤◌, length, slice_index, IfOk};
