@@ -48,63 +48,6 @@ pub fn checkered(alloc: Global, side: usize) -> Result<Bitmap, NoPage> {
     Ok(page)
 }
 
-/// What is black on a page of straight runs and corners.
-#[derive(Clone, Copy, Debug)]
-pub enum Shape {
-    /// Below a line that rises by 1 in 4.
-    Stairs,
-    /// Below a line that rises by 5 in 13.
-    Line,
-    /// Between two such lines.
-    Band,
-    /// Every other column of two pixels, and a row that they stand on.
-    Comb,
-    /// What is inside of a circle.
-    Disc,
-    /// Rings of three pixels, each in the hole of the one before.
-    Rings,
-}
-
-impl Shape {
-    /// Whether the pixel is black on a page of this side.
-    fn covers(self, x: i64, y: i64, side: i64) -> bool {
-        match self {
-            Shape::Stairs => y.wrapping_mul(4) < x,
-            Shape::Line => y.wrapping_mul(13) < x.wrapping_mul(5),
-            Shape::Band => {
-                let across = y.wrapping_mul(13).wrapping_sub(x.wrapping_mul(5));
-                0 <= across && across < 130
-            }
-            Shape::Comb => y < 2 || x % 4 < 2,
-            Shape::Disc => {
-                let (right, up) = (
-                    x.wrapping_mul(2).wrapping_sub(side),
-                    y.wrapping_mul(2).wrapping_sub(side),
-                );
-                right.wrapping_mul(right).wrapping_add(up.wrapping_mul(up))
-                    < side.wrapping_mul(side)
-            }
-            Shape::Rings => {
-                let right = side.wrapping_sub(1).wrapping_sub(x);
-                let up = side.wrapping_sub(1).wrapping_sub(y);
-                x.min(y).min(right).min(up) / 3 % 2 == 0
-            }
-        }
-    }
-}
-
-/// A square page with this shape.
-pub fn shaped(alloc: Global, shape: Shape, side: usize) -> Result<Bitmap, NoPage> {
-    let mut page = white(alloc, side, side)?;
-    for place in 0..page.width() * page.height() {
-        let (x, y) = (place % page.width(), place / page.width());
-        let side = i64::from(page.width());
-        let black = shape.covers(i64::from(x), i64::from(y), side);
-        put(&mut page, x as usize, y as usize, black);
-    }
-    Ok(page)
-}
-
 /// The page of 3 by 3 pixels that a number has for its bits.
 pub fn numbered(alloc: Global, number: u32) -> Result<Bitmap, NoPage> {
     let mut page = white(alloc, 3, 3)?;

@@ -8,13 +8,26 @@ use std::alloc::Global;
 #[derive(Clone, Copy, Debug, PartialEq, Eq)]
 pub enum Shape {
     /// What lies below a line that rises by so many rows to so many columns.
-    Stairs { rows: usize, columns: usize },
+    Stairs {
+        rows: usize,
+        columns: usize,
+    },
+    /// What lies on such a line or above it, up to where the rows times `columns` are so much more.
+    Band {
+        rows: usize,
+        columns: usize,
+        high: usize,
+    },
     /// Teeth of this width and as far apart, upright on a bar as high as they are wide.
-    Comb { width: usize },
+    Comb {
+        width: usize,
+    },
     /// What is nearer to the middle than the sides are.
     Disc,
     /// The frames of squares within squares, of this width and as far apart.
-    Nest { width: usize },
+    Nest {
+        width: usize,
+    },
 }
 
 impl Shape {
@@ -22,6 +35,14 @@ impl Shape {
         match self {
             Shape::Stairs { rows, columns } => {
                 y.saturating_mul(columns) <= x.saturating_mul(rows)
+            }
+            Shape::Band {
+                rows,
+                columns,
+                high,
+            } => {
+                let (up, line) = (y.saturating_mul(columns), x.saturating_mul(rows));
+                line <= up && up - line < high
             }
             Shape::Comb { width } => y < width || x / width.max(1) % 2 == 0,
             Shape::Disc => {

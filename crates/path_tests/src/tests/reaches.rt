@@ -1,8 +1,9 @@
 //! Reaches and corners beside a program that walks along every point.
 
 use bit_image::bitmap::Bitmap;
-use page_samples::pages::{Shape, checkered, noise, numbered, shaped};
+use page_samples::pages::{checkered, noise, numbered};
 use page_samples::plain_cones::{next_corner, reaches};
+use page_samples::shapes::{Shape, shaped};
 use page_samples::walks::round;
 use path_decompose::decomposition::decompose;
 use pt_base::closed_walk::is_closed_walk;
@@ -73,15 +74,37 @@ fn reaches_on_all_small_pages(rt: HostRuntime) -> Result<(), Fail> {
 fn reaches_on_pages_of_runs(rt: HostRuntime) -> Result<(), Fail> {
     // A shape, the page's side, and how many paths there are.
     let table = [
-        (Shape::Stairs, 160, 1u32),
-        (Shape::Line, 160, 1),
-        (Shape::Band, 160, 1),
-        (Shape::Comb, 42, 1),
+        (
+            Shape::Stairs {
+                rows: 1,
+                columns: 4,
+            },
+            160,
+            1u32,
+        ),
+        (
+            Shape::Stairs {
+                rows: 5,
+                columns: 13,
+            },
+            160,
+            1,
+        ),
+        (
+            Shape::Band {
+                rows: 5,
+                columns: 13,
+                high: 130,
+            },
+            160,
+            1,
+        ),
+        (Shape::Comb { width: 2 }, 42, 1),
         (Shape::Disc, 75, 1),
-        (Shape::Rings, 60, 10),
+        (Shape::Nest { width: 3 }, 60, 10),
     ];
     for (shape, side, paths) in table {
-        let page = shaped(rt.alloc(), shape, side)?;
+        let page = shaped(rt.alloc(), side, shape)?;
         let found = counts(rt.alloc(), &page, Policy::Minority)?;
         assert_eq!(rt; found, (paths, paths), "{paths} on a page of {side}");
     }
