@@ -21,7 +21,7 @@ use Rattle.bitmap_input.specs.declared.fault.InFault.{InFault}
 use Rattle.page_trace.specs.Document.{CanWrite, IsDocument}
 use Rattle.file_trace.specs.Messages.{not_opened, not_written, out_of_memory, page_line, read_fault, trailing_line}
 use Rattle.file_trace.specs.Names.{base_name, made_with, next_name}
-use Rattle.file_trace.specs.Items.{AreItems, ArePageItems, HoldsPages, Item, Nothing, Rest, contents_of, most_pages, too_many}
+use Rattle.file_trace.specs.Items.{AreItems, ArePageItems, HoldsPages, Item, Nothing, Rest, told_contents, most_pages, too_many}
 use Rattle.file_trace.specs.Items.Item.{Doc, Missing, Note, Stop}
 use Rattle.file_trace.specs.Outcome.{AreCarriedOut, AreSaid, GoesOn, HasEnded, HoldsBytes, IsOutcome, IsUnread, Sinks, Source, is_later, notes, with_items}
 use Rattle.file_trace.specs.Progress.{AreTraced, BeginsWith, EndsBy, EndsWith, HasUnread, SaysEnd, Traces, TracesFile, docs, opened_name, status_of}
@@ -82,7 +82,7 @@ opened_bytes contents name (Some bytes) is there = (bytes, is)
 unread-opened : (files : Files) (name bytes : List ℕ) → get files.contents name ≡ Some bytes → unread (with_file (Some files) name) ≡ Some bytes
 unread-opened files name bytes is = ap (λ o. option_map unread_of (option_map (λ (b : List ℕ). record { name = name; rest = b }) o)) is
 
-pub has_bytes : (told now : Option Files) (name : List ℕ) → now ≡ with_file told name → (Lacks told name → ⊥) → HasBytes (contents_of told) name (unread now)
+pub has_bytes : (told now : Option Files) (name : List ℕ) → now ≡ with_file told name → (Lacks told name → ⊥) → HasBytes (told_contents told) name (unread now)
 has_bytes None now name opened there = tt
 has_bytes (Some files) now name opened there =
     let (bytes, is) = opened_bytes files.contents name (get files.contents name) refl there in

@@ -29,9 +29,9 @@ abbrev pub too_many : List ℕ
 too_many = codes "too many pages"
 
 -- what the files hold, where that is told
-abbrev pub contents_of : Option Files → Option Contents
-contents_of None = None
-contents_of (Some files) = Some files.contents
+abbrev pub told_contents : Option Files → Option Contents
+told_contents None = None
+told_contents (Some files) = Some files.contents
 
 -- it is told that there is no file of this name
 abbrev pub IsAbsent : Option Contents → List ℕ → Type 0

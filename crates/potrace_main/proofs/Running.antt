@@ -4,8 +4,8 @@ use Rattle.std.proofs.lemmas.List.{length-take-le, take-append-drop, take_more}
 use Rattle.pt_base.specs.Counts.{last_count, next_count}
 use Rattle.pt_base.specs.Files.{Contents}
 use Rattle.pt_base.specs.declared.settings.Settings.{Settings}
-use Rattle.file_trace.specs.Items.{AreItems, Item, Nothing, contents_of}
-use Rattle.file_trace.specs.Outcome.{AreCarriedOut, HasEnded, IsOutcome, IsReached, Sinks, Source}
+use Rattle.file_trace.specs.Items.{AreItems, Item, Nothing, told_contents}
+use Rattle.file_trace.specs.Outcome.{AreCarriedOut, HasEnded, IsOutcome, OpensUpTo, Sinks, Source}
 use Rattle.file_trace.specs.Progress.{EndsWith, TracesFile, opened_name}
 use Rattle.file_trace.specs.declared.status.Status.{Status}
 use Rattle.file_trace.specs.declared.status.Status.TheVariants as status

@@ -1,7 +1,7 @@
 //! The top call: all that the program does.
 ghost use Rattle.std.specs.Prelude.{◌≡◌, ◌≢◌, ◌<◌, ◌≤◌, ◌⊎◌, ◌∷◌, ℕ, List, true, false, map, option_map, string_bytes};
 ghost use Rattle.pt_base.specs.Counts.{Rose};
-ghost use Rattle.file_trace.specs.Items.{IsAbsent, Item, contents_of};
+ghost use Rattle.file_trace.specs.Items.{IsAbsent, Item, told_contents};
 ghost use Rattle.file_trace.specs.Progress.{InputCount, OutputCount};
 ghost use Rattle.file_trace.specs.Status.{code_of};
 ghost use Rattle.file_trace.specs.declared.status.Status.{Status};
@@ -56,7 +56,7 @@ pub fn run<R: Threads + Sync, I: Inputs, O: Outputs, E: Sink, G: Gate + Sync>(
     // Where no device failed, all is done, or the run ends with the refusal or the missing file, want of
     // memory aside.
     ensures complete { (ask : Ask) → IsAsked (map string_bytes words.now) ask → (items : List Item)
-        × AreItemsOf ask (contents_of (I.files inputs.old)) items
+        × AreItemsOf ask (told_contents (I.files inputs.old)) items
         × ((Rose (I.faults inputs.old) (I.faults inputs.new) → ⊥)
         → (Rose (O.faults outs.old) (O.faults outs.new) → ⊥)
         → IsCodeOf result (λ status. IsComplete status items)) }
@@ -82,10 +82,10 @@ pub fn run<R: Threads + Sync, I: Inputs, O: Outputs, E: Sink, G: Gate + Sync>(
     // Each fault has its cause.
     ensures unread { (ask : Ask) → IsAsked (map string_bytes words.now) ask → result ≡ code_of Status.Unread
         → Rose (I.faults inputs.old) (I.faults inputs.new)
-        ⊎ IsMissing (names_of ask) (contents_of (I.files inputs.old)) }
+        ⊎ IsMissing (names_of ask) (told_contents (I.files inputs.old)) }
     ensures absent { (ask : Ask) (name : List ℕ) (names : List (List ℕ))
         → IsAsked (map string_bytes words.now) ask → names_of ask ≡ name ∷ names
-        → IsAbsent (contents_of (I.files inputs.old)) name
+        → IsAbsent (told_contents (I.files inputs.old)) name
         → (result ≡ code_of Status.Unread) ⊎ (result ≡ code_of Status.OutOfMemory) }
     ensures read { IsCodeOf result
         (λ status. InputCount status (I.faults inputs.old) (I.faults inputs.new)) }
