@@ -128,13 +128,16 @@ pub ends_behind : (contents : Option Contents) (settings : Settings) → CanWrit
 ends_behind contents settings can output name made made_now a b c file same said most names =
     let more = items_found contents settings can output names made_now in
     let are = items_join contents settings output Nothing names made_now more.0 more.1 (name ∷ []) made file.items file.done.goes_on file.are in
-    let done : AreCarriedOut (file.items ++ []) (out_of_memory ∷ []) a c = carried_on file.items [] (out_of_memory ∷ []) a b c file.done (only_said out_of_memory b c same said most) in
-    (file.items ++ more.0, are, record {
-      before = file.items;
-      after = more.0;
-      split = refl;
-      done = subst (λ (l : List Item). AreCarriedOut l (out_of_memory ∷ []) a c) (append-nil file.items) done;
-    })
+    let done : AreCarriedOut (file.items ++ []) (out_of_memory ∷ []) a c = carried_on file.items [] (out_of_memory ∷ []) a b c file.done (only_said out_of_memory b c same said most) in (
+      file.items ++ more.0,
+      are,
+      record {
+        before = file.items;
+        after = more.0;
+        split = refl;
+        done = subst (λ (l : List Item). AreCarriedOut l (out_of_memory ∷ []) a c) (append-nil file.items) done;
+      },
+    )
 
 -- the run ends in the file
 pub file_ends : (settings : Settings) → CanWrite settings → (output : Option (List ℕ)) (name : List ℕ) (made : List (List ℕ)) (start : Option Files) (k : ℕ) (source source_now : Source) (a b : Sinks) (end : PagesEnd)

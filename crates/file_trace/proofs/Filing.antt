@@ -60,9 +60,14 @@ pages_docs settings name base ending F [] more [] pages k made mid after t count
 pages_docs settings name base ending F (raw ∷ raws) more (text ∷ texts) pages k made mid after t count few same h =
     inl (
       omega (arith, few),
-      (text, docs base (base ∷ made) texts ++ after, t.0, refl,
+      (
+        text,
+        docs base (base ∷ made) texts ++ after,
+        t.0,
+        refl,
         pages_docs settings name base ending F raws more texts (suc pages) k (base ∷ made) mid after t.1 (omega (arith, count)) (omega (arith, few))
-        (same ∙ sym (made_with-in base (length raws) made)) h),
+            (same ∙ sym (made_with-in base (length raws) made)) h,
+      ),
     )
 pages_docs settings name base ending F [] more (text ∷ texts) pages k made mid after t count few same h = absurd t
 pages_docs settings name base ending F (raw ∷ raws) more [] pages k made mid after t count few same h = absurd t
@@ -188,13 +193,16 @@ module _ (contents : Option Contents) (settings : Settings) (can : CanWrite sett
       → IsSaid a.errs b.errs a.errs_faults b.errs_faults message → a.errs_faults ≤ b.errs_faults
       → (raws : List Raw) × (ending : Ending) × HoldsPages contents name raws ending × ArePageItems settings name base ending (Behind names) raws 0 made (docs base made texts ++ Stop message ∷ [])
       → EndsFile status.Refused names
-  refused names texts message documents said most items =
-      (docs base made texts ++ Stop message ∷ [], inr items, record {
-        before = docs base made texts;
-        message = message;
-        split = refl;
-        done = docs_done base made texts (message ∷ []) a b documents (one_said a.errs b.errs a.errs_faults b.errs_faults message said most);
-      })
+  refused names texts message documents said most items = (
+    docs base made texts ++ Stop message ∷ [],
+    inr items,
+    record {
+      before = docs base made texts;
+      message = message;
+      split = refl;
+      done = docs_done base made texts (message ∷ []) a b documents (one_said a.errs b.errs a.errs_faults b.errs_faults message said most);
+    },
+  )
 
   pub file_refused : (f : InFault) (names : List (List ℕ)) → Traces settings base made start now a.outs b.outs k (why.Refused f) → SaysEnd name (why.Refused f) k a.errs b.errs a.errs_faults b.errs_faults
       → a.errs_faults ≤ b.errs_faults → EndsFile status.Refused names
@@ -224,28 +232,34 @@ module _ (contents : Option Contents) (settings : Settings) (can : CanWrite sett
       let behind = page_items_found settings can name base page.ending (Behind names) (λ m. items_found contents settings can output names m) page.raws page.shows (suc k) (base ∷ mid) in
       let items = listed (Behind names) (why.Unwritten document) t (raw ∷ page.raws) page.ending (Doc (next_name base mid) text ∷ behind.0) page.pages
       (inl (few, (text, behind.0, is_text, refl, behind.1))) in
-      let same : not_written (string_bytes document) ≡ not_written (next_name base mid) = ap not_written named in
-      (docs base made t.texts ++ Doc (next_name base mid) text ∷ behind.0, inr items, record {
-        before = docs base made t.texts;
-        name = next_name base mid;
-        text = text;
-        after = behind.0;
-        split = refl;
-        goes_on = goes_on-only base made t.texts;
-        cut_off = cut;
-        messages = subst (λ ms. AreSaid a.errs b.errs a.errs_faults b.errs_faults (ms ++ not_written (next_name base mid) ∷ [])) (sym (notes-docs base made t.texts))
-            (one_said a.errs b.errs a.errs_faults b.errs_faults (not_written (next_name base mid)) (subst (λ m. IsSaid a.errs b.errs a.errs_faults b.errs_faults m) same said) most);
-      })
+      let same : not_written (string_bytes document) ≡ not_written (next_name base mid) = ap not_written named in (
+        docs base made t.texts ++ Doc (next_name base mid) text ∷ behind.0,
+        inr items,
+        record {
+          before = docs base made t.texts;
+          name = next_name base mid;
+          text = text;
+          after = behind.0;
+          split = refl;
+          goes_on = goes_on-only base made t.texts;
+          cut_off = cut;
+          messages = subst (λ ms. AreSaid a.errs b.errs a.errs_faults b.errs_faults (ms ++ not_written (next_name base mid) ∷ [])) (sym (notes-docs base made t.texts))
+              (one_said a.errs b.errs a.errs_faults b.errs_faults (not_written (next_name base mid)) (subst (λ m. IsSaid a.errs b.errs a.errs_faults b.errs_faults m) same said) most);
+        },
+      )
 
   pub file_without_memory : (names : List (List ℕ)) → Traces settings base made start now a.outs b.outs k why.OutOfMemory → SaysEnd name why.OutOfMemory k a.errs b.errs a.errs_faults b.errs_faults
       → a.errs_faults ≤ b.errs_faults → EndsFile status.OutOfMemory names
   file_without_memory names t said most =
       let left = pages_found settings (is_later false t.raws) t.rest in
       let behind = page_items_found settings can name base left.ending (Behind names) (λ m. items_found contents settings can output names m) left.raws left.shows k (made_with base k made) in
-      let items = listed (Behind names) why.OutOfMemory t left.raws left.ending behind.0 left.pages behind.1 in
-      (docs base made t.texts ++ behind.0, inr items, record {
-        before = docs base made t.texts;
-        after = behind.0;
-        split = refl;
-        done = docs_done base made t.texts (out_of_memory ∷ []) a b t.ends (one_said a.errs b.errs a.errs_faults b.errs_faults out_of_memory said most);
-      })
+      let items = listed (Behind names) why.OutOfMemory t left.raws left.ending behind.0 left.pages behind.1 in (
+        docs base made t.texts ++ behind.0,
+        inr items,
+        record {
+          before = docs base made t.texts;
+          after = behind.0;
+          split = refl;
+          done = docs_done base made t.texts (out_of_memory ∷ []) a b t.ends (one_said a.errs b.errs a.errs_faults b.errs_faults out_of_memory said most);
+        },
+      )

@@ -41,25 +41,51 @@ pub fn trace_file<I: Inputs, O: Outputs, E: Sink>(
     ensures traced { OnOk result
         (TracesFile (told_contents (I.files inputs.old)) settings (option_map (λ s. s.now) output.entry) name.now
         made.old made.new
-        (record { outs = O.documents outs.old; outs_faults = O.faults outs.old;
-        is_open = O.is_ready outs.old; errs = E.documents errs.old; errs_faults = E.faults errs.old })
-        (record { outs = O.documents outs.new; outs_faults = O.faults outs.new;
-        is_open = O.is_ready outs.new; errs = E.documents errs.new;
-        errs_faults = E.faults errs.new })) }
+        (record {
+          outs = O.documents outs.old;
+          outs_faults = O.faults outs.old;
+          is_open = O.is_ready outs.old;
+          errs = E.documents errs.old;
+          errs_faults = E.faults errs.old;
+        })
+        (record {
+          outs = O.documents outs.new;
+          outs_faults = O.faults outs.new;
+          is_open = O.is_ready outs.new;
+          errs = E.documents errs.new;
+          errs_faults = E.faults errs.new;
+        })) }
 
     // Whatever files come behind this one, the run ends so.
     ensures ends { IfErr result (λ status. (names : List (List ℕ))
         → IsOutcome status (told_contents (I.files inputs.old)) settings (option_map (λ s. s.now) output.entry)
         (name.now ∷ names) made.old
-        (record { files = I.files inputs.old; is_opened = I.is_opened inputs.old;
-        openings = I.openings inputs.old; faults = I.faults inputs.old })
-        (record { files = I.files inputs.new; is_opened = I.is_opened inputs.new;
-        openings = I.openings inputs.new; faults = I.faults inputs.new })
-        (record { outs = O.documents outs.old; outs_faults = O.faults outs.old;
-        is_open = O.is_ready outs.old; errs = E.documents errs.old; errs_faults = E.faults errs.old })
-        (record { outs = O.documents outs.new; outs_faults = O.faults outs.new;
-        is_open = O.is_ready outs.new; errs = E.documents errs.new;
-        errs_faults = E.faults errs.new })) }
+        (record {
+          files = I.files inputs.old;
+          is_opened = I.is_opened inputs.old;
+          openings = I.openings inputs.old;
+          faults = I.faults inputs.old;
+        })
+        (record {
+          files = I.files inputs.new;
+          is_opened = I.is_opened inputs.new;
+          openings = I.openings inputs.new;
+          faults = I.faults inputs.new;
+        })
+        (record {
+          outs = O.documents outs.old;
+          outs_faults = O.faults outs.old;
+          is_open = O.is_ready outs.old;
+          errs = E.documents errs.old;
+          errs_faults = E.faults errs.old;
+        })
+        (record {
+          outs = O.documents outs.new;
+          outs_faults = O.faults outs.new;
+          is_open = O.is_ready outs.new;
+          errs = E.documents errs.new;
+          errs_faults = E.faults errs.new;
+        })) }
 
     ensures input { IfErr result (λ status. InputCount status (I.faults inputs.old) (I.faults inputs.new)) }
     ensures steady_input { OnOk result (I.faults inputs.new ≡ I.faults inputs.old) }

@@ -90,7 +90,15 @@ pub fn trace_pages<I: Inputs, O: Outputs>(
     let room = MOST_PAGES - made.total();
     let mut pages = 0;
     while pages < room {
-        match trace_next(alloc, settings, base, first + pages + 1, reader, inputs, outs) {
+        match trace_next(
+            alloc,
+            settings,
+            base,
+            first + pages + 1,
+            reader,
+            inputs,
+            outs,
+        ) {
             Ok(()) => pages += 1,
             Err(end) => return Traced { pages, end },
         }

@@ -94,14 +94,15 @@ files_complete status.Unread settings can output names source now a b (inl u) w 
       (items.0, items.1, λ no_read _. absurd (no_read rose))
   by_cause (inl absent) =
       let are = missing_items (told_contents source.files) settings output u.front u.reached.back u.name u.before absent u.done.goes_on u.items in
-      let missing : EndsMissing (u.before ++ Missing u.name ∷ []) = (u.before, u.name, refl) in
-      (u.before ++ Missing u.name ∷ [],
-      subst (λ ns. AreItems (told_contents source.files) settings output Nothing ns [] (u.before ++ Missing u.name ∷ [])) (sym u.reached.listed) are,
-      λ _ _. record {
-        all = λ goes. absurd (never_missing (u.before ++ Missing u.name ∷ []) goes missing);
-        refusal = λ r. absurd (no_both (u.before ++ Missing u.name ∷ []) r missing);
-        missing = λ _. inl refl;
-      })
+      let missing : EndsMissing (u.before ++ Missing u.name ∷ []) = (u.before, u.name, refl) in (
+        u.before ++ Missing u.name ∷ [],
+        subst (λ ns. AreItems (told_contents source.files) settings output Nothing ns [] (u.before ++ Missing u.name ∷ [])) (sym u.reached.listed) are,
+        λ _ _. record {
+          all = λ goes. absurd (never_missing (u.before ++ Missing u.name ∷ []) goes missing);
+          refusal = λ r. absurd (no_both (u.before ++ Missing u.name ∷ []) r missing);
+          missing = λ _. inl refl;
+        },
+      )
 
 -- one text is written, or not
 text_complete : (s : Status) (text : List ℕ) (written written_now : ℕ) (ready : Bool) (a b : Sinks) → HasEnded s (Doc dash text ∷ []) a b → OutputCount s written written_now ready
