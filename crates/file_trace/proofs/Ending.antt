@@ -1,5 +1,5 @@
 -- How a run ends in a file.
-use Rattle.std.proofs.Common.{◌≡◌, ◌≢◌, ◌≤◌, ◌⊎◌, ℕ, suc, ◌+◌, min, false, List, [], ◌∷◌, ◌++◌, length, Option, None, Some, IfSome, option_map, inl, inr, refl, sym, ◌∙◌, ap, subst, append-nil, arith}
+use Rattle.std.proofs.Common.{◌≡◌, ◌≢◌, ◌≤◌, ◌⊎◌, ℕ, ◌+◌, false, List, [], ◌∷◌, ◌++◌, length, Option, None, Some, IfSome, option_map, inr, refl, sym, ◌∙◌, ap, subst, append-nil, arith}
 use Rattle.std.specs.FinMap.{get}
 use Rattle.pt_base.specs.Counts.{Rose, next_count}
 use Rattle.pt_base.specs.Documents.{IsSaid}
@@ -12,10 +12,9 @@ use Rattle.file_trace.specs.Messages.{not_opened, out_of_memory, page_line, read
 use Rattle.file_trace.specs.Names.{base_name, made_with}
 use Rattle.file_trace.specs.Items.{AreItems, ArePageItems, IsAbsent, Item, Nothing, told_contents}
 use Rattle.file_trace.specs.Outcome.{AreCarriedOut, HasEnded, HoldsBytes, IsOutcome, OpensUpTo, IsUnopened, IsUnread, Sinks, Source}
-use Rattle.file_trace.specs.Progress.{EndsWith, HasUnread, SaysEnd, Traces, TracesFile, docs, opened_name, status_of}
+use Rattle.file_trace.specs.Progress.{SaysEnd, Traces, TracesFile, docs, opened_name, status_of}
 use Rattle.file_trace.specs.declared.pages.PagesEnd.{PagesEnd}
 use Rattle.file_trace.specs.declared.pages.PagesEnd.TheVariants as why
-use Rattle.file_trace.specs.declared.status.Status.{Status}
 use Rattle.file_trace.specs.declared.status.Status.TheVariants as status
 use Rattle.file_trace.proofs.Carrying.{carried_on, one_said, only_said}
 use Rattle.file_trace.proofs.Exists.{items_found}

@@ -1,37 +1,34 @@
 -- What the end of a file's pages means for the run.
-use Rattle.std.proofs.Common.{◌≡◌, ◌≢◌, ◌≤◌, ◌<◌, ◌⊎◌, ℕ, zero, suc, ◌+◌, min, Bool, true, false, List, [], ◌∷◌, ◌++◌, length, drop, Option, None, Some, IfSome, option_map, inl, inr, refl, sym, ◌∙◌, ap, subst, append-nil, arith}
+use Rattle.std.proofs.Common.{◌≡◌, ◌≤◌, ◌<◌, ℕ, suc, ◌+◌, Bool, true, false, List, [], ◌∷◌, ◌++◌, length, drop, Option, None, Some, IfSome, option_map, inl, inr, refl, sym, ◌∙◌, ap, subst, append-nil, arith}
 use Rattle.std.specs.FinMap.{get}
 use Rattle.std.specs.Prelude.{string_bytes}
-use Rattle.std.proofs.lemmas.List.Elements.{All-nil, All-cons}
-use Rattle.pt_base.specs.Counts.{Rose, last_count, next_count}
-use Rattle.pt_base.specs.Documents.{Documents, IsCutOff, IsSaid}
-use Rattle.pt_base.specs.Files.{Contents, Files, Lacks, Opened, unread, unread_of, with_file}
+use Rattle.pt_base.specs.Documents.{IsSaid}
+use Rattle.pt_base.specs.Files.{Contents, Files, Lacks, unread, unread_of, with_file}
 use Rattle.pt_base.specs.declared.settings.Settings.{Settings}
 use Rattle.bitmap_input.specs.Cut.{Ending, Kind}
 use Rattle.bitmap_input.specs.Cut.Ending.{End, Trailing, Refused}
 use Rattle.bitmap_input.specs.FaultText.{cause_text, fault_text, kind_text}
 use Rattle.bitmap_input.specs.Reading.{cause_of_fault}
 use Rattle.bitmap_input.specs.Reading.Cause.{Says}
-use Rattle.bitmap_input.specs.Raw.{Raw, shown}
+use Rattle.bitmap_input.specs.Raw.{Raw}
 use Rattle.bitmap_input.specs.Front.{front}
 use Rattle.bitmap_input.specs.Front.Answer.{Page as Gives, Ends}
 use Rattle.bitmap_input.specs.FilePages.{FilePages, next_begins}
 use Rattle.bitmap_input.specs.FilePages.FilePages.{Ended, Next}
 use Rattle.bitmap_input.specs.declared.fault.InFault.{InFault}
-use Rattle.page_trace.specs.Document.{CanWrite, IsDocument}
-use Rattle.file_trace.specs.Messages.{not_opened, not_written, out_of_memory, page_line, read_fault, trailing_line}
+use Rattle.page_trace.specs.Document.{CanWrite}
+use Rattle.file_trace.specs.Messages.{not_written, out_of_memory, page_line, trailing_line}
 use Rattle.file_trace.specs.Names.{base_name, made_with, next_name}
 use Rattle.file_trace.specs.Items.{AreItems, ArePageItems, HoldsPages, Item, Nothing, Rest, told_contents, most_pages, too_many}
-use Rattle.file_trace.specs.Items.Item.{Doc, Missing, Note, Stop}
-use Rattle.file_trace.specs.Outcome.{AreCarriedOut, AreSaid, GoesOn, HasEnded, HoldsBytes, IsOutcome, IsUnread, Sinks, Source, is_later, notes, with_items}
-use Rattle.file_trace.specs.Progress.{AreTraced, BeginsWith, EndsBy, EndsWith, HasUnread, SaysEnd, Traces, TracesFile, docs, opened_name, status_of}
+use Rattle.file_trace.specs.Items.Item.{Doc, Note, Stop}
+use Rattle.file_trace.specs.Outcome.{AreCarriedOut, AreSaid, GoesOn, HasEnded, Sinks, is_later, notes, with_items}
+use Rattle.file_trace.specs.Progress.{AreTraced, BeginsWith, EndsWith, SaysEnd, Traces, TracesFile, docs, status_of}
 use Rattle.file_trace.specs.declared.pages.PagesEnd.{PagesEnd}
 use Rattle.file_trace.specs.declared.pages.PagesEnd.TheVariants as why
 use Rattle.file_trace.specs.declared.status.Status.{Status}
 use Rattle.file_trace.specs.declared.status.Status.TheVariants as status
-use Rattle.file_trace.proofs.Carrying.{carried_on, none_said, nothing_done, one_said, only_said}
-use Rattle.file_trace.proofs.Exists.{AreShown, HasPages, items_found, page_items_found, pages_found}
-use Rattle.file_trace.proofs.Joining.{items_join}
+use Rattle.file_trace.proofs.Carrying.{carried_on, none_said, one_said}
+use Rattle.file_trace.proofs.Exists.{AreShown, items_found, page_items_found, pages_found}
 use Rattle.file_trace.proofs.Naming.{length-made_with, made_with-in}
 use Rattle.file_trace.proofs.Paging.{pages_on}
 

@@ -2,7 +2,7 @@
 use Rattle.std.proofs.Common.{◌≡◌, ◌≤◌, ℕ, ◌+◌, ◌-◌, Bool, true, false, List, ◌++◌, length, take, drop, Option, None, Some, IfSome, option_map, refl, sym, ◌∙◌, ap, subst, append_assoc, arith}
 use Rattle.std.specs.FinMap.{get}
 use Rattle.std.proofs.lemmas.List.{drop-append-le, drop-drop, take-append-drop}
-use Rattle.pt_base.specs.Files.{Contents, Files, Lacks, Opened, taken_of, unread, unread_of, with_file, with_no_file, with_read}
+use Rattle.pt_base.specs.Files.{Files, Opened, taken_of, unread, unread_of, with_file, with_no_file, with_read}
 use Rattle.bit_image.specs.Page.{Page as Pixels}
 use Rattle.bitmap_input.specs.declared.fault.InFault.{InFault}
 use Rattle.bitmap_input.specs.declared.fault.InFault.TheVariants as fault
@@ -13,7 +13,7 @@ use Rattle.bitmap_input.specs.Cut.Ending.{Refused}
 use Rattle.bitmap_input.specs.Front.{front, page_at}
 use Rattle.bitmap_input.specs.Front.Answer.{Page, Ends}
 use Rattle.bitmap_input.specs.FilePages.{next_begins}
-use Rattle.bitmap_input.specs.Raw.{Raw, shown}
+use Rattle.bitmap_input.specs.Raw.{Raw}
 use Rattle.bitmap_input.specs.Reading.{cause_of_fault}
 use Rattle.bitmap_input.specs.Reader.{Reader, ahead as reader_ahead, is_later, GivesEnding, GivesPage, IfSays, MemoryFails, ReadFails, TellsPage}
 use Rattle.bitmap_input.proofs.Appending.{with_more}

@@ -1,5 +1,5 @@
 -- What a run over files is to write, in order: it follows from the words and from what the files hold.
-use Rattle.std.specs.Prelude.{◌≡◌, ℕ, suc, ◌+◌, ◌<◌, ◌≤◌, ◌⊎◌, false, List, [], ◌∷◌, length, codes, Option, None, Some, option_map}
+use Rattle.std.specs.Prelude.{◌≡◌, ℕ, suc, ◌+◌, ◌<◌, ◌≤◌, ◌⊎◌, false, List, [], ◌∷◌, length, codes, Option, None, Some}
 use Rattle.std.specs.FinMap.{get}
 use Rattle.pt_base.specs.Files.{Contents, Files}
 use Rattle.bitmap_input.specs.Cut.{Ending}

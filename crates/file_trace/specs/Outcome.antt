@@ -14,7 +14,7 @@ use Rattle.bitmap_input.specs.Front.Answer.{Page}
 use Rattle.bitmap_input.specs.FilePages.{next_begins}
 use Rattle.file_trace.specs.Names.{base_name}
 use Rattle.file_trace.specs.Messages.{not_opened, not_written, out_of_memory, page_line, read_fault}
-use Rattle.file_trace.specs.Items.{Item, AreItems, ArePageItems, IsAbsent, Nothing, told_contents}
+use Rattle.file_trace.specs.Items.{Item, AreItems, ArePageItems, IsAbsent, Nothing}
 use Rattle.file_trace.specs.Items.Item.{Doc, Note, Stop, Missing}
 use Rattle.file_trace.specs.declared.status.Status.{Status}
 use Rattle.file_trace.specs.declared.status.Status.TheVariants as status

@@ -8,7 +8,7 @@ use Rattle.file_trace.specs.Outcome.{Sinks}
 use Rattle.file_trace.specs.Progress.{Traces}
 use Rattle.file_trace.proofs.Ending.{ends_at_once, ends_behind, file_ends, file_unopened, lacks_absent}
 use Rattle.file_trace.proofs.Filing.{file_goes_on, has_bytes}
-use Rattle.file_trace.proofs.Reading.{name-with_file, no_name}
+use Rattle.file_trace.proofs.Reading.{name-with_file}
 use Rattle.file_trace.proofs.file.trace_file.Goals as goal
 
 -- the file can't be opened
