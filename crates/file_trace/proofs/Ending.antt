@@ -1,5 +1,5 @@
 -- How a run ends in a file.
-use Rattle.std.proofs.Common.{◌≡◌, ◌≢◌, ◌≤◌, ◌⊎◌, ℕ, suc, ◌+◌, min, false, List, [], ◌∷◌, ◌++◌, length, Option, None, Some, IfSome, option_map, inl, inr, refl, sym, ◌∙◌, ap, subst, append-nil, arith}
+use Rattle.std.proofs.Common.{◌≡◌, ◌≢◌, ◌≤◌, ◌⊎◌, ℕ, ◌+◌, false, List, [], ◌∷◌, ◌++◌, length, Option, None, Some, IfSome, option_map, inr, refl, sym, ◌∙◌, ap, subst, append-nil, arith}
 use Rattle.std.specs.FinMap.{get}
 use Rattle.pt_base.specs.Counts.{Rose, next_count}
 use Rattle.pt_base.specs.Documents.{IsSaid}
@@ -10,12 +10,11 @@ use Rattle.bitmap_input.specs.Raw.{Raw}
 use Rattle.page_trace.specs.Document.{CanWrite}
 use Rattle.file_trace.specs.Messages.{not_opened, out_of_memory, page_line, read_fault}
 use Rattle.file_trace.specs.Names.{base_name, made_with}
-use Rattle.file_trace.specs.Items.{AreItems, ArePageItems, IsAbsent, Item, Nothing, contents_of}
-use Rattle.file_trace.specs.Outcome.{AreCarriedOut, HasEnded, HoldsBytes, IsOutcome, IsReached, IsUnopened, IsUnread, Sinks, Source}
-use Rattle.file_trace.specs.Progress.{EndsWith, HasUnread, SaysEnd, Traces, TracesFile, docs, opened_name, status_of}
+use Rattle.file_trace.specs.Items.{AreItems, ArePageItems, IsAbsent, Item, Nothing, told_contents}
+use Rattle.file_trace.specs.Outcome.{AreCarriedOut, HasEnded, HoldsBytes, IsOutcome, OpensUpTo, IsUnopened, IsUnread, Sinks, Source}
+use Rattle.file_trace.specs.Progress.{SaysEnd, Traces, TracesFile, docs, opened_name, status_of}
 use Rattle.file_trace.specs.declared.pages.PagesEnd.{PagesEnd}
 use Rattle.file_trace.specs.declared.pages.PagesEnd.TheVariants as why
-use Rattle.file_trace.specs.declared.status.Status.{Status}
 use Rattle.file_trace.specs.declared.status.Status.TheVariants as status
 use Rattle.file_trace.proofs.Carrying.{carried_on, one_said, only_said}
 use Rattle.file_trace.proofs.Exists.{items_found}
@@ -23,13 +22,13 @@ use Rattle.file_trace.proofs.Filing.{docs_done, file_full, file_refused, file_un
 use Rattle.file_trace.proofs.Joining.{items_join}
 
 -- the first file was asked for
-at_first : (name : List ℕ) (names : List (List ℕ)) (openings openings_now : ℕ) → openings_now ≡ next_count openings → IsReached (name ∷ names) name [] openings openings_now
+at_first : (name : List ℕ) (names : List (List ℕ)) (openings openings_now : ℕ) → openings_now ≡ next_count openings → OpensUpTo (name ∷ names) name [] openings openings_now
 at_first name names openings openings_now one = record { back = names; listed = refl; grew = one }
 
 pub file_unopened : (settings : Settings) (output : Option (List ℕ)) (name : List ℕ) (made : List (List ℕ)) (source source_now : Source) (a b : Sinks)
-    → source_now.openings ≡ next_count source.openings → source_now.is_opened ≡ false → IsAbsent (contents_of source.files) name ⊎ Rose source.faults source_now.faults
+    → source_now.openings ≡ next_count source.openings → source_now.is_opened ≡ false → IsAbsent (told_contents source.files) name ⊎ Rose source.faults source_now.faults
     → b.outs ≡ a.outs → IsSaid a.errs b.errs a.errs_faults b.errs_faults (not_opened name) → a.errs_faults ≤ b.errs_faults → (names : List (List ℕ))
-    → IsUnopened (contents_of source.files) settings output (name ∷ names) made source source_now a b
+    → IsUnopened (told_contents source.files) settings output (name ∷ names) made source source_now a b
 file_unopened settings output name made source source_now a b one closed cause same said most names = record {
   name = name;
   front = [];
@@ -56,16 +55,16 @@ name-opened files name bytes is = ap (λ o. option_map (λ (f : Opened). f.name)
 record HasLeft (told now : Option Files) (name taken : List ℕ) : Type 0 where
   rest : List ℕ
   opened : IfSome now (λ files. files.opened ≡ Some (record { name = name; rest = rest }))
-  bytes : HoldsBytes (contents_of told) name taken rest
+  bytes : HoldsBytes (told_contents told) name taken rest
 
 left_of : (told start now : Option Files) (name taken : List ℕ) → start ≡ with_file told name → (Lacks told name → ⊥)
-    → contents_of now ≡ contents_of start → opened_name now ≡ opened_name start
+    → told_contents now ≡ told_contents start → opened_name now ≡ opened_name start
     → IfSome (unread start) (λ bytes. (rest : List ℕ) × (bytes ≡ taken ++ rest) × (unread now ≡ Some rest)) → HasLeft told now name taken
 left_of None start None name taken opened there contents named told = record { rest = []; opened = tt; bytes = tt }
 left_of None start (Some files) name taken opened there contents named told =
-    absurd (let e : Some files.contents ≡ None = contents ∙ ap contents_of opened in cc)
+    absurd (let e : Some files.contents ≡ None = contents ∙ ap told_contents opened in cc)
 left_of (Some files) start None name taken opened there contents named told =
-    absurd (let e : None ≡ Some files.contents = contents ∙ ap contents_of opened in cc)
+    absurd (let e : None ≡ Some files.contents = contents ∙ ap told_contents opened in cc)
 left_of (Some files) start (Some now) name taken opened there contents named told =
     let (bytes, held, is) = has_bytes (Some files) start name opened there in
     let (rest, split, left) = subst (λ (o : Option (List ℕ)). IfSome o (λ bs. (rest : List ℕ) × (bs ≡ taken ++ rest) × (option_map unread_of now.opened ≡ Some rest))) is told in
@@ -77,10 +76,10 @@ left_of (Some files) start (Some now) name taken opened there contents named tol
 
 pub file_unread : (settings : Settings) (output : Option (List ℕ)) (name : List ℕ) (made : List (List ℕ)) (start : Option Files) (k : ℕ) (source source_now : Source) (a b : Sinks)
     → start ≡ with_file source.files name → (Lacks source.files name → ⊥) → source_now.openings ≡ next_count source.openings
-    → contents_of source_now.files ≡ contents_of start → opened_name source_now.files ≡ opened_name start → Rose source.faults source_now.faults
+    → told_contents source_now.files ≡ told_contents start → opened_name source_now.files ≡ opened_name start → Rose source.faults source_now.faults
     → Traces settings (base_name output settings.backend name) made start source_now.files a.outs b.outs k why.Unread
     → SaysEnd name why.Unread k a.errs b.errs a.errs_faults b.errs_faults → a.errs_faults ≤ b.errs_faults → (names : List (List ℕ))
-    → IsUnread (contents_of source.files) settings output (name ∷ names) made source source_now a b
+    → IsUnread (told_contents source.files) settings output (name ∷ names) made source source_now a b
 file_unread settings output name made start k source source_now a b opened there one contents named rose t said most names =
     let base = base_name output settings.backend name in
     let u = t.unread refl in
@@ -108,7 +107,7 @@ file_unread settings output name made start k source source_now a b opened there
     }
 
 -- what isn't there is absent
-pub lacks_absent : (told : Option Files) (name : List ℕ) → Lacks told name → IsAbsent (contents_of told) name
+pub lacks_absent : (told : Option Files) (name : List ℕ) → Lacks told name → IsAbsent (told_contents told) name
 lacks_absent None name lacking = lacking
 lacks_absent (Some files) name lacking = lacking
 
@@ -128,32 +127,35 @@ pub ends_behind : (contents : Option Contents) (settings : Settings) → CanWrit
 ends_behind contents settings can output name made made_now a b c file same said most names =
     let more = items_found contents settings can output names made_now in
     let are = items_join contents settings output Nothing names made_now more.0 more.1 (name ∷ []) made file.items file.done.goes_on file.are in
-    let done : AreCarriedOut (file.items ++ []) (out_of_memory ∷ []) a c = carried_on file.items [] (out_of_memory ∷ []) a b c file.done (only_said out_of_memory b c same said most) in
-    (file.items ++ more.0, are, record {
-      before = file.items;
-      after = more.0;
-      split = refl;
-      done = subst (λ (l : List Item). AreCarriedOut l (out_of_memory ∷ []) a c) (append-nil file.items) done;
-    })
+    let done : AreCarriedOut (file.items ++ []) (out_of_memory ∷ []) a c = carried_on file.items [] (out_of_memory ∷ []) a b c file.done (only_said out_of_memory b c same said most) in (
+      file.items ++ more.0,
+      are,
+      record {
+        before = file.items;
+        after = more.0;
+        split = refl;
+        done = subst (λ (l : List Item). AreCarriedOut l (out_of_memory ∷ []) a c) (append-nil file.items) done;
+      },
+    )
 
 -- the run ends in the file
 pub file_ends : (settings : Settings) → CanWrite settings → (output : Option (List ℕ)) (name : List ℕ) (made : List (List ℕ)) (start : Option Files) (k : ℕ) (source source_now : Source) (a b : Sinks) (end : PagesEnd)
     → start ≡ with_file source.files name → (Lacks source.files name → ⊥) → source_now.openings ≡ next_count source.openings
-    → contents_of source_now.files ≡ contents_of start → opened_name source_now.files ≡ opened_name start → (end ≡ why.Unread → Rose source.faults source_now.faults)
+    → told_contents source_now.files ≡ told_contents start → opened_name source_now.files ≡ opened_name start → (end ≡ why.Unread → Rose source.faults source_now.faults)
     → Traces settings (base_name output settings.backend name) made start source_now.files a.outs b.outs k end
     → SaysEnd name end k a.errs b.errs a.errs_faults b.errs_faults → a.errs_faults ≤ b.errs_faults → status_of end ≢ status.Done → (names : List (List ℕ))
-    → IsOutcome (status_of end) (contents_of source.files) settings output (name ∷ names) made source source_now a b
+    → IsOutcome (status_of end) (told_contents source.files) settings output (name ∷ names) made source source_now a b
 file_ends settings can output name made start k source source_now a b end opened there one contents named rose t said most ends names = by_end end rose t said ends where
-  has : HasBytes (contents_of source.files) name (unread start)
+  has : HasBytes (told_contents source.files) name (unread start)
   has = has_bytes source.files start name opened there
 
   by_end : (e : PagesEnd) → (e ≡ why.Unread → Rose source.faults source_now.faults) → Traces settings (base_name output settings.backend name) made start source_now.files a.outs b.outs k e
       → SaysEnd name e k a.errs b.errs a.errs_faults b.errs_faults → status_of e ≢ status.Done
-      → IsOutcome (status_of e) (contents_of source.files) settings output (name ∷ names) made source source_now a b
+      → IsOutcome (status_of e) (told_contents source.files) settings output (name ∷ names) made source source_now a b
   by_end why.End rose t said ends = absurd (ends refl)
   by_end why.Trailing rose t said ends = absurd (ends refl)
-  by_end (why.Refused f) rose t said ends = file_refused (contents_of source.files) settings can output name made start source_now.files k a b has f names t said most
-  by_end why.TooMany rose t said ends = file_full (contents_of source.files) settings can output name made start source_now.files k a b has names t said most
+  by_end (why.Refused f) rose t said ends = file_refused (told_contents source.files) settings can output name made start source_now.files k a b has f names t said most
+  by_end why.TooMany rose t said ends = file_full (told_contents source.files) settings can output name made start source_now.files k a b has names t said most
   by_end why.Unread rose t said ends = inr (file_unread settings output name made start k source source_now a b opened there one contents named (rose refl) t said most names)
-  by_end (why.Unwritten document) rose t said ends = file_unwritten (contents_of source.files) settings can output name made start source_now.files k a b has document names t said most
-  by_end why.OutOfMemory rose t said ends = file_without_memory (contents_of source.files) settings can output name made start source_now.files k a b has names t said most
+  by_end (why.Unwritten document) rose t said ends = file_unwritten (told_contents source.files) settings can output name made start source_now.files k a b has document names t said most
+  by_end why.OutOfMemory rose t said ends = file_without_memory (told_contents source.files) settings can output name made start source_now.files k a b has names t said most

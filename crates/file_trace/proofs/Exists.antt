@@ -15,7 +15,7 @@ use Rattle.bitmap_input.proofs.Files.{file_pages_some}
 use Rattle.bitmap_input.proofs.Sided.{pages_shown}
 use Rattle.page_trace.specs.Document.{CanWrite}
 use Rattle.page_trace.proofs.Exists.{document_found}
-use Rattle.file_trace.specs.Items.{AreEndItems, AreItems, ArePageItems, HoldsPages, Item, Nothing, Rest, most_pages, too_many}
+use Rattle.file_trace.specs.Items.{AreEndItems, AreItems, ArePageItems, Item, Nothing, Rest, most_pages, too_many}
 use Rattle.file_trace.specs.Items.Item.{Doc, Missing, Note, Stop}
 use Rattle.file_trace.specs.Messages.{page_line, trailing_line}
 use Rattle.file_trace.specs.Names.{base_name, next_name}

@@ -1,37 +1,34 @@
 -- What the end of a file's pages means for the run.
-use Rattle.std.proofs.Common.{◌≡◌, ◌≢◌, ◌≤◌, ◌<◌, ◌⊎◌, ℕ, zero, suc, ◌+◌, min, Bool, true, false, List, [], ◌∷◌, ◌++◌, length, drop, Option, None, Some, IfSome, option_map, inl, inr, refl, sym, ◌∙◌, ap, subst, append-nil, arith}
+use Rattle.std.proofs.Common.{◌≡◌, ◌≤◌, ◌<◌, ℕ, suc, ◌+◌, Bool, true, false, List, [], ◌∷◌, ◌++◌, length, drop, Option, None, Some, IfSome, option_map, inl, inr, refl, sym, ◌∙◌, ap, subst, append-nil, arith}
 use Rattle.std.specs.FinMap.{get}
 use Rattle.std.specs.Prelude.{string_bytes}
-use Rattle.std.proofs.lemmas.List.Elements.{All-nil, All-cons}
-use Rattle.pt_base.specs.Counts.{Rose, last_count, next_count}
-use Rattle.pt_base.specs.Documents.{Documents, IsCutOff, IsSaid}
-use Rattle.pt_base.specs.Files.{Contents, Files, Lacks, Opened, unread, unread_of, with_file}
+use Rattle.pt_base.specs.Documents.{IsSaid}
+use Rattle.pt_base.specs.Files.{Contents, Files, Lacks, unread, unread_of, with_file}
 use Rattle.pt_base.specs.declared.settings.Settings.{Settings}
 use Rattle.bitmap_input.specs.Cut.{Ending, Kind}
 use Rattle.bitmap_input.specs.Cut.Ending.{End, Trailing, Refused}
 use Rattle.bitmap_input.specs.FaultText.{cause_text, fault_text, kind_text}
 use Rattle.bitmap_input.specs.Reading.{cause_of_fault}
 use Rattle.bitmap_input.specs.Reading.Cause.{Says}
-use Rattle.bitmap_input.specs.Raw.{Raw, shown}
+use Rattle.bitmap_input.specs.Raw.{Raw}
 use Rattle.bitmap_input.specs.Front.{front}
 use Rattle.bitmap_input.specs.Front.Answer.{Page as Gives, Ends}
 use Rattle.bitmap_input.specs.FilePages.{FilePages, next_begins}
 use Rattle.bitmap_input.specs.FilePages.FilePages.{Ended, Next}
 use Rattle.bitmap_input.specs.declared.fault.InFault.{InFault}
-use Rattle.page_trace.specs.Document.{CanWrite, IsDocument}
-use Rattle.file_trace.specs.Messages.{not_opened, not_written, out_of_memory, page_line, read_fault, trailing_line}
+use Rattle.page_trace.specs.Document.{CanWrite}
+use Rattle.file_trace.specs.Messages.{not_written, out_of_memory, page_line, trailing_line}
 use Rattle.file_trace.specs.Names.{base_name, made_with, next_name}
-use Rattle.file_trace.specs.Items.{AreItems, ArePageItems, HoldsPages, Item, Nothing, Rest, contents_of, most_pages, too_many}
-use Rattle.file_trace.specs.Items.Item.{Doc, Missing, Note, Stop}
-use Rattle.file_trace.specs.Outcome.{AreCarriedOut, AreSaid, GoesOn, HasEnded, HoldsBytes, IsOutcome, IsUnread, Sinks, Source, is_later, notes, with_items}
-use Rattle.file_trace.specs.Progress.{AreTraced, BeginsWith, EndsBy, EndsWith, HasUnread, SaysEnd, Traces, TracesFile, docs, opened_name, status_of}
+use Rattle.file_trace.specs.Items.{AreItems, ArePageItems, HoldsPages, Item, Nothing, Rest, told_contents, most_pages, too_many}
+use Rattle.file_trace.specs.Items.Item.{Doc, Note, Stop}
+use Rattle.file_trace.specs.Outcome.{AreCarriedOut, AreSaid, GoesOn, HasEnded, Sinks, is_later, notes, with_items}
+use Rattle.file_trace.specs.Progress.{AreTraced, BeginsWith, EndsWith, SaysEnd, Traces, TracesFile, docs, status_of}
 use Rattle.file_trace.specs.declared.pages.PagesEnd.{PagesEnd}
 use Rattle.file_trace.specs.declared.pages.PagesEnd.TheVariants as why
 use Rattle.file_trace.specs.declared.status.Status.{Status}
 use Rattle.file_trace.specs.declared.status.Status.TheVariants as status
-use Rattle.file_trace.proofs.Carrying.{carried_on, none_said, nothing_done, one_said, only_said}
-use Rattle.file_trace.proofs.Exists.{AreShown, HasPages, items_found, page_items_found, pages_found}
-use Rattle.file_trace.proofs.Joining.{items_join}
+use Rattle.file_trace.proofs.Carrying.{carried_on, none_said, one_said}
+use Rattle.file_trace.proofs.Exists.{AreShown, items_found, page_items_found, pages_found}
 use Rattle.file_trace.proofs.Naming.{length-made_with, made_with-in}
 use Rattle.file_trace.proofs.Paging.{pages_on}
 
@@ -60,9 +57,14 @@ pages_docs settings name base ending F [] more [] pages k made mid after t count
 pages_docs settings name base ending F (raw ∷ raws) more (text ∷ texts) pages k made mid after t count few same h =
     inl (
       omega (arith, few),
-      (text, docs base (base ∷ made) texts ++ after, t.0, refl,
+      (
+        text,
+        docs base (base ∷ made) texts ++ after,
+        t.0,
+        refl,
         pages_docs settings name base ending F raws more texts (suc pages) k (base ∷ made) mid after t.1 (omega (arith, count)) (omega (arith, few))
-        (same ∙ sym (made_with-in base (length raws) made)) h),
+            (same ∙ sym (made_with-in base (length raws) made)) h,
+      ),
     )
 pages_docs settings name base ending F [] more (text ∷ texts) pages k made mid after t count few same h = absurd t
 pages_docs settings name base ending F (raw ∷ raws) more [] pages k made mid after t count few same h = absurd t
@@ -82,7 +84,7 @@ opened_bytes contents name (Some bytes) is there = (bytes, is)
 unread-opened : (files : Files) (name bytes : List ℕ) → get files.contents name ≡ Some bytes → unread (with_file (Some files) name) ≡ Some bytes
 unread-opened files name bytes is = ap (λ o. option_map unread_of (option_map (λ (b : List ℕ). record { name = name; rest = b }) o)) is
 
-pub has_bytes : (told now : Option Files) (name : List ℕ) → now ≡ with_file told name → (Lacks told name → ⊥) → HasBytes (contents_of told) name (unread now)
+pub has_bytes : (told now : Option Files) (name : List ℕ) → now ≡ with_file told name → (Lacks told name → ⊥) → HasBytes (told_contents told) name (unread now)
 has_bytes None now name opened there = tt
 has_bytes (Some files) now name opened there =
     let (bytes, is) = opened_bytes files.contents name (get files.contents name) refl there in
@@ -188,13 +190,16 @@ module _ (contents : Option Contents) (settings : Settings) (can : CanWrite sett
       → IsSaid a.errs b.errs a.errs_faults b.errs_faults message → a.errs_faults ≤ b.errs_faults
       → (raws : List Raw) × (ending : Ending) × HoldsPages contents name raws ending × ArePageItems settings name base ending (Behind names) raws 0 made (docs base made texts ++ Stop message ∷ [])
       → EndsFile status.Refused names
-  refused names texts message documents said most items =
-      (docs base made texts ++ Stop message ∷ [], inr items, record {
-        before = docs base made texts;
-        message = message;
-        split = refl;
-        done = docs_done base made texts (message ∷ []) a b documents (one_said a.errs b.errs a.errs_faults b.errs_faults message said most);
-      })
+  refused names texts message documents said most items = (
+    docs base made texts ++ Stop message ∷ [],
+    inr items,
+    record {
+      before = docs base made texts;
+      message = message;
+      split = refl;
+      done = docs_done base made texts (message ∷ []) a b documents (one_said a.errs b.errs a.errs_faults b.errs_faults message said most);
+    },
+  )
 
   pub file_refused : (f : InFault) (names : List (List ℕ)) → Traces settings base made start now a.outs b.outs k (why.Refused f) → SaysEnd name (why.Refused f) k a.errs b.errs a.errs_faults b.errs_faults
       → a.errs_faults ≤ b.errs_faults → EndsFile status.Refused names
@@ -224,28 +229,34 @@ module _ (contents : Option Contents) (settings : Settings) (can : CanWrite sett
       let behind = page_items_found settings can name base page.ending (Behind names) (λ m. items_found contents settings can output names m) page.raws page.shows (suc k) (base ∷ mid) in
       let items = listed (Behind names) (why.Unwritten document) t (raw ∷ page.raws) page.ending (Doc (next_name base mid) text ∷ behind.0) page.pages
       (inl (few, (text, behind.0, is_text, refl, behind.1))) in
-      let same : not_written (string_bytes document) ≡ not_written (next_name base mid) = ap not_written named in
-      (docs base made t.texts ++ Doc (next_name base mid) text ∷ behind.0, inr items, record {
-        before = docs base made t.texts;
-        name = next_name base mid;
-        text = text;
-        after = behind.0;
-        split = refl;
-        goes_on = goes_on-only base made t.texts;
-        cut_off = cut;
-        messages = subst (λ ms. AreSaid a.errs b.errs a.errs_faults b.errs_faults (ms ++ not_written (next_name base mid) ∷ [])) (sym (notes-docs base made t.texts))
-            (one_said a.errs b.errs a.errs_faults b.errs_faults (not_written (next_name base mid)) (subst (λ m. IsSaid a.errs b.errs a.errs_faults b.errs_faults m) same said) most);
-      })
+      let same : not_written (string_bytes document) ≡ not_written (next_name base mid) = ap not_written named in (
+        docs base made t.texts ++ Doc (next_name base mid) text ∷ behind.0,
+        inr items,
+        record {
+          before = docs base made t.texts;
+          name = next_name base mid;
+          text = text;
+          after = behind.0;
+          split = refl;
+          goes_on = goes_on-only base made t.texts;
+          cut_off = cut;
+          messages = subst (λ ms. AreSaid a.errs b.errs a.errs_faults b.errs_faults (ms ++ not_written (next_name base mid) ∷ [])) (sym (notes-docs base made t.texts))
+              (one_said a.errs b.errs a.errs_faults b.errs_faults (not_written (next_name base mid)) (subst (λ m. IsSaid a.errs b.errs a.errs_faults b.errs_faults m) same said) most);
+        },
+      )
 
   pub file_without_memory : (names : List (List ℕ)) → Traces settings base made start now a.outs b.outs k why.OutOfMemory → SaysEnd name why.OutOfMemory k a.errs b.errs a.errs_faults b.errs_faults
       → a.errs_faults ≤ b.errs_faults → EndsFile status.OutOfMemory names
   file_without_memory names t said most =
       let left = pages_found settings (is_later false t.raws) t.rest in
       let behind = page_items_found settings can name base left.ending (Behind names) (λ m. items_found contents settings can output names m) left.raws left.shows k (made_with base k made) in
-      let items = listed (Behind names) why.OutOfMemory t left.raws left.ending behind.0 left.pages behind.1 in
-      (docs base made t.texts ++ behind.0, inr items, record {
-        before = docs base made t.texts;
-        after = behind.0;
-        split = refl;
-        done = docs_done base made t.texts (out_of_memory ∷ []) a b t.ends (one_said a.errs b.errs a.errs_faults b.errs_faults out_of_memory said most);
-      })
+      let items = listed (Behind names) why.OutOfMemory t left.raws left.ending behind.0 left.pages behind.1 in (
+        docs base made t.texts ++ behind.0,
+        inr items,
+        record {
+          before = docs base made t.texts;
+          after = behind.0;
+          split = refl;
+          done = docs_done base made t.texts (out_of_memory ∷ []) a b t.ends (one_said a.errs b.errs a.errs_faults b.errs_faults out_of_memory said most);
+        },
+      )

@@ -1,5 +1,5 @@
 -- The items of files, and then those of the files behind them.
-use Rattle.std.proofs.Common.{◌≡◌, ◌≤◌, ℕ, suc, ◌+◌, ◌⊎◌, min, List, [], ◌∷◌, ◌++◌, length, Option, inl, inr, refl, sym, ◌∙◌, ap, subst, append_assoc, length-append, arith}
+use Rattle.std.proofs.Common.{◌≡◌, ℕ, suc, ◌+◌, ◌⊎◌, min, List, [], ◌∷◌, ◌++◌, length, Option, inl, inr, sym, ◌∙◌, ap, subst, append_assoc, length-append, arith}
 use Rattle.pt_base.specs.Counts.{Rose, last_count}
 use Rattle.pt_base.specs.Files.{Contents}
 use Rattle.pt_base.specs.declared.settings.Settings.{Settings}

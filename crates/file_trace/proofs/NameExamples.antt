@@ -1,5 +1,5 @@
 -- The names of some files and documents.
-use Rattle.std.proofs.Common.{◌≡◌, ◌∷◌, [], None, Some, refl, codes}
+use Rattle.std.proofs.Common.{◌≡◌, ◌∷◌, [], None, refl, codes}
 use Rattle.std.specs.Fmt.{digits}
 use Rattle.file_trace.specs.Names.{base_name, document_name, next_name}
 use Rattle.pt_base.specs.declared.settings.Backend.TheVariants.{Eps, GeoJson}

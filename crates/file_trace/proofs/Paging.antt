@@ -1,5 +1,5 @@
 -- The pages of a file, found one after another.
-use Rattle.std.proofs.Common.{◌≡◌, ℕ, suc, Bool, true, false, List, [], ◌∷◌, ◌++◌, drop, refl, sym, ◌∙◌, ap, subst}
+use Rattle.std.proofs.Common.{◌≡◌, ℕ, Bool, true, List, [], ◌∷◌, ◌++◌, drop, refl, sym, ◌∙◌, ap, subst}
 use Rattle.bitmap_input.specs.Cut.{Ending, is_by_end}
 use Rattle.bitmap_input.specs.Raw.{Raw, shown}
 use Rattle.bitmap_input.specs.Front.{front, page_at}

@@ -2,7 +2,7 @@
 use Rattle.std.proofs.Common.{◌≡◌, ◌≤◌, ℕ, ◌+◌, ◌-◌, Bool, true, false, List, ◌++◌, length, take, drop, Option, None, Some, IfSome, option_map, refl, sym, ◌∙◌, ap, subst, append_assoc, arith}
 use Rattle.std.specs.FinMap.{get}
 use Rattle.std.proofs.lemmas.List.{drop-append-le, drop-drop, take-append-drop}
-use Rattle.pt_base.specs.Files.{Contents, Files, Lacks, Opened, taken_of, unread, unread_of, with_file, with_no_file, with_read}
+use Rattle.pt_base.specs.Files.{Files, Opened, taken_of, unread, unread_of, with_file, with_no_file, with_read}
 use Rattle.bit_image.specs.Page.{Page as Pixels}
 use Rattle.bitmap_input.specs.declared.fault.InFault.{InFault}
 use Rattle.bitmap_input.specs.declared.fault.InFault.TheVariants as fault
@@ -13,14 +13,14 @@ use Rattle.bitmap_input.specs.Cut.Ending.{Refused}
 use Rattle.bitmap_input.specs.Front.{front, page_at}
 use Rattle.bitmap_input.specs.Front.Answer.{Page, Ends}
 use Rattle.bitmap_input.specs.FilePages.{next_begins}
-use Rattle.bitmap_input.specs.Raw.{Raw, shown}
+use Rattle.bitmap_input.specs.Raw.{Raw}
 use Rattle.bitmap_input.specs.Reading.{cause_of_fault}
 use Rattle.bitmap_input.specs.Reader.{Reader, ahead as reader_ahead, is_later, GivesEnding, GivesPage, IfSays, MemoryFails, ReadFails, TellsPage}
 use Rattle.bitmap_input.proofs.Appending.{with_more}
 use Rattle.bitmap_input.proofs.FrontStays.{front_stays, page_stays}
 use Rattle.bitmap_input.proofs.Behind.{ahead_with_more, begins_with_more, front_within}
 use Rattle.pt_base.specs.declared.settings.Settings.{Settings}
-use Rattle.file_trace.specs.Items.{contents_of}
+use Rattle.file_trace.specs.Items.{told_contents}
 use Rattle.file_trace.specs.Progress.{EndsReading, ReadsPage, Settles, ahead, end_of_fault, opened_name}
 
 mapped : (o : Option (List ℕ)) (f : List ℕ → List ℕ) (P : List ℕ → Type 0) → IfSome o (λ rest. P (f rest)) → IfSome (option_map f o) P
@@ -175,18 +175,18 @@ fault_name fault.BadOffset old new before now ends fails wants = same_name befor
 fault_name fault.TooLong old new before now ends fails wants = same_name before now (length ends.answers.more) ends.answers.moves.files
 
 -- taking bytes keeps what the files hold
-contents-with_read : (before : Option Files) (n : ℕ) → contents_of (with_read before n) ≡ contents_of before
+contents-with_read : (before : Option Files) (n : ℕ) → told_contents (with_read before n) ≡ told_contents before
 contents-with_read None n = refl
 contents-with_read (Some files) n = refl
 
-pub same_contents : (before now : Option Files) (n : ℕ) → now ≡ with_read before n → contents_of now ≡ contents_of before
-same_contents before now n e = ap contents_of e ∙ contents-with_read before n
+pub same_contents : (before now : Option Files) (n : ℕ) → now ≡ with_read before n → told_contents now ≡ told_contents before
+same_contents before now n e = ap told_contents e ∙ contents-with_read before n
 
 -- and so does a page that isn't read
 pub fault_contents : (f : InFault) (old new : Reader) (before now : Option Files)
     → IfSays (cause_of_fault f) (λ ending. GivesEnding old before ending new now)
     → (f ≡ fault.ReadFault → ReadFails old before new now) → (f ≡ fault.NoMemory → MemoryFails old before new now)
-    → contents_of now ≡ contents_of before
+    → told_contents now ≡ told_contents before
 fault_contents fault.ReadFault old new before now ends fails wants = same_contents before now (length (fails refl).more) (fails refl).moves.files
 fault_contents fault.NoMemory old new before now ends fails wants = same_contents before now (length (wants refl).more) (wants refl).moves.files
 fault_contents fault.UnknownFormat old new before now ends fails wants = same_contents before now (length ends.answers.more) ends.answers.moves.files
@@ -200,11 +200,11 @@ fault_contents fault.BadOffset old new before now ends fails wants = same_conten
 fault_contents fault.TooLong old new before now ends fails wants = same_contents before now (length ends.answers.more) ends.answers.moves.files
 
 -- opening a file keeps it too
-pub contents-with_file : (before : Option Files) (name : List ℕ) → contents_of (with_file before name) ≡ contents_of before
+pub contents-with_file : (before : Option Files) (name : List ℕ) → told_contents (with_file before name) ≡ told_contents before
 contents-with_file None name = refl
 contents-with_file (Some files) name = refl
 
-pub contents-with_no_file : (before : Option Files) → contents_of (with_no_file before) ≡ contents_of before
+pub contents-with_no_file : (before : Option Files) → told_contents (with_no_file before) ≡ told_contents before
 contents-with_no_file None = refl
 contents-with_no_file (Some files) = refl
 

@@ -1,5 +1,5 @@
 -- One page more, and the end of the pages.
-use Rattle.std.proofs.Common.{◌≡◌, ◌≤◌, ◌<◌, ℕ, zero, suc, ◌+◌, Bool, true, false, List, [], ◌∷◌, ◌++◌, length, take, drop, Option, None, Some, IfSome, option_map, refl, sym, ◌∙◌, ap, subst, append_assoc, length-append, arith}
+use Rattle.std.proofs.Common.{◌≡◌, ◌≤◌, ◌<◌, ℕ, suc, ◌+◌, Bool, true, false, List, [], ◌∷◌, ◌++◌, length, drop, Option, None, Some, IfSome, option_map, refl, sym, ◌∙◌, ap, subst, append_assoc, length-append, arith}
 use Rattle.std.specs.Prelude.{nat_lt}
 use Rattle.std.proofs.lemmas.Bool.Decides.{nat_tests}
 use Rattle.pt_base.specs.Documents.{Documents, with_whole}
@@ -11,10 +11,10 @@ use Rattle.bitmap_input.specs.Front.Answer.{Page}
 use Rattle.bitmap_input.specs.FilePages.{next_begins}
 use Rattle.bitmap_input.specs.Reading.{Moves}
 use Rattle.bitmap_input.specs.Reader.{Reader, ReadFails, ahead as reader_ahead, at_start, is_later as reader_is_later}
-use Rattle.file_trace.specs.Names.{count_of, document_name, made_with, next_name}
+use Rattle.file_trace.specs.Names.{made_with, next_name}
 use Rattle.page_trace.specs.Document.{IsDocument}
 use Rattle.file_trace.specs.Items.{most_pages}
-use Rattle.file_trace.specs.Outcome.{BeginsSettled, StopsReading, is_later, with_items}
+use Rattle.file_trace.specs.Outcome.{BeginsSettled, is_later, with_items}
 use Rattle.file_trace.specs.Progress.{AreTraced, BeginsWith, EndsBy, HasUnread, Settles, Traces, TracesPage, ahead, docs, status_of}
 use Rattle.pt_base.specs.declared.settings.Settings.{Settings}
 use Rattle.file_trace.specs.declared.pages.PagesEnd.{PagesEnd}

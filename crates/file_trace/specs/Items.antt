@@ -1,5 +1,5 @@
 -- What a run over files is to write, in order: it follows from the words and from what the files hold.
-use Rattle.std.specs.Prelude.{◌≡◌, ℕ, suc, ◌+◌, ◌<◌, ◌≤◌, ◌⊎◌, false, List, [], ◌∷◌, length, codes, Option, None, Some, option_map}
+use Rattle.std.specs.Prelude.{◌≡◌, ℕ, suc, ◌+◌, ◌<◌, ◌≤◌, ◌⊎◌, false, List, [], ◌∷◌, length, codes, Option, None, Some}
 use Rattle.std.specs.FinMap.{get}
 use Rattle.pt_base.specs.Files.{Contents, Files}
 use Rattle.bitmap_input.specs.Cut.{Ending}
@@ -29,9 +29,9 @@ abbrev pub too_many : List ℕ
 too_many = codes "too many pages"
 
 -- what the files hold, where that is told
-abbrev pub contents_of : Option Files → Option Contents
-contents_of None = None
-contents_of (Some files) = Some files.contents
+abbrev pub told_contents : Option Files → Option Contents
+told_contents None = None
+told_contents (Some files) = Some files.contents
 
 -- it is told that there is no file of this name
 abbrev pub IsAbsent : Option Contents → List ℕ → Type 0

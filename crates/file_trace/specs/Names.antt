@@ -1,5 +1,5 @@
 -- The names of documents, from those of files or of the output.
-use Rattle.std.specs.Prelude.{ℕ, zero, suc, ◌+◌, List, [], ◌∷◌, ◌++◌, length, take, drop, Option, None, Some, nat_lt, if◌then◌else◌, codes, count_by, decimal}
+use Rattle.std.specs.Prelude.{ℕ, zero, suc, ◌+◌, List, ◌∷◌, ◌++◌, length, take, drop, Option, None, Some, nat_lt, if◌then◌else◌, codes, count_by, decimal}
 use Rattle.std.specs.Path.{rfind_below}
 use Rattle.std.specs.Str.{bytes_eq}
 use Rattle.pt_base.specs.declared.settings.Backend.{Backend}

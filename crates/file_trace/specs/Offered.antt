@@ -1,5 +1,5 @@
 -- What pages can be read and traced under.
-use Rattle.std.specs.Prelude.{ℕ, ◌≤◌}
+use Rattle.std.specs.Prelude.{◌≤◌}
 use Rattle.page_trace.specs.Document.{CanWrite}
 use Rattle.pt_base.specs.declared.settings.Settings.{Settings}
 

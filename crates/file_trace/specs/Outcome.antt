@@ -14,7 +14,7 @@ use Rattle.bitmap_input.specs.Front.Answer.{Page}
 use Rattle.bitmap_input.specs.FilePages.{next_begins}
 use Rattle.file_trace.specs.Names.{base_name}
 use Rattle.file_trace.specs.Messages.{not_opened, not_written, out_of_memory, page_line, read_fault}
-use Rattle.file_trace.specs.Items.{Item, AreItems, ArePageItems, IsAbsent, Nothing, contents_of}
+use Rattle.file_trace.specs.Items.{Item, AreItems, ArePageItems, IsAbsent, Nothing}
 use Rattle.file_trace.specs.Items.Item.{Doc, Note, Stop, Missing}
 use Rattle.file_trace.specs.declared.status.Status.{Status}
 use Rattle.file_trace.specs.declared.status.Status.TheVariants as status
@@ -76,7 +76,7 @@ pub record AreSaid (old new : Option Documents) (faults faults_now : ℕ) (messa
   pub whole : (parts ≡ messages) ⊎ Rose faults faults_now
   pub never_falls : faults ≤ faults_now
 
--- these items are carried out: their documents are added, their notes were said, and then these messages
+-- these items are carried out: their documents are added; and their notes were said, and then these messages
 pub record AreCarriedOut (items : List Item) (last : List (List ℕ)) (old new : Sinks) : Type 0 where
   pub goes_on : GoesOn items
   pub documents : new.outs ≡ with_items old.outs items
@@ -118,7 +118,7 @@ HasEnded status.Unread items old new = ⊥
 
 -- the file of this name is the last one that was asked for: those in front of it were opened before, each
 -- once and in order
-pub record IsReached (names : List (List ℕ)) (name : List ℕ) (front : List (List ℕ)) (openings openings_now : ℕ) : Type 0 where
+pub record OpensUpTo (names : List (List ℕ)) (name : List ℕ) (front : List (List ℕ)) (openings openings_now : ℕ) : Type 0 where
   pub back : List (List ℕ)
   pub listed : names ≡ front ++ name ∷ back
   pub grew : openings_now ≡ min (openings + (length front + 1)) last_count
@@ -129,7 +129,7 @@ pub record IsUnopened (contents : Option Contents) (settings : Settings) (output
   pub name : List ℕ
   pub front : List (List ℕ)
   pub before : List Item
-  pub reached : IsReached names name front source.openings source_now.openings
+  pub reached : OpensUpTo names name front source.openings source_now.openings
   pub closed : source_now.is_opened ≡ false
   pub cause : IsAbsent contents name ⊎ Rose source.faults source_now.faults
   pub items : AreItems contents settings output Nothing front made before
@@ -168,7 +168,7 @@ pub record IsUnread (contents : Option Contents) (settings : Settings) (output :
   pub rest : List ℕ
   pub raws : List Raw
   pub before : List Item
-  pub reached : IsReached names name front source.openings source_now.openings
+  pub reached : OpensUpTo names name front source.openings source_now.openings
   pub opened : IfSome source_now.files (λ files. files.opened ≡ Some (record { name = name; rest = rest }))
   pub bytes : HoldsBytes contents name taken rest
   pub rose : Rose source.faults source_now.faults

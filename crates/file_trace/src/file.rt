@@ -1,7 +1,7 @@
 //! A whole file: opened, its pages traced, and how it ended said.
 ghost use Rattle.std.specs.Prelude.{◌≡◌, ◌≢◌, ◌+◌, ◌≤◌, ◌∷◌, List, ℕ, false, true, option_map, IfErr, OnOk, IfSome, length};
 ghost use Rattle.pt_base.specs.Counts.{next_count};
-ghost use Rattle.file_trace.specs.Items.{contents_of, most_pages};
+ghost use Rattle.file_trace.specs.Items.{told_contents, most_pages};
 ghost use Rattle.file_trace.specs.Names.{base_name};
 ghost use Rattle.file_trace.specs.Offered.{IsOffered};
 ghost use Rattle.file_trace.specs.Outcome.{IsOutcome};
@@ -39,27 +39,53 @@ pub fn trace_file<I: Inputs, O: Outputs, E: Sink>(
 
     // The file's items are carried out, and the documents are counted.
     ensures traced { OnOk result
-        (TracesFile (contents_of (I.files inputs.old)) settings (option_map (λ s. s.now) output.entry) name.now
+        (TracesFile (told_contents (I.files inputs.old)) settings (option_map (λ s. s.now) output.entry) name.now
         made.old made.new
-        (record { outs = O.documents outs.old; outs_faults = O.faults outs.old;
-        is_open = O.is_ready outs.old; errs = E.documents errs.old; errs_faults = E.faults errs.old })
-        (record { outs = O.documents outs.new; outs_faults = O.faults outs.new;
-        is_open = O.is_ready outs.new; errs = E.documents errs.new;
-        errs_faults = E.faults errs.new })) }
+        (record {
+          outs = O.documents outs.old;
+          outs_faults = O.faults outs.old;
+          is_open = O.is_ready outs.old;
+          errs = E.documents errs.old;
+          errs_faults = E.faults errs.old;
+        })
+        (record {
+          outs = O.documents outs.new;
+          outs_faults = O.faults outs.new;
+          is_open = O.is_ready outs.new;
+          errs = E.documents errs.new;
+          errs_faults = E.faults errs.new;
+        })) }
 
     // Whatever files come behind this one, the run ends so.
     ensures ends { IfErr result (λ status. (names : List (List ℕ))
-        → IsOutcome status (contents_of (I.files inputs.old)) settings (option_map (λ s. s.now) output.entry)
+        → IsOutcome status (told_contents (I.files inputs.old)) settings (option_map (λ s. s.now) output.entry)
         (name.now ∷ names) made.old
-        (record { files = I.files inputs.old; is_opened = I.is_opened inputs.old;
-        openings = I.openings inputs.old; faults = I.faults inputs.old })
-        (record { files = I.files inputs.new; is_opened = I.is_opened inputs.new;
-        openings = I.openings inputs.new; faults = I.faults inputs.new })
-        (record { outs = O.documents outs.old; outs_faults = O.faults outs.old;
-        is_open = O.is_ready outs.old; errs = E.documents errs.old; errs_faults = E.faults errs.old })
-        (record { outs = O.documents outs.new; outs_faults = O.faults outs.new;
-        is_open = O.is_ready outs.new; errs = E.documents errs.new;
-        errs_faults = E.faults errs.new })) }
+        (record {
+          files = I.files inputs.old;
+          is_opened = I.is_opened inputs.old;
+          openings = I.openings inputs.old;
+          faults = I.faults inputs.old;
+        })
+        (record {
+          files = I.files inputs.new;
+          is_opened = I.is_opened inputs.new;
+          openings = I.openings inputs.new;
+          faults = I.faults inputs.new;
+        })
+        (record {
+          outs = O.documents outs.old;
+          outs_faults = O.faults outs.old;
+          is_open = O.is_ready outs.old;
+          errs = E.documents errs.old;
+          errs_faults = E.faults errs.old;
+        })
+        (record {
+          outs = O.documents outs.new;
+          outs_faults = O.faults outs.new;
+          is_open = O.is_ready outs.new;
+          errs = E.documents errs.new;
+          errs_faults = E.faults errs.new;
+        })) }
 
     ensures input { IfErr result (λ status. InputCount status (I.faults inputs.old) (I.faults inputs.new)) }
     ensures steady_input { OnOk result (I.faults inputs.new ≡ I.faults inputs.old) }
@@ -71,7 +97,7 @@ pub fn trace_file<I: Inputs, O: Outputs, E: Sink>(
     ensures outputs_never_fall { O.faults outs.old ≤ O.faults outs.new }
     ensures one_more { I.openings inputs.new ≡ next_count (I.openings inputs.old) }
     ensures name { IfSome (opened_name (I.files inputs.new)) (λ opened. opened ≡ name.now) }
-    ensures same_contents { contents_of (I.files inputs.new) ≡ contents_of (I.files inputs.old) }
+    ensures same_contents { told_contents (I.files inputs.new) ≡ told_contents (I.files inputs.old) }
     ensures stays_ready { E.is_ready errs.new ≡ true }
 {
     match inputs.open(name) {

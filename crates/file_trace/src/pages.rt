@@ -6,7 +6,7 @@ ghost use Rattle.pt_base.specs.Files.{unread};
 ghost use Rattle.bitmap_input.specs.Reading.{AtEnd};
 ghost use Rattle.bitmap_input.specs.Reader.{ReadFails, at_start, is_later as reader_is_later};
 ghost use Rattle.page_trace.specs.Document.{CanWrite, IsDocument};
-ghost use Rattle.file_trace.specs.Items.{contents_of, most_pages};
+ghost use Rattle.file_trace.specs.Items.{told_contents, most_pages};
 ghost use Rattle.file_trace.specs.Names.{document_name};
 ghost use Rattle.file_trace.specs.Offered.{IsOffered};
 ghost use Rattle.file_trace.specs.Progress.{EndsBy, EndsReading, EndsWriting, InputCount, OutputCount, ReadsPage, Traces, TracesPage, ahead, end_of_fault, opened_name, status_of};
@@ -84,13 +84,21 @@ pub fn trace_pages<I: Inputs, O: Outputs>(
     ensures outputs_never_fall { O.faults outs.old ≤ O.faults outs.new }
     ensures same_openings { I.openings inputs.new ≡ I.openings inputs.old }
     ensures same_name { opened_name (I.files inputs.new) ≡ opened_name (I.files inputs.old) }
-    ensures same_contents { contents_of (I.files inputs.new) ≡ contents_of (I.files inputs.old) }
+    ensures same_contents { told_contents (I.files inputs.new) ≡ told_contents (I.files inputs.old) }
 {
     let first = made.count(base);
     let room = MOST_PAGES - made.total();
     let mut pages = 0;
     while pages < room {
-        match trace_next(alloc, settings, base, first + pages + 1, reader, inputs, outs) {
+        match trace_next(
+            alloc,
+            settings,
+            base,
+            first + pages + 1,
+            reader,
+            inputs,
+            outs,
+        ) {
             Ok(()) => pages += 1,
             Err(end) => return Traced { pages, end },
         }
@@ -139,7 +147,7 @@ fn trace_next<I: Inputs, O: Outputs>(
     ensures stays_opened { I.is_opened inputs.new ≡ true }
     ensures same_openings { I.openings inputs.new ≡ I.openings inputs.old }
     ensures same_name { opened_name (I.files inputs.new) ≡ opened_name (I.files inputs.old) }
-    ensures same_contents { contents_of (I.files inputs.new) ≡ contents_of (I.files inputs.old) }
+    ensures same_contents { told_contents (I.files inputs.new) ≡ told_contents (I.files inputs.old) }
 {
     match read_next(alloc, settings, reader, inputs) {
         Ok(page) => write_page(alloc, settings, &page, base, k, outs),
@@ -175,7 +183,7 @@ fn read_next<I: Inputs>(
     ensures stays_opened { I.is_opened inputs.new ≡ true }
     ensures same_openings { I.openings inputs.new ≡ I.openings inputs.old }
     ensures same_name { opened_name (I.files inputs.new) ≡ opened_name (I.files inputs.old) }
-    ensures same_contents { contents_of (I.files inputs.new) ≡ contents_of (I.files inputs.old) }
+    ensures same_contents { told_contents (I.files inputs.new) ≡ told_contents (I.files inputs.old) }
 {
     let level = Level::from_micro(settings.level);
     match reader.next(alloc, inputs, &level, settings.invert) {
@@ -258,7 +266,7 @@ fn end_after_most<I: Inputs>(
     ensures nothing_unwritten { status_of result ≢ Status.Unwritten }
     ensures same_openings { I.openings inputs.new ≡ I.openings inputs.old }
     ensures same_name { opened_name (I.files inputs.new) ≡ opened_name (I.files inputs.old) }
-    ensures same_contents { contents_of (I.files inputs.new) ≡ contents_of (I.files inputs.old) }
+    ensures same_contents { told_contents (I.files inputs.new) ≡ told_contents (I.files inputs.old) }
 {
     match read_next(alloc, settings, reader, inputs) {
         Ok(_page) => PagesEnd::TooMany,

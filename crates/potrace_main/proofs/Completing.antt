@@ -7,7 +7,7 @@ use Rattle.pt_base.specs.declared.settings.Settings.{Settings}
 use Rattle.page_trace.specs.Document.{CanWrite}
 use Rattle.file_trace.specs.Messages.{out_of_memory}
 use Rattle.file_trace.specs.Names.{dash}
-use Rattle.file_trace.specs.Items.{AreItems, IsAbsent, Item, Nothing, contents_of}
+use Rattle.file_trace.specs.Items.{AreItems, IsAbsent, Item, Nothing, told_contents}
 use Rattle.file_trace.specs.Items.Item.{Doc, Missing, Note, Stop}
 use Rattle.file_trace.specs.Outcome.{AreCarriedOut, GoesOn, HasEnded, IsOutcome, Sinks, Source}
 use Rattle.file_trace.specs.Progress.{InputCount, OutputCount}
@@ -72,8 +72,8 @@ Completes contents settings output names s read read_now written written_now =
     (items : List Item) × AreItems contents settings output Nothing names [] items × ((Rose read read_now → ⊥) → (Rose written written_now → ⊥) → IsComplete s items)
 
 pub files_complete : (s : Status) (settings : Settings) → CanWrite settings → (output : Option (List ℕ)) (names : List (List ℕ)) (source now : Source) (a b : Sinks)
-    → IsOutcome s (contents_of source.files) settings output names [] source now a b → OutputCount s a.outs_faults b.outs_faults b.is_open
-    → Completes (contents_of source.files) settings output names s source.faults now.faults a.outs_faults b.outs_faults
+    → IsOutcome s (told_contents source.files) settings output names [] source now a b → OutputCount s a.outs_faults b.outs_faults b.is_open
+    → Completes (told_contents source.files) settings output names s source.faults now.faults a.outs_faults b.outs_faults
 files_complete status.Done settings can output names source now a b (items, are, done) w =
     (items, are, λ _ _. record { all = λ _. inl refl; refusal = λ r. absurd (never_refused items done.goes_on r); missing = λ m. absurd (never_missing items done.goes_on m) })
 files_complete status.BadWords settings can output names source now a b (items, are, ended) w = absurd ended
@@ -84,24 +84,25 @@ files_complete status.Unwritten settings can output names source now a b (items,
 files_complete status.OutOfMemory settings can output names source now a b (items, are, o) w =
     (items, are, λ _ _. record { all = λ _. inr refl; refusal = λ _. inr refl; missing = λ _. inr refl })
 files_complete status.Unread settings can output names source now a b (inr u) w =
-    let items = items_found (contents_of source.files) settings can output names [] in
+    let items = items_found (told_contents source.files) settings can output names [] in
     (items.0, items.1, λ no_read _. absurd (no_read u.rose))
 files_complete status.Unread settings can output names source now a b (inl u) w = by_cause u.cause where
-  by_cause : IsAbsent (contents_of source.files) u.name ⊎ Rose source.faults now.faults
-      → Completes (contents_of source.files) settings output names status.Unread source.faults now.faults a.outs_faults b.outs_faults
+  by_cause : IsAbsent (told_contents source.files) u.name ⊎ Rose source.faults now.faults
+      → Completes (told_contents source.files) settings output names status.Unread source.faults now.faults a.outs_faults b.outs_faults
   by_cause (inr rose) =
-      let items = items_found (contents_of source.files) settings can output names [] in
+      let items = items_found (told_contents source.files) settings can output names [] in
       (items.0, items.1, λ no_read _. absurd (no_read rose))
   by_cause (inl absent) =
-      let are = missing_items (contents_of source.files) settings output u.front u.reached.back u.name u.before absent u.done.goes_on u.items in
-      let missing : EndsMissing (u.before ++ Missing u.name ∷ []) = (u.before, u.name, refl) in
-      (u.before ++ Missing u.name ∷ [],
-      subst (λ ns. AreItems (contents_of source.files) settings output Nothing ns [] (u.before ++ Missing u.name ∷ [])) (sym u.reached.listed) are,
-      λ _ _. record {
-        all = λ goes. absurd (never_missing (u.before ++ Missing u.name ∷ []) goes missing);
-        refusal = λ r. absurd (no_both (u.before ++ Missing u.name ∷ []) r missing);
-        missing = λ _. inl refl;
-      })
+      let are = missing_items (told_contents source.files) settings output u.front u.reached.back u.name u.before absent u.done.goes_on u.items in
+      let missing : EndsMissing (u.before ++ Missing u.name ∷ []) = (u.before, u.name, refl) in (
+        u.before ++ Missing u.name ∷ [],
+        subst (λ ns. AreItems (told_contents source.files) settings output Nothing ns [] (u.before ++ Missing u.name ∷ [])) (sym u.reached.listed) are,
+        λ _ _. record {
+          all = λ goes. absurd (never_missing (u.before ++ Missing u.name ∷ []) goes missing);
+          refusal = λ r. absurd (no_both (u.before ++ Missing u.name ∷ []) r missing);
+          missing = λ _. inl refl;
+        },
+      )
 
 -- one text is written, or not
 text_complete : (s : Status) (text : List ℕ) (written written_now : ℕ) (ready : Bool) (a b : Sinks) → HasEnded s (Doc dash text ∷ []) a b → OutputCount s written written_now ready
@@ -117,28 +118,28 @@ text_complete status.Unwritten text written written_now ready a b u w no_write =
 text_complete status.OutOfMemory text written written_now ready a b o w no_write = record { all = λ _. inr refl; refusal = λ _. inr refl; missing = λ _. inr refl }
 
 pub run_complete : (ask : Ask) (s : Status) (source now : Source) (a b : Sinks) → CanBeDone ask → IsRun ask s source now a b
-    → (items : List Item) × AreItemsOf ask (contents_of source.files) items × ((Rose source.faults now.faults → ⊥) → (Rose a.outs_faults b.outs_faults → ⊥) → IsComplete s items)
+    → (items : List Item) × AreItemsOf ask (told_contents source.files) items × ((Rose source.faults now.faults → ⊥) → (Rose a.outs_faults b.outs_faults → ⊥) → IsComplete s items)
 run_complete asks.Help s source now a b can ran = (_, refl, λ _ no_write. text_complete s help_text _ _ _ a b ran.outcome ran.output no_write)
 run_complete asks.Version s source now a b can ran = (_, refl, λ _ no_write. text_complete s version_text _ _ _ a b ran.outcome ran.output no_write)
 run_complete (asks.Demo pages workers settings) s source now a b can ran = absurd ran.outcome
 run_complete (asks.Files names output workers settings) s source now a b can ran = files_complete s settings can.0.document output names source now a b ran.outcome ran.output
 
 -- a status of an input that fails has its cause
-unread_cause : (settings : Settings) (output : Option (List ℕ)) (names : List (List ℕ)) (source now : Source) (a b : Sinks) → IsOutcome status.Unread (contents_of source.files) settings output names [] source now a b
-    → Rose source.faults now.faults ⊎ IsMissing names (contents_of source.files)
+unread_cause : (settings : Settings) (output : Option (List ℕ)) (names : List (List ℕ)) (source now : Source) (a b : Sinks) → IsOutcome status.Unread (told_contents source.files) settings output names [] source now a b
+    → Rose source.faults now.faults ⊎ IsMissing names (told_contents source.files)
 unread_cause settings output names source now a b (inr u) = inl u.rose
 unread_cause settings output names source now a b (inl u) = by_cause u.cause where
-  by_cause : IsAbsent (contents_of source.files) u.name ⊎ Rose source.faults now.faults → Rose source.faults now.faults ⊎ IsMissing names (contents_of source.files)
+  by_cause : IsAbsent (told_contents source.files) u.name ⊎ Rose source.faults now.faults → Rose source.faults now.faults ⊎ IsMissing names (told_contents source.files)
   by_cause (inl absent) = inr (u.name, u.front, u.reached.back, u.reached.listed, absent)
   by_cause (inr rose) = inl rose
 
 pub run_unread : (ask : Ask) (s : Status) (source now : Source) (a b : Sinks) → IsRun ask s source now a b → s ≡ status.Unread
-    → Rose source.faults now.faults ⊎ IsMissing (names_of ask) (contents_of source.files)
+    → Rose source.faults now.faults ⊎ IsMissing (names_of ask) (told_contents source.files)
 run_unread asks.Help s source now a b ran is = absurd (subst (λ t. HasEnded t (Doc dash help_text ∷ []) a b) is ran.outcome)
 run_unread asks.Version s source now a b ran is = absurd (subst (λ t. HasEnded t (Doc dash version_text ∷ []) a b) is ran.outcome)
 run_unread (asks.Demo pages workers settings) s source now a b ran is = absurd ran.outcome
 run_unread (asks.Files names output workers settings) s source now a b ran is =
-    unread_cause settings output names source now a b (subst (λ t. IsOutcome t (contents_of source.files) settings output names [] source now a b) is ran.outcome)
+    unread_cause settings output names source now a b (subst (λ t. IsOutcome t (told_contents source.files) settings output names [] source now a b) is ran.outcome)
 
 -- where the first file isn't there
 only_missing : (contents : Option Contents) (settings : Settings) (output : Option (List ℕ)) (name : List ℕ) (names : List (List ℕ)) (items : List Item) → IsAbsent contents name
@@ -158,25 +159,25 @@ not_document name [] document text after e = cc
 not_document name (item ∷ []) document text after e = cc
 not_document name (item ∷ other ∷ before) document text after e = cc
 
-first_absent : (s : Status) (settings : Settings) (output : Option (List ℕ)) (name : List ℕ) (names : List (List ℕ)) (source now : Source) (a b : Sinks) → IsAbsent (contents_of source.files) name
-    → IsOutcome s (contents_of source.files) settings output (name ∷ names) [] source now a b → (s ≡ status.Unread) ⊎ (s ≡ status.OutOfMemory)
+first_absent : (s : Status) (settings : Settings) (output : Option (List ℕ)) (name : List ℕ) (names : List (List ℕ)) (source now : Source) (a b : Sinks) → IsAbsent (told_contents source.files) name
+    → IsOutcome s (told_contents source.files) settings output (name ∷ names) [] source now a b → (s ≡ status.Unread) ⊎ (s ≡ status.OutOfMemory)
 first_absent status.Done settings output name names source now a b absent (items, are, done) =
-    absurd (subst GoesOn (only_missing (contents_of source.files) settings output name names items absent are) done.goes_on)
+    absurd (subst GoesOn (only_missing (told_contents source.files) settings output name names items absent are) done.goes_on)
 first_absent status.BadWords settings output name names source now a b absent (items, are, ended) = absurd ended
 first_absent status.Refused settings output name names source now a b absent (items, are, r) =
-    absurd (not_stop name r.before r.message (sym (only_missing (contents_of source.files) settings output name names items absent are) ∙ r.split))
+    absurd (not_stop name r.before r.message (sym (only_missing (told_contents source.files) settings output name names items absent are) ∙ r.split))
 first_absent status.Unread settings output name names source now a b absent u = inl refl
 first_absent status.Unwritten settings output name names source now a b absent (items, are, u) =
-    absurd (not_document name u.before u.name u.text u.after (sym (only_missing (contents_of source.files) settings output name names items absent are) ∙ u.split))
+    absurd (not_document name u.before u.name u.text u.after (sym (only_missing (told_contents source.files) settings output name names items absent are) ∙ u.split))
 first_absent status.OutOfMemory settings output name names source now a b absent o = inr refl
 
 pub run_absent : (ask : Ask) (s : Status) (name : List ℕ) (names : List (List ℕ)) (source now : Source) (a b : Sinks) → IsRun ask s source now a b → names_of ask ≡ name ∷ names
-    → IsAbsent (contents_of source.files) name → (s ≡ status.Unread) ⊎ (s ≡ status.OutOfMemory)
+    → IsAbsent (told_contents source.files) name → (s ≡ status.Unread) ⊎ (s ≡ status.OutOfMemory)
 run_absent asks.Help s name names source now a b ran is absent = absurd (let e : [] ≡ name ∷ names = is in cc)
 run_absent asks.Version s name names source now a b ran is absent = absurd (let e : [] ≡ name ∷ names = is in cc)
 run_absent (asks.Demo pages workers settings) s name names source now a b ran is absent = absurd ran.outcome
 run_absent (asks.Files listed output workers settings) s name names source now a b ran is absent =
-    first_absent s settings output name names source now a b absent (subst (λ ns. IsOutcome s (contents_of source.files) settings output ns [] source now a b) is ran.outcome)
+    first_absent s settings output name names source now a b absent (subst (λ ns. IsOutcome s (told_contents source.files) settings output ns [] source now a b) is ran.outcome)
 
 -- memory ran out while the words were read
 pub out_at_once : (ask : Ask) (source : Source) (a b : Sinks) → CanBeDone ask → IsKnown ask → AreCarriedOut [] (out_of_memory ∷ []) a b → IsOutcomeOf ask status.OutOfMemory source source a b
@@ -184,7 +185,7 @@ out_at_once asks.Help source a b can known done = record { before = []; after = 
 out_at_once asks.Version source a b can known done = record { before = []; after = Doc dash version_text ∷ []; split = refl; done = done }
 out_at_once (asks.Demo pages workers settings) source a b can known done = absurd known
 out_at_once (asks.Files names output workers settings) source a b can known done =
-    let items = items_found (contents_of source.files) settings can.0.document output names [] in
+    let items = items_found (told_contents source.files) settings can.0.document output names [] in
     (items.0, items.1, record { before = []; after = items.0; split = refl; done = done })
 
 -- Statuses and their codes.

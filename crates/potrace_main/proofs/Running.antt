@@ -4,8 +4,8 @@ use Rattle.std.proofs.lemmas.List.{length-take-le, take-append-drop, take_more}
 use Rattle.pt_base.specs.Counts.{last_count, next_count}
 use Rattle.pt_base.specs.Files.{Contents}
 use Rattle.pt_base.specs.declared.settings.Settings.{Settings}
-use Rattle.file_trace.specs.Items.{AreItems, Item, Nothing, contents_of}
-use Rattle.file_trace.specs.Outcome.{AreCarriedOut, HasEnded, IsOutcome, IsReached, Sinks, Source}
+use Rattle.file_trace.specs.Items.{AreItems, Item, Nothing, told_contents}
+use Rattle.file_trace.specs.Outcome.{AreCarriedOut, HasEnded, IsOutcome, OpensUpTo, Sinks, Source}
 use Rattle.file_trace.specs.Progress.{EndsWith, TracesFile, opened_name}
 use Rattle.file_trace.specs.declared.status.Status.{Status}
 use Rattle.file_trace.specs.declared.status.Status.TheVariants as status
@@ -39,11 +39,12 @@ one_done contents settings output names i name made made_now a b c within is fro
 pub all_done : (contents : Option Contents) (settings : Settings) (output : Option (List ℕ)) (names made : List (List ℕ)) (a b : Sinks) → AreDone contents settings output names made a b
     → (items : List Item) × AreItems contents settings output Nothing names [] items × HasEnded status.Done items a b
 all_done contents settings output names made a b all =
-    let are = items_join contents settings output Nothing [] made [] refl names [] all.items all.done.goes_on all.are in
-    (all.items,
-    subst (λ ns. AreItems contents settings output Nothing ns [] all.items) (append-nil names)
-    (subst (λ (l : List Item). AreItems contents settings output Nothing (names ++ []) [] l) (append-nil all.items) are),
-    all.done)
+    let are = items_join contents settings output Nothing [] made [] refl names [] all.items all.done.goes_on all.are in (
+      all.items,
+      subst (λ ns. AreItems contents settings output Nothing ns [] all.items) (append-nil names)
+          (subst (λ (l : List Item). AreItems contents settings output Nothing (names ++ []) [] l) (append-nil all.items) are),
+      all.done,
+    )
 
 -- a list around its i-th item
 around : (names : List (List ℕ)) (i : ℕ) (name : List ℕ) → i < length names → name ≡ get_or names i name → names ≡ take i names ++ name ∷ drop (i + 1) names
@@ -66,11 +67,16 @@ pub opens_to : (names : List (List ℕ)) (i : ℕ) (name : List ℕ) (source the
     → OpensFirst names source now
 opens_to names i name source then now within is openings one named =
     let short : length (take i names) ≡ i = length-take-le i names (omega (arith, within)) in
-    inr (name, take i names, record {
-      back = drop (i + 1) names;
-      listed = around names i name within is;
-      grew = opened_more source.openings (length (take i names)) then.openings now.openings (rw short openings) one;
-    }, named)
+    inr (
+      name,
+      take i names,
+      record {
+        back = drop (i + 1) names;
+        listed = around names i name within is;
+        grew = opened_more source.openings (length (take i names)) then.openings now.openings (rw short openings) one;
+      },
+      named,
+    )
 
 -- the run ends in the i-th file
 pub ends_in : (s : Status) (contents : Option Contents) (settings : Settings) (output : Option (List ℕ)) (names : List (List ℕ)) (i : ℕ) (name : List ℕ) (made : List (List ℕ)) (source then now : Source) (a b c : Sinks)

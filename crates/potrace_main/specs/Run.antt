@@ -4,9 +4,9 @@ use Rattle.pt_base.specs.Counts.{Rose}
 use Rattle.pt_base.specs.Files.{Contents}
 use Rattle.file_trace.specs.Messages.{bad_words, out_of_memory}
 use Rattle.file_trace.specs.Names.{dash}
-use Rattle.file_trace.specs.Items.{AreItems, IsAbsent, Item, Nothing, contents_of}
+use Rattle.file_trace.specs.Items.{AreItems, IsAbsent, Item, Nothing, told_contents}
 use Rattle.file_trace.specs.Items.Item.{Doc, Missing, Stop}
-use Rattle.file_trace.specs.Outcome.{AreCarriedOut, GoesOn, HasEnded, IsOutcome, IsReached, Sinks, Source}
+use Rattle.file_trace.specs.Outcome.{AreCarriedOut, GoesOn, HasEnded, IsOutcome, OpensUpTo, Sinks, Source}
 use Rattle.file_trace.specs.Progress.{InputCount, OutputCount, opened_name}
 use Rattle.file_trace.specs.Status.{code_of}
 use Rattle.file_trace.specs.declared.status.Status.{Status}
@@ -31,7 +31,7 @@ abbrev pub IsOutcomeOf : Ask → Status → Source → Source → Sinks → Sink
 IsOutcomeOf asks.Help s source source_now old new = HasEnded s (Doc dash help_text ∷ []) old new
 IsOutcomeOf asks.Version s source source_now old new = HasEnded s (Doc dash version_text ∷ []) old new
 IsOutcomeOf (asks.Demo pages workers settings) s source source_now old new = ⊥
-IsOutcomeOf (asks.Files names output workers settings) s source source_now old new = IsOutcome s (contents_of source.files) settings output names [] source source_now old new
+IsOutcomeOf (asks.Files names output workers settings) s source source_now old new = IsOutcome s (told_contents source.files) settings output names [] source source_now old new
 
 -- the files that a run may open
 abbrev pub names_of : Ask → List (List ℕ)
@@ -65,7 +65,7 @@ RefusesWords status.Unwritten old new = ⊥
 abbrev pub OpensFirst : List (List ℕ) → Source → Source → Type 0
 OpensFirst names source source_now =
     ((source_now.openings ≡ source.openings) × (source_now.files ≡ source.files))
-    ⊎ ((name : List ℕ) × (front : List (List ℕ)) × IsReached names name front source.openings source_now.openings
+    ⊎ ((name : List ℕ) × (front : List (List ℕ)) × OpensUpTo names name front source.openings source_now.openings
     × IfSome (opened_name source_now.files) (λ opened. opened ≡ name))
 
 -- the last of the items is a refusal

@@ -1,7 +1,7 @@
 //! The top call: all that the program does.
 ghost use Rattle.std.specs.Prelude.{◌≡◌, ◌≢◌, ◌<◌, ◌≤◌, ◌⊎◌, ◌∷◌, ℕ, List, true, false, map, option_map, string_bytes};
 ghost use Rattle.pt_base.specs.Counts.{Rose};
-ghost use Rattle.file_trace.specs.Items.{IsAbsent, Item, contents_of};
+ghost use Rattle.file_trace.specs.Items.{IsAbsent, Item, told_contents};
 ghost use Rattle.file_trace.specs.Progress.{InputCount, OutputCount};
 ghost use Rattle.file_trace.specs.Status.{code_of};
 ghost use Rattle.file_trace.specs.declared.status.Status.{Status};
@@ -43,20 +43,37 @@ pub fn run<R: Threads + Sync, I: Inputs, O: Outputs, E: Sink, G: Gate + Sync>(
     // `items_are_one` says that this is one list. Where the files aren't told, it is so for some pages.
     ensures outcome { (ask : Ask) → IsAsked (map string_bytes words.now) ask → IsCodeOf result
         (λ status. IsOutcomeOf ask status
-        (record { files = I.files inputs.old; is_opened = I.is_opened inputs.old;
-        openings = I.openings inputs.old; faults = I.faults inputs.old })
-        (record { files = I.files inputs.new; is_opened = I.is_opened inputs.new;
-        openings = I.openings inputs.new; faults = I.faults inputs.new })
-        (record { outs = O.documents outs.old; outs_faults = O.faults outs.old;
-        is_open = O.is_ready outs.old; errs = E.documents errs.old; errs_faults = E.faults errs.old })
-        (record { outs = O.documents outs.new; outs_faults = O.faults outs.new;
-        is_open = O.is_ready outs.new; errs = E.documents errs.new;
-        errs_faults = E.faults errs.new })) }
+        (record {
+          files = I.files inputs.old;
+          is_opened = I.is_opened inputs.old;
+          openings = I.openings inputs.old;
+          faults = I.faults inputs.old;
+        })
+        (record {
+          files = I.files inputs.new;
+          is_opened = I.is_opened inputs.new;
+          openings = I.openings inputs.new;
+          faults = I.faults inputs.new;
+        })
+        (record {
+          outs = O.documents outs.old;
+          outs_faults = O.faults outs.old;
+          is_open = O.is_ready outs.old;
+          errs = E.documents errs.old;
+          errs_faults = E.faults errs.old;
+        })
+        (record {
+          outs = O.documents outs.new;
+          outs_faults = O.faults outs.new;
+          is_open = O.is_ready outs.new;
+          errs = E.documents errs.new;
+          errs_faults = E.faults errs.new;
+        })) }
 
     // Where no device failed, all is done, or the run ends with the refusal or the missing file, want of
     // memory aside.
     ensures complete { (ask : Ask) → IsAsked (map string_bytes words.now) ask → (items : List Item)
-        × AreItemsOf ask (contents_of (I.files inputs.old)) items
+        × AreItemsOf ask (told_contents (I.files inputs.old)) items
         × ((Rose (I.faults inputs.old) (I.faults inputs.new) → ⊥)
         → (Rose (O.faults outs.old) (O.faults outs.new) → ⊥)
         → IsCodeOf result (λ status. IsComplete status items)) }
@@ -66,26 +83,43 @@ pub fn run<R: Threads + Sync, I: Inputs, O: Outputs, E: Sink, G: Gate + Sync>(
         → (ask : Ask) → IsAsked (map string_bytes words.now) ask → ⊥ }
     ensures refused { ((ask : Ask) → IsAsked (map string_bytes words.now) ask → ⊥)
         → (inputs.new ≡ inputs.old) × IsCodeOf result (λ status. RefusesWords status
-        (record { outs = O.documents outs.old; outs_faults = O.faults outs.old;
-        is_open = O.is_ready outs.old; errs = E.documents errs.old; errs_faults = E.faults errs.old })
-        (record { outs = O.documents outs.new; outs_faults = O.faults outs.new;
-        is_open = O.is_ready outs.new; errs = E.documents errs.new;
-        errs_faults = E.faults errs.new })) }
+        (record {
+          outs = O.documents outs.old;
+          outs_faults = O.faults outs.old;
+          is_open = O.is_ready outs.old;
+          errs = E.documents errs.old;
+          errs_faults = E.faults errs.old;
+        })
+        (record {
+          outs = O.documents outs.new;
+          outs_faults = O.faults outs.new;
+          is_open = O.is_ready outs.new;
+          errs = E.documents errs.new;
+          errs_faults = E.faults errs.new;
+        })) }
 
     // The first files of the words are opened, each once and in order, and no other.
     ensures opened { (ask : Ask) → IsAsked (map string_bytes words.now) ask → OpensFirst (names_of ask)
-        (record { files = I.files inputs.old; is_opened = I.is_opened inputs.old;
-        openings = I.openings inputs.old; faults = I.faults inputs.old })
-        (record { files = I.files inputs.new; is_opened = I.is_opened inputs.new;
-        openings = I.openings inputs.new; faults = I.faults inputs.new }) }
+        (record {
+          files = I.files inputs.old;
+          is_opened = I.is_opened inputs.old;
+          openings = I.openings inputs.old;
+          faults = I.faults inputs.old;
+        })
+        (record {
+          files = I.files inputs.new;
+          is_opened = I.is_opened inputs.new;
+          openings = I.openings inputs.new;
+          faults = I.faults inputs.new;
+        }) }
 
     // Each fault has its cause.
     ensures unread { (ask : Ask) → IsAsked (map string_bytes words.now) ask → result ≡ code_of Status.Unread
         → Rose (I.faults inputs.old) (I.faults inputs.new)
-        ⊎ IsMissing (names_of ask) (contents_of (I.files inputs.old)) }
+        ⊎ IsMissing (names_of ask) (told_contents (I.files inputs.old)) }
     ensures absent { (ask : Ask) (name : List ℕ) (names : List (List ℕ))
         → IsAsked (map string_bytes words.now) ask → names_of ask ≡ name ∷ names
-        → IsAbsent (contents_of (I.files inputs.old)) name
+        → IsAbsent (told_contents (I.files inputs.old)) name
         → (result ≡ code_of Status.Unread) ⊎ (result ≡ code_of Status.OutOfMemory) }
     ensures read { IsCodeOf result
         (λ status. InputCount status (I.faults inputs.old) (I.faults inputs.new)) }
@@ -111,23 +145,49 @@ fn answer<I: Inputs, O: Outputs, E: Sink>(
     requires closed { O.is_ready outs.old ≡ false }
     requires ready { E.is_ready errs.old ≡ true }
     ensures ran { (ask : Ask) → IsAsked (map string_bytes words.now) ask → IsRun ask result
-        (record { files = I.files inputs.old; is_opened = I.is_opened inputs.old;
-        openings = I.openings inputs.old; faults = I.faults inputs.old })
-        (record { files = I.files inputs.new; is_opened = I.is_opened inputs.new;
-        openings = I.openings inputs.new; faults = I.faults inputs.new })
-        (record { outs = O.documents outs.old; outs_faults = O.faults outs.old;
-        is_open = O.is_ready outs.old; errs = E.documents errs.old; errs_faults = E.faults errs.old })
-        (record { outs = O.documents outs.new; outs_faults = O.faults outs.new;
-        is_open = O.is_ready outs.new; errs = E.documents errs.new;
-        errs_faults = E.faults errs.new }) }
+        (record {
+          files = I.files inputs.old;
+          is_opened = I.is_opened inputs.old;
+          openings = I.openings inputs.old;
+          faults = I.faults inputs.old;
+        })
+        (record {
+          files = I.files inputs.new;
+          is_opened = I.is_opened inputs.new;
+          openings = I.openings inputs.new;
+          faults = I.faults inputs.new;
+        })
+        (record {
+          outs = O.documents outs.old;
+          outs_faults = O.faults outs.old;
+          is_open = O.is_ready outs.old;
+          errs = E.documents errs.old;
+          errs_faults = E.faults errs.old;
+        })
+        (record {
+          outs = O.documents outs.new;
+          outs_faults = O.faults outs.new;
+          is_open = O.is_ready outs.new;
+          errs = E.documents errs.new;
+          errs_faults = E.faults errs.new;
+        }) }
     ensures bad_words { result ≡ Status.BadWords → (ask : Ask) → IsAsked (map string_bytes words.now) ask → ⊥ }
     ensures refused { ((ask : Ask) → IsAsked (map string_bytes words.now) ask → ⊥)
         → (inputs.new ≡ inputs.old) × RefusesWords result
-        (record { outs = O.documents outs.old; outs_faults = O.faults outs.old;
-        is_open = O.is_ready outs.old; errs = E.documents errs.old; errs_faults = E.faults errs.old })
-        (record { outs = O.documents outs.new; outs_faults = O.faults outs.new;
-        is_open = O.is_ready outs.new; errs = E.documents errs.new;
-        errs_faults = E.faults errs.new }) }
+        (record {
+          outs = O.documents outs.old;
+          outs_faults = O.faults outs.old;
+          is_open = O.is_ready outs.old;
+          errs = E.documents errs.old;
+          errs_faults = E.faults errs.old;
+        })
+        (record {
+          outs = O.documents outs.new;
+          outs_faults = O.faults outs.new;
+          is_open = O.is_ready outs.new;
+          errs = E.documents errs.new;
+          errs_faults = E.faults errs.new;
+        }) }
     ensures input { InputCount result (I.faults inputs.old) (I.faults inputs.new) }
     ensures output { OutputCount result (O.faults outs.old) (O.faults outs.new)
         (O.is_ready outs.new) }
@@ -158,15 +218,32 @@ fn carry_out<I: Inputs, O: Outputs, E: Sink>(
     requires closed { O.is_ready outs.old ≡ false }
     requires ready { E.is_ready errs.old ≡ true }
     ensures ran { IsRun ask result
-        (record { files = I.files inputs.old; is_opened = I.is_opened inputs.old;
-        openings = I.openings inputs.old; faults = I.faults inputs.old })
-        (record { files = I.files inputs.new; is_opened = I.is_opened inputs.new;
-        openings = I.openings inputs.new; faults = I.faults inputs.new })
-        (record { outs = O.documents outs.old; outs_faults = O.faults outs.old;
-        is_open = O.is_ready outs.old; errs = E.documents errs.old; errs_faults = E.faults errs.old })
-        (record { outs = O.documents outs.new; outs_faults = O.faults outs.new;
-        is_open = O.is_ready outs.new; errs = E.documents errs.new;
-        errs_faults = E.faults errs.new }) }
+        (record {
+          files = I.files inputs.old;
+          is_opened = I.is_opened inputs.old;
+          openings = I.openings inputs.old;
+          faults = I.faults inputs.old;
+        })
+        (record {
+          files = I.files inputs.new;
+          is_opened = I.is_opened inputs.new;
+          openings = I.openings inputs.new;
+          faults = I.faults inputs.new;
+        })
+        (record {
+          outs = O.documents outs.old;
+          outs_faults = O.faults outs.old;
+          is_open = O.is_ready outs.old;
+          errs = E.documents errs.old;
+          errs_faults = E.faults errs.old;
+        })
+        (record {
+          outs = O.documents outs.new;
+          outs_faults = O.faults outs.new;
+          is_open = O.is_ready outs.new;
+          errs = E.documents errs.new;
+          errs_faults = E.faults errs.new;
+        }) }
 {
     match ask {
         Ask::Help => write_text(outs, errs, help_text()),
@@ -179,7 +256,15 @@ fn carry_out<I: Inputs, O: Outputs, E: Sink>(
             ..
         } => {
             let output = text_of(&output);
-            trace_files(alloc, settings, output, names.as_slice(), inputs, outs, errs)
+            trace_files(
+                alloc,
+                settings,
+                output,
+                names.as_slice(),
+                inputs,
+                outs,
+                errs,
+            )
         }
     }
 }

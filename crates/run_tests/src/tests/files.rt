@@ -16,7 +16,12 @@ const TWO_PAGES: &[u8] = b"P1 1 1 1\nP1 1 1 0\n";
 #[test]
 fn names_of_documents(rt: HostRuntime) -> Result<(), Fail> {
     let table: [(&str, &str, &str, &str); 6] = [
-        ("-b points -t 0 -o out.svg", "scan.pbm", "out.svg", "out-2.svg"),
+        (
+            "-b points -t 0 -o out.svg",
+            "scan.pbm",
+            "out.svg",
+            "out-2.svg",
+        ),
         ("-b points -t 0", "scan.pbm", "scan.points", "scan-2.points"),
         ("-b points -t 0", "a.b/c", "a.b/c.points", "a.b/c-2.points"),
         ("-b points -t 0", "..", "..points", ".-2.points"),
@@ -51,13 +56,23 @@ fn documents_of_two_files(rt: HostRuntime) -> Result<(), Fail> {
     let words = "-b points -t 0 a.pbm a.pgm";
     let files: [(&str, &[u8]); 2] = [("a.pbm", TWO_PAGES), ("a.pgm", b"P1 1 1 1\n")];
     let done = run_both(&rt, rt.alloc(), words, files, &[])?;
-    let wanted = [("a.points", PIXEL), ("a-2.points", NONE), ("a-3.points", PIXEL)];
+    let wanted = [
+        ("a.points", PIXEL),
+        ("a-2.points", NONE),
+        ("a-3.points", PIXEL),
+    ];
     expect_named(&rt, &done, 0, &wanted, "");
     let words = "-b points -t 0 b.pbm a.pbm";
     let files: [(&str, &[u8]); 2] = [("a.pbm", b"P1 1 1 1\n"), ("b.pbm", b"P1 1 1 0\nx")];
     let done = run_both(&rt, rt.alloc(), words, files, &[])?;
     let note = "potrace: b.pbm: trailing bytes after page 1\n";
-    expect_named(&rt, &done, 0, &[("b.points", NONE), ("a.points", PIXEL)], note);
+    expect_named(
+        &rt,
+        &done,
+        0,
+        &[("b.points", NONE), ("a.points", PIXEL)],
+        note,
+    );
     Ok(())
 }
 
@@ -106,7 +121,10 @@ fn a_document_that_is_cut_off(rt: HostRuntime) -> Result<(), Fail> {
     case.unwritten = &[OutCall::Write(3)];
     let done = case.run(&rt, rt.alloc())?;
     let said = b"potrace: -: write fault\n".as_slice();
-    assert_eq!(rt; (done.status, done.errs.text(), done.outs.count()), (4, said, 1));
+    assert_eq!(rt;
+        (done.status, done.errs.text(), done.outs.count()),
+        (4, said, 1)
+    );
     assert!(rt; done.outs.count() == 1);
     let front = b"%!PS-Adobe-3.0 EPSF-3.0\n%%Boundi".as_slice();
     assert_eq!(rt; (done.outs.text(0), done.outs.whole(0)), (front, false));

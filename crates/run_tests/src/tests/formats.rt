@@ -1,7 +1,8 @@
 //! One picture in all formats, and a whole scan.
 
-use crate::tests::cases::{Case, expect};
+use crate::tests::cases::{Case, expect, expect_named};
 use std::alloc::Global;
+use std::process::Abort;
 use std::test::Fail;
 
 /// Of two by two pixels, the upper left one and the lower right one are black.
@@ -102,17 +103,33 @@ fn colors(alloc: Global, header: u8, bits: u8) -> Result<Vec<u8>, Fail> {
     Ok(out)
 }
 
-#[test]
-fn polygon_of_a_black_scan(rt: HostRuntime) -> Result<(), Fail> {
+/// A black page as a program for scans writes it.
+fn black_scan(rt: &impl Abort, alloc: Global) -> Result<Vec<u8>, Fail> {
     let mut scan = Vec::from_slice(
-        rt.alloc(),
+        alloc,
         b"P4\n# CREATOR: GIMP PNM Filter Version 1.1\n2480 3508\n",
     )?;
     let head = scan.len();
     assert!(rt; head < 100);
     scan.resize(head + 1_087_480, 255)?;
+    Ok(scan)
+}
+
+#[test]
+fn polygon_of_a_black_scan(rt: HostRuntime) -> Result<(), Fail> {
+    let scan = black_scan(&rt, rt.alloc())?;
     let done = Case::new("-b polygons -z minority -t 2", &scan).run(&rt, rt.alloc())?;
     let text = "polygons 2480 3508 1\n+ 8699840 11976 4 0: 0 3508 5988 9496\n";
     expect(&rt, &done, 0, &[text], "");
+    Ok(())
+}
+
+#[test]
+fn drawing_of_a_black_scan(rt: HostRuntime) -> Result<(), Fail> {
+    let scan = black_scan(&rt, rt.alloc())?;
+    let done = Case::over("letter.pbm", "letter.pbm", &scan).run(&rt, rt.alloc())?;
+    let text =
+        "%!PS-Adobe-3.0 EPSF-3.0\n%%BoundingBox: 0 0 2480 3508\n%%EndComments\ngsave\n1 10 div dup scale\n12400 35080 moveto\n-12400 0 rlineto\n0 -17540 rlineto\n0 -17540 rlineto\n12400 0 rlineto\n12400 0 rlineto\n0 17540 rlineto\n0 17540 rlineto\n-12400 0 rlineto\nclosepath\neofill\ngrestore\n%%EOF\n";
+    expect_named(&rt, &done, 0, &[("letter.eps", text)], "");
     Ok(())
 }

@@ -3,12 +3,12 @@ use Rattle.pt_base.specs.Counts.{Rose}
 use Rattle.pt_base.specs.Files.{Lacks}
 use Rattle.pt_base.specs.declared.fault.OpenFault.{OpenFault}
 use Rattle.pt_base.specs.declared.fault.OpenFault.TheVariants as opening
-use Rattle.file_trace.specs.Items.{IsAbsent, contents_of}
+use Rattle.file_trace.specs.Items.{IsAbsent, told_contents}
 use Rattle.file_trace.specs.Outcome.{Sinks}
 use Rattle.file_trace.specs.Progress.{Traces}
 use Rattle.file_trace.proofs.Ending.{ends_at_once, ends_behind, file_ends, file_unopened, lacks_absent}
 use Rattle.file_trace.proofs.Filing.{file_goes_on, has_bytes}
-use Rattle.file_trace.proofs.Reading.{name-with_file, no_name}
+use Rattle.file_trace.proofs.Reading.{name-with_file}
 use Rattle.file_trace.proofs.file.trace_file.Goals as goal
 
 -- the file can't be opened
@@ -18,7 +18,7 @@ returns-in-Err-clause-ends g c = λ names.
     inl (file_unopened c.args.settings output c.args.name.now c.args.made.now _ _ _ _ c.in-Err.ensures.one_more c.in-Err.ensures.none_opened (by_fault c.in-Err.field-0 refl) refl
     c.say_not_opened.ensures.said c.say_not_opened.ensures.never_falls names) where
       by_fault : (f : OpenFault) → f ≡ c.in-Err.field-0
-          → IsAbsent (contents_of (g.I.Inputs.files c.args.inputs.now)) c.args.name.now ⊎ Rose (g.I.Inputs.faults c.args.inputs.now) (g.I.Inputs.faults c.open.new.self)
+          → IsAbsent (told_contents (g.I.Inputs.files c.args.inputs.now)) c.args.name.now ⊎ Rose (g.I.Inputs.faults c.args.inputs.now) (g.I.Inputs.faults c.open.new.self)
       by_fault opening.Absent e = inl (lacks_absent (g.I.Inputs.files c.args.inputs.now) c.args.name.now (c.in-Err.ensures.absent.0 (ap Err (sym e))))
       by_fault opening.Device e = inr (c.in-Err.ensures.cause (ap Err (sym e)))
 
@@ -26,7 +26,7 @@ returns-in-Err-clause-ends g c = λ names.
 pub returns-in_default-clause-ends : goal.returns-in_default-clause-ends
 returns-in_default-clause-ends g c = λ names.
     let output : Option (List ℕ) = option_map (λ s. s.now) c.args.output in
-    ends_at_once (contents_of (g.I.Inputs.files c.args.inputs.now)) c.args.settings c.requires.offered.document output (c.args.name.now ∷ names) c.args.made.now _ _ refl
+    ends_at_once (told_contents (g.I.Inputs.files c.args.inputs.now)) c.args.settings c.requires.offered.document output (c.args.name.now ∷ names) c.args.made.now _ _ refl
     c.say_out_of_memory.ensures.said c.say_out_of_memory.ensures.never_falls
 
 -- the run ends with the file's pages
@@ -53,7 +53,7 @@ returns-in-Ok-add-clause-traced g c =
     let there : Lacks (g.I.Inputs.files c.args.inputs.now) c.args.name.now → ⊥ = λ lacking. let clash = c.in-Ok.ensures.absent.1 lacking in cc in
     let has = has_bytes (g.I.Inputs.files c.args.inputs.now) (g.I.Inputs.files c.open.new.self) c.args.name.now c.in-Ok.ensures.file there in
     rw (c.in-Ok-add.ensures.added, c.in-Ok-base_name.ensures)
-    (file_goes_on (contents_of (g.I.Inputs.files c.args.inputs.now)) c.args.settings c.requires.offered.document output c.args.name.now c.args.made.now (g.I.Inputs.files c.open.new.self)
+    (file_goes_on (told_contents (g.I.Inputs.files c.args.inputs.now)) c.args.settings c.requires.offered.document output c.args.name.now c.args.made.now (g.I.Inputs.files c.open.new.self)
     (g.I.Inputs.files c.trace_pages-traced.new.inputs) c.trace_pages-traced.result.pages _ _ has c.trace_pages-traced.result.end traced c.finish.ensures.said c.finish.ensures.never_falls
     c.in-Ok-finish.ensures.goes_on)
 
@@ -73,8 +73,8 @@ returns-in-Err-add-clause-ends g c = λ names.
       errs = g.E.Sink.documents c.finish.new.errs;
       errs_faults = g.E.Sink.faults c.finish.new.errs;
     } in
-    ends_behind (contents_of (g.I.Inputs.files c.args.inputs.now)) c.args.settings c.requires.offered.document output c.args.name.now c.args.made.now _ _ mid _
-    (file_goes_on (contents_of (g.I.Inputs.files c.args.inputs.now)) c.args.settings c.requires.offered.document output c.args.name.now c.args.made.now (g.I.Inputs.files c.open.new.self)
+    ends_behind (told_contents (g.I.Inputs.files c.args.inputs.now)) c.args.settings c.requires.offered.document output c.args.name.now c.args.made.now _ _ mid _
+    (file_goes_on (told_contents (g.I.Inputs.files c.args.inputs.now)) c.args.settings c.requires.offered.document output c.args.name.now c.args.made.now (g.I.Inputs.files c.open.new.self)
     (g.I.Inputs.files c.trace_pages-traced.new.inputs) c.trace_pages-traced.result.pages _ mid has c.trace_pages-traced.result.end traced c.finish.ensures.said c.finish.ensures.never_falls
     c.in-Ok-finish.ensures.goes_on)
     refl c.say_out_of_memory-in-Err-add.ensures.said c.say_out_of_memory-in-Err-add.ensures.never_falls names

@@ -1,6 +1,4 @@
-use Rattle.std.proofs.Common.{◌≡◌, ◌∙◌, Err, true, false, ap, refl, sym, subst, arith}
-use Rattle.file_trace.specs.Progress.{EndsBy, TracesPage, ahead}
-use Rattle.bitmap_input.specs.Reader.{is_later}
+use Rattle.std.proofs.Common.{◌≡◌, ◌∙◌, Err, true, false, ap, refl, sym, arith}
 use Rattle.file_trace.proofs.Naming.{next_name-made_with}
 use Rattle.file_trace.proofs.Tracing.{no_more, none_traced, one_more}
 use Rattle.file_trace.proofs.pages.trace_pages.Goals as goal

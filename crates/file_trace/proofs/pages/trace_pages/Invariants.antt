@@ -1,7 +1,7 @@
 use Rattle.std.proofs.Common.{◌≡◌, ◌≤◌, ◌-◌, false, true}
 use Rattle.pt_base.specs.Files.{unread}
 use Rattle.bitmap_input.specs.Reading.{AtEnd}
-use Rattle.file_trace.specs.Items.{contents_of}
+use Rattle.file_trace.specs.Items.{told_contents}
 use Rattle.file_trace.specs.Progress.{opened_name}
 use Rattle.file_trace.proofs.Tracing.{IsTraced}
 use Rattle.file_trace.proofs.pages.trace_pages.Given as goal
@@ -19,7 +19,7 @@ invariant-loop-pages g l =
       closed : outs.is_ready l.outs ≡ false;
       openings : inputs.openings l.inputs ≡ inputs.openings l.fn.inputs;
       name : opened_name (inputs.files l.inputs) ≡ opened_name (inputs.files l.fn.inputs);
-      contents : contents_of (inputs.files l.inputs) ≡ contents_of (inputs.files l.fn.inputs);
+      contents : told_contents (inputs.files l.inputs) ≡ told_contents (inputs.files l.fn.inputs);
       input : inputs.faults l.inputs ≡ inputs.faults l.fn.inputs;
       output : outs.faults l.outs ≡ outs.faults l.fn.outs;
     }

@@ -1,6 +1,6 @@
 use Rattle.std.proofs.Common.{◌≡◌, ◌∙◌, [], ℕ, List, Option, inl, option_map, refl, subst, sym, arith}
 use Rattle.std.proofs.lemmas.List.{take_all}
-use Rattle.file_trace.specs.Items.{contents_of}
+use Rattle.file_trace.specs.Items.{told_contents}
 use Rattle.file_trace.specs.Outcome.{Source}
 use Rattle.file_trace.proofs.Ending.{ends_at_once}
 use Rattle.potrace_main.proofs.Running.{all_done, ends_in, none_done, one_done, openings_more, opens_to}
@@ -10,7 +10,7 @@ use Rattle.potrace_main.proofs.files.trace_files.Goals as goal
 pub returns-in_default-clause-outcome : goal.returns-in_default-clause-outcome
 returns-in_default-clause-outcome g c =
     let output : Option (List ℕ) = option_map (λ s. s.now) c.args.output in
-    ends_at_once (contents_of (g.I.Inputs.files c.args.inputs.now)) c.args.settings c.requires.offered.document output c.args.names.now [] _ _ refl
+    ends_at_once (told_contents (g.I.Inputs.files c.args.inputs.now)) c.args.settings c.requires.offered.document output c.args.names.now [] _ _ refl
     c.say_out_of_memory.ensures.said c.say_out_of_memory.ensures.never_falls
 
 pub returns-in_default-clause-opened : goal.returns-in_default-clause-opened
@@ -21,7 +21,7 @@ pub loop-name-init : goal.loop-name-init
 loop-name-init g c =
     let output : Option (List ℕ) = option_map (λ s. s.now) c.args.output in
     record {
-      done = rw c.new-made.ensures (none_done (contents_of (g.I.Inputs.files c.args.inputs.now)) c.args.settings output _);
+      done = rw c.new-made.ensures (none_done (told_contents (g.I.Inputs.files c.args.inputs.now)) c.args.settings output _);
       openings = (let most = g.met.I.Inputs.openings_counted c.args.inputs.now in omega (arith, most));
       opened = inl (refl, refl);
       contents = refl;
