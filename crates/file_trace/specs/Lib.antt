@@ -7,7 +7,6 @@
 --   suffix_begins: where the suffix of a name begins
 --   stem_of: a name without its suffix
 --   suffix_of: the suffix of a name
---   backend_suffix: the suffix of a backend's documents
 --   base_name: the name by which the documents of a file go
 --   document_name: the k-th document with a base name
 --   count_of: how many documents have this base name

@@ -3,7 +3,7 @@ use Rattle.std.specs.Prelude.{ℕ, zero, suc, ◌+◌, List, ◌∷◌, ◌++◌
 use Rattle.std.specs.Path.{rfind_below}
 use Rattle.std.specs.Str.{bytes_eq}
 use Rattle.pt_base.specs.declared.settings.Backend.{Backend}
-use Rattle.pt_base.specs.declared.settings.Backend.TheVariants.{Eps, Svg, Dxf, GeoJson, Points, Polygons}
+use Rattle.page_trace.specs.Document.{backend_suffix}
 
 -- the name of standard input and of standard output
 abbrev pub dash : List ℕ
@@ -39,15 +39,6 @@ stem_of name = take (suffix_begins name) name
 -- the suffix of a name
 abbrev pub suffix_of : List ℕ → List ℕ
 suffix_of name = drop (suffix_begins name) name
-
--- the suffix of a backend's documents
-abbrev pub backend_suffix : Backend → List ℕ
-backend_suffix Eps = codes ".eps"
-backend_suffix Svg = codes ".svg"
-backend_suffix Dxf = codes ".dxf"
-backend_suffix GeoJson = codes ".json"
-backend_suffix Points = codes ".points"
-backend_suffix Polygons = codes ".polygons"
 
 -- the name by which the documents of a file go: the output's, where one is given; else standard output for
 -- standard input, and for a file its name with the backend's suffix in place of its own

@@ -1,9 +1,10 @@
 //! The names of documents, from those of files or of the output.
 ghost use Rattle.std.specs.Prelude.{◌≡◌, ◌≤◌, ◌<◌, None, IfOk, IfSome, get_or, length, option_map, string_bytes};
 ghost use Rattle.std.specs.Str.{IsCharBoundary};
-ghost use Rattle.file_trace.specs.Names.{backend_suffix, base_name, document_name, last_place, part_begins, suffix_begins};
+ghost use Rattle.file_trace.specs.Names.{base_name, document_name, last_place, part_begins, suffix_begins};
 
 use itoa::Buffer;
+use page_trace::document::suffix_of;
 use pt_base::settings::Backend;
 use std::alloc::{AllocError, Global};
 
@@ -31,7 +32,7 @@ fn file_base_name(alloc: Global, backend: Backend, file: &str) -> Result<String,
     }
     let at = suffix_begins(file);
     let mut name = String::from_str(alloc, &file[..at])?;
-    name.push_str(backend_suffix(backend))?;
+    name.push_str(suffix_of(backend))?;
     Ok(name)
 }
 
@@ -87,17 +88,4 @@ fn last_place(name: &[u8], byte: u8) -> Option<usize>
         end -= 1;
     }
     None
-}
-
-fn backend_suffix(backend: Backend) -> &'static str
-    ensures { result.now ≡ backend_suffix backend }
-{
-    match backend {
-        Backend::Eps => ".eps",
-        Backend::Svg => ".svg",
-        Backend::Dxf => ".dxf",
-        Backend::GeoJson => ".json",
-        Backend::Points => ".points",
-        Backend::Polygons => ".polygons",
-    }
 }

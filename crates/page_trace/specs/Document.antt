@@ -1,5 +1,5 @@
--- The document of a page.
-use Rattle.std.specs.Prelude.{◌≡◌, ℕ, ◌≤◌, List}
+-- The document of a page: all that is said of a backend stands here.
+use Rattle.std.specs.Prelude.{◌≡◌, ℕ, ◌≤◌, List, codes}
 use Rattle.pt_base.specs.PointsText.{points_text}
 use Rattle.pt_base.specs.PolygonsText.{polygons_text}
 use Rattle.pt_base.specs.declared.path.Path.{Path}
@@ -13,6 +13,24 @@ use Rattle.eps_backend.specs.EpsText.{eps_text}
 use Rattle.dxf_geojson.specs.DxfText.{dxf_text}
 use Rattle.dxf_geojson.specs.GeoJsonText.{geojson_text}
 use Rattle.page_trace.specs.Trace.{ArePaths, HasPolygons, IsTrace}
+
+-- the word of a backend
+abbrev pub backend_word : Backend → List ℕ
+backend_word Eps = codes "eps"
+backend_word Svg = codes "svg"
+backend_word Dxf = codes "dxf"
+backend_word GeoJson = codes "geojson"
+backend_word Points = codes "points"
+backend_word Polygons = codes "polygons"
+
+-- the suffix of a backend's documents
+abbrev pub backend_suffix : Backend → List ℕ
+backend_suffix Eps = codes ".eps"
+backend_suffix Svg = codes ".svg"
+backend_suffix Dxf = codes ".dxf"
+backend_suffix GeoJson = codes ".json"
+backend_suffix Points = codes ".points"
+backend_suffix Polygons = codes ".polygons"
 
 -- the text of a trace under a backend
 abbrev pub text_under : Settings → Backend → Trace → List ℕ

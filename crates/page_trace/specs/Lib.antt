@@ -8,7 +8,9 @@
 --   IsOutlineOf
 --   IsTrace: a trace has the page's paths and polygons, the adjusted vertices of each polygon
 pub mod Trace
--- The document of a page.
+-- The document of a page: all that is said of a backend stands here.
+--   backend_word: the word of a backend
+--   backend_suffix: the suffix of a backend's documents
 --   text_under: the text of a trace under a backend
 --   text_of: the text of a trace
 --   IsDocumentUnder: the text is the page's under a backend

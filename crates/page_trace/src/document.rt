@@ -1,6 +1,7 @@
-//! The document of a page.
-ghost use Rattle.std.specs.Prelude.{IfOk};
-ghost use Rattle.page_trace.specs.Document.{CanWrite, IsDocument};
+//! The document of a page: all that a backend is stands here.
+ghost use Rattle.std.specs.Prelude.{◌≡◌, IfNone, IfOk, IfSome};
+ghost use Rattle.page_trace.specs.Document.{CanWrite, IsDocument, backend_suffix, backend_word};
+ghost use Rattle.pt_base.specs.declared.settings.Backend.{Backend};
 
 use crate::paths::kept_paths;
 use crate::tracing::{polygons_alone, trace};
@@ -13,6 +14,36 @@ use pt_base::list_text::{points, polygons};
 use pt_base::settings::{Backend, Settings};
 use std::alloc::Global;
 use svg_backend::svg_text::svg;
+
+/// The backend of this word.
+pub fn backend_of(word: &str) -> Option<Backend>
+    ensures named { IfSome result (λ backend. word.now ≡ backend_word backend) }
+    ensures unnamed { IfNone result ((backend : Backend) → word.now ≡ backend_word backend → ⊥) }
+{
+    match word {
+        "eps" => Some(Backend::Eps),
+        "svg" => Some(Backend::Svg),
+        "dxf" => Some(Backend::Dxf),
+        "geojson" => Some(Backend::GeoJson),
+        "points" => Some(Backend::Points),
+        "polygons" => Some(Backend::Polygons),
+        _ => None,
+    }
+}
+
+/// The suffix of a backend's documents.
+pub fn suffix_of(backend: Backend) -> &'static str
+    ensures { result.now ≡ backend_suffix backend }
+{
+    match backend {
+        Backend::Eps => ".eps",
+        Backend::Svg => ".svg",
+        Backend::Dxf => ".dxf",
+        Backend::GeoJson => ".json",
+        Backend::Points => ".points",
+        Backend::Polygons => ".polygons",
+    }
+}
 
 /// The text of a page under the settings' backend.
 ///

@@ -12,7 +12,8 @@ use Rattle.command_words.specs.declared.parsed.Parsed.{Parsed}
 use Rattle.command_words.specs.declared.parsed.Parsed.TheVariants as words
 use Rattle.potrace_main.specs.declared.ask.Ask.{Ask}
 use Rattle.potrace_main.specs.declared.ask.Ask.TheVariants.{Help, Version, Demo, Files}
-use Rattle.potrace_main.specs.Asked.{Asks, AsksOf, GivesSettings, IsAsked, IsMicroOr, IsWholeOr, NamesBackend, NamesPolicy, backend_word, policy_word}
+use Rattle.potrace_main.specs.Asked.{Asks, AsksOf, GivesSettings, IsAsked, IsMicroOr, IsWholeOr, NamesBackend, NamesPolicy, policy_word}
+use Rattle.page_trace.specs.Document.{backend_word}
 
 -- One ask.
 

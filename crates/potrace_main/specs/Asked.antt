@@ -6,8 +6,9 @@ use Rattle.pt_base.specs.Whole.{IsWhole}
 use Rattle.pt_base.specs.declared.policy.Policy.{Policy}
 use Rattle.pt_base.specs.declared.policy.Policy.TheVariants.{Left, Right, Black, White, Majority, Minority}
 use Rattle.pt_base.specs.declared.settings.Backend.{Backend}
-use Rattle.pt_base.specs.declared.settings.Backend.TheVariants.{Eps, Svg, Dxf, GeoJson, Points, Polygons}
+use Rattle.pt_base.specs.declared.settings.Backend.TheVariants.{Eps, Svg}
 use Rattle.pt_base.specs.declared.settings.Settings.{Settings}
+use Rattle.page_trace.specs.Document.{backend_word}
 use Rattle.file_trace.specs.Offered.{IsOffered}
 use Rattle.command_words.specs.Given.{Given}
 use Rattle.command_words.specs.Parsed.{parsed}
@@ -25,15 +26,6 @@ policy_word Black = codes "black"
 policy_word White = codes "white"
 policy_word Majority = codes "majority"
 policy_word Minority = codes "minority"
-
--- the word of a backend
-abbrev pub backend_word : Backend → List ℕ
-backend_word Eps = codes "eps"
-backend_word Svg = codes "svg"
-backend_word Dxf = codes "dxf"
-backend_word GeoJson = codes "geojson"
-backend_word Points = codes "points"
-backend_word Polygons = codes "polygons"
 
 -- the value of `-b`, and whether `-s` and `-e` are given, name this backend: at most one of the three is given
 abbrev pub NamesBackend : Option (List ℕ) → Bool → Bool → Backend → Type 0

@@ -1,6 +1,5 @@
 -- What the words of the command line ask for.
 --   policy_word: the word of a policy (the potrace manual page, option "turnpolicy")
---   backend_word: the word of a backend
 --   NamesBackend: the value of `-b`, and whether `-s` and `-e` are given, name this backend
 --   NamesPolicy: the value of `-z` names this policy
 --   IsWholeOr: n is the default where there is no value; else the value is the whole number n, in a range

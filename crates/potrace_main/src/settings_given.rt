@@ -1,12 +1,13 @@
 //! The settings that the options give.
 ghost use Rattle.std.specs.Prelude.{◌≡◌, IfNone, IfSome, option_map};
-ghost use Rattle.potrace_main.specs.Asked.{GivesSettings, NamesBackend, NamesPolicy, backend_word, policy_word};
+ghost use Rattle.potrace_main.specs.Asked.{GivesSettings, NamesBackend, NamesPolicy, policy_word};
 ghost use Rattle.pt_base.specs.declared.policy.Policy.{Policy};
 ghost use Rattle.pt_base.specs.declared.settings.Backend.{Backend};
 ghost use Rattle.pt_base.specs.declared.settings.Settings.{Settings};
 
 use crate::numbers::{micro_or, whole_or};
 use command_words::given::Given;
+use page_trace::document::backend_of;
 use pt_base::policy::Policy;
 use pt_base::settings::{Backend, Settings};
 
@@ -96,22 +97,6 @@ fn policy_given(name: Option<&str>) -> Option<Policy>
     match name {
         Some(name) => policy_of(name),
         None => Some(Policy::Minority),
-    }
-}
-
-/// The backend of this word.
-fn backend_of(word: &str) -> Option<Backend>
-    ensures named { IfSome result (λ backend. word.now ≡ backend_word backend) }
-    ensures unnamed { IfNone result ((backend : Backend) → word.now ≡ backend_word backend → ⊥) }
-{
-    match word {
-        "eps" => Some(Backend::Eps),
-        "svg" => Some(Backend::Svg),
-        "dxf" => Some(Backend::Dxf),
-        "geojson" => Some(Backend::GeoJson),
-        "points" => Some(Backend::Points),
-        "polygons" => Some(Backend::Polygons),
-        _ => None,
     }
 }
 

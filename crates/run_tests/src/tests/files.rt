@@ -36,6 +36,25 @@ fn names_of_documents(rt: HostRuntime) -> Result<(), Fail> {
     Ok(())
 }
 
+#[test]
+fn names_of_drawings(rt: HostRuntime) -> Result<(), Fail> {
+    let table = [
+        ("-s -o out.svg scan.pbm", "out.svg", "out-2.svg"),
+        ("-s scan.pbm", "scan.svg", "scan-2.svg"),
+    ];
+    for (words, first, second) in table {
+        let done = Case::over(words, "scan.pbm", TWO_PAGES).run(&rt, rt.alloc())?;
+        assert!(rt; done.status == 0 && done.outs.count() == 2);
+        let names = (done.outs.name(0), done.outs.name(1));
+        let whole = (done.outs.whole(0), done.outs.whole(1));
+        assert_eq!(rt;
+            (names, whole),
+            ((first.as_bytes(), second.as_bytes()), (true, true))
+        );
+    }
+    Ok(())
+}
+
 /// A run over two files, which says so when it opens or reads one of them in vain.
 fn run_both<R: Threads + Sync>(
     rt: &R,

@@ -38,7 +38,10 @@ fn a_ring(rt: HostRuntime) -> Result<(), Fail> {
     let page = ["###", "#.#", "###"];
     let shapes: [&[Ring]; 1] = [&[square(0, 0, 3, 3), square(1, 1, 2, 2)]];
     for (backend, text) in texts(rt.alloc(), 3, 3, &shapes)? {
-        assert_eq!(rt; found(rt.alloc(), &page, backend)?.as_slice(), text.as_bytes());
+        assert_eq!(rt;
+            found(rt.alloc(), &page, backend)?.as_slice(),
+            text.as_bytes()
+        );
     }
     Ok(())
 }
@@ -53,7 +56,10 @@ fn a_hole_in_a_hole(rt: HostRuntime) -> Result<(), Fail> {
         &[square(2, 2, 5, 5), square(3, 3, 4, 4)],
     ];
     for (backend, text) in texts(rt.alloc(), 7, 7, &shapes)? {
-        assert_eq!(rt; found(rt.alloc(), &page, backend)?.as_slice(), text.as_bytes());
+        assert_eq!(rt;
+            found(rt.alloc(), &page, backend)?.as_slice(),
+            text.as_bytes()
+        );
     }
     Ok(())
 }
@@ -67,7 +73,10 @@ fn two_shapes_in_a_hole(rt: HostRuntime) -> Result<(), Fail> {
         &[square(4, 2, 5, 3)],
     ];
     for (backend, text) in texts(rt.alloc(), 7, 5, &shapes)? {
-        assert_eq!(rt; found(rt.alloc(), &page, backend)?.as_slice(), text.as_bytes());
+        assert_eq!(rt;
+            found(rt.alloc(), &page, backend)?.as_slice(),
+            text.as_bytes()
+        );
     }
     Ok(())
 }
@@ -89,7 +98,10 @@ fn a_shape_at_its_holes_corner(rt: HostRuntime) -> Result<(), Fail> {
     let page = ["#####", "#...#", "#.#.#", "#..##", "#####"];
     let shapes: [&[Ring]; 2] = [&[square(0, 0, 5, 5), CUT], &[square(2, 2, 3, 3)]];
     for (backend, text) in texts(rt.alloc(), 5, 5, &shapes)? {
-        assert_eq!(rt; found(rt.alloc(), &page, backend)?.as_slice(), text.as_bytes());
+        assert_eq!(rt;
+            found(rt.alloc(), &page, backend)?.as_slice(),
+            text.as_bytes()
+        );
     }
     Ok(())
 }
@@ -152,10 +164,15 @@ fn texts(
 
 fn svg(alloc: Global, width: u8, height: u8, shapes: &[&[Ring]]) -> Result<String, Fail> {
     let mut text = String::new(alloc);
-    text.push_str("<?xml version=\"1.0\" standalone=\"no\"?>\n<svg version=\"1.0\" xmlns=\"http://www.w3.org/2000/svg\" ")?;
+    text.push_str(
+        "<?xml version=\"1.0\" standalone=\"no\"?>\n<svg version=\"1.0\" xmlns=\"http://www.w3.org/2000/svg\" ",
+    )?;
     write!(text, "width=\"{width}pt\" height=\"{height}pt\" ")?;
     writeln!(text, "viewBox=\"0 0 {width}000 {height}000\">")?;
-    write!(text, "<g transform=\"translate(0,{height}000) scale(1,-1)\" ")?;
+    write!(
+        text,
+        "<g transform=\"translate(0,{height}000) scale(1,-1)\" "
+    )?;
     text.push_str("fill=\"#000000\" stroke=\"none\">\n")?;
     for rings in shapes {
         text.push_str("<path fill-rule=\"evenodd\" d=\"")?;
@@ -191,7 +208,11 @@ fn put_rings(text: &mut String, rings: &[Ring], between: &str, marks: &Marks) ->
 /// Appends a ring's first point, and the steps round to it.
 fn put_steps(text: &mut String, ring: &Ring, marks: &Marks) -> Result<(), Fail> {
     let mut from = ring[0];
-    write!(text, "{}{} {}{}", marks.place.0, from.0, from.1, marks.place.1)?;
+    write!(
+        text,
+        "{}{} {}{}",
+        marks.place.0, from.0, from.1, marks.place.1
+    )?;
     for place in [1, 2, 3, 4, 5, 6, 7, 0] {
         let to = ring[place];
         let across = i64::from(to.0) - i64::from(from.0);
