@@ -106,9 +106,12 @@ fn split(alloc: Global, text: &str) -> Result<Vec<String>, Fail> {
 
 /// The run ended so, with these documents, all of them whole and named for standard output, and this message.
 pub fn expect(rt: &impl Abort, done: &Done, status: u8, documents: &[&str], message: &str) {
+    let count = done.outs.count() as usize;
     expect_end(rt, done, status, documents.len(), message);
     for (i, text) in documents.iter().enumerate() {
-        expect_whole(rt, &done.outs, i as u32, "-", text);
+        if i < count {
+            expect_whole(rt, &done.outs, i as u32, "-", text);
+        }
     }
 }
 
@@ -120,9 +123,12 @@ pub fn expect_named(
     documents: &[(&str, &str)],
     message: &str,
 ) {
+    let count = done.outs.count() as usize;
     expect_end(rt, done, status, documents.len(), message);
     for (i, (name, text)) in documents.iter().enumerate() {
-        expect_whole(rt, &done.outs, i as u32, name, text);
+        if i < count {
+            expect_whole(rt, &done.outs, i as u32, name, text);
+        }
     }
 }
 

@@ -56,12 +56,12 @@ fn names_of_drawings(rt: HostRuntime) -> Result<(), Fail> {
 }
 
 /// A run over two files, which says so when it opens or reads one of them in vain.
-fn run_both<R: Threads + Sync>(
+fn run_both<'a, R: Threads + Sync>(
     rt: &R,
     alloc: Global,
-    words: &str,
-    files: [(&str, &[u8]); 2],
-    unread: &[InCall],
+    words: &'a str,
+    files: [(&'a str, &'a [u8]); 2],
+    unread: &'a [InCall],
 ) -> Result<Done, Fail> {
     let [(name, input), other] = files;
     let mut case = Case::over(words, name, input);
