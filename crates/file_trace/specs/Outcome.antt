@@ -123,9 +123,9 @@ pub record OpensUpTo (names : List (List ℕ)) (name : List ℕ) (front : List (
   pub listed : names ≡ front ++ name ∷ back
   pub grew : openings_now ≡ min (openings + (length front + 1)) last_count
 
--- a file can't be opened: it isn't there, or a device failed. All items of the files in front of it are
+-- a file can't be opened: it isn't there, or a device failed. The first items, and all items of the files in front of it are
 -- carried out, and its message is the last one.
-pub record IsUnopened (contents : Option Contents) (settings : Settings) (output : Option (List ℕ)) (names made : List (List ℕ)) (source source_now : Source) (old new : Sinks) : Type 0 where
+pub record IsUnopened (first : List Item) (contents : Option Contents) (settings : Settings) (output : Option (List ℕ)) (names made : List (List ℕ)) (source source_now : Source) (old new : Sinks) : Type 0 where
   pub name : List ℕ
   pub front : List (List ℕ)
   pub before : List Item
@@ -133,7 +133,7 @@ pub record IsUnopened (contents : Option Contents) (settings : Settings) (output
   pub closed : source_now.is_opened ≡ false
   pub cause : IsAbsent contents name ⊎ Rose source.faults source_now.faults
   pub items : AreItems contents settings output Nothing front made before
-  pub done : AreCarriedOut before (not_opened name ∷ []) old new
+  pub done : AreCarriedOut (first ++ before) (not_opened name ∷ []) old new
 
 -- the first pages of the bytes are these, none of them is by the end of the bytes, and `rest` is what follows them
 abbrev pub BeginsSettled : Bool → List ℕ → List Raw → List ℕ → Type 0
@@ -159,9 +159,9 @@ abbrev pub HoldsBytes : Option Contents → List ℕ → List ℕ → List ℕ �
 HoldsBytes None name taken rest = Unit {0}
 HoldsBytes (Some contents) name taken rest = get contents name ≡ Some (taken ++ rest)
 
--- a read failed: all items of the files in front of the opened one, and the documents of its pages that had
+-- a read failed: the first items, all items of the files in front of the opened one, and the documents of its pages that had
 -- been taken whole, are carried out, and the message of the page behind them is the last one
-pub record IsUnread (contents : Option Contents) (settings : Settings) (output : Option (List ℕ)) (names made : List (List ℕ)) (source source_now : Source) (old new : Sinks) : Type 0 where
+pub record IsUnread (first : List Item) (contents : Option Contents) (settings : Settings) (output : Option (List ℕ)) (names made : List (List ℕ)) (source source_now : Source) (old new : Sinks) : Type 0 where
   pub name : List ℕ
   pub front : List (List ℕ)
   pub taken : List ℕ
@@ -175,19 +175,24 @@ pub record IsUnread (contents : Option Contents) (settings : Settings) (output :
   pub stops : StopsReading taken raws
   pub items : AreItems contents settings output
       (λ made items. ArePageItems settings name (base_name output settings.backend name) End Nothing raws 0 made items) front made before
-  pub done : AreCarriedOut before (page_line name (length raws + 1) read_fault ∷ []) old new
+  pub done : AreCarriedOut (first ++ before) (page_line name (length raws + 1) read_fault ∷ []) old new
+
+-- what was done of these first items and those of the files of these names, after documents with these base
+-- names
+abbrev pub IsOutcomeBehind : Status → List Item → Option Contents → Settings → Option (List ℕ) → List (List ℕ) → List (List ℕ) → Source → Source → Sinks → Sinks → Type 0
+IsOutcomeBehind status.Unread first contents settings output names made source source_now old new =
+    IsUnopened first contents settings output names made source source_now old new ⊎ IsUnread first contents settings output names made source source_now old new
+IsOutcomeBehind status.Done first contents settings output names made source source_now old new =
+    (items : List Item) × AreItems contents settings output Nothing names made items × HasEnded status.Done (first ++ items) old new
+IsOutcomeBehind status.BadWords first contents settings output names made source source_now old new =
+    (items : List Item) × AreItems contents settings output Nothing names made items × HasEnded status.BadWords (first ++ items) old new
+IsOutcomeBehind status.Refused first contents settings output names made source source_now old new =
+    (items : List Item) × AreItems contents settings output Nothing names made items × HasEnded status.Refused (first ++ items) old new
+IsOutcomeBehind status.Unwritten first contents settings output names made source source_now old new =
+    (items : List Item) × AreItems contents settings output Nothing names made items × HasEnded status.Unwritten (first ++ items) old new
+IsOutcomeBehind status.OutOfMemory first contents settings output names made source source_now old new =
+    (items : List Item) × AreItems contents settings output Nothing names made items × HasEnded status.OutOfMemory (first ++ items) old new
 
 -- what was done of the items of the files of these names, after documents with these base names
 abbrev pub IsOutcome : Status → Option Contents → Settings → Option (List ℕ) → List (List ℕ) → List (List ℕ) → Source → Source → Sinks → Sinks → Type 0
-IsOutcome status.Unread contents settings output names made source source_now old new =
-    IsUnopened contents settings output names made source source_now old new ⊎ IsUnread contents settings output names made source source_now old new
-IsOutcome status.Done contents settings output names made source source_now old new =
-    (items : List Item) × AreItems contents settings output Nothing names made items × HasEnded status.Done items old new
-IsOutcome status.BadWords contents settings output names made source source_now old new =
-    (items : List Item) × AreItems contents settings output Nothing names made items × HasEnded status.BadWords items old new
-IsOutcome status.Refused contents settings output names made source source_now old new =
-    (items : List Item) × AreItems contents settings output Nothing names made items × HasEnded status.Refused items old new
-IsOutcome status.Unwritten contents settings output names made source source_now old new =
-    (items : List Item) × AreItems contents settings output Nothing names made items × HasEnded status.Unwritten items old new
-IsOutcome status.OutOfMemory contents settings output names made source source_now old new =
-    (items : List Item) × AreItems contents settings output Nothing names made items × HasEnded status.OutOfMemory items old new
+IsOutcome s contents settings output names made source source_now old new = IsOutcomeBehind s [] contents settings output names made source source_now old new

@@ -3,7 +3,7 @@ use Rattle.std.specs.Prelude.{◌≡◌, ℕ, ◌+◌, ◌<◌, ◌≤◌, Bool,
 use Rattle.pt_base.specs.Counts.{Rose}
 use Rattle.pt_base.specs.Files.{Contents, Files, unread}
 use Rattle.bit_image.specs.Page.{Page as Pixels}
-use Rattle.pt_base.specs.Documents.{Documents, with_whole, IsCutOff, IsSaid}
+
 use Rattle.bitmap_input.specs.declared.fault.InFault.{InFault}
 use Rattle.bitmap_input.specs.declared.fault.InFault.TheVariants as fault
 use Rattle.bitmap_input.specs.Cut.{Kind, is_by_end}
@@ -20,8 +20,9 @@ use Rattle.file_trace.specs.Messages.{not_written, out_of_memory, page_line, rea
 use Rattle.file_trace.specs.Names.{made_with, next_name}
 use Rattle.page_trace.specs.Document.{IsDocument}
 use Rattle.file_trace.specs.Items.{AreItems, Item, Rest, most_pages, too_many}
-use Rattle.file_trace.specs.Items.Item.{Doc}
-use Rattle.file_trace.specs.Outcome.{AreCarriedOut, Sinks, StopsReading, is_later, with_items}
+use Rattle.file_trace.specs.Items.Item.{Doc, Note}
+use Rattle.file_trace.specs.Held.{AreHeld, Held, Holds}
+use Rattle.file_trace.specs.Outcome.{AreCarriedOut, HasEnded, Sinks, StopsReading, is_later}
 use Rattle.pt_base.specs.declared.settings.Settings.{Settings}
 use Rattle.file_trace.specs.declared.status.Status.{Status}
 use Rattle.file_trace.specs.declared.status.Status.TheVariants as status
@@ -85,39 +86,16 @@ EndsReading later rest (why.Refused fault) =
 EndsReading later rest why.Unread = Unit {0}
 EndsReading later rest why.OutOfMemory = Unit {0}
 EndsReading later rest why.TooMany = ⊥
-EndsReading later rest (why.Unwritten name) = ⊥
 
--- the page wasn't written for this reason: its document, of this name, was cut off, or memory ran out before
-abbrev pub EndsWriting : Settings → Pixels → List ℕ → Option Documents → Option Documents → PagesEnd → Type 0
-EndsWriting settings page name outs outs_now (why.Unwritten document) =
-    (string_bytes document ≡ name) × ((text : List ℕ) × IsDocument page settings text × IsCutOff outs outs_now name text)
-EndsWriting settings page name outs outs_now why.OutOfMemory = outs_now ≡ outs
-EndsWriting settings page name outs outs_now why.End = ⊥
-EndsWriting settings page name outs outs_now why.Trailing = ⊥
-EndsWriting settings page name outs outs_now (why.Refused fault) = ⊥
-EndsWriting settings page name outs outs_now why.Unread = ⊥
-EndsWriting settings page name outs outs_now why.TooMany = ⊥
-
--- the next page was traced, and its document written under this name
-pub record TracesPage (settings : Settings) (name : List ℕ) (old : Reader) (before : Option Files) (outs : Option Documents) (new : Reader) (now : Option Files) (outs_now : Option Documents) : Type 0 where
-  pub page : Pixels
-  pub reads : ReadsPage settings old before page new now
-  pub text : List ℕ
-  pub is_text : IsDocument page settings text
-  pub documents : outs_now ≡ with_whole outs name text
-
--- no further page was traced for this reason, where its document would have had this name
-abbrev pub EndsBy : Settings → List ℕ → Bool → Option (List ℕ) → Option Documents → Option Documents → PagesEnd → Type 0
-EndsBy settings name later rest outs outs_now (why.Unwritten document) =
-    (string_bytes document ≡ name) × ((raw : Raw) × (used : ℕ) × (text : List ℕ) × IsDocument (shown settings.level settings.invert raw) settings text
-    × IfSome rest (λ bytes. front later bytes ≡ Page raw used) × IsCutOff outs outs_now name text)
-EndsBy settings name later rest outs outs_now why.TooMany =
-    (outs_now ≡ outs) × ((raw : Raw) × (used : ℕ) × IfSome rest (λ bytes. front later bytes ≡ Page raw used))
-EndsBy settings name later rest outs outs_now why.End = (outs_now ≡ outs) × EndsReading later rest why.End
-EndsBy settings name later rest outs outs_now why.Trailing = (outs_now ≡ outs) × EndsReading later rest why.Trailing
-EndsBy settings name later rest outs outs_now (why.Refused fault) = (outs_now ≡ outs) × EndsReading later rest (why.Refused fault)
-EndsBy settings name later rest outs outs_now why.Unread = outs_now ≡ outs
-EndsBy settings name later rest outs outs_now why.OutOfMemory = outs_now ≡ outs
+-- no further page was read for this reason, where `later` says whether a page came before and `rest` is what
+-- is ahead: nothing was found there; or a page that is one too many
+abbrev pub EndsBy : Bool → Option (List ℕ) → PagesEnd → Type 0
+EndsBy later rest why.TooMany = (raw : Raw) × (used : ℕ) × IfSome rest (λ bytes. front later bytes ≡ Page raw used)
+EndsBy later rest why.End = EndsReading later rest why.End
+EndsBy later rest why.Trailing = EndsReading later rest why.Trailing
+EndsBy later rest (why.Refused fault) = EndsReading later rest (why.Refused fault)
+EndsBy later rest why.Unread = EndsReading later rest why.Unread
+EndsBy later rest why.OutOfMemory = EndsReading later rest why.OutOfMemory
 
 -- why no further page is traced, where the reader tells of a fault
 abbrev pub end_of_fault : InFault → PagesEnd
@@ -140,17 +118,17 @@ status_of why.Trailing = status.Done
 status_of (why.Refused fault) = status.Refused
 status_of why.TooMany = status.Refused
 status_of why.Unread = status.Unread
-status_of (why.Unwritten document) = status.Unwritten
 status_of why.OutOfMemory = status.OutOfMemory
 
--- how the inputs' count of faults moved: it stayed, but where a read failed or memory ran out
+-- how the inputs' count of faults moved: it stayed, but where a read failed (and then perhaps a document of a
+-- page in front of it couldn't be written) or memory ran out
 abbrev pub InputCount : Status → ℕ → ℕ → Type 0
 InputCount status.Unread before now = Unit {0}
 InputCount status.OutOfMemory before now = Unit {0}
 InputCount status.Done before now = now ≡ before
 InputCount status.BadWords before now = now ≡ before
 InputCount status.Refused before now = now ≡ before
-InputCount status.Unwritten before now = now ≡ before
+InputCount status.Unwritten before now = Unit {0}
 
 -- how the outputs moved: their count rose where a document couldn't be written, and else it stayed, and
 -- no document is open
@@ -168,8 +146,9 @@ pub record HasUnread (raws : List Raw) (before now : Option Files) : Type 0 wher
   pub stops : StopsReading taken raws
   pub told : IfSome (unread before) (λ bytes. (rest : List ℕ) × (bytes ≡ taken ++ rest) × (unread now ≡ Some rest))
 
--- k pages were traced, after documents with these base names, and then the tracing ended so
-pub record Traces (settings : Settings) (base : List ℕ) (made : List (List ℕ)) (before now : Option Files) (outs outs_now : Option Documents) (k : ℕ) (end : PagesEnd) : Type 0 where
+-- k pages were read, after documents with these base names, and then the reading ended so; of what was held
+-- before and the documents of these pages, the first are carried out, and the others are held
+pub record Traces (settings : Settings) (base : List ℕ) (made : List (List ℕ)) (before now : Option Files) (held held_now : List Held) (old new : Sinks) (k : ℕ) (end : PagesEnd) : Type 0 where
   pub raws : List Raw
   pub texts : List (List ℕ)
   pub count : k ≡ length raws
@@ -177,28 +156,53 @@ pub record Traces (settings : Settings) (base : List ℕ) (made : List (List ℕ
   pub traced : AreTraced settings raws texts
   pub rest : Option (List ℕ)
   pub begins : IfSome (unread before) (λ all. (left : List ℕ) × (rest ≡ Some left) × BeginsWith false all raws left)
-  pub ends : EndsBy settings (next_name base (made_with base k made)) (is_later false raws) rest (with_items outs (docs base made texts)) outs_now end
+  pub ends : EndsBy (is_later false raws) rest end
   pub full : end ≡ why.TooMany → most_pages ≤ k + length made
-  pub not_full : status_of end ≡ status.Unwritten → k + length made < most_pages
   pub unread : end ≡ why.Unread → HasUnread raws before now
+  pub holds : (first : List Item) → AreHeld settings held first → Holds settings (first ++ docs base made texts) held_now old new
 
--- what is said where the pages of the file of this name end so, after k of them
-abbrev pub SaysEnd : List ℕ → PagesEnd → ℕ → Option Documents → Option Documents → ℕ → ℕ → Type 0
-SaysEnd name why.End k errs errs_now faults faults_now = (errs_now ≡ errs) × (faults_now ≡ faults)
-SaysEnd name why.Trailing k errs errs_now faults faults_now = IsSaid errs errs_now faults faults_now (trailing_line name k)
-SaysEnd name (why.Refused fault) k errs errs_now faults faults_now =
-    IsSaid errs errs_now faults faults_now (page_line name (k + 1) (fault_text fault))
-SaysEnd name why.TooMany k errs errs_now faults faults_now = IsSaid errs errs_now faults faults_now (page_line name (k + 1) too_many)
-SaysEnd name why.Unread k errs errs_now faults faults_now = IsSaid errs errs_now faults faults_now (page_line name (k + 1) read_fault)
-SaysEnd name (why.Unwritten document) k errs errs_now faults faults_now = IsSaid errs errs_now faults faults_now (not_written (string_bytes document))
-SaysEnd name why.OutOfMemory k errs errs_now faults faults_now = IsSaid errs errs_now faults faults_now out_of_memory
+-- some pages were read, after documents with these base names; what was held before and the documents of these
+-- pages were carried out as far as the status says
+pub record Halts (status : Status) (settings : Settings) (base : List ℕ) (made : List (List ℕ)) (before : Option Files) (held : List Held) (old new : Sinks) : Type 0 where
+  pub raws : List Raw
+  pub texts : List (List ℕ)
+  pub few : length raws + length made ≤ most_pages
+  pub traced : AreTraced settings raws texts
+  pub begins : IfSome (unread before) (λ all. (left : List ℕ) × BeginsWith false all raws left)
+  pub ended : (first : List Item) → AreHeld settings held first → HasEnded status (first ++ docs base made texts) old new
+
+-- the note of a file of this name whose k pages end so
+abbrev pub end_notes : List ℕ → PagesEnd → ℕ → List Item
+end_notes name why.Trailing k = Note (trailing_line name k) ∷ []
+end_notes name why.End k = []
+end_notes name (why.Refused fault) k = []
+end_notes name why.TooMany k = []
+end_notes name why.Unread k = []
+end_notes name why.OutOfMemory k = []
+
+-- what is said where the run ends with the pages of the file of this name, k of which were read
+abbrev pub end_message : List ℕ → PagesEnd → ℕ → List ℕ
+end_message name (why.Refused fault) k = page_line name (k + 1) (fault_text fault)
+end_message name why.TooMany k = page_line name (k + 1) too_many
+end_message name why.Unread k = page_line name (k + 1) read_fault
+end_message name why.OutOfMemory k = out_of_memory
+end_message name why.End k = []
+end_message name why.Trailing k = []
+
+-- the run ends with the pages of a file: these items, which were held, are carried out, and the message is
+-- said; or they are carried out as far as the status says
+abbrev pub EndsWithFile : List ℕ → PagesEnd → ℕ → Status → List Item → Sinks → Sinks → Type 0
+EndsWithFile name end k s items old new =
+    ((s ≡ status_of end) × (s ≢ status.Done) × (s ≢ status.OutOfMemory) × AreCarriedOut items (end_message name end k ∷ []) old new)
+    ⊎ (((s ≡ status.Unwritten) ⊎ (s ≡ status.OutOfMemory)) × HasEnded s items old new)
 
 -- nothing follows, and these are the base names of the documents so far
 abbrev pub EndsWith : List (List ℕ) → Rest
 EndsWith made made_now items = (made_now ≡ made) × (items ≡ [])
 
--- the items of the file of this name are carried out, and the run goes on behind them
-pub record TracesFile (contents : Option Contents) (settings : Settings) (output : Option (List ℕ)) (name : List ℕ) (made made_now : List (List ℕ)) (old new : Sinks) : Type 0 where
+-- these are the items of the file of this name, and the run goes on behind them; of what was held before and
+-- them the first are carried out, and the others are held
+pub record TracesFile (contents : Option Contents) (settings : Settings) (output : Option (List ℕ)) (name : List ℕ) (made made_now : List (List ℕ)) (held held_now : List Held) (old new : Sinks) : Type 0 where
   pub items : List Item
   pub are : AreItems contents settings output (EndsWith made_now) (name ∷ []) made items
-  pub done : AreCarriedOut items [] old new
+  pub holds : (first : List Item) → AreHeld settings held first → Holds settings (first ++ items) held_now old new

@@ -1,46 +1,57 @@
-//! A whole file: opened, its pages traced, and how it ended said.
-ghost use Rattle.std.specs.Prelude.{◌≡◌, ◌≢◌, ◌+◌, ◌≤◌, ◌∷◌, List, ℕ, false, true, option_map, IfErr, OnOk, IfSome, length};
+//! A whole file: opened, its pages read and traced by batches, and how it ended said.
+ghost use Rattle.std.specs.Prelude.{◌≡◌, ◌≢◌, ◌+◌, ◌*◌, ◌++◌, ◌<◌, ◌≤◌, ◌∷◌, List, ℕ, false, true, option_map, IfErr, OnOk, IfSome, length};
 ghost use Rattle.pt_base.specs.Counts.{next_count};
-ghost use Rattle.file_trace.specs.Items.{told_contents, most_pages};
+ghost use Rattle.page_trace.specs.Document.{CanWrite};
+ghost use Rattle.file_trace.specs.Held.{AreHeld, Holds, pages_held};
+ghost use Rattle.file_trace.specs.Items.{Item, told_contents, most_pages};
 ghost use Rattle.file_trace.specs.Names.{base_name};
 ghost use Rattle.file_trace.specs.Offered.{IsOffered};
-ghost use Rattle.file_trace.specs.Outcome.{IsOutcome};
-ghost use Rattle.file_trace.specs.Progress.{InputCount, OutputCount, SaysEnd, TracesFile, opened_name, status_of};
+ghost use Rattle.file_trace.specs.Outcome.{IsOutcomeBehind};
+ghost use Rattle.file_trace.specs.Progress.{EndsWithFile, InputCount, OutputCount, TracesFile, end_notes, opened_name, status_of};
 ghost use Rattle.file_trace.specs.declared.status.Status.{Status};
 
+use crate::batch::Batch;
 use crate::made::Made;
-use crate::message::{
-    say_not_opened, say_not_written, say_of_page, say_out_of_memory, say_trailing,
-};
+use crate::message::{say_not_opened, say_of_page, say_out_of_memory};
 use crate::names::base_name;
 use crate::pages::{PagesEnd, Traced, trace_pages};
 use crate::status::Status;
 use bitmap_input::reader::PageReader;
+use pt_base::gate::Gate;
 use pt_base::inputs::Inputs;
 use pt_base::settings::Settings;
 use pt_base::sink::{Outputs, Sink};
 use std::alloc::Global;
+use std::thread::Threads;
 
-/// Opens a file, traces its pages, and writes a document for each. An `Err` says how the run ends in this file.
-pub fn trace_file<I: Inputs, O: Outputs, E: Sink>(
+/// Opens a file and reads its pages into the batch, which is carried out where it is full. An `Err` says how
+/// the run ends in this file: whole pages in front of that are traced and written first.
+pub fn trace_file<R: Threads + Sync, I: Inputs, O: Outputs, E: Sink, G: Gate + Sync>(
+    rt: &R,
     alloc: Global,
     settings: Settings,
+    workers: u32,
     output: Option<&str>,
     name: &str,
     made: &mut Made,
+    batch: &mut Batch,
     reader: &mut PageReader,
     inputs: &mut I,
     outs: &mut O,
     errs: &mut E,
+    gate: &G,
 ) -> Result<(), Status>
     requires offered { IsOffered settings }
+    requires some_worker { 1 ≤ workers }
+    requires most_workers { workers ≤ 64 }
+    requires not_full { pages_held batch.old < 2 * workers }
     requires closed { O.is_ready outs.old ≡ false }
     requires ready { E.is_ready errs.old ≡ true }
 
-    // The file's items are carried out, and the documents are counted.
+    // The file's items are carried out or held, and its documents are counted.
     ensures traced { OnOk result
         (TracesFile (told_contents (I.files inputs.old)) settings (option_map (λ s. s.now) output.entry) name.now
-        made.old made.new
+        made.old made.new batch.old batch.new
         (record {
           outs = O.documents outs.old;
           outs_faults = O.faults outs.old;
@@ -56,10 +67,10 @@ pub fn trace_file<I: Inputs, O: Outputs, E: Sink>(
           errs_faults = E.faults errs.new;
         })) }
 
-    // Whatever files come behind this one, the run ends so.
-    ensures ends { IfErr result (λ status. (names : List (List ℕ))
-        → IsOutcome status (told_contents (I.files inputs.old)) settings (option_map (λ s. s.now) output.entry)
-        (name.now ∷ names) made.old
+    // Whatever files come behind this one, the run ends so, behind the items of what was held.
+    ensures ends { IfErr result (λ status. (names : List (List ℕ)) → (first : List Item) → AreHeld settings batch.old first
+        → IsOutcomeBehind status first (told_contents (I.files inputs.old)) settings
+        (option_map (λ s. s.now) output.entry) (name.now ∷ names) made.old
         (record {
           files = I.files inputs.old;
           is_opened = I.is_opened inputs.old;
@@ -87,6 +98,7 @@ pub fn trace_file<I: Inputs, O: Outputs, E: Sink>(
           errs_faults = E.faults errs.new;
         })) }
 
+    ensures still_not_full { OnOk result (pages_held batch.new < 2 * workers) }
     ensures input { IfErr result (λ status. InputCount status (I.faults inputs.old) (I.faults inputs.new)) }
     ensures steady_input { OnOk result (I.faults inputs.new ≡ I.faults inputs.old) }
     ensures output { IfErr result
@@ -103,8 +115,13 @@ pub fn trace_file<I: Inputs, O: Outputs, E: Sink>(
     match inputs.open(name) {
         Ok(()) => {}
         Err(_) => {
-            say_not_opened(errs, name);
-            return Err(Status::Unread);
+            return match batch.carry_out(rt, alloc, settings, workers, outs, errs, gate) {
+                Ok(()) => {
+                    say_not_opened(errs, name);
+                    Err(Status::Unread)
+                }
+                Err(status) => Err(status),
+            };
         }
     }
     let Ok(base) = base_name(alloc, output, settings.backend, name) else {
@@ -112,9 +129,14 @@ pub fn trace_file<I: Inputs, O: Outputs, E: Sink>(
         return Err(Status::OutOfMemory);
     };
     reader.start();
-    let traced = trace_pages(alloc, settings, &base, made, reader, inputs, outs);
+    let traced = match trace_pages(
+        rt, alloc, settings, workers, &base, made, batch, reader, inputs, outs, errs, gate,
+    ) {
+        Ok(traced) => traced,
+        Err(status) => return Err(status),
+    };
     let pages = traced.pages;
-    match finish(errs, name, traced) {
+    match finish(rt, alloc, settings, workers, name, traced, batch, outs, errs, gate) {
         Ok(()) => {}
         Err(status) => return Err(status),
     }
@@ -127,44 +149,85 @@ pub fn trace_file<I: Inputs, O: Outputs, E: Sink>(
     }
 }
 
-/// Says how the pages of a file ended. An `Err` says that the run ends there.
-fn finish<E: Sink>(errs: &mut E, name: &str, traced: Traced) -> Result<(), Status>
-    requires ready { E.is_ready errs.old ≡ true }
+/// Holds what is to be said of the end of a file's pages. Where the run ends there, all that is held is carried
+/// out first, but for want of memory.
+fn finish<R: Threads + Sync, O: Outputs, E: Sink, G: Gate + Sync>(
+    rt: &R,
+    alloc: Global,
+    settings: Settings,
+    workers: u32,
+    name: &str,
+    traced: Traced,
+    batch: &mut Batch,
+    outs: &mut O,
+    errs: &mut E,
+    gate: &G,
+) -> Result<(), Status>
+    requires document { CanWrite settings }
+    requires some_worker { 1 ≤ workers }
+    requires most_workers { workers ≤ 64 }
+    requires not_full { pages_held batch.old < 2 * workers }
     requires few { traced.pages ≤ most_pages }
-    ensures said { SaysEnd name.now traced.end traced.pages (E.documents errs.old)
-        (E.documents errs.new) (E.faults errs.old) (E.faults errs.new) }
+    requires closed { O.is_ready outs.old ≡ false }
+    requires ready { E.is_ready errs.old ≡ true }
     ensures goes_on { OnOk result (status_of traced.end ≡ Status.Done) }
-    ensures ends { IfErr result
-        (λ status. (status ≡ status_of traced.end) × (status ≢ Status.Done)) }
-    ensures never_falls { E.faults errs.old ≤ E.faults errs.new }
+    ensures held { OnOk result ((first : List Item) → AreHeld settings batch.old first
+        → Holds settings (first ++ end_notes name.now traced.end traced.pages) batch.new
+        (record {
+          outs = O.documents outs.old;
+          outs_faults = O.faults outs.old;
+          is_open = O.is_ready outs.old;
+          errs = E.documents errs.old;
+          errs_faults = E.faults errs.old;
+        })
+        (record {
+          outs = O.documents outs.new;
+          outs_faults = O.faults outs.new;
+          is_open = O.is_ready outs.new;
+          errs = E.documents errs.new;
+          errs_faults = E.faults errs.new;
+        })) }
+    ensures ends { IfErr result (λ status. (first : List Item) → AreHeld settings batch.old first
+        → EndsWithFile name.now traced.end traced.pages status first
+        (record {
+          outs = O.documents outs.old;
+          outs_faults = O.faults outs.old;
+          is_open = O.is_ready outs.old;
+          errs = E.documents errs.old;
+          errs_faults = E.faults errs.old;
+        })
+        (record {
+          outs = O.documents outs.new;
+          outs_faults = O.faults outs.new;
+          is_open = O.is_ready outs.new;
+          errs = E.documents errs.new;
+          errs_faults = E.faults errs.new;
+        })) }
+    ensures still_not_full { OnOk result (pages_held batch.new < 2 * workers) }
+    ensures output { IfErr result
+        (λ status. OutputCount status (O.faults outs.old) (O.faults outs.new) (O.is_ready outs.new)) }
+    ensures steady_output { OnOk result ((O.faults outs.new ≡ O.faults outs.old)
+        × (O.is_ready outs.new ≡ false)) }
+    ensures outputs_never_fall { O.faults outs.old ≤ O.faults outs.new }
     ensures stays_ready { E.is_ready errs.new ≡ true }
 {
-    let pages = u64::from(traced.pages);
-    match traced.end {
-        PagesEnd::End => Ok(()),
-        PagesEnd::Trailing => {
-            say_trailing(errs, name, pages);
-            Ok(())
-        }
-        PagesEnd::Refused(fault) => {
-            say_of_page(errs, name, pages + 1, fault.text());
-            Err(Status::Refused)
-        }
-        PagesEnd::TooMany => {
-            say_of_page(errs, name, pages + 1, "too many pages");
-            Err(Status::Refused)
-        }
-        PagesEnd::Unread => {
-            say_of_page(errs, name, pages + 1, "read fault");
-            Err(Status::Unread)
-        }
-        PagesEnd::Unwritten(document) => {
-            say_not_written(errs, &document);
-            Err(Status::Unwritten)
-        }
+    let pages = traced.pages;
+    let (status, text) = match traced.end {
+        PagesEnd::End => return Ok(()),
+        PagesEnd::Trailing => return hold_trailing(alloc, name, pages, batch, errs),
         PagesEnd::OutOfMemory => {
             say_out_of_memory(errs);
-            Err(Status::OutOfMemory)
+            return Err(Status::OutOfMemory);
         }
+        PagesEnd::Refused(fault) => (Status::Refused, fault.text()),
+        PagesEnd::TooMany => (Status::Refused, "too many pages"),
+        PagesEnd::Unread => (Status::Unread, "read fault"),
+    };
+    match batch.carry_out(rt, alloc, settings, workers, outs, errs, gate) {
+        Ok(()) => {
+            say_of_page(errs, name, u64::from(pages) + 1, text);
+            Err(status)
+        }
+        Err(status) => Err(status),
     }
 }

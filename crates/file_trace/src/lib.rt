@@ -6,6 +6,7 @@
 //! names.
 #![tactic(auto)]
 
+pub mod batch;
 mod document;
 pub mod file;
 pub mod laws;

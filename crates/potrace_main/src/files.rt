@@ -8,26 +8,35 @@ ghost use Rattle.potrace_main.specs.Run.{OpensFirst};
 
 use bitmap_input::reader::PageReader;
 use command_words::name::Name;
+use file_trace::batch::Batch;
 use file_trace::file::trace_file;
 use file_trace::made::Made;
 use file_trace::message::say_out_of_memory;
 use file_trace::status::Status;
+use pt_base::gate::Gate;
 use pt_base::inputs::Inputs;
 use pt_base::settings::Settings;
 use pt_base::sink::{Outputs, Sink};
 use std::alloc::Global;
+use std::thread::Threads;
 
-/// Traces the files in order, each opened once, and writes a document for each of their pages.
-pub fn trace_files<I: Inputs, O: Outputs, E: Sink>(
+/// Traces the files in order, each opened once, by batches of twice as many pages as there are workers, and
+/// writes a document for each page.
+pub fn trace_files<R: Threads + Sync, I: Inputs, O: Outputs, E: Sink, G: Gate + Sync>(
+    rt: &R,
     alloc: Global,
     settings: Settings,
+    workers: u32,
     output: Option<&str>,
     names: &[Name],
     inputs: &mut I,
     outs: &mut O,
     errs: &mut E,
+    gate: &G,
 ) -> Status
     requires offered { IsOffered settings }
+    requires some_worker { 1 ≤ workers }
+    requires most_workers { workers ≤ 64 }
     requires closed { O.is_ready outs.old ≡ false }
     requires ready { E.is_ready errs.old ≡ true }
     ensures outcome { IsOutcome result (told_contents (I.files inputs.old)) settings
@@ -80,22 +89,30 @@ pub fn trace_files<I: Inputs, O: Outputs, E: Sink>(
         return Status::OutOfMemory;
     };
     let mut made = Made::new(alloc);
+    let mut batch = Batch::new(alloc);
     for name in names {
         let traced = trace_file(
+            rt,
             alloc,
             settings,
+            workers,
             output,
             name.as_str(),
             &mut made,
+            &mut batch,
             &mut reader,
             inputs,
             outs,
             errs,
+            gate,
         );
         match traced {
             Ok(()) => {}
             Err(status) => return status,
         }
     }
-    Status::Done
+    match batch.carry_out(rt, alloc, settings, workers, outs, errs, gate) {
+        Ok(()) => Status::Done,
+        Err(status) => status,
+    }
 }

@@ -1,0 +1,115 @@
+//! What was read and isn't carried out yet.
+ghost use Rattle.std.specs.Prelude.{◌≡◌, ◌≤◌, ◌<◌, ◌++◌, ◌∷◌, ◌⊎◌, ◌^◌, List, [], true, false, IfErr, OnErr, OnOk, string_bytes};
+ghost use Rattle.page_trace.specs.Document.{CanWrite};
+ghost use Rattle.file_trace.specs.Held.{AreHeld, pages_held};
+ghost use Rattle.file_trace.specs.Held.Held.{Message, Page};
+ghost use Rattle.file_trace.specs.Items.{Item};
+ghost use Rattle.file_trace.specs.Messages.{trailing_line};
+ghost use Rattle.file_trace.specs.Outcome.{AreCarriedOut, HasEnded};
+ghost use Rattle.file_trace.specs.Progress.{OutputCount};
+ghost use Rattle.file_trace.specs.declared.status.Status.{Status};
+
+use crate::status::Status;
+use bit_image::bitmap::Bitmap;
+use pt_base::fault::NoMemory;
+use pt_base::gate::Gate;
+use pt_base::settings::Settings;
+use pt_base::sink::{Outputs, Sink};
+use std::alloc::Global;
+use std::thread::Threads;
+
+/// One thing to do behind those in front of it.
+#[derive(Debug, Drop)]
+enum Entry {
+    /// To write the document of the next page, under this name.
+    Page(String),
+    /// To say that bytes which begin no page follow so many pages of the file of this name.
+    Trailing { name: String, pages: u32 },
+}
+
+/// Pages that were read and not traced yet, and the messages between their documents. Contracts see what is
+/// held, in order.
+#[derive(Debug, Drop)]
+pub struct Batch {
+    entries: Vec<Entry>,
+    pages: Vec<Bitmap>,
+}
+
+impl Batch {
+    /// Nothing is held.
+    pub fn new(alloc: Global) -> Batch
+        ensures { result ≡ [] };
+
+    /// How many pages are held.
+    pub fn count(&self) -> usize
+        ensures { result ≡ pages_held self.now };
+
+    /// Holds a page, whose document has this name.
+    pub fn push(&mut self, name: String, page: Bitmap) -> Result<(), NoMemory>
+        ensures held { OnOk result (self.new ≡ self.old ++ Page (string_bytes name) page ∷ []) }
+        ensures same { OnErr result (self.new ≡ self.old) };
+
+    /// Holds the message that bytes which begin no page follow so many pages of the file of this name.
+    pub fn push_trailing(&mut self, name: String, pages: u32) -> Result<(), NoMemory>
+        ensures held { OnOk result (self.new ≡ self.old ++ Message (trailing_line (string_bytes name) pages) ∷ []) }
+        ensures same { OnErr result (self.new ≡ self.old) };
+
+    /// Traces all pages that are held by so many workers, and gives them back; then writes their documents, and
+    /// says the messages between them, in order. An `Err` says how the run ends: that is said.
+    pub fn carry_out<R: Threads + Sync, O: Outputs, E: Sink, G: Gate + Sync>(
+        &mut self,
+        rt: &R,
+        alloc: Global,
+        settings: Settings,
+        workers: u32,
+        outs: &mut O,
+        errs: &mut E,
+        gate: &G,
+    ) -> Result<(), Status>
+        requires document { CanWrite settings }
+        requires some_worker { 1 ≤ workers }
+        requires most_workers { workers ≤ 64 }
+        requires few { pages_held self.old < 2 ^ 32 }
+        requires closed { O.is_ready outs.old ≡ false }
+        requires ready { E.is_ready errs.old ≡ true }
+
+        // Whichever items are those of what was held, they are carried out, as far as the status says.
+        ensures done { OnOk result ((items : List Item) → AreHeld settings self.old items → AreCarriedOut items []
+            (record {
+              outs = O.documents outs.old;
+              outs_faults = O.faults outs.old;
+              is_open = O.is_ready outs.old;
+              errs = E.documents errs.old;
+              errs_faults = E.faults errs.old;
+            })
+            (record {
+              outs = O.documents outs.new;
+              outs_faults = O.faults outs.new;
+              is_open = O.is_ready outs.new;
+              errs = E.documents errs.new;
+              errs_faults = E.faults errs.new;
+            })) }
+        ensures emptied { OnOk result (self.new ≡ []) }
+        ensures ends { IfErr result (λ status. (items : List Item) → AreHeld settings self.old items → HasEnded status items
+            (record {
+              outs = O.documents outs.old;
+              outs_faults = O.faults outs.old;
+              is_open = O.is_ready outs.old;
+              errs = E.documents errs.old;
+              errs_faults = E.faults errs.old;
+            })
+            (record {
+              outs = O.documents outs.new;
+              outs_faults = O.faults outs.new;
+              is_open = O.is_ready outs.new;
+              errs = E.documents errs.new;
+              errs_faults = E.faults errs.new;
+            })) }
+        ensures status { IfErr result (λ status. (status ≡ Status.Unwritten) ⊎ (status ≡ Status.OutOfMemory)) }
+        ensures output { IfErr result
+            (λ status. OutputCount status (O.faults outs.old) (O.faults outs.new) (O.is_ready outs.new)) }
+        ensures steady_output { OnOk result ((O.faults outs.new ≡ O.faults outs.old)
+            × (O.is_ready outs.new ≡ false)) }
+        ensures outputs_never_fall { O.faults outs.old ≤ O.faults outs.new }
+        ensures stays_ready { E.is_ready errs.new ≡ true };
+}
