@@ -9,13 +9,20 @@ ghost use Rattle.file_trace.specs.Outcome.{AreCarriedOut, HasEnded};
 ghost use Rattle.file_trace.specs.Progress.{OutputCount};
 ghost use Rattle.file_trace.specs.declared.status.Status.{Status};
 
+use crate::document::write_document;
+use crate::message::{say_not_written, say_out_of_memory, say_trailing};
 use crate::status::Status;
 use bit_image::bitmap::Bitmap;
+use page_trace::document::document;
+use page_workers::job::PageJob;
+use page_workers::trace::trace_all;
 use pt_base::fault::NoMemory;
 use pt_base::gate::Gate;
 use pt_base::settings::Settings;
 use pt_base::sink::{Outputs, Sink};
 use std::alloc::Global;
+use std::marker::Model;
+use std::mem;
 use std::thread::Threads;
 
 /// One thing to do behind those in front of it.
@@ -35,24 +42,86 @@ pub struct Batch {
     pages: Vec<Bitmap>,
 }
 
+impl Model for Batch {
+    ghost use Rattle.std.specs.Prelude.{◌≡◌, List, length};
+    ghost use Rattle.file_trace.specs.Held.{Held};
+    ghost use Rattle.file_trace.specs.Entries.{held_by, pages_among};
+
+    ghost Value = { List Held };
+
+    ghost view = { λ batch. held_by batch.entries.items batch.pages.items };
+
+    ghost invariant = { λ batch. length batch.pages.items ≡ pages_among batch.entries.items };
+}
+
+/// The document of a page, as a job of the workers.
+#[derive(Clone, Copy, Debug)]
+struct DocumentJob {
+    settings: Settings,
+}
+
+impl Model for DocumentJob {
+    ghost use Rattle.page_trace.specs.Document.{CanWrite};
+    ghost use Rattle.pt_base.specs.declared.settings.Settings.{Settings};
+
+    ghost Value = { Settings };
+
+    ghost view = { λ job. job.settings };
+
+    ghost invariant = { λ job. CanWrite job.settings };
+}
+
+impl PageJob for DocumentJob {
+    ghost use Rattle.page_trace.specs.Document.{IsDocument};
+
+    ghost belongs = { λ job page text. IsDocument page job text };
+
+    fn page(&self, alloc: Global, page: &Bitmap) -> Result<Vec<u8>, NoMemory> {
+        document(alloc, page, &self.settings)
+    }
+}
+
 impl Batch {
     /// Nothing is held.
     pub fn new(alloc: Global) -> Batch
-        ensures { result ≡ [] };
+        ensures { result ≡ [] }
+    {
+        Batch {
+            entries: Vec::new(alloc),
+            pages: Vec::new(alloc),
+        }
+    }
 
     /// How many pages are held.
     pub fn count(&self) -> usize
-        ensures { result ≡ pages_held self.now };
+        ensures { result ≡ pages_held self.now }
+    {
+        self.pages.len()
+    }
 
     /// Holds a page, whose document has this name.
     pub fn push(&mut self, name: String, page: Bitmap) -> Result<(), NoMemory>
         ensures held { OnOk result (self.new ≡ self.old ++ Page (string_bytes name) page ∷ []) }
-        ensures same { OnErr result (self.new ≡ self.old) };
+        ensures same { OnErr result (self.new ≡ self.old) }
+    {
+        self.pages.push(page)?;
+        match self.entries.push(Entry::Page(name)) {
+            Ok(()) => Ok(()),
+            Err(_) => {
+                let _ = self.pages.pop();
+                Err(NoMemory)
+            }
+        }
+    }
 
     /// Holds the message that bytes which begin no page follow so many pages of the file of this name.
     pub fn push_trailing(&mut self, name: String, pages: u32) -> Result<(), NoMemory>
         ensures held { OnOk result (self.new ≡ self.old ++ Message (trailing_line (string_bytes name) pages) ∷ []) }
-        ensures same { OnErr result (self.new ≡ self.old) };
+        ensures same { OnErr result (self.new ≡ self.old) }
+    {
+        self.entries.push(Entry::Trailing { name, pages })?;
+        Ok(())
+    }
 
     /// Traces all pages that are held by so many workers, and gives them back; then writes their documents, and
     /// says the messages between them, in order. An `Err` says how the run ends: that is said.
@@ -111,5 +180,42 @@ impl Batch {
         ensures steady_output { OnOk result ((O.faults outs.new ≡ O.faults outs.old)
             × (O.is_ready outs.new ≡ false)) }
         ensures outputs_never_fall { O.faults outs.old ≤ O.faults outs.new }
-        ensures stays_ready { E.is_ready errs.new ≡ true };
+        ensures stays_ready { E.is_ready errs.new ≡ true }
+    {
+        let job = DocumentJob { settings };
+        let Ok(texts) = trace_all(rt, alloc, &job, self.pages.as_slice(), workers, gate) else {
+            say_out_of_memory(errs);
+            return Err(Status::OutOfMemory);
+        };
+        self.pages.clear();
+        let entries = mem::replace(&mut self.entries, Vec::new(alloc));
+        write_entries(entries, texts, outs, errs)
+    }
+}
+
+/// Writes the documents of pages and says the messages between them, in order.
+fn write_entries<O: Outputs, E: Sink>(
+    entries: Vec<Entry>,
+    texts: Vec<Vec<u8>>,
+    outs: &mut O,
+    errs: &mut E,
+) -> Result<(), Status>
+    requires closed { O.is_ready outs.old ≡ false }
+    requires ready { E.is_ready errs.old ≡ true }
+    ensures stays_ready { E.is_ready errs.new ≡ true }
+{
+    let mut texts = texts.into_iter();
+    for entry in entries {
+        match entry {
+            Entry::Page(name) => {
+                let text = texts.next().unwrap();
+                if write_document(outs, &name, &text).is_err() {
+                    say_not_written(errs, &name);
+                    return Err(Status::Unwritten);
+                }
+            }
+            Entry::Trailing { name, pages } => say_trailing(errs, &name, u64::from(pages)),
+        }
+    }
+    Ok(())
 }

@@ -231,3 +231,25 @@ fn finish<R: Threads + Sync, O: Outputs, E: Sink, G: Gate + Sync>(
         Err(status) => Err(status),
     }
 }
+
+/// Holds the message that bytes which begin no page follow so many pages of the file.
+fn hold_trailing<E: Sink>(
+    alloc: Global,
+    name: &str,
+    pages: u32,
+    batch: &mut Batch,
+    errs: &mut E,
+) -> Result<(), Status>
+    requires ready { E.is_ready errs.old ≡ true }
+    ensures stays_ready { E.is_ready errs.new ≡ true }
+{
+    let Ok(name) = String::from_str(alloc, name) else {
+        say_out_of_memory(errs);
+        return Err(Status::OutOfMemory);
+    };
+    if batch.push_trailing(name, pages).is_err() {
+        say_out_of_memory(errs);
+        return Err(Status::OutOfMemory);
+    }
+    Ok(())
+}
