@@ -9,3 +9,4 @@ mod one_picture;
 mod pages;
 mod refusals;
 mod words;
+mod workers;

@@ -2,7 +2,7 @@
 ghost use Rattle.std.specs.Prelude.{◌≡◌, IfOk, string_bytes};
 
 use potrace_main::top::run;
-use pt_base::gate::NoGate;
+use pt_base::gate::{Gate, NoGate};
 use pt_base::mem_inputs::{InCall, MemInputs, NamedBytes};
 use pt_base::mem_outputs::{MemOutputs, OutCall};
 use pt_base::mem_sink::MemSink;
@@ -54,6 +54,16 @@ impl<'a> Case<'a> {
     }
 
     pub fn run<R: Threads + Sync>(&self, rt: &R, alloc: Global) -> Result<Done, Fail> {
+        self.run_past(rt, alloc, &NoGate)
+    }
+
+    /// Runs with a gate, which each page passes.
+    pub fn run_past<R: Threads + Sync, G: Gate + Sync>(
+        &self,
+        rt: &R,
+        alloc: Global,
+        gate: &G,
+    ) -> Result<Done, Fail> {
         let words = split(alloc, self.words)?;
         let mut inputs = self.inputs(alloc)?;
         let most = self.most.max(1);
@@ -68,7 +78,7 @@ impl<'a> Case<'a> {
             &mut inputs,
             &mut outs,
             &mut errs,
-            &NoGate,
+            gate,
         );
         Ok(Done { status, outs, errs })
     }
