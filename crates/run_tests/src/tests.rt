@@ -5,6 +5,7 @@ mod documents;
 mod failing;
 mod files;
 mod formats;
+mod hostile;
 mod one_picture;
 mod pages;
 mod refusals;

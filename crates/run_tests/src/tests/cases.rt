@@ -20,14 +20,16 @@ pub struct Done {
 }
 
 /// What a run is made of: the words with a space between them, a file's name and its bytes, perhaps those of
-/// another file, how many bytes a call takes, and the calls that fail.
+/// another file, how many bytes a read and a write take, the room for documents in bytes, and the calls that fail.
 #[derive(Drop)]
 pub struct Case<'a> {
     pub words: &'a str,
     pub name: &'a str,
     pub input: &'a [u8],
     pub other: Option<(&'a str, &'a [u8])>,
-    pub most: u32,
+    pub most_read: u32,
+    pub most_written: u32,
+    pub room: u32,
     pub unread: &'a [InCall],
     pub unwritten: &'a [OutCall],
     pub unsaid: &'a [u64],
@@ -46,7 +48,9 @@ impl<'a> Case<'a> {
             name,
             input,
             other: None,
-            most: 4096,
+            most_read: 4096,
+            most_written: 4096,
+            room: 1_000_000,
             unread: &[],
             unwritten: &[],
             unsaid: &[],
@@ -66,10 +70,10 @@ impl<'a> Case<'a> {
     ) -> Result<Done, Fail> {
         let words = split(alloc, self.words)?;
         let mut inputs = self.inputs(alloc)?;
-        let most = self.most.max(1);
+        let most = self.most_written.max(1);
         let unwritten = Vec::from_slice(alloc, self.unwritten)?;
         let unsaid = Vec::from_slice(alloc, self.unsaid)?;
-        let mut outs = MemOutputs::new(alloc, most, unwritten, 65_537, 1_000_000)?;
+        let mut outs = MemOutputs::new(alloc, most, unwritten, 65_537, self.room)?;
         let mut errs = MemSink::new(alloc, most, unsaid, 1000)?;
         let status = run(
             rt,
@@ -85,14 +89,15 @@ impl<'a> Case<'a> {
 
     fn inputs(&self, alloc: Global) -> Result<MemInputs, Fail> {
         let file = named(alloc, self.name, self.input)?;
+        let most = self.most_read.max(1);
         let unread = Vec::from_slice(alloc, self.unread)?;
         match self.other {
             Some((name, input)) if name != self.name => {
                 let other = named(alloc, name, input)?;
                 let files = vec![in alloc; file, other]?;
-                Ok(MemInputs::new(files, self.most.max(1), unread))
+                Ok(MemInputs::new(files, most, unread))
             }
-            _ => Ok(MemInputs::new(vec![in alloc; file]?, self.most.max(1), unread)),
+            _ => Ok(MemInputs::new(vec![in alloc; file]?, most, unread)),
         }
     }
 }

@@ -25,7 +25,7 @@ fn failing_reads(rt: HostRuntime) -> Result<(), Fail> {
     for (unread, documents, said) in table {
         let unread = [unread];
         let mut case = Case::new(LEFT, TWO_PAGES);
-        case.most = 9;
+        case.most_read = 9;
         case.unread = &unread;
         expect(&rt, &case.run(&rt, rt.alloc())?, 3, documents, said);
     }
@@ -36,7 +36,7 @@ fn failing_reads(rt: HostRuntime) -> Result<(), Fail> {
 fn failing_writes(rt: HostRuntime) -> Result<(), Fail> {
     let ring = b"P1 3 3 111 101 111\n";
     let mut case = Case::new(LEFT, ring);
-    case.most = 16;
+    case.most_written = 16;
     case.unwritten = &[OutCall::Write(3)];
     let done = case.run(&rt, rt.alloc())?;
     let said = b"potrace: -: write fault\n".as_slice();
@@ -63,7 +63,7 @@ fn nothing_is_said_of_a_later_place(rt: HostRuntime) -> Result<(), Fail> {
 #[test]
 fn failing_messages_change_no_status(rt: HostRuntime) -> Result<(), Fail> {
     let mut case = Case::new(LEFT, b"P1 1 1 x");
-    case.most = 4;
+    case.most_written = 4;
     case.unsaid = &[3];
     expect(&rt, &case.run(&rt, rt.alloc())?, 2, &[], "potrace:");
     Ok(())

@@ -141,7 +141,7 @@ fn the_fault_of_an_output_names_the_document(rt: HostRuntime) -> Result<(), Fail
 #[test]
 fn a_document_that_is_cut_off(rt: HostRuntime) -> Result<(), Fail> {
     let mut case = Case::new("-", b"P4 8 8\n\xff\xff\xff\xff\xff\xff\xff\xff");
-    case.most = 16;
+    case.most_written = 16;
     case.unwritten = &[OutCall::Write(3)];
     let done = case.run(&rt, rt.alloc())?;
     let said = b"potrace: -: write fault\n".as_slice();
