@@ -227,22 +227,26 @@ fn a_room_that_is_a_byte_too_small(rt: HostRuntime) -> Result<(), Fail> {
     Ok(())
 }
 
-// The note takes three writes of 16 bytes and a short one; the second message isn't touched by a fault in the first.
+/// Whether the text is a front of the one message and then the other, or the one and then a front of the other.
+fn is_cut_in_one(text: &[u8], one: &[u8], other: &[u8]) -> bool {
+    match (text.strip_suffix(other), text.strip_prefix(one)) {
+        (Some(front), _) => one.starts_with(front),
+        (None, Some(front)) => other.starts_with(front),
+        (None, None) => false,
+    }
+}
+
 #[test]
 fn each_write_of_a_message_fails(rt: HostRuntime) -> Result<(), Fail> {
-    let missing = "potrace: c.pbm: cannot be opened\n";
-    for n in 1..=4 {
-        let mut case = Case::over("-b points -t 0 a.pbm c.pbm", "a.pbm", FIRST);
+    let missing = b"potrace: c.pbm: cannot be opened\n".as_slice();
+    for n in 1..=10 {
         let unsaid = [n];
+        let mut case = Case::over("-b points -t 0 a.pbm c.pbm", "a.pbm", FIRST);
         case.most_written = 16;
         case.unsaid = &unsaid;
         let done = case.run(&rt, rt.alloc())?;
-        let front = NOTE.get(..(n as usize - 1) * 16).unwrap_or(NOTE);
-        let said = match n {
-            1..=3 => format!(in rt.alloc(); "{front}{missing}")?,
-            _ => format!(in rt.alloc(); "{NOTE}")?,
-        };
-        assert_eq!(rt; (done.status, done.errs.text(), done.outs.count()), (3, said.as_bytes(), 2));
+        let cut = is_cut_in_one(done.errs.text(), NOTE.as_bytes(), missing);
+        assert_eq!(rt; (done.status, done.outs.count(), cut), (3, 2, true), "{n}");
     }
     Ok(())
 }
