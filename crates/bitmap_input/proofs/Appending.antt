@@ -10,8 +10,9 @@ use Rattle.bitmap_input.specs.Cut.Ending.{Refused}
 use Rattle.bitmap_input.specs.Cut.Cut.{Takes, Stops}
 use Rattle.bitmap_input.specs.Parts.{longest, is_zero, is_empty, is_space, is_digit, run_length, gap_length, missing, run_of, spaces, gap, some_gap, value, number, number_behind_gap, space, pixel, block, times}
 use Rattle.bitmap_input.specs.Raw.{Entry, entries_page, row_bytes, unpacked, samples}
-use Rattle.bitmap_input.specs.Front.{Magic, no_magic, magic_of_name, magic_named, magic_behind, magic, checked, sides, checked_maxval, maxval, greatest_maxval, plain_pixel, raw_row, plain_sample, is_wide, gray_row_bytes, raw_gray_row, raster, longest_side}
+use Rattle.bitmap_input.specs.Front.{Magic, no_magic, magic_of_name, magic_named, magic_behind, magic, checked, sides, checked_maxval, maxval, greatest_maxval, plain_pixel, raw_row, plain_sample, is_wide, gray_row_bytes, raw_gray_row, raster}
 use Rattle.bitmap_input.proofs.Bytes.{run_length-le, run_length-append-le, run_length-append, gap_length-le, gap_length-append-le, gap_length-append}
+use Rattle.pt_base.specs.declared.limits.TheConstants.{LONGEST_SIDE}
 
 -- the same cut of a list to which bytes were added
 abbrev pub with_more : {A : Type 0} → List ℕ → Cut A → Cut A
@@ -202,11 +203,11 @@ magic_stays false (a ∷ rest) more not_end = magic_behind_stays false a rest mo
 pub checked_stays : (width height : ℕ) → Stays (checked width height)
 checked_stays width height bytes more not_end =
     pick_stays (is_zero width || is_zero height) (Stops false (Refused ZeroSide))
-    (cond (nat_lt longest_side width || nat_lt longest_side height) (Stops false (Refused TooLarge)) (Takes false (width, height) bytes))
+    (cond (nat_lt LONGEST_SIDE width || nat_lt LONGEST_SIDE height) (Stops false (Refused TooLarge)) (Takes false (width, height) bytes))
     (Stops false (Refused ZeroSide))
-    (cond (nat_lt longest_side width || nat_lt longest_side height) (Stops false (Refused TooLarge)) (Takes false (width, height) (bytes ++ more)))
+    (cond (nat_lt LONGEST_SIDE width || nat_lt LONGEST_SIDE height) (Stops false (Refused TooLarge)) (Takes false (width, height) (bytes ++ more)))
     more (λ _. refl)
-    (pick_stays (nat_lt longest_side width || nat_lt longest_side height) (Stops false (Refused TooLarge)) (Takes false (width, height) bytes)
+    (pick_stays (nat_lt LONGEST_SIDE width || nat_lt LONGEST_SIDE height) (Stops false (Refused TooLarge)) (Takes false (width, height) bytes)
     (Stops false (Refused TooLarge)) (Takes false (width, height) (bytes ++ more)) more (λ _. refl) (λ _. refl)) not_end
 
 pub number_behind_gap_stays : (kind : Kind) → Stays (number_behind_gap kind)

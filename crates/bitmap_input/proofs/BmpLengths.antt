@@ -12,13 +12,14 @@ use Rattle.bitmap_input.specs.Cut.Kind.{BmpKind, BadOffset, Truncated, ZeroSide,
 use Rattle.bitmap_input.specs.Cut.Ending.{Refused}
 use Rattle.bitmap_input.specs.Cut.Cut.{Takes, Stops}
 use Rattle.bitmap_input.specs.Parts.{is_zero, block, times}
-use Rattle.bitmap_input.specs.Sides.{checked, longest_side}
+use Rattle.bitmap_input.specs.Sides.{checked}
 use Rattle.bitmap_input.specs.Raw.{Raw}
 use Rattle.bitmap_input.specs.BmpHeader.{byte_at, two_at, four_at, header_size, is_short, bits, has_masks, is_known_size, is_known_kind, mask_bytes, has_known_colors, width, height, pixel_offset, palette_bytes, palette_end, row_length, rows_end, palette_length, color_bytes, file_size}
 use Rattle.bitmap_input.specs.BmpRaster.{palette_color, pixel_in, row_of, picture, raster}
 use Rattle.bitmap_input.specs.Bmp.{passes, start, info, masks, placed, header, bmp}
 use Rattle.bitmap_input.specs.BmpHead.{HasInfo, IsStart, IsInfo, IsWhole}
 use Rattle.bitmap_input.proofs.Showing.{after_takes}
+use Rattle.pt_base.specs.declared.limits.TheConstants.{LONGEST_SIDE}
 
 -- the value and the rest of the cut, where it takes a front, meet this
 abbrev pub Cuts : {A : Type 0} → (A → List ℕ → Type 0) → Cut A → Type 0
@@ -206,9 +207,9 @@ cuts_stop P e ending d a rest h = cc
 cuts_checked : (w h : ℕ) (bytes : List ℕ) → Cuts (λ _ rest. length rest ≡ length bytes) (checked w h bytes)
 cuts_checked w h bytes =
     cuts_cond (λ _ rest. length rest ≡ length bytes) (is_zero w || is_zero h) (Stops false (Refused ZeroSide))
-    (cond (nat_lt longest_side w || nat_lt longest_side h) (Stops false (Refused TooLarge)) (Takes false (w, h) bytes))
+    (cond (nat_lt LONGEST_SIDE w || nat_lt LONGEST_SIDE h) (Stops false (Refused TooLarge)) (Takes false (w, h) bytes))
     (cuts_stop (λ _ rest. length rest ≡ length bytes) false (Refused ZeroSide))
-    (cuts_cond (λ _ rest. length rest ≡ length bytes) (nat_lt longest_side w || nat_lt longest_side h) (Stops false (Refused TooLarge)) (Takes false (w, h) bytes)
+    (cuts_cond (λ _ rest. length rest ≡ length bytes) (nat_lt LONGEST_SIDE w || nat_lt LONGEST_SIDE h) (Stops false (Refused TooLarge)) (Takes false (w, h) bytes)
     (cuts_stop (λ _ rest. length rest ≡ length bytes) false (Refused TooLarge)) (cuts_take (λ _ rest. length rest ≡ length bytes) false (w, h) bytes refl))
 
 -- the header is whole, and its pixels begin behind its palette

@@ -7,7 +7,7 @@ use Rattle.bitmap_input.specs.Cut.Kind.{ZeroSide, TooLarge, BadHeader}
 use Rattle.bitmap_input.specs.Cut.Ending.{Refused}
 use Rattle.bitmap_input.specs.Cut.Cut.{Takes, Stops}
 use Rattle.bitmap_input.specs.Parts.{is_zero, gap_length, gap, some_gap}
-use Rattle.bitmap_input.specs.Front.{checked, longest_side, checked_maxval, greatest_maxval, magic, magic_behind}
+use Rattle.bitmap_input.specs.Front.{checked, checked_maxval, greatest_maxval, magic, magic_behind}
 use Rattle.bitmap_input.specs.Run.{IsCapped}
 use Rattle.bitmap_input.specs.declared.stop.Stop.{Stop}
 use Rattle.bitmap_input.specs.declared.header.Sides.{Sides}
@@ -17,6 +17,7 @@ use Rattle.bitmap_input.specs.Reading.{Held, StopsBy, Reads, Same}
 use Rattle.bitmap_input.proofs.Needing.{needs_none}
 use Rattle.bitmap_input.proofs.Telling.{not_true, stand}
 use Rattle.bitmap_input.specs.Reading.Cause.{Says}
+use Rattle.pt_base.specs.declared.limits.TheConstants.{LONGEST_SIDE}
 
 -- a gap that begins at this byte
 pub some_gap_at : (kind : Kind) (b n : ℕ) (bs : List ℕ) → gap_length false (b ∷ bs) ≡ suc n → some_gap kind (b ∷ bs) ≡ gap (b ∷ bs)
@@ -45,15 +46,15 @@ or_right : (b : Bool) → (b || true) ≡ true
 or_right true = refl
 or_right false = refl
 
-some_large : (m n : ℕ) → (longest_side < m) ⊎ (longest_side < n) → (nat_lt longest_side m || nat_lt longest_side n) ≡ true
-some_large m n (inl h) = let e : nat_lt longest_side m ≡ true = lt-ltb longest_side m h in rw e refl
+some_large : (m n : ℕ) → (LONGEST_SIDE < m) ⊎ (LONGEST_SIDE < n) → (nat_lt LONGEST_SIDE m || nat_lt LONGEST_SIDE n) ≡ true
+some_large m n (inl h) = let e : nat_lt LONGEST_SIDE m ≡ true = lt-ltb LONGEST_SIDE m h in rw e refl
 some_large m n (inr h) =
-    let e : nat_lt longest_side n ≡ true = lt-ltb longest_side n h in rw e (or_right (nat_lt longest_side m))
+    let e : nat_lt LONGEST_SIDE n ≡ true = lt-ltb LONGEST_SIDE n h in rw e (or_right (nat_lt LONGEST_SIDE m))
 
-no_large : (m n : ℕ) → m ≤ longest_side → n ≤ longest_side → (nat_lt longest_side m || nat_lt longest_side n) ≡ false
+no_large : (m n : ℕ) → m ≤ LONGEST_SIDE → n ≤ LONGEST_SIDE → (nat_lt LONGEST_SIDE m || nat_lt LONGEST_SIDE n) ≡ false
 no_large m n a b =
-    let e : nat_lt longest_side m ≡ false = le-ltb longest_side m a in
-    let f : nat_lt longest_side n ≡ false = le-ltb longest_side n b in rw (e, f) refl
+    let e : nat_lt LONGEST_SIDE m ≡ false = le-ltb LONGEST_SIDE m a in
+    let f : nat_lt LONGEST_SIDE n ≡ false = le-ltb LONGEST_SIDE n b in rw (e, f) refl
 
 pub checks_zero : (x y : ℕ) → (x ≡ 0) ⊎ (y ≡ 0) → (width height : ℕ) → IsCapped x width → IsCapped y height →
     (ending : Ending) × (Says (Refused ZeroSide) ≡ Says ending) × ((bytes : List ℕ) → checked width height bytes ≡ Stops false ending)
@@ -61,23 +62,23 @@ checks_zero x y zero_side width height a b =
     let z : (width ≡ 0) ⊎ (height ≡ 0) = elim zero_side [ inl h ↦ inl (omega arith) | inr h ↦ inr (omega arith) ] in
     (Refused ZeroSide, refl, λ bytes. rw (some_zero width height z) refl)
 
-pub checks_large : (x y : ℕ) → 0 < x → 0 < y → (longest_side < x) ⊎ (longest_side < y) → (width height : ℕ) →
+pub checks_large : (x y : ℕ) → 0 < x → 0 < y → (LONGEST_SIDE < x) ⊎ (LONGEST_SIDE < y) → (width height : ℕ) →
     IsCapped x width → IsCapped y height →
     (ending : Ending) × (Says (Refused TooLarge) ≡ Says ending) × ((bytes : List ℕ) → checked width height bytes ≡ Stops false ending)
 checks_large x y some_x some_y large width height a b =
-    let l : (longest_side < width) ⊎ (longest_side < height) = elim large [ inl h ↦ inl (omega arith) | inr h ↦ inr (omega arith) ] in
+    let l : (LONGEST_SIDE < width) ⊎ (LONGEST_SIDE < height) = elim large [ inl h ↦ inl (omega arith) | inr h ↦ inr (omega arith) ] in
     let w : 0 < width = omega arith in
     let h : 0 < height = omega arith in
     (Refused TooLarge, refl, λ bytes. rw (no_zero width height w h, some_large width height l) refl)
 
-pub checks_sides : (x y : ℕ) → 0 < x → 0 < y → x ≤ longest_side → y ≤ longest_side → (width height : ℕ) →
+pub checks_sides : (x y : ℕ) → 0 < x → 0 < y → x ≤ LONGEST_SIDE → y ≤ LONGEST_SIDE → (width height : ℕ) →
     IsCapped x width → IsCapped y height →
     (width ≡ x) × (height ≡ y) × ((bytes : List ℕ) → checked width height bytes ≡ Takes false (width, height) bytes)
 checks_sides x y some_x some_y most_x most_y width height a b =
     let w : 0 < width = omega arith in
     let h : 0 < height = omega arith in
-    let w2 : width ≤ longest_side = omega arith in
-    let h2 : height ≤ longest_side = omega arith in
+    let w2 : width ≤ LONGEST_SIDE = omega arith in
+    let h2 : height ≤ LONGEST_SIDE = omega arith in
     (omega arith, omega arith, λ bytes. rw (no_zero width height w h, no_large width height w2 h2) refl)
 
 -- the check of the sides as a step that reads nothing

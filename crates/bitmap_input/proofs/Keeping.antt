@@ -8,8 +8,9 @@ use Rattle.bitmap_input.specs.Cut.Ending.{End, Trailing, Refused}
 use Rattle.bitmap_input.specs.Cut.Cut.{Takes, Stops}
 use Rattle.bitmap_input.specs.Parts.{longest, is_zero, is_empty, is_space, is_digit, run_length, gap_length, missing, run_of, gap, some_gap, value, number, number_behind_gap, space, pixel, block, times}
 use Rattle.bitmap_input.specs.Raw.{row_bytes, unpacked, samples}
-use Rattle.bitmap_input.specs.Front.{Magic, no_magic, magic_of_name, magic_named, magic_behind, magic, checked, longest_side, sides, checked_maxval, maxval, greatest_maxval, plain_pixel, raw_row, is_wide, gray_row_bytes, raw_gray_row, front}
+use Rattle.bitmap_input.specs.Front.{Magic, no_magic, magic_of_name, magic_named, magic_behind, magic, checked, sides, checked_maxval, maxval, greatest_maxval, plain_pixel, raw_row, is_wide, gray_row_bytes, raw_gray_row, front}
 use Rattle.bitmap_input.proofs.Showing.{after_takes}
+use Rattle.pt_base.specs.declared.limits.TheConstants.{LONGEST_SIDE}
 
 -- a list ends with this one
 abbrev pub IsRest : List ℕ → List ℕ → Type 0
@@ -117,9 +118,9 @@ keeps_magic false (a ∷ bs) = λ e m rest h. rest_of_rest rest bs (a ∷ bs) (o
 pub keeps_checked : (width height : ℕ) (bytes : List ℕ) → Keeps bytes (checked width height bytes)
 keeps_checked width height bytes =
     keeps_pick bytes (is_zero width || is_zero height) (Stops false (Refused ZeroSide))
-    (cond (nat_lt longest_side width || nat_lt longest_side height) (Stops false (Refused TooLarge)) (Takes false (width, height) bytes))
+    (cond (nat_lt LONGEST_SIDE width || nat_lt LONGEST_SIDE height) (Stops false (Refused TooLarge)) (Takes false (width, height) bytes))
     (keeps_stop bytes false (Refused ZeroSide))
-    (keeps_pick bytes (nat_lt longest_side width || nat_lt longest_side height) (Stops false (Refused TooLarge)) (Takes false (width, height) bytes)
+    (keeps_pick bytes (nat_lt LONGEST_SIDE width || nat_lt LONGEST_SIDE height) (Stops false (Refused TooLarge)) (Takes false (width, height) bytes)
     (keeps_stop bytes false (Refused TooLarge)) (keeps_take bytes false (width, height) bytes (all_rest bytes)))
 
 pub keeps_number_behind_gap : (kind : Kind) (bytes : List ℕ) → Keeps bytes (number_behind_gap kind bytes)

@@ -11,7 +11,7 @@ use Rattle.bitmap_input.specs.Cut.Ending.{End, Trailing, Refused}
 use Rattle.bitmap_input.specs.Cut.Cut.{Takes, Stops}
 use Rattle.bitmap_input.specs.Parts.{longest, is_zero, is_empty, is_space, is_digit, run_length, gap_length, missing, run_of, spaces, gap, some_gap, value, number, number_behind_gap, space, pixel, block, times}
 use Rattle.bitmap_input.specs.Sets.{IsRun, IsGap}
-use Rattle.bitmap_input.specs.Sides.{longest_side, checked}
+use Rattle.bitmap_input.specs.Sides.{checked}
 use Rattle.bitmap_input.specs.Raw.{Raw, Entry, entries_page, row_bytes, unpacked, samples}
 use Rattle.bitmap_input.specs.Raw.Entry.{Bit, Sample}
 use Rattle.bitmap_input.specs.BmpHeader.{header_size, is_known_size, is_known_kind, mask_bytes, has_known_colors, width, height, pixel_offset, palette_bytes, palette_end, palette_length, color_bytes, row_length, bits}
@@ -25,6 +25,7 @@ use Rattle.bitmap_input.specs.PageText.{IsJoined, IsRepeated, IsBlock, IsSpace, 
 use Rattle.bitmap_input.proofs.Showing.{after_takes}
 use Rattle.bitmap_input.proofs.Bytes.{run_length-le, gap_length-le}
 use Rattle.bitmap_input.proofs.Longest.{run_is_run, gap_is_gap}
+use Rattle.pt_base.specs.declared.limits.TheConstants.{LONGEST_SIDE}
 
 -- what the cut takes of these bytes, for a value, is in the value's set
 abbrev Spells : {A : Type 0} → (A → List ℕ → Type 0) → List ℕ → Cut A → Type 0
@@ -179,9 +180,9 @@ IsNothing x y bytes = (bytes ≡ []) × (y ≡ x)
 spells_checked : (w h : ℕ) (bytes : List ℕ) → Spells (IsNothing (w, h)) bytes (checked w h bytes)
 spells_checked w h bytes =
     spells_if (IsNothing (w, h)) bytes (is_zero w || is_zero h) (Stops false (Refused ZeroSide))
-    (cond (nat_lt longest_side w || nat_lt longest_side h) (Stops false (Refused TooLarge)) (Takes false (w, h) bytes))
+    (cond (nat_lt LONGEST_SIDE w || nat_lt LONGEST_SIDE h) (Stops false (Refused TooLarge)) (Takes false (w, h) bytes))
     (λ _. spells_stop (IsNothing (w, h)) bytes false (Refused ZeroSide))
-    (λ _. spells_if (IsNothing (w, h)) bytes (nat_lt longest_side w || nat_lt longest_side h) (Stops false (Refused TooLarge)) (Takes false (w, h) bytes)
+    (λ _. spells_if (IsNothing (w, h)) bytes (nat_lt LONGEST_SIDE w || nat_lt LONGEST_SIDE h) (Stops false (Refused TooLarge)) (Takes false (w, h) bytes)
     (λ _. spells_stop (IsNothing (w, h)) bytes false (Refused TooLarge)) (λ _. spells_take (IsNothing (w, h)) bytes false (w, h) bytes [] refl (refl, refl)))
 
 -- nothing more behind it

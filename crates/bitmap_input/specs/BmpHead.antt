@@ -1,10 +1,11 @@
 -- The bytes of a BMP header in the program, and what it makes of them.
 use Rattle.std.specs.Prelude.{◌≡◌, ℕ, ◌+◌, ◌-◌, ◌^◌, ◌≤◌, ◌<◌, true, false, Bool, List, length, slice_index_or, suc, ◌*◌, ◌/◌, reverse, if◌then◌else◌, Option, Some, None, Result, Ok, Err}
+use Rattle.pt_base.specs.declared.limits.TheConstants.{LONGEST_SIDE}
 use Rattle.bitmap_input.specs.Cut.{Ending, Cut, ◌>>=◌}
 use Rattle.bitmap_input.specs.Cut.Cut.{Takes, Stops}
 use Rattle.bitmap_input.specs.Reading.{cause_of}
 use Rattle.bitmap_input.specs.Reading.Cause.{Says}
-use Rattle.bitmap_input.specs.Sides.{longest_side}
+use Rattle.bitmap_input.specs.Sides.{}
 use Rattle.bitmap_input.specs.BmpHeader.{file_size, pixel_offset, header_size, is_short, bits, is_known_depth, width, height, is_top_down, is_known_size, is_known_kind, mask_bytes, palette_length, color_bytes, palette_end}
 use Rattle.bitmap_input.specs.Parts.{block, times}
 use Rattle.bitmap_input.specs.Raw.{Raw, Entry, black}
@@ -75,9 +76,9 @@ pub record IsHeader (h : Header) (head : List ℕ) : Type 0 where
 -- the numbers of a header are within those of a page that is read
 pub record IsReadable (h : Header) : Type 0 where
   pub some_width : 1 ≤ h.width
-  pub most_width : h.width ≤ longest_side
+  pub most_width : h.width ≤ LONGEST_SIDE
   pub some_height : 1 ≤ h.height
-  pub most_height : h.height ≤ longest_side
+  pub most_height : h.height ≤ LONGEST_SIDE
   pub most_colors : h.palette_length ≤ 256
   pub some_bytes : 3 ≤ h.color_bytes
   pub most_bytes : h.color_bytes ≤ 4

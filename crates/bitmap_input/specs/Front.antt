@@ -6,7 +6,7 @@ use Rattle.bitmap_input.specs.Cut.Kind.{UnknownFormat, BadHeader, BadRaster}
 use Rattle.bitmap_input.specs.Cut.Ending.{End, Trailing, Refused}
 use Rattle.bitmap_input.specs.Cut.Cut.{Takes, Stops}
 use Rattle.bitmap_input.specs.Parts.{is_zero, spaces, gap, number_behind_gap, space, pixel, block, times}
-pub use Rattle.bitmap_input.specs.Sides.{longest_side, checked}
+pub use Rattle.bitmap_input.specs.Sides.{checked}
 use Rattle.bitmap_input.specs.Bmp.{bmp}
 use Rattle.bitmap_input.specs.Raw.{Raw, Entry, entries_page, row_bytes, unpacked, samples}
 use Rattle.bitmap_input.specs.Raw.Entry.{Bit, Sample}

@@ -50,7 +50,6 @@ pub mod Sets
 --   IsShown: the bitmap is the page that the raw page shows, at a level and inverted or not
 pub mod Raw
 -- The sides of a page.
---   longest_side: the greatest side of a page
 --   checked: both sides are in range
 pub mod Sides
 -- The header of a BMP picture (Microsoft's "Bitmap Storage": BITMAPFILEHEADER.

@@ -1,18 +1,15 @@
 -- The sides of a page.
 use Rattle.std.specs.Prelude.{ℕ, false, ◌||◌, List, if◌then◌else◌, nat_lt}
+use Rattle.pt_base.specs.declared.limits.TheConstants.{LONGEST_SIDE}
 use Rattle.bitmap_input.specs.Cut.{Cut}
 use Rattle.bitmap_input.specs.Cut.Kind.{ZeroSide, TooLarge}
 use Rattle.bitmap_input.specs.Cut.Ending.{Refused}
 use Rattle.bitmap_input.specs.Cut.Cut.{Takes, Stops}
 use Rattle.bitmap_input.specs.Parts.{is_zero}
 
--- the greatest side of a page
-abbrev pub longest_side : ℕ
-longest_side = 16384
-
 -- both sides are in range: first none is 0, and then none is too large
 abbrev pub checked : ℕ → ℕ → List ℕ → Cut (ℕ × ℕ)
 checked width height bytes =
     if is_zero width || is_zero height then Stops false (Refused ZeroSide)
-    else (if nat_lt longest_side width || nat_lt longest_side height then Stops false (Refused TooLarge)
+    else (if nat_lt LONGEST_SIDE width || nat_lt LONGEST_SIDE height then Stops false (Refused TooLarge)
     else Takes false (width, height) bytes)

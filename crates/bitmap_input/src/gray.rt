@@ -10,7 +10,6 @@ ghost use Rattle.bitmap_input.specs.Raster.{with_row, with_rows};
 ghost use Rattle.bitmap_input.specs.Run.{IsCapped};
 ghost use Rattle.bitmap_input.specs.Shading.{black_of, IsInRange};
 
-use crate::header::LONGEST_SIDE;
 use crate::number::{Part, read_number_behind_gap};
 use crate::raw::read_block;
 use crate::stop::Stop;
@@ -18,6 +17,7 @@ use crate::window::Window;
 use crate::words::with_pixel;
 use bit_image::bitmap::Bitmap;
 use pt_base::inputs::Inputs;
+use pt_base::limits::LONGEST_SIDE;
 
 /// How the samples of a page become pixels.
 #[derive(Clone, Copy, Debug)]
@@ -104,7 +104,7 @@ fn is_wide(white: u32) -> bool
 
 /// The bytes of a row of samples.
 pub(crate) fn row_bytes(width: u32, white: u32) -> usize
-    requires { width ≤ 16384 }
+    requires { width ≤ LONGEST_SIDE }
     ensures { result ≡ gray_row_bytes white width }
 {
     if is_wide(white) {

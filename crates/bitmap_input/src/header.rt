@@ -11,9 +11,7 @@ use crate::run::is_space;
 use crate::stop::Stop;
 use crate::window::{Look, Window};
 use pt_base::inputs::Inputs;
-
-/// The greatest side of a page.
-pub(crate) const LONGEST_SIDE: u32 = 16384;
+use pt_base::limits::LONGEST_SIDE;
 
 /// The greatest value that the sample for white may have.
 pub(crate) const GREATEST_MAXVAL: u32 = 65535;
@@ -33,7 +31,7 @@ pub(crate) enum Format {
     Picture,
 }
 
-/// The sides of a page in pixels, each from 1 to 16384.
+/// The sides of a page in pixels, each from 1 to the longest one.
 #[derive(Clone, Copy, Debug)]
 pub(crate) struct Sides {
     pub(crate) width: u32,

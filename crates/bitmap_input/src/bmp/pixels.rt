@@ -13,13 +13,13 @@ ghost use Rattle.bitmap_input.specs.Raster.{with_row, with_placed};
 
 use crate::bmp::fields::Depth;
 use crate::bmp::header::Header;
-use crate::header::LONGEST_SIDE;
 use crate::raw::{place_row as place_bits, read_block};
 use crate::stop::Stop;
 use crate::window::Window;
 use crate::words::with_pixel;
 use bit_image::bitmap::Bitmap;
 use pt_base::inputs::Inputs;
+use pt_base::limits::LONGEST_SIDE;
 use threshold_map::level::Level;
 
 /// How the colours of a picture become pixels.

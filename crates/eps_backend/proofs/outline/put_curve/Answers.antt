@@ -5,7 +5,7 @@ pub returns : goal.returns
 returns c =
     two _ _ _ _ _
     (two _ _ _ _ _
-    (four _ _ _ _ _ _ _ _ _ c.in_ok-put_step.ensures c.in_ok-extend_from_slice.ensures.items c.in_ok-put_step-2.ensures
+    (four _ _ _ _ _ _ _ _ _ c.in_ok-put_step.ensures.appended c.in_ok-extend_from_slice.ensures.items c.in_ok-put_step-2.ensures.appended
     c.in_ok-extend_from_slice-2.ensures.items)
-    c.in_ok-put_step-3.ensures)
+    c.in_ok-put_step-3.ensures.appended)
     c.in_ok-extend_from_slice-3.ensures.items
