@@ -2,6 +2,7 @@ pub mod Carrying
 pub mod Ending
 pub mod Exists
 pub mod Filing
+pub mod Holding
 pub mod Joining
 pub mod NameExamples
 pub mod Naming

@@ -67,6 +67,16 @@ pub mod Status
 --   IsUnread: a read failed
 --   IsOutcome: what was done of the items of files
 pub mod Outcome
+-- What was read and isn't carried out yet.
+--   Held: one thing that is held
+--   pages_held: how many pages are held
+--   AreHeld: these are the items of what is held
+--   Holds: of the items that were read the first are carried out, and the others are held
+pub mod Held
+-- The entries of a batch, and the pages that they speak of.
+--   pages_among: how many pages these entries speak of
+--   held_by: what these entries hold, where these are their pages
+pub mod Entries
 -- How far the tracing of a file has come.
 --   BeginsWith: the first pages of the bytes are these, and `rest` is what follows them
 --   AreTraced: these are the texts of these pages, in order
@@ -76,16 +86,17 @@ pub mod Outcome
 --   Settles: this page stands there, not by the end of the bytes
 --   ReadsPage: the next page of what is ahead was read
 --   EndsReading: no page was read for this reason
---   EndsWriting: the page wasn't written for this reason
---   TracesPage: the next page was traced, and its document written
---   EndsBy: no further page was traced for this reason
+--   EndsBy: no further page was read for this reason
 --   end_of_fault: why no further page is traced, where the reader tells of a fault
 --   status_of: the status with which a run ends where the pages of a file end so
 --   InputCount: how the inputs' count of faults moved
 --   OutputCount: how the outputs moved
 --   HasUnread: a read failed behind these pages
---   Traces: k pages were traced, and then the tracing ended so
---   SaysEnd: what is said where the pages of a file end so
+--   Traces: k pages were read, and then the reading ended so
+--   Halts: some pages were read, and then what was held couldn't be carried out
+--   end_notes: the note of a file whose pages end so
+--   end_message: what is said where the run ends with the pages of a file
+--   EndsWithFile: the run ends with the pages of a file
 --   EndsWith: nothing follows, and these are the base names of the documents so far
---   TracesFile: the items of a file are carried out
+--   TracesFile: the items of a file are carried out or held
 pub mod Progress

@@ -1,6 +1,7 @@
 //! The pages of the opened file, read one after another, and traced by batches.
 ghost use Rattle.std.specs.Prelude.{◌≡◌, ◌≢◌, ◌+◌, ◌*◌, ◌++◌, ◌∷◌, ◌<◌, ◌≤◌, ◌⊎◌, [], true, false, List, ℕ, Err, IfOk, IfErr, OnOk, length};
 ghost use Rattle.pt_base.specs.Counts.{Rose};
+ghost use Rattle.bit_image.specs.Page.{IsPage};
 ghost use Rattle.bitmap_input.specs.Reading.{AtEnd};
 ghost use Rattle.bitmap_input.specs.Reader.{ReadFails, at_start, is_later as reader_is_later};
 ghost use Rattle.page_trace.specs.Document.{CanWrite, IsDocument};
@@ -243,6 +244,7 @@ fn read_next<I: Inputs>(
     ensures reads { IfOk result
         (λ page. ReadsPage settings reader.old (I.files inputs.old) page reader.new
         (I.files inputs.new)) }
+    ensures page { IfOk result (λ page. IsPage page) }
     ensures ends { IfErr result
         (EndsReading (reader_is_later reader.old) (ahead reader.old (I.files inputs.old))) }
     ensures read_fault { result ≡ Err PagesEnd.Unread
