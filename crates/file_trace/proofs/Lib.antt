@@ -4,6 +4,7 @@ pub mod Exists
 pub mod Filing
 pub mod Holding
 pub mod Joining
+pub mod Keeping
 pub mod NameExamples
 pub mod Naming
 pub mod OneItems

@@ -1,9 +1,12 @@
 //! A whole file: opened, its pages read and traced by batches, and how it ended said.
-ghost use Rattle.std.specs.Prelude.{◌≡◌, ◌≢◌, ◌+◌, ◌*◌, ◌++◌, ◌<◌, ◌≤◌, ◌∷◌, List, ℕ, false, true, option_map, IfErr, OnOk, IfSome, length};
+ghost use Rattle.std.specs.Prelude.{◌≡◌, ◌≢◌, ◌+◌, ◌*◌, ◌++◌, ◌<◌, ◌≤◌, ◌∷◌, ◌⊎◌, List, ℕ, [], false, true, option_map, IfErr, OnErr, OnOk, IfSome};
 ghost use Rattle.pt_base.specs.Counts.{next_count};
+ghost use Rattle.pt_base.specs.Documents.{IsSaid};
 ghost use Rattle.page_trace.specs.Document.{CanWrite};
 ghost use Rattle.file_trace.specs.Held.{AreHeld, Holds, pages_held};
+ghost use Rattle.file_trace.specs.Held.Held.{Message};
 ghost use Rattle.file_trace.specs.Items.{Item, told_contents, most_pages};
+ghost use Rattle.file_trace.specs.Messages.{out_of_memory, trailing_line};
 ghost use Rattle.file_trace.specs.Names.{base_name};
 ghost use Rattle.file_trace.specs.Offered.{IsOffered};
 ghost use Rattle.file_trace.specs.Outcome.{IsOutcomeBehind};
@@ -136,7 +139,9 @@ pub fn trace_file<R: Threads + Sync, I: Inputs, O: Outputs, E: Sink, G: Gate + S
         Err(status) => return Err(status),
     };
     let pages = traced.pages;
-    match finish(rt, alloc, settings, workers, name, traced, batch, outs, errs, gate) {
+    match finish(
+        rt, alloc, settings, workers, name, traced, batch, outs, errs, gate,
+    ) {
         Ok(()) => {}
         Err(status) => return Err(status),
     }
@@ -203,6 +208,8 @@ fn finish<R: Threads + Sync, O: Outputs, E: Sink, G: Gate + Sync>(
           errs = E.documents errs.new;
           errs_faults = E.faults errs.new;
         })) }
+    ensures status { IfErr result (λ status. (status ≡ status_of traced.end)
+        ⊎ ((status ≡ Status.Unwritten) ⊎ (status ≡ Status.OutOfMemory))) }
     ensures still_not_full { OnOk result (pages_held batch.new < 2 * workers) }
     ensures output { IfErr result
         (λ status. OutputCount status (O.faults outs.old) (O.faults outs.new) (O.is_ready outs.new)) }
@@ -241,6 +248,12 @@ fn hold_trailing<E: Sink>(
     errs: &mut E,
 ) -> Result<(), Status>
     requires ready { E.is_ready errs.old ≡ true }
+    ensures held { OnOk result ((errs.new ≡ errs.old)
+        × (batch.new ≡ batch.old ++ Message (trailing_line name.now pages) ∷ [])) }
+    ensures ends { IfErr result (λ status. (status ≡ Status.OutOfMemory)
+        × IsSaid (E.documents errs.old) (E.documents errs.new) (E.faults errs.old)
+        (E.faults errs.new) out_of_memory) }
+    ensures never_falls { E.faults errs.old ≤ E.faults errs.new }
     ensures stays_ready { E.is_ready errs.new ≡ true }
 {
     let Ok(name) = String::from_str(alloc, name) else {
