@@ -67,6 +67,17 @@ pub mod Status
 --   IsUnread: a read failed
 --   IsOutcome: what was done of the items of files
 pub mod Outcome
+-- What was read and isn't carried out yet.
+--   Held: one thing that is held
+--   pages_held: how many pages are held
+--   AreHeld: these are the items of what is held
+--   Holds: of the items that were read the first are carried out, and the others are held
+pub mod Held
+-- The entries of a batch, and the pages that they speak of.
+--   pages_among: how many pages these entries speak of
+--   held_by: what these entries hold, where these are their pages
+--   items_by: the items of these entries, where these are the texts of their pages
+pub mod Entries
 -- How far the tracing of a file has come.
 --   BeginsWith: the first pages of the bytes are these, and `rest` is what follows them
 --   AreTraced: these are the texts of these pages, in order
