@@ -11,7 +11,7 @@ use Rattle.page_trace.specs.Document.{CanWrite}
 use Rattle.file_trace.specs.Held.{AreHeld, Held}
 use Rattle.file_trace.specs.Messages.{not_opened, out_of_memory, page_line, read_fault}
 use Rattle.file_trace.specs.Names.{base_name, made_with}
-use Rattle.file_trace.specs.Items.{AreItems, ArePageItems, IsAbsent, Item, Nothing, told_contents}
+use Rattle.file_trace.specs.Items.{AreItems, ArePageItems, IsAbsent, Item, Nothing, most_pages, told_contents}
 use Rattle.file_trace.specs.Outcome.{AreCarriedOut, HasEnded, HoldsBytes, IsOutcomeBehind, OpensUpTo, IsUnopened, IsUnread, Sinks, Source}
 use Rattle.file_trace.specs.Progress.{EndsWithFile, Halts, InputCount, Traces, TracesFile, docs, end_message, opened_name, status_of}
 use Rattle.file_trace.specs.declared.pages.PagesEnd.{PagesEnd}
@@ -20,13 +20,13 @@ use Rattle.file_trace.specs.declared.status.Status.{Status}
 use Rattle.file_trace.specs.declared.status.Status.TheVariants as status
 use Rattle.file_trace.proofs.Carrying.{carried_on, ended_on, only_said}
 use Rattle.file_trace.proofs.Exists.{items_found}
-use Rattle.file_trace.proofs.Filing.{file_full, file_halts, file_refused, has_bytes, pages_docs, read_by_halting, read_by_tracing, HasBytes, HasRead}
+use Rattle.file_trace.proofs.Filing.{docs_alone, file_full, file_halts, file_refused, has_bytes, read_by_halting, read_by_tracing, HasBytes, HasRead}
 use Rattle.file_trace.proofs.Holding.{ended_behind}
 use Rattle.file_trace.proofs.Joining.{items_join}
 use Rattle.file_trace.proofs.Keeping.{GoesOn-behind, IsHalt, ended_more, holds_goes_on, memory_out}
 
 -- the first file was asked for
-at_first : (name : List ℕ) (names : List (List ℕ)) (openings openings_now : ℕ) → openings_now ≡ next_count openings → OpensUpTo (name ∷ names) name [] openings openings_now
+pub at_first : (name : List ℕ) (names : List (List ℕ)) (openings openings_now : ℕ) → openings_now ≡ next_count openings → OpensUpTo (name ∷ names) name [] openings openings_now
 at_first name names openings openings_now one = record { back = names; listed = refl; grew = one }
 
 -- the file can't be opened, behind the first items
@@ -46,7 +46,7 @@ file_unopened settings output name made source source_now a b c one closed cause
   done = carried_on first [] (not_opened name ∷ []) a b c done (only_said (not_opened name) b c same said most);
 }
 
-opened_as : (file : Option Opened) (name rest : List ℕ) → option_map unread_of file ≡ Some rest → option_map (λ (f : Opened). f.name) file ≡ Some name
+pub opened_as : (file : Option Opened) (name rest : List ℕ) → option_map unread_of file ≡ Some rest → option_map (λ (f : Opened). f.name) file ≡ Some name
     → file ≡ Some (record { name = name; rest = rest })
 opened_as None name rest e f = cc
 opened_as (Some file) name rest e f =
@@ -54,7 +54,7 @@ opened_as (Some file) name rest e f =
     let named : file.name ≡ name = cc in
     ap (λ (r : List ℕ). Some (record { name = file.name; rest = r })) left ∙ ap (λ (n : List ℕ). Some (record { name = n; rest = rest })) named
 
-name-opened : (files : Files) (name bytes : List ℕ) → get files.contents name ≡ Some bytes → opened_name (with_file (Some files) name) ≡ Some name
+pub name-opened : (files : Files) (name bytes : List ℕ) → get files.contents name ≡ Some bytes → opened_name (with_file (Some files) name) ≡ Some name
 name-opened files name bytes is = ap (λ o. option_map (λ (f : Opened). f.name) (option_map (λ (b : List ℕ). record { name = name; rest = b }) o)) is
 
 -- what is left of the opened file, where that is told
@@ -81,19 +81,17 @@ left_of (Some files) start (Some now) name taken opened there contents named tol
     }
 
 -- a read failed behind pages of the file
-pub file_unread : (settings : Settings) (output : Option (List ℕ)) (name : List ℕ) (made : List (List ℕ)) (start : Option Files) (k : ℕ) (held held_mid : List Held) (source source_now : Source) (a b c : Sinks)
+pub file_unread : (size : ℕ) (settings : Settings) (output : Option (List ℕ)) (name : List ℕ) (made : List (List ℕ)) (start : Option Files) (k : ℕ) (held held_mid : List Held) (source source_now : Source) (a b c : Sinks)
     → start ≡ with_file source.files name → (Lacks source.files name → ⊥) → source_now.openings ≡ next_count source.openings
     → told_contents source_now.files ≡ told_contents start → opened_name source_now.files ≡ opened_name start → Rose source.faults source_now.faults
-    → (t : Traces settings (base_name output settings.backend name) made start source_now.files held held_mid a b k why.Unread) → (names : List (List ℕ)) (first : List Item)
+    → (t : Traces size settings (base_name output settings.backend name) made start source_now.files held held_mid a b k why.Unread) → (names : List (List ℕ)) (first : List Item)
     → AreCarriedOut (first ++ docs (base_name output settings.backend name) made t.texts) (end_message name why.Unread k ∷ []) a c
     → IsUnread first (told_contents source.files) settings output (name ∷ names) made source source_now a c
-file_unread settings output name made start k held held_mid source source_now a b c opened there one contents named rose t names first done =
+file_unread size settings output name made start k held held_mid source source_now a b c opened there one contents named rose t names first done =
     let base = base_name output settings.backend name in
     let u = t.unread refl in
     let left = left_of source.files start source_now.files name u.taken opened there contents named u.told in
-    let count : length t.raws ≡ k = sym t.count in
-    let items = pages_docs settings name base End Nothing t.raws [] t.texts 0 k made (made_with base k made) [] t.traced (omega (arith, count)) (omega (arith, count, t.few))
-    (ap (λ n. made_with base n made) t.count) refl in
+    let few : length t.raws + length made ≤ most_pages = omega (arith, t.count, t.few) in
     record {
       name = name;
       front = [];
@@ -106,8 +104,7 @@ file_unread settings output name made start k held held_mid source source_now a 
       bytes = left.bytes;
       rose = rose;
       stops = u.stops;
-      items = subst (λ (rs : List Raw). ArePageItems settings name base End Nothing rs 0 made (docs base made t.texts)) (append-nil t.raws)
-          (subst (λ (l : List Item). ArePageItems settings name base End Nothing (t.raws ++ []) 0 made l) (append-nil (docs base made t.texts)) items);
+      items = docs_alone settings name base made t.raws t.texts t.traced few;
       done = subst (λ (n : ℕ). AreCarriedOut (first ++ docs base made t.texts) (page_line name (n + 1) read_fault ∷ []) a c) t.count done;
     }
 
@@ -144,19 +141,19 @@ ends_at_once contents settings can output names made a b same said most first =
     (items.0, items.1, memory_out (first ++ items.0) a b same said most)
 
 -- memory ran out behind a file
-pub ends_behind : (contents : Option Contents) (settings : Settings) → CanWrite settings → (output : Option (List ℕ)) (name : List ℕ) (made made_now : List (List ℕ)) (held held_now : List Held) (a b c : Sinks)
-    → TracesFile contents settings output name made made_now held held_now a b
+pub ends_behind : (size : ℕ) (contents : Option Contents) (settings : Settings) → CanWrite settings → (output : Option (List ℕ)) (name : List ℕ) (made made_now : List (List ℕ)) (held held_now : List Held) (a b c : Sinks)
+    → TracesFile size contents settings output name made made_now held held_now a b
     → c.outs ≡ b.outs → IsSaid b.errs c.errs b.errs_faults c.errs_faults out_of_memory → b.errs_faults ≤ c.errs_faults → (names : List (List ℕ)) (first : List Item) → AreHeld settings held first
     → (items : List Item) × AreItems contents settings output Nothing (name ∷ names) made items × HasEnded status.OutOfMemory (first ++ items) a c
-ends_behind contents settings can output name made made_now held held_now a b c file same said most names first are_held =
+ends_behind size contents settings can output name made made_now held held_now a b c file same said most names first are_held =
     let h = file.holds first are_held in
-    let goes = GoesOn-behind first file.items (holds_goes_on settings (first ++ file.items) held_now a b h) in
+    let goes = GoesOn-behind first file.items (holds_goes_on size settings (first ++ file.items) held_now a b h) in
     let more = items_found contents settings can output names made_now in
     let are = items_join contents settings output Nothing names made_now more.0 more.1 (name ∷ []) made file.items goes file.are in (
       file.items ++ more.0,
       are,
       subst (λ (l : List Item). HasEnded status.OutOfMemory l a c) (append_assoc first file.items more.0)
-          (ended_behind status.OutOfMemory settings (first ++ file.items) more.0 held_now a b c h (λ left is. memory_out (left ++ more.0) b c same said most)),
+          (ended_behind status.OutOfMemory size settings (first ++ file.items) more.0 held_now a b c h (λ left is. memory_out (left ++ more.0) b c same said most)),
     )
 
 -- all that was held is carried out, and then the line of the end is said
@@ -176,14 +173,14 @@ input_count s end before now (inr (inl is)) count = subst (λ v. InputCount v be
 input_count s end before now (inr (inr is)) count = subst (λ v. InputCount v before now) (sym is) tt
 
 -- the run ends in the file
-module _ (settings : Settings) (can : CanWrite settings) (output : Option (List ℕ)) (name : List ℕ) (made : List (List ℕ)) (start : Option Files) (k : ℕ) (held held_mid : List Held)
+module _ (size : ℕ) (settings : Settings) (can : CanWrite settings) (output : Option (List ℕ)) (name : List ℕ) (made : List (List ℕ)) (start : Option Files) (k : ℕ) (held held_mid : List Held)
     (source source_now : Source) (a b c : Sinks) (opened : start ≡ with_file source.files name) (there : Lacks source.files name → ⊥) (one : source_now.openings ≡ next_count source.openings)
     (contents : told_contents source_now.files ≡ told_contents start) (named : opened_name source_now.files ≡ opened_name start) where
   abbrev base : List ℕ
   base = base_name output settings.backend name
 
   abbrev TracedTo : PagesEnd → Type 0
-  TracedTo end = Traces settings base made start source_now.files held held_mid a b k end
+  TracedTo end = Traces size settings base made start source_now.files held held_mid a b k end
 
   abbrev Ends : Status → List Item → List (List ℕ) → Type 0
   Ends s first names = IsOutcomeBehind s first (told_contents source.files) settings output (name ∷ names) made source source_now a c
@@ -198,11 +195,11 @@ module _ (settings : Settings) (can : CanWrite settings) (output : Option (List 
   ends_said why.Trailing rose t going memory names first done = absurd (going refl)
   ends_said why.OutOfMemory rose t going memory names first done = absurd (memory refl)
   ends_said (why.Refused f) rose t going memory names first done =
-      file_refused (told_contents source.files) settings output name made start source_now.files k held held_mid a b has f first names c t done
+      file_refused (told_contents source.files) settings output name made size start source_now.files k held held_mid a b has f first names c t done
   ends_said why.TooMany rose t going memory names first done =
-      file_full (told_contents source.files) settings output name made start source_now.files k held held_mid a b has first names c t done
+      file_full (told_contents source.files) settings output name made size start source_now.files k held held_mid a b has first names c t done
   ends_said why.Unread rose t going memory names first done =
-      inr (file_unread settings output name made start k held held_mid source source_now a b c opened there one contents named (rose refl) t names first done)
+      inr (file_unread size settings output name made start k held held_mid source source_now a b c opened there one contents named (rose refl) t names first done)
 
   -- within what was held
   ends_within : (s : Status) → IsHalt s → (r : HasRead (told_contents source.files) settings name made) (names : List (List ℕ)) (first : List Item)
@@ -222,16 +219,16 @@ module _ (settings : Settings) (can : CanWrite settings) (output : Option (List 
             (ends_said end rose t (λ e. going (is ∙ e)) (λ e. memory (is ∙ e)) names first
             (subst (λ l. AreCarriedOut l (end_message name end k ∷ []) a c) (sym h.split) (carried_on h.done h.left (end_message name end k ∷ []) a b c h.carried done)))
         | inr (which, ended) ↦
-            ends_within s which (read_by_tracing (told_contents source.files) settings name base made start source_now.files held held_mid a b k end has t) names first
+            ends_within s which (read_by_tracing size (told_contents source.files) settings name base made start source_now.files held held_mid a b k end has t) names first
             (subst (λ l. HasEnded s l a c) (sym h.split) (ended_on s h.done h.left a b c h.carried ended))
       ]
 
 -- the run ends within the pages of the file
-pub file_halted : (settings : Settings) → CanWrite settings → (output : Option (List ℕ)) (name : List ℕ) (made : List (List ℕ)) (start : Option Files) (held : List Held) (source source_now : Source) (a b : Sinks) (s : Status)
-    → start ≡ with_file source.files name → (Lacks source.files name → ⊥) → IsHalt s → Halts s settings (base_name output settings.backend name) made start held a b
+pub file_halted : (size : ℕ) (settings : Settings) → CanWrite settings → (output : Option (List ℕ)) (name : List ℕ) (made : List (List ℕ)) (start : Option Files) (held : List Held) (source source_now : Source) (a b : Sinks) (s : Status)
+    → start ≡ with_file source.files name → (Lacks source.files name → ⊥) → IsHalt s → Halts s size settings (base_name output settings.backend name) made start source_now.files held a b
     → (names : List (List ℕ)) (first : List Item) → AreHeld settings held first → IsOutcomeBehind s first (told_contents source.files) settings output (name ∷ names) made source source_now a b
-file_halted settings can output name made start held source source_now a b s opened there which t names first are =
+file_halted size settings can output name made start held source source_now a b s opened there which t names first are =
     let has = has_bytes source.files start name opened there in
-    let r = read_by_halting (told_contents source.files) s settings name (base_name output settings.backend name) made start held a b has t in
+    let r = read_by_halting size (told_contents source.files) s settings name (base_name output settings.backend name) made start source_now.files held a b has t in
     outcome_of_halt s which first (told_contents source.files) settings output (name ∷ names) made source source_now a b
     (file_halts (told_contents source.files) settings output name made can s which first names a b r (t.ended first are))

@@ -1,5 +1,5 @@
 -- What the end of a file's pages means for the run.
-use Rattle.std.proofs.Common.{◌≡◌, ◌≤◌, ◌<◌, ℕ, suc, ◌+◌, Bool, true, false, List, [], ◌∷◌, ◌++◌, length, drop, Option, None, Some, IfSome, option_map, inl, inr, refl, sym, ◌∙◌, ap, subst, append_assoc, arith}
+use Rattle.std.proofs.Common.{◌≡◌, ◌≤◌, ◌<◌, ℕ, suc, ◌+◌, Bool, true, false, List, [], ◌∷◌, ◌++◌, length, drop, Option, None, Some, IfSome, option_map, inl, inr, refl, sym, ◌∙◌, ap, subst, append_assoc, arith, append-nil}
 use Rattle.std.specs.FinMap.{get}
 use Rattle.pt_base.specs.Files.{Contents, Files, Lacks, unread, unread_of, with_file}
 use Rattle.pt_base.specs.declared.settings.Settings.{Settings}
@@ -20,8 +20,8 @@ use Rattle.file_trace.specs.Messages.{page_line, trailing_line}
 use Rattle.file_trace.specs.Names.{base_name, made_with}
 use Rattle.file_trace.specs.Items.{AreItems, ArePageItems, HoldsPages, Item, Nothing, Rest, told_contents, most_pages, too_many}
 use Rattle.file_trace.specs.Items.Item.{Note, Stop}
-use Rattle.file_trace.specs.Outcome.{AreCarriedOut, HasEnded, Sinks, is_later}
-use Rattle.file_trace.specs.Progress.{AreTraced, BeginsWith, EndsWith, Halts, Traces, TracesFile, docs, end_message, end_notes, status_of}
+use Rattle.file_trace.specs.Outcome.{AreCarriedOut, BeginsWith, HasEnded, Sinks, is_later}
+use Rattle.file_trace.specs.Progress.{AreTraced, EndsWith, Halts, Traces, TracesFile, docs, end_message, end_notes, status_of}
 use Rattle.file_trace.specs.declared.pages.PagesEnd.{PagesEnd}
 use Rattle.file_trace.specs.declared.pages.PagesEnd.TheVariants as why
 use Rattle.file_trace.specs.declared.status.Status.{Status}
@@ -54,6 +54,14 @@ pages_docs settings name base ending F (raw ∷ raws) more (text ∷ texts) page
     )
 pages_docs settings name base ending F [] more (text ∷ texts) pages k made mid after t count few same h = absurd t
 pages_docs settings name base ending F (raw ∷ raws) more [] pages k made mid after t count few same h = absurd t
+
+-- the items of a file with these pages alone
+pub docs_alone : (settings : Settings) (name base : List ℕ) (made : List (List ℕ)) (raws : List Raw) (texts : List (List ℕ)) → AreTraced settings raws texts → length raws + length made ≤ most_pages
+    → ArePageItems settings name base End Nothing raws 0 made (docs base made texts)
+docs_alone settings name base made raws texts traced few =
+    let items = pages_docs settings name base End Nothing raws [] texts 0 (length raws) made (made_with base (length raws) made) [] traced (omega arith) few refl refl in
+    subst (λ (rs : List Raw). ArePageItems settings name base End Nothing rs 0 made (docs base made texts)) (append-nil raws)
+    (subst (λ (l : List Item). ArePageItems settings name base End Nothing (raws ++ []) 0 made l) (append-nil (docs base made texts)) items)
 
 -- the pages that were found in the file's bytes are those of the file
 
@@ -119,9 +127,9 @@ pub record HasRead (contents : Option Contents) (settings : Settings) (name : Li
   pub rest : Option (List ℕ)
   pub holds : (more : List Raw) (ending : Ending) → IfSome rest (λ left. FilePages (is_later false raws) left more ending) → HoldsPages contents name (raws ++ more) ending
 
-abbrev pub read_by_tracing : (contents : Option Contents) (settings : Settings) (name base : List ℕ) (made : List (List ℕ)) (start now : Option Files) (held held_now : List Held) (a b : Sinks) (k : ℕ) (end : PagesEnd)
-    → HasBytes contents name (unread start) → Traces settings base made start now held held_now a b k end → HasRead contents settings name made
-read_by_tracing contents settings name base made start now held held_now a b k end has t = record {
+abbrev pub read_by_tracing : (size : ℕ) (contents : Option Contents) (settings : Settings) (name base : List ℕ) (made : List (List ℕ)) (start now : Option Files) (held held_now : List Held) (a b : Sinks) (k : ℕ) (end : PagesEnd)
+    → HasBytes contents name (unread start) → Traces size settings base made start now held held_now a b k end → HasRead contents settings name made
+read_by_tracing size contents settings name base made start now held held_now a b k end has t = record {
   raws = t.raws;
   texts = t.texts;
   few = omega (arith, t.count, t.few);
@@ -142,9 +150,9 @@ behind_pages (Some contents) name all raws (bytes, held, is) begins =
     let (left, b) = subst (λ (o : Option (List ℕ)). IfSome o (λ bs. (left : List ℕ) × BeginsWith false bs raws left)) is begins in
     record { rest = Some left; holds = λ more ending pages. (bytes, held, pages_on false bytes raws left more ending b pages) }
 
-abbrev pub read_by_halting : (contents : Option Contents) (s : Status) (settings : Settings) (name base : List ℕ) (made : List (List ℕ)) (start : Option Files) (held : List Held) (a b : Sinks)
-    → HasBytes contents name (unread start) → Halts s settings base made start held a b → HasRead contents settings name made
-read_by_halting contents s settings name base made start held a b has t =
+abbrev pub read_by_halting : (size : ℕ) (contents : Option Contents) (s : Status) (settings : Settings) (name base : List ℕ) (made : List (List ℕ)) (start now : Option Files) (held : List Held) (a b : Sinks)
+    → HasBytes contents name (unread start) → Halts s size settings base made start now held a b → HasRead contents settings name made
+read_by_halting size contents s settings name base made start now held a b has t =
     let behind = behind_pages contents name (unread start) t.raws has t.begins in
     record { raws = t.raws; texts = t.texts; few = t.few; traced = t.traced; rest = behind.rest; holds = behind.holds }
 
@@ -171,26 +179,32 @@ module _ (contents : Option Contents) (settings : Settings) (output : Option (Li
   abbrev Behind : List (List ℕ) → Rest
   Behind names = AreItems contents settings output Nothing names
 
+  -- the documents of its first pages, and then items of the rest of it and of the files behind it
+  pub items_after : CanWrite settings → (names : List (List ℕ)) (r : HasRead contents settings name made)
+      → (after : List Item) × AreItems contents settings output Nothing (name ∷ names) made (docs base made r.texts ++ after)
+  items_after can names r =
+      let k = length r.raws in
+      let left = pages_found settings (is_later false r.raws) r.rest in
+      let behind = page_items_found settings can name base left.ending (Behind names) (λ m. items_found contents settings can output names m) left.raws left.shows k (made_with base k made) in
+      (behind.0, inr (listed (Behind names) r k refl left.raws left.ending behind.0 left.pages behind.1))
+
   -- the run ends within the file
   pub file_halts : CanWrite settings → (s : Status) → IsHalt s → (first : List Item) (names : List (List ℕ)) (a c : Sinks) (r : HasRead contents settings name made)
       → HasEnded s (first ++ docs base made r.texts) a c → EndsFile s first names a c
   file_halts can s which first names a c r ended =
-      let k = length r.raws in
-      let left = pages_found settings (is_later false r.raws) r.rest in
-      let behind = page_items_found settings can name base left.ending (Behind names) (λ m. items_found contents settings can output names m) left.raws left.shows k (made_with base k made) in
-      let items = listed (Behind names) r k refl left.raws left.ending behind.0 left.pages behind.1 in (
-        docs base made r.texts ++ behind.0,
-        inr items,
-        subst (λ l. HasEnded s l a c) (append_assoc first (docs base made r.texts) behind.0) (ended_more s which (first ++ docs base made r.texts) behind.0 a c ended),
+      let (after, are) = items_after can names r in (
+        docs base made r.texts ++ after,
+        are,
+        subst (λ l. HasEnded s l a c) (append_assoc first (docs base made r.texts) after) (ended_more s which (first ++ docs base made r.texts) after a c ended),
       )
 
-  module _ (start now : Option Files) (k : ℕ) (held held_mid : List Held) (a b : Sinks) (has : HasBytes contents name (unread start)) where
+  module _ (size : ℕ) (start now : Option Files) (k : ℕ) (held held_mid : List Held) (a b : Sinks) (has : HasBytes contents name (unread start)) where
     -- its pages were read, and the reading ended so
     abbrev TracedTo : PagesEnd → Type 0
-    TracedTo end = Traces settings base made start now held held_mid a b k end
+    TracedTo end = Traces size settings base made start now held held_mid a b k end
 
     abbrev read_of : (end : PagesEnd) → TracedTo end → HasRead contents settings name made
-    read_of end t = read_by_tracing contents settings name base made start now held held_mid a b k end has t
+    read_of end t = read_by_tracing size contents settings name base made start now held held_mid a b k end has t
 
     -- the items of the file, where the run goes on behind it
     items_of : (end : PagesEnd) (t : TracedTo end) → status_of end ≡ status.Done
@@ -206,21 +220,24 @@ module _ (contents : Option Contents) (settings : Settings) (output : Option (Li
 
     -- the run goes on behind the file
     pub file_goes_on : (end : PagesEnd) → TracedTo end → (held_now : List Held) (c : Sinks)
-        → ((left : List Item) → AreHeld settings held_mid left → Holds settings (left ++ end_notes name end k) held_now b c) → status_of end ≡ status.Done
-        → TracesFile contents settings output name made (made_with base k made) held held_now a c
+        → ((left : List Item) → AreHeld settings held_mid left → Holds size settings (left ++ end_notes name end k) held_now b c) → status_of end ≡ status.Done
+        → TracesFile size contents settings output name made (made_with base k made) held held_now a c
     file_goes_on end t held_now c behind done = record {
       items = docs base made t.texts ++ end_notes name end k;
       are = inr (items_of end t done);
-      holds = λ first are. subst (λ l. Holds settings l held_now a c) (append_assoc first (docs base made t.texts) (end_notes name end k))
-          (holds_on settings (first ++ docs base made t.texts) (end_notes name end k) held_mid held_now a b c (t.holds first are) behind);
+      holds = λ first are. subst (λ l. Holds size settings l held_now a c) (append_assoc first (docs base made t.texts) (end_notes name end k))
+          (holds_on size settings (first ++ docs base made t.texts) (end_notes name end k) held_mid held_now a b c (t.holds first are) behind);
     }
 
+    -- the documents of its pages, and a refusal
+    abbrev AreRefused : List (List ℕ) → List (List ℕ) → List ℕ → Type 0
+    AreRefused names texts message = AreItems contents settings output Nothing (name ∷ names) made (docs base made texts ++ Stop message ∷ [])
+
     refused : (first : List Item) (names : List (List ℕ)) (texts : List (List ℕ)) (message : List ℕ) (c : Sinks) → AreCarriedOut (first ++ docs base made texts) (message ∷ []) a c
-        → (raws : List Raw) × (ending : Ending) × HoldsPages contents name raws ending × ArePageItems settings name base ending (Behind names) raws 0 made (docs base made texts ++ Stop message ∷ [])
-        → EndsFile status.Refused first names a c
-    refused first names texts message c done items = (
+        → AreRefused names texts message → EndsFile status.Refused first names a c
+    refused first names texts message c done are = (
       docs base made texts ++ Stop message ∷ [],
-      inr items,
+      are,
       record {
         before = first ++ docs base made texts;
         message = message;
@@ -229,21 +246,26 @@ module _ (contents : Option Contents) (settings : Settings) (output : Option (Li
       },
     )
 
-    pub file_refused : (f : InFault) (first : List Item) (names : List (List ℕ)) (c : Sinks) (t : TracedTo (why.Refused f))
-        → AreCarriedOut (first ++ docs base made t.texts) (end_message name (why.Refused f) k ∷ []) a c → EndsFile status.Refused first names a c
-    file_refused f first names c t done =
+    pub refused_items : (f : InFault) (names : List (List ℕ)) (t : TracedTo (why.Refused f)) → AreRefused names t.texts (end_message name (why.Refused f) k)
+    refused_items f names t =
         let (kind, cause, here) = t.ends in
         let message = page_line name (k + 1) (kind_text kind) in
         let same : page_line name (k + 1) (fault_text f) ≡ message = ap (page_line name (k + 1)) (fault_text-kind f kind cause) in
-        refused first names t.texts message c (subst (λ m. AreCarriedOut (first ++ docs base made t.texts) (m ∷ []) a c) same done)
-        (listed (Behind names) (read_of (why.Refused f) t) k t.count [] (Refused kind) (Stop message ∷ []) (pages_end _ (Refused kind) t.rest here) refl)
+        subst (AreRefused names t.texts) (sym same)
+        (inr (listed (Behind names) (read_of (why.Refused f) t) k t.count [] (Refused kind) (Stop message ∷ []) (pages_end _ (Refused kind) t.rest here) refl))
 
-    pub file_full : (first : List Item) (names : List (List ℕ)) (c : Sinks) (t : TracedTo why.TooMany)
-        → AreCarriedOut (first ++ docs base made t.texts) (end_message name why.TooMany k ∷ []) a c → EndsFile status.Refused first names a c
-    file_full first names c t done =
+    pub file_refused : (f : InFault) (first : List Item) (names : List (List ℕ)) (c : Sinks) (t : TracedTo (why.Refused f))
+        → AreCarriedOut (first ++ docs base made t.texts) (end_message name (why.Refused f) k ∷ []) a c → EndsFile status.Refused first names a c
+    file_refused f first names c t done = refused first names t.texts (end_message name (why.Refused f) k) c done (refused_items f names t)
+
+    pub full_items : (names : List (List ℕ)) (t : TracedTo why.TooMany) → AreRefused names t.texts (end_message name why.TooMany k)
+    full_items names t =
         let (raw, used, here) = t.ends in
         let page = page_found settings raw used (is_later false t.raws) t.rest here in
         let message = page_line name (k + 1) too_many in
         let full : most_pages ≤ length (made_with base k made) = omega (arith, t.full refl, length-made_with base k made) in
-        refused first names t.texts message c done
-        (listed (Behind names) (read_of why.TooMany t) k t.count (raw ∷ page.raws) page.ending (Stop message ∷ []) page.pages (inr (full, refl)))
+        inr (listed (Behind names) (read_of why.TooMany t) k t.count (raw ∷ page.raws) page.ending (Stop message ∷ []) page.pages (inr (full, refl)))
+
+    pub file_full : (first : List Item) (names : List (List ℕ)) (c : Sinks) (t : TracedTo why.TooMany)
+        → AreCarriedOut (first ++ docs base made t.texts) (end_message name why.TooMany k ∷ []) a c → EndsFile status.Refused first names a c
+    file_full first names c t done = refused first names t.texts (end_message name why.TooMany k) c done (full_items names t)

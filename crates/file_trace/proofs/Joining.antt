@@ -1,5 +1,5 @@
 -- The items of files, and then those of the files behind them.
-use Rattle.std.proofs.Common.{◌≡◌, ℕ, suc, ◌+◌, ◌⊎◌, min, List, [], ◌∷◌, ◌++◌, length, Option, inl, inr, sym, ◌∙◌, ap, subst, append_assoc, length-append, arith}
+use Rattle.std.proofs.Common.{◌≡◌, ℕ, suc, ◌+◌, ◌*◌, ◌<◌, ◌⊎◌, min, List, [], ◌∷◌, ◌++◌, length, Option, None, Some, inl, inr, sym, ◌∙◌, ap, subst, append_assoc, length-append, arith}
 use Rattle.pt_base.specs.Counts.{Rose, last_count}
 use Rattle.pt_base.specs.Files.{Contents}
 use Rattle.pt_base.specs.declared.settings.Settings.{Settings}
@@ -9,13 +9,16 @@ use Rattle.bitmap_input.specs.Raw.{Raw}
 use Rattle.file_trace.specs.Held.{AreHeld, Held, Holds}
 use Rattle.file_trace.specs.Messages.{not_opened, page_line, read_fault}
 use Rattle.file_trace.specs.Names.{base_name}
-use Rattle.file_trace.specs.Items.{AreItems, ArePageItems, IsAbsent, Item, Nothing, Rest}
+use Rattle.file_trace.specs.Items.{AreItems, ArePageItems, IsAbsent, Item, Nothing, Rest, doc_count}
+use Rattle.file_trace.specs.OnePass.{IfReadsTo, IsOnePass, batch_end}
 use Rattle.file_trace.specs.Outcome.{AreCarriedOut, GoesOn, HasEnded, IsOutcomeBehind, OpensUpTo, Sinks, Source}
 use Rattle.file_trace.specs.Progress.{EndsWith}
 use Rattle.file_trace.specs.declared.status.Status.{Status}
 use Rattle.file_trace.specs.declared.status.Status.TheVariants as status
-use Rattle.file_trace.proofs.Carrying.{carried_on, ended_on}
+use Rattle.file_trace.proofs.Carrying.{carried_on, ended_on, unwritten_as, unwritten_on}
+use Rattle.file_trace.proofs.Holding.{doc_count-append}
 use Rattle.file_trace.proofs.Keeping.{GoesOn-behind, holds_goes_on}
+use Rattle.file_trace.proofs.OnePass.{batch_end_behind}
 
 -- where what follows goes on with these items, so do the pages
 pages_join : (settings : Settings) (name base : List ℕ) (ending : Ending) (F G : Rest) (after : List Item)
@@ -63,14 +66,14 @@ opened_on : (n k l m o : ℕ) → m ≡ min (l + n) last_count → o ≡ min (m 
 opened_on n k l m o e f = omega (arith, e, f)
 
 -- the outcome of files, behind what is held, is that of the files in front of them and theirs
-pub outcome_on : (s : Status) (contents : Option Contents) (settings : Settings) (output : Option (List ℕ)) (front back made mid : List (List ℕ)) (first before : List Item) (held : List Held)
-    (start then now : Source) (a b c : Sinks) → AreItems contents settings output (EndsWith mid) front made before → Holds settings (first ++ before) held a b
+pub outcome_on : (s : Status) (size : ℕ) (contents : Option Contents) (settings : Settings) (output : Option (List ℕ)) (front back made mid : List (List ℕ)) (first before : List Item) (held : List Held)
+    (start then now : Source) (a b c : Sinks) → AreItems contents settings output (EndsWith mid) front made before → Holds size settings (first ++ before) held a b
     → then.openings ≡ min (start.openings + length front) last_count → then.faults ≡ start.faults
     → ((left : List Item) → AreHeld settings held left → IsOutcomeBehind s left contents settings output back mid then now b c)
     → IsOutcomeBehind s first contents settings output (front ++ back) made start now a c
-outcome_on s contents settings output front back made mid first before held start then now a b c are h openings faults behind = by_status s (behind h.left h.are_held) where
+outcome_on s size contents settings output front back made mid first before held start then now a b c are h openings faults behind = by_status s (behind h.left h.are_held) where
   goes : GoesOn before
-  goes = GoesOn-behind first before (holds_goes_on settings (first ++ before) held a b h)
+  goes = GoesOn-behind first before (holds_goes_on size settings (first ++ before) held a b h)
 
   joined : (F : Rest) (after : List Item) (more : List (List ℕ)) → AreItems contents settings output F more mid after → AreItems contents settings output F (front ++ more) made (before ++ after)
   joined F after more follow = items_join contents settings output F more mid after follow front made before goes are
@@ -125,3 +128,62 @@ outcome_on s contents settings output front back made mid first before held star
     items = joined _ u.before u.front u.items;
     done = carried u.before (page_line u.name (length u.raws + 1) read_fault ∷ []) u.done;
   })
+
+-- the same of how far a run has read
+pub one_pass_on : (size : ℕ) → 0 < size → (contents : Option Contents) (settings : Settings) (output : Option (List ℕ)) (front back made mid : List (List ℕ)) (first before : List Item) (held : List Held)
+    (start then now : Source) (a b c : Sinks) → AreItems contents settings output (EndsWith mid) front made before → Holds size settings (first ++ before) held a b
+    → then.openings ≡ min (start.openings + length front) last_count → then.faults ≡ start.faults
+    → ((left : List Item) → AreHeld settings held left → IsOnePass size left contents settings output back mid then now b c)
+    → IsOnePass size first contents settings output (front ++ back) made start now a c
+one_pass_on size some contents settings output front back made mid first before held start then now a b c are h openings faults behind =
+    let o = behind h.left h.are_held in
+    let (v, e) = unwritten_on h.done (h.left ++ o.items) a b c h.carried o.unwritten in
+    let (w, d) = unwritten_as (first ++ (before ++ o.items)) (h.done ++ (h.left ++ o.items)) a c (sym (read_more o.items)) v in
+    let k = doc_count o.unwritten.before in
+    let written : doc_count w.before ≡ h.batches * size + k = ap doc_count (d ∙ e) ∙ doc_count-append h.done o.unwritten.before ∙ ap (λ n. n + k) h.whole in
+    let end : batch_end size (doc_count w.before) ≡ h.batches * size + batch_end size k = ap (batch_end size) written ∙ batch_end_behind size k h.batches some in
+    let all = counted o.items in
+    record {
+      items = before ++ o.items;
+      are = joined Nothing o.items back o.are;
+      unwritten = w;
+      no_farther = λ steady enough. subst (λ n. IfReadsTo n first contents settings output (front ++ back) made start now) (sym end)
+          (farther contents (batch_end size k) are (o.no_farther (λ rose. steady (subst (λ n. Rose n now.faults) faults rose)) (omega (arith, enough, end, all))));
+    } where
+      goes : GoesOn before
+      goes = GoesOn-behind first before (holds_goes_on size settings (first ++ before) held a b h)
+
+      joined : (F : Rest) (after : List Item) (more : List (List ℕ)) → AreItems contents settings output F more mid after → AreItems contents settings output F (front ++ more) made (before ++ after)
+      joined F after more follow = items_join contents settings output F more mid after follow front made before goes are
+
+      read_more : (after : List Item) → h.done ++ (h.left ++ after) ≡ first ++ (before ++ after)
+      read_more after =
+          sym (append_assoc h.done h.left after) ∙ ap (λ l. l ++ after) (sym h.split) ∙ append_assoc first before after
+
+      counted : (after : List Item) → doc_count (first ++ (before ++ after)) ≡ h.batches * size + doc_count (h.left ++ after)
+      counted after = ap doc_count (sym (read_more after)) ∙ doc_count-append h.done (h.left ++ after) ∙ ap (λ n. n + doc_count (h.left ++ after)) h.whole
+
+      farther : (o : Option Contents) (n : ℕ) → AreItems o settings output (EndsWith mid) front made before → IfReadsTo n h.left o settings output back mid then now
+          → IfReadsTo (h.batches * size + n) first o settings output (front ++ back) made start now
+      farther None n are reads = tt
+      farther (Some told) n are u = record {
+        name = u.name;
+        front = front ++ u.front;
+        bytes = u.bytes;
+        raws = u.raws;
+        left = u.left;
+        rest = u.rest;
+        before = before ++ u.before;
+        reached = record {
+          back = u.reached.back;
+          listed = ap (λ l. front ++ l) u.reached.listed ∙ sym (append_assoc front u.front (u.name ∷ u.reached.back));
+          grew = rw (length-append front u.front) (opened_on (length front) (length u.front) start.openings then.openings now.openings openings u.reached.grew);
+        };
+        held = u.held;
+        some = u.some;
+        begins = u.begins;
+        opened = u.opened;
+        near = u.near;
+        items = items_join (Some told) settings output _ u.front mid u.before u.items front made before goes are;
+        count = counted u.before ∙ ap (λ n. h.batches * size + n) u.count;
+      }

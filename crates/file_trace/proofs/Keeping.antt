@@ -1,5 +1,5 @@
 -- How a run goes on after what is held, or ends within it.
-use Rattle.std.proofs.Common.{◌≡◌, ◌≤◌, ◌⊎◌, List, [], ◌∷◌, ◌++◌, inl, inr, refl, sym, ◌∙◌, ap, subst, append_assoc}
+use Rattle.std.proofs.Common.{◌≡◌, ◌≤◌, ◌⊎◌, ℕ, List, [], ◌∷◌, ◌++◌, inl, inr, refl, sym, ◌∙◌, ap, subst, append_assoc}
 use Rattle.pt_base.specs.Documents.{IsSaid}
 use Rattle.pt_base.specs.declared.settings.Settings.{Settings}
 use Rattle.file_trace.specs.Held.{AreHeld, Held, Holds}
@@ -10,7 +10,7 @@ use Rattle.file_trace.specs.Messages.{out_of_memory}
 use Rattle.file_trace.specs.Outcome.{GoesOn, HasEnded, Sinks}
 use Rattle.file_trace.specs.declared.status.Status.{Status}
 use Rattle.file_trace.specs.declared.status.Status.TheVariants as status
-use Rattle.file_trace.proofs.Carrying.{only_said, GoesOn-append}
+use Rattle.file_trace.proofs.Carrying.{only_said, unwritten_more, GoesOn-append}
 
 -- the run goes on after what is held
 held_goes_on : (settings : Settings) (held : List Held) (items : List Item) → AreHeld settings held items → GoesOn items
@@ -19,8 +19,8 @@ held_goes_on settings (Page name page ∷ held) items (text, rest, is_text, is, 
 held_goes_on settings (Message message ∷ held) items (rest, is, are) = subst GoesOn (sym is) (held_goes_on settings held rest are)
 
 -- and so after what was read
-pub holds_goes_on : (settings : Settings) (read : List Item) (held : List Held) (a b : Sinks) → Holds settings read held a b → GoesOn read
-holds_goes_on settings read held a b h =
+pub holds_goes_on : (size : ℕ) (settings : Settings) (read : List Item) (held : List Held) (a b : Sinks) → Holds size settings read held a b → GoesOn read
+holds_goes_on size settings read held a b h =
     subst GoesOn (sym h.split) (GoesOn-append h.done h.left h.carried.goes_on (held_goes_on settings held h.left h.are_held))
 
 -- where the run goes on after items, it goes on after the last of them
@@ -42,16 +42,7 @@ IsHalt s = (s ≡ status.Unwritten) ⊎ (s ≡ status.OutOfMemory)
 
 -- and so within these and more
 pub ended_more : (s : Status) → IsHalt s → (items more : List Item) (a b : Sinks) → HasEnded s items a b → HasEnded s (items ++ more) a b
-ended_more status.Unwritten which items more a b e = record {
-  before = e.before;
-  name = e.name;
-  text = e.text;
-  after = e.after ++ more;
-  split = ap (λ l. l ++ more) e.split ∙ append_assoc e.before (Doc e.name e.text ∷ e.after) more;
-  goes_on = e.goes_on;
-  cut_off = e.cut_off;
-  messages = e.messages;
-}
+ended_more status.Unwritten which items more a b e = (unwritten_more items more a b e).0
 ended_more status.OutOfMemory which items more a b e = record {
   before = e.before;
   after = e.after ++ more;

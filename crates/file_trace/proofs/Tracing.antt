@@ -2,7 +2,7 @@
 use Rattle.std.proofs.Common.{◌≡◌, ◌≢◌, ◌≤◌, ◌<◌, ℕ, suc, ◌+◌, Bool, true, false, List, [], ◌∷◌, ◌++◌, length, drop, Option, None, Some, IfSome, option_map, refl, sym, ◌∙◌, ap, subst, append_assoc, length-append, arith}
 use Rattle.std.specs.Prelude.{nat_lt}
 use Rattle.std.proofs.lemmas.Bool.Decides.{nat_tests}
-use Rattle.std.proofs.lemmas.List.{append-nil}
+use Rattle.std.proofs.lemmas.List.{append-nil, length-drop}
 use Rattle.pt_base.specs.Files.{Files, unread}
 use Rattle.bit_image.specs.Page.{Page as Pixels}
 use Rattle.bitmap_input.specs.Cut.{is_by_end}
@@ -14,23 +14,25 @@ use Rattle.bitmap_input.specs.Reading.{Moves}
 use Rattle.bitmap_input.specs.Reader.{Reader, ReadFails, ahead as reader_ahead, at_start, is_later as reader_is_later}
 use Rattle.file_trace.specs.Names.{made_with, next_name}
 use Rattle.page_trace.specs.Document.{IsDocument}
-use Rattle.file_trace.specs.Held.{AreHeld, Held, Holds}
+use Rattle.file_trace.specs.Held.{AreHeld, Held, Holds, pages_held}
 use Rattle.file_trace.specs.Items.{Item, most_pages}
 use Rattle.file_trace.specs.Items.Item.{Doc}
-use Rattle.file_trace.specs.Outcome.{BeginsSettled, HasEnded, Sinks, is_later}
-use Rattle.file_trace.specs.Progress.{AreTraced, BeginsWith, EndsBy, EndsReading, Halts, HasUnread, ReadsPage, Settles, Traces, ahead, docs}
+use Rattle.file_trace.specs.Outcome.{BeginsSettled, BeginsWith, HasEnded, Sinks, is_later}
+use Rattle.file_trace.specs.Progress.{AreTraced, EndsBy, EndsReading, Halts, HasUnread, IsInBatch, ReadsPage, Settles, Traces, ahead, docs}
 use Rattle.pt_base.specs.declared.settings.Settings.{Settings}
 use Rattle.file_trace.specs.declared.pages.PagesEnd.{PagesEnd}
 use Rattle.file_trace.specs.declared.pages.PagesEnd.TheVariants as why
 use Rattle.file_trace.specs.declared.status.Status.{Status}
+use Rattle.file_trace.specs.declared.status.Status.TheVariants as status
 use Rattle.file_trace.proofs.Holding.{all_held, ended_behind, holds_on}
 use Rattle.file_trace.proofs.Naming.{made_with-in}
+use Rattle.file_trace.proofs.OnePass.{batch_halts}
 use Rattle.file_trace.proofs.Paging.{AreTraced-more, BeginsSettled-more, BeginsWith-more}
 use Rattle.file_trace.proofs.Reading.{first_taken, unread-with_read}
 
 -- the first k pages were read; of what was held before and their documents, which have these texts, the first
 -- are carried out, and the others are held; the reader stands behind the pages
-pub record IsTraced (settings : Settings) (base : List ℕ) (made : List (List ℕ)) (bytes : Option (List ℕ)) (reader : Reader) (files : Option Files) (held held_now : List Held) (old new : Sinks) (k : ℕ) : Type 0 where
+pub record IsTraced (size : ℕ) (settings : Settings) (base : List ℕ) (made : List (List ℕ)) (bytes : Option (List ℕ)) (reader : Reader) (files : Option Files) (held held_now : List Held) (old new : Sinks) (k : ℕ) : Type 0 where
   pub raws : List Raw
   pub texts : List (List ℕ)
   pub taken : List ℕ
@@ -39,14 +41,14 @@ pub record IsTraced (settings : Settings) (base : List ℕ) (made : List (List �
   pub begins : IfSome bytes (λ all. (left : List ℕ) × (ahead reader files ≡ Some left) × BeginsWith false all raws left)
   pub told : IfSome bytes (λ all. (rest : List ℕ) × (all ≡ taken ++ rest) × (unread files ≡ Some rest))
   pub settled : reader.ended ≡ false → (tail : List ℕ) → BeginsSettled false (taken ++ tail) raws (reader_ahead reader tail)
-  pub holds : (first : List Item) → AreHeld settings held first → Holds settings (first ++ docs base made texts) held_now old new
+  pub holds : (first : List Item) → AreHeld settings held first → Holds size settings (first ++ docs base made texts) held_now old new
   pub counted : reader.pages ≡ k
   pub going_on : reader.over ≡ false
 
 -- nothing is traced yet
-pub none_traced : (settings : Settings) (base : List ℕ) (made : List (List ℕ)) (files : Option Files) (held : List Held) (a : Sinks)
-    → IsTraced settings base made (unread files) at_start files held held a a 0
-none_traced settings base made files held a = record {
+pub none_traced : (size : ℕ) (settings : Settings) (base : List ℕ) (made : List (List ℕ)) (files : Option Files) (held : List Held) (a : Sinks)
+    → IsTraced size settings base made (unread files) at_start files held held a a 0
+none_traced size settings base made files held a = record {
   raws = [];
   texts = [];
   taken = [];
@@ -55,7 +57,7 @@ none_traced settings base made files held a = record {
   begins = at_first (unread files);
   told = all_left (unread files);
   settled = λ _ tail. refl;
-  holds = λ first are. rw (append-nil first) (all_held settings held first a are);
+  holds = λ first are. rw (append-nil first) (all_held size settings held first a are);
   counted = refl;
   going_on = refl;
 } where
@@ -132,11 +134,11 @@ items_more base made first texts text k count =
     ∙ ap (λ l. first ++ l) (sym (docs-more base made texts text))
 
 -- one page more is read, and what has to be done of its document is held or carried out
-pub one_more : (settings : Settings) (base : List ℕ) (made : List (List ℕ)) (bytes : Option (List ℕ)) (old new : Reader) (before after : Option Files) (held mid_held held_now : List Held) (a b c : Sinks) (k : ℕ) (page : Pixels) (text : List ℕ)
-    → IsTraced settings base made bytes old before held mid_held a b k → ReadsPage settings old before page new after → IsDocument page settings text
-    → ((left : List Item) → AreHeld settings mid_held left → Holds settings (left ++ Doc (next_name base (made_with base k made)) text ∷ []) held_now b c)
-    → IsTraced settings base made bytes new after held held_now a c (k + 1)
-one_more settings base made bytes old new before after held mid_held held_now a b c k page text t p is_text holds =
+pub one_more : (size : ℕ) (settings : Settings) (base : List ℕ) (made : List (List ℕ)) (bytes : Option (List ℕ)) (old new : Reader) (before after : Option Files) (held mid_held held_now : List Held) (a b c : Sinks) (k : ℕ) (page : Pixels) (text : List ℕ)
+    → IsTraced size settings base made bytes old before held mid_held a b k → ReadsPage settings old before page new after → IsDocument page settings text
+    → ((left : List Item) → AreHeld settings mid_held left → Holds size settings (left ++ Doc (next_name base (made_with base k made)) text ∷ []) held_now b c)
+    → IsTraced size settings base made bytes new after held held_now a c (k + 1)
+one_more size settings base made bytes old new before after held mid_held held_now a b c k page text t p is_text holds =
     let later = later_is old t.raws k t.counted t.count in
     let doc = Doc (next_name base (made_with base k made)) text in
     record {
@@ -148,8 +150,8 @@ one_more settings base made bytes old new before after held mid_held held_now a 
       begins = begins_more bytes (ahead old before) (ahead new after) t.raws p.raw p.used (reader_is_later old) later t.begins p.told;
       told = told_more bytes before after t.taken p.more old.ended new.ended p.moves t.told;
       settled = settled_more settings t.taken old new before after page t.raws later t.settled p;
-      holds = λ first are. subst (λ l. Holds settings l held_now a c) (items_more base made first t.texts text k (t.count ∙ traced_length settings t.raws t.texts t.traced))
-          (holds_on settings (first ++ docs base made t.texts) (doc ∷ []) mid_held held_now a b c (t.holds first are) holds);
+      holds = λ first are. subst (λ l. Holds size settings l held_now a c) (items_more base made first t.texts text k (t.count ∙ traced_length settings t.raws t.texts t.traced))
+          (holds_on size settings (first ++ docs base made t.texts) (doc ∷ []) mid_held held_now a b c (t.holds first are) holds);
       counted = omega (arith, p.counted, t.counted);
       going_on = p.going_on;
     }
@@ -160,29 +162,57 @@ just_begins : (bytes rest : Option (List ℕ)) (raws : List Raw) → IfSome byte
 just_begins None rest raws begins = tt
 just_begins (Some all) rest raws (left, is, begins) = (left, begins)
 
+-- there is a last page
+no_less : (raws : List Raw) (raw : Raw) → raws ++ raw ∷ [] ≢ []
+no_less [] raw = λ e. cc
+no_less (first ∷ raws) raw = λ e. cc
+
+-- what is ahead of the reader is little more than what is unread
+ahead_near : (reader : Reader) (rest left : List ℕ) → length reader.bytes ≤ 65536 → reader_ahead reader rest ≡ left → length left ≤ length rest + 65536
+ahead_near reader rest left within is =
+    let same : length left ≡ length (reader_ahead reader rest) = ap length (sym is) in
+    let dropped = length-drop reader.skip (reader.bytes ++ rest) in
+    let both = length-append reader.bytes rest in omega (arith, same, dropped, both, within)
+
+begins_near : (bytes : Option (List ℕ)) (raws : List Raw) (reader : Reader) (files : Option Files) → length reader.bytes ≤ 65536
+    → IfSome bytes (λ all. (left : List ℕ) × (ahead reader files ≡ Some left) × BeginsWith false all raws left)
+    → IfSome bytes (λ all. (left : List ℕ) × (rest : List ℕ) × BeginsWith false all raws left × (unread files ≡ Some rest) × (length left ≤ length rest + 65536))
+begins_near None raws reader files within begins = tt
+begins_near (Some all) raws reader files within (left, is, begins) = by_rest (unread files) refl is where
+  by_rest : (o : Option (List ℕ)) → unread files ≡ o → option_map (reader_ahead reader) o ≡ Some left
+      → (left : List ℕ) × (rest : List ℕ) × BeginsWith false all raws left × (unread files ≡ Some rest) × (length left ≤ length rest + 65536)
+  by_rest None same ahead_is = cc
+  by_rest (Some rest) same ahead_is =
+      let there : reader_ahead reader rest ≡ left = cc in (left, rest, begins, same, ahead_near reader rest left within there)
+
 -- one page more is read, and what was held with it couldn't be carried out
-pub halted : (s : Status) (settings : Settings) (base : List ℕ) (made : List (List ℕ)) (start : Option Files) (old new : Reader) (before after : Option Files) (held mid_held : List Held) (a b c : Sinks) (k : ℕ) (page : Pixels) (text : List ℕ)
-    → IsTraced settings base made (unread start) old before held mid_held a b k → ReadsPage settings old before page new after → IsDocument page settings text
+pub halted : (s : Status) (size : ℕ) (settings : Settings) (base : List ℕ) (made : List (List ℕ)) (start : Option Files) (old new : Reader) (before after : Option Files) (held mid_held : List Held) (a b c : Sinks) (k : ℕ) (page : Pixels) (text : List ℕ)
+    → IsTraced size settings base made (unread start) old before held mid_held a b k → ReadsPage settings old before page new after → IsDocument page settings text
     → ((left : List Item) → AreHeld settings mid_held left → HasEnded s (left ++ Doc (next_name base (made_with base k made)) text ∷ []) b c)
-    → k + length made < most_pages → Halts s settings base made start held a c
-halted s settings base made start old new before after held mid_held a b c k page text t p is_text ended few =
+    → k + length made < most_pages → length new.bytes ≤ 65536 → (s ≡ status.Unwritten → pages_held mid_held + 1 ≡ size) → Halts s size settings base made start after held a c
+halted s size settings base made start old new before after held mid_held a b c k page text t p is_text ended few within full =
     let doc = Doc (next_name base (made_with base k made)) text in
     let later = later_is old t.raws k t.counted t.count in
+    let begins = begins_more (unread start) (ahead old before) (ahead new after) t.raws p.raw p.used (reader_is_later old) later t.begins p.told in
     record {
       raws = t.raws ++ p.raw ∷ [];
       texts = t.texts ++ text ∷ [];
       few = rw length-append (omega (arith, t.count, few));
       traced = AreTraced-more settings t.raws t.texts p.raw text t.traced (subst (λ pixels. IsDocument pixels settings text) p.shows is_text);
-      begins = just_begins (unread start) (ahead new after) (t.raws ++ p.raw ∷ [])
-          (begins_more (unread start) (ahead old before) (ahead new after) t.raws p.raw p.used (reader_is_later old) later t.begins p.told);
+      begins = just_begins (unread start) (ahead new after) (t.raws ++ p.raw ∷ []) begins;
+      some = no_less t.raws p.raw;
+      near = begins_near (unread start) (t.raws ++ p.raw ∷ []) new after within begins;
+      in_batch = λ is first are. subst (λ l. IsInBatch size l a c) (items_more base made first t.texts text k (t.count ∙ traced_length settings t.raws t.texts t.traced))
+          (batch_halts size settings (first ++ docs base made t.texts) (next_name base (made_with base k made)) text mid_held a b c (t.holds first are)
+          (λ left held. subst (λ v. HasEnded v (left ++ doc ∷ []) b c) is (ended left held)) (full is));
       ended = λ first are. subst (λ l. HasEnded s l a c) (items_more base made first t.texts text k (t.count ∙ traced_length settings t.raws t.texts t.traced))
-          (ended_behind s settings (first ++ docs base made t.texts) (doc ∷ []) mid_held a b c (t.holds first are) ended);
+          (ended_behind s size settings (first ++ docs base made t.texts) (doc ∷ []) mid_held a b c (t.holds first are) ended);
     }
 
 -- a read failed behind the pages that were read
-unread_more : (settings : Settings) (base : List ℕ) (made : List (List ℕ)) (start : Option Files) (reader after : Reader) (files now : Option Files) (held held_now : List Held) (a b : Sinks) (k : ℕ)
-    → (t : IsTraced settings base made (unread start) reader files held held_now a b k) → ReadFails reader files after now → HasUnread t.raws start now
-unread_more settings base made start reader after files now held held_now a b k t fails =
+unread_more : (size : ℕ) (settings : Settings) (base : List ℕ) (made : List (List ℕ)) (start : Option Files) (reader after : Reader) (files now : Option Files) (held held_now : List Held) (a b : Sinks) (k : ℕ)
+    → (t : IsTraced size settings base made (unread start) reader files held held_now a b k) → ReadFails reader files after now → HasUnread t.raws start now
+unread_more size settings base made start reader after files now held held_now a b k t fails =
     let was : reader.ended ≡ false = still_going reader.ended after.ended (λ e. (fails.moves.stopped e).1) fails.going_on in
     record {
       taken = t.taken ++ fails.more;
@@ -195,12 +225,12 @@ unread_more settings base made start reader after files now held held_now a b k 
     }
 
 -- no page more is read
-pub no_more : (settings : Settings) (base : List ℕ) (made : List (List ℕ)) (start : Option Files) (reader after : Reader) (files files_now : Option Files) (held held_now : List Held) (a b : Sinks) (k : ℕ) (end : PagesEnd)
-    → IsTraced settings base made (unread start) reader files held held_now a b k
+pub no_more : (size : ℕ) (settings : Settings) (base : List ℕ) (made : List (List ℕ)) (start : Option Files) (reader after : Reader) (files files_now : Option Files) (held held_now : List Held) (a b : Sinks) (k : ℕ) (end : PagesEnd)
+    → IsTraced size settings base made (unread start) reader files held held_now a b k
     → EndsBy (reader_is_later reader) (ahead reader files) end → (end ≡ why.Unread → ReadFails reader files after files_now)
     → k + length made ≤ most_pages → (end ≡ why.TooMany → most_pages ≤ k + length made)
-    → Traces settings base made start files_now held held_now a b k end
-no_more settings base made start reader after files files_now held held_now a b k end t ends fails few full = record {
+    → Traces size settings base made start files_now held held_now a b k end
+no_more size settings base made start reader after files files_now held held_now a b k end t ends fails few full = record {
   raws = t.raws;
   texts = t.texts;
   count = t.count;
@@ -210,7 +240,7 @@ no_more settings base made start reader after files files_now held held_now a b 
   begins = t.begins;
   ends = subst (λ l. EndsBy l (ahead reader files) end) (later_is reader t.raws k t.counted t.count) ends;
   full = full;
-  unread = λ e. unread_more settings base made start reader after files files_now held held_now a b k t (fails e);
+  unread = λ e. unread_more size settings base made start reader after files files_now held held_now a b k t (fails e);
   holds = t.holds;
 }
 

@@ -9,6 +9,7 @@ ghost use Rattle.file_trace.specs.Items.{Item, told_contents, most_pages};
 ghost use Rattle.file_trace.specs.Messages.{out_of_memory, trailing_line};
 ghost use Rattle.file_trace.specs.Names.{base_name};
 ghost use Rattle.file_trace.specs.Offered.{IsOffered};
+ghost use Rattle.file_trace.specs.OnePass.{IsOnePass};
 ghost use Rattle.file_trace.specs.Outcome.{IsOutcomeBehind};
 ghost use Rattle.file_trace.specs.Progress.{EndsWithFile, InputCount, OutputCount, TracesFile, end_notes, opened_name, status_of};
 ghost use Rattle.file_trace.specs.declared.status.Status.{Status};
@@ -53,7 +54,7 @@ pub fn trace_file<R: Threads + Sync, I: Inputs, O: Outputs, E: Sink, G: Gate + S
 
     // The file's items are carried out or held, and its documents are counted.
     ensures traced { OnOk result
-        (TracesFile (told_contents (I.files inputs.old)) settings (option_map (λ s. s.now) output.entry) name.now
+        (TracesFile (2 * workers) (told_contents (I.files inputs.old)) settings (option_map (λ s. s.now) output.entry) name.now
         made.old made.new batch.old batch.new
         (record {
           outs = O.documents outs.old;
@@ -73,6 +74,38 @@ pub fn trace_file<R: Threads + Sync, I: Inputs, O: Outputs, E: Sink, G: Gate + S
     // Whatever files come behind this one, the run ends so, behind the items of what was held.
     ensures ends { IfErr result (λ status. (names : List (List ℕ)) → (first : List Item) → AreHeld settings batch.old first
         → IsOutcomeBehind status first (told_contents (I.files inputs.old)) settings
+        (option_map (λ s. s.now) output.entry) (name.now ∷ names) made.old
+        (record {
+          files = I.files inputs.old;
+          is_opened = I.is_opened inputs.old;
+          openings = I.openings inputs.old;
+          faults = I.faults inputs.old;
+        })
+        (record {
+          files = I.files inputs.new;
+          is_opened = I.is_opened inputs.new;
+          openings = I.openings inputs.new;
+          faults = I.faults inputs.new;
+        })
+        (record {
+          outs = O.documents outs.old;
+          outs_faults = O.faults outs.old;
+          is_open = O.is_ready outs.old;
+          errs = E.documents errs.old;
+          errs_faults = E.faults errs.old;
+        })
+        (record {
+          outs = O.documents outs.new;
+          outs_faults = O.faults outs.new;
+          is_open = O.is_ready outs.new;
+          errs = E.documents errs.new;
+          errs_faults = E.faults errs.new;
+        })) }
+
+    // Where a document couldn't be written no more was read than its batch.
+    ensures one_pass { IfErr result (λ status. status ≡ Status.Unwritten → (names : List (List ℕ))
+        → (first : List Item) → AreHeld settings batch.old first
+        → IsOnePass (2 * workers) first (told_contents (I.files inputs.old)) settings
         (option_map (λ s. s.now) output.entry) (name.now ∷ names) made.old
         (record {
           files = I.files inputs.old;
@@ -177,7 +210,7 @@ fn finish<R: Threads + Sync, O: Outputs, E: Sink, G: Gate + Sync>(
     requires ready { E.is_ready errs.old ≡ true }
     ensures goes_on { OnOk result (status_of traced.end ≡ Status.Done) }
     ensures held { OnOk result ((first : List Item) → AreHeld settings batch.old first
-        → Holds settings (first ++ end_notes name.now traced.end traced.pages) batch.new
+        → Holds (2 * workers) settings (first ++ end_notes name.now traced.end traced.pages) batch.new
         (record {
           outs = O.documents outs.old;
           outs_faults = O.faults outs.old;
@@ -210,6 +243,8 @@ fn finish<R: Threads + Sync, O: Outputs, E: Sink, G: Gate + Sync>(
         })) }
     ensures status { IfErr result (λ status. (status ≡ status_of traced.end)
         ⊎ ((status ≡ Status.Unwritten) ⊎ (status ≡ Status.OutOfMemory))) }
+    ensures unwritten { IfErr result (λ status. status ≡ Status.Unwritten
+        → (status_of traced.end ≡ Status.Refused) ⊎ (status_of traced.end ≡ Status.Unread)) }
     ensures still_not_full { OnOk result (pages_held batch.new < 2 * workers) }
     ensures output { IfErr result
         (λ status. OutputCount status (O.faults outs.old) (O.faults outs.new) (O.is_ready outs.new)) }

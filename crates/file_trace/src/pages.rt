@@ -1,5 +1,5 @@
 //! The pages of the opened file, read one after another, and traced by batches.
-ghost use Rattle.std.specs.Prelude.{◌≡◌, ◌+◌, ◌*◌, ◌++◌, ◌∷◌, ◌<◌, ◌≤◌, ◌⊎◌, [], true, false, List, ℕ, Err, IfOk, IfErr, OnOk};
+ghost use Rattle.std.specs.Prelude.{◌≡◌, ◌+◌, ◌*◌, ◌++◌, ◌∷◌, ◌<◌, ◌≤◌, ◌⊎◌, [], true, false, List, ℕ, Err, IfOk, IfErr, OnOk, length};
 ghost use Rattle.pt_base.specs.Counts.{Rose};
 ghost use Rattle.bit_image.specs.Page.{IsPage};
 ghost use Rattle.bitmap_input.specs.Reading.{AtEnd};
@@ -85,8 +85,8 @@ pub fn trace_pages<R: Threads + Sync, I: Inputs, O: Outputs, E: Sink, G: Gate + 
     requires fresh { reader.old ≡ at_start }
     requires closed { O.is_ready outs.old ≡ false }
     requires ready { E.is_ready errs.old ≡ true }
-    ensures traced { IfOk result (λ traced. Traces settings base.now made.now (I.files inputs.old)
-        (I.files inputs.new) batch.old batch.new
+    ensures traced { IfOk result (λ traced. Traces (2 * workers) settings base.now made.now
+        (I.files inputs.old) (I.files inputs.new) batch.old batch.new
         (record {
           outs = O.documents outs.old;
           outs_faults = O.faults outs.old;
@@ -101,8 +101,8 @@ pub fn trace_pages<R: Threads + Sync, I: Inputs, O: Outputs, E: Sink, G: Gate + 
           errs = E.documents errs.new;
           errs_faults = E.faults errs.new;
         }) traced.pages traced.end) }
-    ensures ends { IfErr result (λ status. Halts status settings base.now made.now
-        (I.files inputs.old) batch.old
+    ensures ends { IfErr result (λ status. Halts status (2 * workers) settings base.now made.now
+        (I.files inputs.old) (I.files inputs.new) batch.old
         (record {
           outs = O.documents outs.old;
           outs_faults = O.faults outs.old;
@@ -181,7 +181,8 @@ fn hold_page<R: Threads + Sync, O: Outputs, E: Sink, G: Gate + Sync>(
     requires ready { E.is_ready errs.old ≡ true }
     ensures held { OnOk result ((first : List Item) → AreHeld settings batch.old first
         → (text : List ℕ) → IsDocument page settings text
-        → Holds settings (first ++ Doc (document_name base.now k) text ∷ []) batch.new
+        → Holds (2 * workers) settings (first ++ Doc (document_name base.now k) text ∷ [])
+        batch.new
         (record {
           outs = O.documents outs.old;
           outs_faults = O.faults outs.old;
@@ -215,6 +216,8 @@ fn hold_page<R: Threads + Sync, O: Outputs, E: Sink, G: Gate + Sync>(
         })) }
     ensures status { IfErr result
         (λ status. (status ≡ Status.Unwritten) ⊎ (status ≡ Status.OutOfMemory)) }
+    ensures full { IfErr result (λ status. status ≡ Status.Unwritten
+        → pages_held batch.old + 1 ≡ 2 * workers) }
     ensures still_not_full { OnOk result (pages_held batch.new < 2 * workers) }
     ensures output { IfErr result
         (λ status. OutputCount status (O.faults outs.old) (O.faults outs.new)
@@ -254,6 +257,7 @@ fn read_next<I: Inputs>(
         (λ page. ReadsPage settings reader.old (I.files inputs.old) page reader.new
         (I.files inputs.new)) }
     ensures page { IfOk result (λ page. IsPage page) }
+    ensures within { length reader.new.bytes ≤ 65536 }
     ensures ends { IfErr result
         (EndsReading (reader_is_later reader.old) (ahead reader.old (I.files inputs.old))) }
     ensures read_fault { result ≡ Err PagesEnd.Unread

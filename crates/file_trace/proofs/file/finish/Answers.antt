@@ -12,13 +12,13 @@ use Rattle.file_trace.proofs.file.finish.Goals.{in-Refused, in-TooMany, in-Unrea
 -- nothing more is held
 pub returns-in-End-clause-held : goal.returns-in-End-clause-held
 returns-in-End-clause-held g c = λ first are.
-    rw (c.in-End.is, append-nil first) (all_held c.args.settings c.args.batch.now first _ are)
+    rw (c.in-End.is, append-nil first) (all_held _ c.args.settings c.args.batch.now first _ are)
 
 -- the message is held
 pub returns-in-Trailing-clause-held : goal.returns-in-Trailing-clause-held
 returns-in-Trailing-clause-held g c =
     on_ok_weaker c.hold_trailing.result (λ h. λ first are.
-    rw (c.in-Trailing.is, h.0, h.1) (all_held c.args.settings _ _ _ (AreHeld-note c.args.settings c.args.batch.now (trailing_line c.args.name.now c.args.traced.pages) first are))) c.hold_trailing.ensures.held
+    rw (c.in-Trailing.is, h.0, h.1) (all_held _ c.args.settings _ _ _ (AreHeld-note c.args.settings c.args.batch.now (trailing_line c.args.name.now c.args.traced.pages) first are))) c.hold_trailing.ensures.held
 
 pub returns-in-Trailing-clause-still_not_full : goal.returns-in-Trailing-clause-still_not_full
 returns-in-Trailing-clause-still_not_full g c =

@@ -7,7 +7,7 @@ use Rattle.file_trace.proofs.pages.trace_pages.Goals as goal
 pub loop-pages-init : goal.loop-pages-init
 loop-pages-init g c = record {
   most = omega arith;
-  traced = rw c.requires.fresh (none_traced c.args.settings c.args.base.now c.args.made.now _ _ _);
+  traced = rw c.requires.fresh (none_traced _ c.args.settings c.args.base.now c.args.made.now _ _ _);
   not_full = c.requires.not_full;
   at_end = λ e. absurd (let clash : false ≡ true = ap (λ r. r.ended) (sym c.requires.fresh) ∙ e in cc);
   opened = c.requires.opened;
@@ -26,7 +26,7 @@ loop-pages-preserved g c =
     let document = document_found c.args.settings.backend c.in-Ok.page c.args.settings c.in-Ok.ensures.page c.requires.offered.document in
     record {
       most = omega arith;
-      traced = one_more _ _ _ _ _ _ _ _ _ _ _ _ _ _ _ _ _ c.loop-pages.invariant.traced c.in-Ok.ensures.reads document.1
+      traced = one_more _ _ _ _ _ _ _ _ _ _ _ _ _ _ _ _ _ _ c.loop-pages.invariant.traced c.in-Ok.ensures.reads document.1
           (λ left are. rw named (c.in-Ok-hold_page.ensures.held left are document.0 document.1));
       not_full = c.in-Ok-hold_page.ensures.still_not_full;
       at_end = c.in-Ok.ensures.still_at_end;
@@ -44,16 +44,16 @@ pub returns-in-Err-hold_page-clause-ends : goal.returns-in-Err-hold_page-clause-
 returns-in-Err-hold_page-clause-ends g c =
     let named = next_name-made_with c.args.base.now c.count-first.result c.loop-pages.pages c.args.made.now c.count-first.ensures.value in
     let document = document_found c.args.settings.backend c.in-Ok.page c.args.settings c.in-Ok.ensures.page c.requires.offered.document in
-    halted _ _ _ _ _ _ _ _ _ _ _ _ _ _ _ _ _ c.loop-pages.invariant.traced c.in-Ok.ensures.reads document.1
-    (λ left are. rw named (c.in-Err-hold_page.ensures.ends left are document.0 document.1)) (omega arith)
+    halted _ _ _ _ _ _ _ _ _ _ _ _ _ _ _ _ _ _ c.loop-pages.invariant.traced c.in-Ok.ensures.reads document.1
+    (λ left are. rw named (c.in-Err-hold_page.ensures.ends left are document.0 document.1)) (omega arith) c.in-Ok.ensures.within c.in-Err-hold_page.ensures.full
 
 pub returns-in-Err-clause-traced : goal.returns-in-Err-clause-traced
 returns-in-Err-clause-traced g c =
     let ends = ends_by _ _ c.in-Err.end c.in-Err.ensures.ends in
-    no_more _ _ _ _ _ _ _ _ _ _ _ _ _ _ c.loop-pages.invariant.traced ends.0 (λ e. (c.in-Err.ensures.read_fault (ap Err e)).0)
+    no_more _ _ _ _ _ _ _ _ _ _ _ _ _ _ _ c.loop-pages.invariant.traced ends.0 (λ e. (c.in-Err.ensures.read_fault (ap Err e)).0)
     (omega arith) (λ e. absurd (ends.1 e))
 
 pub returns-clause-traced : goal.returns-clause-traced
 returns-clause-traced g c =
-    no_more _ _ _ _ _ _ _ _ _ _ _ _ _ _ c.loop-pages.invariant.traced c.end_after_most-end.ensures.ends (λ e. (c.end_after_most-end.ensures.read_fault e).0)
+    no_more _ _ _ _ _ _ _ _ _ _ _ _ _ _ _ c.loop-pages.invariant.traced c.end_after_most-end.ensures.ends (λ e. (c.end_after_most-end.ensures.read_fault e).0)
     (omega arith) (λ _. omega arith)

@@ -30,7 +30,7 @@ invariant-loop-pages g l =
     } in
     record {
       most : l.pages ≤ l.room;
-      traced : IsTraced l.settings l.base l.made (unread (inputs.files l.fn.inputs)) l.reader (inputs.files l.inputs) l.fn.batch l.batch old now l.pages;
+      traced : IsTraced (2 * l.workers) l.settings l.base l.made (unread (inputs.files l.fn.inputs)) l.reader (inputs.files l.inputs) l.fn.batch l.batch old now l.pages;
       not_full : pages_held l.batch < 2 * l.workers;
       at_end : l.reader.ended ≡ true → AtEnd (inputs.files l.inputs);
       opened : inputs.is_opened l.inputs ≡ true;

@@ -1,0 +1,48 @@
+-- How far a run has read where a document couldn't be written: to the end of that document's batch.
+use Rattle.std.specs.Prelude.{◌≡◌, ◌≢◌, ℕ, ◌+◌, ◌*◌, ◌/◌, ◌<◌, ◌≤◌, false, List, [], ◌++◌, length, Option, None, Some, IfSome}
+use Rattle.std.specs.FinMap.{get}
+use Rattle.pt_base.specs.Counts.{Rose}
+use Rattle.pt_base.specs.Files.{Contents}
+use Rattle.pt_base.specs.declared.settings.Settings.{Settings}
+use Rattle.bitmap_input.specs.Cut.Ending.{End}
+use Rattle.bitmap_input.specs.Raw.{Raw}
+use Rattle.file_trace.specs.Items.{AreItems, ArePageItems, Item, Nothing, doc_count}
+use Rattle.file_trace.specs.Names.{base_name}
+use Rattle.file_trace.specs.Outcome.{BeginsWith, IsUnwritten, OpensUpTo, Sinks, Source}
+
+-- in batches of so many pages, how many pages there are up to the end of the batch behind k whole documents
+abbrev pub batch_end : ℕ → ℕ → ℕ
+batch_end size k = (k / size + 1) * size
+
+-- of the files of these names so many pages were read, behind these first items: the last one stands in the opened
+-- file, and of that file at most 65,536 bytes behind what it takes or claims were taken
+pub record ReadsTo (pages : ℕ) (first : List Item) (contents : Contents) (settings : Settings) (output : Option (List ℕ)) (names made : List (List ℕ)) (source source_now : Source) : Type 0 where
+  pub name : List ℕ
+  pub front : List (List ℕ)
+  pub bytes : List ℕ
+  pub raws : List Raw
+  pub left : List ℕ
+  pub rest : List ℕ
+  pub before : List Item
+  pub reached : OpensUpTo names name front source.openings source_now.openings
+  pub held : get contents name ≡ Some bytes
+  pub some : raws ≢ []
+  pub begins : BeginsWith false bytes raws left
+  pub opened : IfSome source_now.files (λ files. files.opened ≡ Some (record { name = name; rest = rest }))
+  pub near : length left ≤ length rest + 65536
+  pub items : AreItems (Some contents) settings output
+      (λ made items. ArePageItems settings name (base_name output settings.backend name) End Nothing raws 0 made items) front made before
+  pub count : doc_count (first ++ before) ≡ pages
+
+abbrev pub IfReadsTo : ℕ → List Item → Option Contents → Settings → Option (List ℕ) → List (List ℕ) → List (List ℕ) → Source → Source → Type 0
+IfReadsTo pages first None settings output names made source source_now = Unit {0}
+IfReadsTo pages first (Some contents) settings output names made source source_now = ReadsTo pages first contents settings output names made source source_now
+
+-- behind these first items, a document couldn't be written: where no input failed, and there are as many documents
+-- as fill that document's batch, no more was read than the batch
+pub record IsOnePass (size : ℕ) (first : List Item) (contents : Option Contents) (settings : Settings) (output : Option (List ℕ)) (names made : List (List ℕ)) (source source_now : Source) (old new : Sinks) : Type 0 where
+  pub items : List Item
+  pub are : AreItems contents settings output Nothing names made items
+  pub unwritten : IsUnwritten (first ++ items) old new
+  pub no_farther : (Rose source.faults source_now.faults → ⊥) → batch_end size (doc_count unwritten.before) ≤ doc_count (first ++ items)
+      → IfReadsTo (batch_end size (doc_count unwritten.before)) first contents settings output names made source source_now
