@@ -9,7 +9,7 @@ use Rattle.pt_base.proofs.Writing.{with_bytes-none, with_bytes-with_bytes}
 use Rattle.file_trace.specs.Messages.{not_written, out_of_memory}
 use Rattle.file_trace.specs.Items.{Item}
 use Rattle.file_trace.specs.Items.Item.{Doc, Missing, Note, Stop}
-use Rattle.file_trace.specs.Outcome.{AreCarriedOut, AreFronts, AreSaid, GoesOn, HasEnded, Sinks, notes, with_items}
+use Rattle.file_trace.specs.Outcome.{AreCarriedOut, AreFronts, AreSaid, GoesOn, HasEnded, IsUnwritten, Sinks, notes, with_items}
 use Rattle.file_trace.specs.declared.status.Status.{Status}
 use Rattle.file_trace.specs.declared.status.Status.TheVariants as status
 
@@ -81,6 +81,55 @@ carried_on items more last a b c done next = record {
   messages = said_behind items more last a b c done next.messages;
 }
 
+-- items, and then others of which a document couldn't be written
+pub unwritten_on : (items more : List Item) (a b c : Sinks) → AreCarriedOut items [] a b → (u : IsUnwritten more b c)
+    → (v : IsUnwritten (items ++ more) a c) × (v.before ≡ items ++ u.before)
+unwritten_on items more a b c done next = (
+  record {
+    before = items ++ next.before;
+    name = next.name;
+    text = next.text;
+    after = next.after;
+    split = ap (λ l. items ++ l) next.split ∙ sym (append_assoc items next.before (Doc next.name next.text ∷ next.after));
+    goes_on = GoesOn-append items next.before done.goes_on next.goes_on;
+    cut_off = subst (λ o. IsCutOff o c.outs next.name next.text) (documents_on items next.before a b done) next.cut_off;
+    messages = said_behind items next.before (not_written next.name ∷ []) a b c done next.messages;
+  },
+  refl,
+)
+
+-- the same of items that are these
+pub unwritten_as : (items others : List Item) (a b : Sinks) → items ≡ others → (u : IsUnwritten others a b) → (v : IsUnwritten items a b) × (v.before ≡ u.before)
+unwritten_as items others a b same u = (
+  record {
+    before = u.before;
+    name = u.name;
+    text = u.text;
+    after = u.after;
+    split = same ∙ u.split;
+    goes_on = u.goes_on;
+    cut_off = u.cut_off;
+    messages = u.messages;
+  },
+  refl,
+)
+
+-- the same of these and more
+pub unwritten_more : (items more : List Item) (a b : Sinks) → (u : IsUnwritten items a b) → (v : IsUnwritten (items ++ more) a b) × (v.before ≡ u.before)
+unwritten_more items more a b u = (
+  record {
+    before = u.before;
+    name = u.name;
+    text = u.text;
+    after = u.after ++ more;
+    split = ap (λ l. l ++ more) u.split ∙ append_assoc u.before (Doc u.name u.text ∷ u.after) more;
+    goes_on = u.goes_on;
+    cut_off = u.cut_off;
+    messages = u.messages;
+  },
+  refl,
+)
+
 -- items, and then others as far as the status says
 pub ended_on : (s : Status) (items more : List Item) (a b c : Sinks) → AreCarriedOut items [] a b → HasEnded s more b c → HasEnded s (items ++ more) a c
 ended_on status.Done items more a b c done next = carried_on items more [] a b c done next
@@ -90,16 +139,7 @@ ended_on status.Refused items more a b c done next = record {
   split = ap (λ l. items ++ l) next.split ∙ sym (append_assoc items next.before (Stop next.message ∷ []));
   done = carried_on items next.before (next.message ∷ []) a b c done next.done;
 }
-ended_on status.Unwritten items more a b c done next = record {
-  before = items ++ next.before;
-  name = next.name;
-  text = next.text;
-  after = next.after;
-  split = ap (λ l. items ++ l) next.split ∙ sym (append_assoc items next.before (Doc next.name next.text ∷ next.after));
-  goes_on = GoesOn-append items next.before done.goes_on next.goes_on;
-  cut_off = subst (λ o. IsCutOff o c.outs next.name next.text) (documents_on items next.before a b done) next.cut_off;
-  messages = said_behind items next.before (not_written next.name ∷ []) a b c done next.messages;
-}
+ended_on status.Unwritten items more a b c done next = (unwritten_on items more a b c done next).0
 ended_on status.OutOfMemory items more a b c done next = record {
   before = items ++ next.before;
   after = next.after;

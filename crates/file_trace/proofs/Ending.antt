@@ -1,5 +1,5 @@
 -- How a run ends in a file.
-use Rattle.std.proofs.Common.{◌≡◌, ◌≢◌, ◌≤◌, ◌⊎◌, ℕ, ◌+◌, false, List, [], ◌∷◌, ◌++◌, length, Option, None, Some, IfSome, option_map, inr, refl, sym, ◌∙◌, ap, subst, append-nil, arith}
+use Rattle.std.proofs.Common.{◌≡◌, ◌≢◌, ◌≤◌, ◌⊎◌, ℕ, ◌+◌, false, List, [], ◌∷◌, ◌++◌, length, Option, None, Some, IfSome, option_map, inl, inr, refl, sym, ◌∙◌, ap, subst, append-nil, append_assoc, arith}
 use Rattle.std.specs.FinMap.{get}
 use Rattle.pt_base.specs.Counts.{Rose, next_count}
 use Rattle.pt_base.specs.Documents.{IsSaid}
@@ -8,28 +8,34 @@ use Rattle.pt_base.specs.declared.settings.Settings.{Settings}
 use Rattle.bitmap_input.specs.Cut.Ending.{End}
 use Rattle.bitmap_input.specs.Raw.{Raw}
 use Rattle.page_trace.specs.Document.{CanWrite}
+use Rattle.file_trace.specs.Held.{AreHeld, Held}
 use Rattle.file_trace.specs.Messages.{not_opened, out_of_memory, page_line, read_fault}
 use Rattle.file_trace.specs.Names.{base_name, made_with}
-use Rattle.file_trace.specs.Items.{AreItems, ArePageItems, IsAbsent, Item, Nothing, told_contents}
-use Rattle.file_trace.specs.Outcome.{AreCarriedOut, HasEnded, HoldsBytes, IsOutcome, OpensUpTo, IsUnopened, IsUnread, Sinks, Source}
-use Rattle.file_trace.specs.Progress.{SaysEnd, Traces, TracesFile, docs, opened_name, status_of}
+use Rattle.file_trace.specs.Items.{AreItems, ArePageItems, IsAbsent, Item, Nothing, most_pages, told_contents}
+use Rattle.file_trace.specs.Outcome.{AreCarriedOut, HasEnded, HoldsBytes, IsOutcomeBehind, OpensUpTo, IsUnopened, IsUnread, Sinks, Source}
+use Rattle.file_trace.specs.Progress.{EndsWithFile, Halts, InputCount, Traces, TracesFile, docs, end_message, opened_name, status_of}
 use Rattle.file_trace.specs.declared.pages.PagesEnd.{PagesEnd}
 use Rattle.file_trace.specs.declared.pages.PagesEnd.TheVariants as why
+use Rattle.file_trace.specs.declared.status.Status.{Status}
 use Rattle.file_trace.specs.declared.status.Status.TheVariants as status
-use Rattle.file_trace.proofs.Carrying.{carried_on, one_said, only_said}
+use Rattle.file_trace.proofs.Carrying.{carried_on, ended_on, only_said}
 use Rattle.file_trace.proofs.Exists.{items_found}
-use Rattle.file_trace.proofs.Filing.{docs_done, file_full, file_refused, file_unwritten, file_without_memory, has_bytes, pages_docs, HasBytes}
+use Rattle.file_trace.proofs.Filing.{docs_alone, file_full, file_halts, file_refused, has_bytes, read_by_halting, read_by_tracing, HasBytes, HasRead}
+use Rattle.file_trace.proofs.Holding.{ended_behind}
 use Rattle.file_trace.proofs.Joining.{items_join}
+use Rattle.file_trace.proofs.Keeping.{GoesOn-behind, IsHalt, ended_more, holds_goes_on, memory_out}
 
 -- the first file was asked for
-at_first : (name : List ℕ) (names : List (List ℕ)) (openings openings_now : ℕ) → openings_now ≡ next_count openings → OpensUpTo (name ∷ names) name [] openings openings_now
+pub at_first : (name : List ℕ) (names : List (List ℕ)) (openings openings_now : ℕ) → openings_now ≡ next_count openings → OpensUpTo (name ∷ names) name [] openings openings_now
 at_first name names openings openings_now one = record { back = names; listed = refl; grew = one }
 
-pub file_unopened : (settings : Settings) (output : Option (List ℕ)) (name : List ℕ) (made : List (List ℕ)) (source source_now : Source) (a b : Sinks)
+-- the file can't be opened, behind the first items
+pub file_unopened : (settings : Settings) (output : Option (List ℕ)) (name : List ℕ) (made : List (List ℕ)) (source source_now : Source) (a b c : Sinks)
     → source_now.openings ≡ next_count source.openings → source_now.is_opened ≡ false → IsAbsent (told_contents source.files) name ⊎ Rose source.faults source_now.faults
-    → b.outs ≡ a.outs → IsSaid a.errs b.errs a.errs_faults b.errs_faults (not_opened name) → a.errs_faults ≤ b.errs_faults → (names : List (List ℕ))
-    → IsUnopened (told_contents source.files) settings output (name ∷ names) made source source_now a b
-file_unopened settings output name made source source_now a b one closed cause same said most names = record {
+    → c.outs ≡ b.outs → IsSaid b.errs c.errs b.errs_faults c.errs_faults (not_opened name) → b.errs_faults ≤ c.errs_faults
+    → (names : List (List ℕ)) (first : List Item) → AreCarriedOut first [] a b
+    → IsUnopened first (told_contents source.files) settings output (name ∷ names) made source source_now a c
+file_unopened settings output name made source source_now a b c one closed cause same said most names first done = record {
   name = name;
   front = [];
   before = [];
@@ -37,10 +43,10 @@ file_unopened settings output name made source source_now a b one closed cause s
   closed = closed;
   cause = cause;
   items = refl;
-  done = only_said (not_opened name) a b same said most;
+  done = carried_on first [] (not_opened name ∷ []) a b c done (only_said (not_opened name) b c same said most);
 }
 
-opened_as : (file : Option Opened) (name rest : List ℕ) → option_map unread_of file ≡ Some rest → option_map (λ (f : Opened). f.name) file ≡ Some name
+pub opened_as : (file : Option Opened) (name rest : List ℕ) → option_map unread_of file ≡ Some rest → option_map (λ (f : Opened). f.name) file ≡ Some name
     → file ≡ Some (record { name = name; rest = rest })
 opened_as None name rest e f = cc
 opened_as (Some file) name rest e f =
@@ -48,7 +54,7 @@ opened_as (Some file) name rest e f =
     let named : file.name ≡ name = cc in
     ap (λ (r : List ℕ). Some (record { name = file.name; rest = r })) left ∙ ap (λ (n : List ℕ). Some (record { name = n; rest = rest })) named
 
-name-opened : (files : Files) (name bytes : List ℕ) → get files.contents name ≡ Some bytes → opened_name (with_file (Some files) name) ≡ Some name
+pub name-opened : (files : Files) (name bytes : List ℕ) → get files.contents name ≡ Some bytes → opened_name (with_file (Some files) name) ≡ Some name
 name-opened files name bytes is = ap (λ o. option_map (λ (f : Opened). f.name) (option_map (λ (b : List ℕ). record { name = name; rest = b }) o)) is
 
 -- what is left of the opened file, where that is told
@@ -74,19 +80,18 @@ left_of (Some files) start (Some now) name taken opened there contents named tol
       bytes = held ∙ ap (λ (bs : List ℕ). Some bs) split;
     }
 
-pub file_unread : (settings : Settings) (output : Option (List ℕ)) (name : List ℕ) (made : List (List ℕ)) (start : Option Files) (k : ℕ) (source source_now : Source) (a b : Sinks)
+-- a read failed behind pages of the file
+pub file_unread : (size : ℕ) (settings : Settings) (output : Option (List ℕ)) (name : List ℕ) (made : List (List ℕ)) (start : Option Files) (k : ℕ) (held held_mid : List Held) (source source_now : Source) (a b c : Sinks)
     → start ≡ with_file source.files name → (Lacks source.files name → ⊥) → source_now.openings ≡ next_count source.openings
     → told_contents source_now.files ≡ told_contents start → opened_name source_now.files ≡ opened_name start → Rose source.faults source_now.faults
-    → Traces settings (base_name output settings.backend name) made start source_now.files a.outs b.outs k why.Unread
-    → SaysEnd name why.Unread k a.errs b.errs a.errs_faults b.errs_faults → a.errs_faults ≤ b.errs_faults → (names : List (List ℕ))
-    → IsUnread (told_contents source.files) settings output (name ∷ names) made source source_now a b
-file_unread settings output name made start k source source_now a b opened there one contents named rose t said most names =
+    → (t : Traces size settings (base_name output settings.backend name) made start source_now.files held held_mid a b k why.Unread) → (names : List (List ℕ)) (first : List Item)
+    → AreCarriedOut (first ++ docs (base_name output settings.backend name) made t.texts) (end_message name why.Unread k ∷ []) a c
+    → IsUnread first (told_contents source.files) settings output (name ∷ names) made source source_now a c
+file_unread size settings output name made start k held held_mid source source_now a b c opened there one contents named rose t names first done =
     let base = base_name output settings.backend name in
     let u = t.unread refl in
     let left = left_of source.files start source_now.files name u.taken opened there contents named u.told in
-    let count : length t.raws ≡ k = sym t.count in
-    let items = pages_docs settings name base End Nothing t.raws [] t.texts 0 k made (made_with base k made) [] t.traced (omega (arith, count)) (omega (arith, count, t.few))
-    (ap (λ n. made_with base n made) t.count) refl in
+    let few : length t.raws + length made ≤ most_pages = omega (arith, t.count, t.few) in
     record {
       name = name;
       front = [];
@@ -99,11 +104,8 @@ file_unread settings output name made start k source source_now a b opened there
       bytes = left.bytes;
       rose = rose;
       stops = u.stops;
-      items = subst (λ (rs : List Raw). ArePageItems settings name base End Nothing rs 0 made (docs base made t.texts)) (append-nil t.raws)
-          (subst (λ (l : List Item). ArePageItems settings name base End Nothing (t.raws ++ []) 0 made l) (append-nil (docs base made t.texts)) items);
-      done = docs_done base made t.texts (page_line name (length t.raws + 1) read_fault ∷ []) a b t.ends
-          (one_said a.errs b.errs a.errs_faults b.errs_faults (page_line name (length t.raws + 1) read_fault)
-          (subst (λ (n : ℕ). IsSaid a.errs b.errs a.errs_faults b.errs_faults (page_line name (n + 1) read_fault)) t.count said) most);
+      items = docs_alone settings name base made t.raws t.texts t.traced few;
+      done = subst (λ (n : ℕ). AreCarriedOut (first ++ docs base made t.texts) (page_line name (n + 1) read_fault ∷ []) a c) t.count done;
     }
 
 -- what isn't there is absent
@@ -111,51 +113,122 @@ pub lacks_absent : (told : Option Files) (name : List ℕ) → Lacks told name �
 lacks_absent None name lacking = lacking
 lacks_absent (Some files) name lacking = lacking
 
--- memory ran out before anything of the files was done
-pub ends_at_once : (contents : Option Contents) (settings : Settings) → CanWrite settings → (output : Option (List ℕ)) (names made : List (List ℕ)) (a b : Sinks)
-    → b.outs ≡ a.outs → IsSaid a.errs b.errs a.errs_faults b.errs_faults out_of_memory → a.errs_faults ≤ b.errs_faults
-    → (items : List Item) × AreItems contents settings output Nothing names made items × HasEnded status.OutOfMemory items a b
-ends_at_once contents settings can output names made a b same said most =
+-- where the run ends within items, and there are items of the files behind them
+pub outcome_of_halt : (s : Status) → IsHalt s → (first : List Item) (contents : Option Contents) (settings : Settings) (output : Option (List ℕ)) (names made : List (List ℕ)) (source source_now : Source) (a b : Sinks)
+    → (items : List Item) × AreItems contents settings output Nothing names made items × HasEnded s (first ++ items) a b
+    → IsOutcomeBehind s first contents settings output names made source source_now a b
+outcome_of_halt status.Done which first contents settings output names made source source_now a b h = h
+outcome_of_halt status.BadWords which first contents settings output names made source source_now a b h = h
+outcome_of_halt status.Refused which first contents settings output names made source source_now a b h = h
+outcome_of_halt status.Unwritten which first contents settings output names made source source_now a b h = h
+outcome_of_halt status.OutOfMemory which first contents settings output names made source source_now a b h = h
+outcome_of_halt status.Unread (inl is) first contents settings output names made source source_now a b h = absurd (let no : status.Unread ≡ status.Unwritten = is in cc)
+outcome_of_halt status.Unread (inr is) first contents settings output names made source source_now a b h = absurd (let no : status.Unread ≡ status.OutOfMemory = is in cc)
+
+-- the run ends within the first items
+pub ends_before : (s : Status) → IsHalt s → (contents : Option Contents) (settings : Settings) → CanWrite settings → (output : Option (List ℕ)) (names made : List (List ℕ)) (source source_now : Source) (a b : Sinks) (first : List Item)
+    → HasEnded s first a b → IsOutcomeBehind s first contents settings output names made source source_now a b
+ends_before s which contents settings can output names made source source_now a b first ended =
     let items = items_found contents settings can output names made in
-    (items.0, items.1, record { before = []; after = items.0; split = refl; done = only_said out_of_memory a b same said most })
+    outcome_of_halt s which first contents settings output names made source source_now a b (items.0, items.1, ended_more s which first items.0 a b ended)
+
+-- memory ran out before any of the first items was carried out, and of the files behind them
+pub ends_at_once : (contents : Option Contents) (settings : Settings) → CanWrite settings → (output : Option (List ℕ)) (names made : List (List ℕ)) (a b : Sinks)
+    → b.outs ≡ a.outs → IsSaid a.errs b.errs a.errs_faults b.errs_faults out_of_memory → a.errs_faults ≤ b.errs_faults → (first : List Item)
+    → (items : List Item) × AreItems contents settings output Nothing names made items × HasEnded status.OutOfMemory (first ++ items) a b
+ends_at_once contents settings can output names made a b same said most first =
+    let items = items_found contents settings can output names made in
+    (items.0, items.1, memory_out (first ++ items.0) a b same said most)
 
 -- memory ran out behind a file
-pub ends_behind : (contents : Option Contents) (settings : Settings) → CanWrite settings → (output : Option (List ℕ)) (name : List ℕ) (made made_now : List (List ℕ)) (a b c : Sinks)
-    → TracesFile contents settings output name made made_now a b
-    → c.outs ≡ b.outs → IsSaid b.errs c.errs b.errs_faults c.errs_faults out_of_memory → b.errs_faults ≤ c.errs_faults → (names : List (List ℕ))
-    → (items : List Item) × AreItems contents settings output Nothing (name ∷ names) made items × HasEnded status.OutOfMemory items a c
-ends_behind contents settings can output name made made_now a b c file same said most names =
+pub ends_behind : (size : ℕ) (contents : Option Contents) (settings : Settings) → CanWrite settings → (output : Option (List ℕ)) (name : List ℕ) (made made_now : List (List ℕ)) (held held_now : List Held) (a b c : Sinks)
+    → TracesFile size contents settings output name made made_now held held_now a b
+    → c.outs ≡ b.outs → IsSaid b.errs c.errs b.errs_faults c.errs_faults out_of_memory → b.errs_faults ≤ c.errs_faults → (names : List (List ℕ)) (first : List Item) → AreHeld settings held first
+    → (items : List Item) × AreItems contents settings output Nothing (name ∷ names) made items × HasEnded status.OutOfMemory (first ++ items) a c
+ends_behind size contents settings can output name made made_now held held_now a b c file same said most names first are_held =
+    let h = file.holds first are_held in
+    let goes = GoesOn-behind first file.items (holds_goes_on size settings (first ++ file.items) held_now a b h) in
     let more = items_found contents settings can output names made_now in
-    let are = items_join contents settings output Nothing names made_now more.0 more.1 (name ∷ []) made file.items file.done.goes_on file.are in
-    let done : AreCarriedOut (file.items ++ []) (out_of_memory ∷ []) a c = carried_on file.items [] (out_of_memory ∷ []) a b c file.done (only_said out_of_memory b c same said most) in (
+    let are = items_join contents settings output Nothing names made_now more.0 more.1 (name ∷ []) made file.items goes file.are in (
       file.items ++ more.0,
       are,
-      record {
-        before = file.items;
-        after = more.0;
-        split = refl;
-        done = subst (λ (l : List Item). AreCarriedOut l (out_of_memory ∷ []) a c) (append-nil file.items) done;
-      },
+      subst (λ (l : List Item). HasEnded status.OutOfMemory l a c) (append_assoc first file.items more.0)
+          (ended_behind status.OutOfMemory size settings (first ++ file.items) more.0 held_now a b c h (λ left is. memory_out (left ++ more.0) b c same said most)),
     )
 
+-- all that was held is carried out, and then the line of the end is said
+pub end_said : (name : List ℕ) (end : PagesEnd) (k : ℕ) (s : Status) (line : List ℕ) → s ≡ status_of end → s ≢ status.Done → s ≢ status.OutOfMemory → line ≡ end_message name end k
+    → (items : List Item) (a b c : Sinks) → AreCarriedOut items [] a b → c.outs ≡ b.outs → IsSaid b.errs c.errs b.errs_faults c.errs_faults line → b.errs_faults ≤ c.errs_faults
+    → EndsWithFile name end k s items a c
+end_said name end k s line is going memory same items a b c done outs said most =
+    let both : AreCarriedOut (items ++ []) (end_message name end k ∷ []) a c =
+    carried_on items [] (end_message name end k ∷ []) a b c done
+    (only_said (end_message name end k) b c outs (subst (λ m. IsSaid b.errs c.errs b.errs_faults c.errs_faults m) same said) most) in
+    inl (is, going, memory, subst (λ (l : List Item). AreCarriedOut l (end_message name end k ∷ []) a c) (append-nil items) both)
+
+-- how the inputs moved where the run ends in a file
+pub input_count : (s : Status) (end : PagesEnd) (before now : ℕ) → (s ≡ status_of end) ⊎ IsHalt s → InputCount (status_of end) before now → InputCount s before now
+input_count s end before now (inl is) count = subst (λ v. InputCount v before now) (sym is) count
+input_count s end before now (inr (inl is)) count = subst (λ v. InputCount v before now) (sym is) tt
+input_count s end before now (inr (inr is)) count = subst (λ v. InputCount v before now) (sym is) tt
+
 -- the run ends in the file
-pub file_ends : (settings : Settings) → CanWrite settings → (output : Option (List ℕ)) (name : List ℕ) (made : List (List ℕ)) (start : Option Files) (k : ℕ) (source source_now : Source) (a b : Sinks) (end : PagesEnd)
-    → start ≡ with_file source.files name → (Lacks source.files name → ⊥) → source_now.openings ≡ next_count source.openings
-    → told_contents source_now.files ≡ told_contents start → opened_name source_now.files ≡ opened_name start → (end ≡ why.Unread → Rose source.faults source_now.faults)
-    → Traces settings (base_name output settings.backend name) made start source_now.files a.outs b.outs k end
-    → SaysEnd name end k a.errs b.errs a.errs_faults b.errs_faults → a.errs_faults ≤ b.errs_faults → status_of end ≢ status.Done → (names : List (List ℕ))
-    → IsOutcome (status_of end) (told_contents source.files) settings output (name ∷ names) made source source_now a b
-file_ends settings can output name made start k source source_now a b end opened there one contents named rose t said most ends names = by_end end rose t said ends where
+module _ (size : ℕ) (settings : Settings) (can : CanWrite settings) (output : Option (List ℕ)) (name : List ℕ) (made : List (List ℕ)) (start : Option Files) (k : ℕ) (held held_mid : List Held)
+    (source source_now : Source) (a b c : Sinks) (opened : start ≡ with_file source.files name) (there : Lacks source.files name → ⊥) (one : source_now.openings ≡ next_count source.openings)
+    (contents : told_contents source_now.files ≡ told_contents start) (named : opened_name source_now.files ≡ opened_name start) where
+  abbrev base : List ℕ
+  base = base_name output settings.backend name
+
+  abbrev TracedTo : PagesEnd → Type 0
+  TracedTo end = Traces size settings base made start source_now.files held held_mid a b k end
+
+  abbrev Ends : Status → List Item → List (List ℕ) → Type 0
+  Ends s first names = IsOutcomeBehind s first (told_contents source.files) settings output (name ∷ names) made source source_now a c
+
   has : HasBytes (told_contents source.files) name (unread start)
   has = has_bytes source.files start name opened there
 
-  by_end : (e : PagesEnd) → (e ≡ why.Unread → Rose source.faults source_now.faults) → Traces settings (base_name output settings.backend name) made start source_now.files a.outs b.outs k e
-      → SaysEnd name e k a.errs b.errs a.errs_faults b.errs_faults → status_of e ≢ status.Done
-      → IsOutcome (status_of e) (told_contents source.files) settings output (name ∷ names) made source source_now a b
-  by_end why.End rose t said ends = absurd (ends refl)
-  by_end why.Trailing rose t said ends = absurd (ends refl)
-  by_end (why.Refused f) rose t said ends = file_refused (told_contents source.files) settings can output name made start source_now.files k a b has f names t said most
-  by_end why.TooMany rose t said ends = file_full (told_contents source.files) settings can output name made start source_now.files k a b has names t said most
-  by_end why.Unread rose t said ends = inr (file_unread settings output name made start k source source_now a b opened there one contents named (rose refl) t said most names)
-  by_end (why.Unwritten document) rose t said ends = file_unwritten (told_contents source.files) settings can output name made start source_now.files k a b has document names t said most
-  by_end why.OutOfMemory rose t said ends = file_without_memory (told_contents source.files) settings can output name made start source_now.files k a b has names t said most
+  -- behind all that was held, and its message is said
+  ends_said : (end : PagesEnd) → (end ≡ why.Unread → Rose source.faults source_now.faults) → (t : TracedTo end) → status_of end ≢ status.Done → status_of end ≢ status.OutOfMemory
+      → (names : List (List ℕ)) (first : List Item) → AreCarriedOut (first ++ docs base made t.texts) (end_message name end k ∷ []) a c → Ends (status_of end) first names
+  ends_said why.End rose t going memory names first done = absurd (going refl)
+  ends_said why.Trailing rose t going memory names first done = absurd (going refl)
+  ends_said why.OutOfMemory rose t going memory names first done = absurd (memory refl)
+  ends_said (why.Refused f) rose t going memory names first done =
+      file_refused (told_contents source.files) settings output name made size start source_now.files k held held_mid a b has f first names c t done
+  ends_said why.TooMany rose t going memory names first done =
+      file_full (told_contents source.files) settings output name made size start source_now.files k held held_mid a b has first names c t done
+  ends_said why.Unread rose t going memory names first done =
+      inr (file_unread size settings output name made start k held held_mid source source_now a b c opened there one contents named (rose refl) t names first done)
+
+  -- within what was held
+  ends_within : (s : Status) → IsHalt s → (r : HasRead (told_contents source.files) settings name made) (names : List (List ℕ)) (first : List Item)
+      → HasEnded s (first ++ docs base made r.texts) a c → Ends s first names
+  ends_within s which r names first ended =
+      outcome_of_halt s which first (told_contents source.files) settings output (name ∷ names) made source source_now a c
+      (file_halts (told_contents source.files) settings output name made can s which first names a c r ended)
+
+  pub file_ends : (s : Status) (end : PagesEnd) → (end ≡ why.Unread → Rose source.faults source_now.faults) → TracedTo end
+      → ((left : List Item) → AreHeld settings held_mid left → EndsWithFile name end k s left b c)
+      → (names : List (List ℕ)) (first : List Item) → AreHeld settings held first → Ends s first names
+  file_ends s end rose t ends names first are =
+      let h = t.holds first are in
+      elim (ends h.left h.are_held) [
+        | inl (is, going, memory, done) ↦
+            subst (λ (v : Status). Ends v first names) (sym is)
+            (ends_said end rose t (λ e. going (is ∙ e)) (λ e. memory (is ∙ e)) names first
+            (subst (λ l. AreCarriedOut l (end_message name end k ∷ []) a c) (sym h.split) (carried_on h.done h.left (end_message name end k ∷ []) a b c h.carried done)))
+        | inr (which, ended) ↦
+            ends_within s which (read_by_tracing size (told_contents source.files) settings name base made start source_now.files held held_mid a b k end has t) names first
+            (subst (λ l. HasEnded s l a c) (sym h.split) (ended_on s h.done h.left a b c h.carried ended))
+      ]
+
+-- the run ends within the pages of the file
+pub file_halted : (size : ℕ) (settings : Settings) → CanWrite settings → (output : Option (List ℕ)) (name : List ℕ) (made : List (List ℕ)) (start : Option Files) (held : List Held) (source source_now : Source) (a b : Sinks) (s : Status)
+    → start ≡ with_file source.files name → (Lacks source.files name → ⊥) → IsHalt s → Halts s size settings (base_name output settings.backend name) made start source_now.files held a b
+    → (names : List (List ℕ)) (first : List Item) → AreHeld settings held first → IsOutcomeBehind s first (told_contents source.files) settings output (name ∷ names) made source source_now a b
+file_halted size settings can output name made start held source source_now a b s opened there which t names first are =
+    let has = has_bytes source.files start name opened there in
+    let r = read_by_halting size (told_contents source.files) s settings name (base_name output settings.backend name) made start source_now.files held a b has t in
+    outcome_of_halt s which first (told_contents source.files) settings output (name ∷ names) made source source_now a b
+    (file_halts (told_contents source.files) settings output name made can s which first names a b r (t.ended first are))

@@ -1,19 +1,24 @@
 -- The items of files, and then those of the files behind them.
-use Rattle.std.proofs.Common.{◌≡◌, ℕ, suc, ◌+◌, ◌⊎◌, min, List, [], ◌∷◌, ◌++◌, length, Option, inl, inr, sym, ◌∙◌, ap, subst, append_assoc, length-append, arith}
+use Rattle.std.proofs.Common.{◌≡◌, ℕ, suc, ◌+◌, ◌*◌, ◌<◌, ◌⊎◌, min, List, [], ◌∷◌, ◌++◌, length, Option, None, Some, inl, inr, sym, ◌∙◌, ap, subst, append_assoc, length-append, arith}
 use Rattle.pt_base.specs.Counts.{Rose, last_count}
 use Rattle.pt_base.specs.Files.{Contents}
 use Rattle.pt_base.specs.declared.settings.Settings.{Settings}
 use Rattle.bitmap_input.specs.Cut.{Ending}
 use Rattle.bitmap_input.specs.Cut.Ending.{End, Trailing, Refused}
 use Rattle.bitmap_input.specs.Raw.{Raw}
+use Rattle.file_trace.specs.Held.{AreHeld, Held, Holds}
 use Rattle.file_trace.specs.Messages.{not_opened, page_line, read_fault}
 use Rattle.file_trace.specs.Names.{base_name}
-use Rattle.file_trace.specs.Items.{AreItems, ArePageItems, IsAbsent, Item, Nothing, Rest}
-use Rattle.file_trace.specs.Outcome.{AreCarriedOut, GoesOn, HasEnded, IsOutcome, Sinks, Source}
+use Rattle.file_trace.specs.Items.{AreItems, ArePageItems, IsAbsent, Item, Nothing, Rest, doc_count}
+use Rattle.file_trace.specs.OnePass.{IfReadsTo, IsOnePass, batch_end}
+use Rattle.file_trace.specs.Outcome.{AreCarriedOut, GoesOn, HasEnded, IsOutcomeBehind, OpensUpTo, Sinks, Source}
 use Rattle.file_trace.specs.Progress.{EndsWith}
 use Rattle.file_trace.specs.declared.status.Status.{Status}
 use Rattle.file_trace.specs.declared.status.Status.TheVariants as status
-use Rattle.file_trace.proofs.Carrying.{carried_on, ended_on}
+use Rattle.file_trace.proofs.Carrying.{carried_on, ended_on, unwritten_as, unwritten_on}
+use Rattle.file_trace.proofs.Holding.{doc_count-append}
+use Rattle.file_trace.proofs.Keeping.{GoesOn-behind, holds_goes_on}
+use Rattle.file_trace.proofs.OnePass.{batch_end_behind}
 
 -- where what follows goes on with these items, so do the pages
 pages_join : (settings : Settings) (name base : List ℕ) (ending : Ending) (F G : Rest) (after : List Item)
@@ -60,36 +65,53 @@ items_join contents settings output F back mid after follow front made before go
 opened_on : (n k l m o : ℕ) → m ≡ min (l + n) last_count → o ≡ min (m + (k + 1)) last_count → o ≡ min (l + (n + k + 1)) last_count
 opened_on n k l m o e f = omega (arith, e, f)
 
--- the outcome of files is that of the files in front of them and theirs
-pub outcome_on : (s : Status) (contents : Option Contents) (settings : Settings) (output : Option (List ℕ)) (front back made mid : List (List ℕ)) (before : List Item)
-    (first then now : Source) (a b c : Sinks) → AreItems contents settings output (EndsWith mid) front made before → AreCarriedOut before [] a b
-    → then.openings ≡ min (first.openings + length front) last_count → then.faults ≡ first.faults
-    → IsOutcome s contents settings output back mid then now b c → IsOutcome s contents settings output (front ++ back) made first now a c
-outcome_on s contents settings output front back made mid before first then now a b c are done openings faults outcome = by_status s outcome where
-  behind : (s : Status) → (items : List Item) × AreItems contents settings output Nothing back mid items × HasEnded s items b c
-      → (items : List Item) × AreItems contents settings output Nothing (front ++ back) made items × HasEnded s items a c
-  behind s (items, follow, ended) =
-      (before ++ items, items_join contents settings output Nothing back mid items follow front made before done.goes_on are, ended_on s before items a b c done ended)
+-- the outcome of files, behind what is held, is that of the files in front of them and theirs
+pub outcome_on : (s : Status) (size : ℕ) (contents : Option Contents) (settings : Settings) (output : Option (List ℕ)) (front back made mid : List (List ℕ)) (first before : List Item) (held : List Held)
+    (start then now : Source) (a b c : Sinks) → AreItems contents settings output (EndsWith mid) front made before → Holds size settings (first ++ before) held a b
+    → then.openings ≡ min (start.openings + length front) last_count → then.faults ≡ start.faults
+    → ((left : List Item) → AreHeld settings held left → IsOutcomeBehind s left contents settings output back mid then now b c)
+    → IsOutcomeBehind s first contents settings output (front ++ back) made start now a c
+outcome_on s size contents settings output front back made mid first before held start then now a b c are h openings faults behind = by_status s (behind h.left h.are_held) where
+  goes : GoesOn before
+  goes = GoesOn-behind first before (holds_goes_on size settings (first ++ before) held a b h)
 
-  by_status : (s : Status) → IsOutcome s contents settings output back mid then now b c → IsOutcome s contents settings output (front ++ back) made first now a c
-  by_status status.Done o = behind status.Done o
-  by_status status.BadWords o = behind status.BadWords o
-  by_status status.Refused o = behind status.Refused o
-  by_status status.Unwritten o = behind status.Unwritten o
-  by_status status.OutOfMemory o = behind status.OutOfMemory o
+  joined : (F : Rest) (after : List Item) (more : List (List ℕ)) → AreItems contents settings output F more mid after → AreItems contents settings output F (front ++ more) made (before ++ after)
+  joined F after more follow = items_join contents settings output F more mid after follow front made before goes are
+
+  read_more : (after : List Item) → h.done ++ (h.left ++ after) ≡ first ++ (before ++ after)
+  read_more after =
+      sym (append_assoc h.done h.left after) ∙ ap (λ l. l ++ after) (sym h.split) ∙ append_assoc first before after
+
+  ended : (s : Status) → (items : List Item) × AreItems contents settings output Nothing back mid items × HasEnded s (h.left ++ items) b c
+      → (items : List Item) × AreItems contents settings output Nothing (front ++ back) made items × HasEnded s (first ++ items) a c
+  ended s (items, follow, end) =
+      (before ++ items, joined Nothing items back follow, subst (λ l. HasEnded s l a c) (read_more items) (ended_on s h.done (h.left ++ items) a b c h.carried end))
+
+  carried : (after : List Item) (last : List (List ℕ)) → AreCarriedOut (h.left ++ after) last b c → AreCarriedOut (first ++ (before ++ after)) last a c
+  carried after last done = subst (λ l. AreCarriedOut l last a c) (read_more after) (carried_on h.done (h.left ++ after) last a b c h.carried done)
+
+  reached : (name : List ℕ) (more : List (List ℕ)) → OpensUpTo back name more then.openings now.openings → OpensUpTo (front ++ back) name (front ++ more) start.openings now.openings
+  reached name more r = record {
+    back = r.back;
+    listed = ap (λ l. front ++ l) r.listed ∙ sym (append_assoc front more (name ∷ r.back));
+    grew = rw (length-append front more) (opened_on (length front) (length more) start.openings then.openings now.openings openings r.grew);
+  }
+
+  by_status : (s : Status) → IsOutcomeBehind s h.left contents settings output back mid then now b c → IsOutcomeBehind s first contents settings output (front ++ back) made start now a c
+  by_status status.Done o = ended status.Done o
+  by_status status.BadWords o = ended status.BadWords o
+  by_status status.Refused o = ended status.Refused o
+  by_status status.Unwritten o = ended status.Unwritten o
+  by_status status.OutOfMemory o = ended status.OutOfMemory o
   by_status status.Unread (inl u) = inl (record {
     name = u.name;
     front = front ++ u.front;
     before = before ++ u.before;
-    reached = record {
-      back = u.reached.back;
-      listed = ap (λ l. front ++ l) u.reached.listed ∙ sym (append_assoc front u.front (u.name ∷ u.reached.back));
-      grew = rw (length-append front u.front) (opened_on (length front) (length u.front) first.openings then.openings now.openings openings u.reached.grew);
-    };
+    reached = reached u.name u.front u.reached;
     closed = u.closed;
     cause = subst (λ n. IsAbsent contents u.name ⊎ Rose n now.faults) faults u.cause;
-    items = items_join contents settings output Nothing u.front mid u.before u.items front made before done.goes_on are;
-    done = carried_on before u.before (not_opened u.name ∷ []) a b c done u.done;
+    items = joined Nothing u.before u.front u.items;
+    done = carried u.before (not_opened u.name ∷ []) u.done;
   })
   by_status status.Unread (inr u) = inr (record {
     name = u.name;
@@ -98,15 +120,70 @@ outcome_on s contents settings output front back made mid before first then now 
     rest = u.rest;
     raws = u.raws;
     before = before ++ u.before;
-    reached = record {
-      back = u.reached.back;
-      listed = ap (λ l. front ++ l) u.reached.listed ∙ sym (append_assoc front u.front (u.name ∷ u.reached.back));
-      grew = rw (length-append front u.front) (opened_on (length front) (length u.front) first.openings then.openings now.openings openings u.reached.grew);
-    };
+    reached = reached u.name u.front u.reached;
     opened = u.opened;
     bytes = u.bytes;
     rose = subst (λ n. Rose n now.faults) faults u.rose;
     stops = u.stops;
-    items = items_join contents settings output _ u.front mid u.before u.items front made before done.goes_on are;
-    done = carried_on before u.before (page_line u.name (length u.raws + 1) read_fault ∷ []) a b c done u.done;
+    items = joined _ u.before u.front u.items;
+    done = carried u.before (page_line u.name (length u.raws + 1) read_fault ∷ []) u.done;
   })
+
+-- the same of how far a run has read
+pub one_pass_on : (size : ℕ) → 0 < size → (contents : Option Contents) (settings : Settings) (output : Option (List ℕ)) (front back made mid : List (List ℕ)) (first before : List Item) (held : List Held)
+    (start then now : Source) (a b c : Sinks) → AreItems contents settings output (EndsWith mid) front made before → Holds size settings (first ++ before) held a b
+    → then.openings ≡ min (start.openings + length front) last_count → then.faults ≡ start.faults
+    → ((left : List Item) → AreHeld settings held left → IsOnePass size left contents settings output back mid then now b c)
+    → IsOnePass size first contents settings output (front ++ back) made start now a c
+one_pass_on size some contents settings output front back made mid first before held start then now a b c are h openings faults behind =
+    let o = behind h.left h.are_held in
+    let (v, e) = unwritten_on h.done (h.left ++ o.items) a b c h.carried o.unwritten in
+    let (w, d) = unwritten_as (first ++ (before ++ o.items)) (h.done ++ (h.left ++ o.items)) a c (sym (read_more o.items)) v in
+    let k = doc_count o.unwritten.before in
+    let written : doc_count w.before ≡ h.batches * size + k = ap doc_count (d ∙ e) ∙ doc_count-append h.done o.unwritten.before ∙ ap (λ n. n + k) h.whole in
+    let end : batch_end size (doc_count w.before) ≡ h.batches * size + batch_end size k = ap (batch_end size) written ∙ batch_end_behind size k h.batches some in
+    let all = counted o.items in
+    record {
+      items = before ++ o.items;
+      are = joined Nothing o.items back o.are;
+      unwritten = w;
+      no_farther = λ steady enough. subst (λ n. IfReadsTo n first contents settings output (front ++ back) made start now) (sym end)
+          (farther contents (batch_end size k) are (o.no_farther (λ rose. steady (subst (λ n. Rose n now.faults) faults rose)) (omega (arith, enough, end, all))));
+    } where
+      goes : GoesOn before
+      goes = GoesOn-behind first before (holds_goes_on size settings (first ++ before) held a b h)
+
+      joined : (F : Rest) (after : List Item) (more : List (List ℕ)) → AreItems contents settings output F more mid after → AreItems contents settings output F (front ++ more) made (before ++ after)
+      joined F after more follow = items_join contents settings output F more mid after follow front made before goes are
+
+      read_more : (after : List Item) → h.done ++ (h.left ++ after) ≡ first ++ (before ++ after)
+      read_more after =
+          sym (append_assoc h.done h.left after) ∙ ap (λ l. l ++ after) (sym h.split) ∙ append_assoc first before after
+
+      counted : (after : List Item) → doc_count (first ++ (before ++ after)) ≡ h.batches * size + doc_count (h.left ++ after)
+      counted after = ap doc_count (sym (read_more after)) ∙ doc_count-append h.done (h.left ++ after) ∙ ap (λ n. n + doc_count (h.left ++ after)) h.whole
+
+      farther : (o : Option Contents) (n : ℕ) → AreItems o settings output (EndsWith mid) front made before → IfReadsTo n h.left o settings output back mid then now
+          → IfReadsTo (h.batches * size + n) first o settings output (front ++ back) made start now
+      farther None n are reads = tt
+      farther (Some told) n are u = record {
+        name = u.name;
+        front = front ++ u.front;
+        bytes = u.bytes;
+        raws = u.raws;
+        left = u.left;
+        rest = u.rest;
+        before = before ++ u.before;
+        reached = record {
+          back = u.reached.back;
+          listed = ap (λ l. front ++ l) u.reached.listed ∙ sym (append_assoc front u.front (u.name ∷ u.reached.back));
+          grew = rw (length-append front u.front) (opened_on (length front) (length u.front) start.openings then.openings now.openings openings u.reached.grew);
+        };
+        held = u.held;
+        some = u.some;
+        begins = u.begins;
+        opened = u.opened;
+        near = u.near;
+        items = items_join (Some told) settings output _ u.front mid u.before u.items front made before goes are;
+        count = counted u.before ∙ ap (λ n. h.batches * size + n) u.count;
+      }

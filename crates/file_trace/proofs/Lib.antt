@@ -1,12 +1,17 @@
+pub mod Batching
 pub mod Carrying
 pub mod Ending
 pub mod Exists
 pub mod Filing
+pub mod Holding
+pub mod OnePass
 pub mod Joining
+pub mod Keeping
 pub mod NameExamples
 pub mod Naming
 pub mod OneItems
 pub mod Paging
+pub mod Passing
 pub mod Reading
 pub mod Saying
 pub mod Tracing

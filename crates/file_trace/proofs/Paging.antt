@@ -7,8 +7,8 @@ use Rattle.bitmap_input.specs.Front.Answer.{Page as Gives}
 use Rattle.bitmap_input.specs.FilePages.{FilePages, next_begins}
 use Rattle.bitmap_input.specs.FilePages.FilePages.{Next}
 use Rattle.page_trace.specs.Document.{IsDocument}
-use Rattle.file_trace.specs.Outcome.{BeginsSettled, is_later}
-use Rattle.file_trace.specs.Progress.{AreTraced, BeginsWith, Settles}
+use Rattle.file_trace.specs.Outcome.{BeginsSettled, BeginsWith, is_later}
+use Rattle.file_trace.specs.Progress.{AreTraced, Settles}
 use Rattle.pt_base.specs.declared.settings.Settings.{Settings}
 
 is_later-true : (raws : List Raw) → is_later true raws ≡ true

@@ -1,9 +1,10 @@
 -- The reader's answers, as the run sees them.
-use Rattle.std.proofs.Common.{◌≡◌, ◌≤◌, ℕ, ◌+◌, ◌-◌, Bool, true, false, List, ◌++◌, length, take, drop, Option, None, Some, IfSome, option_map, refl, sym, ◌∙◌, ap, subst, append_assoc, arith}
+use Rattle.std.proofs.Common.{◌≡◌, ◌≤◌, ℕ, ◌+◌, ◌-◌, Bool, true, false, List, ◌∷◌, ◌++◌, length, take, drop, Option, None, Some, IfSome, option_map, refl, sym, ◌∙◌, ap, subst, append_assoc, arith}
 use Rattle.std.specs.FinMap.{get}
 use Rattle.std.proofs.lemmas.List.{drop-append-le, drop-drop, take-append-drop}
+use Rattle.std.proofs.lemmas.List.Elements.{All-head}
 use Rattle.pt_base.specs.Files.{Files, Opened, taken_of, unread, unread_of, with_file, with_no_file, with_read}
-use Rattle.bit_image.specs.Page.{Page as Pixels}
+use Rattle.bit_image.specs.Page.{IsPage, Page as Pixels}
 use Rattle.bitmap_input.specs.declared.fault.InFault.{InFault}
 use Rattle.bitmap_input.specs.declared.fault.InFault.TheVariants as fault
 use Rattle.bitmap_input.specs.Cut.{Cut, is_by_end}
@@ -12,13 +13,16 @@ use Rattle.bitmap_input.specs.Cut.Kind.{UnknownFormat, BadHeader, ZeroSide, TooL
 use Rattle.bitmap_input.specs.Cut.Ending.{Refused}
 use Rattle.bitmap_input.specs.Front.{front, page_at}
 use Rattle.bitmap_input.specs.Front.Answer.{Page, Ends}
-use Rattle.bitmap_input.specs.FilePages.{next_begins}
-use Rattle.bitmap_input.specs.Raw.{Raw}
+use Rattle.bitmap_input.specs.FilePages.{FilePages, next_begins}
+use Rattle.bitmap_input.specs.FilePages.FilePages.{Next}
+use Rattle.bitmap_input.specs.Raw.{Raw, shown}
 use Rattle.bitmap_input.specs.Reading.{cause_of_fault}
 use Rattle.bitmap_input.specs.Reader.{Reader, ahead as reader_ahead, is_later, GivesEnding, GivesPage, IfSays, MemoryFails, ReadFails, TellsPage}
 use Rattle.bitmap_input.proofs.Appending.{with_more}
 use Rattle.bitmap_input.proofs.FrontStays.{front_stays, page_stays}
 use Rattle.bitmap_input.proofs.Behind.{ahead_with_more, begins_with_more, front_within}
+use Rattle.bitmap_input.proofs.Files.{file_pages_some}
+use Rattle.bitmap_input.proofs.Sided.{pages_shown}
 use Rattle.pt_base.specs.declared.settings.Settings.{Settings}
 use Rattle.file_trace.specs.Items.{told_contents}
 use Rattle.file_trace.specs.Progress.{EndsReading, ReadsPage, Settles, ahead, end_of_fault, opened_name}
@@ -129,6 +133,16 @@ reads_page settings old new before now page gives tells = by_told (unread before
         counted = gives.counted;
         going_on = gives.going_on;
       }
+
+-- what the reader gives is a page: its sides are in range
+pub given_page : (settings : Settings) (old new : Reader) (before now : Option Files) (page : Pixels)
+    → GivesPage settings.level settings.invert old before page new now → IsPage page
+given_page settings old new before now page gives =
+    let bytes : List ℕ = reader_ahead old gives.answers.more in
+    let P : Raw → Type 0 = λ raw. IsPage (shown settings.level settings.invert raw) in
+    let (raws, ending, pages) = file_pages_some true (drop (next_begins bytes gives.raw gives.used) bytes) in
+    let all : FilePages (is_later old) bytes (gives.raw ∷ raws) ending = Next gives.answers.is pages in
+    subst IsPage (sym gives.shows) (All-head P gives.raw raws (pages_shown settings.level settings.invert all))
 
 -- why a refused page ends the reading
 pub fault_ends : (f : InFault) (o : Option (List ℕ)) (g : List ℕ → List ℕ) (later : Bool)

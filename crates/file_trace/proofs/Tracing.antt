@@ -1,9 +1,10 @@
 -- One page more, and the end of the pages.
-use Rattle.std.proofs.Common.{◌≡◌, ◌≤◌, ◌<◌, ℕ, suc, ◌+◌, Bool, true, false, List, [], ◌∷◌, ◌++◌, length, drop, Option, None, Some, IfSome, option_map, refl, sym, ◌∙◌, ap, subst, append_assoc, length-append, arith}
+use Rattle.std.proofs.Common.{◌≡◌, ◌≢◌, ◌≤◌, ◌<◌, ℕ, suc, ◌+◌, Bool, true, false, List, [], ◌∷◌, ◌++◌, length, drop, Option, None, Some, IfSome, option_map, refl, sym, ◌∙◌, ap, subst, append_assoc, length-append, arith}
 use Rattle.std.specs.Prelude.{nat_lt}
 use Rattle.std.proofs.lemmas.Bool.Decides.{nat_tests}
-use Rattle.pt_base.specs.Documents.{Documents, with_whole}
+use Rattle.std.proofs.lemmas.List.{append-nil, length-drop}
 use Rattle.pt_base.specs.Files.{Files, unread}
+use Rattle.bit_image.specs.Page.{Page as Pixels}
 use Rattle.bitmap_input.specs.Cut.{is_by_end}
 use Rattle.bitmap_input.specs.Raw.{Raw}
 use Rattle.bitmap_input.specs.Front.{front, page_at}
@@ -13,19 +14,25 @@ use Rattle.bitmap_input.specs.Reading.{Moves}
 use Rattle.bitmap_input.specs.Reader.{Reader, ReadFails, ahead as reader_ahead, at_start, is_later as reader_is_later}
 use Rattle.file_trace.specs.Names.{made_with, next_name}
 use Rattle.page_trace.specs.Document.{IsDocument}
-use Rattle.file_trace.specs.Items.{most_pages}
-use Rattle.file_trace.specs.Outcome.{BeginsSettled, is_later, with_items}
-use Rattle.file_trace.specs.Progress.{AreTraced, BeginsWith, EndsBy, HasUnread, Settles, Traces, TracesPage, ahead, docs, status_of}
+use Rattle.file_trace.specs.Held.{AreHeld, Held, Holds, pages_held}
+use Rattle.file_trace.specs.Items.{Item, most_pages}
+use Rattle.file_trace.specs.Items.Item.{Doc}
+use Rattle.file_trace.specs.Outcome.{BeginsSettled, BeginsWith, HasEnded, Sinks, is_later}
+use Rattle.file_trace.specs.Progress.{AreTraced, EndsBy, EndsReading, Halts, HasUnread, IsInBatch, ReadsPage, Settles, Traces, ahead, docs}
 use Rattle.pt_base.specs.declared.settings.Settings.{Settings}
 use Rattle.file_trace.specs.declared.pages.PagesEnd.{PagesEnd}
 use Rattle.file_trace.specs.declared.pages.PagesEnd.TheVariants as why
+use Rattle.file_trace.specs.declared.status.Status.{Status}
 use Rattle.file_trace.specs.declared.status.Status.TheVariants as status
+use Rattle.file_trace.proofs.Holding.{all_held, ended_behind, holds_on}
 use Rattle.file_trace.proofs.Naming.{made_with-in}
+use Rattle.file_trace.proofs.OnePass.{batch_halts}
 use Rattle.file_trace.proofs.Paging.{AreTraced-more, BeginsSettled-more, BeginsWith-more}
 use Rattle.file_trace.proofs.Reading.{first_taken, unread-with_read}
 
--- the first k pages were traced, and their documents written; the reader stands behind them
-pub record IsTraced (settings : Settings) (base : List ℕ) (made : List (List ℕ)) (bytes : Option (List ℕ)) (outs : Option Documents) (reader : Reader) (files : Option Files) (outs_now : Option Documents) (k : ℕ) : Type 0 where
+-- the first k pages were read; of what was held before and their documents, which have these texts, the first
+-- are carried out, and the others are held; the reader stands behind the pages
+pub record IsTraced (size : ℕ) (settings : Settings) (base : List ℕ) (made : List (List ℕ)) (bytes : Option (List ℕ)) (reader : Reader) (files : Option Files) (held held_now : List Held) (old new : Sinks) (k : ℕ) : Type 0 where
   pub raws : List Raw
   pub texts : List (List ℕ)
   pub taken : List ℕ
@@ -34,14 +41,14 @@ pub record IsTraced (settings : Settings) (base : List ℕ) (made : List (List �
   pub begins : IfSome bytes (λ all. (left : List ℕ) × (ahead reader files ≡ Some left) × BeginsWith false all raws left)
   pub told : IfSome bytes (λ all. (rest : List ℕ) × (all ≡ taken ++ rest) × (unread files ≡ Some rest))
   pub settled : reader.ended ≡ false → (tail : List ℕ) → BeginsSettled false (taken ++ tail) raws (reader_ahead reader tail)
-  pub documents : outs_now ≡ with_items outs (docs base made texts)
+  pub holds : (first : List Item) → AreHeld settings held first → Holds size settings (first ++ docs base made texts) held_now old new
   pub counted : reader.pages ≡ k
   pub going_on : reader.over ≡ false
 
 -- nothing is traced yet
-pub none_traced : (settings : Settings) (base : List ℕ) (made : List (List ℕ)) (files : Option Files) (outs : Option Documents)
-    → IsTraced settings base made (unread files) outs at_start files outs 0
-none_traced settings base made files outs = record {
+pub none_traced : (size : ℕ) (settings : Settings) (base : List ℕ) (made : List (List ℕ)) (files : Option Files) (held : List Held) (a : Sinks)
+    → IsTraced size settings base made (unread files) at_start files held held a a 0
+none_traced size settings base made files held a = record {
   raws = [];
   texts = [];
   taken = [];
@@ -50,7 +57,7 @@ none_traced settings base made files outs = record {
   begins = at_first (unread files);
   told = all_left (unread files);
   settled = λ _ tail. refl;
-  documents = refl;
+  holds = λ first are. rw (append-nil first) (all_held size settings held first a are);
   counted = refl;
   going_on = refl;
 } where
@@ -93,23 +100,23 @@ still_going : (ended ended_now : Bool) → (ended ≡ true → ended_now ≡ tru
 still_going false ended_now stays going = refl
 still_going true ended_now stays going = absurd (let wrong : true ≡ false = sym (stays refl) ∙ going in cc)
 
-settled_more : (settings : Settings) (name base : List ℕ) (made : List (List ℕ)) (bytes : Option (List ℕ)) (outs mid now : Option Documents) (old new : Reader) (before after : Option Files) (k : ℕ)
-    → (t : IsTraced settings base made bytes outs old before mid k) → (p : TracesPage settings name old before mid new after now) → new.ended ≡ false → (tail : List ℕ)
-    → BeginsSettled false ((t.taken ++ p.reads.more) ++ tail) (t.raws ++ p.reads.raw ∷ []) (reader_ahead new tail)
-settled_more settings name base made bytes outs mid now old new before after k t p going tail =
-    let was : old.ended ≡ false = still_going old.ended new.ended (λ e. (p.reads.moves.stopped e).1) going in
-    let first = t.settled was (p.reads.more ++ tail) in
-    let next = subst (λ l. Settles l (reader_ahead old (p.reads.more ++ tail)) p.reads.raw p.reads.used (reader_ahead new tail)) (later_is old t.raws k t.counted t.count) (p.reads.settled going tail) in
-    subst (λ bs. BeginsSettled false bs (t.raws ++ p.reads.raw ∷ []) (reader_ahead new tail)) (sym (append_assoc t.taken p.reads.more tail))
-    (BeginsSettled-more false (t.taken ++ (p.reads.more ++ tail)) t.raws (reader_ahead old (p.reads.more ++ tail)) p.reads.raw p.reads.used (reader_ahead new tail) first next)
+settled_more : (settings : Settings) (bytes : List ℕ) (old new : Reader) (before after : Option Files) (page : Pixels) (raws : List Raw)
+    → (later : reader_is_later old ≡ is_later false raws) → (old.ended ≡ false → (tail : List ℕ) → BeginsSettled false (bytes ++ tail) raws (reader_ahead old tail))
+    → (p : ReadsPage settings old before page new after) → new.ended ≡ false → (tail : List ℕ)
+    → BeginsSettled false ((bytes ++ p.more) ++ tail) (raws ++ p.raw ∷ []) (reader_ahead new tail)
+settled_more settings bytes old new before after page raws later settled p going tail =
+    let was : old.ended ≡ false = still_going old.ended new.ended (λ e. (p.moves.stopped e).1) going in
+    let next = subst (λ l. Settles l (reader_ahead old (p.more ++ tail)) p.raw p.used (reader_ahead new tail)) later (p.settled going tail) in
+    subst (λ bs. BeginsSettled false bs (raws ++ p.raw ∷ []) (reader_ahead new tail)) (sym (append_assoc bytes p.more tail))
+    (BeginsSettled-more false (bytes ++ (p.more ++ tail)) raws (reader_ahead old (p.more ++ tail)) p.raw p.used (reader_ahead new tail) (settled was (p.more ++ tail)) next)
 
--- the documents of one text more
-with_docs-more : (base : List ℕ) (made : List (List ℕ)) (told : Option Documents) (texts : List (List ℕ)) (text : List ℕ)
-    → with_items told (docs base made (texts ++ text ∷ [])) ≡ with_whole (with_items told (docs base made texts)) (next_name base (made_with base (length texts) made)) text
-with_docs-more base made told [] text = refl
-with_docs-more base made told (t ∷ texts) text =
-    with_docs-more base (base ∷ made) (with_whole told (next_name base made) t) texts text
-    ∙ ap (λ m. with_whole (with_items (with_whole told (next_name base made) t) (docs base (base ∷ made) texts)) (next_name base m) text) (made_with-in base (length texts) made)
+-- the document of one text more
+docs-more : (base : List ℕ) (made : List (List ℕ)) (texts : List (List ℕ)) (text : List ℕ)
+    → docs base made (texts ++ text ∷ []) ≡ docs base made texts ++ Doc (next_name base (made_with base (length texts) made)) text ∷ []
+docs-more base made [] text = refl
+docs-more base made (t ∷ texts) text =
+    ap (λ l. Doc (next_name base made) t ∷ l) (docs-more base (base ∷ made) texts text
+    ∙ ap (λ m. docs base (base ∷ made) texts ++ Doc (next_name base m) text ∷ []) (made_with-in base (length texts) made))
 
 -- a text for each page
 pub traced_length : (settings : Settings) (raws : List Raw) (texts : List (List ℕ)) → AreTraced settings raws texts → length raws ≡ length texts
@@ -118,31 +125,94 @@ traced_length settings (raw ∷ raws) (text ∷ texts) t = ap suc (traced_length
 traced_length settings [] (text ∷ texts) t = absurd t
 traced_length settings (raw ∷ raws) [] t = absurd t
 
--- one page more is traced
-pub one_more : (settings : Settings) (base : List ℕ) (made : List (List ℕ)) (bytes : Option (List ℕ)) (outs mid now : Option Documents) (old new : Reader) (before after : Option Files) (k : ℕ)
-    → IsTraced settings base made bytes outs old before mid k → TracesPage settings (next_name base (made_with base k made)) old before mid new after now
-    → IsTraced settings base made bytes outs new after now (k + 1)
-one_more settings base made bytes outs mid now old new before after k t p = record {
-  raws = t.raws ++ p.reads.raw ∷ [];
-  texts = t.texts ++ p.text ∷ [];
-  taken = t.taken ++ p.reads.more;
-  count = rw length-append (omega (arith, t.count));
-  traced = AreTraced-more settings t.raws t.texts p.reads.raw p.text t.traced (subst (λ page. IsDocument page settings p.text) p.reads.shows p.is_text);
-  begins = begins_more bytes (ahead old before) (ahead new after) t.raws p.reads.raw p.reads.used (reader_is_later old)
-      (later_is old t.raws k t.counted t.count) t.begins p.reads.told;
-  told = told_more bytes before after t.taken p.reads.more old.ended new.ended p.reads.moves t.told;
-  settled = settled_more settings (next_name base (made_with base k made)) base made bytes outs mid now old new before after k t p;
-  documents = p.documents ∙ ap (λ o. with_whole o (next_name base (made_with base k made)) p.text) t.documents
-      ∙ ap (λ n. with_whole (with_items outs (docs base made t.texts)) (next_name base (made_with base n made)) p.text) (t.count ∙ traced_length settings t.raws t.texts t.traced)
-      ∙ sym (with_docs-more base made outs t.texts p.text);
-  counted = omega (arith, p.reads.counted, t.counted);
-  going_on = p.reads.going_on;
-}
+-- the items before, and then the documents of one text more
+items_more : (base : List ℕ) (made : List (List ℕ)) (first : List Item) (texts : List (List ℕ)) (text : List ℕ) (k : ℕ) → k ≡ length texts
+    → (first ++ docs base made texts) ++ Doc (next_name base (made_with base k made)) text ∷ [] ≡ first ++ docs base made (texts ++ text ∷ [])
+items_more base made first texts text k count =
+    append_assoc first (docs base made texts) (Doc (next_name base (made_with base k made)) text ∷ [])
+    ∙ ap (λ n. first ++ (docs base made texts ++ Doc (next_name base (made_with base n made)) text ∷ [])) count
+    ∙ ap (λ l. first ++ l) (sym (docs-more base made texts text))
 
--- a read failed behind the pages that were traced
-unread_more : (settings : Settings) (base : List ℕ) (made : List (List ℕ)) (start : Option Files) (outs mid : Option Documents) (reader after : Reader) (files now : Option Files) (k : ℕ)
-    → (t : IsTraced settings base made (unread start) outs reader files mid k) → ReadFails reader files after now → HasUnread t.raws start now
-unread_more settings base made start outs mid reader after files now k t fails =
+-- one page more is read, and what has to be done of its document is held or carried out
+pub one_more : (size : ℕ) (settings : Settings) (base : List ℕ) (made : List (List ℕ)) (bytes : Option (List ℕ)) (old new : Reader) (before after : Option Files) (held mid_held held_now : List Held) (a b c : Sinks) (k : ℕ) (page : Pixels) (text : List ℕ)
+    → IsTraced size settings base made bytes old before held mid_held a b k → ReadsPage settings old before page new after → IsDocument page settings text
+    → ((left : List Item) → AreHeld settings mid_held left → Holds size settings (left ++ Doc (next_name base (made_with base k made)) text ∷ []) held_now b c)
+    → IsTraced size settings base made bytes new after held held_now a c (k + 1)
+one_more size settings base made bytes old new before after held mid_held held_now a b c k page text t p is_text holds =
+    let later = later_is old t.raws k t.counted t.count in
+    let doc = Doc (next_name base (made_with base k made)) text in
+    record {
+      raws = t.raws ++ p.raw ∷ [];
+      texts = t.texts ++ text ∷ [];
+      taken = t.taken ++ p.more;
+      count = rw length-append (omega (arith, t.count));
+      traced = AreTraced-more settings t.raws t.texts p.raw text t.traced (subst (λ pixels. IsDocument pixels settings text) p.shows is_text);
+      begins = begins_more bytes (ahead old before) (ahead new after) t.raws p.raw p.used (reader_is_later old) later t.begins p.told;
+      told = told_more bytes before after t.taken p.more old.ended new.ended p.moves t.told;
+      settled = settled_more settings t.taken old new before after page t.raws later t.settled p;
+      holds = λ first are. subst (λ l. Holds size settings l held_now a c) (items_more base made first t.texts text k (t.count ∙ traced_length settings t.raws t.texts t.traced))
+          (holds_on size settings (first ++ docs base made t.texts) (doc ∷ []) mid_held held_now a b c (t.holds first are) holds);
+      counted = omega (arith, p.counted, t.counted);
+      going_on = p.going_on;
+    }
+
+-- the bytes begin with the pages
+just_begins : (bytes rest : Option (List ℕ)) (raws : List Raw) → IfSome bytes (λ all. (left : List ℕ) × (rest ≡ Some left) × BeginsWith false all raws left)
+    → IfSome bytes (λ all. (left : List ℕ) × BeginsWith false all raws left)
+just_begins None rest raws begins = tt
+just_begins (Some all) rest raws (left, is, begins) = (left, begins)
+
+-- there is a last page
+no_less : (raws : List Raw) (raw : Raw) → raws ++ raw ∷ [] ≢ []
+no_less [] raw = λ e. cc
+no_less (first ∷ raws) raw = λ e. cc
+
+-- what is ahead of the reader is little more than what is unread
+ahead_near : (reader : Reader) (rest left : List ℕ) → length reader.bytes ≤ 65536 → reader_ahead reader rest ≡ left → length left ≤ length rest + 65536
+ahead_near reader rest left within is =
+    let same : length left ≡ length (reader_ahead reader rest) = ap length (sym is) in
+    let dropped = length-drop reader.skip (reader.bytes ++ rest) in
+    let both = length-append reader.bytes rest in omega (arith, same, dropped, both, within)
+
+begins_near : (bytes : Option (List ℕ)) (raws : List Raw) (reader : Reader) (files : Option Files) → length reader.bytes ≤ 65536
+    → IfSome bytes (λ all. (left : List ℕ) × (ahead reader files ≡ Some left) × BeginsWith false all raws left)
+    → IfSome bytes (λ all. (left : List ℕ) × (rest : List ℕ) × BeginsWith false all raws left × (unread files ≡ Some rest) × (length left ≤ length rest + 65536))
+begins_near None raws reader files within begins = tt
+begins_near (Some all) raws reader files within (left, is, begins) = by_rest (unread files) refl is where
+  by_rest : (o : Option (List ℕ)) → unread files ≡ o → option_map (reader_ahead reader) o ≡ Some left
+      → (left : List ℕ) × (rest : List ℕ) × BeginsWith false all raws left × (unread files ≡ Some rest) × (length left ≤ length rest + 65536)
+  by_rest None same ahead_is = cc
+  by_rest (Some rest) same ahead_is =
+      let there : reader_ahead reader rest ≡ left = cc in (left, rest, begins, same, ahead_near reader rest left within there)
+
+-- one page more is read, and what was held with it couldn't be carried out
+pub halted : (s : Status) (size : ℕ) (settings : Settings) (base : List ℕ) (made : List (List ℕ)) (start : Option Files) (old new : Reader) (before after : Option Files) (held mid_held : List Held) (a b c : Sinks) (k : ℕ) (page : Pixels) (text : List ℕ)
+    → IsTraced size settings base made (unread start) old before held mid_held a b k → ReadsPage settings old before page new after → IsDocument page settings text
+    → ((left : List Item) → AreHeld settings mid_held left → HasEnded s (left ++ Doc (next_name base (made_with base k made)) text ∷ []) b c)
+    → k + length made < most_pages → length new.bytes ≤ 65536 → (s ≡ status.Unwritten → pages_held mid_held + 1 ≡ size) → Halts s size settings base made start after held a c
+halted s size settings base made start old new before after held mid_held a b c k page text t p is_text ended few within full =
+    let doc = Doc (next_name base (made_with base k made)) text in
+    let later = later_is old t.raws k t.counted t.count in
+    let begins = begins_more (unread start) (ahead old before) (ahead new after) t.raws p.raw p.used (reader_is_later old) later t.begins p.told in
+    record {
+      raws = t.raws ++ p.raw ∷ [];
+      texts = t.texts ++ text ∷ [];
+      few = rw length-append (omega (arith, t.count, few));
+      traced = AreTraced-more settings t.raws t.texts p.raw text t.traced (subst (λ pixels. IsDocument pixels settings text) p.shows is_text);
+      begins = just_begins (unread start) (ahead new after) (t.raws ++ p.raw ∷ []) begins;
+      some = no_less t.raws p.raw;
+      near = begins_near (unread start) (t.raws ++ p.raw ∷ []) new after within begins;
+      in_batch = λ is first are. subst (λ l. IsInBatch size l a c) (items_more base made first t.texts text k (t.count ∙ traced_length settings t.raws t.texts t.traced))
+          (batch_halts size settings (first ++ docs base made t.texts) (next_name base (made_with base k made)) text mid_held a b c (t.holds first are)
+          (λ left held. subst (λ v. HasEnded v (left ++ doc ∷ []) b c) is (ended left held)) (full is));
+      ended = λ first are. subst (λ l. HasEnded s l a c) (items_more base made first t.texts text k (t.count ∙ traced_length settings t.raws t.texts t.traced))
+          (ended_behind s size settings (first ++ docs base made t.texts) (doc ∷ []) mid_held a b c (t.holds first are) ended);
+    }
+
+-- a read failed behind the pages that were read
+unread_more : (size : ℕ) (settings : Settings) (base : List ℕ) (made : List (List ℕ)) (start : Option Files) (reader after : Reader) (files now : Option Files) (held held_now : List Held) (a b : Sinks) (k : ℕ)
+    → (t : IsTraced size settings base made (unread start) reader files held held_now a b k) → ReadFails reader files after now → HasUnread t.raws start now
+unread_more size settings base made start reader after files now held held_now a b k t fails =
     let was : reader.ended ≡ false = still_going reader.ended after.ended (λ e. (fails.moves.stopped e).1) fails.going_on in
     record {
       taken = t.taken ++ fails.more;
@@ -154,26 +224,31 @@ unread_more settings base made start outs mid reader after files now k t fails =
       told = told_more (unread start) files now t.taken fails.more reader.ended after.ended fails.moves t.told;
     }
 
--- no page more is traced
-pub no_more : (settings : Settings) (base : List ℕ) (made : List (List ℕ)) (start : Option Files) (outs mid now : Option Documents) (reader after : Reader) (files files_now : Option Files) (k : ℕ) (end : PagesEnd)
-    → IsTraced settings base made (unread start) outs reader files mid k
-    → EndsBy settings (next_name base (made_with base k made)) (reader_is_later reader) (ahead reader files) mid now end
-    → (end ≡ why.Unread → ReadFails reader files after files_now)
-    → k + length made ≤ most_pages → (end ≡ why.TooMany → most_pages ≤ k + length made) → (status_of end ≡ status.Unwritten → k + length made < most_pages)
-    → Traces settings base made start files_now outs now k end
-no_more settings base made start outs mid now reader after files files_now k end t ends fails few full not_full =
-    let name = next_name base (made_with base k made) in
-    record {
-      raws = t.raws;
-      texts = t.texts;
-      count = t.count;
-      few = few;
-      traced = t.traced;
-      rest = ahead reader files;
-      begins = t.begins;
-      ends = subst (λ o. EndsBy settings name (is_later false t.raws) (ahead reader files) o now end) t.documents
-          (subst (λ l. EndsBy settings name l (ahead reader files) mid now end) (later_is reader t.raws k t.counted t.count) ends);
-      full = full;
-      not_full = not_full;
-      unread = λ e. unread_more settings base made start outs mid reader after files files_now k t (fails e);
-    }
+-- no page more is read
+pub no_more : (size : ℕ) (settings : Settings) (base : List ℕ) (made : List (List ℕ)) (start : Option Files) (reader after : Reader) (files files_now : Option Files) (held held_now : List Held) (a b : Sinks) (k : ℕ) (end : PagesEnd)
+    → IsTraced size settings base made (unread start) reader files held held_now a b k
+    → EndsBy (reader_is_later reader) (ahead reader files) end → (end ≡ why.Unread → ReadFails reader files after files_now)
+    → k + length made ≤ most_pages → (end ≡ why.TooMany → most_pages ≤ k + length made)
+    → Traces size settings base made start files_now held held_now a b k end
+no_more size settings base made start reader after files files_now held held_now a b k end t ends fails few full = record {
+  raws = t.raws;
+  texts = t.texts;
+  count = t.count;
+  few = few;
+  traced = t.traced;
+  rest = ahead reader files;
+  begins = t.begins;
+  ends = subst (λ l. EndsBy l (ahead reader files) end) (later_is reader t.raws k t.counted t.count) ends;
+  full = full;
+  unread = λ e. unread_more size settings base made start reader after files files_now held held_now a b k t (fails e);
+  holds = t.holds;
+}
+
+-- what ends the reading of a page ends that of the pages, and it isn't one too many
+pub ends_by : (later : Bool) (rest : Option (List ℕ)) (end : PagesEnd) → EndsReading later rest end → EndsBy later rest end × (end ≢ why.TooMany)
+ends_by later rest why.End ends = (ends, λ e. cc)
+ends_by later rest why.Trailing ends = (ends, λ e. cc)
+ends_by later rest (why.Refused fault) ends = (ends, λ e. cc)
+ends_by later rest why.Unread ends = (ends, λ e. cc)
+ends_by later rest why.OutOfMemory ends = (ends, λ e. cc)
+ends_by later rest why.TooMany ends = absurd ends

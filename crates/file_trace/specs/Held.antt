@@ -1,9 +1,9 @@
 -- What was read and isn't carried out yet.
-use Rattle.std.specs.Prelude.{◌≡◌, ℕ, suc, ◌+◌, List, [], ◌∷◌, ◌++◌}
+use Rattle.std.specs.Prelude.{◌≡◌, ℕ, suc, ◌*◌, List, [], ◌∷◌, ◌++◌}
 use Rattle.bit_image.specs.Page.{Page as Pixels}
 use Rattle.pt_base.specs.declared.settings.Settings.{Settings}
 use Rattle.page_trace.specs.Document.{IsDocument}
-use Rattle.file_trace.specs.Items.{Item}
+use Rattle.file_trace.specs.Items.{Item, doc_count}
 use Rattle.file_trace.specs.Items.Item.{Doc, Note}
 use Rattle.file_trace.specs.Outcome.{AreCarriedOut, Sinks}
 
@@ -26,10 +26,13 @@ AreHeld settings (Page name page ∷ held) items =
     (text : List ℕ) × (rest : List Item) × IsDocument page settings text × (items ≡ Doc name text ∷ rest) × AreHeld settings held rest
 AreHeld settings (Message message ∷ held) items = (rest : List Item) × (items ≡ Note message ∷ rest) × AreHeld settings held rest
 
--- of the items that were read the first are carried out, and the others are held
-pub record Holds (settings : Settings) (read : List Item) (held : List Held) (old new : Sinks) : Type 0 where
+-- of the items that were read the first are carried out, in whole batches of so many documents, and the others
+-- are held
+pub record Holds (size : ℕ) (settings : Settings) (read : List Item) (held : List Held) (old new : Sinks) : Type 0 where
   pub done : List Item
   pub left : List Item
   pub split : read ≡ done ++ left
+  pub batches : ℕ
+  pub whole : doc_count done ≡ batches * size
   pub carried : AreCarriedOut done [] old new
   pub are_held : AreHeld settings held left

@@ -74,3 +74,11 @@ AreItems contents settings output Follow (name ∷ names) made items =
     (IsAbsent contents name × (items ≡ Missing name ∷ []))
     ⊎ ((raws : List Raw) × (ending : Ending) × HoldsPages contents name raws ending
     × ArePageItems settings name (base_name output settings.backend name) ending (AreItems contents settings output Follow names) raws 0 made items)
+
+-- how many of the items are documents
+abbrev pub doc_count : List Item → ℕ
+doc_count [] = 0
+doc_count (Doc name text ∷ items) = suc (doc_count items)
+doc_count (Note message ∷ items) = doc_count items
+doc_count (Stop message ∷ items) = doc_count items
+doc_count (Missing name ∷ items) = doc_count items

@@ -37,6 +37,7 @@ pub mod Offered
 --   AreEndItems: what follows the documents of a file that ends like this
 --   ArePageItems: the items of the pages of a file, and what follows them
 --   AreItems: the items of files in order, and what follows them
+--   doc_count: how many of the items are documents
 pub mod Items
 -- The documents that were made, file by file.
 --   made_by: the base names of the documents of these files
@@ -60,15 +61,33 @@ pub mod Status
 --   HasEnded: the items are carried out as far as the status says
 --   OpensUpTo: the file of this name is the last one that was asked for
 --   IsUnopened: a file can't be opened
+--   BeginsWith: the first pages of the bytes are these, and `rest` is what follows them
 --   BeginsSettled: the first pages of the bytes are these, none of them by the end of the bytes
 --   is_later: a page came before, or one of these did
 --   StopsReading: a read failed behind these pages
 --   HoldsBytes: the bytes of a file are those that were taken and those still unread
 --   IsUnread: a read failed
+--   IsOutcomeBehind: what was done of first items, and of those of files
 --   IsOutcome: what was done of the items of files
 pub mod Outcome
+-- What was read and isn't carried out yet.
+--   Held: one thing that is held
+--   pages_held: how many pages are held
+--   AreHeld: these are the items of what is held
+--   Holds: of the items that were read the first are carried out, and the others are held
+pub mod Held
+-- How far a run has read where a document couldn't be written.
+--   batch_end: how many pages there are up to the end of the batch of a document
+--   ReadsTo: so many pages were read, and at most 65,536 bytes behind them
+--   IfReadsTo: the same, where it is told what the files hold
+--   IsOnePass: no more was read than the batch of the document that couldn't be written
+pub mod OnePass
+-- The entries of a batch, and the pages that they speak of.
+--   pages_among: how many pages these entries speak of
+--   held_by: what these entries hold, where these are their pages
+--   items_by: the items of these entries, where these are the texts of their pages
+pub mod Entries
 -- How far the tracing of a file has come.
---   BeginsWith: the first pages of the bytes are these, and `rest` is what follows them
 --   AreTraced: these are the texts of these pages, in order
 --   docs: the items of the documents of these texts
 --   ahead: the bytes that the reader has still to read pages from, where they are told
@@ -76,16 +95,19 @@ pub mod Outcome
 --   Settles: this page stands there, not by the end of the bytes
 --   ReadsPage: the next page of what is ahead was read
 --   EndsReading: no page was read for this reason
---   EndsWriting: the page wasn't written for this reason
---   TracesPage: the next page was traced, and its document written
---   EndsBy: no further page was traced for this reason
---   end_of_fault: why no further page is traced, where the reader tells of a fault
+--   EndsBy: no further page was read for this reason
+--   end_of_fault: why no further page is read, where the reader tells of a fault
 --   status_of: the status with which a run ends where the pages of a file end so
 --   InputCount: how the inputs' count of faults moved
 --   OutputCount: how the outputs moved
 --   HasUnread: a read failed behind these pages
---   Traces: k pages were traced, and then the tracing ended so
---   SaysEnd: what is said where the pages of a file end so
+--   Traces: k pages were read, and then the reading ended so
+--   IsInPart: a document couldn't be written, and the items behind whole batches fill no batch
+--   IsInBatch: a document of the last batch couldn't be written
+--   Halts: some pages were read, and then what was held couldn't be carried out
+--   end_notes: the note of a file whose pages end so
+--   end_message: what is said where the run ends with the pages of a file
+--   EndsWithFile: the run ends with the pages of a file
 --   EndsWith: nothing follows, and these are the base names of the documents so far
---   TracesFile: the items of a file are carried out
+--   TracesFile: the items of a file are carried out or held
 pub mod Progress

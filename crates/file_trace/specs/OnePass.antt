@@ -1,53 +1,35 @@
 -- How far a run has read where a document couldn't be written: to the end of that document's batch.
-use Rattle.std.specs.Prelude.{◌≡◌, ℕ, suc, ◌+◌, ◌*◌, ◌/◌, ◌≤◌, Bool, true, false, List, [], ◌∷◌, ◌++◌, length, drop, Option, None, Some, IfSome}
+use Rattle.std.specs.Prelude.{◌≡◌, ◌≢◌, ℕ, ◌+◌, ◌*◌, ◌/◌, ◌<◌, ◌≤◌, false, List, [], ◌++◌, length, Option, None, Some, IfSome}
 use Rattle.std.specs.FinMap.{get}
 use Rattle.pt_base.specs.Counts.{Rose}
-use Rattle.pt_base.specs.Files.{Contents, Files}
+use Rattle.pt_base.specs.Files.{Contents}
 use Rattle.pt_base.specs.declared.settings.Settings.{Settings}
 use Rattle.bitmap_input.specs.Cut.Ending.{End}
-use Rattle.bitmap_input.specs.Front.{front}
-use Rattle.bitmap_input.specs.Front.Answer.{Page}
-use Rattle.bitmap_input.specs.FilePages.{next_begins}
 use Rattle.bitmap_input.specs.Raw.{Raw}
-use Rattle.file_trace.specs.Items.{AreItems, ArePageItems, Item, Nothing}
-use Rattle.file_trace.specs.Items.Item.{Doc, Missing, Note, Stop}
+use Rattle.file_trace.specs.Items.{AreItems, ArePageItems, Item, Nothing, doc_count}
 use Rattle.file_trace.specs.Names.{base_name}
-use Rattle.file_trace.specs.Outcome.{IsUnwritten, OpensUpTo, Sinks, Source}
-
--- how many of the items are documents
-abbrev pub doc_count : List Item → ℕ
-doc_count [] = 0
-doc_count (Doc name text ∷ items) = suc (doc_count items)
-doc_count (Note message ∷ items) = doc_count items
-doc_count (Stop message ∷ items) = doc_count items
-doc_count (Missing name ∷ items) = doc_count items
+use Rattle.file_trace.specs.Outcome.{BeginsWith, IsUnwritten, OpensUpTo, Sinks, Source}
 
 -- in batches of so many pages, how many pages there are up to the end of the batch behind k whole documents
 abbrev pub batch_end : ℕ → ℕ → ℕ
 batch_end size k = (k / size + 1) * size
 
--- these pages stand at the front of the bytes, there is one at least, and `behind` are the bytes behind the last
-abbrev pub EndsAt : Bool → List ℕ → List Raw → List ℕ → Type 0
-EndsAt later bytes [] behind = ⊥
-EndsAt later bytes (raw ∷ []) behind = (used : ℕ) × (front later bytes ≡ Page raw used) × (behind ≡ drop used bytes)
-EndsAt later bytes (raw ∷ next ∷ raws) behind =
-    (used : ℕ) × (front later bytes ≡ Page raw used) × EndsAt true (drop (next_begins bytes raw used) bytes) (next ∷ raws) behind
-
 -- of the files of these names so many pages were read, behind these first items: the last one stands in the opened
--- file, and of that file at most 65,536 bytes behind it were taken
+-- file, and of that file at most 65,536 bytes behind what it takes or claims were taken
 pub record ReadsTo (pages : ℕ) (first : List Item) (contents : Contents) (settings : Settings) (output : Option (List ℕ)) (names made : List (List ℕ)) (source source_now : Source) : Type 0 where
   pub name : List ℕ
   pub front : List (List ℕ)
   pub bytes : List ℕ
   pub raws : List Raw
-  pub behind : List ℕ
+  pub left : List ℕ
   pub rest : List ℕ
   pub before : List Item
   pub reached : OpensUpTo names name front source.openings source_now.openings
   pub held : get contents name ≡ Some bytes
-  pub ends : EndsAt false bytes raws behind
+  pub some : raws ≢ []
+  pub begins : BeginsWith false bytes raws left
   pub opened : IfSome source_now.files (λ files. files.opened ≡ Some (record { name = name; rest = rest }))
-  pub near : length behind ≤ length rest + 65536
+  pub near : length left ≤ length rest + 65536
   pub items : AreItems (Some contents) settings output
       (λ made items. ArePageItems settings name (base_name output settings.backend name) End Nothing raws 0 made items) front made before
   pub count : doc_count (first ++ before) ≡ pages
@@ -56,8 +38,8 @@ abbrev pub IfReadsTo : ℕ → List Item → Option Contents → Settings → Op
 IfReadsTo pages first None settings output names made source source_now = Unit {0}
 IfReadsTo pages first (Some contents) settings output names made source source_now = ReadsTo pages first contents settings output names made source source_now
 
--- Behind these first items, a document couldn't be written: where no input failed and there are as many documents
--- as fill that document's batch, no more was read than that.
+-- behind these first items, a document couldn't be written: where no input failed, and there are as many documents
+-- as fill that document's batch, no more was read than the batch
 pub record IsOnePass (size : ℕ) (first : List Item) (contents : Option Contents) (settings : Settings) (output : Option (List ℕ)) (names made : List (List ℕ)) (source source_now : Source) (old new : Sinks) : Type 0 where
   pub items : List Item
   pub are : AreItems contents settings output Nothing names made items

@@ -135,6 +135,12 @@ pub record IsUnopened (first : List Item) (contents : Option Contents) (settings
   pub items : AreItems contents settings output Nothing front made before
   pub done : AreCarriedOut (first ++ before) (not_opened name ∷ []) old new
 
+-- the first pages of the bytes are these, and `rest` is what follows them
+abbrev pub BeginsWith : Bool → List ℕ → List Raw → List ℕ → Type 0
+BeginsWith later bytes [] rest = bytes ≡ rest
+BeginsWith later bytes (raw ∷ raws) rest =
+    (used : ℕ) × (front later bytes ≡ Page raw used) × BeginsWith true (drop (next_begins bytes raw used) bytes) raws rest
+
 -- the first pages of the bytes are these, none of them is by the end of the bytes, and `rest` is what follows them
 abbrev pub BeginsSettled : Bool → List ℕ → List Raw → List ℕ → Type 0
 BeginsSettled later bytes [] rest = bytes ≡ rest

@@ -1,9 +1,8 @@
 -- How far the tracing of a file has come: its first pages are traced.
-use Rattle.std.specs.Prelude.{◌≡◌, ℕ, ◌+◌, ◌<◌, ◌≤◌, Bool, true, false, List, [], ◌∷◌, ◌++◌, length, drop, Option, None, Some, IfSome, option_map, string_bytes}
+use Rattle.std.specs.Prelude.{◌≡◌, ◌≢◌, ◌⊎◌, ℕ, ◌+◌, ◌*◌, ◌<◌, ◌≤◌, Bool, true, false, List, [], ◌∷◌, ◌++◌, length, drop, Option, None, Some, IfSome, option_map}
 use Rattle.pt_base.specs.Counts.{Rose}
 use Rattle.pt_base.specs.Files.{Contents, Files, unread}
 use Rattle.bit_image.specs.Page.{Page as Pixels}
-
 use Rattle.bitmap_input.specs.declared.fault.InFault.{InFault}
 use Rattle.bitmap_input.specs.declared.fault.InFault.TheVariants as fault
 use Rattle.bitmap_input.specs.Cut.{Kind, is_by_end}
@@ -19,21 +18,15 @@ use Rattle.bitmap_input.specs.Reader.{Reader, ahead as reader_ahead, is_later as
 use Rattle.file_trace.specs.Messages.{not_written, out_of_memory, page_line, read_fault, trailing_line}
 use Rattle.file_trace.specs.Names.{made_with, next_name}
 use Rattle.page_trace.specs.Document.{IsDocument}
-use Rattle.file_trace.specs.Items.{AreItems, Item, Rest, most_pages, too_many}
+use Rattle.file_trace.specs.Items.{AreItems, Item, Rest, doc_count, most_pages, too_many}
 use Rattle.file_trace.specs.Items.Item.{Doc, Note}
 use Rattle.file_trace.specs.Held.{AreHeld, Held, Holds}
-use Rattle.file_trace.specs.Outcome.{AreCarriedOut, HasEnded, Sinks, StopsReading, is_later}
+use Rattle.file_trace.specs.Outcome.{AreCarriedOut, BeginsWith, HasEnded, IsUnwritten, Sinks, StopsReading, is_later}
 use Rattle.pt_base.specs.declared.settings.Settings.{Settings}
 use Rattle.file_trace.specs.declared.status.Status.{Status}
 use Rattle.file_trace.specs.declared.status.Status.TheVariants as status
 use Rattle.file_trace.specs.declared.pages.PagesEnd.{PagesEnd}
 use Rattle.file_trace.specs.declared.pages.PagesEnd.TheVariants as why
-
--- the first pages of the bytes are these, and `rest` is what follows them
-abbrev pub BeginsWith : Bool → List ℕ → List Raw → List ℕ → Type 0
-BeginsWith later bytes [] rest = bytes ≡ rest
-BeginsWith later bytes (raw ∷ raws) rest =
-    (used : ℕ) × (front later bytes ≡ Page raw used) × BeginsWith true (drop (next_begins bytes raw used) bytes) raws rest
 
 -- these are the texts of these pages, in order
 abbrev pub AreTraced : Settings → List Raw → List (List ℕ) → Type 0
@@ -97,7 +90,7 @@ EndsBy later rest (why.Refused fault) = EndsReading later rest (why.Refused faul
 EndsBy later rest why.Unread = EndsReading later rest why.Unread
 EndsBy later rest why.OutOfMemory = EndsReading later rest why.OutOfMemory
 
--- why no further page is traced, where the reader tells of a fault
+-- why no further page is read, where the reader tells of a fault
 abbrev pub end_of_fault : InFault → PagesEnd
 end_of_fault fault.ReadFault = why.Unread
 end_of_fault fault.NoMemory = why.OutOfMemory
@@ -148,7 +141,7 @@ pub record HasUnread (raws : List Raw) (before now : Option Files) : Type 0 wher
 
 -- k pages were read, after documents with these base names, and then the reading ended so; of what was held
 -- before and the documents of these pages, the first are carried out, and the others are held
-pub record Traces (settings : Settings) (base : List ℕ) (made : List (List ℕ)) (before now : Option Files) (held held_now : List Held) (old new : Sinks) (k : ℕ) (end : PagesEnd) : Type 0 where
+pub record Traces (size : ℕ) (settings : Settings) (base : List ℕ) (made : List (List ℕ)) (before now : Option Files) (held held_now : List Held) (old new : Sinks) (k : ℕ) (end : PagesEnd) : Type 0 where
   pub raws : List Raw
   pub texts : List (List ℕ)
   pub count : k ≡ length raws
@@ -159,17 +152,35 @@ pub record Traces (settings : Settings) (base : List ℕ) (made : List (List ℕ
   pub ends : EndsBy (is_later false raws) rest end
   pub full : end ≡ why.TooMany → most_pages ≤ k + length made
   pub unread : end ≡ why.Unread → HasUnread raws before now
-  pub holds : (first : List Item) → AreHeld settings held first → Holds settings (first ++ docs base made texts) held_now old new
+  pub holds : (first : List Item) → AreHeld settings held first → Holds size settings (first ++ docs base made texts) held_now old new
+
+-- a document couldn't be written: behind whole batches, and the items hold one batch more at most
+pub record IsInPart (size : ℕ) (items : List Item) (old new : Sinks) : Type 0 where
+  pub unwritten : IsUnwritten items old new
+  pub batches : ℕ
+  pub behind : batches * size ≤ doc_count unwritten.before
+  pub most : doc_count items < batches * size + size
+
+-- a document of the last batch couldn't be written: the items are whole batches
+pub record IsInBatch (size : ℕ) (items : List Item) (old new : Sinks) : Type 0 where
+  pub unwritten : IsUnwritten items old new
+  pub batches : ℕ
+  pub behind : batches * size ≤ doc_count unwritten.before
+  pub full : doc_count items ≡ batches * size + size
 
 -- some pages were read, after documents with these base names; what was held before and the documents of these
--- pages were carried out as far as the status says
-pub record Halts (status : Status) (settings : Settings) (base : List ℕ) (made : List (List ℕ)) (before : Option Files) (held : List Held) (old new : Sinks) : Type 0 where
+-- pages were carried out as far as the status says. Where one of them couldn't be written it is one of a batch that
+-- ends with them, and at most 65,536 bytes behind them were taken.
+pub record Halts (s : Status) (size : ℕ) (settings : Settings) (base : List ℕ) (made : List (List ℕ)) (before now : Option Files) (held : List Held) (old new : Sinks) : Type 0 where
   pub raws : List Raw
   pub texts : List (List ℕ)
   pub few : length raws + length made ≤ most_pages
   pub traced : AreTraced settings raws texts
   pub begins : IfSome (unread before) (λ all. (left : List ℕ) × BeginsWith false all raws left)
-  pub ended : (first : List Item) → AreHeld settings held first → HasEnded status (first ++ docs base made texts) old new
+  pub ended : (first : List Item) → AreHeld settings held first → HasEnded s (first ++ docs base made texts) old new
+  pub some : raws ≢ []
+  pub in_batch : s ≡ status.Unwritten → (first : List Item) → AreHeld settings held first → IsInBatch size (first ++ docs base made texts) old new
+  pub near : IfSome (unread before) (λ all. (left : List ℕ) × (rest : List ℕ) × BeginsWith false all raws left × (unread now ≡ Some rest) × (length left ≤ length rest + 65536))
 
 -- the note of a file of this name whose k pages end so
 abbrev pub end_notes : List ℕ → PagesEnd → ℕ → List Item
@@ -202,7 +213,7 @@ EndsWith made made_now items = (made_now ≡ made) × (items ≡ [])
 
 -- these are the items of the file of this name, and the run goes on behind them; of what was held before and
 -- them the first are carried out, and the others are held
-pub record TracesFile (contents : Option Contents) (settings : Settings) (output : Option (List ℕ)) (name : List ℕ) (made made_now : List (List ℕ)) (held held_now : List Held) (old new : Sinks) : Type 0 where
+pub record TracesFile (size : ℕ) (contents : Option Contents) (settings : Settings) (output : Option (List ℕ)) (name : List ℕ) (made made_now : List (List ℕ)) (held held_now : List Held) (old new : Sinks) : Type 0 where
   pub items : List Item
   pub are : AreItems contents settings output (EndsWith made_now) (name ∷ []) made items
-  pub holds : (first : List Item) → AreHeld settings held first → Holds settings (first ++ items) held_now old new
+  pub holds : (first : List Item) → AreHeld settings held first → Holds size settings (first ++ items) held_now old new

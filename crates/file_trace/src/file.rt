@@ -1,11 +1,15 @@
 //! A whole file: opened, its pages read and traced by batches, and how it ended said.
-ghost use Rattle.std.specs.Prelude.{◌≡◌, ◌≢◌, ◌+◌, ◌*◌, ◌++◌, ◌<◌, ◌≤◌, ◌∷◌, List, ℕ, false, true, option_map, IfErr, OnOk, IfSome, length};
+ghost use Rattle.std.specs.Prelude.{◌≡◌, ◌≢◌, ◌+◌, ◌*◌, ◌++◌, ◌<◌, ◌≤◌, ◌∷◌, ◌⊎◌, List, ℕ, [], false, true, option_map, IfErr, OnErr, OnOk, IfSome};
 ghost use Rattle.pt_base.specs.Counts.{next_count};
+ghost use Rattle.pt_base.specs.Documents.{IsSaid};
 ghost use Rattle.page_trace.specs.Document.{CanWrite};
 ghost use Rattle.file_trace.specs.Held.{AreHeld, Holds, pages_held};
+ghost use Rattle.file_trace.specs.Held.Held.{Message};
 ghost use Rattle.file_trace.specs.Items.{Item, told_contents, most_pages};
+ghost use Rattle.file_trace.specs.Messages.{out_of_memory, trailing_line};
 ghost use Rattle.file_trace.specs.Names.{base_name};
 ghost use Rattle.file_trace.specs.Offered.{IsOffered};
+ghost use Rattle.file_trace.specs.OnePass.{IsOnePass};
 ghost use Rattle.file_trace.specs.Outcome.{IsOutcomeBehind};
 ghost use Rattle.file_trace.specs.Progress.{EndsWithFile, InputCount, OutputCount, TracesFile, end_notes, opened_name, status_of};
 ghost use Rattle.file_trace.specs.declared.status.Status.{Status};
@@ -50,7 +54,7 @@ pub fn trace_file<R: Threads + Sync, I: Inputs, O: Outputs, E: Sink, G: Gate + S
 
     // The file's items are carried out or held, and its documents are counted.
     ensures traced { OnOk result
-        (TracesFile (told_contents (I.files inputs.old)) settings (option_map (λ s. s.now) output.entry) name.now
+        (TracesFile (2 * workers) (told_contents (I.files inputs.old)) settings (option_map (λ s. s.now) output.entry) name.now
         made.old made.new batch.old batch.new
         (record {
           outs = O.documents outs.old;
@@ -70,6 +74,38 @@ pub fn trace_file<R: Threads + Sync, I: Inputs, O: Outputs, E: Sink, G: Gate + S
     // Whatever files come behind this one, the run ends so, behind the items of what was held.
     ensures ends { IfErr result (λ status. (names : List (List ℕ)) → (first : List Item) → AreHeld settings batch.old first
         → IsOutcomeBehind status first (told_contents (I.files inputs.old)) settings
+        (option_map (λ s. s.now) output.entry) (name.now ∷ names) made.old
+        (record {
+          files = I.files inputs.old;
+          is_opened = I.is_opened inputs.old;
+          openings = I.openings inputs.old;
+          faults = I.faults inputs.old;
+        })
+        (record {
+          files = I.files inputs.new;
+          is_opened = I.is_opened inputs.new;
+          openings = I.openings inputs.new;
+          faults = I.faults inputs.new;
+        })
+        (record {
+          outs = O.documents outs.old;
+          outs_faults = O.faults outs.old;
+          is_open = O.is_ready outs.old;
+          errs = E.documents errs.old;
+          errs_faults = E.faults errs.old;
+        })
+        (record {
+          outs = O.documents outs.new;
+          outs_faults = O.faults outs.new;
+          is_open = O.is_ready outs.new;
+          errs = E.documents errs.new;
+          errs_faults = E.faults errs.new;
+        })) }
+
+    // Where a document couldn't be written no more was read than its batch.
+    ensures one_pass { IfErr result (λ status. status ≡ Status.Unwritten → (names : List (List ℕ))
+        → (first : List Item) → AreHeld settings batch.old first
+        → IsOnePass (2 * workers) first (told_contents (I.files inputs.old)) settings
         (option_map (λ s. s.now) output.entry) (name.now ∷ names) made.old
         (record {
           files = I.files inputs.old;
@@ -136,7 +172,9 @@ pub fn trace_file<R: Threads + Sync, I: Inputs, O: Outputs, E: Sink, G: Gate + S
         Err(status) => return Err(status),
     };
     let pages = traced.pages;
-    match finish(rt, alloc, settings, workers, name, traced, batch, outs, errs, gate) {
+    match finish(
+        rt, alloc, settings, workers, name, traced, batch, outs, errs, gate,
+    ) {
         Ok(()) => {}
         Err(status) => return Err(status),
     }
@@ -172,7 +210,7 @@ fn finish<R: Threads + Sync, O: Outputs, E: Sink, G: Gate + Sync>(
     requires ready { E.is_ready errs.old ≡ true }
     ensures goes_on { OnOk result (status_of traced.end ≡ Status.Done) }
     ensures held { OnOk result ((first : List Item) → AreHeld settings batch.old first
-        → Holds settings (first ++ end_notes name.now traced.end traced.pages) batch.new
+        → Holds (2 * workers) settings (first ++ end_notes name.now traced.end traced.pages) batch.new
         (record {
           outs = O.documents outs.old;
           outs_faults = O.faults outs.old;
@@ -203,6 +241,10 @@ fn finish<R: Threads + Sync, O: Outputs, E: Sink, G: Gate + Sync>(
           errs = E.documents errs.new;
           errs_faults = E.faults errs.new;
         })) }
+    ensures status { IfErr result (λ status. (status ≡ status_of traced.end)
+        ⊎ ((status ≡ Status.Unwritten) ⊎ (status ≡ Status.OutOfMemory))) }
+    ensures unwritten { IfErr result (λ status. status ≡ Status.Unwritten
+        → (status_of traced.end ≡ Status.Refused) ⊎ (status_of traced.end ≡ Status.Unread)) }
     ensures still_not_full { OnOk result (pages_held batch.new < 2 * workers) }
     ensures output { IfErr result
         (λ status. OutputCount status (O.faults outs.old) (O.faults outs.new) (O.is_ready outs.new)) }
@@ -241,6 +283,12 @@ fn hold_trailing<E: Sink>(
     errs: &mut E,
 ) -> Result<(), Status>
     requires ready { E.is_ready errs.old ≡ true }
+    ensures held { OnOk result ((errs.new ≡ errs.old)
+        × (batch.new ≡ batch.old ++ Message (trailing_line name.now pages) ∷ [])) }
+    ensures ends { IfErr result (λ status. (status ≡ Status.OutOfMemory)
+        × IsSaid (E.documents errs.old) (E.documents errs.new) (E.faults errs.old)
+        (E.faults errs.new) out_of_memory) }
+    ensures never_falls { E.faults errs.old ≤ E.faults errs.new }
     ensures stays_ready { E.is_ready errs.new ≡ true }
 {
     let Ok(name) = String::from_str(alloc, name) else {

@@ -1,5 +1,5 @@
 use Rattle.std.proofs.Common.{Err, ap}
-use Rattle.file_trace.proofs.Reading.{fault_contents, fault_ends, fault_name, reads_page, same_contents, same_name}
+use Rattle.file_trace.proofs.Reading.{fault_contents, fault_ends, fault_name, given_page, reads_page, same_contents, same_name}
 use Rattle.file_trace.proofs.pages.read_next.Goals as goal
 
 pub returns-in-Ok-Page-clause-reads : goal.returns-in-Ok-Page-clause-reads
@@ -7,6 +7,11 @@ returns-in-Ok-Page-clause-reads g c =
     let gives = rw (c.in-Ok-Page.field-0-is, c.from_micro-level.ensures) at c.in-Ok-Page.ensures.page in
     let tells = rw (c.in-Ok-Page.field-0-is, c.from_micro-level.ensures) at c.in-Ok-Page.ensures.told_page in
     reads_page c.args.settings _ _ _ _ _ gives tells
+
+pub returns-in-Ok-Page-clause-page : goal.returns-in-Ok-Page-clause-page
+returns-in-Ok-Page-clause-page g c =
+    let gives = rw (c.in-Ok-Page.field-0-is, c.from_micro-level.ensures) at c.in-Ok-Page.ensures.page in
+    given_page c.args.settings _ _ _ _ _ gives
 
 pub returns-in-Err-clause-ends : goal.returns-in-Err-clause-ends
 returns-in-Err-clause-ends g c = rw c.end_of.ensures (fault_ends c.in-Err.fault _ _ _ c.in-Err.ensures.told_ending)

@@ -1,22 +1,41 @@
-use Rattle.std.proofs.Common.{◌≡◌, ◌≤◌, ◌-◌, false, true}
+use Rattle.std.proofs.Common.{◌≡◌, ◌≤◌, ◌<◌, ◌*◌, ◌-◌, false, true}
 use Rattle.pt_base.specs.Files.{unread}
 use Rattle.bitmap_input.specs.Reading.{AtEnd}
+use Rattle.file_trace.specs.Held.{pages_held}
 use Rattle.file_trace.specs.Items.{told_contents}
+use Rattle.file_trace.specs.Outcome.{Sinks}
 use Rattle.file_trace.specs.Progress.{opened_name}
 use Rattle.file_trace.proofs.Tracing.{IsTraced}
 use Rattle.file_trace.proofs.pages.trace_pages.Given as goal
 
--- the first pages are traced, and their documents written
+-- the first pages are read, and what was held and their documents are carried out or held
 abbrev pub invariant-loop-pages : goal.invariant-loop-pages
 invariant-loop-pages g l =
     let inputs = g.I.Inputs in
     let outs = g.O.Sink in
+    let errs = g.E.Sink in
+    let old : Sinks = record {
+      outs = outs.documents l.fn.outs;
+      outs_faults = outs.faults l.fn.outs;
+      is_open = outs.is_ready l.fn.outs;
+      errs = errs.documents l.fn.errs;
+      errs_faults = errs.faults l.fn.errs;
+    } in
+    let now : Sinks = record {
+      outs = outs.documents l.outs;
+      outs_faults = outs.faults l.outs;
+      is_open = outs.is_ready l.outs;
+      errs = errs.documents l.errs;
+      errs_faults = errs.faults l.errs;
+    } in
     record {
       most : l.pages ≤ l.room;
-      traced : IsTraced l.settings l.base l.made (unread (inputs.files l.fn.inputs)) (outs.documents l.fn.outs) l.reader (inputs.files l.inputs) (outs.documents l.outs) l.pages;
+      traced : IsTraced (2 * l.workers) l.settings l.base l.made (unread (inputs.files l.fn.inputs)) l.reader (inputs.files l.inputs) l.fn.batch l.batch old now l.pages;
+      not_full : pages_held l.batch < 2 * l.workers;
       at_end : l.reader.ended ≡ true → AtEnd (inputs.files l.inputs);
       opened : inputs.is_opened l.inputs ≡ true;
       closed : outs.is_ready l.outs ≡ false;
+      ready : errs.is_ready l.errs ≡ true;
       openings : inputs.openings l.inputs ≡ inputs.openings l.fn.inputs;
       name : opened_name (inputs.files l.inputs) ≡ opened_name (inputs.files l.fn.inputs);
       contents : told_contents (inputs.files l.inputs) ≡ told_contents (inputs.files l.fn.inputs);
