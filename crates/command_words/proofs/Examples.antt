@@ -20,6 +20,8 @@ nothing = record {
   blacklevel = None;
   invert = false;
   flat = false;
+  workers = None;
+  demo = None;
   version = false;
   files = [];
 }
@@ -38,10 +40,21 @@ help_for_a_value : parsed (codes "-t" ∷ codes "-h" ∷ []) ≡ Refused
 unfolding clap_on_literals
 help_for_a_value = refl
 
--- `--workers 2`: there is no such option
-unknown_option : parsed (codes "--workers" ∷ codes "2" ∷ []) ≡ Refused
+-- `--worker 2`: the name of an option isn't shortened
+shortened_option : parsed (codes "--worker" ∷ codes "2" ∷ []) ≡ Refused
 unfolding clap_on_literals
-unknown_option = refl
+shortened_option = refl
+
+-- `--workers=7 --demo 3`: values are texts
+workers_and_demo :
+    parsed (codes "--workers=7" ∷ codes "--demo" ∷ codes "3" ∷ []) ≡ Gives (record nothing { workers = Some (codes "7"); demo = Some (codes "3") })
+unfolding clap_on_literals
+workers_and_demo = refl
+
+-- `--demo 3 -h`: help is met behind a value
+help_behind_a_value : parsed (codes "--demo" ∷ codes "3" ∷ codes "-h" ∷ []) ≡ Help
+unfolding clap_on_literals
+help_behind_a_value = refl
 
 -- `a -n -t=5 -`: files stand between options, and `-` is one
 files_between_options :

@@ -11,6 +11,10 @@ use Rattle.clap.specs.declared.builder.action.ArgAction.TheVariants.{Set, SetTru
 abbrev pub option : ℕ → List ℕ → Rule
 option short name = record (new_rule name) { short = Some short; long = Some name; action = Some Set }
 
+-- an option with a value and without a short name: `--name VALUE`
+abbrev pub long_option : List ℕ → Rule
+long_option name = record (new_rule name) { long = Some name; action = Some Set }
+
 -- an option without one: `-s` or `--name`
 abbrev pub flag : ℕ → List ℕ → Rule
 flag short name = record (new_rule name) { short = Some short; long = Some name; action = Some SetTrue }
@@ -39,9 +43,9 @@ page_options =
     option 117 (codes "unit") ∷ option 107 (codes "blacklevel") ∷ flag 105 (codes "invert") ∷ flag 99 (codes "cleartext")
     ∷ long_flag (codes "flat") ∷ []
 
--- what the program is to do, and with which files: -v and the files
+-- what the program is to do, by how many workers, and with which files: --workers, --demo, -v and the files
 abbrev pub run_options : List Rule
-run_options = flag 118 (codes "version") ∷ operands (codes "file") ∷ []
+run_options = long_option (codes "workers") ∷ long_option (codes "demo") ∷ flag 118 (codes "version") ∷ operands (codes "file") ∷ []
 
 -- a command with more options
 abbrev pub with_rules : App → List Rule → App

@@ -19,6 +19,8 @@ pub record Given : Type 0 where
   pub blacklevel : Option (List ℕ)
   pub invert : Bool
   pub flat : Bool
+  pub workers : Option (List ℕ)
+  pub demo : Option (List ℕ)
   pub version : Bool
   pub files : List (List ℕ)
 
@@ -42,6 +44,8 @@ given_of rows = record {
   blacklevel = first_of (codes "blacklevel") rows;
   invert = is_set (codes "invert") rows;
   flat = is_set (codes "flat") rows;
+  workers = first_of (codes "workers") rows;
+  demo = first_of (codes "demo") rows;
   version = is_set (codes "version") rows;
   files = unwrap_or (all_of (codes "file") rows) [];
 }

@@ -1,12 +1,13 @@
 -- The command as `clap` reads it.
 --   option: an option with a value
+--   long_option: an option with a value and without a short name
 --   flag: an option without one
 --   long_flag: an option without a value and without a short name
 --   operands: words that are neither an option nor an option's value
 --   document_options: what is written, and to where
 --   outline_options: how outlines run
 --   page_options: how pages are read and shown
---   run_options: what the program is to do, and with which files
+--   run_options: what the program is to do, by how many workers, and with which files
 --   with_rules: a command with more options
 --   unnamed: a command without options, whose words come without the program's name
 --   command: the program's command

@@ -1,7 +1,7 @@
 //! The command that `clap` is given.
 ghost use Rattle.std.specs.Prelude.{◌≡◌, IfOk};
 ghost use Rattle.clap.specs.Simple.{app_of, with_rule};
-ghost use Rattle.command_words.specs.Command.{command, document_options, flag, long_flag, operands, option, outline_options, page_options, run_options, with_rules};
+ghost use Rattle.command_words.specs.Command.{command, document_options, flag, long_flag, long_option, operands, option, outline_options, page_options, run_options, with_rules};
 
 use clap::{Arg, ArgAction, Command};
 use std::alloc::{AllocError, Global};
@@ -49,10 +49,12 @@ fn with_page_options<'a>(alloc: Global, command: Command<'a>) -> Result<Command<
     with_long_flag(alloc, command, "flat")
 }
 
-/// What the program is to do, and with which files.
+/// What the program is to do, by how many workers, and with which files.
 fn with_run_options<'a>(alloc: Global, command: Command<'a>) -> Result<Command<'a>, AllocError>
     ensures { IfOk result (λ c. app_of c ≡ with_rules (app_of command.entry) run_options) }
 {
+    let command = with_long_option(alloc, command, "workers")?;
+    let command = with_long_option(alloc, command, "demo")?;
     let command = with_flag(alloc, command, 'v', "version")?;
     with_operands(alloc, command, "file")
 }
@@ -71,6 +73,19 @@ fn with_option<'a>(
         .short(short)
         .long(name)
         .action(ArgAction::Set);
+    command.arg(arg)
+}
+
+/// One more option with a value and without a short name, `--name VALUE`.
+fn with_long_option<'a>(
+    alloc: Global,
+    command: Command<'a>,
+    name: &'a str,
+) -> Result<Command<'a>, AllocError>
+    ensures { IfOk result
+        (λ c. app_of c ≡ with_rule (app_of command.entry) (long_option name.entry.now)) }
+{
+    let arg = Arg::new(alloc, name).long(name).action(ArgAction::Set);
     command.arg(arg)
 }
 

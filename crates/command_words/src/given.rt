@@ -26,6 +26,8 @@ pub struct Given<'w> {
     pub blacklevel: Option<&'w str>,
     pub invert: bool,
     pub flat: bool,
+    pub workers: Option<&'w str>,
+    pub demo: Option<&'w str>,
     pub version: bool,
     pub files: Names,
 }
@@ -50,6 +52,8 @@ impl<'w> Model for Given<'w> {
       blacklevel = option_map (λ s. s.now) g.blacklevel;
       invert = g.invert;
       flat = g.flat;
+      workers = option_map (λ s. s.now) g.workers;
+      demo = option_map (λ s. s.now) g.demo;
       version = g.version;
       files = g.files;
     } };
@@ -74,6 +78,8 @@ pub fn given_of<'w>(alloc: Global, matches: &ArgMatches<'w>) -> Result<Given<'w>
         blacklevel: value_of(matches, "blacklevel"),
         invert: is_set(matches, "invert"),
         flat: is_set(matches, "flat"),
+        workers: value_of(matches, "workers"),
+        demo: value_of(matches, "demo"),
         version: is_set(matches, "version"),
         files,
     })

@@ -12,7 +12,7 @@ use Rattle.command_words.specs.declared.parsed.Parsed.{Parsed}
 use Rattle.command_words.specs.declared.parsed.Parsed.TheVariants as words
 use Rattle.potrace_main.specs.declared.ask.Ask.{Ask}
 use Rattle.potrace_main.specs.declared.ask.Ask.TheVariants.{Help, Version, Demo, Files}
-use Rattle.potrace_main.specs.Asked.{Asks, AsksOf, GivesSettings, IsAsked, IsMicroOr, IsWholeOr, NamesBackend, NamesPolicy, policy_word}
+use Rattle.potrace_main.specs.Asked.{Asks, AsksOf, GivesSettings, IsAsked, IsMicroOr, IsWholeOf, IsWholeOr, NamesBackend, NamesPolicy, policy_word}
 use Rattle.page_trace.specs.Document.{backend_word}
 
 -- One ask.
@@ -53,6 +53,10 @@ one_whole : (text : Option (List ℕ)) (default least most n m : ℕ) → IsWhol
 one_whole None default least most n m a b = a ∙ sym b
 one_whole (Some text) default least most n m a b = sym a.0.value ∙ b.0.value
 
+one_given : (text : Option (List ℕ)) (least most n m : ℕ) → IsWholeOf text least most n → IsWholeOf text least most m → n ≡ m
+one_given None least most n m a b = absurd a
+one_given (Some text) least most n m a b = sym a.0.value ∙ b.0.value
+
 one_decimal : (text : Option (List ℕ)) (default most n m : ℕ) → IsMicroOr text default most n → IsMicroOr text default most m → n ≡ m
 one_decimal None default most n m a b = a ∙ sym b
 one_decimal (Some text) default most n m a b = one_micro text n m a.0 b.0
@@ -82,18 +86,28 @@ one_settings g s t a b =
       invert = invert i;
     }
 
+-- a value isn't also left out
+not_both : (text : Option (List ℕ)) (n : ℕ) → IsWholeOf text 1 64 n → text ≡ None → ⊥
+not_both None n a none = a
+not_both (Some text) n a none = let e : Some text ≡ None = none in cc
+
 one_of_given : (version : Bool) (g : Given) (one other : Ask) → AsksOf version g one → AsksOf version g other → one ≡ other
 one_of_given true g one other a b = a ∙ sym b
 one_of_given false g Help other a b = absurd a
 one_of_given false g Version other a b = absurd a
-one_of_given false g (Demo pages workers settings) other a b = absurd a
 one_of_given false g one Help a b = absurd b
 one_of_given false g one Version a b = absurd b
-one_of_given false g one (Demo pages workers settings) a b = absurd b
+one_of_given false g (Demo pages workers settings) (Demo more others under) a b =
+    let many = one_given g.demo 1 64 pages more a.many b.many in
+    let by = one_whole g.workers 4 1 64 workers others a.by b.by in
+    let same = one_settings g settings under a.under b.under in
+    λ i. Demo (many i) (by i) (same i)
+one_of_given false g (Demo pages workers settings) (Files names output others under) a b = absurd (not_both g.demo pages a.many b.no_demo)
+one_of_given false g (Files names output others under) (Demo pages workers settings) a b = absurd (not_both g.demo pages b.many a.no_demo)
 one_of_given false g (Files names output workers settings) (Files more put others under) a b =
     let listed : names ≡ more = a.inputs ∙ sym b.inputs in
     let named : output ≡ put = a.named ∙ sym b.named in
-    let by : workers ≡ others = a.by ∙ sym b.by in
+    let by = one_whole g.workers 4 1 64 workers others a.by b.by in
     let same = one_settings g settings under a.under b.under in
     λ i. Files (listed i) (named i) (by i) (same i)
 

@@ -8,7 +8,7 @@ use Rattle.pt_base.specs.declared.policy.Policy.TheVariants.{Left, Right, Black,
 use Rattle.pt_base.specs.declared.settings.Backend.{Backend}
 use Rattle.pt_base.specs.declared.settings.Backend.TheVariants.{Eps, Svg}
 use Rattle.pt_base.specs.declared.settings.Settings.{Settings}
-use Rattle.page_trace.specs.Document.{backend_word}
+use Rattle.page_trace.specs.Document.{CanTrace, backend_word}
 use Rattle.file_trace.specs.Offered.{IsOffered}
 use Rattle.command_words.specs.Given.{Given}
 use Rattle.command_words.specs.Parsed.{parsed}
@@ -47,6 +47,11 @@ abbrev pub IsWholeOr : Option (List ℕ) → ℕ → ℕ → ℕ → ℕ → Typ
 IsWholeOr None default least most n = n ≡ default
 IsWholeOr (Some text) default least most n = IsWhole text n × (least ≤ n) × (n ≤ most)
 
+-- there is a value, and it is a whole number n from least to most
+abbrev pub IsWholeOf : Option (List ℕ) → ℕ → ℕ → ℕ → Type 0
+IsWholeOf None least most n = ⊥
+IsWholeOf (Some text) least most n = IsWhole text n × (least ≤ n) × (n ≤ most)
+
 -- n is the default where there is no value; else the value is a decimal number of n millionths, at most so many
 abbrev pub IsMicroOr : Option (List ℕ) → ℕ → ℕ → ℕ → Type 0
 IsMicroOr None default most n = n ≡ default
@@ -75,13 +80,22 @@ abbrev pub inputs_of : List (List ℕ) → List (List ℕ)
 inputs_of [] = dash ∷ []
 inputs_of (file ∷ files) = file ∷ files
 
--- files are to be traced, by one worker
+-- made-up pages are to be traced: so many of them, and neither a file nor an output is named
+pub record AsksDemo (given : Given) (pages workers : ℕ) (settings : Settings) : Type 0 where
+  pub many : IsWholeOf given.demo 1 64 pages
+  pub no_file : given.files ≡ []
+  pub no_output : given.output ≡ None
+  pub by : IsWholeOr given.workers 4 1 64 workers
+  pub under : GivesSettings given settings
+
+-- files are to be traced, where no made-up pages are
 pub record AsksFiles (given : Given) (names : List (List ℕ)) (output : Option (List ℕ)) (workers : ℕ) (settings : Settings) : Type 0 where
+  pub no_demo : given.demo ≡ None
   pub proper : AreProper given.files
   pub inputs : names ≡ inputs_of given.files
   pub named : output ≡ given.output
   pub output_not_empty : given.output ≢ Some []
-  pub by : workers ≡ 1
+  pub by : IsWholeOr given.workers 4 1 64 workers
   pub under : GivesSettings given settings
 
 -- what the options and files ask for; where the version is asked for, nothing else is looked at
@@ -89,7 +103,7 @@ abbrev pub AsksOf : Bool → Given → Ask → Type 0
 AsksOf true given ask = ask ≡ Version
 AsksOf false given Help = ⊥
 AsksOf false given Version = ⊥
-AsksOf false given (Demo pages workers settings) = ⊥
+AsksOf false given (Demo pages workers settings) = AsksDemo given pages workers settings
 AsksOf false given (Files names output workers settings) = AsksFiles given names output workers settings
 
 -- what words that come to this ask for
@@ -102,9 +116,11 @@ Asks (words.Gives given) ask = AsksOf given.version given ask
 abbrev pub IsAsked : List (List ℕ) → Ask → Type 0
 IsAsked words ask = Asks (parsed words) ask
 
--- the program can do what is asked for: the settings are in range, there is a file, and no name is empty
+-- the program can do what is asked for: the settings, pages and workers are in range, there is a file, and no
+-- name is empty
 abbrev pub CanBeDone : Ask → Type 0
 CanBeDone Help = Unit {0}
 CanBeDone Version = Unit {0}
-CanBeDone (Demo pages workers settings) = IsOffered settings
-CanBeDone (Files names output workers settings) = IsOffered settings × (names ≢ []) × All (λ name. name ≢ []) names × (output ≢ Some [])
+CanBeDone (Demo pages workers settings) = IsOffered settings × (1 ≤ pages) × (pages ≤ 64) × (1 ≤ workers) × (workers ≤ 64) × CanTrace settings
+CanBeDone (Files names output workers settings) =
+    IsOffered settings × (names ≢ []) × All (λ name. name ≢ []) names × (output ≢ Some []) × (1 ≤ workers) × (workers ≤ 64)

@@ -1,7 +1,7 @@
 //! Numbers among the words, and what stands for them where they are left out.
 ghost use Rattle.std.specs.Prelude.{◌≤◌, ◌*◌, ◌^◌, ℕ, IfNone, IfSome, option_map};
 ghost use Rattle.pt_base.specs.Micro.{IsMicro};
-ghost use Rattle.potrace_main.specs.Asked.{IsMicroOr, IsWholeOr};
+ghost use Rattle.potrace_main.specs.Asked.{IsMicroOr, IsWholeOf, IsWholeOr};
 
 use pt_base::decimal::{read_micro, read_whole};
 
@@ -14,10 +14,19 @@ pub fn whole_or(text: Option<&str>, default: u32, least: u32, most: u32) -> Opti
 {
     match text {
         None => Some(default),
-        Some(text) => match read_whole(text, least, most) {
-            Ok(n) => Some(n),
-            Err(_) => None,
-        },
+        Some(_) => whole_of(text, least, most),
+    }
+}
+
+/// The whole number of this text from least to most, if there is a text.
+pub fn whole_of(text: Option<&str>, least: u32, most: u32) -> Option<u32>
+    ensures taken { IfSome result (IsWholeOf (option_map (λ s. s.now) text.entry) least most) }
+    ensures refused { IfNone result ((n : ℕ)
+        → IsWholeOf (option_map (λ s. s.now) text.entry) least most n → ⊥) }
+{
+    match read_whole(text?, least, most) {
+        Ok(n) => Some(n),
+        Err(_) => None,
     }
 }
 

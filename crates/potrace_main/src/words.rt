@@ -1,17 +1,27 @@
 //! Reading the words of the command line.
 ghost use Rattle.std.specs.Str.{bytes_eq};
-ghost use Rattle.std.specs.Prelude.{◌≡◌, ◌≢◌, ◌↔◌, [], All, IfOk, IsErrOf, IsTrue, Some, count_by, false, map, option_map, string_bytes};
-ghost use Rattle.potrace_main.specs.Asked.{AreProper, Asks, AsksOf, CanBeDone, GivesSettings, IsAsked, inputs_of};
+ghost use Rattle.std.specs.Prelude.{◌≡◌, ◌≢◌, ◌↔◌, ℕ, [], All, IfNone, IfOk, IfSome, IsErrOf, IsTrue, None, Some, count_by, false, map, option_map, string_bytes};
+ghost use Rattle.potrace_main.specs.Asked.{AreProper, Asks, AsksOf, CanBeDone, GivesSettings, IsAsked, IsWholeOf, IsWholeOr, inputs_of};
 ghost use Rattle.file_trace.specs.Names.{dash};
 ghost use Rattle.potrace_main.specs.declared.ask.Ask.{Ask};
 
 use crate::ask::{Ask, WordFault};
+use crate::numbers::{whole_of, whole_or};
 use crate::settings_given::settings_given;
 use command_words::given::Given;
 use command_words::name::{Name, Names};
 use command_words::parsed::{Parsed, parse};
 use pt_base::settings::Settings;
 use std::alloc::{AllocError, Global};
+
+/// The number of workers where no word says one.
+const DEFAULT_WORKERS: u32 = 4;
+
+/// The greatest number of workers.
+const GREATEST_WORKERS: u32 = 64;
+
+/// The greatest number of made-up pages.
+const GREATEST_DEMO: u32 = 64;
 
 /// What the words ask for, which come without the program's name.
 pub fn settings_of(alloc: Global, words: &[String]) -> Result<Ask, WordFault>
@@ -47,14 +57,68 @@ fn given_ask(alloc: Global, given: Given) -> Result<Ask, WordFault>
     if given.version {
         return Ok(Ask::Version);
     }
-    match settings_given(&given) {
-        Some(settings) => files_ask(alloc, given, settings),
+    let Some(settings) = settings_given(&given) else {
+        return Err(WordFault::Bad);
+    };
+    let Some(workers) = workers_given(given.workers) else {
+        return Err(WordFault::Bad);
+    };
+    if given.demo.is_some() {
+        demo_ask(given, workers, settings)
+    } else {
+        files_ask(alloc, given, workers, settings)
+    }
+}
+
+/// How many workers there are to be.
+fn workers_given(text: Option<&str>) -> Option<u32>
+    ensures taken { IfSome result (IsWholeOr (option_map (λ s. s.now) text.entry) 4 1 64) }
+    ensures refused { IfNone result ((workers : ℕ)
+        → IsWholeOr (option_map (λ s. s.now) text.entry) 4 1 64 workers → ⊥) }
+{
+    whole_or(text, DEFAULT_WORKERS, 1, GREATEST_WORKERS)
+}
+
+/// How many made-up pages there are to be, if a word says it.
+fn demo_given(text: Option<&str>) -> Option<u32>
+    ensures taken { IfSome result (IsWholeOf (option_map (λ s. s.now) text.entry) 1 64) }
+    ensures refused { IfNone result ((pages : ℕ)
+        → IsWholeOf (option_map (λ s. s.now) text.entry) 1 64 pages → ⊥) }
+{
+    whole_of(text, 1, GREATEST_DEMO)
+}
+
+/// Asks for made-up pages to be traced, if their number is in its range, and neither a file nor an output is
+/// named.
+fn demo_ask(given: Given, workers: u32, settings: Settings) -> Result<Ask, WordFault>
+    requires demo { given.demo ≢ None }
+    requires workers { IsWholeOr given.workers 4 1 64 workers }
+    requires settings { GivesSettings given settings }
+    ensures ok { IfOk result (AsksOf false given.entry) }
+    ensures bad { IsErrOf result WordFault.Bad → (ask : Ask) → AsksOf false given.entry ask → ⊥ }
+{
+    if !given.files.as_slice().is_empty() || given.output.is_some() {
+        return Err(WordFault::Bad);
+    }
+    match demo_given(given.demo) {
+        Some(pages) => Ok(Ask::Demo {
+            pages,
+            workers,
+            settings,
+        }),
         None => Err(WordFault::Bad),
     }
 }
 
 /// Asks for the files to be traced, if their names are proper.
-fn files_ask(alloc: Global, given: Given, settings: Settings) -> Result<Ask, WordFault>
+fn files_ask(
+    alloc: Global,
+    given: Given,
+    workers: u32,
+    settings: Settings,
+) -> Result<Ask, WordFault>
+    requires no_demo { given.demo ≡ None }
+    requires workers { IsWholeOr given.workers 4 1 64 workers }
     requires settings { GivesSettings given settings }
     ensures ok { IfOk result (AsksOf false given.entry) }
     ensures bad { IsErrOf result WordFault.Bad → (ask : Ask) → AsksOf false given.entry ask → ⊥ }
@@ -71,7 +135,7 @@ fn files_ask(alloc: Global, given: Given, settings: Settings) -> Result<Ask, Wor
     Ok(Ask::Files {
         names,
         output,
-        workers: 1,
+        workers,
         settings,
     })
 }

@@ -72,6 +72,7 @@ fn other_words(rt: HostRuntime) -> Result<(), Fail> {
         "-k 1.5",
         "-b pdf",
         "--workers 0",
+        "--demo 65",
         "--demo 1 x.pbm",
         "-t",
         "- -",

@@ -22,9 +22,13 @@ const DEFAULTS: Settings = Settings {
     invert: false,
 };
 
-/// A line of words with what they ask for: `Help`, `Version` or `Bad`, or the settings that aren't the
-/// defaults, then the files, and then `>` with the output where one is named. The words have a space
-/// between them, so two spaces have an empty word between them.
+/// The number of workers where no word says otherwise.
+const DEFAULT_WORKERS: u32 = 4;
+
+/// A line of words with what they ask for: `Help`, `Version` or `Bad`, or the settings and workers that
+/// aren't the defaults, and then either `Demo` with the number of made-up pages, or the files and `>` with
+/// the output where one is named. The words have a space between them, so two spaces have an empty word
+/// between them.
 const LINES: &[(&str, &str)] = &[
     // Files, in any place, and what ends the options.
     ("", "-"),
@@ -148,9 +152,51 @@ const LINES: &[(&str, &str)] = &[
     ("-nit5 a", "t5 n i a"),
     ("-nt=5 a", "t5 n a"),
     ("-nq", "Bad"),
+    // Workers.
+    ("--workers 1", "workers1 -"),
+    ("--workers 4", "-"),
+    ("--workers 7", "workers7 -"),
+    ("--workers=7", "workers7 -"),
+    ("a --workers=64 b", "workers64 a b"),
+    ("--workers 0000000007", "workers7 -"),
+    ("--workers 00000000007", "Bad"),
+    ("--workers 0", "Bad"),
+    ("--workers 65", "Bad"),
+    ("--workers=-1", "Bad"),
+    ("--workers 2.0", "Bad"),
+    ("--workers x", "Bad"),
+    ("--workers ", "Bad"),
+    ("--workers= a", "Bad"),
+    ("a --workers", "Bad"),
+    ("--workers -n", "Bad"),
+    ("--workers 2 --workers 2", "Bad"),
+    ("--work 3", "Bad"),
+    ("-w 3", "Bad"),
+    // Made-up pages.
+    ("--demo 1", "Demo 1"),
+    ("--demo=64", "Demo 64"),
+    ("--demo 003", "Demo 3"),
+    ("--demo 3 --", "Demo 3"),
+    ("-st5 --demo 3 --workers 7", "Svg t5 workers7 Demo 3"),
+    ("--demo 0", "Bad"),
+    ("--demo 65", "Bad"),
+    ("--demo x", "Bad"),
+    ("--demo ", "Bad"),
+    ("--demo=", "Bad"),
+    ("--demo", "Bad"),
+    ("--demo 3 --demo 3", "Bad"),
+    ("--dem 3", "Bad"),
+    ("-d 3", "Bad"),
+    ("--demo 1 x.pbm", "Bad"),
+    ("x.pbm --demo 1", "Bad"),
+    ("--demo 1 -", "Bad"),
+    ("--demo 1 ", "Bad"),
+    ("--demo 1 -o x", "Bad"),
+    ("--output=- --demo 1", "Bad"),
+    ("--demo 1 --workers 0", "Bad"),
+    ("--demo 1 -t x", "Bad"),
+    ("--demo 1 -s -e", "Bad"),
     // Options that aren't there.
-    ("--workers 2", "Bad"),
-    ("--demo 3", "Bad"),
     ("-V", "Bad"),
     ("-5", "Bad"),
     // Help and the version.
@@ -165,11 +211,17 @@ const LINES: &[(&str, &str)] = &[
     ("-v -s -e", "Version"),
     ("a  b - - -v", "Version"),
     ("-v -v", "Bad"),
-    ("-v --demo 3", "Bad"),
+    ("-v --demo 65 a -o x", "Version"),
+    ("--workers 0 -v", "Version"),
     ("-t -h", "Bad"),
     ("-t 5 -t 5 -h", "Bad"),
-    ("--demo 3 -h", "Bad"),
+    ("--demo 3 -h", "Help"),
+    ("--demo 65 a -h", "Help"),
     ("-h --demo 3", "Help"),
+    ("-h --work 3", "Help"),
+    ("--work 3 -h", "Bad"),
+    ("--demo -h", "Bad"),
+    ("--demo 3 --demo 3 -h", "Bad"),
     ("-t x -h", "Help"),
     ("-hq", "Help"),
     ("-h -t 5 -t 5", "Help"),
@@ -215,21 +267,38 @@ fn shown(alloc: Global, ask: &Ask) -> Result<String, Fail> {
     match ask {
         Ask::Help => text.push_str("Help")?,
         Ask::Version => text.push_str("Version")?,
-        Ask::Demo { .. } => text.push_str("Demo")?,
+        Ask::Demo {
+            pages,
+            workers,
+            settings,
+        } => {
+            put_settings(alloc, &mut text, settings, *workers)?;
+            text.push_str(format!(in alloc; "Demo {pages}")?.as_str())?;
+        }
         Ask::Files {
             names,
             output,
             workers,
             settings,
         } => {
-            put_values(alloc, &mut text, settings)?;
-            put_flags(&mut text, settings)?;
-            put_number(alloc, &mut text, "workers", *workers, 1)?;
+            put_settings(alloc, &mut text, settings, *workers)?;
             put_names(&mut text, names.as_slice())?;
             put_output(&mut text, output)?;
         }
     }
     Ok(text)
+}
+
+/// What isn't as it is where no word says otherwise.
+fn put_settings(
+    alloc: Global,
+    text: &mut String,
+    settings: &Settings,
+    workers: u32,
+) -> Result<(), Fail> {
+    put_values(alloc, text, settings)?;
+    put_flags(text, settings)?;
+    put_number(alloc, text, "workers", workers, DEFAULT_WORKERS)
 }
 
 /// The values that aren't the defaults.
