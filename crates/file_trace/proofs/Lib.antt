@@ -1,3 +1,4 @@
+pub mod Batching
 pub mod Carrying
 pub mod Ending
 pub mod Exists

@@ -1,8 +1,11 @@
 -- The entries of a batch, and the pages that they speak of.
-use Rattle.std.specs.Prelude.{ℕ, suc, List, [], ◌∷◌, string_bytes}
+use Rattle.std.specs.Prelude.{ℕ, suc, List, [], ◌∷◌, Vec, string_bytes}
+use Rattle.std.specs.Global.{Global}
 use Rattle.bit_image.specs.Page.{Page as Pixels}
 use Rattle.file_trace.specs.Held.{Held}
 use Rattle.file_trace.specs.Held.Held.{Message, Page}
+use Rattle.file_trace.specs.Items.{Item}
+use Rattle.file_trace.specs.Items.Item.{Doc, Note}
 use Rattle.file_trace.specs.Messages.{trailing_line}
 use Rattle.file_trace.specs.declared.batch.Entry.{Entry as Given}
 use Rattle.file_trace.specs.declared.batch.Entry.TheVariants as entry
@@ -19,3 +22,10 @@ held_by [] pages = []
 held_by (entry.Page name ∷ entries) [] = []
 held_by (entry.Page name ∷ entries) (page ∷ pages) = Page (string_bytes name) page ∷ held_by entries pages
 held_by (entry.Trailing name count ∷ entries) pages = Message (trailing_line (string_bytes name) count) ∷ held_by entries pages
+
+-- the items of these entries, where these are the texts of the pages that they speak of, in order
+abbrev pub items_by : List Given → List (Vec ℕ Global) → List Item
+items_by [] texts = []
+items_by (entry.Page name ∷ entries) [] = []
+items_by (entry.Page name ∷ entries) (text ∷ texts) = Doc (string_bytes name) text.items ∷ items_by entries texts
+items_by (entry.Trailing name count ∷ entries) texts = Note (trailing_line (string_bytes name) count) ∷ items_by entries texts

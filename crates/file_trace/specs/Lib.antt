@@ -76,6 +76,7 @@ pub mod Held
 -- The entries of a batch, and the pages that they speak of.
 --   pages_among: how many pages these entries speak of
 --   held_by: what these entries hold, where these are their pages
+--   items_by: the items of these entries, where these are the texts of their pages
 pub mod Entries
 -- How far the tracing of a file has come.
 --   BeginsWith: the first pages of the bytes are these, and `rest` is what follows them

@@ -1,11 +1,14 @@
 //! What was read and isn't carried out yet.
-ghost use Rattle.std.specs.Prelude.{◌≡◌, ◌≤◌, ◌<◌, ◌++◌, ◌∷◌, ◌⊎◌, ◌^◌, List, [], true, false, IfErr, OnErr, OnOk, string_bytes};
+ghost use Rattle.std.specs.Prelude.{◌≡◌, ◌≤◌, ◌<◌, ◌++◌, ◌∷◌, ◌⊎◌, ◌^◌, List, [], length, true, false, IfErr, OnErr, OnOk, string_bytes};
+ghost use Rattle.pt_base.specs.Counts.{Rose};
 ghost use Rattle.page_trace.specs.Document.{CanWrite};
+ghost use Rattle.file_trace.specs.Entries.{items_by, pages_among};
 ghost use Rattle.file_trace.specs.Held.{AreHeld, pages_held};
 ghost use Rattle.file_trace.specs.Held.Held.{Message, Page};
 ghost use Rattle.file_trace.specs.Items.{Item};
+ghost use Rattle.file_trace.specs.Items.Item.{Doc};
 ghost use Rattle.file_trace.specs.Messages.{trailing_line};
-ghost use Rattle.file_trace.specs.Outcome.{AreCarriedOut, HasEnded};
+ghost use Rattle.file_trace.specs.Outcome.{AreCarriedOut, HasEnded, IsUnwritten};
 ghost use Rattle.file_trace.specs.Progress.{OutputCount};
 ghost use Rattle.file_trace.specs.declared.status.Status.{Status};
 
@@ -16,13 +19,12 @@ use bit_image::bitmap::Bitmap;
 use page_trace::document::document;
 use page_workers::job::PageJob;
 use page_workers::trace::trace_all;
-use pt_base::fault::NoMemory;
+use pt_base::fault::{NoMemory, SinkFault};
 use pt_base::gate::Gate;
 use pt_base::settings::Settings;
 use pt_base::sink::{Outputs, Sink};
 use std::alloc::Global;
 use std::marker::Model;
-use std::mem;
 use std::thread::Threads;
 
 /// One thing to do behind those in front of it.
@@ -34,8 +36,8 @@ enum Entry {
     Trailing { name: String, pages: u32 },
 }
 
-/// Pages that were read and not traced yet, and the messages between their documents. Contracts see what is
-/// held, in order.
+/// Pages that were read and not traced yet, and the messages between their documents. Contracts see
+/// what is held, in order.
 #[derive(Debug, Drop)]
 pub struct Batch {
     entries: Vec<Entry>,
@@ -55,7 +57,7 @@ impl Model for Batch {
 }
 
 /// The document of a page, as a job of the workers.
-#[derive(Clone, Copy, Debug)]
+#[derive(Debug, Drop)]
 struct DocumentJob {
     settings: Settings,
 }
@@ -73,12 +75,15 @@ impl Model for DocumentJob {
 
 impl PageJob for DocumentJob {
     ghost use Rattle.page_trace.specs.Document.{IsDocument};
+    ghost use Rattle.page_trace.proofs.OneTrace.{one_document};
 
     ghost belongs = { λ job page text. IsDocument page job text };
 
     fn page(&self, alloc: Global, page: &Bitmap) -> Result<Vec<u8>, NoMemory> {
         document(alloc, page, &self.settings)
     }
+
+    ghost one_text = { λ job page a b this that. one_document job.backend page job a b this that };
 }
 
 impl Batch {
@@ -114,17 +119,20 @@ impl Batch {
         }
     }
 
-    /// Holds the message that bytes which begin no page follow so many pages of the file of this name.
+    /// Holds the message that bytes which begin no page follow so many pages of the file of this
+    /// name.
     pub fn push_trailing(&mut self, name: String, pages: u32) -> Result<(), NoMemory>
-        ensures held { OnOk result (self.new ≡ self.old ++ Message (trailing_line (string_bytes name) pages) ∷ []) }
+        ensures held { OnOk result (self.new
+            ≡ self.old ++ Message (trailing_line (string_bytes name) pages) ∷ []) }
         ensures same { OnErr result (self.new ≡ self.old) }
     {
         self.entries.push(Entry::Trailing { name, pages })?;
         Ok(())
     }
 
-    /// Traces all pages that are held by so many workers, and gives them back; then writes their documents, and
-    /// says the messages between them, in order. An `Err` says how the run ends: that is said.
+    /// Traces all pages that are held by so many workers, and gives them back; then writes their
+    /// documents, and says the messages between them, in order. An `Err` says how the run ends:
+    /// that is said.
     pub fn carry_out<R: Threads + Sync, O: Outputs, E: Sink, G: Gate + Sync>(
         &mut self,
         rt: &R,
@@ -142,8 +150,10 @@ impl Batch {
         requires closed { O.is_ready outs.old ≡ false }
         requires ready { E.is_ready errs.old ≡ true }
 
-        // Whichever items are those of what was held, they are carried out, as far as the status says.
-        ensures done { OnOk result ((items : List Item) → AreHeld settings self.old items → AreCarriedOut items []
+        // Whichever items are those of what was held, they are carried out, as far as the status
+        // says.
+        ensures done { OnOk result ((items : List Item) → AreHeld settings self.old items
+            → AreCarriedOut items []
             (record {
               outs = O.documents outs.old;
               outs_faults = O.faults outs.old;
@@ -159,7 +169,8 @@ impl Batch {
               errs_faults = E.faults errs.new;
             })) }
         ensures emptied { OnOk result (self.new ≡ []) }
-        ensures ends { IfErr result (λ status. (items : List Item) → AreHeld settings self.old items → HasEnded status items
+        ensures ends { IfErr result (λ status. (items : List Item) → AreHeld settings self.old items
+            → HasEnded status items
             (record {
               outs = O.documents outs.old;
               outs_faults = O.faults outs.old;
@@ -174,9 +185,11 @@ impl Batch {
               errs = E.documents errs.new;
               errs_faults = E.faults errs.new;
             })) }
-        ensures status { IfErr result (λ status. (status ≡ Status.Unwritten) ⊎ (status ≡ Status.OutOfMemory)) }
+        ensures status { IfErr result
+            (λ status. (status ≡ Status.Unwritten) ⊎ (status ≡ Status.OutOfMemory)) }
         ensures output { IfErr result
-            (λ status. OutputCount status (O.faults outs.old) (O.faults outs.new) (O.is_ready outs.new)) }
+            (λ status. OutputCount status (O.faults outs.old) (O.faults outs.new)
+            (O.is_ready outs.new)) }
         ensures steady_output { OnOk result ((O.faults outs.new ≡ O.faults outs.old)
             × (O.is_ready outs.new ≡ false)) }
         ensures outputs_never_fall { O.faults outs.old ≤ O.faults outs.new }
@@ -187,35 +200,127 @@ impl Batch {
             say_out_of_memory(errs);
             return Err(Status::OutOfMemory);
         };
+        // Their memory is free again before a document is written.
         self.pages.clear();
-        let entries = mem::replace(&mut self.entries, Vec::new(alloc));
-        write_entries(entries, texts, outs, errs)
+        let written = write_entries(&self.entries, &texts, outs, errs);
+        self.entries.clear();
+        match written {
+            Ok(()) => Ok(()),
+            Err(_) => Err(Status::Unwritten),
+        }
     }
 }
 
-/// Writes the documents of pages and says the messages between them, in order.
+/// Writes the documents of pages, whose texts these are, and says the messages between them, in
+/// order. After a fault nothing more is written: that is said.
 fn write_entries<O: Outputs, E: Sink>(
-    entries: Vec<Entry>,
-    texts: Vec<Vec<u8>>,
+    entries: &[Entry],
+    texts: &[Vec<u8>],
     outs: &mut O,
     errs: &mut E,
-) -> Result<(), Status>
+) -> Result<(), SinkFault>
+    requires texts { length texts.now ≡ pages_among entries.now }
     requires closed { O.is_ready outs.old ≡ false }
     requires ready { E.is_ready errs.old ≡ true }
+    ensures done { OnOk result (AreCarriedOut (items_by entries.now texts.now) []
+        (record {
+          outs = O.documents outs.old;
+          outs_faults = O.faults outs.old;
+          is_open = O.is_ready outs.old;
+          errs = E.documents errs.old;
+          errs_faults = E.faults errs.old;
+        })
+        (record {
+          outs = O.documents outs.new;
+          outs_faults = O.faults outs.new;
+          is_open = O.is_ready outs.new;
+          errs = E.documents errs.new;
+          errs_faults = E.faults errs.new;
+        })) }
+    ensures ends { OnErr result (IsUnwritten (items_by entries.now texts.now)
+        (record {
+          outs = O.documents outs.old;
+          outs_faults = O.faults outs.old;
+          is_open = O.is_ready outs.old;
+          errs = E.documents errs.old;
+          errs_faults = E.faults errs.old;
+        })
+        (record {
+          outs = O.documents outs.new;
+          outs_faults = O.faults outs.new;
+          is_open = O.is_ready outs.new;
+          errs = E.documents errs.new;
+          errs_faults = E.faults errs.new;
+        })) }
+    ensures rose { OnErr result (Rose (O.faults outs.old) (O.faults outs.new)) }
+    ensures steady { OnOk result (O.faults outs.new ≡ O.faults outs.old) }
+    ensures closed { OnOk result (O.is_ready outs.new ≡ false) }
+    ensures never_falls { O.faults outs.old ≤ O.faults outs.new }
     ensures stays_ready { E.is_ready errs.new ≡ true }
 {
-    let mut texts = texts.into_iter();
+    let mut done = 0;
     for entry in entries {
         match entry {
             Entry::Page(name) => {
-                let text = texts.next().unwrap();
-                if write_document(outs, &name, &text).is_err() {
-                    say_not_written(errs, &name);
-                    return Err(Status::Unwritten);
-                }
+                write_page(name, &texts[done], outs, errs)?;
+                done += 1;
             }
-            Entry::Trailing { name, pages } => say_trailing(errs, &name, u64::from(pages)),
+            Entry::Trailing { name, pages } => say_trailing(errs, name, u64::from(*pages)),
         }
     }
     Ok(())
+}
+
+/// Writes the document of a page. After a fault nothing more is written: that is said.
+fn write_page<O: Outputs, E: Sink>(
+    name: &str,
+    text: &[u8],
+    outs: &mut O,
+    errs: &mut E,
+) -> Result<(), SinkFault>
+    requires closed { O.is_ready outs.old ≡ false }
+    requires ready { E.is_ready errs.old ≡ true }
+    ensures done { OnOk result (AreCarriedOut (Doc name.now text.now ∷ []) []
+        (record {
+          outs = O.documents outs.old;
+          outs_faults = O.faults outs.old;
+          is_open = O.is_ready outs.old;
+          errs = E.documents errs.old;
+          errs_faults = E.faults errs.old;
+        })
+        (record {
+          outs = O.documents outs.new;
+          outs_faults = O.faults outs.new;
+          is_open = O.is_ready outs.new;
+          errs = E.documents errs.new;
+          errs_faults = E.faults errs.new;
+        })) }
+    ensures ends { OnErr result (IsUnwritten (Doc name.now text.now ∷ [])
+        (record {
+          outs = O.documents outs.old;
+          outs_faults = O.faults outs.old;
+          is_open = O.is_ready outs.old;
+          errs = E.documents errs.old;
+          errs_faults = E.faults errs.old;
+        })
+        (record {
+          outs = O.documents outs.new;
+          outs_faults = O.faults outs.new;
+          is_open = O.is_ready outs.new;
+          errs = E.documents errs.new;
+          errs_faults = E.faults errs.new;
+        })) }
+    ensures rose { OnErr result (Rose (O.faults outs.old) (O.faults outs.new)) }
+    ensures steady { OnOk result (O.faults outs.new ≡ O.faults outs.old) }
+    ensures closed { OnOk result (O.is_ready outs.new ≡ false) }
+    ensures never_falls { O.faults outs.old ≤ O.faults outs.new }
+    ensures stays_ready { E.is_ready errs.new ≡ true }
+{
+    match write_document(outs, name, text) {
+        Ok(()) => Ok(()),
+        Err(_) => {
+            say_not_written(errs, name);
+            Err(SinkFault)
+        }
+    }
 }
