@@ -1,6 +1,7 @@
 -- What is held goes on: of the items read the first are carried out, and the others are held.
-use Rattle.std.proofs.Common.{◌≡◌, ℕ, ◌+◌, List, [], ◌∷◌, ◌++◌, refl, sym, ◌∙◌, ap, subst, append_assoc, arith}
+use Rattle.std.proofs.Common.{◌≡◌, ◌≤◌, ℕ, ◌+◌, List, [], ◌∷◌, ◌++◌, refl, sym, ◌∙◌, ap, subst, append_assoc, arith}
 use Rattle.std.proofs.lemmas.List.{append-nil}
+use Rattle.pt_base.specs.Documents.{IsSaid}
 use Rattle.bit_image.specs.Page.{Page as Pixels}
 use Rattle.page_trace.specs.Document.{IsDocument}
 use Rattle.pt_base.specs.declared.settings.Settings.{Settings}
@@ -8,9 +9,10 @@ use Rattle.file_trace.specs.Held.{AreHeld, Held, Holds, pages_held}
 use Rattle.file_trace.specs.Held.Held.{Message, Page}
 use Rattle.file_trace.specs.Items.{Item}
 use Rattle.file_trace.specs.Items.Item.{Doc, Note}
-use Rattle.file_trace.specs.Outcome.{AreCarriedOut, HasEnded, Sinks}
+use Rattle.file_trace.specs.Messages.{out_of_memory}
+use Rattle.file_trace.specs.Outcome.{AreCarriedOut, HasEnded, IsOutOfMemory, Sinks}
 use Rattle.file_trace.specs.declared.status.Status.{Status}
-use Rattle.file_trace.proofs.Carrying.{carried_on, ended_on, nothing_done}
+use Rattle.file_trace.proofs.Carrying.{carried_on, ended_on, nothing_done, only_said}
 
 -- the items of what is held, and of what is held behind it
 pub AreHeld-append : (settings : Settings) (held more : List Held) (first next : List Item) → AreHeld settings held first → AreHeld settings more next
@@ -27,6 +29,11 @@ pub AreHeld-more : (settings : Settings) (held : List Held) (name : List ℕ) (p
 AreHeld-more settings held name page first text are is =
     AreHeld-append settings held (Page name page ∷ []) first (Doc name text ∷ []) are (text, [], is, refl, refl)
 
+-- the same of a page that was put behind what is held
+pub page_held : (settings : Settings) (held held_now : List Held) (name : List ℕ) (page : Pixels) → held_now ≡ held ++ Page name page ∷ []
+    → (first : List Item) → AreHeld settings held first → (text : List ℕ) → IsDocument page settings text → AreHeld settings held_now (first ++ Doc name text ∷ [])
+page_held settings held held_now name page is first are text is_text = rw is (AreHeld-more settings held name page first text are is_text)
+
 -- one message more is held
 pub AreHeld-note : (settings : Settings) (held : List Held) (message : List ℕ) (first : List Item)
     → AreHeld settings held first → AreHeld settings (held ++ Message message ∷ []) (first ++ Note message ∷ [])
@@ -38,13 +45,23 @@ pages_held-append [] more = omega arith
 pages_held-append (Page name page ∷ held) more = let behind = pages_held-append held more in omega (arith, behind)
 pages_held-append (Message message ∷ held) more = pages_held-append held more
 
+-- one page more
+pub pages_held-more : (held : List Held) (name : List ℕ) (page : Pixels) → pages_held (held ++ Page name page ∷ []) ≡ pages_held held + 1
+pages_held-more held name page = pages_held-append held (Page name page ∷ [])
+
 -- all that was read is held
 pub all_held : (settings : Settings) (held : List Held) (first : List Item) (a : Sinks) → AreHeld settings held first → Holds settings first held a a
 all_held settings held first a are = record { done = []; left = first; split = refl; carried = nothing_done a; are_held = are }
 
 -- all that was read is carried out
-pub all_carried : (settings : Settings) (read : List Item) (a b : Sinks) → AreCarriedOut read [] a b → Holds settings read [] a b
-all_carried settings read a b done = record { done = read; left = []; split = sym (append-nil read); carried = done; are_held = refl }
+pub all_carried : (settings : Settings) (read : List Item) (held : List Held) (a b : Sinks) → held ≡ [] → AreCarriedOut read [] a b → Holds settings read held a b
+all_carried settings read held a b empty done =
+    record { done = read; left = []; split = sym (append-nil read); carried = done; are_held = subst (λ h. AreHeld settings h []) (sym empty) refl }
+
+-- memory ran out, and nothing was carried out
+pub none_carried : (items : List Item) (a b : Sinks) → b.outs ≡ a.outs → IsSaid a.errs b.errs a.errs_faults b.errs_faults out_of_memory
+    → a.errs_faults ≤ b.errs_faults → IsOutOfMemory items a b
+none_carried items a b same said most = record { before = []; after = items; split = refl; done = only_said out_of_memory a b same said most }
 
 -- what was read, and then more
 split_on : (done left read more : List Item) → read ≡ done ++ left → read ++ more ≡ done ++ (left ++ more)

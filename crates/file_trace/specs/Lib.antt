@@ -88,7 +88,7 @@ pub mod Entries
 --   ReadsPage: the next page of what is ahead was read
 --   EndsReading: no page was read for this reason
 --   EndsBy: no further page was read for this reason
---   end_of_fault: why no further page is traced, where the reader tells of a fault
+--   end_of_fault: why no further page is read, where the reader tells of a fault
 --   status_of: the status with which a run ends where the pages of a file end so
 --   InputCount: how the inputs' count of faults moved
 --   OutputCount: how the outputs moved

@@ -1,9 +1,8 @@
 -- How far the tracing of a file has come: its first pages are traced.
-use Rattle.std.specs.Prelude.{◌≡◌, ◌≢◌, ◌⊎◌, ℕ, ◌+◌, ◌<◌, ◌≤◌, Bool, true, false, List, [], ◌∷◌, ◌++◌, length, drop, Option, None, Some, IfSome, option_map, string_bytes}
+use Rattle.std.specs.Prelude.{◌≡◌, ◌≢◌, ◌⊎◌, ℕ, ◌+◌, ◌≤◌, Bool, true, false, List, [], ◌∷◌, ◌++◌, length, drop, Option, None, Some, IfSome, option_map}
 use Rattle.pt_base.specs.Counts.{Rose}
 use Rattle.pt_base.specs.Files.{Contents, Files, unread}
 use Rattle.bit_image.specs.Page.{Page as Pixels}
-
 use Rattle.bitmap_input.specs.declared.fault.InFault.{InFault}
 use Rattle.bitmap_input.specs.declared.fault.InFault.TheVariants as fault
 use Rattle.bitmap_input.specs.Cut.{Kind, is_by_end}
@@ -97,7 +96,7 @@ EndsBy later rest (why.Refused fault) = EndsReading later rest (why.Refused faul
 EndsBy later rest why.Unread = EndsReading later rest why.Unread
 EndsBy later rest why.OutOfMemory = EndsReading later rest why.OutOfMemory
 
--- why no further page is traced, where the reader tells of a fault
+-- why no further page is read, where the reader tells of a fault
 abbrev pub end_of_fault : InFault → PagesEnd
 end_of_fault fault.ReadFault = why.Unread
 end_of_fault fault.NoMemory = why.OutOfMemory

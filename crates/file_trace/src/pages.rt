@@ -1,12 +1,12 @@
 //! The pages of the opened file, read one after another, and traced by batches.
-ghost use Rattle.std.specs.Prelude.{◌≡◌, ◌≢◌, ◌+◌, ◌*◌, ◌++◌, ◌∷◌, ◌<◌, ◌≤◌, ◌⊎◌, [], true, false, List, ℕ, Err, IfOk, IfErr, OnOk, length};
+ghost use Rattle.std.specs.Prelude.{◌≡◌, ◌+◌, ◌*◌, ◌++◌, ◌∷◌, ◌<◌, ◌≤◌, ◌⊎◌, [], true, false, List, ℕ, Err, IfOk, IfErr, OnOk};
 ghost use Rattle.pt_base.specs.Counts.{Rose};
 ghost use Rattle.bit_image.specs.Page.{IsPage};
 ghost use Rattle.bitmap_input.specs.Reading.{AtEnd};
 ghost use Rattle.bitmap_input.specs.Reader.{ReadFails, at_start, is_later as reader_is_later};
 ghost use Rattle.page_trace.specs.Document.{CanWrite, IsDocument};
 ghost use Rattle.file_trace.specs.Held.{AreHeld, Holds, pages_held};
-ghost use Rattle.file_trace.specs.Items.{Item, told_contents, most_pages};
+ghost use Rattle.file_trace.specs.Items.{Item, told_contents};
 ghost use Rattle.file_trace.specs.Items.Item.{Doc};
 ghost use Rattle.file_trace.specs.Names.{document_name};
 ghost use Rattle.file_trace.specs.Offered.{IsOffered};
@@ -60,9 +60,9 @@ pub struct Traced {
     pub end: PagesEnd,
 }
 
-/// Reads the pages of the opened file into the batch, each with the name of its document, which comes after
-/// those of the documents made before. A batch that is full is carried out. An `Err` says how the run ends
-/// there: that is said.
+/// Reads the pages of the opened file into the batch, each with the name of its document, which
+/// comes after those of the documents made before. A batch that is full is carried out. An `Err`
+/// says how the run ends there: that is said.
 pub fn trace_pages<R: Threads + Sync, I: Inputs, O: Outputs, E: Sink, G: Gate + Sync>(
     rt: &R,
     alloc: Global,
@@ -101,7 +101,8 @@ pub fn trace_pages<R: Threads + Sync, I: Inputs, O: Outputs, E: Sink, G: Gate + 
           errs = E.documents errs.new;
           errs_faults = E.faults errs.new;
         }) traced.pages traced.end) }
-    ensures ends { IfErr result (λ status. Halts status settings base.now made.now (I.files inputs.old) batch.old
+    ensures ends { IfErr result (λ status. Halts status settings base.now made.now
+        (I.files inputs.old) batch.old
         (record {
           outs = O.documents outs.old;
           outs_faults = O.faults outs.old;
@@ -116,14 +117,16 @@ pub fn trace_pages<R: Threads + Sync, I: Inputs, O: Outputs, E: Sink, G: Gate + 
           errs = E.documents errs.new;
           errs_faults = E.faults errs.new;
         })) }
-    ensures status { IfErr result (λ status. (status ≡ Status.Unwritten) ⊎ (status ≡ Status.OutOfMemory)) }
+    ensures status { IfErr result
+        (λ status. (status ≡ Status.Unwritten) ⊎ (status ≡ Status.OutOfMemory)) }
     ensures still_not_full { OnOk result (pages_held batch.new < 2 * workers) }
     ensures input { IfOk result (λ traced. InputCount (status_of traced.end) (I.faults inputs.old)
         (I.faults inputs.new)) }
     ensures rose { IfOk result (λ traced. traced.end ≡ PagesEnd.Unread
         → Rose (I.faults inputs.old) (I.faults inputs.new)) }
     ensures steady_input { IfErr result (λ _. I.faults inputs.new ≡ I.faults inputs.old) }
-    ensures output { IfErr result (λ status. OutputCount status (O.faults outs.old) (O.faults outs.new)
+    ensures output { IfErr result
+        (λ status. OutputCount status (O.faults outs.old) (O.faults outs.new)
         (O.is_ready outs.new)) }
     ensures steady_output { OnOk result ((O.faults outs.new ≡ O.faults outs.old)
         × (O.is_ready outs.new ≡ false)) }
@@ -131,7 +134,8 @@ pub fn trace_pages<R: Threads + Sync, I: Inputs, O: Outputs, E: Sink, G: Gate + 
     ensures outputs_never_fall { O.faults outs.old ≤ O.faults outs.new }
     ensures same_openings { I.openings inputs.new ≡ I.openings inputs.old }
     ensures same_name { opened_name (I.files inputs.new) ≡ opened_name (I.files inputs.old) }
-    ensures same_contents { told_contents (I.files inputs.new) ≡ told_contents (I.files inputs.old) }
+    ensures same_contents { told_contents (I.files inputs.new)
+        ≡ told_contents (I.files inputs.old) }
     ensures stays_ready { E.is_ready errs.new ≡ true }
 {
     let first = made.count(base);
@@ -143,7 +147,9 @@ pub fn trace_pages<R: Threads + Sync, I: Inputs, O: Outputs, E: Sink, G: Gate + 
             Err(end) => return Ok(Traced { pages, end }),
         };
         let k = first + pages + 1;
-        match hold_page(rt, alloc, settings, workers, base, k, page, batch, outs, errs, gate) {
+        match hold_page(
+            rt, alloc, settings, workers, base, k, page, batch, outs, errs, gate,
+        ) {
             Ok(()) => pages += 1,
             Err(status) => return Err(status),
         }
@@ -152,7 +158,8 @@ pub fn trace_pages<R: Threads + Sync, I: Inputs, O: Outputs, E: Sink, G: Gate + 
     Ok(Traced { pages, end })
 }
 
-/// Holds a page, whose document is the k-th with its base name. A batch that is full is carried out.
+/// Holds a page, whose document is the k-th with its base name. A batch that is full is carried
+/// out. An `Err` says how the run ends there: that is said.
 fn hold_page<R: Threads + Sync, O: Outputs, E: Sink, G: Gate + Sync>(
     rt: &R,
     alloc: Global,
@@ -206,9 +213,11 @@ fn hold_page<R: Threads + Sync, O: Outputs, E: Sink, G: Gate + Sync>(
           errs = E.documents errs.new;
           errs_faults = E.faults errs.new;
         })) }
-    ensures status { IfErr result (λ status. (status ≡ Status.Unwritten) ⊎ (status ≡ Status.OutOfMemory)) }
+    ensures status { IfErr result
+        (λ status. (status ≡ Status.Unwritten) ⊎ (status ≡ Status.OutOfMemory)) }
     ensures still_not_full { OnOk result (pages_held batch.new < 2 * workers) }
-    ensures output { IfErr result (λ status. OutputCount status (O.faults outs.old) (O.faults outs.new)
+    ensures output { IfErr result
+        (λ status. OutputCount status (O.faults outs.old) (O.faults outs.new)
         (O.is_ready outs.new)) }
     ensures steady_output { OnOk result ((O.faults outs.new ≡ O.faults outs.old)
         × (O.is_ready outs.new ≡ false)) }
@@ -219,10 +228,10 @@ fn hold_page<R: Threads + Sync, O: Outputs, E: Sink, G: Gate + Sync>(
         say_out_of_memory(errs);
         return Err(Status::OutOfMemory);
     };
-    if batch.push(name, page).is_err() {
+    let Ok(()) = batch.push(name, page) else {
         say_out_of_memory(errs);
         return Err(Status::OutOfMemory);
-    }
+    };
     if batch.count() < 2 * workers as usize {
         return Ok(());
     }
@@ -258,7 +267,8 @@ fn read_next<I: Inputs>(
     ensures stays_opened { I.is_opened inputs.new ≡ true }
     ensures same_openings { I.openings inputs.new ≡ I.openings inputs.old }
     ensures same_name { opened_name (I.files inputs.new) ≡ opened_name (I.files inputs.old) }
-    ensures same_contents { told_contents (I.files inputs.new) ≡ told_contents (I.files inputs.old) }
+    ensures same_contents { told_contents (I.files inputs.new)
+        ≡ told_contents (I.files inputs.old) }
 {
     let level = Level::from_micro(settings.level);
     match reader.next(alloc, inputs, &level, settings.invert) {
@@ -270,7 +280,7 @@ fn read_next<I: Inputs>(
     }
 }
 
-/// Why no further page is traced, where the reader tells of a fault.
+/// Why no further page is read, where the reader tells of a fault.
 fn end_of(fault: InFault) -> PagesEnd
     ensures { result ≡ end_of_fault fault }
 {
@@ -293,7 +303,8 @@ fn end_after_most<I: Inputs>(
     requires room { reader.old.pages < 4294967295 }
     requires at_end { reader.old.ended ≡ true → AtEnd (I.files inputs.old) }
     requires going_on { reader.old.over ≡ false }
-    ensures ends { EndsBy (reader_is_later reader.old) (ahead reader.old (I.files inputs.old)) result }
+    ensures ends { EndsBy (reader_is_later reader.old) (ahead reader.old (I.files inputs.old))
+        result }
     ensures read_fault { result ≡ PagesEnd.Unread
         → ReadFails reader.old (I.files inputs.old) reader.new (I.files inputs.new)
         × Rose (I.faults inputs.old) (I.faults inputs.new) }
@@ -301,7 +312,8 @@ fn end_after_most<I: Inputs>(
     ensures never_falls { I.faults inputs.old ≤ I.faults inputs.new }
     ensures same_openings { I.openings inputs.new ≡ I.openings inputs.old }
     ensures same_name { opened_name (I.files inputs.new) ≡ opened_name (I.files inputs.old) }
-    ensures same_contents { told_contents (I.files inputs.new) ≡ told_contents (I.files inputs.old) }
+    ensures same_contents { told_contents (I.files inputs.new)
+        ≡ told_contents (I.files inputs.old) }
 {
     match read_next(alloc, settings, reader, inputs) {
         Ok(_page) => PagesEnd::TooMany,
