@@ -63,8 +63,14 @@ named_inputs (file ∷ files) named = named
 
 files_can_be_done : (g : Given) (names : List (List ℕ)) (output : Option (List ℕ)) (workers : ℕ) (settings : Settings)
     → AsksFiles g names output workers settings → CanBeDone (Files names output workers settings)
-files_can_be_done g names output workers settings asks =
-    (offered g settings asks.under, rw asks.inputs (some_input g.files), rw asks.inputs (named_inputs g.files asks.proper.not_empty), rw asks.named asks.output_not_empty)
+files_can_be_done g names output workers settings asks = (
+  offered g settings asks.under,
+  rw asks.inputs (some_input g.files),
+  rw asks.inputs (named_inputs g.files asks.proper.not_empty),
+  rw asks.named asks.output_not_empty,
+  omega (arith, asks.by),
+  omega (arith, asks.by),
+)
 
 possible_of_given : (version : Bool) (g : Given) (ask : Ask) → AsksOf version g ask → CanBeDone ask
 possible_of_given true g Help asks = tt

@@ -102,9 +102,11 @@ Asks (words.Gives given) ask = AsksOf given.version given ask
 abbrev pub IsAsked : List (List ℕ) → Ask → Type 0
 IsAsked words ask = Asks (parsed words) ask
 
--- the program can do what is asked for: the settings are in range, there is a file, and no name is empty
+-- the program can do what is asked for: the settings and workers are in range, there is a file, and no name is
+-- empty
 abbrev pub CanBeDone : Ask → Type 0
 CanBeDone Help = Unit {0}
 CanBeDone Version = Unit {0}
 CanBeDone (Demo pages workers settings) = IsOffered settings
-CanBeDone (Files names output workers settings) = IsOffered settings × (names ≢ []) × All (λ name. name ≢ []) names × (output ≢ Some [])
+CanBeDone (Files names output workers settings) =
+    IsOffered settings × (names ≢ []) × All (λ name. name ≢ []) names × (output ≢ Some []) × (1 ≤ workers) × (workers ≤ 64)
