@@ -65,6 +65,7 @@ pub mod Status
 --   StopsReading: a read failed behind these pages
 --   HoldsBytes: the bytes of a file are those that were taken and those still unread
 --   IsUnread: a read failed
+--   IsOutcomeBehind: what was done of first items and of those of files
 --   IsOutcome: what was done of the items of files
 pub mod Outcome
 -- What was read and isn't carried out yet.
