@@ -166,11 +166,15 @@ end_said name end k s line is going memory same items a b c done outs said most 
     (only_said (end_message name end k) b c outs (subst (λ m. IsSaid b.errs c.errs b.errs_faults c.errs_faults m) same said) most) in
     inl (is, going, memory, subst (λ (l : List Item). AreCarriedOut l (end_message name end k ∷ []) a c) (append-nil items) both)
 
--- how the inputs moved where the run ends in a file
+-- how the inputs moved where the run ends within items: that isn't told
+input_of_halt : (s : Status) → IsHalt s → (before now : ℕ) → InputCount s before now
+input_of_halt s (inl is) before now = subst (λ v. InputCount v before now) (sym is) tt
+input_of_halt s (inr is) before now = subst (λ v. InputCount v before now) (sym is) tt
+
+-- how they moved where the run ends in a file
 pub input_count : (s : Status) (end : PagesEnd) (before now : ℕ) → (s ≡ status_of end) ⊎ IsHalt s → InputCount (status_of end) before now → InputCount s before now
 input_count s end before now (inl is) count = subst (λ v. InputCount v before now) (sym is) count
-input_count s end before now (inr (inl is)) count = subst (λ v. InputCount v before now) (sym is) tt
-input_count s end before now (inr (inr is)) count = subst (λ v. InputCount v before now) (sym is) tt
+input_count s end before now (inr which) count = input_of_halt s which before now
 
 -- the run ends in the file
 module _ (size : ℕ) (settings : Settings) (can : CanWrite settings) (output : Option (List ℕ)) (name : List ℕ) (made : List (List ℕ)) (start : Option Files) (k : ℕ) (held held_mid : List Held)

@@ -123,8 +123,8 @@ pub record OpensUpTo (names : List (List ℕ)) (name : List ℕ) (front : List (
   pub listed : names ≡ front ++ name ∷ back
   pub grew : openings_now ≡ min (openings + (length front + 1)) last_count
 
--- a file can't be opened: it isn't there, or a device failed. The first items, and all items of the files in front of it are
--- carried out, and its message is the last one.
+-- a file can't be opened: it isn't there, or a device failed. The first items, and all items of the files in
+-- front of it, are carried out, and its message is the last one.
 pub record IsUnopened (first : List Item) (contents : Option Contents) (settings : Settings) (output : Option (List ℕ)) (names made : List (List ℕ)) (source source_now : Source) (old new : Sinks) : Type 0 where
   pub name : List ℕ
   pub front : List (List ℕ)
@@ -165,8 +165,8 @@ abbrev pub HoldsBytes : Option Contents → List ℕ → List ℕ → List ℕ �
 HoldsBytes None name taken rest = Unit {0}
 HoldsBytes (Some contents) name taken rest = get contents name ≡ Some (taken ++ rest)
 
--- a read failed: the first items, all items of the files in front of the opened one, and the documents of its pages that had
--- been taken whole, are carried out, and the message of the page behind them is the last one
+-- a read failed: the first items, all items of the files in front of the opened one, and the documents of its
+-- pages that had been taken whole, are carried out, and the message of the page behind them is the last one
 pub record IsUnread (first : List Item) (contents : Option Contents) (settings : Settings) (output : Option (List ℕ)) (names made : List (List ℕ)) (source source_now : Source) (old new : Sinks) : Type 0 where
   pub name : List ℕ
   pub front : List (List ℕ)

@@ -15,8 +15,8 @@ use Rattle.bitmap_input.specs.FilePages.{next_begins}
 use Rattle.bitmap_input.specs.Reading.{Moves, cause_of_fault}
 use Rattle.bitmap_input.specs.Reading.Cause.{Says}
 use Rattle.bitmap_input.specs.Reader.{Reader, ahead as reader_ahead, is_later as reader_is_later}
-use Rattle.file_trace.specs.Messages.{not_written, out_of_memory, page_line, read_fault, trailing_line}
-use Rattle.file_trace.specs.Names.{made_with, next_name}
+use Rattle.file_trace.specs.Messages.{out_of_memory, page_line, read_fault, trailing_line}
+use Rattle.file_trace.specs.Names.{next_name}
 use Rattle.page_trace.specs.Document.{IsDocument}
 use Rattle.file_trace.specs.Items.{AreItems, Item, Rest, doc_count, most_pages, too_many}
 use Rattle.file_trace.specs.Items.Item.{Doc, Note}

@@ -28,13 +28,13 @@ use std::thread::Threads;
 /// The files are taken in order: each is opened once, its pages are read one after another, and each page's
 /// document is written under its name. After a fault of the outputs nothing more is written to them.
 pub fn run<R: Threads + Sync, I: Inputs, O: Outputs, E: Sink, G: Gate + Sync>(
-    _rt: &R,
+    rt: &R,
     alloc: Global,
     words: &[String],
     inputs: &mut I,
     outs: &mut O,
     errs: &mut E,
-    _gate: &G,
+    gate: &G,
 ) -> u8
     requires closed { O.is_ready outs.old ≡ false }
     requires ready { E.is_ready errs.old ≡ true }
@@ -131,16 +131,18 @@ pub fn run<R: Threads + Sync, I: Inputs, O: Outputs, E: Sink, G: Gate + Sync>(
     // No document stays open but for a fault of the outputs.
     ensures closed { result ≢ code_of Status.Unwritten → O.is_ready outs.new ≡ false }
 {
-    answer(alloc, words, inputs, outs, errs).code()
+    answer(rt, alloc, words, inputs, outs, errs, gate).code()
 }
 
 /// Does all that the words ask for.
-fn answer<I: Inputs, O: Outputs, E: Sink>(
+fn answer<R: Threads + Sync, I: Inputs, O: Outputs, E: Sink, G: Gate + Sync>(
+    rt: &R,
     alloc: Global,
     words: &[String],
     inputs: &mut I,
     outs: &mut O,
     errs: &mut E,
+    gate: &G,
 ) -> Status
     requires closed { O.is_ready outs.old ≡ false }
     requires ready { E.is_ready errs.old ≡ true }
@@ -193,7 +195,7 @@ fn answer<I: Inputs, O: Outputs, E: Sink>(
         (O.is_ready outs.new) }
 {
     match settings_of(alloc, words) {
-        Ok(ask) => carry_out(alloc, ask, inputs, outs, errs),
+        Ok(ask) => carry_out(rt, alloc, ask, inputs, outs, errs, gate),
         Err(WordFault::Bad) => {
             say_bad_words(errs);
             Status::BadWords
@@ -206,12 +208,14 @@ fn answer<I: Inputs, O: Outputs, E: Sink>(
 }
 
 /// Does what is asked for.
-fn carry_out<I: Inputs, O: Outputs, E: Sink>(
+fn carry_out<R: Threads + Sync, I: Inputs, O: Outputs, E: Sink, G: Gate + Sync>(
+    rt: &R,
     alloc: Global,
     ask: Ask,
     inputs: &mut I,
     outs: &mut O,
     errs: &mut E,
+    gate: &G,
 ) -> Status
     requires possible { CanBeDone ask }
     requires known { IsKnown ask }
@@ -252,18 +256,21 @@ fn carry_out<I: Inputs, O: Outputs, E: Sink>(
         Ask::Files {
             names,
             output,
+            workers,
             settings,
-            ..
         } => {
             let output = text_of(&output);
             trace_files(
+                rt,
                 alloc,
                 settings,
+                workers,
                 output,
                 names.as_slice(),
                 inputs,
                 outs,
                 errs,
+                gate,
             )
         }
     }

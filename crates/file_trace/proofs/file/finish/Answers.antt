@@ -1,8 +1,7 @@
-use Rattle.std.proofs.Common.{◌≡◌, ◌∙◌, ◌∷◌, ◌++◌, ◌+◌, List, [], inl, inr, refl, ap, append-nil, arith}
+use Rattle.std.proofs.Common.{◌∷◌, [], inl, inr, refl, append-nil, arith}
 use Rattle.std.proofs.lemmas.Result.{IfErr-weaker, on_ok_weaker}
 use Rattle.file_trace.specs.Held.Held.{Message}
-use Rattle.file_trace.specs.Items.Item.{Note}
-use Rattle.file_trace.specs.Messages.{page_line, trailing_line}
+use Rattle.file_trace.specs.Messages.{trailing_line}
 use Rattle.file_trace.proofs.Ending.{end_said}
 use Rattle.file_trace.proofs.Holding.{AreHeld-note, all_held, pages_held-append}
 use Rattle.file_trace.proofs.Keeping.{memory_out}

@@ -3,7 +3,7 @@ use Rattle.std.proofs.lemmas.List.{take_all}
 use Rattle.file_trace.specs.Items.{told_contents}
 use Rattle.file_trace.specs.Outcome.{Source}
 use Rattle.file_trace.proofs.Ending.{ends_at_once}
-use Rattle.potrace_main.proofs.Running.{all_done, ends_in, none_done, one_done, openings_more, opens_to}
+use Rattle.potrace_main.proofs.Running.{all_done, ends_after, ends_in, none_done, one_done, openings_more, opens_to}
 use Rattle.potrace_main.proofs.files.trace_files.Goals as goal
 
 -- memory ran out before the first file
@@ -11,7 +11,7 @@ pub returns-in_default-clause-outcome : goal.returns-in_default-clause-outcome
 returns-in_default-clause-outcome g c =
     let output : Option (List ℕ) = option_map (λ s. s.now) c.args.output in
     ends_at_once (told_contents (g.I.Inputs.files c.args.inputs.now)) c.args.settings c.requires.offered.document output c.args.names.now [] _ _ refl
-    c.say_out_of_memory.ensures.said c.say_out_of_memory.ensures.never_falls
+    c.say_out_of_memory.ensures.said c.say_out_of_memory.ensures.never_falls []
 
 pub returns-in_default-clause-opened : goal.returns-in_default-clause-opened
 returns-in_default-clause-opened g c = inl (refl, refl)
@@ -21,10 +21,11 @@ pub loop-name-init : goal.loop-name-init
 loop-name-init g c =
     let output : Option (List ℕ) = option_map (λ s. s.now) c.args.output in
     record {
-      done = rw c.new-made.ensures (none_done (told_contents (g.I.Inputs.files c.args.inputs.now)) c.args.settings output _);
+      done = rw (c.new-made.ensures, c.new-batch.ensures) (none_done (told_contents (g.I.Inputs.files c.args.inputs.now)) c.args.settings output _);
       openings = (let most = g.met.I.Inputs.openings_counted c.args.inputs.now in omega (arith, most));
       opened = inl (refl, refl);
       contents = refl;
+      not_full = rw c.new-batch.ensures (omega (arith, c.requires.some_worker));
       input = refl;
       output = refl;
       closed = c.requires.closed;
@@ -40,10 +41,11 @@ loop-name-preserved g c =
     let now : Source = record { files = g.I.Inputs.files c.trace_file-traced.new.inputs; is_opened = g.I.Inputs.is_opened c.trace_file-traced.new.inputs; openings = g.I.Inputs.openings c.trace_file-traced.new.inputs; faults = g.I.Inputs.faults c.trace_file-traced.new.inputs } in
     let named = rw c.as_str.ensures at c.trace_file-traced.ensures.name in
     record {
-      done = one_done _ _ _ _ c.loop-name.name-index c.name-item.result _ _ _ _ _ c.loop-name-test.true c.name-item.is c.loop-name.invariant.done file;
+      done = one_done _ _ _ _ c.loop-name.name-index c.name-item.result _ _ _ _ _ _ _ c.loop-name-test.true c.name-item.is c.loop-name.invariant.done file;
       openings = openings_more _ c.loop-name.name-index _ _ c.loop-name.invariant.openings c.trace_file-traced.ensures.one_more;
       opened = opens_to c.args.names.now c.loop-name.name-index c.name-item.result source then now c.loop-name-test.true c.name-item.is c.loop-name.invariant.openings c.trace_file-traced.ensures.one_more named;
       contents = c.trace_file-traced.ensures.same_contents ∙ c.loop-name.invariant.contents;
+      not_full = c.in-Ok-traced.ensures.still_not_full;
       input = c.in-Ok-traced.ensures.steady_input ∙ c.loop-name.invariant.input;
       output = c.in-Ok-traced.ensures.steady_output.0 ∙ c.loop-name.invariant.output;
       closed = c.in-Ok-traced.ensures.steady_output.1;
@@ -54,7 +56,7 @@ loop-name-preserved g c =
 pub returns-in-Err-clause-outcome : goal.returns-in-Err-clause-outcome
 returns-in-Err-clause-outcome g c =
     let ends = rw (c.loop-name.invariant.contents, c.as_str.ensures) at c.in-Err.ensures.ends in
-    ends_in c.in-Err.status _ _ _ _ c.loop-name.name-index c.name-item.result _ _ _ _ _ _ _ c.loop-name-test.true c.name-item.is c.loop-name.invariant.done
+    ends_in c.in-Err.status _ _ _ _ c.loop-name.name-index c.name-item.result _ _ _ _ _ _ _ _ c.loop-name-test.true c.name-item.is c.loop-name.invariant.done
     c.loop-name.invariant.openings c.loop-name.invariant.input ends
 
 pub returns-in-Err-clause-opened : goal.returns-in-Err-clause-opened
@@ -72,6 +74,15 @@ pub returns-in-Err-clause-output : goal.returns-in-Err-clause-output
 returns-in-Err-clause-output g c = rw c.loop-name.invariant.output at c.in-Err.ensures.output
 
 -- all files are done
+pub returns-in-Ok-carry_out-clause-outcome : goal.returns-in-Ok-carry_out-clause-outcome
+returns-in-Ok-carry_out-clause-outcome g c =
+    all_done _ _ _ _ _ _ _ _ _ (rw (take_all c.loop-name.name-index c.args.names.now c.loop-name-test.false) at c.loop-name.invariant.done) c.in-Ok-carry_out.ensures.done
+
+pub returns-in-Ok-carry_out-clause-output : goal.returns-in-Ok-carry_out-clause-output
+returns-in-Ok-carry_out-clause-output g c = (c.in-Ok-carry_out.ensures.steady_output.0 ∙ c.loop-name.invariant.output, c.in-Ok-carry_out.ensures.steady_output.1)
+
+-- or not carried out
 pub returns-clause-outcome : goal.returns-clause-outcome
 returns-clause-outcome g c =
-    all_done _ _ _ _ _ _ _ (rw (take_all c.loop-name.name-index c.args.names.now c.loop-name-test.false) at c.loop-name.invariant.done)
+    ends_after c.in-Err-carry_out.status c.in-Err-carry_out.ensures.status _ _ _ _ _ _ _ _ _ _ _ (rw (take_all c.loop-name.name-index c.args.names.now c.loop-name-test.false) at c.loop-name.invariant.done)
+    c.in-Err-carry_out.ensures.ends

@@ -10,7 +10,7 @@ use Rattle.potrace_main.proofs.top.answer.Goals as goal
 
 -- what the words ask for is done
 pub carry_out-requires-clause-known : goal.carry_out-requires-clause-known
-carry_out-requires-clause-known g c = asked_known (map string_bytes c.args.words.now) c.in-Ok.ask c.in-Ok.ensures.ok
+carry_out-requires-clause-known g c = λ κs _. asked_known (map string_bytes c.args.words.now) c.in-Ok.ask c.in-Ok.ensures.ok
 
 pub returns-in-Ok-clause-ran : goal.returns-in-Ok-clause-ran
 returns-in-Ok-clause-ran g c = λ ask asked. rw (one_ask (map string_bytes c.args.words.now) ask c.in-Ok.ask asked c.in-Ok.ensures.ok) c.carry_out.ensures.ran
