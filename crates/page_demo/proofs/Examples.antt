@@ -4,7 +4,7 @@ use Rattle.bit_image.specs.Image.{white}
 use Rattle.page_demo.specs.declared.bar.Bar.{Bar}
 use Rattle.page_demo.specs.declared.rectangle.Rectangle.{Rectangle}
 use Rattle.page_demo.specs.Generator.{next_state, number_at, state_after}
-use Rattle.page_demo.specs.Picture.{bar_at, inverted, is_in_bar, is_in_rectangle, rectangle_at, with_rectangles}
+use Rattle.page_demo.specs.Picture.{bar_at, inverted, is_in_bar, is_in_rectangle, rectangle_at}
 
 -- the first numbers of three pages, worked out apart from this
 first_number : number_at 3 ≡ 15547
