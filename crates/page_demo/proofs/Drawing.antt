@@ -1,14 +1,14 @@
 -- States of the generator, and the pages that are made from them.
 use Rattle.std.proofs.Common.{◌≡◌, ℕ, zero, suc, ◌+◌, ◌*◌, Bool, List, [], ◌∷◌, ◌++◌, refl, sym, ap, ◌∙◌, arith, add-one, append_assoc}
 use Rattle.std.proofs.Math.Path.{fun_ext}
-use Rattle.bit_image.specs.Image.{Image, IsWhite, white}
+use Rattle.bit_image.specs.Image.{Image, IsWhite, differ, white}
 use Rattle.bit_image.specs.Page.{IsPage, Page, image_of, page_of}
 use Rattle.bit_image.proofs.Pages.{IsPage-page_of, page_of-image_of}
 use Rattle.page_demo.specs.declared.bar.Bar.{Bar}
 use Rattle.page_demo.specs.declared.page.TheConstants.{BARS, HEIGHT, RECTANGLES, WIDTH}
 use Rattle.page_demo.specs.declared.rectangle.Rectangle.{Rectangle}
 use Rattle.page_demo.specs.Generator.{next_state, state_after}
-use Rattle.page_demo.specs.Picture.{bar_at, inverted, is_in_bar, is_in_rectangle, pages_from, picture, picture_page, rectangle_at, with_bars, with_rectangles}
+use Rattle.page_demo.specs.Picture.{bar_at, is_in_bar, is_in_rectangle, pages_from, picture, picture_page, rectangle_at, with_bars, with_rectangles}
 
 -- a draw more
 pub one_draw : (n s t w : ℕ) → t ≡ state_after n s → w ≡ next_state t → w ≡ state_after (suc n) s
@@ -35,14 +35,14 @@ as_many_more m n s t w p q =
 
 -- a rectangle more
 pub one_rectangle : (n s t : ℕ) (b : Image) (x : Bool) (r : Rectangle) (u v : ℕ) → t ≡ state_after (4 * n) s → r ≡ rectangle_at t
-    → x ≡ with_rectangles n s b u v → inverted (λ _ _. x) (is_in_rectangle r) u v ≡ with_rectangles (n + 1) s b u v
+    → x ≡ with_rectangles n s b u v → differ x (is_in_rectangle r u v) ≡ with_rectangles (n + 1) s b u v
 unfolding with_rectangles
 one_rectangle n s t b x r u v at is so_far =
     rw (add-one, so_far, is, at) refl
 
 -- a bar more
 pub one_bar : (n s t : ℕ) (b : Image) (x : Bool) (bar : Bar) (u v : ℕ) → t ≡ state_after (3 * n) s → bar ≡ bar_at t
-    → x ≡ with_bars n s b u v → inverted (λ _ _. x) (is_in_bar bar) u v ≡ with_bars (n + 1) s b u v
+    → x ≡ with_bars n s b u v → differ x (is_in_bar bar u v) ≡ with_bars (n + 1) s b u v
 unfolding with_bars
 one_bar n s t b x bar u v at is so_far =
     rw (add-one, so_far, is, at) refl

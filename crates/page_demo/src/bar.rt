@@ -17,7 +17,7 @@ pub const BAR_HEIGHT: u32 = 6;
 
 /// A bar that rises by a row every `run` columns. Its first column is `left`, and its lowest pixel there is
 /// in row `bottom`.
-#[derive(Clone, Copy, Debug)]
+#[derive(Clone, Copy)]
 pub struct Bar {
     pub left: u32,
     pub bottom: u32,

@@ -15,7 +15,7 @@ use std::thread::Threads;
 
 /// The lines of so many pages, in order.
 ///
-/// The workers trace two pages each before further pages are made, so that no more of them are held.
+/// A batch has two pages for each worker, so that no more of them are held at a time.
 pub fn demo_text<R: Threads + Sync, G: Gate + Sync>(
     rt: &R,
     alloc: Global,

@@ -5,7 +5,7 @@ ghost use Rattle.page_demo.specs.Generator.{next_state, number_at};
 use std::marker::Model;
 
 /// A generator of numbers of 16 bits. Contracts see its state.
-#[derive(Debug, Drop)]
+#[derive(Drop)]
 pub struct Generator {
     state: u32,
 }

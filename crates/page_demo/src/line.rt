@@ -19,7 +19,7 @@ use std::marker::Model;
 /// The line of a page, as a job of the workers.
 //
 // The page is traced once for the counts, and once more for its document: a demo is in no hurry.
-#[derive(Debug, Drop)]
+#[derive(Drop)]
 pub(crate) struct LineJob {
     pub(crate) settings: Settings,
 }

@@ -9,7 +9,7 @@ use crate::page::{HEIGHT, WIDTH};
 use bit_image::bitmap::Bitmap;
 
 /// The pixels in so many columns from `left` on, and in so many rows from `bottom` up.
-#[derive(Clone, Copy, Debug)]
+#[derive(Clone, Copy)]
 pub struct Rectangle {
     pub left: u32,
     pub bottom: u32,
