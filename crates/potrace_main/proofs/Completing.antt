@@ -17,8 +17,9 @@ use Rattle.file_trace.specs.declared.status.Status.TheVariants as status
 use Rattle.file_trace.proofs.Ending.{ends_at_once}
 use Rattle.file_trace.proofs.Exists.{items_found}
 use Rattle.file_trace.proofs.Joining.{items_behind}
+use Rattle.page_demo.proofs.Found.{demo_found}
 use Rattle.potrace_main.specs.Asked.{CanBeDone}
-use Rattle.potrace_main.specs.Run.{AreItemsOf, EndsMissing, EndsRefused, IsCodeOf, IsComplete, IsKnown, IsMissing, IsOutcomeOf, IsRun, OpensFirst, names_of}
+use Rattle.potrace_main.specs.Run.{AreItemsOf, EndsMissing, EndsRefused, IsCodeOf, IsComplete, IsMissing, IsOutcomeOf, IsRun, OpensFirst, names_of}
 use Rattle.potrace_main.specs.Usage.{help_text, version_text}
 use Rattle.potrace_main.specs.declared.ask.Ask.{Ask}
 use Rattle.potrace_main.specs.declared.ask.Ask.TheVariants as asks
@@ -121,7 +122,8 @@ pub run_complete : (ask : Ask) (s : Status) (source now : Source) (a b : Sinks) 
     → (items : List Item) × AreItemsOf ask (told_contents source.files) items × ((Rose source.faults now.faults → ⊥) → (Rose a.outs_faults b.outs_faults → ⊥) → IsComplete s items)
 run_complete asks.Help s source now a b can ran = (_, refl, λ _ no_write. text_complete s help_text _ _ _ a b ran.outcome ran.output no_write)
 run_complete asks.Version s source now a b can ran = (_, refl, λ _ no_write. text_complete s version_text _ _ _ a b ran.outcome ran.output no_write)
-run_complete (asks.Demo pages workers settings) s source now a b can ran = absurd ran.outcome
+run_complete (asks.Demo pages workers settings) s source now a b can ran =
+    let (text, is, ended) = ran.outcome in (_, (text, is, refl), λ _ no_write. text_complete s text _ _ _ a b ended ran.output no_write)
 run_complete (asks.Files names output workers settings) s source now a b can ran = files_complete s settings can.0.document output names source now a b ran.outcome ran.output
 
 -- a status of an input that fails has its cause
@@ -137,7 +139,8 @@ pub run_unread : (ask : Ask) (s : Status) (source now : Source) (a b : Sinks) �
     → Rose source.faults now.faults ⊎ IsMissing (names_of ask) (told_contents source.files)
 run_unread asks.Help s source now a b ran is = absurd (subst (λ t. HasEnded t (Doc dash help_text ∷ []) a b) is ran.outcome)
 run_unread asks.Version s source now a b ran is = absurd (subst (λ t. HasEnded t (Doc dash version_text ∷ []) a b) is ran.outcome)
-run_unread (asks.Demo pages workers settings) s source now a b ran is = absurd ran.outcome
+run_unread (asks.Demo pages workers settings) s source now a b ran is =
+    let (text, demo, ended) = ran.outcome in absurd (subst (λ t. HasEnded t (Doc dash text ∷ []) a b) is ended)
 run_unread (asks.Files names output workers settings) s source now a b ran is =
     unread_cause settings output names source now a b (subst (λ t. IsOutcome t (told_contents source.files) settings output names [] source now a b) is ran.outcome)
 
@@ -175,16 +178,17 @@ pub run_absent : (ask : Ask) (s : Status) (name : List ℕ) (names : List (List 
     → IsAbsent (told_contents source.files) name → (s ≡ status.Unread) ⊎ (s ≡ status.OutOfMemory)
 run_absent asks.Help s name names source now a b ran is absent = absurd (let e : [] ≡ name ∷ names = is in cc)
 run_absent asks.Version s name names source now a b ran is absent = absurd (let e : [] ≡ name ∷ names = is in cc)
-run_absent (asks.Demo pages workers settings) s name names source now a b ran is absent = absurd ran.outcome
+run_absent (asks.Demo pages workers settings) s name names source now a b ran is absent = absurd (let e : [] ≡ name ∷ names = is in cc)
 run_absent (asks.Files listed output workers settings) s name names source now a b ran is absent =
     first_absent s settings output name names source now a b absent (subst (λ ns. IsOutcome s (told_contents source.files) settings output ns [] source now a b) is ran.outcome)
 
 -- memory ran out while the words were read
-pub out_at_once : (ask : Ask) (source : Source) (a b : Sinks) → CanBeDone ask → IsKnown ask → AreCarriedOut [] (out_of_memory ∷ []) a b → IsOutcomeOf ask status.OutOfMemory source source a b
-out_at_once asks.Help source a b can known done = record { before = []; after = Doc dash help_text ∷ []; split = refl; done = done }
-out_at_once asks.Version source a b can known done = record { before = []; after = Doc dash version_text ∷ []; split = refl; done = done }
-out_at_once (asks.Demo pages workers settings) source a b can known done = absurd known
-out_at_once (asks.Files names output workers settings) source a b can known done =
+pub out_at_once : (ask : Ask) (source : Source) (a b : Sinks) → CanBeDone ask → AreCarriedOut [] (out_of_memory ∷ []) a b → IsOutcomeOf ask status.OutOfMemory source source a b
+out_at_once asks.Help source a b can done = record { before = []; after = Doc dash help_text ∷ []; split = refl; done = done }
+out_at_once asks.Version source a b can done = record { before = []; after = Doc dash version_text ∷ []; split = refl; done = done }
+out_at_once (asks.Demo pages workers settings) source a b can done =
+    let (text, is) = demo_found pages settings can.0.document in (text, is, record { before = []; after = Doc dash text ∷ []; split = refl; done = done })
+out_at_once (asks.Files names output workers settings) source a b can done =
     let items = items_found (told_contents source.files) settings can.0.document output names [] in
     (items.0, items.1, record { before = []; after = items.0; split = refl; done = done })
 
@@ -252,5 +256,5 @@ closed_else status.OutOfMemory before now ready w other = w.1
 pub never_refuses : (ask : Ask) (source now : Source) (a b : Sinks) → IsRun ask status.BadWords source now a b → ⊥
 never_refuses asks.Help source now a b ran = ran.outcome
 never_refuses asks.Version source now a b ran = ran.outcome
-never_refuses (asks.Demo pages workers settings) source now a b ran = ran.outcome
+never_refuses (asks.Demo pages workers settings) source now a b ran = ran.outcome.2
 never_refuses (asks.Files names output workers settings) source now a b ran = ran.outcome.2

@@ -24,12 +24,12 @@ pub mod Usage
 --   AreItemsOf: what a run is to write that is asked for this
 --   IsOutcomeOf: what a run has done that was asked for this
 --   names_of: the files that a run may open
---   IsKnown: the program does this
 --   IsMissing: one of these files isn't there
 --   RefusesWords: words were refused
 --   OpensFirst: nothing was opened; or the first of these files were
 --   EndsRefused: the last of the items is a refusal
 --   EndsMissing: the last of the items is a file that isn't there
 --   IsComplete: what the status is where no device failed
+--   IsOnePassOf: no more was read than the batch of a document that couldn't be written
 --   IsRun: all that a run does that is asked for this
 pub mod Run

@@ -1,16 +1,18 @@
 -- What the top call promises.
-use Rattle.std.specs.Prelude.{◌≡◌, ◌≢◌, ℕ, ◌≤◌, ◌⊎◌, Bool, List, [], ◌∷◌, ◌++◌, Option, Some, IfSome}
+use Rattle.std.specs.Prelude.{◌≡◌, ◌≢◌, ℕ, ◌*◌, ◌≤◌, ◌⊎◌, Bool, List, [], ◌∷◌, ◌++◌, Option, Some, IfSome}
 use Rattle.pt_base.specs.Counts.{Rose}
 use Rattle.pt_base.specs.Files.{Contents}
 use Rattle.file_trace.specs.Messages.{bad_words, out_of_memory}
 use Rattle.file_trace.specs.Names.{dash}
 use Rattle.file_trace.specs.Items.{AreItems, IsAbsent, Item, Nothing, told_contents}
 use Rattle.file_trace.specs.Items.Item.{Doc, Missing, Stop}
+use Rattle.file_trace.specs.OnePass.{IsOnePass}
 use Rattle.file_trace.specs.Outcome.{AreCarriedOut, GoesOn, HasEnded, IsOutcome, OpensUpTo, Sinks, Source}
 use Rattle.file_trace.specs.Progress.{InputCount, OutputCount, opened_name}
 use Rattle.file_trace.specs.Status.{code_of}
 use Rattle.file_trace.specs.declared.status.Status.{Status}
 use Rattle.file_trace.specs.declared.status.Status.TheVariants as status
+use Rattle.page_demo.specs.Line.{IsDemoText}
 use Rattle.potrace_main.specs.Usage.{help_text, version_text}
 use Rattle.potrace_main.specs.declared.ask.Ask.{Ask}
 use Rattle.potrace_main.specs.declared.ask.Ask.TheVariants as asks
@@ -23,14 +25,14 @@ IsCodeOf code P = (s : Status) × (code ≡ code_of s) × P s
 abbrev pub AreItemsOf : Ask → Option Contents → List Item → Type 0
 AreItemsOf asks.Help contents items = items ≡ Doc dash help_text ∷ []
 AreItemsOf asks.Version contents items = items ≡ Doc dash version_text ∷ []
-AreItemsOf (asks.Demo pages workers settings) contents items = ⊥
+AreItemsOf (asks.Demo pages workers settings) contents items = (text : List ℕ) × IsDemoText pages settings text × (items ≡ Doc dash text ∷ [])
 AreItemsOf (asks.Files names output workers settings) contents items = AreItems contents settings output Nothing names [] items
 
 -- what a run has done that was asked for this
 abbrev pub IsOutcomeOf : Ask → Status → Source → Source → Sinks → Sinks → Type 0
 IsOutcomeOf asks.Help s source source_now old new = HasEnded s (Doc dash help_text ∷ []) old new
 IsOutcomeOf asks.Version s source source_now old new = HasEnded s (Doc dash version_text ∷ []) old new
-IsOutcomeOf (asks.Demo pages workers settings) s source source_now old new = ⊥
+IsOutcomeOf (asks.Demo pages workers settings) s source source_now old new = (text : List ℕ) × IsDemoText pages settings text × HasEnded s (Doc dash text ∷ []) old new
 IsOutcomeOf (asks.Files names output workers settings) s source source_now old new = IsOutcome s (told_contents source.files) settings output names [] source source_now old new
 
 -- the files that a run may open
@@ -39,13 +41,6 @@ names_of asks.Help = []
 names_of asks.Version = []
 names_of (asks.Demo pages workers settings) = []
 names_of (asks.Files names output workers settings) = names
-
--- the program does this: it makes up no pages yet
-abbrev pub IsKnown : Ask → Type 0
-IsKnown asks.Help = Unit {0}
-IsKnown asks.Version = Unit {0}
-IsKnown (asks.Demo pages workers settings) = ⊥
-IsKnown (asks.Files names output workers settings) = Unit {0}
 
 -- one of these files isn't there
 abbrev pub IsMissing : List (List ℕ) → Option Contents → Type 0
@@ -83,9 +78,19 @@ pub record IsComplete (s : Status) (items : List Item) : Type 0 where
   pub refusal : EndsRefused items → (s ≡ status.Refused) ⊎ (s ≡ status.OutOfMemory)
   pub missing : EndsMissing items → (s ≡ status.Unread) ⊎ (s ≡ status.OutOfMemory)
 
+-- where a document of files couldn't be written, no more was read than the batch of that document: twice as many
+-- pages as there are workers
+abbrev pub IsOnePassOf : Ask → Source → Source → Sinks → Sinks → Type 0
+IsOnePassOf asks.Help source source_now old new = Unit {0}
+IsOnePassOf asks.Version source source_now old new = Unit {0}
+IsOnePassOf (asks.Demo pages workers settings) source source_now old new = Unit {0}
+IsOnePassOf (asks.Files names output workers settings) source source_now old new =
+    IsOnePass (2 * workers) [] (told_contents source.files) settings output names [] source source_now old new
+
 -- all that a run does that is asked for this
 pub record IsRun (ask : Ask) (s : Status) (source source_now : Source) (old new : Sinks) : Type 0 where
   pub outcome : IsOutcomeOf ask s source source_now old new
   pub opened : OpensFirst (names_of ask) source source_now
   pub input : InputCount s source.faults source_now.faults
   pub output : OutputCount s old.outs_faults new.outs_faults new.is_open
+  pub one_pass : s ≡ status.Unwritten → IsOnePassOf ask source source_now old new

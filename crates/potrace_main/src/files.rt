@@ -2,7 +2,9 @@
 ghost use Rattle.std.specs.Prelude.{◌≡◌, ◌≤◌, [], false, true, option_map};
 ghost use Rattle.file_trace.specs.Items.{told_contents};
 ghost use Rattle.file_trace.specs.Offered.{IsOffered};
+ghost use Rattle.file_trace.specs.OnePass.{IsOnePass};
 ghost use Rattle.file_trace.specs.Outcome.{IsOutcome};
+ghost use Rattle.file_trace.specs.declared.status.Status.{Status};
 ghost use Rattle.file_trace.specs.Progress.{InputCount, OutputCount};
 ghost use Rattle.potrace_main.specs.Run.{OpensFirst};
 
@@ -79,6 +81,34 @@ pub fn trace_files<R: Threads + Sync, I: Inputs, O: Outputs, E: Sink, G: Gate + 
           is_opened = I.is_opened inputs.new;
           openings = I.openings inputs.new;
           faults = I.faults inputs.new;
+        }) }
+    ensures one_pass { result ≡ Status.Unwritten → IsOnePass (2 * workers) []
+        (told_contents (I.files inputs.old)) settings (option_map (λ s. s.now) output.entry) names.now []
+        (record {
+          files = I.files inputs.old;
+          is_opened = I.is_opened inputs.old;
+          openings = I.openings inputs.old;
+          faults = I.faults inputs.old;
+        })
+        (record {
+          files = I.files inputs.new;
+          is_opened = I.is_opened inputs.new;
+          openings = I.openings inputs.new;
+          faults = I.faults inputs.new;
+        })
+        (record {
+          outs = O.documents outs.old;
+          outs_faults = O.faults outs.old;
+          is_open = O.is_ready outs.old;
+          errs = E.documents errs.old;
+          errs_faults = E.faults errs.old;
+        })
+        (record {
+          outs = O.documents outs.new;
+          outs_faults = O.faults outs.new;
+          is_open = O.is_ready outs.new;
+          errs = E.documents errs.new;
+          errs_faults = E.faults errs.new;
         }) }
     ensures input { InputCount result (I.faults inputs.old) (I.faults inputs.new) }
     ensures output { OutputCount result (O.faults outs.old) (O.faults outs.new)

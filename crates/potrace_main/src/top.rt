@@ -1,12 +1,18 @@
 //! The top call: all that the program does.
-ghost use Rattle.std.specs.Prelude.{◌≡◌, ◌≢◌, ◌<◌, ◌≤◌, ◌⊎◌, ◌∷◌, ℕ, List, true, false, map, option_map, string_bytes};
+ghost use Rattle.std.specs.Prelude.{◌≡◌, ◌≢◌, ◌<◌, ◌≤◌, ◌⊎◌, ◌∷◌, ℕ, List, [], true, false, map, option_map, string_bytes};
 ghost use Rattle.pt_base.specs.Counts.{Rose};
+ghost use Rattle.page_trace.specs.Document.{CanTrace};
+ghost use Rattle.page_demo.specs.Line.{IsDemoText};
 ghost use Rattle.file_trace.specs.Items.{IsAbsent, Item, told_contents};
+ghost use Rattle.file_trace.specs.Items.Item.{Doc};
+ghost use Rattle.file_trace.specs.Names.{dash};
+ghost use Rattle.file_trace.specs.Offered.{IsOffered};
+ghost use Rattle.file_trace.specs.Outcome.{HasEnded};
 ghost use Rattle.file_trace.specs.Progress.{InputCount, OutputCount};
 ghost use Rattle.file_trace.specs.Status.{code_of};
 ghost use Rattle.file_trace.specs.declared.status.Status.{Status};
 ghost use Rattle.potrace_main.specs.Asked.{CanBeDone, IsAsked};
-ghost use Rattle.potrace_main.specs.Run.{AreItemsOf, IsCodeOf, IsComplete, IsKnown, IsMissing, IsOutcomeOf, IsRun, OpensFirst, RefusesWords, names_of};
+ghost use Rattle.potrace_main.specs.Run.{AreItemsOf, IsCodeOf, IsComplete, IsMissing, IsOnePassOf, IsOutcomeOf, IsRun, OpensFirst, RefusesWords, names_of};
 ghost use Rattle.potrace_main.specs.declared.ask.Ask.{Ask};
 
 use crate::ask::{Ask, WordFault};
@@ -17,16 +23,19 @@ use command_words::name::Name;
 use file_trace::message::{say_bad_words, say_out_of_memory};
 use file_trace::status::Status;
 use file_trace::text::write_text;
+use page_demo::demo::demo_text;
 use pt_base::gate::Gate;
 use pt_base::inputs::Inputs;
+use pt_base::settings::Settings;
 use pt_base::sink::{Outputs, Sink};
 use std::alloc::Global;
 use std::thread::Threads;
 
 /// Does all that the words ask for, and answers the exit status.
 ///
-/// The files are taken in order: each is opened once, its pages are read one after another, and each page's
-/// document is written under its name. After a fault of the outputs nothing more is written to them.
+/// The files are taken in order: each is opened once, its pages are read one after another, in batches of twice as
+/// many as there are workers, and each page's document is written under its name. What is written and said is the
+/// same for every number of workers. After a fault of the outputs nothing more is written to them.
 pub fn run<R: Threads + Sync, I: Inputs, O: Outputs, E: Sink, G: Gate + Sync>(
     rt: &R,
     alloc: Global,
@@ -111,6 +120,36 @@ pub fn run<R: Threads + Sync, I: Inputs, O: Outputs, E: Sink, G: Gate + Sync>(
           is_opened = I.is_opened inputs.new;
           openings = I.openings inputs.new;
           faults = I.faults inputs.new;
+        }) }
+
+    // Where a document couldn't be written, no more was read than its batch.
+    ensures one_pass { (ask : Ask) → IsAsked (map string_bytes words.now) ask
+        → result ≡ code_of Status.Unwritten → IsOnePassOf ask
+        (record {
+          files = I.files inputs.old;
+          is_opened = I.is_opened inputs.old;
+          openings = I.openings inputs.old;
+          faults = I.faults inputs.old;
+        })
+        (record {
+          files = I.files inputs.new;
+          is_opened = I.is_opened inputs.new;
+          openings = I.openings inputs.new;
+          faults = I.faults inputs.new;
+        })
+        (record {
+          outs = O.documents outs.old;
+          outs_faults = O.faults outs.old;
+          is_open = O.is_ready outs.old;
+          errs = E.documents errs.old;
+          errs_faults = E.faults errs.old;
+        })
+        (record {
+          outs = O.documents outs.new;
+          outs_faults = O.faults outs.new;
+          is_open = O.is_ready outs.new;
+          errs = E.documents errs.new;
+          errs_faults = E.faults errs.new;
         }) }
 
     // Each fault has its cause.
@@ -218,7 +257,6 @@ fn carry_out<R: Threads + Sync, I: Inputs, O: Outputs, E: Sink, G: Gate + Sync>(
     gate: &G,
 ) -> Status
     requires possible { CanBeDone ask }
-    requires known { IsKnown ask }
     requires closed { O.is_ready outs.old ≡ false }
     requires ready { E.is_ready errs.old ≡ true }
     ensures ran { IsRun ask result
@@ -252,7 +290,11 @@ fn carry_out<R: Threads + Sync, I: Inputs, O: Outputs, E: Sink, G: Gate + Sync>(
     match ask {
         Ask::Help => write_text(outs, errs, help_text()),
         Ask::Version => write_text(outs, errs, version_text()),
-        Ask::Demo { .. } => unreachable!(),
+        Ask::Demo {
+            pages,
+            workers,
+            settings,
+        } => write_demo(rt, alloc, pages, workers, settings, outs, errs, gate),
         Ask::Files {
             names,
             output,
@@ -272,6 +314,51 @@ fn carry_out<R: Threads + Sync, I: Inputs, O: Outputs, E: Sink, G: Gate + Sync>(
                 errs,
                 gate,
             )
+        }
+    }
+}
+
+/// Traces so many made-up pages, and writes the lines about them.
+fn write_demo<R: Threads + Sync, O: Outputs, E: Sink, G: Gate + Sync>(
+    rt: &R,
+    alloc: Global,
+    pages: u32,
+    workers: u32,
+    settings: Settings,
+    outs: &mut O,
+    errs: &mut E,
+    gate: &G,
+) -> Status
+    requires some_worker { 1 ≤ workers }
+    requires most_workers { workers ≤ 64 }
+    requires offered { IsOffered settings }
+    requires traced { CanTrace settings }
+    requires closed { O.is_ready outs.old ≡ false }
+    requires ready { E.is_ready errs.old ≡ true }
+    ensures ended { (text : List ℕ) × IsDemoText pages settings text
+        × HasEnded result (Doc dash text ∷ [])
+        (record {
+          outs = O.documents outs.old;
+          outs_faults = O.faults outs.old;
+          is_open = O.is_ready outs.old;
+          errs = E.documents errs.old;
+          errs_faults = E.faults errs.old;
+        })
+        (record {
+          outs = O.documents outs.new;
+          outs_faults = O.faults outs.new;
+          is_open = O.is_ready outs.new;
+          errs = E.documents errs.new;
+          errs_faults = E.faults errs.new;
+        }) }
+    ensures output { OutputCount result (O.faults outs.old) (O.faults outs.new)
+        (O.is_ready outs.new) }
+{
+    match demo_text(rt, alloc, pages, workers, settings, gate) {
+        Ok(text) => write_text(outs, errs, &text),
+        Err(_) => {
+            say_out_of_memory(errs);
+            Status::OutOfMemory
         }
     }
 }

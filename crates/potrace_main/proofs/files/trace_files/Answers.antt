@@ -1,9 +1,9 @@
-use Rattle.std.proofs.Common.{◌≡◌, ◌∙◌, [], ℕ, List, Option, inl, option_map, refl, subst, sym, arith}
+use Rattle.std.proofs.Common.{◌≡◌, ◌∙◌, ◌*◌, [], ℕ, List, Option, inl, option_map, refl, subst, sym, arith}
 use Rattle.std.proofs.lemmas.List.{take_all}
 use Rattle.file_trace.specs.Items.{told_contents}
 use Rattle.file_trace.specs.Outcome.{Source}
 use Rattle.file_trace.proofs.Ending.{ends_at_once}
-use Rattle.potrace_main.proofs.Running.{all_done, ends_after, ends_in, none_done, one_done, openings_more, opens_to}
+use Rattle.potrace_main.proofs.Running.{all_done, ends_after, ends_in, none_done, one_done, openings_more, opens_to, passes_after, passes_in}
 use Rattle.potrace_main.proofs.files.trace_files.Goals as goal
 
 -- memory ran out before the first file
@@ -21,7 +21,7 @@ pub loop-name-init : goal.loop-name-init
 loop-name-init g c =
     let output : Option (List ℕ) = option_map (λ s. s.now) c.args.output in
     record {
-      done = rw (c.new-made.ensures, c.new-batch.ensures) (none_done (told_contents (g.I.Inputs.files c.args.inputs.now)) c.args.settings output _);
+      done = rw (c.new-made.ensures, c.new-batch.ensures) (none_done _ (told_contents (g.I.Inputs.files c.args.inputs.now)) c.args.settings output _);
       openings = (let most = g.met.I.Inputs.openings_counted c.args.inputs.now in omega (arith, most));
       opened = inl (refl, refl);
       contents = refl;
@@ -41,7 +41,7 @@ loop-name-preserved g c =
     let now : Source = record { files = g.I.Inputs.files c.trace_file-traced.new.inputs; is_opened = g.I.Inputs.is_opened c.trace_file-traced.new.inputs; openings = g.I.Inputs.openings c.trace_file-traced.new.inputs; faults = g.I.Inputs.faults c.trace_file-traced.new.inputs } in
     let named = rw c.as_str.ensures at c.trace_file-traced.ensures.name in
     record {
-      done = one_done _ _ _ _ c.loop-name.name-index c.name-item.result _ _ _ _ _ _ _ c.loop-name-test.true c.name-item.is c.loop-name.invariant.done file;
+      done = one_done _ _ _ _ _ c.loop-name.name-index c.name-item.result _ _ _ _ _ _ _ c.loop-name-test.true c.name-item.is c.loop-name.invariant.done file;
       openings = openings_more _ c.loop-name.name-index _ _ c.loop-name.invariant.openings c.trace_file-traced.ensures.one_more;
       opened = opens_to c.args.names.now c.loop-name.name-index c.name-item.result source then now c.loop-name-test.true c.name-item.is c.loop-name.invariant.openings c.trace_file-traced.ensures.one_more named;
       contents = c.trace_file-traced.ensures.same_contents ∙ c.loop-name.invariant.contents;
@@ -56,7 +56,7 @@ loop-name-preserved g c =
 pub returns-in-Err-clause-outcome : goal.returns-in-Err-clause-outcome
 returns-in-Err-clause-outcome g c =
     let ends = rw (c.loop-name.invariant.contents, c.as_str.ensures) at c.in-Err.ensures.ends in
-    ends_in c.in-Err.status _ _ _ _ c.loop-name.name-index c.name-item.result _ _ _ _ _ _ _ _ c.loop-name-test.true c.name-item.is c.loop-name.invariant.done
+    ends_in c.in-Err.status _ _ _ _ _ c.loop-name.name-index c.name-item.result _ _ _ _ _ _ _ _ c.loop-name-test.true c.name-item.is c.loop-name.invariant.done
     c.loop-name.invariant.openings c.loop-name.invariant.input ends
 
 pub returns-in-Err-clause-opened : goal.returns-in-Err-clause-opened
@@ -76,7 +76,7 @@ returns-in-Err-clause-output g c = rw c.loop-name.invariant.output at c.in-Err.e
 -- all files are done
 pub returns-in-Ok-carry_out-clause-outcome : goal.returns-in-Ok-carry_out-clause-outcome
 returns-in-Ok-carry_out-clause-outcome g c =
-    all_done _ _ _ _ _ _ _ _ _ (rw (take_all c.loop-name.name-index c.args.names.now c.loop-name-test.false) at c.loop-name.invariant.done) c.in-Ok-carry_out.ensures.done
+    all_done _ _ _ _ _ _ _ _ _ _ (rw (take_all c.loop-name.name-index c.args.names.now c.loop-name-test.false) at c.loop-name.invariant.done) c.in-Ok-carry_out.ensures.done
 
 pub returns-in-Ok-carry_out-clause-output : goal.returns-in-Ok-carry_out-clause-output
 returns-in-Ok-carry_out-clause-output g c = (c.in-Ok-carry_out.ensures.steady_output.0 ∙ c.loop-name.invariant.output, c.in-Ok-carry_out.ensures.steady_output.1)
@@ -84,5 +84,18 @@ returns-in-Ok-carry_out-clause-output g c = (c.in-Ok-carry_out.ensures.steady_ou
 -- or not carried out
 pub returns-clause-outcome : goal.returns-clause-outcome
 returns-clause-outcome g c =
-    ends_after c.in-Err-carry_out.status c.in-Err-carry_out.ensures.status _ _ _ _ _ _ _ _ _ _ _ (rw (take_all c.loop-name.name-index c.args.names.now c.loop-name-test.false) at c.loop-name.invariant.done)
+    ends_after c.in-Err-carry_out.status c.in-Err-carry_out.ensures.status _ _ _ _ _ _ _ _ _ _ _ _ (rw (take_all c.loop-name.name-index c.args.names.now c.loop-name-test.false) at c.loop-name.invariant.done)
     c.in-Err-carry_out.ensures.ends
+
+-- a document couldn't be written in a file
+pub returns-in-Err-clause-one_pass : goal.returns-in-Err-clause-one_pass
+returns-in-Err-clause-one_pass g c = λ is.
+    let passes = rw (c.loop-name.invariant.contents, c.as_str.ensures) at c.in-Err.ensures.one_pass is in
+    passes_in (2 * c.args.workers) (omega (arith, c.requires.some_worker)) _ _ _ _ c.loop-name.name-index c.name-item.result _ _ _ _ _ _ _ _ c.loop-name-test.true c.name-item.is c.loop-name.invariant.done
+    c.loop-name.invariant.openings c.loop-name.invariant.input passes
+
+-- or behind them
+pub returns-clause-one_pass : goal.returns-clause-one_pass
+returns-clause-one_pass g c = λ is.
+    passes_after (2 * c.args.workers) (omega (arith, c.requires.some_worker)) _ _ _ _ _ _ _ _ _ _ _ (rw (take_all c.loop-name.name-index c.args.names.now c.loop-name-test.false) at c.loop-name.invariant.done)
+    c.loop-name.invariant.not_full (rw is at c.in-Err-carry_out.ensures.ends)

@@ -18,7 +18,7 @@ invariant-loop-name g l =
     let old : Sinks = record { outs = outs.documents l.fn.outs; outs_faults = outs.faults l.fn.outs; is_open = outs.is_ready l.fn.outs; errs = errs.documents l.fn.errs; errs_faults = errs.faults l.fn.errs } in
     let new : Sinks = record { outs = outs.documents l.outs; outs_faults = outs.faults l.outs; is_open = outs.is_ready l.outs; errs = errs.documents l.errs; errs_faults = errs.faults l.errs } in
     record {
-      done : AreDone (told_contents (inputs.files l.fn.inputs)) l.settings (option_map (λ s. s.now) l.output) (take l.name-index l.names) l.made l.batch old new;
+      done : AreDone (2 * l.workers) (told_contents (inputs.files l.fn.inputs)) l.settings (option_map (λ s. s.now) l.output) (take l.name-index l.names) l.made l.batch old new;
       not_full : pages_held l.batch < 2 * l.workers;
       openings : inputs.openings l.inputs ≡ min (inputs.openings l.fn.inputs + l.name-index) last_count;
       opened : OpensFirst l.names source source_now;

@@ -1,17 +1,14 @@
 use Rattle.std.proofs.Common.{◌≡◌, ℕ, List, inl, map, refl, subst}
 use Rattle.std.specs.Prelude.{string_bytes}
 use Rattle.file_trace.specs.Messages.{bad_words, out_of_memory}
+use Rattle.file_trace.specs.declared.status.Status.TheVariants as status
 use Rattle.file_trace.proofs.Carrying.{only_said}
 use Rattle.potrace_main.proofs.Completing.{never_refuses, out_at_once}
-use Rattle.potrace_main.proofs.Known.{asked_known}
 use Rattle.potrace_main.proofs.OneAsk.{one_ask}
 use Rattle.potrace_main.proofs.Possible.{possible}
 use Rattle.potrace_main.proofs.top.answer.Goals as goal
 
 -- what the words ask for is done
-pub carry_out-requires-clause-known : goal.carry_out-requires-clause-known
-carry_out-requires-clause-known g c = λ κs _. asked_known (map string_bytes c.args.words.now) c.in-Ok.ask c.in-Ok.ensures.ok
-
 pub returns-in-Ok-clause-ran : goal.returns-in-Ok-clause-ran
 returns-in-Ok-clause-ran g c = λ ask asked. rw (one_ask (map string_bytes c.args.words.now) ask c.in-Ok.ask asked c.in-Ok.ensures.ok) c.carry_out.ensures.ran
 
@@ -28,11 +25,12 @@ returns-in-Err-Bad-clause-refused g c = λ none. (refl, only_said bad_words _ _ 
 -- memory ran out while they were read
 pub returns-in-Err-NoMemory-clause-ran : goal.returns-in-Err-NoMemory-clause-ran
 returns-in-Err-NoMemory-clause-ran g c = λ ask asked. record {
-  outcome = out_at_once ask _ _ _ (possible (map string_bytes c.args.words.now) ask asked) (asked_known (map string_bytes c.args.words.now) ask asked)
+  outcome = out_at_once ask _ _ _ (possible (map string_bytes c.args.words.now) ask asked)
       (only_said out_of_memory _ _ refl c.say_out_of_memory.ensures.said c.say_out_of_memory.ensures.never_falls);
   opened = inl (refl, refl);
   input = tt;
   output = (refl, c.requires.closed);
+  one_pass = λ e. absurd (let no : status.OutOfMemory ≡ status.Unwritten = e in cc);
 }
 
 pub returns-in-Err-NoMemory-clause-refused : goal.returns-in-Err-NoMemory-clause-refused

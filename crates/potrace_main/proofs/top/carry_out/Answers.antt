@@ -8,5 +8,6 @@ returns-in-Files g c = record {
     opened = rw c.as_slice.ensures at c.trace_files.ensures.opened;
     input = c.trace_files.ensures.input;
     output = c.trace_files.ensures.output;
+    one_pass = rw (c.text_of-output.ensures, c.as_slice.ensures) at c.trace_files.ensures.one_pass;
   });
 }

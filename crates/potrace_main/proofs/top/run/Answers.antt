@@ -22,6 +22,9 @@ returns-clause-refused g c = λ none. let refused = c.answer.ensures.refused non
 pub returns-clause-opened : goal.returns-clause-opened
 returns-clause-opened g c = λ ask asked. (c.answer.ensures.ran ask asked).opened
 
+pub returns-clause-one_pass : goal.returns-clause-one_pass
+returns-clause-one_pass g c = λ ask asked is. (c.answer.ensures.ran ask asked).one_pass (code_one c.answer.result _ (sym c.code.ensures ∙ is))
+
 pub returns-clause-unread : goal.returns-clause-unread
 returns-clause-unread g c = λ ask asked is.
     run_unread ask c.answer.result _ _ _ _ (c.answer.ensures.ran ask asked) (code_one c.answer.result _ (sym c.code.ensures ∙ is))
