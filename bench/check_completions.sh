@@ -12,7 +12,7 @@ for tool in bash zsh python3; do
   command -v "$tool" >/dev/null || { echo "check_completions: $tool is missing" >&2; exit 2; }
 done
 work=$(mktemp -d)
-trap 'rm -rf "$work"' EXIT
+trap 'rm -rf "$work" 2>/dev/null || true' EXIT
 cd "$work"
 mkdir sub
 touch 'a scan.pbm' gray.PGM photo.bmp notes.txt drawing.svg sub/page.pbm
