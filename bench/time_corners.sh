@@ -8,6 +8,9 @@
 set -euo pipefail
 
 top=$(cd "$(dirname "$(readlink -f "${BASH_SOURCE[0]}")")/.." && pwd)
+for tool in python3 potrace; do
+  [ -n "$(type -P "$tool")" ] || { echo "time_corners: $tool is missing" >&2; exit 2; }
+done
 runs=${2:-7}
 pages=$(mktemp -d)
 trap 'rm -rf "$pages"' EXIT

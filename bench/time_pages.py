@@ -8,6 +8,7 @@ least user time of five: user and system seconds and the greatest memory, ours a
 sums. It needs python3 and Debian's package potrace.
 """
 import os
+import shutil
 import subprocess
 import sys
 
@@ -25,6 +26,8 @@ def main():
     parts = " ".join(sys.argv[1:]).split(" -- ")
     if len(parts) != 3:
         sys.exit(__doc__)
+    if not shutil.which("potrace"):
+        sys.exit("time_pages: potrace is missing")
     ours, theirs = parts[0].split(), ["potrace", *parts[1].split()]
     print(f"{'page':24} {'ours: user + system':>24} {'KB':>8}   {'C: user + system':>20} {'KB':>8}   quotient")
     for page in parts[2].split():
