@@ -1,5 +1,5 @@
 //! The files of a run, one after another.
-ghost use Rattle.std.specs.Prelude.{◌≡◌, ◌≤◌, [], false, true, option_map};
+ghost use Rattle.std.specs.Prelude.{◌≡◌, ◌≤◌, ◌*◌, [], false, true, option_map};
 ghost use Rattle.file_trace.specs.Items.{told_contents};
 ghost use Rattle.file_trace.specs.Offered.{IsOffered};
 ghost use Rattle.file_trace.specs.OnePass.{IsOnePass};

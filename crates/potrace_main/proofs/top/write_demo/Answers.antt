@@ -1,0 +1,12 @@
+use Rattle.std.proofs.Common.{[], ◌∷◌, refl}
+use Rattle.file_trace.specs.Items.Item.{Doc}
+use Rattle.file_trace.specs.Names.{dash}
+use Rattle.file_trace.proofs.Keeping.{memory_out}
+use Rattle.page_demo.proofs.Found.{demo_found}
+use Rattle.potrace_main.proofs.top.write_demo.Goals as goal
+
+-- memory ran out before the text was made
+pub returns-in-Err-clause-ended : goal.returns-in-Err-clause-ended
+returns-in-Err-clause-ended g c =
+    let (text, is) = demo_found c.args.pages c.args.settings c.requires.offered.document in
+    (text, is, memory_out (Doc dash text ∷ []) _ _ refl c.say_out_of_memory.ensures.said c.say_out_of_memory.ensures.never_falls)
