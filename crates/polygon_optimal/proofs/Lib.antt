@@ -7,5 +7,6 @@ pub mod Placing
 pub mod Reaching
 pub mod Rising
 pub mod Scanning
+pub mod Slots
 pub mod Vertices
 mod Examples

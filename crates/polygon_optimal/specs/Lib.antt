@@ -21,6 +21,8 @@ pub mod OnePenalty
 --   AreFalling: from each later point no more segments are left than from an earlier one
 --   AreFarthest: the farthest points after no segment, after one, and so on
 --   IsBegin: the first point after i from which one segment fewer is left
+--   slot_of: where the cost of the best way from point k is kept
+--   HasSlots: each point up to the end has its slot in the list
 --   HasCheapest: of the points from `begin` to before `end` this is the cheapest, and of several the first
 --   IsCheaperIn: it is the one that is cheaper than `best`; or there is none, and it is `best`
 pub mod Search

@@ -1,5 +1,6 @@
 -- What the search for a path's best polygon knows of its points.
-use Rattle.std.specs.Prelude.{◌≡◌, ℕ, ◌+◌, ◌<◌, ◌≤◌, List, length, slice_index}
+use Rattle.std.specs.Prelude.{◌≡◌, ℕ, ◌+◌, ◌%◌, ◌<◌, ◌≤◌, List, length, slice_index}
+use Rattle.pt_base.specs.declared.limits.TheConstants.{MOST_STEPS}
 use Rattle.polygon_optimal.specs.declared.search.Onward.{Onward}
 
 -- from each later point, from `low` to the end, no more segments are left than from an earlier one
@@ -21,6 +22,14 @@ pub record IsBegin (size : ℕ) (counts : List ℕ) (i begin : ℕ) : Type 0 whe
   pub within : begin ≤ size
   pub count : slice_index counts begin + 1 ≡ slice_index counts i
   pub none_before : (k : ℕ) → i < k → k ≤ size → slice_index counts k + 1 ≡ slice_index counts i → begin ≤ k
+
+-- where the cost of the best way from point k is kept: no segment leads from one point to another of the same slot
+abbrev pub slot_of : ℕ → ℕ
+slot_of k = k % (MOST_STEPS + 1)
+
+-- each point up to the end has its slot in the list
+abbrev pub HasSlots : ℕ → List ℕ → Type 0
+HasSlots size costs = (k : ℕ) → k ≤ size → slot_of k < length costs
 
 -- of the points from `begin` to before `end` this is the cheapest, and of several the first
 pub record HasCheapest (cost_by : ℕ → ℕ) (begin end : ℕ) (onward : Onward) : Type 0 where

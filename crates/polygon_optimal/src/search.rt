@@ -12,15 +12,20 @@
 //! ```
 ghost use Rattle.std.specs.Prelude.{◌≡◌, ℕ, ◌+◌, ◌-◌, ◌^◌, ◌<◌, ◌≤◌, length, slice_index, IfOk};
 ghost use Rattle.least_walk.specs.LeastWalk.{IsLeast, walk_from, step_count, total_cost};
-ghost use Rattle.least_walk.specs.Suffix.{HasFewest, HasCosts, HasNexts};
+ghost use Rattle.least_walk.specs.Suffix.{HasFewest, HasNexts, IsLeastCost};
 ghost use Rattle.polygon_optimal.specs.Lasts.{IsUpToLast};
 ghost use Rattle.polygon_optimal.specs.Polygon.{penalty_of};
-ghost use Rattle.polygon_optimal.specs.Search.{AreFalling, AreFarthest, HasCheapest, IsBegin, IsCheaperIn};
+ghost use Rattle.polygon_optimal.specs.Search.{AreFalling, AreFarthest, HasCheapest, HasSlots, IsBegin, IsCheaperIn, slot_of};
 
 use crate::segments::Segments;
-use least_walk::walk::{Walk, walk_by};
+use least_walk::walk::Walk;
 use pt_base::fault::NoMemory;
+use pt_base::limits::MOST_STEPS;
+use pt_base::sequence::Sequence;
 use std::alloc::Global;
+
+/// How many costs are kept: no segment is as long.
+const SLOTS: usize = MOST_STEPS as usize + 1;
 
 /// A segment to go on by.
 #[derive(Clone, Copy)]
@@ -37,7 +42,8 @@ struct Onward {
 // 2. `farthest`: the farthest point after so many segments. The points up to it from which as few are
 //    left as can be are vertices of polygons of fewest segments.
 // 3. `costs` and `nexts`, from the end down and for these points alone: the cheapest segment to the next
-//    window, and of several the shortest.
+//    window, and of several the shortest. Only the costs that a segment can reach are kept.
+// 4. The walk goes from 0 on by `nexts`.
 pub(crate) fn least_by_windows(alloc: Global, segments: &Segments) -> Result<Walk, NoMemory>
     ensures least { IfOk result (λ walk. IsLeast (length segments.now.moments.now)
         (IsUpToLast segments.now.lasts.items) (penalty_of segments.now.moments.now)
@@ -51,12 +57,53 @@ pub(crate) fn least_by_windows(alloc: Global, segments: &Segments) -> Result<Wal
 {
     let places = segments.lasts.len() + 1;
     let mut counts = vec![in alloc; 0u32; places]?;
-    let mut costs = vec![in alloc; 0u128; places]?;
+    let mut costs = vec![in alloc; 0u128; places.min(SLOTS)]?;
     let mut nexts = vec![in alloc; 0u32; places]?;
     fill_counts(segments, &mut counts);
     let farthest = farthest(alloc, segments, &counts)?;
     fill_costs(segments, &counts, &farthest, &mut costs, &mut nexts);
-    walk_by(alloc, segments, &counts, &costs, &nexts)
+    walk_along(alloc, segments, &counts, costs[0], &nexts)
+}
+
+/// The walk that begins at 0 and goes on by `nexts`, where the whole of it costs so much.
+fn walk_along(
+    alloc: Global,
+    segments: &Segments,
+    counts: &[u32],
+    cost: u128,
+    nexts: &[u32],
+) -> Result<Walk, NoMemory>
+    requires count_places { length counts.now ≡ length segments.now.moments.now + 1 }
+    requires next_places { length nexts.now ≡ length segments.now.moments.now + 1 }
+    requires counts { HasFewest (length segments.now.moments.now)
+        (IsUpToLast segments.now.lasts.items) 0 counts.now }
+    requires cost { IsLeastCost (length segments.now.moments.now)
+        (IsUpToLast segments.now.lasts.items) (penalty_of segments.now.moments.now) 0 cost }
+    requires nexts { HasNexts (length segments.now.moments.now)
+        (IsUpToLast segments.now.lasts.items) (penalty_of segments.now.moments.now) 0 nexts.now }
+    ensures least { IfOk result (λ walk. IsLeast (length segments.now.moments.now)
+        (IsUpToLast segments.now.lasts.items) (penalty_of segments.now.moments.now)
+        (walk_from walk.at (length segments.now.moments.now))) }
+    ensures starts { IfOk result (λ walk. walk.count ≡ length walk.at) }
+    ensures count { IfOk result (λ walk. walk.count
+        ≡ step_count (walk_from walk.at (length segments.now.moments.now))) }
+    ensures cost { IfOk result (λ walk. walk.cost
+        ≡ total_cost (penalty_of segments.now.moments.now)
+        (walk_from walk.at (length segments.now.moments.now))) }
+{
+    let size = segments.lasts.len() as u32;
+    let count = counts[0];
+    let mut at = Vec::with_capacity(alloc, count as usize)?;
+    let mut from = 0;
+    while from < size {
+        at.push(from)?;
+        from = nexts[from as usize];
+    }
+    Ok(Walk {
+        at: Sequence::from_vec(at),
+        count,
+        cost,
+    })
 }
 
 /// Writes down the fewest segments from each point to the end.
@@ -92,8 +139,18 @@ fn farthest(alloc: Global, segments: &Segments, counts: &[u32]) -> Result<Vec<u3
     Ok(farthest)
 }
 
-/// Writes down, for each vertex of a polygon of fewest segments, what the best way from there to the end
-/// costs, and where it goes first.
+/// Where the cost of the best way from this point is kept.
+//
+// Points of one slot are farther apart than a segment is long. So when a point is looked at, each of those
+// that a segment leads to has its slot for itself.
+fn slot(point: usize) -> usize
+    ensures { result ≡ slot_of point }
+{
+    point % SLOTS
+}
+
+/// Writes down, for each vertex of a polygon of fewest segments, where the best way from there to the end
+/// goes first, and in its slot what that way costs.
 fn fill_costs(
     segments: &Segments,
     counts: &[u32],
@@ -102,26 +159,27 @@ fn fill_costs(
     nexts: &mut [u32],
 )
     requires count_places { length counts.now ≡ length segments.now.moments.now + 1 }
-    requires cost_places { length costs.old ≡ length segments.now.moments.now + 1 }
+    requires slots { HasSlots (length segments.now.moments.now) costs.old }
     requires next_places { length nexts.old ≡ length segments.now.moments.now + 1 }
     requires fewest { HasFewest (length segments.now.moments.now)
         (IsUpToLast segments.now.lasts.items) 0 counts.now }
     requires falling { AreFalling (length segments.now.moments.now) 0 counts.now }
     requires farthest { AreFarthest (length segments.now.moments.now) segments.now.lasts.items
         counts.now (slice_index counts.now 0) farthest.now }
-    ensures costs { HasCosts (length segments.now.moments.now) (IsUpToLast segments.now.lasts.items)
-        (penalty_of segments.now.moments.now) 0 costs.new }
+    ensures cost { IsLeastCost (length segments.now.moments.now)
+        (IsUpToLast segments.now.lasts.items) (penalty_of segments.now.moments.now)
+        0 (slice_index costs.new 0) }
     ensures nexts { HasNexts (length segments.now.moments.now) (IsUpToLast segments.now.lasts.items)
         (penalty_of segments.now.moments.now) 0 nexts.new }
 {
     let size = segments.lasts.len();
-    costs[size] = 0;
+    costs[slot(size)] = 0;
     let mut begin = size as u32;
     for from in (0..size).rev() {
         begin = begin_from(counts, from, begin);
         if from as u32 <= farthest[(counts[0] - counts[from]) as usize] {
             let onward = cheapest_from(segments, from as u32, begin, nexts[from + 1], costs);
-            costs[from] = onward.cost;
+            costs[slot(from)] = onward.cost;
             nexts[from] = onward.next;
         }
     }
@@ -154,16 +212,16 @@ fn cheapest_from(segments: &Segments, from: u32, begin: u32, guess: u32, costs: 
     requires from { from < length segments.now.moments.now }
     requires onwards { from < begin }
     requires some { begin ≤ slice_index segments.now.lasts.items from }
-    requires places { length costs.now ≡ length segments.now.moments.now + 1 }
+    requires slots { HasSlots (length segments.now.moments.now) costs.now }
     requires small { (k : ℕ) → begin ≤ k → k ≤ slice_index segments.now.lasts.items from
-        → slice_index costs.now k < 2 ^ 88 }
+        → slice_index costs.now (slot_of k) < 2 ^ 88 }
     ensures { HasCheapest
-        (λ k. penalty_of segments.now.moments.now from k + slice_index costs.now k)
+        (λ k. penalty_of segments.now.moments.now from k + slice_index costs.now (slot_of k))
         begin (slice_index segments.now.lasts.items from + 1) result }
 {
     let last = segments.lasts[from as usize];
     let to = guess.max(begin).min(last);
-    let cost = u128::from(segments.moments.penalty(from, to)) + costs[to as usize];
+    let cost = u128::from(segments.moments.penalty(from, to)) + costs[slot(to as usize)];
     let tried = Onward { cost, next: to };
     // A nearer one that costs as much is better.
     let bound = Onward {
@@ -207,14 +265,14 @@ fn cheaper_in(
     requires onwards { from < begin }
     requires ordered { begin ≤ end }
     requires ends { end ≤ slice_index segments.now.lasts.items from + 1 }
-    requires places { length costs.now ≡ length segments.now.moments.now + 1 }
+    requires slots { HasSlots (length segments.now.moments.now) costs.now }
     ensures { IsCheaperIn
-        (λ k. penalty_of segments.now.moments.now from k + slice_index costs.now k)
+        (λ k. penalty_of segments.now.moments.now from k + slice_index costs.now (slot_of k))
         begin end best result }
 {
     let mut cheapest = best;
     for to in begin..end {
-        cheapest = cheaper(segments, from, to, costs[to as usize], cheapest);
+        cheapest = cheaper(segments, from, to, costs[slot(to as usize)], cheapest);
     }
     cheapest
 }

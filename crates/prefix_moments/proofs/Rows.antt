@@ -1,9 +1,5 @@
--- The rows of a path's table.
-use Rattle.std.proofs.Common.{◌≡◌, ℕ, suc, ◌+◌, ◌-◌, ◌*◌, ◌<◌, ◌≤◌, ◌^◌, ℤ, pos, ◌+ℤ◌, ◌-ℤ◌, ◌*ℤ◌, ◌≤ℤ◌, List, [], ◌∷◌, ◌++◌, length, get_or, refl, sym, ap, ◌∙◌, subst, add-one, arith}
-use Rattle.std.proofs.lemmas.List.{get_or_read}
-use Rattle.std.proofs.Math.ListN.{get_or-append}
-use Rattle.std.proofs.Math.Seq.{get_or-append_seam}
-use Rattle.std.proofs.Math.Decide.{dec_lt}
+-- The sums over the points of a segment.
+use Rattle.std.proofs.Common.{◌≡◌, ℕ, ◌+◌, ◌-◌, ◌≤◌, ◌^◌, ℤ, pos, ◌-ℤ◌, ◌*ℤ◌, ◌≤ℤ◌, List, refl, sym, ap, ◌∙◌, subst, arith}
 use Rattle.std.proofs.lemmas.Int.{ints}
 use Rattle.std.specs.Prelude.{unsigned_abs}
 use Rattle.pt_base.specs.declared.point.Point.{Point}
@@ -12,9 +8,9 @@ use Rattle.prefix_moments.specs.declared.raw.Raw.{Raw}
 use Rattle.prefix_moments.specs.declared.sums.Sums.{Sums}
 use Rattle.pt_base.specs.OnPage.{IsOnPage, AreOnPage}
 use Rattle.prefix_moments.specs.Sums.{sum_of, sums_of, right_of, above_of, spread_of}
-use Rattle.prefix_moments.specs.Table.{raw_of, IsRawOf, IsTable, no_sums, difference_of, offsets_of, spread_by}
+use Rattle.prefix_moments.specs.Table.{raw_of, IsRawOf, offsets_of, spread_by}
 use Rattle.pt_base.proofs.Sizes.{product_most}
-use Rattle.prefix_moments.proofs.Summing.{latter, sum_most, shifted, products_shifted, spread_is, squares_at_least}
+use Rattle.prefix_moments.proofs.Summing.{sum_most, shifted, products_shifted, spread_is, squares_at_least}
 
 abbrev raw : ℤ → ℤ → ℤ → ℤ → ℤ → Raw
 raw x y xx xy yy = record { x = x; y = y; xx = xx; xy = xy; yy = yy }
@@ -44,16 +40,6 @@ raw_most at count on_page =
 -- so are those of fewer points
 pub raw_more : (r : Raw) (count most : ℕ) → count ≤ most → IsRawOf count r → IsRawOf most r
 raw_more r count most h small = record { x = omega arith; y = omega arith; xx = omega arith; xy = omega arith; yy = omega arith }
-
--- the sums of a run of points are those up to its end without those before it
-pub run_is : (at : ℕ → Point) (i count : ℕ) → difference_of (raw_of at (i + count)) (raw_of at i) ≡ raw_of (λ d. at (i + d)) count
-run_is at i count =
-    raw_same _ _
-    (latter (λ k. (at k).x) i count)
-    (latter (λ k. (at k).y) i count)
-    (latter (λ k. (at k).x *ℤ (at k).x) i count)
-    (latter (λ k. (at k).x *ℤ (at k).y) i count)
-    (latter (λ k. (at k).y *ℤ (at k).y) i count)
 
 pub sums_same : (r s : Sums) → r.count ≡ s.count → r.x ≡ s.x → r.y ≡ s.y → r.xx ≡ s.xx → r.xy ≡ s.xy → r.yy ≡ s.yy → r ≡ s
 sums_same r s count x y xx xy yy =
@@ -97,62 +83,14 @@ pub sums_by : (points : List Point) (i j : ℕ) (r : Raw) (x y : ℤ) (s : Sums)
     → s ≡ offsets_of r (j - i + 1) x y → s ≡ sums_of points i j
 sums_by points i j r x y s er ex ey es = es ∙ rw (er, ex, ey) (offsets_are points i j)
 
--- a row that was read from the table
-pub row_is : (points : List Point) (rows : List Raw) → IsTable points rows → (i : ℕ) (r : Raw) → i ≤ 2 * length points → r ≡ get_or rows i r
-    → r ≡ raw_of (point_at points) i
-row_is points rows t i r h e = get_or_read rows _ _ (omega (arith, t.two_laps)) e no_sums ∙ t.each i h
-
-pub row_most : (points : List Point) (rows : List Raw) → IsTable points rows → (i : ℕ) (r : Raw) → i ≤ 2 * length points → r ≡ get_or rows i r
-    → IsRawOf (2 ^ 33) r
-row_most points rows t i r h e =
-    let P : Raw → Type 0 = λ v. IsRawOf (2 ^ 33) v in
-    subst P (sym (row_is points rows t i r h e))
-    (raw_more _ i (2 ^ 33) (omega (arith, t.few)) (raw_most (point_at points) i t.on_page))
-
--- the difference of two rows
-pub segment_is : (points : List Point) (rows : List Raw) → IsTable points rows → (i j : ℕ) (a b m : Raw) → i < j → j + 1 ≤ 2 * length points
-    → a ≡ get_or rows (j + 1) a → b ≡ get_or rows i b → m ≡ difference_of a b
-    → m ≡ raw_of (λ d. point_at points (i + d)) (j - i + 1)
-segment_is points rows t i j a b m h k ea eb em =
-    let is_a : a ≡ raw_of (point_at points) (j + 1) = row_is points rows t (j + 1) a k ea in
-    let is_b : b ≡ raw_of (point_at points) i = row_is points rows t i b (omega arith) eb in
-    let end : i + (j - i + 1) ≡ j + 1 = omega arith in
-    let Q : ℕ → Type 0 = λ n. difference_of (raw_of (point_at points) n) (raw_of (point_at points) i) ≡ raw_of (λ d. point_at points (i + d)) (j - i + 1) in
-    em ∙ ap (λ v. difference_of v b) is_a ∙ ap (λ v. difference_of (raw_of (point_at points) (j + 1)) v) is_b
-    ∙ subst Q end (run_is (point_at points) i (j - i + 1))
-
 pub segment_most : (points : List Point) → AreOnPage points → (i count : ℕ) (m : Raw) → count ≤ 2 ^ 15
     → m ≡ raw_of (λ d. point_at points (i + d)) count → IsRawOf (2 ^ 15) m
 segment_most points on_page i count m h e =
     let P : Raw → Type 0 = λ v. IsRawOf (2 ^ 15) v in
     subst P (sym e) (raw_more _ count (2 ^ 15) h (raw_most (λ d. point_at points (i + d)) count (λ k. on_page (i + k))))
 
--- the sums with one more point
-pub next_row : (at : ℕ → Point) (k : ℕ) (s r : Raw) (p : Point) → s ≡ raw_of at k → p ≡ at k
-    → r.x ≡ s.x +ℤ p.x → r.y ≡ s.y +ℤ p.y → r.xx ≡ s.xx +ℤ p.x *ℤ p.x → r.xy ≡ s.xy +ℤ p.x *ℤ p.y → r.yy ≡ s.yy +ℤ p.y *ℤ p.y
-    → r ≡ raw_of at (k + 1)
-next_row at k s r p es ep x y xx xy yy =
-    rw add-one (raw_same r (raw_of at (suc k))
-    (x ∙ ap (λ v. v.x +ℤ p.x) es ∙ ap (λ v. (raw_of at k).x +ℤ v.x) ep)
-    (y ∙ ap (λ v. v.y +ℤ p.y) es ∙ ap (λ v. (raw_of at k).y +ℤ v.y) ep)
-    (xx ∙ ap (λ v. v.xx +ℤ p.x *ℤ p.x) es ∙ ap (λ v. (raw_of at k).xx +ℤ v.x *ℤ v.x) ep)
-    (xy ∙ ap (λ v. v.xy +ℤ p.x *ℤ p.y) es ∙ ap (λ v. (raw_of at k).xy +ℤ v.x *ℤ v.y) ep)
-    (yy ∙ ap (λ v. v.yy +ℤ p.y *ℤ p.y) es ∙ ap (λ v. (raw_of at k).yy +ℤ v.y *ℤ v.y) ep))
-
 -- the total that `spread` gives
 pub total_is : (points : List Point) (i j : ℕ) (s : Sums) (right above t : ℤ) → s ≡ sums_of points i j → right ≡ right_of points i j → above ≡ above_of points i j
     → t ≡ spread_by s.xx s.xy s.yy right above → t ≡ spread_of points i j
 total_is points i j s right above t es er ea et =
     et ∙ rw (er, ea) (ap (λ v. spread_by v.xx v.xy v.yy (right_of points i j) (above_of points i j)) es) ∙ spread_of_is points i j
-
--- the rows so far and one more
-pub push_row : (at : ℕ → Point) (rows : List Raw) (r : Raw) (k : ℕ) → length rows ≡ k → ((m : ℕ) → m < k → get_or rows m no_sums ≡ raw_of at m) → r ≡ raw_of at k
-    → (m : ℕ) → m < k + 1 → get_or (rows ++ r ∷ []) m no_sums ≡ raw_of at m
-push_row at rows r k len each er m h =
-    elim (dec_lt m k) [
-      | yes below ↦ get_or-append rows (r ∷ []) no_sums m (omega arith) ∙ each m below
-      | no not_below ↦ (let e : length rows ≡ m = omega arith in
-          let P : ℕ → Type 0 = λ n. get_or (rows ++ r ∷ []) n no_sums ≡ raw_of at n in
-          let Q : ℕ → Type 0 = λ n. get_or (rows ++ r ∷ []) (length rows) no_sums ≡ raw_of at n in
-          subst P e (subst Q (sym len) (get_or-append_seam rows r [] no_sums ∙ er)))
-    ]

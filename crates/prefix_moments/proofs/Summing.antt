@@ -12,10 +12,6 @@ split f i zero = rw add-zero (sym (+ℤ_idr (sum_of f i)))
 split f i (suc count) =
     rw (add-suc, split f i count) (+ℤ_assoc (sum_of f i) (sum_of (λ d. f (i + d)) count) (f (i + count)))
 
--- the latter part by the whole and the former one
-pub latter : (f : ℕ → ℤ) (i count : ℕ) → sum_of f (i + count) -ℤ sum_of f i ≡ sum_of (λ d. f (i + d)) count
-latter f i count = omega (arith, ints, split f i count)
-
 -- how large a sum is at most
 pub sum_most : (f : ℕ → ℤ) (most count : ℕ) → ((k : ℕ) → unsigned_abs (f k) ≤ most) → unsigned_abs (sum_of f count) ≤ count * most
 sum_most f most zero h = omega arith

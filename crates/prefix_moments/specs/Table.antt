@@ -1,10 +1,11 @@
 -- What a path's table of sums holds.
-use Rattle.std.specs.Prelude.{◌≡◌, ℕ, ◌+◌, ◌*◌, ◌<◌, ◌≤◌, ◌^◌, ℤ, pos, ◌+ℤ◌, ◌-ℤ◌, ◌*ℤ◌, List, length, slice_index_or, unsigned_abs}
+use Rattle.std.specs.Prelude.{◌≡◌, ℕ, ◌+◌, ◌-◌, ◌*◌, ◌%◌, ◌<◌, ◌≤◌, ◌^◌, ℤ, pos, ◌+ℤ◌, ◌-ℤ◌, ◌*ℤ◌, List, [], ◌∷◌, length, slice_index_or, unsigned_abs}
 use Rattle.pt_base.specs.declared.point.Point.{Point}
 use Rattle.pt_base.specs.ClosedWalk.{point_at}
 use Rattle.pt_base.specs.OnPage.{AreOnPage}
 use Rattle.prefix_moments.specs.Sums.{sum_of}
 use Rattle.prefix_moments.specs.declared.sums.Sums.{Sums}
+use Rattle.prefix_moments.specs.declared.prefix.Prefix.{Prefix}
 use Rattle.prefix_moments.specs.declared.raw.Raw.{Raw}
 
 -- the sums over the first `count` of a run of points
@@ -26,12 +27,56 @@ pub record IsRawOf (count : ℕ) (r : Raw) : Type 0 where
   pub yy : unsigned_abs r.yy ≤ count * 2 ^ 28
 
 -- the sums over no points
-abbrev pub no_sums : Raw
-no_sums = record { x = pos 0; y = pos 0; xx = pos 0; xy = pos 0; yy = pos 0 }
+abbrev pub no_prefix : Prefix
+no_prefix = record { x = 0; y = 0; xx = 0; xy = 0; yy = 0 }
 
--- what one list of sums has more than another
-abbrev pub difference_of : Raw → Raw → Raw
-difference_of r s = record { x = r.x -ℤ s.x; y = r.y -ℤ s.y; xx = r.xx -ℤ s.xx; xy = r.xy -ℤ s.xy; yy = r.yy -ℤ s.yy }
+-- as much of some sums as a row has: of coordinates modulo 2^32, of squares and products modulo 2^64
+abbrev pub kept_of : Raw → Prefix
+kept_of r = record {
+  x = unsigned_abs r.x % 2 ^ 32;
+  y = unsigned_abs r.y % 2 ^ 32;
+  xx = unsigned_abs r.xx % 2 ^ 64;
+  xy = unsigned_abs r.xy % 2 ^ 64;
+  yy = unsigned_abs r.yy % 2 ^ 64;
+}
+
+-- the row of the first `count` points of a path
+abbrev pub prefix_of : List Point → ℕ → Prefix
+prefix_of points count = kept_of (raw_of (point_at points) count)
+
+-- the sums over two runs of points
+abbrev pub both_of : Prefix → Prefix → Prefix
+both_of p q = record {
+  x = (p.x + q.x) % 2 ^ 32;
+  y = (p.y + q.y) % 2 ^ 32;
+  xx = (p.xx + q.xx) % 2 ^ 64;
+  xy = (p.xy + q.xy) % 2 ^ 64;
+  yy = (p.yy + q.yy) % 2 ^ 64;
+}
+
+-- the sums over a run of points without those over its first ones
+abbrev pub less_of : Prefix → Prefix → Prefix
+less_of p q = record {
+  x = (p.x + (2 ^ 32 - q.x)) % 2 ^ 32;
+  y = (p.y + (2 ^ 32 - q.y)) % 2 ^ 32;
+  xx = (p.xx + (2 ^ 64 - q.xx)) % 2 ^ 64;
+  xy = (p.xy + (2 ^ 64 - q.xy)) % 2 ^ 64;
+  yy = (p.yy + (2 ^ 64 - q.yy)) % 2 ^ 64;
+}
+
+-- the one point that the latter of two rows has more
+abbrev pub point_between : Prefix → Prefix → Point
+point_between p q = record { x = pos ((q.x + (2 ^ 32 - p.x)) % 2 ^ 32); y = pos ((q.y + (2 ^ 32 - p.y)) % 2 ^ 32) }
+
+-- the points that the rows after this one have more, one each
+abbrev pub points_after : Prefix → List Prefix → List Point
+points_after p [] = []
+points_after p (q ∷ rows) = point_between p q ∷ points_after q rows
+
+-- the points whose sums a table holds
+abbrev pub points_of : List Prefix → List Point
+points_of [] = []
+points_of (p ∷ rows) = points_after p rows
 
 -- the sums of offsets from (x, y), for `count` points
 abbrev pub offsets_of : Raw → ℕ → ℤ → ℤ → Sums
@@ -49,10 +94,10 @@ offsets_of r count x y = record {
 abbrev pub spread_by : ℤ → ℤ → ℤ → ℤ → ℤ → ℤ
 spread_by xx xy yy right above = ((above *ℤ above) *ℤ xx -ℤ pos 2 *ℤ ((right *ℤ above) *ℤ xy)) +ℤ (right *ℤ right) *ℤ yy
 
--- row number k has the sums over the first k points, for two laps round the path
-pub record IsTable (points : List Point) (rows : List Raw) : Type 0 where
+-- row number k has the sums over the first k points, for one lap round the path
+pub record IsTable (points : List Point) (rows : List Prefix) : Type 0 where
   pub some : 0 < length points
   pub few : length points ≤ 2 ^ 31
   pub on_page : AreOnPage points
-  pub two_laps : length rows ≡ 2 * length points + 1
-  pub each : (k : ℕ) → k ≤ 2 * length points → slice_index_or rows k no_sums ≡ raw_of (point_at points) k
+  pub lap : length rows ≡ length points + 1
+  pub each : (k : ℕ) → k ≤ length points → slice_index_or rows k no_prefix ≡ prefix_of points k

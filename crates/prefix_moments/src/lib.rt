@@ -5,5 +5,6 @@
 #![tactic(auto)]
 
 pub mod moments;
+mod prefix;
 mod raw;
 pub mod sums;

@@ -1,11 +1,12 @@
 //! The table of a path's sums.
-ghost use Rattle.std.specs.Prelude.{◌≡◌, ℕ, pos, unsigned_abs, ◌-ℤ◌, ◌≤ℤ◌, ◌+◌, ◌-◌, ◌*◌, ◌/◌, ◌<◌, ◌≤◌, ◌^◌, List, length, IfOk, IfSome, IfNone, IsTrue, ◌↔◌};
+ghost use Rattle.std.specs.Prelude.{◌≡◌, ℕ, pos, unsigned_abs, ◌-ℤ◌, ◌≤ℤ◌, ◌+◌, ◌-◌, ◌*◌, ◌/◌, ◌%◌, ◌<◌, ◌≤◌, ◌^◌, List, length, IfOk, IfSome, IfNone, IsTrue, ◌↔◌};
 ghost use Rattle.pt_base.specs.ClosedWalk.{IsClosedWalk, point_at};
 ghost use Rattle.pt_base.specs.Root.{IsRoot};
 ghost use Rattle.pt_base.specs.OnPage.{AreOnPage, IsOnPage};
 ghost use Rattle.prefix_moments.specs.Sums.{sums_of, spread_of, IsPenalty};
-ghost use Rattle.prefix_moments.specs.Table.{raw_of, IsRawOf, IsTable, offsets_of};
+ghost use Rattle.prefix_moments.specs.Table.{raw_of, prefix_of, IsRawOf, IsTable, offsets_of};
 
+use crate::prefix::Prefix;
 use crate::raw::{Raw, moved, moved_products, spread};
 use crate::sums::Sums;
 use pt_base::fault::NoMemory;
@@ -18,21 +19,20 @@ use std::marker::Model;
 /// A path's sums, for any segment of at most one lap. Contracts see the path's points.
 #[derive(Debug, Drop)]
 pub struct Moments {
-    points: Vec<Point>,
-    /// For two laps: the sums over the points before each one.
-    rows: Vec<Raw>,
+    /// The sums over the points before each one, and over all. A point is what two of them differ by.
+    rows: Vec<Prefix>,
 }
 
 impl Model for Moments {
     ghost use Rattle.std.specs.Prelude.{List};
     ghost use Rattle.pt_base.specs.declared.point.Point.{Point};
-    ghost use Rattle.prefix_moments.specs.Table.{IsTable};
+    ghost use Rattle.prefix_moments.specs.Table.{IsTable, points_of};
 
     ghost Value = { List Point };
 
-    ghost view = { λ moments. moments.points.items };
+    ghost view = { λ moments. points_of moments.rows.items };
 
-    ghost invariant = { λ moments. IsTable moments.points.items moments.rows.items };
+    ghost invariant = { λ moments. IsTable (points_of moments.rows.items) moments.rows.items };
 }
 
 impl Moments {
@@ -42,10 +42,9 @@ impl Moments {
         requires on_page { AreOnPage points.now }
         ensures { IfOk result (λ moments. moments ≡ points.now) }
     {
-        let rows = table(alloc, points)?;
-        let mut copy = Vec::new(alloc);
-        copy.extend_from_slice(points)?;
-        Ok(Moments { points: copy, rows })
+        Ok(Moments {
+            rows: table(alloc, points)?,
+        })
     }
 
     /// The sums over the points from number `i` to number `j`.
@@ -67,7 +66,8 @@ impl Moments {
         ensures value { result ≡ point_at self.now k }
         ensures on_page { IsOnPage result }
     {
-        numbered(self.points.as_slice(), k as usize)
+        let at = in_lap(k as usize, self.rows.len() - 1);
+        self.rows[at].point_before(self.rows[at + 1])
     }
 
     /// The coordinates' own sums over the points from number `i` to number `j`.
@@ -79,7 +79,21 @@ impl Moments {
         ensures value { result ≡ raw_of (λ d. point_at self.now (i + d)) (j - i + 1) }
         ensures most { IsRawOf (2 ^ 15) result }
     {
-        self.rows[j as usize + 1].minus(self.rows[i as usize])
+        self.row(j as usize + 1).minus(self.row(i as usize)).raw()
+    }
+
+    /// The sums over the first `k` points, in the first lap or in the second.
+    fn row(&self, k: usize) -> Prefix
+        requires { k ≤ 2 * length self.now }
+        ensures value { result ≡ prefix_of self.now k }
+        ensures on_page { AreOnPage self.now }
+    {
+        let lap = self.rows.len() - 1;
+        if k <= lap {
+            self.rows[k]
+        } else {
+            self.rows[lap].plus(self.rows[k - lap])
+        }
     }
 
     /// The penalty of the straight segment from point number `i` to number `j` in place of the
@@ -133,32 +147,28 @@ impl Moments {
     }
 }
 
-/// The rows of two laps.
-fn table(alloc: Global, points: &[Point]) -> Result<Vec<Raw>, NoMemory>
+/// The rows of one lap.
+fn table(alloc: Global, points: &[Point]) -> Result<Vec<Prefix>, NoMemory>
     requires closed { IsClosedWalk points.now }
     requires on_page { AreOnPage points.now }
     ensures { IfOk result (λ rows. IsTable points.now rows.items) }
 {
-    let mut rows = Vec::new(alloc);
-    let mut sums = Raw::none();
-    for k in 0..2 * points.len() {
+    let mut rows = Vec::with_capacity(alloc, points.len() + 1)?;
+    let mut sums = Prefix::none();
+    for k in 0..points.len() {
         rows.push(sums)?;
-        sums = sums.with(numbered(points, k));
+        sums = sums.with(points[k]);
     }
     rows.push(sums)?;
     Ok(rows)
 }
 
-/// Point number `k`, in the first lap or in the second.
-fn numbered(points: &[Point], k: usize) -> Point
-    requires { k < 2 * length points.now }
-    ensures { result ≡ point_at points.now k }
+/// The number in the first lap of point number `k`, of so many points.
+fn in_lap(k: usize, points: usize) -> usize
+    requires { k < 2 * points }
+    ensures { result ≡ k % points }
 {
-    if k < points.len() {
-        points[k]
-    } else {
-        points[k - points.len()]
-    }
+    if k < points { k } else { k - points }
 }
 
 /// How far one coordinate lies from another.

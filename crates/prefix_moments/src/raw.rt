@@ -1,9 +1,6 @@
 //! Sums of coordinates as they stand.
-ghost use Rattle.std.specs.Prelude.{◌≡◌, ◌+◌, ◌*◌, ◌<◌, ◌≤◌, ◌^◌, ℕ, ◌+ℤ◌, ◌-ℤ◌, ◌*ℤ◌, unsigned_abs, pos};
-ghost use Rattle.pt_base.specs.OnPage.{IsOnPage};
-ghost use Rattle.prefix_moments.specs.Table.{IsRawOf, difference_of, no_sums, spread_by};
-
-use pt_base::point::Point;
+ghost use Rattle.std.specs.Prelude.{◌≡◌, ◌*◌, ◌<◌, ◌≤◌, ◌^◌, ℕ, ◌-ℤ◌, ◌*ℤ◌, unsigned_abs, pos};
+ghost use Rattle.prefix_moments.specs.Table.{spread_by};
 
 /// The sums of some points' coordinates, of their squares and of their products.
 #[derive(Clone, Copy, Debug)]
@@ -13,59 +10,6 @@ pub(crate) struct Raw {
     pub(crate) xx: i64,
     pub(crate) xy: i64,
     pub(crate) yy: i64,
-}
-
-impl Raw {
-    /// The sums of no points.
-    pub(crate) fn none() -> Raw
-        ensures { result ≡ no_sums }
-    {
-        Raw {
-            x: 0,
-            y: 0,
-            xx: 0,
-            xy: 0,
-            yy: 0,
-        }
-    }
-
-    /// The sums with one more point.
-    ///
-    /// On two laps of 2^31 points a coordinate's sum is at most 2^46 and that of its squares 2^60.
-    pub(crate) fn with(self, at: Point) -> Raw
-        requires room { IsRawOf (2 ^ 32) self }
-        requires on_page { IsOnPage at }
-        ensures x { result.x ≡ self.x +ℤ at.x }
-        ensures y { result.y ≡ self.y +ℤ at.y }
-        ensures xx { result.xx ≡ self.xx +ℤ at.x *ℤ at.x }
-        ensures xy { result.xy ≡ self.xy +ℤ at.x *ℤ at.y }
-        ensures yy { result.yy ≡ self.yy +ℤ at.y *ℤ at.y }
-    {
-        let x = i64::from(at.x);
-        let y = i64::from(at.y);
-        Raw {
-            x: self.x + x,
-            y: self.y + y,
-            xx: self.xx + product(x, x),
-            xy: self.xy + product(x, y),
-            yy: self.yy + product(y, y),
-        }
-    }
-
-    /// What these sums have more than others.
-    pub(crate) fn minus(self, less: Raw) -> Raw
-        requires these { IsRawOf (2 ^ 33) self }
-        requires others { IsRawOf (2 ^ 33) less }
-        ensures { result ≡ difference_of self less }
-    {
-        Raw {
-            x: self.x - less.x,
-            y: self.y - less.y,
-            xx: self.xx - less.xx,
-            xy: self.xy - less.xy,
-            yy: self.yy - less.yy,
-        }
-    }
 }
 
 /// The sum of the offsets of `count` coordinates from one of them.

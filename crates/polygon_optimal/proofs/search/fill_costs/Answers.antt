@@ -1,17 +1,18 @@
-use Rattle.std.proofs.Common.{◌≡◌, ℕ, ◌+◌, ◌-◌, ◌<◌, ◌≤◌, length, get_or, get_or-set_same, set, subst, arith}
+use Rattle.std.proofs.Common.{◌≡◌, ℕ, ◌+◌, ◌-◌, ◌<◌, ◌≤◌, length, ap, sym, ◌∙◌, ◌^◌, subst, arith}
 use Rattle.std.proofs.lemmas.List.{length-set}
 use Rattle.std.specs.Prelude.{slice_index}
 use Rattle.least_walk.specs.Places.{IsPlace}
-use Rattle.least_walk.specs.Suffix.{HasCosts, HasNexts}
-use Rattle.least_walk.proofs.Filling.{costs_more, costs_same, nexts_more, nexts_same}
-use Rattle.least_walk.proofs.Onward.{cost_at_end}
+use Rattle.least_walk.specs.Suffix.{HasNexts, IsLeastCost}
+use Rattle.least_walk.proofs.Filling.{nexts_more, nexts_same}
+use Rattle.least_walk.proofs.Places.{place_at_start}
 use Rattle.polygon_optimal.specs.Lasts.{IsUpToLast}
 use Rattle.polygon_optimal.specs.OnePenalty.{penalty_most}
 use Rattle.polygon_optimal.specs.Polygon.{penalty_of}
-use Rattle.polygon_optimal.specs.Search.{IsBegin}
+use Rattle.polygon_optimal.specs.Search.{IsBegin, slot_of}
 use Rattle.polygon_optimal.proofs.Counting.{next_most, none_left}
 use Rattle.polygon_optimal.proofs.Leasts.{best_onward, costs_small, window_reached}
 use Rattle.polygon_optimal.proofs.Placing.{in_window, place_in_window}
+use Rattle.polygon_optimal.proofs.Slots.{AreKept, kept_at_end, kept_more, kept_same, cheapest_same}
 use Rattle.polygon_optimal.proofs.search.fill_costs.Goals as goal
 
 -- from the end on nothing is left to pay, and no segment is left
@@ -20,16 +21,10 @@ loop-from-init c =
     let s = c.args.segments.now in
     let size = length s.moments.now in
     let end : c.len-size.result ≡ size = omega (arith, s.places) in
-    let costs = set c.args.costs.now c.len-size.result 0 in
-    let room : c.len-size.result < length c.args.costs.now = omega arith in
-    let nothing = get_or-set_same c.args.costs.now c.len-size.result 0 0 room in
     record {
       begin = λ below. (let no : ⊥ = omega arith in elim no [ ]);
-      costs = λ k above within place. (
-          let at_end : c.len-size.result ≡ k = omega arith in
-          cost_at_end size (IsUpToLast s.lasts.items) (penalty_of s.moments.now)
-          k (get_or costs k 0) (omega arith) (subst (λ m. get_or costs m 0 ≡ 0) at_end nothing)
-          );
+      costs = kept_at_end size (IsUpToLast s.lasts.items) (penalty_of s.moments.now) c.args.costs.now c.len-size.result c.slot.result end
+          (c.slot.ensures ∙ ap (λ n. slot_of n) end) (omega (arith, c.slot.ensures, c.requires.slots c.len-size.result (omega arith)));
       nexts = λ k above below place. (let no : ⊥ = omega arith in elim no [ ]);
     }
 
@@ -60,12 +55,12 @@ cheapest_from-onward-requires-clause-some c =
     let within : i ≤ size = omega arith in
     let end : length counts - 1 ≡ size = omega arith in
     let begin = subst (λ n. IsBegin n counts i c.begin_from-begin.result) end c.begin_from-begin.ensures in
-    let later = subst (λ n. HasCosts size (IsUpToLast lasts) (penalty_of s.moments.now) n c.loop-from.costs) low c.loop-from.invariant.costs in
+    let later = subst (λ n. AreKept size (IsUpToLast lasts) (penalty_of s.moments.now) n c.loop-from.costs) low c.loop-from.invariant.costs in
     let place = place_in_window size lasts s.onwards s.rising counts c.requires.fewest c.requires.falling c.args.farthest.now c.requires.farthest
     i within c.if-from-farthest.true in
     window_reached size lasts s.onwards s.rising counts c.requires.fewest c.requires.falling (penalty_of s.moments.now) s.few
     (λ i j below up. penalty_most s.moments.now s.on_page i j)
-    c.loop-from.costs i c.begin_from-begin.result below place begin later
+    later.whole i c.begin_from-begin.result below place begin later.are
 
 -- and no way on from there costs as much as 2^88
 pub cheapest_from-onward-requires-clause-small : goal.cheapest_from-onward-requires-clause-small
@@ -80,12 +75,17 @@ cheapest_from-onward-requires-clause-small c =
     let within : i ≤ size = omega arith in
     let end : length counts - 1 ≡ size = omega arith in
     let begin = subst (λ n. IsBegin n counts i c.begin_from-begin.result) end c.begin_from-begin.ensures in
-    let later = subst (λ n. HasCosts size (IsUpToLast lasts) (penalty_of s.moments.now) n c.loop-from.costs) low c.loop-from.invariant.costs in
+    let later = subst (λ n. AreKept size (IsUpToLast lasts) (penalty_of s.moments.now) n c.loop-from.costs) low c.loop-from.invariant.costs in
     let place = place_in_window size lasts s.onwards s.rising counts c.requires.fewest c.requires.falling c.args.farthest.now c.requires.farthest
     i within c.if-from-farthest.true in
-    costs_small size lasts s.onwards s.rising counts c.requires.fewest c.requires.falling (penalty_of s.moments.now) s.few
+    let on = s.onwards i below in
+    let kept_there : (k : ℕ) → c.begin_from-begin.result ≤ k → k < slice_index lasts i + 1 → slice_index c.loop-from.costs (slot_of k) ≡ slice_index later.whole k =
+    λ k above near. later.kept k (omega (arith, begin.above)) (omega (arith, on.within)) (omega (arith, begin.above, on.short, on.beyond)) in
+    λ k above near.
+    subst (λ n. n < 2 ^ 88) (sym (kept_there k above (omega arith)))
+    (costs_small size lasts s.onwards s.rising counts c.requires.fewest c.requires.falling (penalty_of s.moments.now) s.few
     (λ i j below up. penalty_most s.moments.now s.on_page i j)
-    c.loop-from.costs i c.begin_from-begin.result below place begin later
+    later.whole i c.begin_from-begin.result below place begin later.are k above near)
 
 pub loop-from-preserved-then-from-farthest : goal.loop-from-preserved-then-from-farthest
 loop-from-preserved-then-from-farthest c =
@@ -99,18 +99,26 @@ loop-from-preserved-then-from-farthest c =
     let within : i ≤ size = omega arith in
     let end : length counts - 1 ≡ size = omega arith in
     let begin = subst (λ n. IsBegin n counts i c.begin_from-begin.result) end c.begin_from-begin.ensures in
-    let later = subst (λ n. HasCosts size (IsUpToLast lasts) (penalty_of s.moments.now) n c.loop-from.costs) low c.loop-from.invariant.costs in
+    let later = subst (λ n. AreKept size (IsUpToLast lasts) (penalty_of s.moments.now) n c.loop-from.costs) low c.loop-from.invariant.costs in
     let place = place_in_window size lasts s.onwards s.rising counts c.requires.fewest c.requires.falling c.args.farthest.now c.requires.farthest
     i within c.if-from-farthest.true in
+    let on = s.onwards i below in
+    let kept_there : (k : ℕ) → c.begin_from-begin.result ≤ k → k < slice_index lasts i + 1 → slice_index c.loop-from.costs (slot_of k) ≡ slice_index later.whole k =
+    λ k above near. later.kept k (omega (arith, begin.above)) (omega (arith, on.within)) (omega (arith, begin.above, on.short, on.beyond)) in
     let nexts = subst (λ n. HasNexts size (IsUpToLast lasts) (penalty_of s.moments.now) n c.loop-from.nexts) low c.loop-from.invariant.nexts in
     let (cost, next) = best_onward size lasts s.onwards s.rising counts c.requires.fewest c.requires.falling (penalty_of s.moments.now) s.few
     (λ i j below up. penalty_most s.moments.now s.on_page i j)
-    c.loop-from.costs i c.begin_from-begin.result below place begin later c.cheapest_from-onward.result c.cheapest_from-onward.ensures in
-    let cost_room : i < length c.loop-from.costs = omega (arith, c.loop-from.auto.costs, length-set c.args.costs.now c.len-size.result 0) in
+    later.whole i c.begin_from-begin.result below place begin later.are c.cheapest_from-onward.result
+    (cheapest_same (λ k. penalty_of s.moments.now i k + slice_index c.loop-from.costs (slot_of k)) (λ k. penalty_of s.moments.now i k + slice_index later.whole k)
+    c.begin_from-begin.result (slice_index lasts i + 1) c.cheapest_from-onward.result
+    (λ k above near. ap (λ n. penalty_of s.moments.now i k + n) (kept_there k above near)) c.cheapest_from-onward.ensures) in
+    let cost_room : c.slot-then-from-farthest.result < length c.loop-from.costs =
+    omega (arith, c.loop-from.auto.costs, length-set c.args.costs.now c.slot.result 0, c.slot-then-from-farthest.ensures, c.requires.slots i within) in
     let next_room : i < length c.loop-from.nexts = omega (arith, c.loop-from.auto.nexts) in
     record {
       begin = λ inside. begin;
-      costs = costs_more size (IsUpToLast lasts) (penalty_of s.moments.now) i c.loop-from.costs c.cheapest_from-onward.result.cost cost_room later cost;
+      costs = kept_more size (IsUpToLast lasts) (penalty_of s.moments.now) c.loop-from.costs i c.slot-then-from-farthest.result c.cheapest_from-onward.result.cost
+          below c.slot-then-from-farthest.ensures cost_room later cost;
       nexts = nexts_more size (IsUpToLast lasts) (penalty_of s.moments.now) i c.loop-from.nexts c.cheapest_from-onward.result.next next_room nexts next;
     }
 
@@ -127,7 +135,7 @@ loop-from-preserved c =
     let within : i ≤ size = omega arith in
     let end : length counts - 1 ≡ size = omega arith in
     let begin = subst (λ n. IsBegin n counts i c.begin_from-begin.result) end c.begin_from-begin.ensures in
-    let later = subst (λ n. HasCosts size (IsUpToLast lasts) (penalty_of s.moments.now) n c.loop-from.costs) low c.loop-from.invariant.costs in
+    let later = subst (λ n. AreKept size (IsUpToLast lasts) (penalty_of s.moments.now) n c.loop-from.costs) low c.loop-from.invariant.costs in
     let nexts = subst (λ n. HasNexts size (IsUpToLast lasts) (penalty_of s.moments.now) n c.loop-from.nexts) low c.loop-from.invariant.nexts in
     let none : ¬ IsPlace size (IsUpToLast lasts) i = λ place. (
     let inside = in_window size lasts s.onwards s.rising counts c.requires.fewest c.requires.falling c.args.farthest.now c.requires.farthest
@@ -136,6 +144,18 @@ loop-from-preserved c =
     ) in
     record {
       begin = λ inside. begin;
-      costs = costs_same size (IsUpToLast lasts) (penalty_of s.moments.now) i c.loop-from.costs later none;
+      costs = kept_same size (IsUpToLast lasts) (penalty_of s.moments.now) c.loop-from.costs i below later none;
       nexts = nexts_same size (IsUpToLast lasts) (penalty_of s.moments.now) i c.loop-from.nexts nexts none;
     }
+
+pub returns-clause-cost : goal.returns-clause-cost
+returns-clause-cost c =
+    let s = c.args.segments.now in
+    let size = length s.moments.now in
+    let lasts = s.lasts.items in
+    let counts = c.args.counts.now in
+    let start : c.loop-from.from ≡ 0 = omega arith in
+    let all = subst (λ n. AreKept size (IsUpToLast lasts) (penalty_of s.moments.now) n c.loop-from.costs) start c.loop-from.invariant.costs in
+    let place : IsPlace size (IsUpToLast lasts) 0 = (0, place_at_start size (IsUpToLast lasts) counts c.requires.fewest) in
+    subst (IsLeastCost size (IsUpToLast lasts) (penalty_of s.moments.now) 0) (sym (all.kept 0 (omega arith) (omega arith) (omega arith)))
+    (all.are 0 (omega arith) (omega arith) place)

@@ -1,6 +1,6 @@
 use Rattle.std.proofs.Common.{◌≡◌, ℕ, List, ◌++◌, length, take, sym, ap, ◌∙◌, subst, arith}
 use Rattle.std.proofs.Math.Seq.{take-append_seam}
-use Rattle.least_walk.specs.Suffix.{HasCosts, HasFewest, HasNexts}
+use Rattle.least_walk.specs.Suffix.{HasFewest, HasNexts}
 use Rattle.polygon_optimal.specs.Lasts.{IsUpToLast}
 use Rattle.polygon_optimal.specs.Polygon.{penalty_of}
 use Rattle.polygon_optimal.proofs.search.least_by_windows.Goals as goal
@@ -9,8 +9,8 @@ use Rattle.polygon_optimal.proofs.search.least_by_windows.Goals as goal
 whole : (written rest : List ℕ) (len : ℕ) → len ≡ length written → take len (written ++ rest) ≡ written
 whole written rest len all = ap (λ n. take n (written ++ rest)) all ∙ take-append_seam written rest
 
-pub walk_by-requires-clause-counts : goal.walk_by-requires-clause-counts
-walk_by-requires-clause-counts c =
+pub walk_along-requires-clause-counts : goal.walk_along-requires-clause-counts
+walk_along-requires-clause-counts c =
     let s = c.args.segments.now in
     let P : List ℕ → Type 0 = λ counts. HasFewest (length s.moments.now) (IsUpToLast s.lasts.items) 0 counts in
     let len = c.deref_mut.ensures.len in
@@ -18,20 +18,11 @@ walk_by-requires-clause-counts c =
     c.deref-4.ensures.value ∙ whole c.fill_counts.new.counts _ _ (omega (arith, c.fill_counts.auto.counts)) in
     subst P (sym same) c.fill_counts.ensures.fewest
 
-pub walk_by-requires-clause-costs : goal.walk_by-requires-clause-costs
-walk_by-requires-clause-costs c =
-    let s = c.args.segments.now in
-    let P : List ℕ → Type 0 = λ costs. HasCosts (length s.moments.now) (IsUpToLast s.lasts.items) (penalty_of s.moments.now) 0 costs in
-    let len = c.deref_mut-2.ensures.len in
-    let same : c.deref-5.result.now ≡ c.fill_costs.new.costs =
-    c.deref-5.ensures.value ∙ whole c.fill_costs.new.costs _ _ (omega (arith, c.fill_costs.auto.costs)) in
-    subst P (sym same) c.fill_costs.ensures.costs
-
-pub walk_by-requires-clause-nexts : goal.walk_by-requires-clause-nexts
-walk_by-requires-clause-nexts c =
+pub walk_along-requires-clause-nexts : goal.walk_along-requires-clause-nexts
+walk_along-requires-clause-nexts c =
     let s = c.args.segments.now in
     let P : List ℕ → Type 0 = λ nexts. HasNexts (length s.moments.now) (IsUpToLast s.lasts.items) (penalty_of s.moments.now) 0 nexts in
     let len = c.deref_mut-3.ensures.len in
-    let same : c.deref-6.result.now ≡ c.fill_costs.new.nexts =
-    c.deref-6.ensures.value ∙ whole c.fill_costs.new.nexts _ _ (omega (arith, c.fill_costs.auto.nexts)) in
+    let same : c.deref-5.result.now ≡ c.fill_costs.new.nexts =
+    c.deref-5.ensures.value ∙ whole c.fill_costs.new.nexts _ _ (omega (arith, c.fill_costs.auto.nexts)) in
     subst P (sym same) c.fill_costs.ensures.nexts

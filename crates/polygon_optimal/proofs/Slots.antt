@@ -1,0 +1,98 @@
+-- What the best ways to the end cost, as much of it as is kept.
+use Rattle.std.proofs.Common.{◌≡◌, ℕ, ◌+◌, ◌<◌, ◌≤◌, List, length, sym, ◌∙◌, subst, set, get_or, get_or-set_same, replicate, inl, inr, arith}
+use Rattle.std.proofs.lemmas.Bool.{cases_eq}
+use Rattle.std.proofs.lemmas.List.{get_or-set_other, length-replicate, length-set}
+use Rattle.std.specs.Prelude.{slice_index}
+use Rattle.pt_base.specs.declared.limits.TheConstants.{MOST_STEPS}
+use Rattle.least_walk.specs.Places.{IsPlace}
+use Rattle.least_walk.specs.Suffix.{HasCosts, IsLeastCost}
+use Rattle.least_walk.proofs.Filling.{costs_more}
+use Rattle.least_walk.proofs.Onward.{cost_at_end}
+use Rattle.polygon_optimal.specs.declared.search.Onward.{Onward}
+use Rattle.polygon_optimal.specs.Search.{HasCheapest, slot_of}
+
+-- two points that a segment may lead between have slots of their own
+apart : (i k : ℕ) → i < k → k < i + (MOST_STEPS + 1) → ¬ (slot_of k ≡ slot_of i)
+apart i k above near same = omega arith
+
+module _ (size : ℕ) (is_allowed : ℕ → ℕ → Type 0) (cost : ℕ → ℕ → ℕ) where
+  -- the slots have the nearest ones of a list of all costs from `low` on
+  pub record AreKept (low : ℕ) (costs : List ℕ) : Type 0 where
+    pub whole : List ℕ
+    pub places : size < length whole
+    pub are : HasCosts size is_allowed cost low whole
+    pub kept : (k : ℕ) → low ≤ k → k ≤ size → k < low + (MOST_STEPS + 1) → slice_index costs (slot_of k) ≡ slice_index whole k
+
+  pub kept_at_end : (costs : List ℕ) (low slot : ℕ) → low ≡ size → slot ≡ slot_of size → slot < length costs → AreKept low (set costs slot 0)
+  kept_at_end costs low slot end is room =
+      let all : List ℕ = replicate (size + 1) 0 in
+      let long : size < length all = (let none : ℕ = 0 in omega (arith, length-replicate (size + 1) none)) in
+      let nothing = get_or-set_same all size 0 0 long in
+      let there = get_or-set_same costs slot 0 0 room in
+      record {
+        whole = set all size 0;
+        places = omega (arith, length-set all size 0);
+        are = λ k above within place. (
+            let at_end : size ≡ k = omega arith in
+            cost_at_end size is_allowed cost k (get_or (set all size 0) k 0) (omega arith) (subst (λ m. get_or (set all size 0) m 0 ≡ 0) at_end nothing)
+            );
+        kept = λ k above within near. (
+            let at_end : size ≡ k = omega arith in
+            let P : ℕ → Type 0 = λ m. get_or (set costs slot 0) (slot_of m) 0 ≡ get_or (set all size 0) m 0 in
+            let Q : ℕ → Type 0 = λ n. get_or (set costs slot 0) n 0 ≡ 0 in
+            subst P at_end (subst Q is there ∙ sym nothing)
+            );
+      }
+
+  -- one more is kept
+  pub kept_more : (costs : List ℕ) (i slot c : ℕ) → i < size → slot ≡ slot_of i → slot < length costs → AreKept (i + 1) costs
+      → IsLeastCost size is_allowed cost i c → AreKept i (set costs slot c)
+  kept_more costs i slot c below is room later here =
+      let long : i < length later.whole = omega (arith, later.places) in
+      record {
+        whole = set later.whole i c;
+        places = omega (arith, later.places, length-set later.whole i c);
+        are = costs_more size is_allowed cost i later.whole c long later.are here;
+        kept = λ k above within near. elim (cases_eq k i) [
+          | inl same ↦ (
+              let P : ℕ → Type 0 = λ m. get_or (set costs slot c) (slot_of m) 0 ≡ get_or (set later.whole i c) m 0 in
+              let Q : ℕ → Type 0 = λ n. get_or (set costs slot c) n 0 ≡ c in
+              subst P (sym same) (subst Q is (get_or-set_same costs slot c 0 room) ∙ sym (get_or-set_same later.whole i c 0 long)))
+          | inr other ↦ (
+              let alone : ¬ (slot_of k ≡ slot) = λ e. apart i k (omega arith) (omega arith) (e ∙ is) in
+              get_or-set_other costs slot (slot_of k) c 0 alone ∙ later.kept k (omega arith) within (omega arith)
+              ∙ sym (get_or-set_other later.whole i k c 0 other))
+        ];
+      }
+
+  -- a point that no polygon of fewest segments goes through is passed over
+  pub kept_same : (costs : List ℕ) (i : ℕ) → i < size → AreKept (i + 1) costs → ¬ IsPlace size is_allowed i → AreKept i costs
+  kept_same costs i below later none =
+      let c : ℕ = slice_index costs (slot_of i) in
+      let long : i < length later.whole = omega (arith, later.places) in
+      record {
+        whole = set later.whole i c;
+        places = omega (arith, later.places, length-set later.whole i c);
+        are = λ k above within place. elim (cases_eq k i) [
+          | inl same ↦ absurd (none (subst (IsPlace size is_allowed) same place))
+          | inr other ↦ subst (IsLeastCost size is_allowed cost k) (sym (get_or-set_other later.whole i k c 0 other)) (later.are k (omega arith) within place)
+        ];
+        kept = λ k above within near. elim (cases_eq k i) [
+          | inl same ↦ (
+              let P : ℕ → Type 0 = λ m. get_or costs (slot_of m) 0 ≡ get_or (set later.whole i c) m 0 in
+              subst P (sym same) (sym (get_or-set_same later.whole i c 0 long)))
+          | inr other ↦ later.kept k (omega arith) within (omega arith) ∙ sym (get_or-set_other later.whole i k c 0 other)
+        ];
+      }
+
+-- the cheapest segment by one reckoning is that by another one with the same costs
+pub cheapest_same : (cost_by other_by : ℕ → ℕ) (begin end : ℕ) (onward : Onward) → ((k : ℕ) → begin ≤ k → k < end → cost_by k ≡ other_by k)
+    → HasCheapest cost_by begin end onward → HasCheapest other_by begin end onward
+cheapest_same cost_by other_by begin end onward same is =
+    record {
+      above = is.above;
+      below = is.below;
+      cost = is.cost ∙ same onward.next is.above is.below;
+      cheapest = λ k above below. omega (arith, same k above below, is.cheapest k above below);
+      first = λ k above nearer. omega (arith, same k above (omega (arith, is.below)), is.first k above nearer);
+    }

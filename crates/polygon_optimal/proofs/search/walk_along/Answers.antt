@@ -1,0 +1,55 @@
+use Rattle.std.proofs.Common.{◌<◌, ◌≤◌, ◌∷◌, [], ◌++◌, length, arith, get_or, ◌∙◌}
+use Rattle.least_walk.specs.LeastWalk.{IsLeast}
+use Rattle.least_walk.proofs.Walks.{step_count-walk_from, total_cost-least, step_count-least}
+use Rattle.least_walk.proofs.Written.{written_none, written_place, written_more, written_all}
+use Rattle.least_walk.proofs.Places.{place_at_start}
+use Rattle.polygon_optimal.specs.Lasts.{IsUpToLast}
+use Rattle.polygon_optimal.specs.Polygon.{penalty_of}
+use Rattle.polygon_optimal.proofs.search.walk_along.Goals as goal
+
+pub loop-from-init : goal.loop-from-init
+loop-from-init c =
+    let s = c.args.segments.now in
+    written_none (length s.moments.now) (IsUpToLast s.lasts.items) (penalty_of s.moments.now)
+    c.in_ok-at.at.items (get_or c.args.nexts.now 0 0) c.in_ok-at.ensures.items
+    (c.requires.nexts 0 (omega arith) (omega (arith, s.some))
+    (0, place_at_start (length s.moments.now) (IsUpToLast s.lasts.items) c.args.counts.now c.requires.counts))
+
+pub loop-from-preserved : goal.loop-from-preserved
+loop-from-preserved c =
+    let s = c.args.segments.now in
+    let from = c.loop-from.from in
+    let below : from < length s.moments.now = omega (arith, s.places) in
+    written_more (length s.moments.now) (IsUpToLast s.lasts.items) (penalty_of s.moments.now)
+    c.loop-from.at.items c.push.new.self.items from (get_or c.args.nexts.now from 0) c.in_ok-push.ensures.items
+    (c.requires.nexts from (omega arith) below
+    (written_place (length s.moments.now) (IsUpToLast s.lasts.items) (penalty_of s.moments.now) c.loop-from.at.items from c.loop-from.invariant))
+    c.loop-from.invariant
+
+-- each segment leads onwards
+pub loop-from-smaller : goal.loop-from-smaller
+loop-from-smaller c =
+    let s = c.args.segments.now in
+    let from = c.loop-from.from in
+    let below : from < length s.moments.now = omega (arith, s.places) in
+    let place = written_place (length s.moments.now) (IsUpToLast s.lasts.items) (penalty_of s.moments.now) c.loop-from.at.items from c.loop-from.invariant in
+    let next = c.requires.nexts from (omega arith) below place in
+    omega (arith, next.is_least.goes_on.0)
+
+pub returns : goal.returns
+returns c =
+    let s = c.args.segments.now in
+    let size = length s.moments.now in
+    let is_allowed = IsUpToLast s.lasts.items in
+    let starts = c.loop-from.at.items in
+    let end : size ≤ c.loop-from.from = omega (arith, s.places) in
+    let walk : IsLeast size is_allowed (penalty_of s.moments.now) (starts ++ size ∷ []) = written_all size is_allowed (penalty_of s.moments.now)
+    starts c.loop-from.from end c.loop-from.invariant in
+    let fewest = c.requires.counts 0 (omega arith) (omega arith) in
+    let steps = step_count-least size is_allowed (penalty_of s.moments.now) (starts ++ size ∷ []) walk (get_or c.args.counts.now 0 0) fewest in
+    rw c.from_vec.ensures (record {
+      least = walk;
+      starts = steps ∙ step_count-walk_from starts size;
+      count = steps;
+      cost = total_cost-least size is_allowed (penalty_of s.moments.now) (starts ++ size ∷ []) walk c.args.cost c.requires.cost;
+    })

@@ -1,0 +1,14 @@
+use Rattle.std.proofs.Common.{◌-◌, length}
+use Rattle.least_walk.proofs.Written.{IsWritten}
+use Rattle.polygon_optimal.specs.Lasts.{IsUpToLast}
+use Rattle.polygon_optimal.specs.Polygon.{penalty_of}
+use Rattle.polygon_optimal.proofs.search.walk_along.Given as goal
+
+-- the vertices so far are written down, and the least walk goes on from this one
+abbrev pub invariant-loop-from : goal.invariant-loop-from
+invariant-loop-from l =
+    let points = l.segments.moments.now in
+    IsWritten (length points) (IsUpToLast l.segments.lasts.items) (penalty_of points) l.at.items l.from
+
+abbrev pub decreases-loop-from : goal.decreases-loop-from
+decreases-loop-from l = l.size - l.from

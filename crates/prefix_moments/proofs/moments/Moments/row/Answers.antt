@@ -1,0 +1,16 @@
+use Rattle.std.proofs.Common.{◌≡◌, ◌-◌, List, length, subst, arith}
+use Rattle.pt_base.specs.declared.point.Point.{Point}
+use Rattle.prefix_moments.specs.Table.{IsTable}
+use Rattle.prefix_moments.proofs.Prefixes.{row_is, lap_is}
+use Rattle.prefix_moments.proofs.moments.Moments.row.Goals as goal
+
+pub returns-else-k-lap-clause-value : goal.returns-else-k-lap-clause-value
+returns-else-k-lap-clause-value c =
+    let P : List Point → Type 0 = λ ps. IsTable ps c.self.inside.rows.items in
+    let t : IsTable c.args.self.now c.self.inside.rows.items = subst P c.self.view_is c.self.invariant in
+    let size : c.len-lap.result - 1 ≡ length c.args.self.now = omega (arith, t.lap) in
+    let beyond = c.if-k-lap.false in
+    lap_is c.args.self.now t.on_page (c.len-lap.result - 1) c.args.k _ _ c.plus.result size (omega arith)
+    (row_is c.args.self.now _ t (c.len-lap.result - 1) _ (omega arith) c.index-else-k-lap.ensures)
+    (row_is c.args.self.now _ t (c.args.k - (c.len-lap.result - 1)) _ (omega arith) c.index-else-k-lap-2.ensures)
+    c.plus.ensures
