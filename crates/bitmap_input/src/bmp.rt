@@ -16,7 +16,6 @@ use crate::bmp::header::{Header, read_header};
 use crate::bmp::palette::read_palette;
 use crate::bmp::pixels::{Tone, read_rows};
 use crate::extent::{ReadPage, known};
-use crate::fault::InFault;
 use crate::skip::skip_block;
 use crate::stop::Stop;
 use crate::window::Window;
@@ -51,14 +50,8 @@ fn read_pixels<I: Inputs>(
         (I.files inputs.old) result window.new (I.files inputs.new) }
     ensures leaves { Leaves I.Inputs result inputs.old inputs.new }
 {
-    let mut page = match Bitmap::new(alloc, header.width, header.height) {
-        Ok(page) => page,
-        Err(_) => return Err(Stop::Fault(InFault::NoMemory)),
-    };
-    let mut row = match vec![in alloc; 0u8; row_bytes(header) as usize] {
-        Ok(row) => row,
-        Err(_) => return Err(Stop::Fault(InFault::NoMemory)),
-    };
+    let mut page = Bitmap::new(alloc, header.width, header.height)?;
+    let mut row = vec![in alloc; 0u8; row_bytes(header) as usize]?;
     read_rows(window, inputs, &mut page, header, tone, table, &mut row)?;
     known(&page);
     Ok(page)

@@ -9,7 +9,6 @@ ghost use Rattle.bitmap_input.specs.Raw.{IsShown};
 
 use crate::bmp::read_bmp;
 use crate::extent::{ReadPage, claiming_none, known};
-use crate::fault::InFault;
 use crate::gray::{Shading, read_plain_gray_rows, read_raw_gray_rows, row_bytes};
 use crate::header::{Format, read_maxval, read_sides, skip_space};
 use crate::plain::read_plain_rows;
@@ -35,10 +34,7 @@ fn read_plain_body<I: Inputs>(
     ensures leaves { Leaves I.Inputs result inputs.old inputs.new }
 {
     let sides = read_sides(window, inputs)?;
-    let mut page = match Bitmap::new(alloc, sides.width, sides.height) {
-        Ok(page) => page,
-        Err(_) => return Err(Stop::Fault(InFault::NoMemory)),
-    };
+    let mut page = Bitmap::new(alloc, sides.width, sides.height)?;
     read_plain_rows(window, inputs, &mut page, invert)?;
     known(&page);
     Ok(page)
@@ -59,10 +55,7 @@ fn read_raw_body<I: Inputs>(
 {
     let sides = read_sides(window, inputs)?;
     skip_space(window, inputs)?;
-    let mut page = match Bitmap::new(alloc, sides.width, sides.height) {
-        Ok(page) => page,
-        Err(_) => return Err(Stop::Fault(InFault::NoMemory)),
-    };
+    let mut page = Bitmap::new(alloc, sides.width, sides.height)?;
     read_raw_rows(window, inputs, &mut page, invert)?;
     known(&page);
     Ok(page)
@@ -83,10 +76,7 @@ fn read_plain_gray_body<I: Inputs>(
 {
     let sides = read_sides(window, inputs)?;
     let white = read_maxval(window, inputs)?;
-    let mut page = match Bitmap::new(alloc, sides.width, sides.height) {
-        Ok(page) => page,
-        Err(_) => return Err(Stop::Fault(InFault::NoMemory)),
-    };
+    let mut page = Bitmap::new(alloc, sides.width, sides.height)?;
     let shading = Shading {
         white,
         limit: level.gray_limit(white),
@@ -113,14 +103,8 @@ fn read_raw_gray_body<I: Inputs>(
     let sides = read_sides(window, inputs)?;
     let white = read_maxval(window, inputs)?;
     skip_space(window, inputs)?;
-    let mut page = match Bitmap::new(alloc, sides.width, sides.height) {
-        Ok(page) => page,
-        Err(_) => return Err(Stop::Fault(InFault::NoMemory)),
-    };
-    let mut row = match vec![in alloc; 0u8; row_bytes(sides.width, white)] {
-        Ok(row) => row,
-        Err(_) => return Err(Stop::Fault(InFault::NoMemory)),
-    };
+    let mut page = Bitmap::new(alloc, sides.width, sides.height)?;
+    let mut row = vec![in alloc; 0u8; row_bytes(sides.width, white)]?;
     let shading = Shading {
         white,
         limit: level.gray_limit(white),
