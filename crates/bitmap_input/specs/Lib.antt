@@ -165,6 +165,7 @@ pub mod FilePages
 --   Same: the value is the same
 --   CountsBy: how the inputs' count of faults moves
 --   Counts: the same after a step, which reads with no fault where it gives a value
+--   Leaves: how a step leaves the inputs, but for their files
 pub mod Reading
 -- Why a page can't be read, in words, as messages tell it.
 --   kind_text: why a page is refused

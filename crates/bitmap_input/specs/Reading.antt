@@ -3,6 +3,7 @@
 use Rattle.std.specs.Prelude.{◌≡◌, ℕ, ◌≤◌, Bool, true, false, ◌⊎◌, List, [], ◌++◌, length, take, Option, IfSome, Result, Ok, Err}
 use Rattle.pt_base.specs.Files.{Files, with_read, unread}
 use Rattle.pt_base.specs.Counts.{Rose}
+use Rattle.pt_base.specs.declared.inputs.Inputs.{Ghosts}
 use Rattle.bitmap_input.specs.declared.fault.InFault.{InFault}
 use Rattle.bitmap_input.specs.declared.fault.InFault.TheVariants as fault
 use Rattle.bitmap_input.specs.declared.stop.Stop.{Stop}
@@ -103,3 +104,10 @@ CountsBy Memory before now = now ≡ before
 abbrev pub Counts : {X : Type 0} → Result X Stop → ℕ → ℕ → Type 0
 Counts (Ok x) before now = now ≡ before
 Counts (Err s) before now = CountsBy (cause_of s) before now
+
+-- how a step leaves the inputs, by what is told of them: the file stays opened, and none was opened
+-- anew; the count of faults rose where a read failed, and else it is the same
+pub record Leaves {A X : Type 0} (told : Ghosts A) (result : Result X Stop) (before now : A) : Type 0 where
+  pub counts : Counts result (told.faults before) (told.faults now)
+  pub opened : told.is_opened now ≡ true
+  pub same_openings : told.openings now ≡ told.openings before

@@ -1,6 +1,6 @@
 //! BMP pictures.
 ghost use Rattle.std.specs.Prelude.{◌≡◌, ℕ, ◌+◌, ◌-◌, ◌*◌, ◌≤◌, true, length};
-ghost use Rattle.bitmap_input.specs.Reading.{Reads, Counts};
+ghost use Rattle.bitmap_input.specs.Reading.{Reads, Leaves};
 ghost use Rattle.bitmap_input.specs.Raw.{Entry, IsShown};
 ghost use Rattle.bitmap_input.specs.Front.Magic.{Picture as picture};
 ghost use Rattle.bitmap_input.specs.Behind.{IsRead, counted_body};
@@ -16,7 +16,6 @@ use crate::bmp::header::{Header, read_header};
 use crate::bmp::palette::read_palette;
 use crate::bmp::pixels::{Tone, read_rows};
 use crate::extent::{ReadPage, known};
-use crate::fault::InFault;
 use crate::skip::skip_block;
 use crate::stop::Stop;
 use crate::window::Window;
@@ -49,18 +48,10 @@ fn read_pixels<I: Inputs>(
     ensures reads { (color : ℕ → Entry) → IsTable tone.now.level tone.now.invert color table.now
         → Reads (IsShown tone.now.level tone.now.invert) (pixels_by header.now color) window.old
         (I.files inputs.old) result window.new (I.files inputs.new) }
-    ensures counts { Counts result (I.faults inputs.old) (I.faults inputs.new) }
-    ensures stays_opened { I.is_opened inputs.new ≡ true }
-    ensures same_openings { I.openings inputs.new ≡ I.openings inputs.old }
+    ensures leaves { Leaves I.Inputs result inputs.old inputs.new }
 {
-    let mut page = match Bitmap::new(alloc, header.width, header.height) {
-        Ok(page) => page,
-        Err(_) => return Err(Stop::Fault(InFault::NoMemory)),
-    };
-    let mut row = match vec![in alloc; 0u8; row_bytes(header) as usize] {
-        Ok(row) => row,
-        Err(_) => return Err(Stop::Fault(InFault::NoMemory)),
-    };
+    let mut page = Bitmap::new(alloc, header.width, header.height)?;
+    let mut row = vec![in alloc; 0u8; row_bytes(header) as usize]?;
     read_rows(window, inputs, &mut page, header, tone, table, &mut row)?;
     known(&page);
     Ok(page)
@@ -78,9 +69,7 @@ fn read_raster<I: Inputs>(
     requires readable { IsReadable header.now }
     ensures reads { Reads (IsShown tone.now.level tone.now.invert) (raster_by header.now) window.old
         (I.files inputs.old) result window.new (I.files inputs.new) }
-    ensures counts { Counts result (I.faults inputs.old) (I.faults inputs.new) }
-    ensures stays_opened { I.is_opened inputs.new ≡ true }
-    ensures same_openings { I.openings inputs.new ≡ I.openings inputs.old }
+    ensures leaves { Leaves I.Inputs result inputs.old inputs.new }
 {
     let mut table = [false; 256];
     read_palette(window, inputs, header, tone, &mut table)?;
@@ -113,9 +102,7 @@ pub(crate) fn read_bmp<I: Inputs>(
     requires { I.is_opened inputs.old ≡ true }
     ensures reads { Reads (IsRead level.now invert) (counted_body picture) window.old
         (I.files inputs.old) result window.new (I.files inputs.new) }
-    ensures counts { Counts result (I.faults inputs.old) (I.faults inputs.new) }
-    ensures stays_opened { I.is_opened inputs.new ≡ true }
-    ensures same_openings { I.openings inputs.new ≡ I.openings inputs.old }
+    ensures leaves { Leaves I.Inputs result inputs.old inputs.new }
 {
     let header = read_header(window, inputs)?;
     let tone = Tone {

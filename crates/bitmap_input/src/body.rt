@@ -1,6 +1,6 @@
 //! What follows the magic of a page.
 ghost use Rattle.std.specs.Prelude.{◌≡◌, ℕ, true};
-ghost use Rattle.bitmap_input.specs.Reading.{Reads, Counts};
+ghost use Rattle.bitmap_input.specs.Reading.{Reads, Leaves};
 ghost use Rattle.bitmap_input.specs.Front.{body};
 ghost use Rattle.bitmap_input.specs.Front.Magic.{PlainBits as plain_bits, RawBits as raw_bits, PlainGray as plain_gray, RawGray as raw_gray};
 ghost use Rattle.bitmap_input.specs.Behind.{IsRead, counted_body};
@@ -9,7 +9,6 @@ ghost use Rattle.bitmap_input.specs.Raw.{IsShown};
 
 use crate::bmp::read_bmp;
 use crate::extent::{ReadPage, claiming_none, known};
-use crate::fault::InFault;
 use crate::gray::{Shading, read_plain_gray_rows, read_raw_gray_rows, row_bytes};
 use crate::header::{Format, read_maxval, read_sides, skip_space};
 use crate::plain::read_plain_rows;
@@ -32,15 +31,10 @@ fn read_plain_body<I: Inputs>(
     ensures reads { (level : ℕ)
         → Reads (IsShown level invert) (body plain_bits) window.old
         (I.files inputs.old) result window.new (I.files inputs.new) }
-    ensures counts { Counts result (I.faults inputs.old) (I.faults inputs.new) }
-    ensures stays_opened { I.is_opened inputs.new ≡ true }
-    ensures same_openings { I.openings inputs.new ≡ I.openings inputs.old }
+    ensures leaves { Leaves I.Inputs result inputs.old inputs.new }
 {
     let sides = read_sides(window, inputs)?;
-    let mut page = match Bitmap::new(alloc, sides.width, sides.height) {
-        Ok(page) => page,
-        Err(_) => return Err(Stop::Fault(InFault::NoMemory)),
-    };
+    let mut page = Bitmap::new(alloc, sides.width, sides.height)?;
     read_plain_rows(window, inputs, &mut page, invert)?;
     known(&page);
     Ok(page)
@@ -57,16 +51,11 @@ fn read_raw_body<I: Inputs>(
     ensures reads { (level : ℕ)
         → Reads (IsShown level invert) (body raw_bits) window.old
         (I.files inputs.old) result window.new (I.files inputs.new) }
-    ensures counts { Counts result (I.faults inputs.old) (I.faults inputs.new) }
-    ensures stays_opened { I.is_opened inputs.new ≡ true }
-    ensures same_openings { I.openings inputs.new ≡ I.openings inputs.old }
+    ensures leaves { Leaves I.Inputs result inputs.old inputs.new }
 {
     let sides = read_sides(window, inputs)?;
     skip_space(window, inputs)?;
-    let mut page = match Bitmap::new(alloc, sides.width, sides.height) {
-        Ok(page) => page,
-        Err(_) => return Err(Stop::Fault(InFault::NoMemory)),
-    };
+    let mut page = Bitmap::new(alloc, sides.width, sides.height)?;
     read_raw_rows(window, inputs, &mut page, invert)?;
     known(&page);
     Ok(page)
@@ -83,16 +72,11 @@ fn read_plain_gray_body<I: Inputs>(
     requires { I.is_opened inputs.old ≡ true }
     ensures reads { Reads (IsShown level.now invert) (body plain_gray) window.old
         (I.files inputs.old) result window.new (I.files inputs.new) }
-    ensures counts { Counts result (I.faults inputs.old) (I.faults inputs.new) }
-    ensures stays_opened { I.is_opened inputs.new ≡ true }
-    ensures same_openings { I.openings inputs.new ≡ I.openings inputs.old }
+    ensures leaves { Leaves I.Inputs result inputs.old inputs.new }
 {
     let sides = read_sides(window, inputs)?;
     let white = read_maxval(window, inputs)?;
-    let mut page = match Bitmap::new(alloc, sides.width, sides.height) {
-        Ok(page) => page,
-        Err(_) => return Err(Stop::Fault(InFault::NoMemory)),
-    };
+    let mut page = Bitmap::new(alloc, sides.width, sides.height)?;
     let shading = Shading {
         white,
         limit: level.gray_limit(white),
@@ -114,21 +98,13 @@ fn read_raw_gray_body<I: Inputs>(
     requires { I.is_opened inputs.old ≡ true }
     ensures reads { Reads (IsShown level.now invert) (body raw_gray) window.old
         (I.files inputs.old) result window.new (I.files inputs.new) }
-    ensures counts { Counts result (I.faults inputs.old) (I.faults inputs.new) }
-    ensures stays_opened { I.is_opened inputs.new ≡ true }
-    ensures same_openings { I.openings inputs.new ≡ I.openings inputs.old }
+    ensures leaves { Leaves I.Inputs result inputs.old inputs.new }
 {
     let sides = read_sides(window, inputs)?;
     let white = read_maxval(window, inputs)?;
     skip_space(window, inputs)?;
-    let mut page = match Bitmap::new(alloc, sides.width, sides.height) {
-        Ok(page) => page,
-        Err(_) => return Err(Stop::Fault(InFault::NoMemory)),
-    };
-    let mut row = match vec![in alloc; 0u8; row_bytes(sides.width, white)] {
-        Ok(row) => row,
-        Err(_) => return Err(Stop::Fault(InFault::NoMemory)),
-    };
+    let mut page = Bitmap::new(alloc, sides.width, sides.height)?;
+    let mut row = vec![in alloc; 0u8; row_bytes(sides.width, white)]?;
     let shading = Shading {
         white,
         limit: level.gray_limit(white),
@@ -151,9 +127,7 @@ pub(crate) fn read_body<I: Inputs>(
     requires { I.is_opened inputs.old ≡ true }
     ensures reads { Reads (IsRead level.now invert) (counted_body (magic_of format)) window.old
         (I.files inputs.old) result window.new (I.files inputs.new) }
-    ensures counts { Counts result (I.faults inputs.old) (I.faults inputs.new) }
-    ensures stays_opened { I.is_opened inputs.new ≡ true }
-    ensures same_openings { I.openings inputs.new ≡ I.openings inputs.old }
+    ensures leaves { Leaves I.Inputs result inputs.old inputs.new }
 {
     match format {
         Format::PlainBits => claiming_none(read_plain_body(alloc, window, inputs, invert)),

@@ -2,7 +2,7 @@
 ghost use Rattle.std.specs.Prelude.{◌≡◌, ℕ, ◌+◌, ◌<◌, ◌≤◌, true, false, length, map, get_or};
 ghost use Rattle.bit_image.specs.Words.{is_one};
 ghost use Rattle.bit_image.specs.Page.{Page, SameSides, image_of};
-ghost use Rattle.bitmap_input.specs.Reading.{Reads, Counts};
+ghost use Rattle.bitmap_input.specs.Reading.{Reads, Leaves};
 ghost use Rattle.bitmap_input.specs.Parts.{times};
 ghost use Rattle.bitmap_input.specs.Raw.{samples};
 ghost use Rattle.bitmap_input.specs.Front.{plain_sample, is_wide, gray_row_bytes, raw_gray_row};
@@ -58,9 +58,7 @@ fn read_plain_row<I: Inputs>(
         (times plain_sample page.old.width) window.old (I.files inputs.old) result window.new
         (I.files inputs.new) }
     ensures sides { SameSides page.old page.new }
-    ensures counts { Counts result (I.faults inputs.old) (I.faults inputs.new) }
-    ensures stays_opened { I.is_opened inputs.new ≡ true }
-    ensures same_openings { I.openings inputs.new ≡ I.openings inputs.old }
+    ensures leaves { Leaves I.Inputs result inputs.old inputs.new }
 {
     for x in 0..page.width() {
         let sample = read_number_behind_gap(window, inputs, Part::Raster)?;
@@ -83,9 +81,7 @@ pub(crate) fn read_plain_gray_rows<I: Inputs>(
         (times (times plain_sample page.old.width) page.old.height) window.old
         (I.files inputs.old) result window.new (I.files inputs.new) }
     ensures sides { SameSides page.old page.new }
-    ensures counts { Counts result (I.faults inputs.old) (I.faults inputs.new) }
-    ensures stays_opened { I.is_opened inputs.new ≡ true }
-    ensures same_openings { I.openings inputs.new ≡ I.openings inputs.old }
+    ensures leaves { Leaves I.Inputs result inputs.old inputs.new }
 {
     let mut y = page.height();
     while y > 0 {
@@ -173,9 +169,7 @@ pub(crate) fn read_raw_gray_rows<I: Inputs>(
         (times (raw_gray_row shading.now.white page.old.width) page.old.height) window.old
         (I.files inputs.old) result window.new (I.files inputs.new) }
     ensures sides { SameSides page.old page.new }
-    ensures counts { Counts result (I.faults inputs.old) (I.faults inputs.new) }
-    ensures stays_opened { I.is_opened inputs.new ≡ true }
-    ensures same_openings { I.openings inputs.new ≡ I.openings inputs.old }
+    ensures leaves { Leaves I.Inputs result inputs.old inputs.new }
 {
     let mut y = page.height();
     while y > 0 {

@@ -1,6 +1,6 @@
 //! The header of a page: its magic, its sides and its sample for white.
 ghost use Rattle.std.specs.Prelude.{◌≡◌, ℕ, ◌≤◌, true, false, IfOk, if◌then◌else◌, option_map};
-ghost use Rattle.bitmap_input.specs.Reading.{Reads, Counts, Any, Same};
+ghost use Rattle.bitmap_input.specs.Reading.{Reads, Any, Same, Leaves};
 ghost use Rattle.bitmap_input.specs.Parts.{space};
 ghost use Rattle.bitmap_input.specs.Front.{magic, magic_named, magic_behind, sides, maxval};
 ghost use Rattle.bitmap_input.specs.Header.{magic_of, IsFormat, IsSides, Checks, ChecksMaxval};
@@ -73,9 +73,7 @@ fn read_magic_behind<I: Inputs>(
     requires { I.is_opened inputs.old ≡ true }
     ensures reads { Reads IsFormat (magic_behind later first) window.old
         (I.files inputs.old) result window.new (I.files inputs.new) }
-    ensures counts { Counts result (I.faults inputs.old) (I.faults inputs.new) }
-    ensures stays_opened { I.is_opened inputs.new ≡ true }
-    ensures same_openings { I.openings inputs.new ≡ I.openings inputs.old }
+    ensures leaves { Leaves I.Inputs result inputs.old inputs.new }
 {
     match window.look(inputs) {
         Look::Byte(second) => {
@@ -99,9 +97,7 @@ pub(crate) fn read_magic<I: Inputs>(
     requires { I.is_opened inputs.old ≡ true }
     ensures reads { Reads IsFormat (magic later) window.old (I.files inputs.old) result window.new
         (I.files inputs.new) }
-    ensures counts { Counts result (I.faults inputs.old) (I.faults inputs.new) }
-    ensures stays_opened { I.is_opened inputs.new ≡ true }
-    ensures same_openings { I.openings inputs.new ≡ I.openings inputs.old }
+    ensures leaves { Leaves I.Inputs result inputs.old inputs.new }
 {
     match window.look(inputs) {
         Look::Byte(first) => {
@@ -124,9 +120,7 @@ pub(crate) fn skip_space<I: Inputs>(window: &mut Window, inputs: &mut I) -> Resu
     requires { I.is_opened inputs.old ≡ true }
     ensures reads { Reads Any space window.old (I.files inputs.old) result window.new
         (I.files inputs.new) }
-    ensures counts { Counts result (I.faults inputs.old) (I.faults inputs.new) }
-    ensures stays_opened { I.is_opened inputs.new ≡ true }
-    ensures same_openings { I.openings inputs.new ≡ I.openings inputs.old }
+    ensures leaves { Leaves I.Inputs result inputs.old inputs.new }
 {
     match window.look(inputs) {
         Look::Byte(byte) => {
@@ -162,9 +156,7 @@ pub(crate) fn read_sides<I: Inputs>(window: &mut Window, inputs: &mut I) -> Resu
     requires { I.is_opened inputs.old ≡ true }
     ensures reads { Reads IsSides sides window.old (I.files inputs.old) result window.new
         (I.files inputs.new) }
-    ensures counts { Counts result (I.faults inputs.old) (I.faults inputs.new) }
-    ensures stays_opened { I.is_opened inputs.new ≡ true }
-    ensures same_openings { I.openings inputs.new ≡ I.openings inputs.old }
+    ensures leaves { Leaves I.Inputs result inputs.old inputs.new }
     ensures width { IfOk result (λ s. (1 ≤ s.width) × (s.width ≤ LONGEST_SIDE)) }
     ensures height { IfOk result (λ s. (1 ≤ s.height) × (s.height ≤ LONGEST_SIDE)) }
 {
@@ -189,9 +181,7 @@ pub(crate) fn read_maxval<I: Inputs>(window: &mut Window, inputs: &mut I) -> Res
     requires { I.is_opened inputs.old ≡ true }
     ensures reads { Reads Same maxval window.old (I.files inputs.old) result window.new
         (I.files inputs.new) }
-    ensures counts { Counts result (I.faults inputs.old) (I.faults inputs.new) }
-    ensures stays_opened { I.is_opened inputs.new ≡ true }
-    ensures same_openings { I.openings inputs.new ≡ I.openings inputs.old }
+    ensures leaves { Leaves I.Inputs result inputs.old inputs.new }
     ensures range { IfOk result (λ white. (1 ≤ white) × (white ≤ GREATEST_MAXVAL)) }
 {
     let white = read_number_behind_gap(window, inputs, Part::Header)?;

@@ -1,6 +1,6 @@
 //! Decimal numbers of a header and of a plain raster.
 ghost use Rattle.std.specs.Prelude.{◌≡◌, ℕ, ◌≤◌, true, false, suc, List, ◌∷◌};
-ghost use Rattle.bitmap_input.specs.Reading.{Reads, Counts, Any, cause_of_fault};
+ghost use Rattle.bitmap_input.specs.Reading.{Reads, Any, cause_of_fault, Leaves};
 ghost use Rattle.bitmap_input.specs.Reading.Cause.{Says};
 ghost use Rattle.bitmap_input.specs.Cut.Ending.{Refused};
 ghost use Rattle.bitmap_input.specs.Parts.{is_digit, some_gap, number, number_behind_gap};
@@ -47,9 +47,7 @@ fn read_digits<I: Inputs>(window: &mut Window, inputs: &mut I) -> Result<u32, St
     requires { I.is_opened inputs.old ≡ true }
     ensures reads { Reads IsCapped digits window.old (I.files inputs.old) result window.new
         (I.files inputs.new) }
-    ensures counts { Counts result (I.faults inputs.old) (I.faults inputs.new) }
-    ensures stays_opened { I.is_opened inputs.new ≡ true }
-    ensures same_openings { I.openings inputs.new ≡ I.openings inputs.old }
+    ensures leaves { Leaves I.Inputs result inputs.old inputs.new }
 {
     let mut value = 0;
     let mut n = 0;
@@ -75,9 +73,7 @@ fn read_number<I: Inputs>(window: &mut Window, inputs: &mut I, part: Part) -> Re
     requires { I.is_opened inputs.old ≡ true }
     ensures reads { Reads IsCapped (number (kind_at part)) window.old
         (I.files inputs.old) result window.new (I.files inputs.new) }
-    ensures counts { Counts result (I.faults inputs.old) (I.faults inputs.new) }
-    ensures stays_opened { I.is_opened inputs.new ≡ true }
-    ensures same_openings { I.openings inputs.new ≡ I.openings inputs.old }
+    ensures leaves { Leaves I.Inputs result inputs.old inputs.new }
 {
     match window.look(inputs) {
         Look::Byte(byte) => {
@@ -97,9 +93,7 @@ fn skip_gap<I: Inputs>(window: &mut Window, inputs: &mut I, part: Part) -> Resul
     requires { I.is_opened inputs.old ≡ true }
     ensures reads { Reads Any (some_gap (kind_at part)) window.old
         (I.files inputs.old) result window.new (I.files inputs.new) }
-    ensures counts { Counts result (I.faults inputs.old) (I.faults inputs.new) }
-    ensures stays_opened { I.is_opened inputs.new ≡ true }
-    ensures same_openings { I.openings inputs.new ≡ I.openings inputs.old }
+    ensures leaves { Leaves I.Inputs result inputs.old inputs.new }
 {
     match window.look(inputs) {
         Look::Byte(byte) => match behind(Run::Gap, byte) {
@@ -120,9 +114,7 @@ pub(crate) fn read_number_behind_gap<I: Inputs>(
     requires { I.is_opened inputs.old ≡ true }
     ensures reads { Reads IsCapped (number_behind_gap (kind_at part)) window.old
         (I.files inputs.old) result window.new (I.files inputs.new) }
-    ensures counts { Counts result (I.faults inputs.old) (I.faults inputs.new) }
-    ensures stays_opened { I.is_opened inputs.new ≡ true }
-    ensures same_openings { I.openings inputs.new ≡ I.openings inputs.old }
+    ensures leaves { Leaves I.Inputs result inputs.old inputs.new }
 {
     skip_gap(window, inputs, part)?;
     read_number(window, inputs, part)

@@ -2,7 +2,7 @@
 ghost use Rattle.std.specs.Prelude.{◌≡◌, ℕ, ◌<◌, ◌≤◌, true, false, map};
 ghost use Rattle.bit_image.specs.Image.{differ};
 ghost use Rattle.bit_image.specs.Page.{Page, SameSides, image_of};
-ghost use Rattle.bitmap_input.specs.Reading.{Reads, Counts, Same};
+ghost use Rattle.bitmap_input.specs.Reading.{Reads, Same, Leaves};
 ghost use Rattle.bitmap_input.specs.Parts.{pixel, times};
 ghost use Rattle.bitmap_input.specs.Front.{plain_pixel};
 ghost use Rattle.bitmap_input.specs.Raster.{with_row, with_rows, with_pixels};
@@ -19,9 +19,7 @@ fn read_pixel<I: Inputs>(window: &mut Window, inputs: &mut I) -> Result<bool, St
     requires { I.is_opened inputs.old ≡ true }
     ensures reads { Reads Same pixel window.old (I.files inputs.old) result window.new
         (I.files inputs.new) }
-    ensures counts { Counts result (I.faults inputs.old) (I.faults inputs.new) }
-    ensures stays_opened { I.is_opened inputs.new ≡ true }
-    ensures same_openings { I.openings inputs.new ≡ I.openings inputs.old }
+    ensures leaves { Leaves I.Inputs result inputs.old inputs.new }
 {
     match window.look(inputs) {
         Look::Byte(byte) => {
@@ -42,9 +40,7 @@ fn read_plain_pixel<I: Inputs>(window: &mut Window, inputs: &mut I) -> Result<bo
     requires { I.is_opened inputs.old ≡ true }
     ensures reads { Reads Same plain_pixel window.old (I.files inputs.old) result window.new
         (I.files inputs.new) }
-    ensures counts { Counts result (I.faults inputs.old) (I.faults inputs.new) }
-    ensures stays_opened { I.is_opened inputs.new ≡ true }
-    ensures same_openings { I.openings inputs.new ≡ I.openings inputs.old }
+    ensures leaves { Leaves I.Inputs result inputs.old inputs.new }
 {
     match window.look(inputs) {
         // Most pixels stand right behind one another.
@@ -80,9 +76,7 @@ fn read_plain_row<I: Inputs>(
         (times plain_pixel page.old.width) window.old (I.files inputs.old) result window.new
         (I.files inputs.new) }
     ensures sides { SameSides page.old page.new }
-    ensures counts { Counts result (I.faults inputs.old) (I.faults inputs.new) }
-    ensures stays_opened { I.is_opened inputs.new ≡ true }
-    ensures same_openings { I.openings inputs.new ≡ I.openings inputs.old }
+    ensures leaves { Leaves I.Inputs result inputs.old inputs.new }
 {
     for x in 0..page.width() {
         let black = read_plain_pixel(window, inputs)?;
@@ -104,9 +98,7 @@ pub(crate) fn read_plain_rows<I: Inputs>(
         (times (times plain_pixel page.old.width) page.old.height) window.old
         (I.files inputs.old) result window.new (I.files inputs.new) }
     ensures sides { SameSides page.old page.new }
-    ensures counts { Counts result (I.faults inputs.old) (I.faults inputs.new) }
-    ensures stays_opened { I.is_opened inputs.new ≡ true }
-    ensures same_openings { I.openings inputs.new ≡ I.openings inputs.old }
+    ensures leaves { Leaves I.Inputs result inputs.old inputs.new }
 {
     let mut y = page.height();
     while y > 0 {

@@ -2,7 +2,7 @@
 ghost use Rattle.std.specs.Prelude.{◌≡◌, ℕ, ◌<◌, ◌≤◌, ◌⊎◌, true, false, length, drop, IfOk, IfSome, OnOk, IsErrOf};
 ghost use Rattle.pt_base.specs.Counts.{Rose};
 ghost use Rattle.pt_base.specs.Files.{unread};
-ghost use Rattle.bitmap_input.specs.Reading.{AtEnd, Reads, Counts};
+ghost use Rattle.bitmap_input.specs.Reading.{AtEnd, Reads, Leaves};
 ghost use Rattle.bitmap_input.specs.Raw.{IsShown};
 ghost use Rattle.bitmap_input.specs.Front.{front, page_at};
 ghost use Rattle.bitmap_input.specs.Front.Answer.{Ends};
@@ -63,9 +63,7 @@ fn read_page<I: Inputs>(
     requires { I.is_opened inputs.old ≡ true }
     ensures reads { Reads (IsRead level.now invert) (counted_page later) window.old
         (I.files inputs.old) result window.new (I.files inputs.new) }
-    ensures counts { Counts result (I.faults inputs.old) (I.faults inputs.new) }
-    ensures stays_opened { I.is_opened inputs.new ≡ true }
-    ensures same_openings { I.openings inputs.new ≡ I.openings inputs.old }
+    ensures leaves { Leaves I.Inputs result inputs.old inputs.new }
 {
     skip(window, inputs, Run::Space)?;
     let format = read_magic(window, inputs, later)?;
@@ -86,9 +84,7 @@ fn read_ahead<I: Inputs>(
     ensures reads { Reads (IsRead level.now invert)
         (λ bytes. counted_page later (drop behind bytes)) window.old
         (I.files inputs.old) result window.new (I.files inputs.new) }
-    ensures counts { Counts result (I.faults inputs.old) (I.faults inputs.new) }
-    ensures stays_opened { I.is_opened inputs.new ≡ true }
-    ensures same_openings { I.openings inputs.new ≡ I.openings inputs.old }
+    ensures leaves { Leaves I.Inputs result inputs.old inputs.new }
 {
     pass_over(window, inputs, behind)?;
     read_page(alloc, window, inputs, later, level, invert)

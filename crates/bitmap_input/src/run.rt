@@ -1,6 +1,6 @@
 //! Runs of whitespace and of comments.
 ghost use Rattle.std.specs.Prelude.{◌≡◌, ℕ, true, false, suc, List, ◌∷◌, MatchOption, IsTrue, ◌↔◌};
-ghost use Rattle.bitmap_input.specs.Reading.{Reads, Counts, Any};
+ghost use Rattle.bitmap_input.specs.Reading.{Reads, Any, Leaves};
 ghost use Rattle.bitmap_input.specs.Parts.{is_space};
 ghost use Rattle.bitmap_input.specs.Run.{length_of, part_of, Continues};
 
@@ -65,9 +65,7 @@ pub(crate) fn skip<I: Inputs>(window: &mut Window, inputs: &mut I, run: Run) -> 
     requires { I.is_opened inputs.old ≡ true }
     ensures reads { Reads Any (part_of run) window.old (I.files inputs.old) result window.new
         (I.files inputs.new) }
-    ensures counts { Counts result (I.faults inputs.old) (I.faults inputs.new) }
-    ensures stays_opened { I.is_opened inputs.new ≡ true }
-    ensures same_openings { I.openings inputs.new ≡ I.openings inputs.old }
+    ensures leaves { Leaves I.Inputs result inputs.old inputs.new }
 {
     let mut run = run;
     let mut n = 0;

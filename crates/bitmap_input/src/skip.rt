@@ -1,6 +1,6 @@
 //! Bytes that are passed over.
 ghost use Rattle.std.specs.Prelude.{◌≡◌, true};
-ghost use Rattle.bitmap_input.specs.Reading.{Reads, Counts, Any, Same};
+ghost use Rattle.bitmap_input.specs.Reading.{Reads, Any, Same, Leaves};
 ghost use Rattle.bitmap_input.specs.Parts.{block};
 ghost use Rattle.bitmap_input.specs.Skip.{passed_over};
 
@@ -16,9 +16,7 @@ pub(crate) fn pass_over<I: Inputs>(window: &mut Window, inputs: &mut I, n: u32) 
     requires { I.is_opened inputs.old ≡ true }
     ensures reads { Reads Same (passed_over n) window.old (I.files inputs.old) result window.new
         (I.files inputs.new) }
-    ensures counts { Counts result (I.faults inputs.old) (I.faults inputs.new) }
-    ensures stays_opened { I.is_opened inputs.new ≡ true }
-    ensures same_openings { I.openings inputs.new ≡ I.openings inputs.old }
+    ensures leaves { Leaves I.Inputs result inputs.old inputs.new }
 {
     let mut left = n;
     while left > 0 {
@@ -36,9 +34,7 @@ pub(crate) fn skip_block<I: Inputs>(window: &mut Window, inputs: &mut I, n: u32)
     requires { I.is_opened inputs.old ≡ true }
     ensures reads { Reads Any (block n) window.old (I.files inputs.old) result window.new
         (I.files inputs.new) }
-    ensures counts { Counts result (I.faults inputs.old) (I.faults inputs.new) }
-    ensures stays_opened { I.is_opened inputs.new ≡ true }
-    ensures same_openings { I.openings inputs.new ≡ I.openings inputs.old }
+    ensures leaves { Leaves I.Inputs result inputs.old inputs.new }
 {
     let missing = pass_over(window, inputs, n)?;
     if missing == 0 {

@@ -1,5 +1,11 @@
 //! Why the reading of a page stopped.
+ghost use Rattle.std.specs.Prelude.{◌≡◌};
+ghost use Rattle.bitmap_input.specs.declared.fault.InFault.TheVariants.{NoMemory as no_memory};
+ghost use Rattle.bitmap_input.specs.declared.stop.Stop.TheVariants.{Fault as fault};
+
 use crate::fault::InFault;
+use pt_base::fault::NoMemory;
+use std::alloc::AllocError;
 
 /// Why no page was read: there is none, or there is one that can't be read.
 #[derive(Clone, Copy, Debug)]
@@ -10,4 +16,20 @@ pub(crate) enum Stop {
     Trailing,
     /// The page can't be read.
     Fault(InFault),
+}
+
+impl From<NoMemory> for Stop {
+    ghost from_gives = { λ _ stop. stop ≡ fault no_memory };
+
+    fn from(_fault: NoMemory) -> Stop {
+        Stop::Fault(InFault::NoMemory)
+    }
+}
+
+impl From<AllocError> for Stop {
+    ghost from_gives = { λ _ stop. stop ≡ fault no_memory };
+
+    fn from(error: AllocError) -> Stop {
+        Stop::from(NoMemory::from(error))
+    }
 }

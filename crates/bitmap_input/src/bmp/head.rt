@@ -1,6 +1,6 @@
 //! The first bytes of a BMP picture, behind its magic.
 ghost use Rattle.std.specs.Prelude.{◌≡◌, ℕ, ◌+◌, ◌-◌, ◌<◌, ◌≤◌, true, false, length, take, [], ◌++◌, OnOk};
-ghost use Rattle.bitmap_input.specs.Reading.{Reads, Counts};
+ghost use Rattle.bitmap_input.specs.Reading.{Reads, Leaves};
 ghost use Rattle.bitmap_input.specs.Parts.{block};
 ghost use Rattle.bitmap_input.specs.BmpHeader.{two_at, four_at};
 
@@ -44,9 +44,7 @@ fn read_into<I: Inputs>(
     ensures reads { Reads (λ _ more. take to buffer.new ≡ take from buffer.old ++ more)
         (block (to - from)) window.old (I.files inputs.old) result window.new (I.files inputs.new) }
     ensures same_room { length buffer.new ≡ length buffer.old }
-    ensures counts { Counts result (I.faults inputs.old) (I.faults inputs.new) }
-    ensures stays_opened { I.is_opened inputs.new ≡ true }
-    ensures same_openings { I.openings inputs.new ≡ I.openings inputs.old }
+    ensures leaves { Leaves I.Inputs result inputs.old inputs.new }
 {
     read_block(window, inputs, &mut buffer[from..to])
 }
@@ -74,9 +72,7 @@ impl Head {
         ensures reads { Reads (λ _ more. self.new ≡ self.old ++ more) (block n) window.old
             (I.files inputs.old) result window.new (I.files inputs.new) }
         ensures reach { OnOk result (length self.new ≡ length self.old + n) }
-        ensures counts { Counts result (I.faults inputs.old) (I.faults inputs.new) }
-        ensures stays_opened { I.is_opened inputs.new ≡ true }
-        ensures same_openings { I.openings inputs.new ≡ I.openings inputs.old }
+        ensures leaves { Leaves I.Inputs result inputs.old inputs.new }
     {
         let end = self.len + n;
         read_into(window, inputs, &mut self.bytes, self.len, end)?;

@@ -1,6 +1,6 @@
 //! The header of a BMP picture, read and checked step by step.
 ghost use Rattle.std.specs.Prelude.{◌≡◌, ℕ, ◌+◌, ◌≤◌, true, false, length, [], OnOk, IfOk};
-ghost use Rattle.bitmap_input.specs.Reading.{Reads, Counts};
+ghost use Rattle.bitmap_input.specs.Reading.{Reads, Leaves};
 ghost use Rattle.bitmap_input.specs.BmpHeader.{header_size, bits, mask_bytes, has_known_masks, has_known_colors};
 ghost use Rattle.bitmap_input.specs.Bmp.{start, info, masks, placed, header};
 ghost use Rattle.bitmap_input.specs.BmpHead.{HasInfo, IsStart, IsInfo, IsWhole, IsHeader, IsReadable, Passes, bits_in};
@@ -44,9 +44,7 @@ fn read_start<I: Inputs>(window: &mut Window, inputs: &mut I, head: &mut Head) -
     ensures reads { Reads (λ _ bytes. bytes ≡ head.new) start window.old
         (I.files inputs.old) result window.new (I.files inputs.new) }
     ensures begun { OnOk result (IsStart head.new) }
-    ensures counts { Counts result (I.faults inputs.old) (I.faults inputs.new) }
-    ensures stays_opened { I.is_opened inputs.new ≡ true }
-    ensures same_openings { I.openings inputs.new ≡ I.openings inputs.old }
+    ensures leaves { Leaves I.Inputs result inputs.old inputs.new }
 {
     head.read(window, inputs, 16)?;
     if is_known_size(head.four_at(14)) {
@@ -64,9 +62,7 @@ fn read_info<I: Inputs>(window: &mut Window, inputs: &mut I, head: &mut Head) ->
         (I.files inputs.old) result window.new (I.files inputs.new) }
     ensures begun { OnOk result (IsInfo head.new) }
     ensures depth { IfOk result (λ d. bits head.new ≡ bits_in d) }
-    ensures counts { Counts result (I.faults inputs.old) (I.faults inputs.new) }
-    ensures stays_opened { I.is_opened inputs.new ≡ true }
-    ensures same_openings { I.openings inputs.new ≡ I.openings inputs.old }
+    ensures leaves { Leaves I.Inputs result inputs.old inputs.new }
 {
     let size = head.four_at(14) as usize;
     head.read(window, inputs, size - 4)?;
@@ -91,9 +87,7 @@ fn read_masks<I: Inputs>(
     ensures whole { OnOk result (IsWhole head.new) }
     ensures kind { OnOk result (bits head.new ≡ bits_in depth) }
     ensures colors { OnOk result (has_known_colors head.new ≡ true) }
-    ensures counts { Counts result (I.faults inputs.old) (I.faults inputs.new) }
-    ensures stays_opened { I.is_opened inputs.new ≡ true }
-    ensures same_openings { I.openings inputs.new ≡ I.openings inputs.old }
+    ensures leaves { Leaves I.Inputs result inputs.old inputs.new }
 {
     let n = mask_bytes(head) as usize;
     head.read(window, inputs, n)?;
@@ -138,9 +132,7 @@ pub(crate) fn read_header<I: Inputs>(window: &mut Window, inputs: &mut I) -> Res
     ensures reads { Reads IsHeader header window.old (I.files inputs.old) result window.new
         (I.files inputs.new) }
     ensures readable { IfOk result IsReadable }
-    ensures counts { Counts result (I.faults inputs.old) (I.faults inputs.new) }
-    ensures stays_opened { I.is_opened inputs.new ≡ true }
-    ensures same_openings { I.openings inputs.new ≡ I.openings inputs.old }
+    ensures leaves { Leaves I.Inputs result inputs.old inputs.new }
 {
     let mut head = Head::new();
     read_start(window, inputs, &mut head)?;

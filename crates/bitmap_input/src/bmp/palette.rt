@@ -1,6 +1,6 @@
 //! The palette of a BMP picture.
 ghost use Rattle.std.specs.Prelude.{◌≡◌, ℕ, ◌*◌, ◌≤◌, ◌<◌, true, length};
-ghost use Rattle.bitmap_input.specs.Reading.{Reads, Counts};
+ghost use Rattle.bitmap_input.specs.Reading.{Reads, Leaves};
 ghost use Rattle.bitmap_input.specs.Parts.{block};
 ghost use Rattle.bitmap_input.specs.Raw.{black};
 ghost use Rattle.bitmap_input.specs.BmpRaster.{palette_color};
@@ -63,9 +63,7 @@ fn read_colors<I: Inputs>(
         (block (header.now.color_bytes * header.now.palette_length)) window.old
         (I.files inputs.old) result window.new (I.files inputs.new) }
     ensures room { length table.new ≡ 256 }
-    ensures counts { Counts result (I.faults inputs.old) (I.faults inputs.new) }
-    ensures stays_opened { I.is_opened inputs.new ≡ true }
-    ensures same_openings { I.openings inputs.new ≡ I.openings inputs.old }
+    ensures leaves { Leaves I.Inputs result inputs.old inputs.new }
 {
     read_block(window, inputs, palette)?;
     fill_table(
@@ -97,9 +95,7 @@ pub(crate) fn read_palette<I: Inputs>(
         (block (header.now.color_bytes * header.now.palette_length)) window.old
         (I.files inputs.old) result window.new (I.files inputs.new) }
     ensures room { length table.new ≡ 256 }
-    ensures counts { Counts result (I.faults inputs.old) (I.faults inputs.new) }
-    ensures stays_opened { I.is_opened inputs.new ≡ true }
-    ensures same_openings { I.openings inputs.new ≡ I.openings inputs.old }
+    ensures leaves { Leaves I.Inputs result inputs.old inputs.new }
 {
     let mut buffer = [0u8; ROOM];
     let n = (header.color_bytes * header.palette_length) as usize;

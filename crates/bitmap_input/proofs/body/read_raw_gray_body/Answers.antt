@@ -29,19 +29,21 @@ returns-in_err-skip_space-clause-reads g c =
     (λ s _. reads_on maxval_stays c.in_ok-white.ensures.reads
     (λ white _. reads_stop (λ _ rest. raster (λ v. Sample v white) (raw_gray_row white s.0) s.0 s.1 rest) c.in_err-skip_space.ensures.reads)))
 
-pub returns-in-Err-clause-reads : goal.returns-in-Err-clause-reads
-returns-in-Err-clause-reads g c =
-    reads_on sides_stay c.in_ok-sides.ensures.reads
+pub returns-in_err-page-clause-reads : goal.returns-in_err-page-clause-reads
+returns-in_err-page-clause-reads g c =
+    let p = err_from_is_err_and c.from_residual-in_err-page.result c.from_residual-in_err-page.ensures.1 in
+    rw (p.1, p.2) (reads_on sides_stay c.in_ok-sides.ensures.reads
     (λ s _. reads_on maxval_stays c.in_ok-white.ensures.reads
     (λ white _. reads_on space_stays c.in_ok-skip_space.ensures.reads
-    (λ _ _. reads_memory (IsShown c.args.level.now c.args.invert) (raster (λ v. Sample v white) (raw_gray_row white s.0) s.0 s.1) _ _)))
+    (λ _ _. reads_memory (IsShown c.args.level.now c.args.invert) (raster (λ v. Sample v white) (raw_gray_row white s.0) s.0 s.1) _ _))))
 
-pub returns-in-Err-vec-clause-reads : goal.returns-in-Err-vec-clause-reads
-returns-in-Err-vec-clause-reads g c =
-    reads_on sides_stay c.in_ok-sides.ensures.reads
+pub returns-in_err-row-clause-reads : goal.returns-in_err-row-clause-reads
+returns-in_err-row-clause-reads g c =
+    let p = err_from_is_err_and c.from_residual-in_err-row.result c.from_residual-in_err-row.ensures.1 in
+    rw (p.1, p.2) (reads_on sides_stay c.in_ok-sides.ensures.reads
     (λ s _. reads_on maxval_stays c.in_ok-white.ensures.reads
     (λ white _. reads_on space_stays c.in_ok-skip_space.ensures.reads
-    (λ _ _. reads_memory (IsShown c.args.level.now c.args.invert) (raster (λ v. Sample v white) (raw_gray_row white s.0) s.0 s.1) _ _)))
+    (λ _ _. reads_memory (IsShown c.args.level.now c.args.invert) (raster (λ v. Sample v white) (raw_gray_row white s.0) s.0 s.1) _ _))))
 
 pub returns-in_err-read_raw_gray_rows-clause-reads : goal.returns-in_err-read_raw_gray_rows-clause-reads
 returns-in_err-read_raw_gray_rows-clause-reads g c =
@@ -53,7 +55,7 @@ returns-in_err-read_raw_gray_rows-clause-reads g c =
     (λ s is. reads_on maxval_stays c.in_ok-white.ensures.reads
     (λ n same. rw same (reads_on space_stays c.in_ok-skip_space.ensures.reads
     (λ _ _. rows_stopped level invert (λ v. Sample v white) (λ v. differ invert (nat_le v c.gray_limit.result)) (raw_gray_row white)
-    c.in-Ok.page c.in_ok-sides.sides s is c.in-Ok.ensures.width c.in-Ok.ensures.height
+    c.in_ok-page.page c.in_ok-sides.sides s is c.in_ok-page.ensures.width c.in_ok-page.ensures.height
     c.read_raw_gray_rows.new.page _ c.in_err-read_raw_gray_rows.ensures.reads)))))
 
 pub returns-clause-reads : goal.returns-clause-reads
@@ -65,5 +67,5 @@ returns-clause-reads g c =
     (λ s is. reads_on maxval_stays c.in_ok-white.ensures.reads
     (λ n same. rw same (reads_on space_stays c.in_ok-skip_space.ensures.reads
     (λ _ _. rows_shown level invert (λ v. Sample v white) (λ v. differ invert (nat_le v c.gray_limit.result)) (raw_gray_row white)
-    c.in-Ok.page c.in_ok-sides.sides s is c.in-Ok.ensures.width c.in-Ok.ensures.height
-    c.read_raw_gray_rows.new.page (λ v. ap (differ invert) (c.gray_limit.ensures.black v)) c.in-Ok.ensures.white c.in_ok-read_raw_gray_rows.ensures.sides c.known.ensures c.in_ok-read_raw_gray_rows.ensures.reads))))
+    c.in_ok-page.page c.in_ok-sides.sides s is c.in_ok-page.ensures.width c.in_ok-page.ensures.height
+    c.read_raw_gray_rows.new.page (λ v. ap (differ invert) (c.gray_limit.ensures.black v)) c.in_ok-page.ensures.white c.in_ok-read_raw_gray_rows.ensures.sides c.known.ensures c.in_ok-read_raw_gray_rows.ensures.reads))))

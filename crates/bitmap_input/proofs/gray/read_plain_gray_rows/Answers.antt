@@ -21,9 +21,7 @@ loop-y-preserved g c =
           (map (map (black_of c.args.shading.now)) rows));
       sides = search rules;
       within = omega arith;
-      steady = search rules;
-      opened = search rules;
-      openings = search rules;
+      leaves = search rules;
     }
 
 pub returns-in_err-read_plain_row-clause-reads : goal.returns-in_err-read_plain_row-clause-reads

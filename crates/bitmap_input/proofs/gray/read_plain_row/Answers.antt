@@ -23,9 +23,7 @@ loop-x-preserved g c =
           (sym (c.black.ensures.cut c.requires.range a capped)));
       sides = search rules;
       end = search rules;
-      steady = search rules;
-      opened = search rules;
-      openings = search rules;
+      leaves = search rules;
     }
 
 pub returns-clause-reads : goal.returns-clause-reads

@@ -1,4 +1,5 @@
-use Rattle.std.proofs.Common.{◌-◌, ◌≡◌, true, map}
+use Rattle.std.proofs.Common.{◌-◌, ◌≡◌, map, Ok}
+use Rattle.bitmap_input.specs.Reading.{Leaves}
 use Rattle.bitmap_input.specs.Shading.{black_of}
 use Rattle.bit_image.specs.Page.{SameSides, image_of}
 use Rattle.bitmap_input.specs.Front.{plain_sample}
@@ -14,7 +15,5 @@ invariant-loop-x g l =
           l.window (source.files l.inputs) (λ row. with_pixels (image_of l.page) l.y l.x (map (black_of l.shading) row)) (l.fn.page.width - l.x);
       sides : SameSides l.fn.page l.page;
       end : l.x-end ≡ l.fn.page.width;
-      steady : source.faults l.inputs ≡ source.faults l.fn.inputs;
-      opened : source.is_opened l.inputs ≡ true;
-      openings : source.openings l.inputs ≡ source.openings l.fn.inputs;
+      leaves : Leaves source (Ok (tt {0})) l.fn.inputs l.inputs;
     }

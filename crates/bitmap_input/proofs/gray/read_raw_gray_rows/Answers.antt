@@ -29,9 +29,7 @@ loop-y-preserved g c =
       sides = search rules;
       row = search rules;
       within = omega arith;
-      steady = search rules;
-      opened = search rules;
-      openings = search rules;
+      leaves = search rules;
     }
 
 pub returns-in_err-read_block-clause-reads : goal.returns-in_err-read_block-clause-reads

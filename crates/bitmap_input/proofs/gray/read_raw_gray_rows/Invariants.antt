@@ -1,4 +1,5 @@
-use Rattle.std.proofs.Common.{◌≡◌, ◌≤◌, true, length, map}
+use Rattle.std.proofs.Common.{◌≡◌, ◌≤◌, length, map, Ok}
+use Rattle.bitmap_input.specs.Reading.{Leaves}
 use Rattle.bitmap_input.specs.Shading.{black_of}
 use Rattle.bit_image.specs.Page.{SameSides, image_of}
 use Rattle.bitmap_input.specs.Front.{gray_row_bytes, raw_gray_row}
@@ -15,9 +16,7 @@ invariant-loop-y g l =
       sides : SameSides l.fn.page l.page;
       row : length l.row ≡ gray_row_bytes l.shading.white l.fn.page.width;
       within : l.y ≤ l.fn.page.height;
-      steady : source.faults l.inputs ≡ source.faults l.fn.inputs;
-      opened : source.is_opened l.inputs ≡ true;
-      openings : source.openings l.inputs ≡ source.openings l.fn.inputs;
+      leaves : Leaves source (Ok (tt {0})) l.fn.inputs l.inputs;
     }
 
 abbrev pub decreases-loop-y : goal.decreases-loop-y

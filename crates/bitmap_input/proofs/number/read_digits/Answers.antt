@@ -10,9 +10,7 @@ loop-n-init g c = record {
   so_far = run_begins (run_length is_digit) c.args.window.now (g.I.Inputs.files c.args.inputs.now);
   number = refl;
   most = omega arith;
-  steady = search rules;
-  opened = search rules;
-  openings = search rules;
+  leaves = search rules;
 }
 
 pub returns-then-not-is_digit-clause-reads : goal.returns-then-not-is_digit-clause-reads
@@ -47,7 +45,5 @@ loop-n-preserved g c =
           s refl (omega arith) look.0 look.1.1 (λ xs. rw test refl) c.pass.ensures.bytes c.pass.ensures.ended (omega arith);
       number = rw value_more (capped_more c.loop-n.value c.min-value.result (value 0 s.used) _ c.loop-n.invariant.number (c.min-value.ensures));
       most = omega arith;
-      steady = search rules;
-      opened = search rules;
-      openings = search rules;
+      leaves = search rules;
     }

@@ -1,4 +1,5 @@
-use Rattle.std.proofs.Common.{◌-◌, ◌≡◌, true, ◌≤◌}
+use Rattle.std.proofs.Common.{◌-◌, ◌≤◌, Ok}
+use Rattle.bitmap_input.specs.Reading.{Leaves}
 use Rattle.bitmap_input.specs.Parts.{run_length, is_digit, value}
 use Rattle.bitmap_input.specs.Run.{IsCapped}
 use Rattle.bitmap_input.proofs.Running.{RunSoFar}
@@ -11,9 +12,7 @@ invariant-loop-n g l =
       so_far : RunSoFar (run_length is_digit) (run_length is_digit) l.fn.window (source.files l.fn.inputs) l.n l.window (source.files l.inputs);
       number : IsCapped l.value (value 0 so_far.used);
       most : l.n ≤ 1048577;
-      steady : source.faults l.inputs ≡ source.faults l.fn.inputs;
-      opened : source.is_opened l.inputs ≡ true;
-      openings : source.openings l.inputs ≡ source.openings l.fn.inputs;
+      leaves : Leaves source (Ok (tt {0})) l.fn.inputs l.inputs;
     }
 
 abbrev pub decreases-loop-n : goal.decreases-loop-n

@@ -23,9 +23,7 @@ loop-x-preserved g c =
           (ap (differ c.args.invert) same ∙ sym (turned c.args.invert c.in_ok-black.black)));
       sides = search rules;
       end = search rules;
-      steady = search rules;
-      opened = search rules;
-      openings = search rules;
+      leaves = search rules;
     }
 
 pub returns-clause-reads : goal.returns-clause-reads

@@ -1,4 +1,5 @@
-use Rattle.std.proofs.Common.{◌≡◌, ◌≤◌, true, map}
+use Rattle.std.proofs.Common.{◌≤◌, map, Ok}
+use Rattle.bitmap_input.specs.Reading.{Leaves}
 use Rattle.bit_image.specs.Image.{differ}
 use Rattle.bit_image.specs.Page.{SameSides, image_of}
 use Rattle.bitmap_input.specs.Parts.{times}
@@ -15,9 +16,7 @@ invariant-loop-y g l =
           l.window (source.files l.inputs) (λ rows. with_rows (image_of l.page) l.y (map (map (differ l.invert)) rows)) l.y;
       sides : SameSides l.fn.page l.page;
       within : l.y ≤ l.fn.page.height;
-      steady : source.faults l.inputs ≡ source.faults l.fn.inputs;
-      opened : source.is_opened l.inputs ≡ true;
-      openings : source.openings l.inputs ≡ source.openings l.fn.inputs;
+      leaves : Leaves source (Ok (tt {0})) l.fn.inputs l.inputs;
     }
 
 abbrev pub decreases-loop-y : goal.decreases-loop-y

@@ -6,9 +6,7 @@ pub loop-done-init : goal.loop-done-init
 loop-done-init g c = record {
   so_far = block_begins (length c.args.row.now) c.args.window.now (g.I.Inputs.files c.args.inputs.now) c.args.row.now;
   within = omega arith;
-  steady = search rules;
-  opened = search rules;
-  openings = search rules;
+  leaves = search rules;
 }
 
 pub loop-done-preserved : goal.loop-done-preserved
@@ -19,9 +17,7 @@ loop-done-preserved g c =
       so_far = block_goes_on c.loop-done.done c.give-done.result c.loop-done.row c.give-done.new.to c.loop-done.invariant.so_far (omega (arith, c.loop-done.auto.row)) look.0
           (omega arith) fits c.give-done.ensures.copied c.give-done.ensures.bytes c.give-done.ensures.ended;
       within = filled_within c.loop-done.done c.give-done.result c.loop-done.row c.give-done.new.to (omega arith) fits;
-      steady = search rules;
-      opened = search rules;
-      openings = search rules;
+      leaves = search rules;
     }
 
 pub returns-in-End-clause-reads : goal.returns-in-End-clause-reads

@@ -1,4 +1,5 @@
-use Rattle.std.proofs.Common.{◌-◌, ◌≡◌, ◌≤◌, true, length}
+use Rattle.std.proofs.Common.{◌-◌, ◌≤◌, length, Ok}
+use Rattle.bitmap_input.specs.Reading.{Leaves}
 use Rattle.bitmap_input.proofs.Blocks.{IsBlockSoFar}
 use Rattle.bitmap_input.proofs.raw.read_block.Given as goal
 
@@ -8,9 +9,7 @@ invariant-loop-done g l =
     record {
       so_far : IsBlockSoFar (length l.fn.row) l.fn.window (source.files l.fn.inputs) l.done l.row l.window (source.files l.inputs);
       within : l.done ≤ length l.row;
-      steady : source.faults l.inputs ≡ source.faults l.fn.inputs;
-      opened : source.is_opened l.inputs ≡ true;
-      openings : source.openings l.inputs ≡ source.openings l.fn.inputs;
+      leaves : Leaves source (Ok (tt {0})) l.fn.inputs l.inputs;
     }
 
 abbrev pub decreases-loop-done : goal.decreases-loop-done

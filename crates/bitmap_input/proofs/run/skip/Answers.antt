@@ -8,9 +8,7 @@ pub loop-n-init : goal.loop-n-init
 loop-n-init g c = record {
   so_far = run_begins (length_of c.args.run) c.args.window.now (g.I.Inputs.files c.args.inputs.now);
   most = omega arith;
-  steady = search rules;
-  opened = search rules;
-  openings = search rules;
+  leaves = search rules;
 }
 
 pub returns-in-None-clause-reads : goal.returns-in-None-clause-reads
@@ -39,7 +37,5 @@ loop-n-preserved g c =
           (g.I.Inputs.files c.args.inputs.now) (g.I.Inputs.files c.loop-n.inputs) (g.I.Inputs.files c.look.new.inputs) c.loop-n.n _ c.in-Byte.byte look.1.0
           c.loop-n.invariant.so_far (length_of-nil c.loop-n.run) (omega arith) look.0 look.1.1 c.in-Some.ensures c.pass.ensures.bytes c.pass.ensures.ended (omega arith);
       most = omega arith;
-      steady = search rules;
-      opened = search rules;
-      openings = search rules;
+      leaves = search rules;
     }

@@ -1,4 +1,5 @@
-use Rattle.std.proofs.Common.{◌-◌, ◌≡◌, true, ◌≤◌}
+use Rattle.std.proofs.Common.{◌-◌, ◌≤◌, Ok}
+use Rattle.bitmap_input.specs.Reading.{Leaves}
 use Rattle.bitmap_input.specs.Run.{length_of}
 use Rattle.bitmap_input.proofs.Running.{RunSoFar}
 use Rattle.bitmap_input.proofs.run.skip.Given as goal
@@ -9,9 +10,7 @@ invariant-loop-n g l =
     record {
       so_far : RunSoFar (length_of l.fn.run) (length_of l.run) l.fn.window (source.files l.fn.inputs) l.n l.window (source.files l.inputs);
       most : l.n ≤ 1048577;
-      steady : source.faults l.inputs ≡ source.faults l.fn.inputs;
-      opened : source.is_opened l.inputs ≡ true;
-      openings : source.openings l.inputs ≡ source.openings l.fn.inputs;
+      leaves : Leaves source (Ok (tt {0})) l.fn.inputs l.inputs;
     }
 
 abbrev pub decreases-loop-n : goal.decreases-loop-n

@@ -5,9 +5,7 @@ use Rattle.bitmap_input.proofs.skip.pass_over.Goals as goal
 pub loop-left-init : goal.loop-left-init
 loop-left-init g c = record {
   so_far = skip_begins c.args.window.now (g.I.Inputs.files c.args.inputs.now) c.args.n;
-  steady = search rules;
-  opened = search rules;
-  openings = search rules;
+  leaves = search rules;
 }
 
 pub loop-left-preserved : goal.loop-left-preserved
@@ -15,9 +13,7 @@ loop-left-preserved g c =
     let look = c.in-Byte.ensures.looks in
     record {
       so_far = skip_goes_on c.loop-left.left c.pass_some-left.result _ c.loop-left.invariant.so_far c.loop-left-test.true look.0 c.pass_some-left.ensures.within c.pass_some-left.ensures.fits c.pass_some-left.ensures.bytes c.pass_some-left.ensures.ended refl;
-      steady = search rules;
-      opened = search rules;
-      openings = search rules;
+      leaves = search rules;
     }
 
 pub returns-in-End-clause-reads : goal.returns-in-End-clause-reads

@@ -1,4 +1,5 @@
-use Rattle.std.proofs.Common.{◌≡◌, true}
+use Rattle.std.proofs.Common.{Ok}
+use Rattle.bitmap_input.specs.Reading.{Leaves}
 use Rattle.bitmap_input.proofs.Skipping.{IsPassedSoFar}
 use Rattle.bitmap_input.proofs.skip.pass_over.Given as goal
 
@@ -7,9 +8,7 @@ invariant-loop-left g l =
     let source = g.I.Inputs in
     record {
       so_far : IsPassedSoFar l.fn.window (source.files l.fn.inputs) l.n l.left l.window (source.files l.inputs);
-      steady : source.faults l.inputs ≡ source.faults l.fn.inputs;
-      opened : source.is_opened l.inputs ≡ true;
-      openings : source.openings l.inputs ≡ source.openings l.fn.inputs;
+      leaves : Leaves source (Ok (tt {0})) l.fn.inputs l.inputs;
     }
 
 abbrev pub decreases-loop-left : goal.decreases-loop-left

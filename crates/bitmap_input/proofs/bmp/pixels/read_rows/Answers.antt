@@ -40,9 +40,7 @@ loop-i-preserved g c =
       sides = search rules;
       row = search rules;
       high = search rules;
-      steady = search rules;
-      opened = search rules;
-      openings = search rules;
+      leaves = search rules;
     }
 
 pub returns-in_err-read_block-clause-reads : goal.returns-in_err-read_block-clause-reads

@@ -1,4 +1,5 @@
-use Rattle.std.proofs.Common.{◌≡◌, ℕ, ◌-◌, true, length, map}
+use Rattle.std.proofs.Common.{◌≡◌, ℕ, ◌-◌, length, map, Ok}
+use Rattle.bitmap_input.specs.Reading.{Leaves}
 use Rattle.bit_image.specs.Page.{SameSides, image_of}
 use Rattle.bitmap_input.specs.Raw.{Entry, black}
 use Rattle.bitmap_input.specs.BmpRaster.{color_row}
@@ -19,7 +20,5 @@ invariant-loop-i g l =
       sides : SameSides l.fn.page l.page;
       row : length l.row ≡ row_bytes_by l.header;
       high : l.height ≡ l.fn.page.height;
-      steady : source.faults l.inputs ≡ source.faults l.fn.inputs;
-      opened : source.is_opened l.inputs ≡ true;
-      openings : source.openings l.inputs ≡ source.openings l.fn.inputs;
+      leaves : Leaves source (Ok (tt {0})) l.fn.inputs l.inputs;
     }

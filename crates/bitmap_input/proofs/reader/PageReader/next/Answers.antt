@@ -77,5 +77,5 @@ returns-after-stop-clause-always g c =
     rw (← c.self.view_is) (elim c.match-stop.branch [
       | in-End w ↦ rw w.result-is (end_comes c.args.level.now c.args.invert reader _ _ _ (rw w.in-End.is at told))
       | in-Trailing w ↦ rw w.result-is (trailing_comes c.args.level.now c.args.invert reader _ _ _ (rw w.in-Trailing.is at told))
-      | in-Fault w ↦ rw w.result-is (fault_comes c.args.level.now c.args.invert w.in-Fault.fault reader _ _ _ (rw w.in-Fault.is at told) (rw w.in-Fault.is at c.in-Err.ensures.counts))
+      | in-Fault w ↦ rw w.result-is (fault_comes c.args.level.now c.args.invert w.in-Fault.fault reader _ _ _ (rw w.in-Fault.is at told) (rw w.in-Fault.is at c.in-Err.ensures.leaves.counts))
     ])
