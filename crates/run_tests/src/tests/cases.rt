@@ -75,15 +75,7 @@ impl<'a> Case<'a> {
         let unsaid = Vec::from_slice(alloc, self.unsaid)?;
         let mut outs = MemOutputs::new(alloc, most, unwritten, 65_537, self.room)?;
         let mut errs = MemSink::new(alloc, most, unsaid, 1000)?;
-        let status = run(
-            rt,
-            alloc,
-            &words,
-            &mut inputs,
-            &mut outs,
-            &mut errs,
-            gate,
-        );
+        let status = run(rt, alloc, &words, &mut inputs, &mut outs, &mut errs, gate);
         Ok(Done { status, outs, errs })
     }
 

@@ -119,7 +119,11 @@ fn black_scan(rt: &impl Abort, alloc: Global) -> Result<Vec<u8>, Fail> {
 fn polygon_of_a_black_scan(rt: HostRuntime) -> Result<(), Fail> {
     let scan = black_scan(&rt, rt.alloc())?;
     let text = "polygons 2480 3508 1\n+ 8699840 11976 4 0: 0 3508 5988 9496\n";
-    for words in ["-b polygons", "-b polygons --workers 1", "-b polygons --workers 7"] {
+    for words in [
+        "-b polygons",
+        "-b polygons --workers 1",
+        "-b polygons --workers 7",
+    ] {
         let done = Case::new(words, &scan).run(&rt, rt.alloc())?;
         expect(&rt, &done, 0, &[text], "");
     }
@@ -131,7 +135,11 @@ fn drawing_of_a_black_scan(rt: HostRuntime) -> Result<(), Fail> {
     let scan = black_scan(&rt, rt.alloc())?;
     let text =
         "%!PS-Adobe-3.0 EPSF-3.0\n%%BoundingBox: 0 0 2480 3508\n%%EndComments\ngsave\n1 10 div dup scale\n12400 35080 moveto\n-12400 0 rlineto\n0 -17540 rlineto\n0 -17540 rlineto\n12400 0 rlineto\n12400 0 rlineto\n0 17540 rlineto\n0 17540 rlineto\n-12400 0 rlineto\nclosepath\neofill\ngrestore\n%%EOF\n";
-    for words in ["letter.pbm", "--workers 1 letter.pbm", "--workers 7 letter.pbm"] {
+    for words in [
+        "letter.pbm",
+        "--workers 1 letter.pbm",
+        "--workers 7 letter.pbm",
+    ] {
         let done = Case::over(words, "letter.pbm", &scan).run(&rt, rt.alloc())?;
         expect_named(&rt, &done, 0, &[("letter.eps", text)], "");
     }

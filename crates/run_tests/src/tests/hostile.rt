@@ -93,8 +93,16 @@ fn expect_document(
 /// What is to come where the n-th opening fails.
 fn wanted_unopened(alloc: Global, n: usize) -> Result<Wanted, Fail> {
     let (status, whole, said) = match n {
-        1 => (3, 0, format!(in alloc; "potrace: a.pbm: cannot be opened\n")?),
-        2 => (3, 2, format!(in alloc; "{NOTE}potrace: b.pbm: cannot be opened\n")?),
+        1 => (
+            3,
+            0,
+            format!(in alloc; "potrace: a.pbm: cannot be opened\n")?,
+        ),
+        2 => (
+            3,
+            2,
+            format!(in alloc; "{NOTE}potrace: b.pbm: cannot be opened\n")?,
+        ),
         _ => (0, 4, String::from_str(alloc, NOTE)?),
     };
     Ok(Wanted {
@@ -190,7 +198,10 @@ fn each_beginning_and_each_end_fails(rt: HostRuntime) -> Result<(), Fail> {
     for n in 1..=5 {
         let whole = n - 1;
         let text = DOCUMENTS.get(whole).map(|document| document.1.len());
-        for (call, open) in [(OutCall::Begin(n as u64), None), (OutCall::End(n as u64), text)] {
+        for (call, open) in [
+            (OutCall::Begin(n as u64), None),
+            (OutCall::End(n as u64), text),
+        ] {
             let wanted = wanted_unwritten(rt.alloc(), whole, open)?;
             let done = failing(&rt, rt.alloc(), BY_FOUR, &[], &[call])?;
             expect_wanted(&rt, &done, &wanted);
@@ -215,7 +226,10 @@ fn each_write_fails(rt: HostRuntime) -> Result<(), Fail> {
 // The room has a place for each byte of the names and the texts, and then one byte less.
 #[test]
 fn a_room_that_is_a_byte_too_small(rt: HostRuntime) -> Result<(), Fail> {
-    let all: usize = DOCUMENTS.iter().map(|document| document.0.len() + document.1.len()).sum();
+    let all: usize = DOCUMENTS
+        .iter()
+        .map(|document| document.0.len() + document.1.len())
+        .sum();
     let last = DOCUMENTS[3].1.len();
     for (room, whole, open) in [(all, 4, None), (all - 1, 3, Some(last - 1))] {
         let mut case = Case::over(BY_FOUR, "a.pbm", FIRST);

@@ -48,7 +48,11 @@ fn pages_of_a_stream(rt: HostRuntime) -> Result<(), Fail> {
 // Batches go over the border of the files: of one worker the first one is a page of each file.
 #[test]
 fn batches_over_files(rt: HostRuntime) -> Result<(), Fail> {
-    let wanted = [("b.points", PIXEL), ("a.points", PIXEL), ("a-2.points", PIXEL)];
+    let wanted = [
+        ("b.points", PIXEL),
+        ("a.points", PIXEL),
+        ("a-2.points", PIXEL),
+    ];
     let said = "potrace: b.pbm: trailing bytes after page 1\n";
     for workers in NUMBERS {
         let words = format!(in rt.alloc(); "-b points -t 0 --workers {workers} b.pbm a.pbm")?;
