@@ -5,13 +5,11 @@ use Rattle.pt_base.specs.Counts.{Rose, next_count}
 use Rattle.pt_base.specs.Documents.{IsSaid}
 use Rattle.pt_base.specs.Files.{Contents, Files, Lacks, Opened, unread, unread_of, with_file}
 use Rattle.pt_base.specs.declared.settings.Settings.{Settings}
-use Rattle.bitmap_input.specs.Cut.Ending.{End}
-use Rattle.bitmap_input.specs.Raw.{Raw}
 use Rattle.page_trace.specs.Document.{CanWrite}
 use Rattle.file_trace.specs.Held.{AreHeld, Held}
 use Rattle.file_trace.specs.Messages.{not_opened, out_of_memory, page_line, read_fault}
-use Rattle.file_trace.specs.Names.{base_name, made_with}
-use Rattle.file_trace.specs.Items.{AreItems, ArePageItems, IsAbsent, Item, Nothing, most_pages, told_contents}
+use Rattle.file_trace.specs.Names.{base_name}
+use Rattle.file_trace.specs.Items.{AreItems, IsAbsent, Item, Nothing, most_pages, told_contents}
 use Rattle.file_trace.specs.Outcome.{AreCarriedOut, HasEnded, HoldsBytes, IsOutcomeBehind, OpensUpTo, IsUnopened, IsUnread, Sinks, Source}
 use Rattle.file_trace.specs.Progress.{EndsWithFile, Halts, InputCount, Traces, TracesFile, docs, end_message, opened_name, status_of}
 use Rattle.file_trace.specs.declared.pages.PagesEnd.{PagesEnd}

@@ -1,5 +1,5 @@
 -- How far a run has read where a document couldn't be written.
-use Rattle.std.proofs.Common.{◌≡◌, ◌≤◌, ◌<◌, ℕ, suc, ◌+◌, ◌*◌, ◌/◌, ◌%◌, List, [], ◌∷◌, ◌++◌, Option, refl, sym, ◌∙◌, ap, subst, add-mul, div-add-mod', div-mul-le_self, mod-lt, mul-le-mul_right, arith}
+use Rattle.std.proofs.Common.{◌≡◌, ◌≤◌, ◌<◌, ℕ, ◌+◌, ◌*◌, ◌/◌, ◌%◌, List, [], ◌∷◌, ◌++◌, Option, ◌∙◌, ap, subst, add-mul, div-add-mod', div-mul-le_self, mod-lt, mul-le-mul_right, arith}
 use Rattle.std.proofs.lemmas.Nat.{div_below, le-div}
 use Rattle.pt_base.specs.Counts.{Rose}
 use Rattle.pt_base.specs.Files.{Contents}

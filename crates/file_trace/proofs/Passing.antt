@@ -1,12 +1,12 @@
 -- How far a run has read that ends in a file, where a document couldn't be written.
-use Rattle.std.proofs.Common.{◌≡◌, ◌≢◌, ◌≤◌, ◌<◌, ◌⊎◌, ℕ, ◌+◌, ◌*◌, false, List, [], ◌∷◌, ◌++◌, length, Option, None, Some, IfSome, option_map, inl, inr, refl, sym, ◌∙◌, ap, subst, append_assoc, zero-mul, arith}
+use Rattle.std.proofs.Common.{◌≡◌, ◌≤◌, ◌<◌, ◌⊎◌, ℕ, ◌+◌, false, List, [], ◌∷◌, ◌++◌, length, Option, None, Some, IfSome, inl, inr, refl, sym, ◌∙◌, ap, subst, append_assoc, zero-mul, arith}
 use Rattle.pt_base.specs.Counts.{Rose, next_count}
-use Rattle.pt_base.specs.Files.{Contents, Files, Lacks, unread, unread_of, with_file}
+use Rattle.pt_base.specs.Files.{Contents, Files, Lacks, unread, with_file}
 use Rattle.pt_base.specs.declared.settings.Settings.{Settings}
 use Rattle.page_trace.specs.Document.{CanWrite}
 use Rattle.file_trace.specs.Held.{AreHeld, Held, pages_held}
 use Rattle.file_trace.specs.Names.{base_name}
-use Rattle.file_trace.specs.Items.{AreItems, IsAbsent, Item, Nothing, doc_count, told_contents}
+use Rattle.file_trace.specs.Items.{IsAbsent, Item, doc_count, told_contents}
 use Rattle.file_trace.specs.Items.Item.{Missing, Stop}
 use Rattle.file_trace.specs.OnePass.{IfReadsTo, IsOnePass}
 use Rattle.file_trace.specs.Outcome.{BeginsWith, IsUnwritten, Sinks, Source}

@@ -1,5 +1,5 @@
 -- How far the tracing of a file has come: its first pages are traced.
-use Rattle.std.specs.Prelude.{◌≡◌, ◌≢◌, ◌⊎◌, ℕ, ◌+◌, ◌*◌, ◌<◌, ◌≤◌, Bool, true, false, List, [], ◌∷◌, ◌++◌, length, drop, Option, None, Some, IfSome, option_map}
+use Rattle.std.specs.Prelude.{◌≡◌, ◌≢◌, ◌⊎◌, ℕ, ◌+◌, ◌*◌, ◌<◌, ◌≤◌, Bool, false, List, [], ◌∷◌, ◌++◌, length, drop, Option, None, Some, IfSome, option_map}
 use Rattle.pt_base.specs.Counts.{Rose}
 use Rattle.pt_base.specs.Files.{Contents, Files, unread}
 use Rattle.bit_image.specs.Page.{Page as Pixels}

@@ -1,5 +1,5 @@
 //! The line of a page.
-ghost use Rattle.std.specs.Prelude.{◌≡◌, ◌++◌, length, sum_by, IfOk, OnOk};
+ghost use Rattle.std.specs.Prelude.{◌≡◌, length, sum_by, IfOk};
 ghost use Rattle.page_demo.specs.Line.{line_text};
 
 use bit_image::bitmap::Bitmap;

@@ -1,6 +1,5 @@
 -- What the outcome of a run says where no device failed, and of the causes of its status.
-use Rattle.std.proofs.Common.{◌≡◌, ◌≢◌, ◌≤◌, ◌<◌, ◌⊎◌, ℕ, Bool, false, List, [], ◌∷◌, ◌++◌, Option, None, Some, inl, inr, refl, sym, ◌∙◌, ap, subst, arith}
-use Rattle.std.specs.FinMap.{get}
+use Rattle.std.proofs.Common.{◌≡◌, ◌≢◌, ◌<◌, ◌⊎◌, ℕ, Bool, false, List, [], ◌∷◌, ◌++◌, Option, None, Some, inl, inr, refl, sym, ◌∙◌, ap, subst, arith}
 use Rattle.pt_base.specs.Counts.{Rose}
 use Rattle.pt_base.specs.Files.{Contents}
 use Rattle.pt_base.specs.declared.settings.Settings.{Settings}
@@ -10,16 +9,15 @@ use Rattle.file_trace.specs.Names.{dash}
 use Rattle.file_trace.specs.Items.{AreItems, IsAbsent, Item, Nothing, told_contents}
 use Rattle.file_trace.specs.Items.Item.{Doc, Missing, Note, Stop}
 use Rattle.file_trace.specs.Outcome.{AreCarriedOut, GoesOn, HasEnded, IsOutcome, Sinks, Source}
-use Rattle.file_trace.specs.Progress.{InputCount, OutputCount}
+use Rattle.file_trace.specs.Progress.{OutputCount}
 use Rattle.file_trace.specs.Status.{code_of}
 use Rattle.file_trace.specs.declared.status.Status.{Status}
 use Rattle.file_trace.specs.declared.status.Status.TheVariants as status
-use Rattle.file_trace.proofs.Ending.{ends_at_once}
 use Rattle.file_trace.proofs.Exists.{items_found}
 use Rattle.file_trace.proofs.Joining.{items_behind}
 use Rattle.page_demo.proofs.Found.{demo_found}
 use Rattle.potrace_main.specs.Asked.{CanBeDone}
-use Rattle.potrace_main.specs.Run.{AreItemsOf, EndsMissing, EndsRefused, IsCodeOf, IsComplete, IsMissing, IsOutcomeOf, IsRun, OpensFirst, names_of}
+use Rattle.potrace_main.specs.Run.{AreItemsOf, EndsMissing, EndsRefused, IsComplete, IsMissing, IsOutcomeOf, IsRun, names_of}
 use Rattle.potrace_main.specs.Usage.{help_text, version_text}
 use Rattle.potrace_main.specs.declared.ask.Ask.{Ask}
 use Rattle.potrace_main.specs.declared.ask.Ask.TheVariants as asks

@@ -1,13 +1,13 @@
 -- Files traced one after another.
-use Rattle.std.proofs.Common.{◌≡◌, ◌≤◌, ◌<◌, ◌⊎◌, ℕ, ◌+◌, min, Bool, false, List, [], ◌∷◌, ◌++◌, length, take, drop, get_or, Option, None, Some, IfSome, inl, inr, refl, sym, ◌∙◌, ap, subst, append-nil, arith}
+use Rattle.std.proofs.Common.{◌≡◌, ◌<◌, ℕ, ◌+◌, min, List, [], ◌∷◌, ◌++◌, length, take, drop, get_or, Option, IfSome, inr, refl, sym, ◌∙◌, ap, subst, append-nil, arith}
 use Rattle.std.proofs.lemmas.List.{length-take-le, take-append-drop, take_more}
 use Rattle.pt_base.specs.Counts.{last_count, next_count}
 use Rattle.pt_base.specs.Files.{Contents}
 use Rattle.pt_base.specs.declared.settings.Settings.{Settings}
 use Rattle.file_trace.specs.Held.{AreHeld, Held, Holds, pages_held}
-use Rattle.file_trace.specs.Items.{AreItems, Item, Nothing, told_contents}
+use Rattle.file_trace.specs.Items.{AreItems, Item, Nothing}
 use Rattle.file_trace.specs.OnePass.{IsOnePass}
-use Rattle.file_trace.specs.Outcome.{AreCarriedOut, HasEnded, IsOutcome, IsOutcomeBehind, IsUnwritten, OpensUpTo, Sinks, Source}
+use Rattle.file_trace.specs.Outcome.{AreCarriedOut, HasEnded, IsOutcome, IsOutcomeBehind, IsUnwritten, Sinks, Source}
 use Rattle.file_trace.specs.Progress.{EndsWith, TracesFile, opened_name}
 use Rattle.file_trace.specs.declared.status.Status.{Status}
 use Rattle.file_trace.specs.declared.status.Status.TheVariants as status

@@ -1,6 +1,5 @@
 -- What the top call promises.
-use Rattle.std.specs.Prelude.{◌≡◌, ◌≢◌, ℕ, ◌*◌, ◌≤◌, ◌⊎◌, Bool, List, [], ◌∷◌, ◌++◌, Option, Some, IfSome}
-use Rattle.pt_base.specs.Counts.{Rose}
+use Rattle.std.specs.Prelude.{◌≡◌, ℕ, ◌*◌, ◌⊎◌, List, [], ◌∷◌, ◌++◌, Option, IfSome}
 use Rattle.pt_base.specs.Files.{Contents}
 use Rattle.file_trace.specs.Messages.{bad_words, out_of_memory}
 use Rattle.file_trace.specs.Names.{dash}

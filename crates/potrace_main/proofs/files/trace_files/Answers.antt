@@ -1,4 +1,4 @@
-use Rattle.std.proofs.Common.{◌≡◌, ◌∙◌, ◌*◌, [], ℕ, List, Option, inl, option_map, refl, subst, sym, arith}
+use Rattle.std.proofs.Common.{◌∙◌, ◌*◌, [], ℕ, List, Option, inl, option_map, refl, arith}
 use Rattle.std.proofs.lemmas.List.{take_all}
 use Rattle.file_trace.specs.Items.{told_contents}
 use Rattle.file_trace.specs.Outcome.{Source}

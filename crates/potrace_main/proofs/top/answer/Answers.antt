@@ -1,4 +1,4 @@
-use Rattle.std.proofs.Common.{◌≡◌, ℕ, List, inl, map, refl, subst}
+use Rattle.std.proofs.Common.{◌≡◌, inl, map, refl}
 use Rattle.std.specs.Prelude.{string_bytes}
 use Rattle.file_trace.specs.Messages.{bad_words, out_of_memory}
 use Rattle.file_trace.specs.declared.status.Status.TheVariants as status

@@ -1,4 +1,4 @@
-use Rattle.std.proofs.Common.{◌≡◌, ◌⊎◌, ◌∙◌, ap, inl, inr, map, refl, sym}
+use Rattle.std.proofs.Common.{◌∙◌, ap, inl, inr, map, sym}
 use Rattle.std.specs.Prelude.{string_bytes}
 use Rattle.file_trace.specs.Status.{code_of}
 use Rattle.potrace_main.proofs.Completing.{closed_else, code_one, rose_unwritten, run_absent, run_complete, run_unread, written_rose}
