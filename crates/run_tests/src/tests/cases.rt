@@ -2,6 +2,7 @@
 ghost use Rattle.std.specs.Prelude.{◌≡◌, IfOk, string_bytes};
 
 use potrace_main::top::run;
+use pt_base::fault::NoMemory;
 use pt_base::gate::{Gate, NoGate};
 use pt_base::mem_inputs::{InCall, MemInputs, NamedBytes};
 use pt_base::mem_outputs::{MemOutputs, OutCall};
@@ -68,6 +69,16 @@ impl<'a> Case<'a> {
         alloc: Global,
         gate: &G,
     ) -> Result<Done, Fail> {
+        Ok(self.done(rt, alloc, gate)?)
+    }
+
+    /// What the run did, or want of memory before it.
+    pub fn done<R: Threads + Sync, G: Gate + Sync>(
+        &self,
+        rt: &R,
+        alloc: Global,
+        gate: &G,
+    ) -> Result<Done, NoMemory> {
         let words = split(alloc, self.words)?;
         let mut inputs = self.inputs(alloc)?;
         let most = self.most_written.max(1);
@@ -79,7 +90,7 @@ impl<'a> Case<'a> {
         Ok(Done { status, outs, errs })
     }
 
-    fn inputs(&self, alloc: Global) -> Result<MemInputs, Fail> {
+    fn inputs(&self, alloc: Global) -> Result<MemInputs, NoMemory> {
         let file = named(alloc, self.name, self.input)?;
         let most = self.most_read.max(1);
         let unread = Vec::from_slice(alloc, self.unread)?;
@@ -94,7 +105,7 @@ impl<'a> Case<'a> {
     }
 }
 
-fn named(alloc: Global, name: &str, bytes: &[u8]) -> Result<NamedBytes, Fail>
+fn named(alloc: Global, name: &str, bytes: &[u8]) -> Result<NamedBytes, NoMemory>
     ensures { IfOk result (λ file. string_bytes file.name ≡ name.now) }
 {
     Ok(NamedBytes {
@@ -103,7 +114,7 @@ fn named(alloc: Global, name: &str, bytes: &[u8]) -> Result<NamedBytes, Fail>
     })
 }
 
-fn split(alloc: Global, text: &str) -> Result<Vec<String>, Fail> {
+fn split(alloc: Global, text: &str) -> Result<Vec<String>, NoMemory> {
     let mut words = Vec::new(alloc);
     for word in text.split(' ') {
         words.push(String::from_str(alloc, word)?)?;

@@ -50,21 +50,6 @@ fn gaps_have_a_limit(rt: HostRuntime) -> Result<(), Fail> {
 }
 
 #[test]
-fn pages_have_a_limit(rt: HostRuntime) -> Result<(), Fail> {
-    let mut input = Vec::new(rt.alloc());
-    for _ in 0..65_537 {
-        input.extend_from_slice(b"P1 1 1 1\n")?;
-    }
-    let done = Case::new("-b points -z left -t 2", &input).run(&rt, rt.alloc())?;
-    let said = b"potrace: -: page 65537: too many pages\n".as_slice();
-    assert_eq!(rt;
-        (done.status, done.outs.count(), done.errs.text()),
-        (2, 65_536, said)
-    );
-    Ok(())
-}
-
-#[test]
 fn other_words(rt: HostRuntime) -> Result<(), Fail> {
     for words in [
         "-s -e",

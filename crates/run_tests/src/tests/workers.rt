@@ -1,9 +1,13 @@
 //! Workers: documents, messages and status are the same for every number of them.
 
-use crate::tests::cases::{Case, expect, expect_named};
+use crate::tests::cases::{Case, Done, expect, expect_named};
 use page_samples::gates::HoldsFirst;
-use pt_base::mem_outputs::OutCall;
+use pt_base::mem_inputs::InCall;
+use pt_base::mem_outputs::{MemOutputs, OutCall};
+use std::alloc::Global;
+use std::process::Abort;
 use std::test::Fail;
+use std::thread::Threads;
 
 const PIXEL: &str = "points 1 1 1\n+ 1 0,1 0,0 1,0 1,1\n";
 
@@ -81,6 +85,163 @@ fn a_batch_before_a_missing_file(rt: HostRuntime) -> Result<(), Fail> {
         }
     }
     Ok(())
+}
+
+/// The name, the text and whether it is whole, of the only document.
+fn only_document(outs: &MemOutputs) -> Option<(&[u8], &[u8], bool)> {
+    if outs.count() == 1 {
+        Some((outs.name(0), outs.text(0), outs.whole(0)))
+    } else {
+        None
+    }
+}
+
+/// The run with 16 bytes a write where these calls fail.
+fn failing<'a, R: Threads + Sync>(
+    rt: &R,
+    alloc: Global,
+    words: &'a str,
+    name: &'a str,
+    input: &'a [u8],
+    unread: &'a [InCall],
+    unwritten: &'a [OutCall],
+) -> Result<Done, Fail> {
+    let mut case = Case::over(words, name, input);
+    case.most_written = 16;
+    case.unread = unread;
+    case.unwritten = unwritten;
+    case.run(rt, alloc)
+}
+
+/// The run ended so, with this document or none, and this message.
+fn expect_one(
+    rt: &impl Abort,
+    done: &Done,
+    status: u8,
+    document: Option<(&[u8], &[u8], bool)>,
+    said: &str,
+) {
+    let count = u32::from(document.is_some());
+    assert_eq!(rt;
+        (
+            done.status,
+            done.outs.count(),
+            only_document(&done.outs),
+            done.errs.text()
+        ),
+        (status, count, document, said.as_bytes())
+    );
+}
+
+#[test]
+fn a_write_that_fails(rt: HostRuntime) -> Result<(), Fail> {
+    let square = b"P4 8 8\n\xff\xff\xff\xff\xff\xff\xff\xff";
+    let front = b"%!PS-Adobe-3.0 EPSF-3.0\n%%Boundi".as_slice();
+    for workers in NUMBERS {
+        let words = format!(in rt.alloc(); "--workers {workers}")?;
+        let done = failing(
+            &rt,
+            rt.alloc(),
+            &words,
+            "-",
+            square,
+            &[],
+            &[OutCall::Write(3)],
+        )?;
+        expect_one(
+            &rt,
+            &done,
+            4,
+            Some((b"-", front, false)),
+            "potrace: -: write fault\n",
+        );
+    }
+    Ok(())
+}
+
+/// Words, a file, and the reads that fail; and then the document and the message.
+type Fault = (
+    &'static str,
+    &'static str,
+    &'static [InCall],
+    Option<(&'static [u8], &'static [u8], bool)>,
+    &'static str,
+);
+
+// The second file isn't there; then the first read fails.
+const FAULTS: [Fault; 2] = [
+    (
+        "a.pbm b.pbm",
+        "a.pbm",
+        &[],
+        Some((b"a.points", b"points 1 1 0\n", true)),
+        "potrace: b.pbm: cannot be opened\n",
+    ),
+    (
+        "-z left -t 0",
+        "-",
+        &[InCall::Read(1)],
+        None,
+        "potrace: -: page 1: read fault\n",
+    ),
+];
+
+#[test]
+fn files_that_fail(rt: HostRuntime) -> Result<(), Fail> {
+    for (words, name, unread, document, said) in FAULTS {
+        for workers in NUMBERS {
+            let words = format!(in rt.alloc(); "-b points --workers {workers} {words}")?;
+            let done = failing(&rt, rt.alloc(), &words, name, b"P1 1 1 1\n", unread, &[])?;
+            expect_one(&rt, &done, 3, document, said);
+        }
+    }
+    Ok(())
+}
+
+/// How many of the documents are whole, for standard output and of this text.
+fn count_of(outs: &MemOutputs, text: &str) -> u32 {
+    let mut count = 0u32;
+    for i in 0..outs.count() {
+        if (outs.name(i), outs.text(i), outs.whole(i)) == (b"-".as_slice(), text.as_bytes(), true) {
+            count = count.saturating_add(1);
+        }
+    }
+    count
+}
+
+/// So many workers write the first 65,536 pages of 65,537.
+fn expect_limit(
+    rt: &(impl Threads + Abort + Sync),
+    alloc: Global,
+    workers: u32,
+) -> Result<(), Fail> {
+    let mut input = Vec::new(alloc);
+    for _ in 0..65_537 {
+        input.extend_from_slice(b"P1 1 1 1\n")?;
+    }
+    let words = format!(in alloc; "-b points --workers {workers}")?;
+    let done = Case::new(&words, &input).run(rt, alloc)?;
+    let said = b"potrace: -: page 65537: too many pages\n".as_slice();
+    assert_eq!(rt;
+        (
+            done.status,
+            done.outs.count(),
+            count_of(&done.outs, "points 1 1 0\n"),
+            done.errs.text()
+        ),
+        (2, 65_536, 65_536, said)
+    );
+    Ok(())
+}
+
+#[test]
+fn pages_up_to_the_limit_by_one(rt: HostRuntime) -> Result<(), Fail> {
+    expect_limit(&rt, rt.alloc(), 1)
+}
+
+#[test]
+fn pages_up_to_the_limit_by_most(rt: HostRuntime) -> Result<(), Fail> {
+    expect_limit(&rt, rt.alloc(), 64)
 }
 
 #[test]
