@@ -67,26 +67,6 @@ fn batches_over_files(rt: HostRuntime) -> Result<(), Fail> {
     Ok(())
 }
 
-// The batch is written before the file that isn't there is told of, and where that fails nothing is told of it.
-#[test]
-fn a_batch_before_a_missing_file(rt: HostRuntime) -> Result<(), Fail> {
-    let failing = [OutCall::Begin(2)];
-    let calls: [(&[OutCall], u8, &str); 2] = [
-        (&[], 3, "potrace: b.pbm: cannot be opened\n"),
-        (&failing, 4, "potrace: a-2.points: write fault\n"),
-    ];
-    for (unwritten, status, said) in calls {
-        for workers in NUMBERS {
-            let words = format!(in rt.alloc(); "-b points -t 0 --workers {workers} a.pbm b.pbm")?;
-            let mut case = Case::over(&words, "a.pbm", b"P1 1 1 1\nP1 1 1 1\n");
-            case.unwritten = unwritten;
-            let done = case.run(&rt, rt.alloc())?;
-            assert_eq!(rt; (done.status, done.errs.text()), (status, said.as_bytes()));
-        }
-    }
-    Ok(())
-}
-
 /// The name, the text and whether it is whole, of the only document.
 fn only_document(outs: &MemOutputs) -> Option<(&[u8], &[u8], bool)> {
     if outs.count() == 1 {
@@ -194,6 +174,26 @@ fn files_that_fail(rt: HostRuntime) -> Result<(), Fail> {
             let done = failing(&rt, rt.alloc(), &words, name, b"P1 1 1 1\n", unread, &[])?;
             expect_one(&rt, &done, 3, document, said);
         }
+    }
+    Ok(())
+}
+
+// The batch is written before the file that isn't there is told of, and where that fails nothing is told of it.
+#[test]
+fn a_batch_before_a_missing_file(rt: HostRuntime) -> Result<(), Fail> {
+    for workers in NUMBERS {
+        let words = format!(in rt.alloc(); "-b points -t 0 --workers {workers} a.pbm b.pbm")?;
+        let done = failing(
+            &rt,
+            rt.alloc(),
+            &words,
+            "a.pbm",
+            b"P1 1 1 1\nP1 1 1 1\n",
+            &[],
+            &[OutCall::Begin(2)],
+        )?;
+        let said = b"potrace: a-2.points: write fault\n".as_slice();
+        assert_eq!(rt; (done.status, done.errs.text()), (4, said));
     }
     Ok(())
 }
