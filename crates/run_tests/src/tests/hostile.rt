@@ -57,7 +57,9 @@ fn failing<'a, R: Threads + Sync>(
 
 /// The run has done what is wanted.
 fn expect_wanted(rt: &impl Abort, done: &Done, wanted: &Wanted) {
-    let begun = wanted.whole + wanted.open.iter().count();
+    let begun = wanted
+        .whole
+        .saturating_add(usize::from(wanted.open.is_some()));
     assert_eq!(rt;
         (done.errs.text(), done.status, done.outs.count() as usize),
         (wanted.said.as_bytes(), wanted.status, begun)
@@ -128,10 +130,10 @@ fn wanted_unread(alloc: Global, n: usize) -> Result<Wanted, Fail> {
         }
     };
     let pages = ends.iter().filter(|end| **end <= taken).count();
-    let page = pages + 1;
+    let page = pages.saturating_add(1);
     Ok(Wanted {
         status: 3,
-        whole: before + pages,
+        whole: pages.saturating_add(before),
         open: None,
         said: format!(in alloc; "{note}potrace: {name}: page {page}: read fault\n")?,
     })
@@ -162,7 +164,7 @@ fn place_of_write(n: usize) -> (usize, usize) {
     for (whole, (_, text)) in DOCUMENTS.iter().enumerate() {
         let writes = text.len().div_ceil(16);
         if left <= writes {
-            return (whole, left.saturating_sub(1) * 16);
+            return (whole, left.saturating_sub(1).saturating_mul(16));
         }
         left -= writes;
     }
@@ -223,18 +225,29 @@ fn each_write_fails(rt: HostRuntime) -> Result<(), Fail> {
     Ok(())
 }
 
-// The room has a place for each byte of the names and the texts, and then one byte less.
+/// How many bytes the names and the texts of all documents have.
+fn bytes_of_all() -> u32 {
+    let mut bytes: u32 = 0;
+    for (name, text) in DOCUMENTS {
+        for part in [name, text] {
+            bytes = bytes.saturating_add(u32::try_from(part.len()).unwrap_or(0));
+        }
+    }
+    bytes
+}
+
+// There is room for each byte of the names and the texts, and then for one less.
 #[test]
 fn a_room_that_is_a_byte_too_small(rt: HostRuntime) -> Result<(), Fail> {
-    let all: usize = DOCUMENTS
-        .iter()
-        .map(|document| document.0.len() + document.1.len())
-        .sum();
+    let all = bytes_of_all();
     let last = DOCUMENTS[3].1.len();
-    for (room, whole, open) in [(all, 4, None), (all - 1, 3, Some(last - 1))] {
+    for (room, whole, open) in [
+        (all, 4, None),
+        (all.saturating_sub(1), 3, Some(last.saturating_sub(1))),
+    ] {
         let mut case = Case::over(BY_FOUR, "a.pbm", FIRST);
         case.other = Some(("b.pbm", SECOND));
-        case.room = room as u32;
+        case.room = room;
         let done = case.run(&rt, rt.alloc())?;
         expect_wanted(&rt, &done, &wanted_unwritten(rt.alloc(), whole, open)?);
     }

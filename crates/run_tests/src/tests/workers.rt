@@ -67,6 +67,15 @@ fn batches_over_files(rt: HostRuntime) -> Result<(), Fail> {
     Ok(())
 }
 
+/// The name, the text and whether it is whole, of the only document.
+fn only_document(outs: &MemOutputs) -> Option<(&[u8], &[u8], bool)> {
+    if outs.count() == 1 {
+        Some((outs.name(0), outs.text(0), outs.whole(0)))
+    } else {
+        None
+    }
+}
+
 /// The run with 16 bytes a write where these calls fail.
 fn failing<'a, R: Threads + Sync>(
     rt: &R,
@@ -82,41 +91,6 @@ fn failing<'a, R: Threads + Sync>(
     case.unread = unread;
     case.unwritten = unwritten;
     case.run(rt, alloc)
-}
-
-/// Calls that fail, and then the status and the message.
-type Before = (&'static [OutCall], u8, &'static str);
-
-// The batch is written before the file that isn't there is told of, and where that fails nothing is told of it.
-const BEFORE_MISSING: [Before; 2] = [
-    (&[], 3, "potrace: b.pbm: cannot be opened\n"),
-    (
-        &[OutCall::Begin(2)],
-        4,
-        "potrace: a-2.points: write fault\n",
-    ),
-];
-
-#[test]
-fn a_batch_before_a_missing_file(rt: HostRuntime) -> Result<(), Fail> {
-    let pages = b"P1 1 1 1\nP1 1 1 1\n";
-    for (unwritten, status, said) in BEFORE_MISSING {
-        for workers in NUMBERS {
-            let words = format!(in rt.alloc(); "-b points -t 0 --workers {workers} a.pbm b.pbm")?;
-            let done = failing(&rt, rt.alloc(), &words, "a.pbm", pages, &[], unwritten)?;
-            assert_eq!(rt; (done.status, done.errs.text()), (status, said.as_bytes()));
-        }
-    }
-    Ok(())
-}
-
-/// The name, the text and whether it is whole, of the only document.
-fn only_document(outs: &MemOutputs) -> Option<(&[u8], &[u8], bool)> {
-    if outs.count() == 1 {
-        Some((outs.name(0), outs.text(0), outs.whole(0)))
-    } else {
-        None
-    }
 }
 
 /// The run ended so, with this document or none, and this message.
@@ -200,6 +174,26 @@ fn files_that_fail(rt: HostRuntime) -> Result<(), Fail> {
             let done = failing(&rt, rt.alloc(), &words, name, b"P1 1 1 1\n", unread, &[])?;
             expect_one(&rt, &done, 3, document, said);
         }
+    }
+    Ok(())
+}
+
+// The batch is written before the file that isn't there is told of, and where that fails nothing is told of it.
+#[test]
+fn a_batch_before_a_missing_file(rt: HostRuntime) -> Result<(), Fail> {
+    for workers in NUMBERS {
+        let words = format!(in rt.alloc(); "-b points -t 0 --workers {workers} a.pbm b.pbm")?;
+        let done = failing(
+            &rt,
+            rt.alloc(),
+            &words,
+            "a.pbm",
+            b"P1 1 1 1\nP1 1 1 1\n",
+            &[],
+            &[OutCall::Begin(2)],
+        )?;
+        let said = b"potrace: a-2.points: write fault\n".as_slice();
+        assert_eq!(rt; (done.status, done.errs.text()), (4, said));
     }
     Ok(())
 }
