@@ -133,19 +133,36 @@ def inputs(it):
     meanwhile("a file that has vanished", os.remove, (3, TEXT, b"potrace: b.pbm: cannot be opened\n"))
     meanwhile("a file that has grown", lambda name: it.file("b.pbm", PAGE), (0, TEXT + TEXT, b""))
     meanwhile("a file that has shrunk", lambda name: os.truncate(name, 20), (2, TEXT, fault(b"b.pbm", b"truncated")))
-    page, text = black(16384, 4096)
-    it.file("c.pbm", page)
-    for what, change, size in (("vanishes", os.remove, 0), ("shrinks", lambda name: os.truncate(name, 0), 0),
-                               ("grows", lambda name: it.file("c.pbm", page + PAGE), 0)):
+    page, text = black(16384, 16384)
+    cut = [(2, b"", fault(b"c.pbm", reason)) for reason in (b"truncated", b"unknown format")]
+    for what, change, allowed in (
+        ("vanishes", os.remove, [(0, text, b"")]),
+        ("shrinks", lambda name: os.truncate(name, 0), [(0, text, b""), *cut]),
+        ("grows", lambda name: append(name, PAGE), [(0, text, b""), (0, text + TEXT, b"")]),
+    ):
         it.file("c.pbm", page)
         process = it.start([*POLYGONS, "-o", "-", "c.pbm"])
-        os.kill(process.pid, signal.SIGSTOP)
+        while process.poll() is None and not is_open(process.pid, "c.pbm"):
+            pass
+        process.send_signal(signal.SIGSTOP)
         change(os.path.join(it.folder, "c.pbm"))
-        os.kill(process.pid, signal.SIGCONT)
+        process.send_signal(signal.SIGCONT)
         out, said = process.communicate(timeout=LIMIT)
-        it.expect(f"a file that {what} at some time", Ran(process.returncode, out, said), (0, text, b""), (0, text + TEXT, b""),
-                  (2, b"", fault(b"c.pbm", b"truncated")), (2, b"", fault(b"c.pbm", b"unknown format")),
-                  (3, b"", b"potrace: c.pbm: cannot be opened\n"))
+        it.expect(f"a file that {what} while it is read", Ran(process.returncode, out, said), *allowed)
+
+
+def append(name, data):
+    with open(name, "ab") as it:
+        it.write(data)
+
+
+def is_open(process, name):
+    """Whether the process has this file open."""
+    folder = f"/proc/{process}/fd"
+    try:
+        return any(os.readlink(os.path.join(folder, it)).endswith("/" + name) for it in os.listdir(folder))
+    except OSError:
+        return False
 
 
 def endless(it):
