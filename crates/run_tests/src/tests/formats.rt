@@ -122,7 +122,9 @@ fn polygon_of_a_black_scan(rt: HostRuntime) -> Result<(), Fail> {
     for words in [
         "-b polygons",
         "-b polygons --workers 1",
+        "-b polygons --workers 2",
         "-b polygons --workers 7",
+        "-b polygons --workers 64",
     ] {
         let done = Case::new(words, &scan).run(&rt, rt.alloc())?;
         expect(&rt, &done, 0, &[text], "");
@@ -138,7 +140,9 @@ fn drawing_of_a_black_scan(rt: HostRuntime) -> Result<(), Fail> {
     for words in [
         "letter.pbm",
         "--workers 1 letter.pbm",
+        "--workers 2 letter.pbm",
         "--workers 7 letter.pbm",
+        "--workers 64 letter.pbm",
     ] {
         let done = Case::over(words, "letter.pbm", &scan).run(&rt, rt.alloc())?;
         expect_named(&rt, &done, 0, &[("letter.eps", text)], "");

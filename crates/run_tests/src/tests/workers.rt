@@ -248,7 +248,7 @@ fn pages_up_to_the_limit_by_most(rt: HostRuntime) -> Result<(), Fail> {
 fn lines_of_made_up_pages(rt: HostRuntime) -> Result<(), Fail> {
     let text =
         "paths 42 segments 198 curves 197 bytes 6968\npaths 42 segments 208 curves 202 bytes 7067\npaths 36 segments 229 curves 217 bytes 7287\n";
-    for workers in [1, 2, 7] {
+    for workers in NUMBERS {
         let words = format!(in rt.alloc(); "--demo 3 --workers {workers}")?;
         let done = Case::new(&words, b"").run(&rt, rt.alloc())?;
         expect(&rt, &done, 0, &[text], "");
