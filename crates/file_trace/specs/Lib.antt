@@ -60,6 +60,8 @@ pub mod Status
 --   IsOutOfMemory: some first items are carried out, and then memory ran out
 --   HasEnded: the items are carried out as far as the status says
 --   OpensUpTo: the file of this name is the last one that was asked for
+--   opened_name: the name of the opened file, where that is told and a file is opened
+--   OpensFirst: nothing was opened; or the first of these files were
 --   IsUnopened: a file can't be opened
 --   BeginsWith: the first pages of the bytes are these, and `rest` is what follows them
 --   BeginsSettled: the first pages of the bytes are these, none of them by the end of the bytes
@@ -91,7 +93,6 @@ pub mod Entries
 --   AreTraced: these are the texts of these pages, in order
 --   docs: the items of the documents of these texts
 --   ahead: the bytes that the reader has still to read pages from, where they are told
---   opened_name: the name of the opened file, where that is told and a file is opened
 --   Settles: this page stands there, not by the end of the bytes
 --   ReadsPage: the next page of what is ahead was read
 --   EndsReading: no page was read for this reason

@@ -1,5 +1,5 @@
 -- What a run has done, against the items that it was to write.
-use Rattle.std.specs.Prelude.{◌≡◌, ℕ, ◌+◌, ◌≤◌, ◌⊎◌, Bool, true, false, List, [], ◌∷◌, ◌++◌, length, min, take, drop, Option, None, Some, IfSome}
+use Rattle.std.specs.Prelude.{◌≡◌, ℕ, ◌+◌, ◌≤◌, ◌⊎◌, Bool, true, false, List, [], ◌∷◌, ◌++◌, length, min, take, drop, Option, None, Some, IfSome, option_map}
 use Rattle.std.specs.List.{concat}
 use Rattle.std.specs.FinMap.{get}
 use Rattle.pt_base.specs.Counts.{Rose, last_count}
@@ -122,6 +122,19 @@ pub record OpensUpTo (names : List (List ℕ)) (name : List ℕ) (front : List (
   pub back : List (List ℕ)
   pub listed : names ≡ front ++ name ∷ back
   pub grew : openings_now ≡ min (openings + (length front + 1)) last_count
+
+-- the name of the opened file, where that is told and a file is opened
+abbrev pub opened_name : Option Files → Option (List ℕ)
+opened_name None = None
+opened_name (Some files) = option_map (λ file. file.name) files.opened
+
+-- nothing was opened; or the first of these files were, each once and in order, and the opened file is the
+-- last one of them
+abbrev pub OpensFirst : List (List ℕ) → Source → Source → Type 0
+OpensFirst names source source_now =
+    ((source_now.openings ≡ source.openings) × (source_now.files ≡ source.files))
+    ⊎ ((name : List ℕ) × (front : List (List ℕ)) × OpensUpTo names name front source.openings source_now.openings
+    × IfSome (opened_name source_now.files) (λ opened. opened ≡ name))
 
 -- a file can't be opened: it isn't there, or a device failed. The first items, and all items of the files in
 -- front of it, are carried out, and its message is the last one.

@@ -1,5 +1,5 @@
 //! A whole file: opened, its pages read and traced by batches, and how it ended said.
-ghost use Rattle.std.specs.Prelude.{◌≡◌, ◌+◌, ◌*◌, ◌++◌, ◌<◌, ◌≤◌, ◌∷◌, ◌⊎◌, List, ℕ, [], false, true, option_map, IfErr, OnOk, IfSome};
+ghost use Rattle.std.specs.Prelude.{◌≡◌, ◌+◌, ◌*◌, ◌++◌, ◌<◌, ◌≤◌, ◌∷◌, ◌⊎◌, List, ℕ, [], false, true, option_map, IfErr, OnErr, OnOk, IfSome};
 ghost use Rattle.pt_base.specs.Counts.{next_count};
 ghost use Rattle.pt_base.specs.Documents.{IsSaid};
 ghost use Rattle.page_trace.specs.Document.{CanWrite};
@@ -10,8 +10,8 @@ ghost use Rattle.file_trace.specs.Messages.{out_of_memory, trailing_line};
 ghost use Rattle.file_trace.specs.Names.{base_name};
 ghost use Rattle.file_trace.specs.Offered.{IsOffered};
 ghost use Rattle.file_trace.specs.OnePass.{IsOnePass};
-ghost use Rattle.file_trace.specs.Outcome.{IsOutcomeBehind};
-ghost use Rattle.file_trace.specs.Progress.{EndsWithFile, InputCount, OutputCount, TracesFile, end_notes, opened_name, status_of};
+ghost use Rattle.file_trace.specs.Outcome.{IsOutcomeBehind, opened_name};
+ghost use Rattle.file_trace.specs.Progress.{EndsWithFile, InputCount, OutputCount, TracesFile, end_notes, status_of};
 ghost use Rattle.file_trace.specs.declared.status.Status.{Status};
 
 use crate::batch::Batch;
@@ -30,7 +30,7 @@ use std::thread::Threads;
 
 /// Opens a file and reads its pages into the batch, which is carried out where it is full. An `Err` says how
 /// the run ends in this file: whole pages in front of that are traced and written first.
-pub fn trace_file<R: Threads + Sync, I: Inputs, O: Outputs, E: Sink, G: Gate + Sync>(
+pub(crate) fn trace_file<R: Threads + Sync, I: Inputs, O: Outputs, E: Sink, G: Gate + Sync>(
     rt: &R,
     alloc: Global,
     settings: Settings,
@@ -134,6 +134,7 @@ pub fn trace_file<R: Threads + Sync, I: Inputs, O: Outputs, E: Sink, G: Gate + S
           errs_faults = E.faults errs.new;
         })) }
 
+    ensures same_made { OnErr result (made.new ≡ made.old) }
     ensures still_not_full { OnOk result (pages_held batch.new < 2 * workers) }
     ensures input { IfErr result (λ status. InputCount status (I.faults inputs.old) (I.faults inputs.new)) }
     ensures steady_input { OnOk result (I.faults inputs.new ≡ I.faults inputs.old) }

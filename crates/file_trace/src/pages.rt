@@ -10,8 +10,8 @@ ghost use Rattle.file_trace.specs.Items.{Item, told_contents};
 ghost use Rattle.file_trace.specs.Items.Item.{Doc};
 ghost use Rattle.file_trace.specs.Names.{document_name};
 ghost use Rattle.file_trace.specs.Offered.{IsOffered};
-ghost use Rattle.file_trace.specs.Outcome.{HasEnded};
-ghost use Rattle.file_trace.specs.Progress.{EndsBy, EndsReading, Halts, InputCount, OutputCount, ReadsPage, Traces, ahead, end_of_fault, opened_name, status_of};
+ghost use Rattle.file_trace.specs.Outcome.{HasEnded, opened_name};
+ghost use Rattle.file_trace.specs.Progress.{EndsBy, EndsReading, Halts, InputCount, OutputCount, ReadsPage, Traces, ahead, end_of_fault, status_of};
 ghost use Rattle.pt_base.specs.declared.settings.Settings.{Settings};
 ghost use Rattle.file_trace.specs.declared.pages.PagesEnd.{PagesEnd};
 ghost use Rattle.file_trace.specs.declared.status.Status.{Status};
@@ -34,11 +34,11 @@ use std::thread::Threads;
 use threshold_map::level::Level;
 
 /// How many pages a run accepts.
-pub const MOST_PAGES: u32 = 65536;
+const MOST_PAGES: u32 = 65536;
 
 /// Why no further page of a file was read.
 #[derive(Debug, Drop)]
-pub enum PagesEnd {
+pub(crate) enum PagesEnd {
     /// The file ends where a page may end.
     End,
     /// Bytes that begin no page follow.
@@ -55,15 +55,15 @@ pub enum PagesEnd {
 
 /// How many pages of a file were read, and why no further one was.
 #[derive(Debug, Drop)]
-pub struct Traced {
-    pub pages: u32,
-    pub end: PagesEnd,
+pub(crate) struct Traced {
+    pub(crate) pages: u32,
+    pub(crate) end: PagesEnd,
 }
 
 /// Reads the pages of the opened file into the batch, each with the name of its document, which
 /// comes after those of the documents made before. A batch that is full is carried out. An `Err`
 /// says how the run ends there: that is said.
-pub fn trace_pages<R: Threads + Sync, I: Inputs, O: Outputs, E: Sink, G: Gate + Sync>(
+pub(crate) fn trace_pages<R: Threads + Sync, I: Inputs, O: Outputs, E: Sink, G: Gate + Sync>(
     rt: &R,
     alloc: Global,
     settings: Settings,

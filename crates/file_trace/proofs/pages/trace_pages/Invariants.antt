@@ -3,8 +3,7 @@ use Rattle.pt_base.specs.Files.{unread}
 use Rattle.bitmap_input.specs.Reading.{AtEnd}
 use Rattle.file_trace.specs.Held.{pages_held}
 use Rattle.file_trace.specs.Items.{told_contents}
-use Rattle.file_trace.specs.Outcome.{Sinks}
-use Rattle.file_trace.specs.Progress.{opened_name}
+use Rattle.file_trace.specs.Outcome.{Sinks, opened_name}
 use Rattle.file_trace.proofs.Tracing.{IsTraced}
 use Rattle.file_trace.proofs.pages.trace_pages.Given as goal
 

@@ -2,10 +2,9 @@ use Rattle.std.proofs.Common.{◌≡◌, ◌<◌, ◌+◌, ◌*◌, min, take, f
 use Rattle.pt_base.specs.Counts.{last_count}
 use Rattle.file_trace.specs.Held.{pages_held}
 use Rattle.file_trace.specs.Items.{told_contents}
-use Rattle.file_trace.specs.Outcome.{Sinks, Source}
-use Rattle.potrace_main.specs.Run.{OpensFirst}
-use Rattle.potrace_main.proofs.Running.{AreDone}
-use Rattle.potrace_main.proofs.files.trace_files.Given as goal
+use Rattle.file_trace.specs.Outcome.{OpensFirst, Sinks, Source}
+use Rattle.file_trace.proofs.Running.{AreDone}
+use Rattle.file_trace.proofs.files.trace_files.Given as goal
 
 -- the first files are done
 abbrev pub invariant-loop-name : goal.invariant-loop-name

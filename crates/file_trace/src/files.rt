@@ -3,18 +3,17 @@ ghost use Rattle.std.specs.Prelude.{◌≡◌, ◌≤◌, ◌*◌, [], false, tr
 ghost use Rattle.file_trace.specs.Items.{told_contents};
 ghost use Rattle.file_trace.specs.Offered.{IsOffered};
 ghost use Rattle.file_trace.specs.OnePass.{IsOnePass};
-ghost use Rattle.file_trace.specs.Outcome.{IsOutcome};
+ghost use Rattle.file_trace.specs.Outcome.{IsOutcome, OpensFirst};
 ghost use Rattle.file_trace.specs.declared.status.Status.{Status};
 ghost use Rattle.file_trace.specs.Progress.{InputCount, OutputCount};
-ghost use Rattle.potrace_main.specs.Run.{OpensFirst};
 
+use crate::batch::Batch;
+use crate::file::trace_file;
+use crate::made::Made;
+use crate::message::say_out_of_memory;
+use crate::status::Status;
 use bitmap_input::reader::PageReader;
 use command_words::name::Name;
-use file_trace::batch::Batch;
-use file_trace::file::trace_file;
-use file_trace::made::Made;
-use file_trace::message::say_out_of_memory;
-use file_trace::status::Status;
 use pt_base::gate::Gate;
 use pt_base::inputs::Inputs;
 use pt_base::settings::Settings;

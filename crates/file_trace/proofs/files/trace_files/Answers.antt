@@ -3,8 +3,8 @@ use Rattle.std.proofs.lemmas.List.{take_all}
 use Rattle.file_trace.specs.Items.{told_contents}
 use Rattle.file_trace.specs.Outcome.{Source}
 use Rattle.file_trace.proofs.Ending.{ends_at_once}
-use Rattle.potrace_main.proofs.Running.{all_done, ends_after, ends_in, none_done, one_done, openings_more, opens_to, passes_after, passes_in}
-use Rattle.potrace_main.proofs.files.trace_files.Goals as goal
+use Rattle.file_trace.proofs.Running.{all_done, ends_after, ends_in, none_done, one_done, openings_more, opens_to, passes_after, passes_in}
+use Rattle.file_trace.proofs.files.trace_files.Goals as goal
 
 -- memory ran out before the first file
 pub returns-in_default-clause-outcome : goal.returns-in_default-clause-outcome
