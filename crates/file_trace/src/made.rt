@@ -85,10 +85,7 @@ impl Made {
         ensures added { OnOk result (self.new ≡ made_with (string_bytes base) pages self.old) }
         ensures same { OnErr result (self.new ≡ self.old) }
     {
-        match self.files.push(FileMade { base, pages }) {
-            Ok(()) => {}
-            Err(_) => return Err(NoMemory),
-        }
+        self.files.push(FileMade { base, pages })?;
         self.total += pages;
         Ok(())
     }

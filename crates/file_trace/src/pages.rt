@@ -53,6 +53,18 @@ pub(crate) enum PagesEnd {
     OutOfMemory,
 }
 
+impl From<InFault> for PagesEnd {
+    ghost from_gives = { λ fault end. end ≡ end_of_fault fault };
+
+    fn from(fault: InFault) -> PagesEnd {
+        match fault {
+            InFault::ReadFault => PagesEnd::Unread,
+            InFault::NoMemory => PagesEnd::OutOfMemory,
+            _ => PagesEnd::Refused(fault),
+        }
+    }
+}
+
 /// How many pages of a file were read, and why no further one was.
 #[derive(Debug, Drop)]
 pub(crate) struct Traced {
@@ -275,23 +287,12 @@ fn read_next<I: Inputs>(
         ≡ told_contents (I.files inputs.old) }
 {
     let level = Level::from_micro(settings.level);
-    match reader.next(alloc, inputs, &level, settings.invert) {
-        Ok(Next::Page(page)) => Ok(page),
-        Ok(Next::End) => Err(PagesEnd::End),
-        Ok(Next::Trailing) => Err(PagesEnd::Trailing),
-        Ok(Next::Over) => unreachable!(),
-        Err(fault) => Err(end_of(fault)),
-    }
-}
-
-/// Why no further page is read, where the reader tells of a fault.
-fn end_of(fault: InFault) -> PagesEnd
-    ensures { result ≡ end_of_fault fault }
-{
-    match fault {
-        InFault::ReadFault => PagesEnd::Unread,
-        InFault::NoMemory => PagesEnd::OutOfMemory,
-        _ => PagesEnd::Refused(fault),
+    let next = reader.next(alloc, inputs, &level, settings.invert)?;
+    match next {
+        Next::Page(page) => Ok(page),
+        Next::End => Err(PagesEnd::End),
+        Next::Trailing => Err(PagesEnd::Trailing),
+        Next::Over => unreachable!(),
     }
 }
 
