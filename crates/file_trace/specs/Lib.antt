@@ -48,7 +48,9 @@ pub mod Made
 pub mod Status
 -- What a run has done, against the items that it was to write.
 --   Sinks: the outputs and the sink for messages
+--   sinks_of: what outputs and a sink for messages tell
 --   Source: the inputs
+--   source_of: what inputs tell
 --   GoesOn: the run goes on after each of the items
 --   with_items: the documents of the items are added, whole and in order
 --   notes: the messages of the notes, in order

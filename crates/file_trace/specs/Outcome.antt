@@ -5,7 +5,9 @@ use Rattle.std.specs.FinMap.{get}
 use Rattle.pt_base.specs.Counts.{Rose, last_count}
 use Rattle.pt_base.specs.Documents.{Documents, with_bytes, with_whole, IsCutOff}
 use Rattle.pt_base.specs.Files.{Contents, Files}
+use Rattle.pt_base.specs.declared.inputs.Inputs.{Ghosts as InputGhosts}
 use Rattle.pt_base.specs.declared.settings.Settings.{Settings}
+use Rattle.pt_base.specs.declared.sink.Sink.{Ghosts as SinkGhosts}
 use Rattle.bitmap_input.specs.Cut.{is_by_end}
 use Rattle.bitmap_input.specs.Cut.Ending.{End}
 use Rattle.bitmap_input.specs.Raw.{Raw}
@@ -28,6 +30,16 @@ pub record Sinks : Type 0 where
   pub errs : Option Documents
   pub errs_faults : ℕ
 
+-- what outputs and a sink for messages tell
+abbrev pub sinks_of : {A B : Type 0} → SinkGhosts A → SinkGhosts B → A → B → Sinks
+sinks_of of_outs of_errs outs errs = record {
+  outs = of_outs.documents outs;
+  outs_faults = of_outs.faults outs;
+  is_open = of_outs.is_ready outs;
+  errs = of_errs.documents errs;
+  errs_faults = of_errs.faults errs;
+}
+
 -- the inputs: the files that they tell, whether one is opened, how many openings there were, and their count
 -- of faults
 pub record Source : Type 0 where
@@ -35,6 +47,15 @@ pub record Source : Type 0 where
   pub is_opened : Bool
   pub openings : ℕ
   pub faults : ℕ
+
+-- what inputs tell
+abbrev pub source_of : {A : Type 0} → InputGhosts A → A → Source
+source_of of_inputs inputs = record {
+  files = of_inputs.files inputs;
+  is_opened = of_inputs.is_opened inputs;
+  openings = of_inputs.openings inputs;
+  faults = of_inputs.faults inputs;
+}
 
 -- the run goes on after each of the items
 abbrev pub GoesOn : List Item → Type 0

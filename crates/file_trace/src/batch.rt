@@ -8,7 +8,7 @@ ghost use Rattle.file_trace.specs.Held.Held.{Message, Page};
 ghost use Rattle.file_trace.specs.Items.{Item};
 ghost use Rattle.file_trace.specs.Items.Item.{Doc};
 ghost use Rattle.file_trace.specs.Messages.{trailing_line};
-ghost use Rattle.file_trace.specs.Outcome.{AreCarriedOut, HasEnded, IsUnwritten};
+ghost use Rattle.file_trace.specs.Outcome.{AreCarriedOut, HasEnded, IsUnwritten, sinks_of};
 ghost use Rattle.file_trace.specs.Progress.{OutputCount};
 ghost use Rattle.file_trace.specs.declared.status.Status.{Status};
 
@@ -154,37 +154,11 @@ impl Batch {
         // says.
         ensures done { OnOk result ((items : List Item) → AreHeld settings self.old items
             → AreCarriedOut items []
-            (record {
-              outs = O.documents outs.old;
-              outs_faults = O.faults outs.old;
-              is_open = O.is_ready outs.old;
-              errs = E.documents errs.old;
-              errs_faults = E.faults errs.old;
-            })
-            (record {
-              outs = O.documents outs.new;
-              outs_faults = O.faults outs.new;
-              is_open = O.is_ready outs.new;
-              errs = E.documents errs.new;
-              errs_faults = E.faults errs.new;
-            })) }
+            (sinks_of O.Sink E.Sink outs.old errs.old) (sinks_of O.Sink E.Sink outs.new errs.new)) }
         ensures emptied { OnOk result (self.new ≡ []) }
         ensures ends { IfErr result (λ status. (items : List Item) → AreHeld settings self.old items
             → HasEnded status items
-            (record {
-              outs = O.documents outs.old;
-              outs_faults = O.faults outs.old;
-              is_open = O.is_ready outs.old;
-              errs = E.documents errs.old;
-              errs_faults = E.faults errs.old;
-            })
-            (record {
-              outs = O.documents outs.new;
-              outs_faults = O.faults outs.new;
-              is_open = O.is_ready outs.new;
-              errs = E.documents errs.new;
-              errs_faults = E.faults errs.new;
-            })) }
+            (sinks_of O.Sink E.Sink outs.old errs.old) (sinks_of O.Sink E.Sink outs.new errs.new)) }
         ensures status { IfErr result
             (λ status. (status ≡ Status.Unwritten) ⊎ (status ≡ Status.OutOfMemory)) }
 
@@ -228,35 +202,9 @@ fn write_entries<O: Outputs, E: Sink>(
     requires closed { O.is_ready outs.old ≡ false }
     requires ready { E.is_ready errs.old ≡ true }
     ensures done { OnOk result (AreCarriedOut (items_by entries.now texts.now) []
-        (record {
-          outs = O.documents outs.old;
-          outs_faults = O.faults outs.old;
-          is_open = O.is_ready outs.old;
-          errs = E.documents errs.old;
-          errs_faults = E.faults errs.old;
-        })
-        (record {
-          outs = O.documents outs.new;
-          outs_faults = O.faults outs.new;
-          is_open = O.is_ready outs.new;
-          errs = E.documents errs.new;
-          errs_faults = E.faults errs.new;
-        })) }
+        (sinks_of O.Sink E.Sink outs.old errs.old) (sinks_of O.Sink E.Sink outs.new errs.new)) }
     ensures ends { OnErr result (IsUnwritten (items_by entries.now texts.now)
-        (record {
-          outs = O.documents outs.old;
-          outs_faults = O.faults outs.old;
-          is_open = O.is_ready outs.old;
-          errs = E.documents errs.old;
-          errs_faults = E.faults errs.old;
-        })
-        (record {
-          outs = O.documents outs.new;
-          outs_faults = O.faults outs.new;
-          is_open = O.is_ready outs.new;
-          errs = E.documents errs.new;
-          errs_faults = E.faults errs.new;
-        })) }
+        (sinks_of O.Sink E.Sink outs.old errs.old) (sinks_of O.Sink E.Sink outs.new errs.new)) }
     ensures rose { OnErr result (Rose (O.faults outs.old) (O.faults outs.new)) }
     ensures steady { OnOk result (O.faults outs.new ≡ O.faults outs.old) }
     ensures closed { OnOk result (O.is_ready outs.new ≡ false) }
@@ -286,35 +234,9 @@ fn write_page<O: Outputs, E: Sink>(
     requires closed { O.is_ready outs.old ≡ false }
     requires ready { E.is_ready errs.old ≡ true }
     ensures done { OnOk result (AreCarriedOut (Doc name.now text.now ∷ []) []
-        (record {
-          outs = O.documents outs.old;
-          outs_faults = O.faults outs.old;
-          is_open = O.is_ready outs.old;
-          errs = E.documents errs.old;
-          errs_faults = E.faults errs.old;
-        })
-        (record {
-          outs = O.documents outs.new;
-          outs_faults = O.faults outs.new;
-          is_open = O.is_ready outs.new;
-          errs = E.documents errs.new;
-          errs_faults = E.faults errs.new;
-        })) }
+        (sinks_of O.Sink E.Sink outs.old errs.old) (sinks_of O.Sink E.Sink outs.new errs.new)) }
     ensures ends { OnErr result (IsUnwritten (Doc name.now text.now ∷ [])
-        (record {
-          outs = O.documents outs.old;
-          outs_faults = O.faults outs.old;
-          is_open = O.is_ready outs.old;
-          errs = E.documents errs.old;
-          errs_faults = E.faults errs.old;
-        })
-        (record {
-          outs = O.documents outs.new;
-          outs_faults = O.faults outs.new;
-          is_open = O.is_ready outs.new;
-          errs = E.documents errs.new;
-          errs_faults = E.faults errs.new;
-        })) }
+        (sinks_of O.Sink E.Sink outs.old errs.old) (sinks_of O.Sink E.Sink outs.new errs.new)) }
     ensures rose { OnErr result (Rose (O.faults outs.old) (O.faults outs.new)) }
     ensures steady { OnOk result (O.faults outs.new ≡ O.faults outs.old) }
     ensures closed { OnOk result (O.is_ready outs.new ≡ false) }

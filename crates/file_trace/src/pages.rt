@@ -10,7 +10,7 @@ ghost use Rattle.file_trace.specs.Items.{Item, told_contents};
 ghost use Rattle.file_trace.specs.Items.Item.{Doc};
 ghost use Rattle.file_trace.specs.Names.{document_name};
 ghost use Rattle.file_trace.specs.Offered.{IsOffered};
-ghost use Rattle.file_trace.specs.Outcome.{HasEnded, opened_name};
+ghost use Rattle.file_trace.specs.Outcome.{HasEnded, opened_name, sinks_of};
 ghost use Rattle.file_trace.specs.Progress.{EndsBy, EndsReading, Halts, InputCount, OutputCount, ReadsPage, Traces, ahead, end_of_fault, status_of};
 ghost use Rattle.pt_base.specs.declared.settings.Settings.{Settings};
 ghost use Rattle.file_trace.specs.declared.pages.PagesEnd.{PagesEnd};
@@ -99,36 +99,11 @@ pub(crate) fn trace_pages<R: Threads + Sync, I: Inputs, O: Outputs, E: Sink, G: 
     requires ready { E.is_ready errs.old ≡ true }
     ensures traced { IfOk result (λ traced. Traces (2 * workers) settings base.now made.now
         (I.files inputs.old) (I.files inputs.new) batch.old batch.new
-        (record {
-          outs = O.documents outs.old;
-          outs_faults = O.faults outs.old;
-          is_open = O.is_ready outs.old;
-          errs = E.documents errs.old;
-          errs_faults = E.faults errs.old;
-        })
-        (record {
-          outs = O.documents outs.new;
-          outs_faults = O.faults outs.new;
-          is_open = O.is_ready outs.new;
-          errs = E.documents errs.new;
-          errs_faults = E.faults errs.new;
-        }) traced.pages traced.end) }
+        (sinks_of O.Sink E.Sink outs.old errs.old)
+        (sinks_of O.Sink E.Sink outs.new errs.new) traced.pages traced.end) }
     ensures ends { IfErr result (λ status. Halts status (2 * workers) settings base.now made.now
         (I.files inputs.old) (I.files inputs.new) batch.old
-        (record {
-          outs = O.documents outs.old;
-          outs_faults = O.faults outs.old;
-          is_open = O.is_ready outs.old;
-          errs = E.documents errs.old;
-          errs_faults = E.faults errs.old;
-        })
-        (record {
-          outs = O.documents outs.new;
-          outs_faults = O.faults outs.new;
-          is_open = O.is_ready outs.new;
-          errs = E.documents errs.new;
-          errs_faults = E.faults errs.new;
-        })) }
+        (sinks_of O.Sink E.Sink outs.old errs.old) (sinks_of O.Sink E.Sink outs.new errs.new)) }
     ensures status { IfErr result
         (λ status. (status ≡ Status.Unwritten) ⊎ (status ≡ Status.OutOfMemory)) }
     ensures still_not_full { OnOk result (pages_held batch.new < 2 * workers) }
@@ -195,37 +170,11 @@ fn hold_page<R: Threads + Sync, O: Outputs, E: Sink, G: Gate + Sync>(
         → (text : List ℕ) → IsDocument page settings text
         → Holds (2 * workers) settings (first ++ Doc (document_name base.now k) text ∷ [])
         batch.new
-        (record {
-          outs = O.documents outs.old;
-          outs_faults = O.faults outs.old;
-          is_open = O.is_ready outs.old;
-          errs = E.documents errs.old;
-          errs_faults = E.faults errs.old;
-        })
-        (record {
-          outs = O.documents outs.new;
-          outs_faults = O.faults outs.new;
-          is_open = O.is_ready outs.new;
-          errs = E.documents errs.new;
-          errs_faults = E.faults errs.new;
-        })) }
+        (sinks_of O.Sink E.Sink outs.old errs.old) (sinks_of O.Sink E.Sink outs.new errs.new)) }
     ensures ends { IfErr result (λ status. (first : List Item) → AreHeld settings batch.old first
         → (text : List ℕ) → IsDocument page settings text
         → HasEnded status (first ++ Doc (document_name base.now k) text ∷ [])
-        (record {
-          outs = O.documents outs.old;
-          outs_faults = O.faults outs.old;
-          is_open = O.is_ready outs.old;
-          errs = E.documents errs.old;
-          errs_faults = E.faults errs.old;
-        })
-        (record {
-          outs = O.documents outs.new;
-          outs_faults = O.faults outs.new;
-          is_open = O.is_ready outs.new;
-          errs = E.documents errs.new;
-          errs_faults = E.faults errs.new;
-        })) }
+        (sinks_of O.Sink E.Sink outs.old errs.old) (sinks_of O.Sink E.Sink outs.new errs.new)) }
     ensures status { IfErr result
         (λ status. (status ≡ Status.Unwritten) ⊎ (status ≡ Status.OutOfMemory)) }
     ensures full { IfErr result (λ status. status ≡ Status.Unwritten

@@ -2,7 +2,7 @@ use Rattle.std.proofs.Common.{◌≡◌, ◌<◌, ◌+◌, ◌*◌, min, take, f
 use Rattle.pt_base.specs.Counts.{last_count}
 use Rattle.file_trace.specs.Held.{pages_held}
 use Rattle.file_trace.specs.Items.{told_contents}
-use Rattle.file_trace.specs.Outcome.{OpensFirst, Sinks, Source}
+use Rattle.file_trace.specs.Outcome.{OpensFirst, sinks_of, source_of}
 use Rattle.file_trace.proofs.Running.{AreDone}
 use Rattle.file_trace.proofs.files.trace_files.Given as goal
 
@@ -12,15 +12,12 @@ invariant-loop-name g l =
     let inputs = g.I.Inputs in
     let outs = g.O.Sink in
     let errs = g.E.Sink in
-    let source : Source = record { files = inputs.files l.fn.inputs; is_opened = inputs.is_opened l.fn.inputs; openings = inputs.openings l.fn.inputs; faults = inputs.faults l.fn.inputs } in
-    let source_now : Source = record { files = inputs.files l.inputs; is_opened = inputs.is_opened l.inputs; openings = inputs.openings l.inputs; faults = inputs.faults l.inputs } in
-    let old : Sinks = record { outs = outs.documents l.fn.outs; outs_faults = outs.faults l.fn.outs; is_open = outs.is_ready l.fn.outs; errs = errs.documents l.fn.errs; errs_faults = errs.faults l.fn.errs } in
-    let new : Sinks = record { outs = outs.documents l.outs; outs_faults = outs.faults l.outs; is_open = outs.is_ready l.outs; errs = errs.documents l.errs; errs_faults = errs.faults l.errs } in
     record {
-      done : AreDone (2 * l.workers) (told_contents (inputs.files l.fn.inputs)) l.settings (option_map (λ s. s.now) l.output) (take l.name-index l.names) l.made l.batch old new;
+      done : AreDone (2 * l.workers) (told_contents (inputs.files l.fn.inputs)) l.settings (option_map (λ s. s.now) l.output) (take l.name-index l.names) l.made l.batch
+          (sinks_of outs errs l.fn.outs l.fn.errs) (sinks_of outs errs l.outs l.errs);
       not_full : pages_held l.batch < 2 * l.workers;
       openings : inputs.openings l.inputs ≡ min (inputs.openings l.fn.inputs + l.name-index) last_count;
-      opened : OpensFirst l.names source source_now;
+      opened : OpensFirst l.names (source_of inputs l.fn.inputs) (source_of inputs l.inputs);
       contents : told_contents (inputs.files l.inputs) ≡ told_contents (inputs.files l.fn.inputs);
       input : inputs.faults l.inputs ≡ inputs.faults l.fn.inputs;
       output : outs.faults l.outs ≡ outs.faults l.fn.outs;
