@@ -10,8 +10,8 @@ use Rattle.file_trace.specs.Held.{AreHeld, Held}
 use Rattle.file_trace.specs.Messages.{not_opened, out_of_memory, page_line, read_fault}
 use Rattle.file_trace.specs.Names.{base_name}
 use Rattle.file_trace.specs.Items.{AreItems, IsAbsent, Item, Nothing, most_pages, told_contents}
-use Rattle.file_trace.specs.Outcome.{AreCarriedOut, HasEnded, HoldsBytes, IsOutcomeBehind, OpensUpTo, IsUnopened, IsUnread, Sinks, Source}
-use Rattle.file_trace.specs.Progress.{EndsWithFile, Halts, InputCount, Traces, TracesFile, docs, end_message, opened_name, status_of}
+use Rattle.file_trace.specs.Outcome.{AreCarriedOut, HasEnded, HoldsBytes, IsOutcomeBehind, OpensUpTo, IsUnopened, IsUnread, Sinks, Source, opened_name}
+use Rattle.file_trace.specs.Progress.{EndsWithFile, Halts, InputCount, Traces, TracesFile, docs, end_message, status_of}
 use Rattle.file_trace.specs.declared.pages.PagesEnd.{PagesEnd}
 use Rattle.file_trace.specs.declared.pages.PagesEnd.TheVariants as why
 use Rattle.file_trace.specs.declared.status.Status.{Status}

@@ -13,5 +13,6 @@ pub mod OneItems
 pub mod Paging
 pub mod Passing
 pub mod Reading
+pub mod Running
 pub mod Saying
 pub mod Tracing

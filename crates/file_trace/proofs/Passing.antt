@@ -9,8 +9,8 @@ use Rattle.file_trace.specs.Names.{base_name}
 use Rattle.file_trace.specs.Items.{IsAbsent, Item, doc_count, told_contents}
 use Rattle.file_trace.specs.Items.Item.{Missing, Stop}
 use Rattle.file_trace.specs.OnePass.{IfReadsTo, IsOnePass}
-use Rattle.file_trace.specs.Outcome.{BeginsWith, IsUnwritten, Sinks, Source}
-use Rattle.file_trace.specs.Progress.{EndsWithFile, Halts, IsInPart, Traces, docs, end_message, opened_name, status_of}
+use Rattle.file_trace.specs.Outcome.{BeginsWith, IsUnwritten, Sinks, Source, opened_name}
+use Rattle.file_trace.specs.Progress.{EndsWithFile, Halts, IsInPart, Traces, docs, end_message, status_of}
 use Rattle.file_trace.specs.declared.pages.PagesEnd.{PagesEnd}
 use Rattle.file_trace.specs.declared.pages.PagesEnd.TheVariants as why
 use Rattle.file_trace.specs.declared.status.Status.TheVariants as status

@@ -25,7 +25,8 @@ use Rattle.bitmap_input.proofs.Files.{file_pages_some}
 use Rattle.bitmap_input.proofs.Sided.{pages_shown}
 use Rattle.pt_base.specs.declared.settings.Settings.{Settings}
 use Rattle.file_trace.specs.Items.{told_contents}
-use Rattle.file_trace.specs.Progress.{EndsReading, ReadsPage, Settles, ahead, end_of_fault, opened_name}
+use Rattle.file_trace.specs.Outcome.{opened_name}
+use Rattle.file_trace.specs.Progress.{EndsReading, ReadsPage, Settles, ahead, end_of_fault}
 
 mapped : (o : Option (List ℕ)) (f : List ℕ → List ℕ) (P : List ℕ → Type 0) → IfSome o (λ rest. P (f rest)) → IfSome (option_map f o) P
 mapped None f P h = tt

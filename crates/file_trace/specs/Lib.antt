@@ -48,7 +48,9 @@ pub mod Made
 pub mod Status
 -- What a run has done, against the items that it was to write.
 --   Sinks: the outputs and the sink for messages
+--   sinks_of: what outputs and a sink for messages tell
 --   Source: the inputs
+--   source_of: what inputs tell
 --   GoesOn: the run goes on after each of the items
 --   with_items: the documents of the items are added, whole and in order
 --   notes: the messages of the notes, in order
@@ -60,6 +62,8 @@ pub mod Status
 --   IsOutOfMemory: some first items are carried out, and then memory ran out
 --   HasEnded: the items are carried out as far as the status says
 --   OpensUpTo: the file of this name is the last one that was asked for
+--   opened_name: the name of the opened file, where that is told and a file is opened
+--   OpensFirst: nothing was opened; or the first of these files were
 --   IsUnopened: a file can't be opened
 --   BeginsWith: the first pages of the bytes are these, and `rest` is what follows them
 --   BeginsSettled: the first pages of the bytes are these, none of them by the end of the bytes
@@ -91,7 +95,6 @@ pub mod Entries
 --   AreTraced: these are the texts of these pages, in order
 --   docs: the items of the documents of these texts
 --   ahead: the bytes that the reader has still to read pages from, where they are told
---   opened_name: the name of the opened file, where that is told and a file is opened
 --   Settles: this page stands there, not by the end of the bytes
 --   ReadsPage: the next page of what is ahead was read
 --   EndsReading: no page was read for this reason

@@ -1,11 +1,13 @@
 -- What a run has done, against the items that it was to write.
-use Rattle.std.specs.Prelude.{◌≡◌, ℕ, ◌+◌, ◌≤◌, ◌⊎◌, Bool, true, false, List, [], ◌∷◌, ◌++◌, length, min, take, drop, Option, None, Some, IfSome}
+use Rattle.std.specs.Prelude.{◌≡◌, ℕ, ◌+◌, ◌≤◌, ◌⊎◌, Bool, true, false, List, [], ◌∷◌, ◌++◌, length, min, take, drop, Option, None, Some, IfSome, option_map}
 use Rattle.std.specs.List.{concat}
 use Rattle.std.specs.FinMap.{get}
 use Rattle.pt_base.specs.Counts.{Rose, last_count}
 use Rattle.pt_base.specs.Documents.{Documents, with_bytes, with_whole, IsCutOff}
 use Rattle.pt_base.specs.Files.{Contents, Files}
+use Rattle.pt_base.specs.declared.inputs.Inputs.{Ghosts as InputGhosts}
 use Rattle.pt_base.specs.declared.settings.Settings.{Settings}
+use Rattle.pt_base.specs.declared.sink.Sink.{Ghosts as SinkGhosts}
 use Rattle.bitmap_input.specs.Cut.{is_by_end}
 use Rattle.bitmap_input.specs.Cut.Ending.{End}
 use Rattle.bitmap_input.specs.Raw.{Raw}
@@ -28,6 +30,16 @@ pub record Sinks : Type 0 where
   pub errs : Option Documents
   pub errs_faults : ℕ
 
+-- what outputs and a sink for messages tell
+abbrev pub sinks_of : {A B : Type 0} → SinkGhosts A → SinkGhosts B → A → B → Sinks
+sinks_of of_outs of_errs outs errs = record {
+  outs = of_outs.documents outs;
+  outs_faults = of_outs.faults outs;
+  is_open = of_outs.is_ready outs;
+  errs = of_errs.documents errs;
+  errs_faults = of_errs.faults errs;
+}
+
 -- the inputs: the files that they tell, whether one is opened, how many openings there were, and their count
 -- of faults
 pub record Source : Type 0 where
@@ -35,6 +47,15 @@ pub record Source : Type 0 where
   pub is_opened : Bool
   pub openings : ℕ
   pub faults : ℕ
+
+-- what inputs tell
+abbrev pub source_of : {A : Type 0} → InputGhosts A → A → Source
+source_of of_inputs inputs = record {
+  files = of_inputs.files inputs;
+  is_opened = of_inputs.is_opened inputs;
+  openings = of_inputs.openings inputs;
+  faults = of_inputs.faults inputs;
+}
 
 -- the run goes on after each of the items
 abbrev pub GoesOn : List Item → Type 0
@@ -122,6 +143,19 @@ pub record OpensUpTo (names : List (List ℕ)) (name : List ℕ) (front : List (
   pub back : List (List ℕ)
   pub listed : names ≡ front ++ name ∷ back
   pub grew : openings_now ≡ min (openings + (length front + 1)) last_count
+
+-- the name of the opened file, where that is told and a file is opened
+abbrev pub opened_name : Option Files → Option (List ℕ)
+opened_name None = None
+opened_name (Some files) = option_map (λ file. file.name) files.opened
+
+-- nothing was opened; or the first of these files were, each once and in order, and the opened file is the
+-- last one of them
+abbrev pub OpensFirst : List (List ℕ) → Source → Source → Type 0
+OpensFirst names source source_now =
+    ((source_now.openings ≡ source.openings) × (source_now.files ≡ source.files))
+    ⊎ ((name : List ℕ) × (front : List (List ℕ)) × OpensUpTo names name front source.openings source_now.openings
+    × IfSome (opened_name source_now.files) (λ opened. opened ≡ name))
 
 -- a file can't be opened: it isn't there, or a device failed. The first items, and all items of the files in
 -- front of it, are carried out, and its message is the last one.

@@ -1,5 +1,5 @@
 -- How far the tracing of a file has come: its first pages are traced.
-use Rattle.std.specs.Prelude.{◌≡◌, ◌≢◌, ◌⊎◌, ℕ, ◌+◌, ◌*◌, ◌<◌, ◌≤◌, Bool, false, List, [], ◌∷◌, ◌++◌, length, drop, Option, None, Some, IfSome, option_map}
+use Rattle.std.specs.Prelude.{◌≡◌, ◌≢◌, ◌⊎◌, ℕ, ◌+◌, ◌*◌, ◌<◌, ◌≤◌, Bool, false, List, [], ◌∷◌, ◌++◌, length, drop, Option, Some, IfSome, option_map}
 use Rattle.pt_base.specs.Counts.{Rose}
 use Rattle.pt_base.specs.Files.{Contents, Files, unread}
 use Rattle.bit_image.specs.Page.{Page as Pixels}
@@ -43,11 +43,6 @@ docs base made (text ∷ texts) = Doc (next_name base made) text ∷ docs base (
 -- the bytes that the reader has still to read pages from, where they are told
 abbrev pub ahead : Reader → Option Files → Option (List ℕ)
 ahead reader files = option_map (reader_ahead reader) (unread files)
-
--- the name of the opened file, where that is told and a file is opened
-abbrev pub opened_name : Option Files → Option (List ℕ)
-opened_name None = None
-opened_name (Some files) = option_map (λ file. file.name) files.opened
 
 -- this page stands there, not by the end of the bytes, and the bytes behind it are the `left` ones
 pub record Settles (later : Bool) (bytes : List ℕ) (raw : Raw) (used : ℕ) (left : List ℕ) : Type 0 where

@@ -8,7 +8,7 @@ ghost use Rattle.file_trace.specs.Held.Held.{Message, Page};
 ghost use Rattle.file_trace.specs.Items.{Item};
 ghost use Rattle.file_trace.specs.Items.Item.{Doc};
 ghost use Rattle.file_trace.specs.Messages.{trailing_line};
-ghost use Rattle.file_trace.specs.Outcome.{AreCarriedOut, HasEnded, IsUnwritten};
+ghost use Rattle.file_trace.specs.Outcome.{AreCarriedOut, HasEnded, IsUnwritten, sinks_of};
 ghost use Rattle.file_trace.specs.Progress.{OutputCount};
 ghost use Rattle.file_trace.specs.declared.status.Status.{Status};
 
@@ -39,7 +39,7 @@ enum Entry {
 /// Pages that were read and not traced yet, and the messages between their documents. Contracts see
 /// what is held, in order.
 #[derive(Debug, Drop)]
-pub struct Batch {
+pub(crate) struct Batch {
     entries: Vec<Entry>,
     pages: Vec<Bitmap>,
 }
@@ -88,7 +88,7 @@ impl PageJob for DocumentJob {
 
 impl Batch {
     /// Nothing is held.
-    pub fn new(alloc: Global) -> Batch
+    pub(crate) fn new(alloc: Global) -> Batch
         ensures { result ≡ [] }
     {
         Batch {
@@ -98,14 +98,14 @@ impl Batch {
     }
 
     /// How many pages are held.
-    pub fn count(&self) -> usize
+    pub(crate) fn count(&self) -> usize
         ensures { result ≡ pages_held self.now }
     {
         self.pages.len()
     }
 
     /// Holds a page, whose document has this name.
-    pub fn push(&mut self, name: String, page: Bitmap) -> Result<(), NoMemory>
+    pub(crate) fn push(&mut self, name: String, page: Bitmap) -> Result<(), NoMemory>
         ensures held { OnOk result (self.new ≡ self.old ++ Page (string_bytes name) page ∷ []) }
         ensures same { OnErr result (self.new ≡ self.old) }
     {
@@ -121,7 +121,7 @@ impl Batch {
 
     /// Holds the message that bytes which begin no page follow so many pages of the file of this
     /// name.
-    pub fn push_trailing(&mut self, name: String, pages: u32) -> Result<(), NoMemory>
+    pub(crate) fn push_trailing(&mut self, name: String, pages: u32) -> Result<(), NoMemory>
         ensures held { OnOk result (self.new
             ≡ self.old ++ Message (trailing_line (string_bytes name) pages) ∷ []) }
         ensures same { OnErr result (self.new ≡ self.old) }
@@ -133,7 +133,7 @@ impl Batch {
     /// Traces all pages that are held by so many workers, and gives them back; then writes their
     /// documents, and says the messages between them, in order. An `Err` says how the run ends:
     /// that is said.
-    pub fn carry_out<R: Threads + Sync, O: Outputs, E: Sink, G: Gate + Sync>(
+    pub(crate) fn carry_out<R: Threads + Sync, O: Outputs, E: Sink, G: Gate + Sync>(
         &mut self,
         rt: &R,
         alloc: Global,
@@ -154,39 +154,18 @@ impl Batch {
         // says.
         ensures done { OnOk result ((items : List Item) → AreHeld settings self.old items
             → AreCarriedOut items []
-            (record {
-              outs = O.documents outs.old;
-              outs_faults = O.faults outs.old;
-              is_open = O.is_ready outs.old;
-              errs = E.documents errs.old;
-              errs_faults = E.faults errs.old;
-            })
-            (record {
-              outs = O.documents outs.new;
-              outs_faults = O.faults outs.new;
-              is_open = O.is_ready outs.new;
-              errs = E.documents errs.new;
-              errs_faults = E.faults errs.new;
-            })) }
+            (sinks_of O.Sink E.Sink outs.old errs.old) (sinks_of O.Sink E.Sink outs.new errs.new)) }
         ensures emptied { OnOk result (self.new ≡ []) }
         ensures ends { IfErr result (λ status. (items : List Item) → AreHeld settings self.old items
             → HasEnded status items
-            (record {
-              outs = O.documents outs.old;
-              outs_faults = O.faults outs.old;
-              is_open = O.is_ready outs.old;
-              errs = E.documents errs.old;
-              errs_faults = E.faults errs.old;
-            })
-            (record {
-              outs = O.documents outs.new;
-              outs_faults = O.faults outs.new;
-              is_open = O.is_ready outs.new;
-              errs = E.documents errs.new;
-              errs_faults = E.faults errs.new;
-            })) }
+            (sinks_of O.Sink E.Sink outs.old errs.old) (sinks_of O.Sink E.Sink outs.new errs.new)) }
         ensures status { IfErr result
             (λ status. (status ≡ Status.Unwritten) ⊎ (status ≡ Status.OutOfMemory)) }
+
+        // At want of memory all is still held, and after a fault of the outputs nothing is.
+        ensures same { IfErr result (λ status. status ≡ Status.OutOfMemory → self.new ≡ self.old) }
+        ensures given_up { IfErr result (λ status. status ≡ Status.Unwritten → self.new ≡ []) }
+
         ensures output { IfErr result
             (λ status. OutputCount status (O.faults outs.old) (O.faults outs.new)
             (O.is_ready outs.new)) }
@@ -223,35 +202,9 @@ fn write_entries<O: Outputs, E: Sink>(
     requires closed { O.is_ready outs.old ≡ false }
     requires ready { E.is_ready errs.old ≡ true }
     ensures done { OnOk result (AreCarriedOut (items_by entries.now texts.now) []
-        (record {
-          outs = O.documents outs.old;
-          outs_faults = O.faults outs.old;
-          is_open = O.is_ready outs.old;
-          errs = E.documents errs.old;
-          errs_faults = E.faults errs.old;
-        })
-        (record {
-          outs = O.documents outs.new;
-          outs_faults = O.faults outs.new;
-          is_open = O.is_ready outs.new;
-          errs = E.documents errs.new;
-          errs_faults = E.faults errs.new;
-        })) }
+        (sinks_of O.Sink E.Sink outs.old errs.old) (sinks_of O.Sink E.Sink outs.new errs.new)) }
     ensures ends { OnErr result (IsUnwritten (items_by entries.now texts.now)
-        (record {
-          outs = O.documents outs.old;
-          outs_faults = O.faults outs.old;
-          is_open = O.is_ready outs.old;
-          errs = E.documents errs.old;
-          errs_faults = E.faults errs.old;
-        })
-        (record {
-          outs = O.documents outs.new;
-          outs_faults = O.faults outs.new;
-          is_open = O.is_ready outs.new;
-          errs = E.documents errs.new;
-          errs_faults = E.faults errs.new;
-        })) }
+        (sinks_of O.Sink E.Sink outs.old errs.old) (sinks_of O.Sink E.Sink outs.new errs.new)) }
     ensures rose { OnErr result (Rose (O.faults outs.old) (O.faults outs.new)) }
     ensures steady { OnOk result (O.faults outs.new ≡ O.faults outs.old) }
     ensures closed { OnOk result (O.is_ready outs.new ≡ false) }
@@ -281,35 +234,9 @@ fn write_page<O: Outputs, E: Sink>(
     requires closed { O.is_ready outs.old ≡ false }
     requires ready { E.is_ready errs.old ≡ true }
     ensures done { OnOk result (AreCarriedOut (Doc name.now text.now ∷ []) []
-        (record {
-          outs = O.documents outs.old;
-          outs_faults = O.faults outs.old;
-          is_open = O.is_ready outs.old;
-          errs = E.documents errs.old;
-          errs_faults = E.faults errs.old;
-        })
-        (record {
-          outs = O.documents outs.new;
-          outs_faults = O.faults outs.new;
-          is_open = O.is_ready outs.new;
-          errs = E.documents errs.new;
-          errs_faults = E.faults errs.new;
-        })) }
+        (sinks_of O.Sink E.Sink outs.old errs.old) (sinks_of O.Sink E.Sink outs.new errs.new)) }
     ensures ends { OnErr result (IsUnwritten (Doc name.now text.now ∷ [])
-        (record {
-          outs = O.documents outs.old;
-          outs_faults = O.faults outs.old;
-          is_open = O.is_ready outs.old;
-          errs = E.documents errs.old;
-          errs_faults = E.faults errs.old;
-        })
-        (record {
-          outs = O.documents outs.new;
-          outs_faults = O.faults outs.new;
-          is_open = O.is_ready outs.new;
-          errs = E.documents errs.new;
-          errs_faults = E.faults errs.new;
-        })) }
+        (sinks_of O.Sink E.Sink outs.old errs.old) (sinks_of O.Sink E.Sink outs.new errs.new)) }
     ensures rose { OnErr result (Rose (O.faults outs.old) (O.faults outs.new)) }
     ensures steady { OnOk result (O.faults outs.new ≡ O.faults outs.old) }
     ensures closed { OnOk result (O.is_ready outs.new ≡ false) }

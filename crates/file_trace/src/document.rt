@@ -10,7 +10,11 @@ use pt_base::write::write_whole;
 /// Begins a document, writes its text and ends it.
 ///
 /// After a fault nothing more is written: the document is cut off there.
-pub fn write_document<O: Outputs>(outs: &mut O, name: &str, text: &[u8]) -> Result<(), SinkFault>
+pub(crate) fn write_document<O: Outputs>(
+    outs: &mut O,
+    name: &str,
+    text: &[u8],
+) -> Result<(), SinkFault>
     requires { O.is_ready outs.old ≡ false }
     ensures whole { OnOk result (O.documents outs.new
         ≡ with_whole (O.documents outs.old) name.now text.now) }

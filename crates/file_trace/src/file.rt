@@ -1,5 +1,5 @@
 //! A whole file: opened, its pages read and traced by batches, and how it ended said.
-ghost use Rattle.std.specs.Prelude.{◌≡◌, ◌+◌, ◌*◌, ◌++◌, ◌<◌, ◌≤◌, ◌∷◌, ◌⊎◌, List, ℕ, [], false, true, option_map, IfErr, OnOk, IfSome};
+ghost use Rattle.std.specs.Prelude.{◌≡◌, ◌+◌, ◌*◌, ◌++◌, ◌<◌, ◌≤◌, ◌∷◌, ◌⊎◌, List, ℕ, [], false, true, option_map, IfErr, OnErr, OnOk, IfSome};
 ghost use Rattle.pt_base.specs.Counts.{next_count};
 ghost use Rattle.pt_base.specs.Documents.{IsSaid};
 ghost use Rattle.page_trace.specs.Document.{CanWrite};
@@ -10,8 +10,8 @@ ghost use Rattle.file_trace.specs.Messages.{out_of_memory, trailing_line};
 ghost use Rattle.file_trace.specs.Names.{base_name};
 ghost use Rattle.file_trace.specs.Offered.{IsOffered};
 ghost use Rattle.file_trace.specs.OnePass.{IsOnePass};
-ghost use Rattle.file_trace.specs.Outcome.{IsOutcomeBehind};
-ghost use Rattle.file_trace.specs.Progress.{EndsWithFile, InputCount, OutputCount, TracesFile, end_notes, opened_name, status_of};
+ghost use Rattle.file_trace.specs.Outcome.{IsOutcomeBehind, opened_name, sinks_of, source_of};
+ghost use Rattle.file_trace.specs.Progress.{EndsWithFile, InputCount, OutputCount, TracesFile, end_notes, status_of};
 ghost use Rattle.file_trace.specs.declared.status.Status.{Status};
 
 use crate::batch::Batch;
@@ -30,7 +30,7 @@ use std::thread::Threads;
 
 /// Opens a file and reads its pages into the batch, which is carried out where it is full. An `Err` says how
 /// the run ends in this file: whole pages in front of that are traced and written first.
-pub fn trace_file<R: Threads + Sync, I: Inputs, O: Outputs, E: Sink, G: Gate + Sync>(
+pub(crate) fn trace_file<R: Threads + Sync, I: Inputs, O: Outputs, E: Sink, G: Gate + Sync>(
     rt: &R,
     alloc: Global,
     settings: Settings,
@@ -56,84 +56,24 @@ pub fn trace_file<R: Threads + Sync, I: Inputs, O: Outputs, E: Sink, G: Gate + S
     ensures traced { OnOk result
         (TracesFile (2 * workers) (told_contents (I.files inputs.old)) settings (option_map (λ s. s.now) output.entry) name.now
         made.old made.new batch.old batch.new
-        (record {
-          outs = O.documents outs.old;
-          outs_faults = O.faults outs.old;
-          is_open = O.is_ready outs.old;
-          errs = E.documents errs.old;
-          errs_faults = E.faults errs.old;
-        })
-        (record {
-          outs = O.documents outs.new;
-          outs_faults = O.faults outs.new;
-          is_open = O.is_ready outs.new;
-          errs = E.documents errs.new;
-          errs_faults = E.faults errs.new;
-        })) }
+        (sinks_of O.Sink E.Sink outs.old errs.old) (sinks_of O.Sink E.Sink outs.new errs.new)) }
 
     // Whatever files come behind this one, the run ends so, behind the items of what was held.
     ensures ends { IfErr result (λ status. (names : List (List ℕ)) → (first : List Item) → AreHeld settings batch.old first
         → IsOutcomeBehind status first (told_contents (I.files inputs.old)) settings
         (option_map (λ s. s.now) output.entry) (name.now ∷ names) made.old
-        (record {
-          files = I.files inputs.old;
-          is_opened = I.is_opened inputs.old;
-          openings = I.openings inputs.old;
-          faults = I.faults inputs.old;
-        })
-        (record {
-          files = I.files inputs.new;
-          is_opened = I.is_opened inputs.new;
-          openings = I.openings inputs.new;
-          faults = I.faults inputs.new;
-        })
-        (record {
-          outs = O.documents outs.old;
-          outs_faults = O.faults outs.old;
-          is_open = O.is_ready outs.old;
-          errs = E.documents errs.old;
-          errs_faults = E.faults errs.old;
-        })
-        (record {
-          outs = O.documents outs.new;
-          outs_faults = O.faults outs.new;
-          is_open = O.is_ready outs.new;
-          errs = E.documents errs.new;
-          errs_faults = E.faults errs.new;
-        })) }
+        (source_of I.Inputs inputs.old) (source_of I.Inputs inputs.new)
+        (sinks_of O.Sink E.Sink outs.old errs.old) (sinks_of O.Sink E.Sink outs.new errs.new)) }
 
     // Where a document couldn't be written no more was read than its batch.
     ensures one_pass { IfErr result (λ status. status ≡ Status.Unwritten → (names : List (List ℕ))
         → (first : List Item) → AreHeld settings batch.old first
         → IsOnePass (2 * workers) first (told_contents (I.files inputs.old)) settings
         (option_map (λ s. s.now) output.entry) (name.now ∷ names) made.old
-        (record {
-          files = I.files inputs.old;
-          is_opened = I.is_opened inputs.old;
-          openings = I.openings inputs.old;
-          faults = I.faults inputs.old;
-        })
-        (record {
-          files = I.files inputs.new;
-          is_opened = I.is_opened inputs.new;
-          openings = I.openings inputs.new;
-          faults = I.faults inputs.new;
-        })
-        (record {
-          outs = O.documents outs.old;
-          outs_faults = O.faults outs.old;
-          is_open = O.is_ready outs.old;
-          errs = E.documents errs.old;
-          errs_faults = E.faults errs.old;
-        })
-        (record {
-          outs = O.documents outs.new;
-          outs_faults = O.faults outs.new;
-          is_open = O.is_ready outs.new;
-          errs = E.documents errs.new;
-          errs_faults = E.faults errs.new;
-        })) }
+        (source_of I.Inputs inputs.old) (source_of I.Inputs inputs.new)
+        (sinks_of O.Sink E.Sink outs.old errs.old) (sinks_of O.Sink E.Sink outs.new errs.new)) }
 
+    ensures same_made { OnErr result (made.new ≡ made.old) }
     ensures still_not_full { OnOk result (pages_held batch.new < 2 * workers) }
     ensures input { IfErr result (λ status. InputCount status (I.faults inputs.old) (I.faults inputs.new)) }
     ensures steady_input { OnOk result (I.faults inputs.new ≡ I.faults inputs.old) }
@@ -211,36 +151,10 @@ fn finish<R: Threads + Sync, O: Outputs, E: Sink, G: Gate + Sync>(
     ensures goes_on { OnOk result (status_of traced.end ≡ Status.Done) }
     ensures held { OnOk result ((first : List Item) → AreHeld settings batch.old first
         → Holds (2 * workers) settings (first ++ end_notes name.now traced.end traced.pages) batch.new
-        (record {
-          outs = O.documents outs.old;
-          outs_faults = O.faults outs.old;
-          is_open = O.is_ready outs.old;
-          errs = E.documents errs.old;
-          errs_faults = E.faults errs.old;
-        })
-        (record {
-          outs = O.documents outs.new;
-          outs_faults = O.faults outs.new;
-          is_open = O.is_ready outs.new;
-          errs = E.documents errs.new;
-          errs_faults = E.faults errs.new;
-        })) }
+        (sinks_of O.Sink E.Sink outs.old errs.old) (sinks_of O.Sink E.Sink outs.new errs.new)) }
     ensures ends { IfErr result (λ status. (first : List Item) → AreHeld settings batch.old first
         → EndsWithFile name.now traced.end traced.pages status first
-        (record {
-          outs = O.documents outs.old;
-          outs_faults = O.faults outs.old;
-          is_open = O.is_ready outs.old;
-          errs = E.documents errs.old;
-          errs_faults = E.faults errs.old;
-        })
-        (record {
-          outs = O.documents outs.new;
-          outs_faults = O.faults outs.new;
-          is_open = O.is_ready outs.new;
-          errs = E.documents errs.new;
-          errs_faults = E.faults errs.new;
-        })) }
+        (sinks_of O.Sink E.Sink outs.old errs.old) (sinks_of O.Sink E.Sink outs.new errs.new)) }
     ensures status { IfErr result (λ status. (status ≡ status_of traced.end)
         ⊎ ((status ≡ Status.Unwritten) ⊎ (status ≡ Status.OutOfMemory))) }
     ensures unwritten { IfErr result (λ status. status ≡ Status.Unwritten

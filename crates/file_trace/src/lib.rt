@@ -1,16 +1,17 @@
-//! The whole of one file: its pages are read, traced and written one after another, under the names of their
+//! The files of a run: their pages are read, traced and written one after another, under the names of their
 //! documents, and what went wrong is said.
 //!
 //! A run is a list of items: documents to write and messages to say, in order. What a file adds to that list
 //! follows from its bytes, and from the documents of the files in front of it, which have numbers in their
-//! names.
+//! names. `files` has the call that does all of it; what it holds between two files nobody else sees.
 #![tactic(auto)]
 
-pub mod batch;
+mod batch;
 mod document;
-pub mod file;
+mod file;
+pub mod files;
 pub mod laws;
-pub mod made;
+mod made;
 pub mod message;
 mod names;
 mod pages;

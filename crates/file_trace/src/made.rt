@@ -32,7 +32,7 @@ impl FileMade {
 ///
 /// There is an entry for each file, so a name is looked for once a file and not once a page.
 #[derive(Debug, Drop)]
-pub struct Made {
+pub(crate) struct Made {
     files: Vec<FileMade>,
     total: u32,
 }
@@ -50,7 +50,7 @@ impl Model for Made {
 
 impl Made {
     /// No document was made.
-    pub fn new(alloc: Global) -> Made
+    pub(crate) fn new(alloc: Global) -> Made
         ensures { result ≡ [] }
     {
         Made {
@@ -60,7 +60,7 @@ impl Made {
     }
 
     /// How many documents were made.
-    pub fn total(&self) -> u32
+    pub(crate) fn total(&self) -> u32
         ensures value { result ≡ length self.now }
         ensures few { result ≤ most_pages }
     {
@@ -68,7 +68,7 @@ impl Made {
     }
 
     /// How many of them have this base name.
-    pub fn count(&self, base: &str) -> u32
+    pub(crate) fn count(&self, base: &str) -> u32
         ensures value { result ≡ count_of base.now self.now }
         ensures few { result ≤ length self.now }
     {
@@ -80,15 +80,12 @@ impl Made {
     }
 
     /// Adds the documents of a file.
-    pub fn add(&mut self, base: String, pages: u32) -> Result<(), NoMemory>
+    pub(crate) fn add(&mut self, base: String, pages: u32) -> Result<(), NoMemory>
         requires { pages + length self.old ≤ most_pages }
         ensures added { OnOk result (self.new ≡ made_with (string_bytes base) pages self.old) }
         ensures same { OnErr result (self.new ≡ self.old) }
     {
-        match self.files.push(FileMade { base, pages }) {
-            Ok(()) => {}
-            Err(_) => return Err(NoMemory),
-        }
+        self.files.push(FileMade { base, pages })?;
         self.total += pages;
         Ok(())
     }

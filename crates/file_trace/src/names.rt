@@ -9,7 +9,7 @@ use pt_base::settings::Backend;
 use std::alloc::{AllocError, Global};
 
 /// The name by which all documents of a file go.
-pub fn base_name(
+pub(crate) fn base_name(
     alloc: Global,
     output: Option<&str>,
     backend: Backend,
@@ -37,7 +37,7 @@ fn file_base_name(alloc: Global, backend: Backend, file: &str) -> Result<String,
 }
 
 /// The name of the k-th document with a base name, counted from 1.
-pub fn document_name(alloc: Global, base: &str, k: u32) -> Result<String, AllocError>
+pub(crate) fn document_name(alloc: Global, base: &str, k: u32) -> Result<String, AllocError>
     ensures { IfOk result (λ name. string_bytes name ≡ document_name base.now k) }
 {
     if base == "-" || k <= 1 {

@@ -10,8 +10,8 @@ ghost use Rattle.file_trace.specs.Items.{Item, told_contents};
 ghost use Rattle.file_trace.specs.Items.Item.{Doc};
 ghost use Rattle.file_trace.specs.Names.{document_name};
 ghost use Rattle.file_trace.specs.Offered.{IsOffered};
-ghost use Rattle.file_trace.specs.Outcome.{HasEnded};
-ghost use Rattle.file_trace.specs.Progress.{EndsBy, EndsReading, Halts, InputCount, OutputCount, ReadsPage, Traces, ahead, end_of_fault, opened_name, status_of};
+ghost use Rattle.file_trace.specs.Outcome.{HasEnded, opened_name, sinks_of};
+ghost use Rattle.file_trace.specs.Progress.{EndsBy, EndsReading, Halts, InputCount, OutputCount, ReadsPage, Traces, ahead, end_of_fault, status_of};
 ghost use Rattle.pt_base.specs.declared.settings.Settings.{Settings};
 ghost use Rattle.file_trace.specs.declared.pages.PagesEnd.{PagesEnd};
 ghost use Rattle.file_trace.specs.declared.status.Status.{Status};
@@ -34,11 +34,11 @@ use std::thread::Threads;
 use threshold_map::level::Level;
 
 /// How many pages a run accepts.
-pub const MOST_PAGES: u32 = 65536;
+const MOST_PAGES: u32 = 65536;
 
 /// Why no further page of a file was read.
 #[derive(Debug, Drop)]
-pub enum PagesEnd {
+pub(crate) enum PagesEnd {
     /// The file ends where a page may end.
     End,
     /// Bytes that begin no page follow.
@@ -53,17 +53,29 @@ pub enum PagesEnd {
     OutOfMemory,
 }
 
+impl From<InFault> for PagesEnd {
+    ghost from_gives = { λ fault end. end ≡ end_of_fault fault };
+
+    fn from(fault: InFault) -> PagesEnd {
+        match fault {
+            InFault::ReadFault => PagesEnd::Unread,
+            InFault::NoMemory => PagesEnd::OutOfMemory,
+            _ => PagesEnd::Refused(fault),
+        }
+    }
+}
+
 /// How many pages of a file were read, and why no further one was.
 #[derive(Debug, Drop)]
-pub struct Traced {
-    pub pages: u32,
-    pub end: PagesEnd,
+pub(crate) struct Traced {
+    pub(crate) pages: u32,
+    pub(crate) end: PagesEnd,
 }
 
 /// Reads the pages of the opened file into the batch, each with the name of its document, which
 /// comes after those of the documents made before. A batch that is full is carried out. An `Err`
 /// says how the run ends there: that is said.
-pub fn trace_pages<R: Threads + Sync, I: Inputs, O: Outputs, E: Sink, G: Gate + Sync>(
+pub(crate) fn trace_pages<R: Threads + Sync, I: Inputs, O: Outputs, E: Sink, G: Gate + Sync>(
     rt: &R,
     alloc: Global,
     settings: Settings,
@@ -87,36 +99,11 @@ pub fn trace_pages<R: Threads + Sync, I: Inputs, O: Outputs, E: Sink, G: Gate + 
     requires ready { E.is_ready errs.old ≡ true }
     ensures traced { IfOk result (λ traced. Traces (2 * workers) settings base.now made.now
         (I.files inputs.old) (I.files inputs.new) batch.old batch.new
-        (record {
-          outs = O.documents outs.old;
-          outs_faults = O.faults outs.old;
-          is_open = O.is_ready outs.old;
-          errs = E.documents errs.old;
-          errs_faults = E.faults errs.old;
-        })
-        (record {
-          outs = O.documents outs.new;
-          outs_faults = O.faults outs.new;
-          is_open = O.is_ready outs.new;
-          errs = E.documents errs.new;
-          errs_faults = E.faults errs.new;
-        }) traced.pages traced.end) }
+        (sinks_of O.Sink E.Sink outs.old errs.old)
+        (sinks_of O.Sink E.Sink outs.new errs.new) traced.pages traced.end) }
     ensures ends { IfErr result (λ status. Halts status (2 * workers) settings base.now made.now
         (I.files inputs.old) (I.files inputs.new) batch.old
-        (record {
-          outs = O.documents outs.old;
-          outs_faults = O.faults outs.old;
-          is_open = O.is_ready outs.old;
-          errs = E.documents errs.old;
-          errs_faults = E.faults errs.old;
-        })
-        (record {
-          outs = O.documents outs.new;
-          outs_faults = O.faults outs.new;
-          is_open = O.is_ready outs.new;
-          errs = E.documents errs.new;
-          errs_faults = E.faults errs.new;
-        })) }
+        (sinks_of O.Sink E.Sink outs.old errs.old) (sinks_of O.Sink E.Sink outs.new errs.new)) }
     ensures status { IfErr result
         (λ status. (status ≡ Status.Unwritten) ⊎ (status ≡ Status.OutOfMemory)) }
     ensures still_not_full { OnOk result (pages_held batch.new < 2 * workers) }
@@ -183,37 +170,11 @@ fn hold_page<R: Threads + Sync, O: Outputs, E: Sink, G: Gate + Sync>(
         → (text : List ℕ) → IsDocument page settings text
         → Holds (2 * workers) settings (first ++ Doc (document_name base.now k) text ∷ [])
         batch.new
-        (record {
-          outs = O.documents outs.old;
-          outs_faults = O.faults outs.old;
-          is_open = O.is_ready outs.old;
-          errs = E.documents errs.old;
-          errs_faults = E.faults errs.old;
-        })
-        (record {
-          outs = O.documents outs.new;
-          outs_faults = O.faults outs.new;
-          is_open = O.is_ready outs.new;
-          errs = E.documents errs.new;
-          errs_faults = E.faults errs.new;
-        })) }
+        (sinks_of O.Sink E.Sink outs.old errs.old) (sinks_of O.Sink E.Sink outs.new errs.new)) }
     ensures ends { IfErr result (λ status. (first : List Item) → AreHeld settings batch.old first
         → (text : List ℕ) → IsDocument page settings text
         → HasEnded status (first ++ Doc (document_name base.now k) text ∷ [])
-        (record {
-          outs = O.documents outs.old;
-          outs_faults = O.faults outs.old;
-          is_open = O.is_ready outs.old;
-          errs = E.documents errs.old;
-          errs_faults = E.faults errs.old;
-        })
-        (record {
-          outs = O.documents outs.new;
-          outs_faults = O.faults outs.new;
-          is_open = O.is_ready outs.new;
-          errs = E.documents errs.new;
-          errs_faults = E.faults errs.new;
-        })) }
+        (sinks_of O.Sink E.Sink outs.old errs.old) (sinks_of O.Sink E.Sink outs.new errs.new)) }
     ensures status { IfErr result
         (λ status. (status ≡ Status.Unwritten) ⊎ (status ≡ Status.OutOfMemory)) }
     ensures full { IfErr result (λ status. status ≡ Status.Unwritten
@@ -275,23 +236,12 @@ fn read_next<I: Inputs>(
         ≡ told_contents (I.files inputs.old) }
 {
     let level = Level::from_micro(settings.level);
-    match reader.next(alloc, inputs, &level, settings.invert) {
-        Ok(Next::Page(page)) => Ok(page),
-        Ok(Next::End) => Err(PagesEnd::End),
-        Ok(Next::Trailing) => Err(PagesEnd::Trailing),
-        Ok(Next::Over) => unreachable!(),
-        Err(fault) => Err(end_of(fault)),
-    }
-}
-
-/// Why no further page is read, where the reader tells of a fault.
-fn end_of(fault: InFault) -> PagesEnd
-    ensures { result ≡ end_of_fault fault }
-{
-    match fault {
-        InFault::ReadFault => PagesEnd::Unread,
-        InFault::NoMemory => PagesEnd::OutOfMemory,
-        _ => PagesEnd::Refused(fault),
+    let next = reader.next(alloc, inputs, &level, settings.invert)?;
+    match next {
+        Next::Page(page) => Ok(page),
+        Next::End => Err(PagesEnd::End),
+        Next::Trailing => Err(PagesEnd::Trailing),
+        Next::Over => unreachable!(),
     }
 }
 

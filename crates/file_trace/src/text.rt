@@ -2,7 +2,7 @@
 ghost use Rattle.std.specs.Prelude.{◌≡◌, ◌≤◌, [], ◌∷◌, false, true};
 ghost use Rattle.file_trace.specs.Items.Item.{Doc};
 ghost use Rattle.file_trace.specs.Names.{dash};
-ghost use Rattle.file_trace.specs.Outcome.{HasEnded};
+ghost use Rattle.file_trace.specs.Outcome.{HasEnded, sinks_of};
 ghost use Rattle.file_trace.specs.Progress.{OutputCount};
 
 use crate::document::write_document;
@@ -15,8 +15,7 @@ pub fn write_text<O: Outputs, E: Sink>(outs: &mut O, errs: &mut E, text: &[u8]) 
     requires closed { O.is_ready outs.old ≡ false }
     requires ready { E.is_ready errs.old ≡ true }
     ensures ended { HasEnded result (Doc dash text.now ∷ [])
-        (record { outs = O.documents outs.old; outs_faults = O.faults outs.old; is_open = O.is_ready outs.old; errs = E.documents errs.old; errs_faults = E.faults errs.old })
-        (record { outs = O.documents outs.new; outs_faults = O.faults outs.new; is_open = O.is_ready outs.new; errs = E.documents errs.new; errs_faults = E.faults errs.new }) }
+        (sinks_of O.Sink E.Sink outs.old errs.old) (sinks_of O.Sink E.Sink outs.new errs.new) }
     ensures output { OutputCount result (O.faults outs.old) (O.faults outs.new) (O.is_ready outs.new) }
     ensures never_falls { O.faults outs.old ≤ O.faults outs.new }
 {

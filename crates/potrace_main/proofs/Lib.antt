@@ -1,4 +1,3 @@
 pub mod Completing
 pub mod OneAsk
 pub mod Possible
-pub mod Running

@@ -1,13 +1,13 @@
 -- What the top call promises.
-use Rattle.std.specs.Prelude.{◌≡◌, ℕ, ◌*◌, ◌⊎◌, List, [], ◌∷◌, ◌++◌, Option, IfSome}
+use Rattle.std.specs.Prelude.{◌≡◌, ℕ, ◌*◌, ◌⊎◌, List, [], ◌∷◌, ◌++◌, Option}
 use Rattle.pt_base.specs.Files.{Contents}
 use Rattle.file_trace.specs.Messages.{bad_words, out_of_memory}
 use Rattle.file_trace.specs.Names.{dash}
 use Rattle.file_trace.specs.Items.{AreItems, IsAbsent, Item, Nothing, told_contents}
 use Rattle.file_trace.specs.Items.Item.{Doc, Missing, Stop}
 use Rattle.file_trace.specs.OnePass.{IsOnePass}
-use Rattle.file_trace.specs.Outcome.{AreCarriedOut, GoesOn, HasEnded, IsOutcome, OpensUpTo, Sinks, Source}
-use Rattle.file_trace.specs.Progress.{InputCount, OutputCount, opened_name}
+use Rattle.file_trace.specs.Outcome.{AreCarriedOut, GoesOn, HasEnded, IsOutcome, OpensFirst, Sinks, Source}
+use Rattle.file_trace.specs.Progress.{InputCount, OutputCount}
 use Rattle.file_trace.specs.Status.{code_of}
 use Rattle.file_trace.specs.declared.status.Status.{Status}
 use Rattle.file_trace.specs.declared.status.Status.TheVariants as status
@@ -53,14 +53,6 @@ RefusesWords status.Done old new = ⊥
 RefusesWords status.Refused old new = ⊥
 RefusesWords status.Unread old new = ⊥
 RefusesWords status.Unwritten old new = ⊥
-
--- nothing was opened; or the first of these files were, each once and in order, and the opened file is the
--- last one of them
-abbrev pub OpensFirst : List (List ℕ) → Source → Source → Type 0
-OpensFirst names source source_now =
-    ((source_now.openings ≡ source.openings) × (source_now.files ≡ source.files))
-    ⊎ ((name : List ℕ) × (front : List (List ℕ)) × OpensUpTo names name front source.openings source_now.openings
-    × IfSome (opened_name source_now.files) (λ opened. opened ≡ name))
 
 -- the last of the items is a refusal
 abbrev pub EndsRefused : List Item → Type 0

@@ -3,7 +3,6 @@
 
 pub mod ask;
 pub mod asking;
-mod files;
 mod numbers;
 mod settings_given;
 pub mod top;

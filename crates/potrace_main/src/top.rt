@@ -7,19 +7,19 @@ ghost use Rattle.file_trace.specs.Items.{IsAbsent, Item, told_contents};
 ghost use Rattle.file_trace.specs.Items.Item.{Doc};
 ghost use Rattle.file_trace.specs.Names.{dash};
 ghost use Rattle.file_trace.specs.Offered.{IsOffered};
-ghost use Rattle.file_trace.specs.Outcome.{HasEnded};
+ghost use Rattle.file_trace.specs.Outcome.{HasEnded, OpensFirst, sinks_of, source_of};
 ghost use Rattle.file_trace.specs.Progress.{InputCount, OutputCount};
 ghost use Rattle.file_trace.specs.Status.{code_of};
 ghost use Rattle.file_trace.specs.declared.status.Status.{Status};
 ghost use Rattle.potrace_main.specs.Asked.{CanBeDone, IsAsked};
-ghost use Rattle.potrace_main.specs.Run.{AreItemsOf, IsCodeOf, IsComplete, IsMissing, IsOnePassOf, IsOutcomeOf, IsRun, OpensFirst, RefusesWords, names_of};
+ghost use Rattle.potrace_main.specs.Run.{AreItemsOf, IsCodeOf, IsComplete, IsMissing, IsOnePassOf, IsOutcomeOf, IsRun, RefusesWords, names_of};
 ghost use Rattle.potrace_main.specs.declared.ask.Ask.{Ask};
 
 use crate::ask::{Ask, WordFault};
-use crate::files::trace_files;
 use crate::usage::{help_text, version_text};
 use crate::words::settings_of;
 use command_words::name::Name;
+use file_trace::files::trace_files;
 use file_trace::message::{say_bad_words, say_out_of_memory};
 use file_trace::status::Status;
 use file_trace::text::write_text;
@@ -52,32 +52,8 @@ pub fn run<R: Threads + Sync, I: Inputs, O: Outputs, E: Sink, G: Gate + Sync>(
     // `items_are_one` says that this is one list. Where the files aren't told, it is so for some pages.
     ensures outcome { (ask : Ask) → IsAsked (map string_bytes words.now) ask → IsCodeOf result
         (λ status. IsOutcomeOf ask status
-        (record {
-          files = I.files inputs.old;
-          is_opened = I.is_opened inputs.old;
-          openings = I.openings inputs.old;
-          faults = I.faults inputs.old;
-        })
-        (record {
-          files = I.files inputs.new;
-          is_opened = I.is_opened inputs.new;
-          openings = I.openings inputs.new;
-          faults = I.faults inputs.new;
-        })
-        (record {
-          outs = O.documents outs.old;
-          outs_faults = O.faults outs.old;
-          is_open = O.is_ready outs.old;
-          errs = E.documents errs.old;
-          errs_faults = E.faults errs.old;
-        })
-        (record {
-          outs = O.documents outs.new;
-          outs_faults = O.faults outs.new;
-          is_open = O.is_ready outs.new;
-          errs = E.documents errs.new;
-          errs_faults = E.faults errs.new;
-        })) }
+        (source_of I.Inputs inputs.old) (source_of I.Inputs inputs.new)
+        (sinks_of O.Sink E.Sink outs.old errs.old) (sinks_of O.Sink E.Sink outs.new errs.new)) }
 
     // Where no device failed, all is done, or the run ends with the refusal or the missing file, want of
     // memory aside.
@@ -92,65 +68,17 @@ pub fn run<R: Threads + Sync, I: Inputs, O: Outputs, E: Sink, G: Gate + Sync>(
         → (ask : Ask) → IsAsked (map string_bytes words.now) ask → ⊥ }
     ensures refused { ((ask : Ask) → IsAsked (map string_bytes words.now) ask → ⊥)
         → (inputs.new ≡ inputs.old) × IsCodeOf result (λ status. RefusesWords status
-        (record {
-          outs = O.documents outs.old;
-          outs_faults = O.faults outs.old;
-          is_open = O.is_ready outs.old;
-          errs = E.documents errs.old;
-          errs_faults = E.faults errs.old;
-        })
-        (record {
-          outs = O.documents outs.new;
-          outs_faults = O.faults outs.new;
-          is_open = O.is_ready outs.new;
-          errs = E.documents errs.new;
-          errs_faults = E.faults errs.new;
-        })) }
+        (sinks_of O.Sink E.Sink outs.old errs.old) (sinks_of O.Sink E.Sink outs.new errs.new)) }
 
     // The first files of the words are opened, each once and in order, and no other.
     ensures opened { (ask : Ask) → IsAsked (map string_bytes words.now) ask → OpensFirst (names_of ask)
-        (record {
-          files = I.files inputs.old;
-          is_opened = I.is_opened inputs.old;
-          openings = I.openings inputs.old;
-          faults = I.faults inputs.old;
-        })
-        (record {
-          files = I.files inputs.new;
-          is_opened = I.is_opened inputs.new;
-          openings = I.openings inputs.new;
-          faults = I.faults inputs.new;
-        }) }
+        (source_of I.Inputs inputs.old) (source_of I.Inputs inputs.new) }
 
     // Where a document couldn't be written, no more was read than its batch.
     ensures one_pass { (ask : Ask) → IsAsked (map string_bytes words.now) ask
         → result ≡ code_of Status.Unwritten → IsOnePassOf ask
-        (record {
-          files = I.files inputs.old;
-          is_opened = I.is_opened inputs.old;
-          openings = I.openings inputs.old;
-          faults = I.faults inputs.old;
-        })
-        (record {
-          files = I.files inputs.new;
-          is_opened = I.is_opened inputs.new;
-          openings = I.openings inputs.new;
-          faults = I.faults inputs.new;
-        })
-        (record {
-          outs = O.documents outs.old;
-          outs_faults = O.faults outs.old;
-          is_open = O.is_ready outs.old;
-          errs = E.documents errs.old;
-          errs_faults = E.faults errs.old;
-        })
-        (record {
-          outs = O.documents outs.new;
-          outs_faults = O.faults outs.new;
-          is_open = O.is_ready outs.new;
-          errs = E.documents errs.new;
-          errs_faults = E.faults errs.new;
-        }) }
+        (source_of I.Inputs inputs.old) (source_of I.Inputs inputs.new)
+        (sinks_of O.Sink E.Sink outs.old errs.old) (sinks_of O.Sink E.Sink outs.new errs.new) }
 
     // Each fault has its cause.
     ensures unread { (ask : Ask) → IsAsked (map string_bytes words.now) ask → result ≡ code_of Status.Unread
@@ -186,49 +114,12 @@ fn answer<R: Threads + Sync, I: Inputs, O: Outputs, E: Sink, G: Gate + Sync>(
     requires closed { O.is_ready outs.old ≡ false }
     requires ready { E.is_ready errs.old ≡ true }
     ensures ran { (ask : Ask) → IsAsked (map string_bytes words.now) ask → IsRun ask result
-        (record {
-          files = I.files inputs.old;
-          is_opened = I.is_opened inputs.old;
-          openings = I.openings inputs.old;
-          faults = I.faults inputs.old;
-        })
-        (record {
-          files = I.files inputs.new;
-          is_opened = I.is_opened inputs.new;
-          openings = I.openings inputs.new;
-          faults = I.faults inputs.new;
-        })
-        (record {
-          outs = O.documents outs.old;
-          outs_faults = O.faults outs.old;
-          is_open = O.is_ready outs.old;
-          errs = E.documents errs.old;
-          errs_faults = E.faults errs.old;
-        })
-        (record {
-          outs = O.documents outs.new;
-          outs_faults = O.faults outs.new;
-          is_open = O.is_ready outs.new;
-          errs = E.documents errs.new;
-          errs_faults = E.faults errs.new;
-        }) }
+        (source_of I.Inputs inputs.old) (source_of I.Inputs inputs.new)
+        (sinks_of O.Sink E.Sink outs.old errs.old) (sinks_of O.Sink E.Sink outs.new errs.new) }
     ensures bad_words { result ≡ Status.BadWords → (ask : Ask) → IsAsked (map string_bytes words.now) ask → ⊥ }
     ensures refused { ((ask : Ask) → IsAsked (map string_bytes words.now) ask → ⊥)
         → (inputs.new ≡ inputs.old) × RefusesWords result
-        (record {
-          outs = O.documents outs.old;
-          outs_faults = O.faults outs.old;
-          is_open = O.is_ready outs.old;
-          errs = E.documents errs.old;
-          errs_faults = E.faults errs.old;
-        })
-        (record {
-          outs = O.documents outs.new;
-          outs_faults = O.faults outs.new;
-          is_open = O.is_ready outs.new;
-          errs = E.documents errs.new;
-          errs_faults = E.faults errs.new;
-        }) }
+        (sinks_of O.Sink E.Sink outs.old errs.old) (sinks_of O.Sink E.Sink outs.new errs.new) }
     ensures input { InputCount result (I.faults inputs.old) (I.faults inputs.new) }
     ensures output { OutputCount result (O.faults outs.old) (O.faults outs.new)
         (O.is_ready outs.new) }
@@ -260,32 +151,8 @@ fn carry_out<R: Threads + Sync, I: Inputs, O: Outputs, E: Sink, G: Gate + Sync>(
     requires closed { O.is_ready outs.old ≡ false }
     requires ready { E.is_ready errs.old ≡ true }
     ensures ran { IsRun ask result
-        (record {
-          files = I.files inputs.old;
-          is_opened = I.is_opened inputs.old;
-          openings = I.openings inputs.old;
-          faults = I.faults inputs.old;
-        })
-        (record {
-          files = I.files inputs.new;
-          is_opened = I.is_opened inputs.new;
-          openings = I.openings inputs.new;
-          faults = I.faults inputs.new;
-        })
-        (record {
-          outs = O.documents outs.old;
-          outs_faults = O.faults outs.old;
-          is_open = O.is_ready outs.old;
-          errs = E.documents errs.old;
-          errs_faults = E.faults errs.old;
-        })
-        (record {
-          outs = O.documents outs.new;
-          outs_faults = O.faults outs.new;
-          is_open = O.is_ready outs.new;
-          errs = E.documents errs.new;
-          errs_faults = E.faults errs.new;
-        }) }
+        (source_of I.Inputs inputs.old) (source_of I.Inputs inputs.new)
+        (sinks_of O.Sink E.Sink outs.old errs.old) (sinks_of O.Sink E.Sink outs.new errs.new) }
 {
     match ask {
         Ask::Help => write_text(outs, errs, help_text()),
@@ -337,20 +204,7 @@ fn write_demo<R: Threads + Sync, O: Outputs, E: Sink, G: Gate + Sync>(
     requires ready { E.is_ready errs.old ≡ true }
     ensures ended { (text : List ℕ) × IsDemoText pages settings text
         × HasEnded result (Doc dash text ∷ [])
-        (record {
-          outs = O.documents outs.old;
-          outs_faults = O.faults outs.old;
-          is_open = O.is_ready outs.old;
-          errs = E.documents errs.old;
-          errs_faults = E.faults errs.old;
-        })
-        (record {
-          outs = O.documents outs.new;
-          outs_faults = O.faults outs.new;
-          is_open = O.is_ready outs.new;
-          errs = E.documents errs.new;
-          errs_faults = E.faults errs.new;
-        }) }
+        (sinks_of O.Sink E.Sink outs.old errs.old) (sinks_of O.Sink E.Sink outs.new errs.new) }
     ensures output { OutputCount result (O.faults outs.old) (O.faults outs.new)
         (O.is_ready outs.new) }
 {

@@ -3,8 +3,7 @@ use Rattle.pt_base.specs.Files.{unread}
 use Rattle.bitmap_input.specs.Reading.{AtEnd}
 use Rattle.file_trace.specs.Held.{pages_held}
 use Rattle.file_trace.specs.Items.{told_contents}
-use Rattle.file_trace.specs.Outcome.{Sinks}
-use Rattle.file_trace.specs.Progress.{opened_name}
+use Rattle.file_trace.specs.Outcome.{opened_name, sinks_of}
 use Rattle.file_trace.proofs.Tracing.{IsTraced}
 use Rattle.file_trace.proofs.pages.trace_pages.Given as goal
 
@@ -14,23 +13,10 @@ invariant-loop-pages g l =
     let inputs = g.I.Inputs in
     let outs = g.O.Sink in
     let errs = g.E.Sink in
-    let old : Sinks = record {
-      outs = outs.documents l.fn.outs;
-      outs_faults = outs.faults l.fn.outs;
-      is_open = outs.is_ready l.fn.outs;
-      errs = errs.documents l.fn.errs;
-      errs_faults = errs.faults l.fn.errs;
-    } in
-    let now : Sinks = record {
-      outs = outs.documents l.outs;
-      outs_faults = outs.faults l.outs;
-      is_open = outs.is_ready l.outs;
-      errs = errs.documents l.errs;
-      errs_faults = errs.faults l.errs;
-    } in
     record {
       most : l.pages ≤ l.room;
-      traced : IsTraced (2 * l.workers) l.settings l.base l.made (unread (inputs.files l.fn.inputs)) l.reader (inputs.files l.inputs) l.fn.batch l.batch old now l.pages;
+      traced : IsTraced (2 * l.workers) l.settings l.base l.made (unread (inputs.files l.fn.inputs)) l.reader (inputs.files l.inputs) l.fn.batch l.batch
+          (sinks_of outs errs l.fn.outs l.fn.errs) (sinks_of outs errs l.outs l.errs) l.pages;
       not_full : pages_held l.batch < 2 * l.workers;
       at_end : l.reader.ended ≡ true → AtEnd (inputs.files l.inputs);
       opened : inputs.is_opened l.inputs ≡ true;

@@ -8,11 +8,11 @@ use Rattle.file_trace.proofs.made.Made.add.Goals as goal
 -- one file more
 pub invariant_of-self-2 : goal.invariant_of-self-2
 invariant_of-self-2 c =
-    let push = ap made_by c.in-Ok.ensures.items ∙ made_by_push c.self.inside.files.items (record { base = c.args.base; pages = c.args.pages }) in
+    let push = ap made_by c.in_ok-push.ensures.items ∙ made_by_push c.self.inside.files.items (record { base = c.args.base; pages = c.args.pages }) in
     let all = length-made_with (string_bytes c.args.base) c.args.pages (made_by c.self.inside.files.items) in
     (omega (arith, ap (λ m. length m) push, all, c.self.invariant.0), omega (arith, c.requires, ap (λ m. length m) c.self.view_is, c.self.invariant.0))
 
 pub returns-clause-added : goal.returns-clause-added
 returns-clause-added c =
-    ap made_by c.in-Ok.ensures.items ∙ made_by_push c.self.inside.files.items (record { base = c.args.base; pages = c.args.pages })
+    ap made_by c.in_ok-push.ensures.items ∙ made_by_push c.self.inside.files.items (record { base = c.args.base; pages = c.args.pages })
     ∙ ap (made_with (string_bytes c.args.base) c.args.pages) c.self.view_is

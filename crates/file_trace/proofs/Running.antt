@@ -7,8 +7,8 @@ use Rattle.pt_base.specs.declared.settings.Settings.{Settings}
 use Rattle.file_trace.specs.Held.{AreHeld, Held, Holds, pages_held}
 use Rattle.file_trace.specs.Items.{AreItems, Item, Nothing}
 use Rattle.file_trace.specs.OnePass.{IsOnePass}
-use Rattle.file_trace.specs.Outcome.{AreCarriedOut, HasEnded, IsOutcome, IsOutcomeBehind, IsUnwritten, Sinks, Source}
-use Rattle.file_trace.specs.Progress.{EndsWith, TracesFile, opened_name}
+use Rattle.file_trace.specs.Outcome.{AreCarriedOut, HasEnded, IsOutcome, IsOutcomeBehind, IsUnwritten, OpensFirst, Sinks, Source, opened_name}
+use Rattle.file_trace.specs.Progress.{EndsWith, TracesFile}
 use Rattle.file_trace.specs.declared.status.Status.{Status}
 use Rattle.file_trace.specs.declared.status.Status.TheVariants as status
 use Rattle.file_trace.proofs.Carrying.{carried_on, ended_on}
@@ -17,7 +17,6 @@ use Rattle.file_trace.proofs.Holding.{all_held, holds_on}
 use Rattle.file_trace.proofs.Joining.{items_join, one_pass_on, outcome_on}
 use Rattle.file_trace.proofs.Keeping.{IsHalt, holds_goes_on}
 use Rattle.file_trace.proofs.OnePass.{part_halts, pass_of_part}
-use Rattle.potrace_main.specs.Run.{OpensFirst}
 
 -- these are the items of these files; the first are carried out, and the others are held
 pub record AreDone (size : ℕ) (contents : Option Contents) (settings : Settings) (output : Option (List ℕ)) (front made : List (List ℕ)) (held : List Held) (a b : Sinks) : Type 0 where

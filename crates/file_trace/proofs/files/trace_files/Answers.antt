@@ -1,10 +1,10 @@
 use Rattle.std.proofs.Common.{◌∙◌, ◌*◌, [], ℕ, List, Option, inl, option_map, refl, arith}
 use Rattle.std.proofs.lemmas.List.{take_all}
 use Rattle.file_trace.specs.Items.{told_contents}
-use Rattle.file_trace.specs.Outcome.{Source}
+use Rattle.file_trace.specs.Outcome.{source_of}
 use Rattle.file_trace.proofs.Ending.{ends_at_once}
-use Rattle.potrace_main.proofs.Running.{all_done, ends_after, ends_in, none_done, one_done, openings_more, opens_to, passes_after, passes_in}
-use Rattle.potrace_main.proofs.files.trace_files.Goals as goal
+use Rattle.file_trace.proofs.Running.{all_done, ends_after, ends_in, none_done, one_done, openings_more, opens_to, passes_after, passes_in}
+use Rattle.file_trace.proofs.files.trace_files.Goals as goal
 
 -- memory ran out before the first file
 pub returns-in_default-clause-outcome : goal.returns-in_default-clause-outcome
@@ -36,14 +36,12 @@ loop-name-init g c =
 pub loop-name-preserved : goal.loop-name-preserved
 loop-name-preserved g c =
     let file = rw (c.loop-name.invariant.contents, c.as_str.ensures) at c.in-Ok-traced.ensures.traced in
-    let source : Source = record { files = g.I.Inputs.files c.args.inputs.now; is_opened = g.I.Inputs.is_opened c.args.inputs.now; openings = g.I.Inputs.openings c.args.inputs.now; faults = g.I.Inputs.faults c.args.inputs.now } in
-    let then : Source = record { files = g.I.Inputs.files c.loop-name.inputs; is_opened = g.I.Inputs.is_opened c.loop-name.inputs; openings = g.I.Inputs.openings c.loop-name.inputs; faults = g.I.Inputs.faults c.loop-name.inputs } in
-    let now : Source = record { files = g.I.Inputs.files c.trace_file-traced.new.inputs; is_opened = g.I.Inputs.is_opened c.trace_file-traced.new.inputs; openings = g.I.Inputs.openings c.trace_file-traced.new.inputs; faults = g.I.Inputs.faults c.trace_file-traced.new.inputs } in
     let named = rw c.as_str.ensures at c.trace_file-traced.ensures.name in
     record {
       done = one_done _ _ _ _ _ c.loop-name.name-index c.name-item.result _ _ _ _ _ _ _ c.loop-name-test.true c.name-item.is c.loop-name.invariant.done file;
       openings = openings_more _ c.loop-name.name-index _ _ c.loop-name.invariant.openings c.trace_file-traced.ensures.one_more;
-      opened = opens_to c.args.names.now c.loop-name.name-index c.name-item.result source then now c.loop-name-test.true c.name-item.is c.loop-name.invariant.openings c.trace_file-traced.ensures.one_more named;
+      opened = opens_to c.args.names.now c.loop-name.name-index c.name-item.result
+          (source_of g.I.Inputs c.args.inputs.now) (source_of g.I.Inputs c.loop-name.inputs) (source_of g.I.Inputs c.trace_file-traced.new.inputs) c.loop-name-test.true c.name-item.is c.loop-name.invariant.openings c.trace_file-traced.ensures.one_more named;
       contents = c.trace_file-traced.ensures.same_contents ∙ c.loop-name.invariant.contents;
       not_full = c.in-Ok-traced.ensures.still_not_full;
       input = c.in-Ok-traced.ensures.steady_input ∙ c.loop-name.invariant.input;
@@ -61,11 +59,9 @@ returns-in-Err-clause-outcome g c =
 
 pub returns-in-Err-clause-opened : goal.returns-in-Err-clause-opened
 returns-in-Err-clause-opened g c =
-    let source : Source = record { files = g.I.Inputs.files c.args.inputs.now; is_opened = g.I.Inputs.is_opened c.args.inputs.now; openings = g.I.Inputs.openings c.args.inputs.now; faults = g.I.Inputs.faults c.args.inputs.now } in
-    let then : Source = record { files = g.I.Inputs.files c.loop-name.inputs; is_opened = g.I.Inputs.is_opened c.loop-name.inputs; openings = g.I.Inputs.openings c.loop-name.inputs; faults = g.I.Inputs.faults c.loop-name.inputs } in
-    let now : Source = record { files = g.I.Inputs.files c.trace_file-traced.new.inputs; is_opened = g.I.Inputs.is_opened c.trace_file-traced.new.inputs; openings = g.I.Inputs.openings c.trace_file-traced.new.inputs; faults = g.I.Inputs.faults c.trace_file-traced.new.inputs } in
     let named = rw c.as_str.ensures at c.trace_file-traced.ensures.name in
-    opens_to c.args.names.now c.loop-name.name-index c.name-item.result source then now c.loop-name-test.true c.name-item.is c.loop-name.invariant.openings c.trace_file-traced.ensures.one_more named
+    opens_to c.args.names.now c.loop-name.name-index c.name-item.result
+    (source_of g.I.Inputs c.args.inputs.now) (source_of g.I.Inputs c.loop-name.inputs) (source_of g.I.Inputs c.trace_file-traced.new.inputs) c.loop-name-test.true c.name-item.is c.loop-name.invariant.openings c.trace_file-traced.ensures.one_more named
 
 pub returns-in-Err-clause-input : goal.returns-in-Err-clause-input
 returns-in-Err-clause-input g c = rw c.loop-name.invariant.input at c.in-Err.ensures.input

@@ -3,18 +3,17 @@ ghost use Rattle.std.specs.Prelude.{◌≡◌, ◌≤◌, ◌*◌, [], false, tr
 ghost use Rattle.file_trace.specs.Items.{told_contents};
 ghost use Rattle.file_trace.specs.Offered.{IsOffered};
 ghost use Rattle.file_trace.specs.OnePass.{IsOnePass};
-ghost use Rattle.file_trace.specs.Outcome.{IsOutcome};
+ghost use Rattle.file_trace.specs.Outcome.{IsOutcome, OpensFirst, sinks_of, source_of};
 ghost use Rattle.file_trace.specs.declared.status.Status.{Status};
 ghost use Rattle.file_trace.specs.Progress.{InputCount, OutputCount};
-ghost use Rattle.potrace_main.specs.Run.{OpensFirst};
 
+use crate::batch::Batch;
+use crate::file::trace_file;
+use crate::made::Made;
+use crate::message::say_out_of_memory;
+use crate::status::Status;
 use bitmap_input::reader::PageReader;
 use command_words::name::Name;
-use file_trace::batch::Batch;
-use file_trace::file::trace_file;
-use file_trace::made::Made;
-use file_trace::message::say_out_of_memory;
-use file_trace::status::Status;
 use pt_base::gate::Gate;
 use pt_base::inputs::Inputs;
 use pt_base::settings::Settings;
@@ -43,73 +42,14 @@ pub fn trace_files<R: Threads + Sync, I: Inputs, O: Outputs, E: Sink, G: Gate + 
     requires ready { E.is_ready errs.old ≡ true }
     ensures outcome { IsOutcome result (told_contents (I.files inputs.old)) settings
         (option_map (λ s. s.now) output.entry) names.now []
-        (record {
-          files = I.files inputs.old;
-          is_opened = I.is_opened inputs.old;
-          openings = I.openings inputs.old;
-          faults = I.faults inputs.old;
-        })
-        (record {
-          files = I.files inputs.new;
-          is_opened = I.is_opened inputs.new;
-          openings = I.openings inputs.new;
-          faults = I.faults inputs.new;
-        })
-        (record {
-          outs = O.documents outs.old;
-          outs_faults = O.faults outs.old;
-          is_open = O.is_ready outs.old;
-          errs = E.documents errs.old;
-          errs_faults = E.faults errs.old;
-        })
-        (record {
-          outs = O.documents outs.new;
-          outs_faults = O.faults outs.new;
-          is_open = O.is_ready outs.new;
-          errs = E.documents errs.new;
-          errs_faults = E.faults errs.new;
-        }) }
+        (source_of I.Inputs inputs.old) (source_of I.Inputs inputs.new)
+        (sinks_of O.Sink E.Sink outs.old errs.old) (sinks_of O.Sink E.Sink outs.new errs.new) }
     ensures opened { OpensFirst names.now
-        (record {
-          files = I.files inputs.old;
-          is_opened = I.is_opened inputs.old;
-          openings = I.openings inputs.old;
-          faults = I.faults inputs.old;
-        })
-        (record {
-          files = I.files inputs.new;
-          is_opened = I.is_opened inputs.new;
-          openings = I.openings inputs.new;
-          faults = I.faults inputs.new;
-        }) }
+        (source_of I.Inputs inputs.old) (source_of I.Inputs inputs.new) }
     ensures one_pass { result ≡ Status.Unwritten → IsOnePass (2 * workers) []
         (told_contents (I.files inputs.old)) settings (option_map (λ s. s.now) output.entry) names.now []
-        (record {
-          files = I.files inputs.old;
-          is_opened = I.is_opened inputs.old;
-          openings = I.openings inputs.old;
-          faults = I.faults inputs.old;
-        })
-        (record {
-          files = I.files inputs.new;
-          is_opened = I.is_opened inputs.new;
-          openings = I.openings inputs.new;
-          faults = I.faults inputs.new;
-        })
-        (record {
-          outs = O.documents outs.old;
-          outs_faults = O.faults outs.old;
-          is_open = O.is_ready outs.old;
-          errs = E.documents errs.old;
-          errs_faults = E.faults errs.old;
-        })
-        (record {
-          outs = O.documents outs.new;
-          outs_faults = O.faults outs.new;
-          is_open = O.is_ready outs.new;
-          errs = E.documents errs.new;
-          errs_faults = E.faults errs.new;
-        }) }
+        (source_of I.Inputs inputs.old) (source_of I.Inputs inputs.new)
+        (sinks_of O.Sink E.Sink outs.old errs.old) (sinks_of O.Sink E.Sink outs.new errs.new) }
     ensures input { InputCount result (I.faults inputs.old) (I.faults inputs.new) }
     ensures output { OutputCount result (O.faults outs.old) (O.faults outs.new)
         (O.is_ready outs.new) }
