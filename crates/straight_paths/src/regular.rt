@@ -34,6 +34,10 @@ pub(crate) fn seen_from(
     if period == 0 || last < tail.end {
         return next;
     }
+    // Where the path bends within a period from here on, it bent a period before too.
+    if tail.end < next + period {
+        return next;
+    }
     let from = regular_from(track, next, period, most.max(3 * period));
     if next - from < 2 * period || track.limit() < tail.end - from {
         return next;
