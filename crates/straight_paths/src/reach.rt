@@ -103,7 +103,7 @@ fn fill_straight(track: &Track, steps: &mut [u32])
 }
 
 /// What is straight from the first point of the second lap on. Writes down for how many steps the
-/// cones from its first points are known to hold, as many points as the limit.
+/// cones from the first points, as many as the limit, are known to hold.
 fn first_lap(track: &Track, known: &mut [u32]) -> Sweep
     requires known { AreKnown track.now known.old }
     ensures sweep { IsSweep track.now (length track.now) result }

@@ -34,7 +34,7 @@ pub(crate) fn seen_from(
     if period == 0 || last < tail.end {
         return next;
     }
-    // Where the path bends within a period from here on, it bent a period before too.
+    // A straight subpath that ends within a period ends as soon a period before: none sees so far.
     if tail.end < next + period {
         return next;
     }
