@@ -46,7 +46,7 @@ pub mod Corners
 pub mod Courses
 -- What is straight from an index on, within two laps of a closed path.
 --   limit_of: the most steps that matter
---   last_of: the last index of two laps
+--   last_of: the last index of the two laps that matters
 --   IsAtPlace: an index of the two laps, and its place in one lap
 --   way_along: the way from the path's start to its point number k
 --   IsClearUpTo: of the path's first `most` steps, the cones from its start hold for exactly the

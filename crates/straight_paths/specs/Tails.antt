@@ -1,5 +1,5 @@
 -- What is straight from an index on, within two laps of a closed path.
-use Rattle.std.specs.Prelude.{◌≡◌, ◌⊎◌, ℕ, ◌+◌, ◌-◌, ◌*◌, ◌<◌, ◌≤◌, min, List, length, slice_index}
+use Rattle.std.specs.Prelude.{◌≡◌, ◌⊎◌, ℕ, ◌+◌, ◌-◌, ◌<◌, ◌≤◌, min, List, length, slice_index}
 use Rattle.pt_base.specs.declared.point.Point.{Point}
 use Rattle.straight_paths.specs.Straight.{offset_of, Takes, IsStraight, path_from, east, north, west, south}
 use Rattle.straight_paths.specs.Cones.{IsClear}
@@ -13,9 +13,10 @@ use Rattle.pt_base.specs.declared.limits.TheConstants.{MOST_STEPS}
 abbrev pub limit_of : List Point → ℕ
 limit_of points = min (length points - 1) (MOST_STEPS + 2)
 
--- the last index of two laps
+-- the last index of the two laps that matters: the subpaths from the first lap's points, up to the limit,
+-- end before it
 abbrev pub last_of : List Point → ℕ
-last_of points = 2 * length points - 1
+last_of points = length points + limit_of points
 
 -- an index of the two laps, and its place in one lap
 abbrev pub IsAtPlace : List Point → ℕ → ℕ → Type 0

@@ -103,7 +103,7 @@ fn fill_straight(track: &Track, steps: &mut [u32])
 }
 
 /// What is straight from the first point of the second lap on. Writes down for how many steps the
-/// cones from each point are known to hold.
+/// cones from the first points, as many as the limit, are known to hold.
 fn first_lap(track: &Track, known: &mut [u32]) -> Sweep
     requires known { AreKnown track.now known.old }
     ensures sweep { IsSweep track.now (length track.now) result }
@@ -112,7 +112,7 @@ fn first_lap(track: &Track, known: &mut [u32]) -> Sweep
 {
     let size = track.size();
     let mut sweep = Sweep::at_last(track);
-    for place in (0..size - 1).rev() {
+    for place in (0..track.limit()).rev() {
         sweep = sweep.earlier(track, known, place + size);
         known[place] = (sweep.tail.end - (place + size)) as u32;
     }

@@ -8,7 +8,7 @@ ghost use Rattle.pt_base.specs.ClosedWalk.{IsClosedWalk};
 ghost use Rattle.straight_paths.specs.Cones.{IsClear};
 ghost use Rattle.straight_paths.specs.Corners.{IsRegular, IsStaircase};
 ghost use Rattle.straight_paths.specs.Straight.{path_from};
-ghost use Rattle.straight_paths.specs.Tails.{IsTail, AreKnown, AreSeen};
+ghost use Rattle.straight_paths.specs.Tails.{IsTail, AreKnown, AreSeen, last_of};
 
 use crate::course::Course;
 use crate::first::clear_steps;
@@ -30,8 +30,12 @@ pub(crate) fn seen_from(
     requires later { IsTail track.now next tail }
     ensures { AreSeen track.now result next tail.end }
 {
-    let last = 2 * track.size() - 1;
+    let last = track.last();
     if period == 0 || last < tail.end {
+        return next;
+    }
+    // A straight subpath that ends within a period ends as soon a period before: none sees so far.
+    if tail.end < next + period {
         return next;
     }
     let from = regular_from(track, next, period, most.max(3 * period));
@@ -71,7 +75,7 @@ fn is_stairs(track: &Track, tail: Tail, next: usize, period: usize, from: usize)
     requires later { IsTail track.now next tail }
     requires from { from < next }
     requires regular { IsRegular (path_from track.now from) period (next - from) }
-    requires end { tail.end < 2 * length track.now }
+    requires end { tail.end ≤ last_of track.now }
     ensures { IsTrue result → IsStaircase (path_from track.now from) (tail.end - from) }
 {
     if period == 1 {
@@ -133,13 +137,13 @@ fn is_clear(track: &Track, known: &[u32], index: usize, steps: usize) -> bool
 }
 
 /// The index after the two runs that begin at this index, or this index where they lead to the last
-/// index of two laps.
+/// index that matters.
 pub(crate) fn two_runs_after(track: &Track, index: usize) -> usize
     requires { index < 2 * length track.now }
     ensures at_least { index ≤ result }
     ensures within { result < 2 * length track.now }
 {
-    let last = 2 * track.size() - 1;
+    let last = track.last();
     let corner = index + track.next_corner(track.place(index)) as usize;
     if last <= corner {
         return index;

@@ -33,11 +33,11 @@ pub(crate) struct Sweep {
 }
 
 impl Sweep {
-    /// At the last index of two laps: nothing is known of the indices before.
+    /// At the last index that matters: nothing is known of the indices before.
     pub(crate) fn at_last(track: &Track) -> Sweep
         ensures { IsSweep track.now (last_of track.now) result }
     {
-        let last = 2 * track.size() - 1;
+        let last = track.last();
         Sweep {
             tail: Tail::at_last(track),
             seen: last,
@@ -91,7 +91,7 @@ impl Sweep {
         requires later { IsSweep track.now next self }
         ensures { IsSweep track.now next result }
     {
-        let last = 2 * track.size() - 1;
+        let last = track.last();
         if last <= next || !steps.is_power_of_two() {
             return self;
         }

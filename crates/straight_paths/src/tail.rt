@@ -15,11 +15,11 @@ pub(crate) struct Ahead {
 }
 
 impl Ahead {
-    /// At the last index of two laps: no step is known to be taken.
+    /// At the last index that matters: no step is known to be taken.
     fn at_last(track: &Track) -> Ahead
         ensures { IsAhead track.now (last_of track.now) result }
     {
-        let last = 2 * track.size() - 1;
+        let last = track.last();
         Ahead {
             east: last,
             north: last,
@@ -77,12 +77,12 @@ pub(crate) struct Tail {
 }
 
 impl Tail {
-    /// At the last index of two laps: nothing is known that ends a subpath.
+    /// At the last index that matters: nothing is known that ends a subpath.
     pub(crate) fn at_last(track: &Track) -> Tail
         ensures { IsTail track.now (last_of track.now) result }
     {
         Tail {
-            end: 2 * track.size() - 1 + track.limit(),
+            end: track.last() + track.limit(),
             ahead: Ahead::at_last(track),
         }
     }

@@ -9,7 +9,7 @@ use Rattle.straight_paths.proofs.reach.first_lap.Goals as goal
 
 pub loop-place-init : goal.loop-place-init
 loop-place-init c =
-    let e : last_of c.args.track.now ≡ c.size-size.result - 1 + length c.args.track.now = omega (arith, c.size-size.ensures.some) in
+    let e : last_of c.args.track.now ≡ c.limit-place.result + length c.args.track.now = omega arith in
     record {
       sweep = subst (λ (n : ℕ). IsSweep c.args.track.now n c.at_last-sweep.result) e c.at_last-sweep.ensures;
       known = c.requires.known;
