@@ -36,9 +36,7 @@ pub fn turn_at(page: &Bitmap, x: u32, y: u32, heading: Dir, policy: Policy, sign
     requires y { y ≤ 32767 }
     ensures { result ≡ turn (image_of page.now) policy sign x y heading }
 {
-    let left = is_left_black(page, x, y, heading);
-    let right = is_right_black(page, x, y, heading);
-    match (left, right) {
+    match pixels_ahead(page, x, y, heading) {
         (true, false) => heading,
         (true, true) => heading.right(),
         (false, false) => heading.left(),
@@ -67,31 +65,18 @@ pub fn next(page: &Bitmap, edge: Edge, policy: Policy, sign: Sign) -> Edge
     Edge { x, y, heading }
 }
 
-/// Whether the pixel on the left of the edge that leaves corner (x, y) is black.
-fn is_left_black(page: &Bitmap, x: u32, y: u32, heading: Dir) -> bool
+/// Whether the pixels on the left and on the right of the edge that leaves corner (x, y) are black.
+fn pixels_ahead(page: &Bitmap, x: u32, y: u32, heading: Dir) -> (bool, bool)
     requires x { x ≤ 32767 }
     requires y { y ≤ 32767 }
-    ensures { result ≡ left_pixel (south_west (image_of page.now)) x y heading }
+    ensures left { result.0 ≡ left_pixel (south_west (image_of page.now)) x y heading }
+    ensures right { result.1 ≡ right_pixel (south_west (image_of page.now)) x y heading }
 {
     match heading {
-        Dir::North => page.south_west(x, y + 1),
-        Dir::East => page.south_west(x + 1, y + 1),
-        Dir::South => page.south_west(x + 1, y),
-        Dir::West => page.south_west(x, y),
-    }
-}
-
-/// Whether the pixel on the right of the edge that leaves corner (x, y) is black.
-fn is_right_black(page: &Bitmap, x: u32, y: u32, heading: Dir) -> bool
-    requires x { x ≤ 32767 }
-    requires y { y ≤ 32767 }
-    ensures { result ≡ right_pixel (south_west (image_of page.now)) x y heading }
-{
-    match heading {
-        Dir::North => page.south_west(x + 1, y + 1),
-        Dir::East => page.south_west(x + 1, y),
-        Dir::South => page.south_west(x, y),
-        Dir::West => page.south_west(x, y + 1),
+        Dir::North => (page.south_west(x, y + 1), page.south_west(x + 1, y + 1)),
+        Dir::East => (page.south_west(x + 1, y + 1), page.south_west(x + 1, y)),
+        Dir::South => (page.south_west(x + 1, y), page.south_west(x, y)),
+        Dir::West => (page.south_west(x, y), page.south_west(x, y + 1)),
     }
 }
 
