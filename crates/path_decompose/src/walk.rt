@@ -1,20 +1,24 @@
 //! The walk along a boundary, once round.
-ghost use Rattle.std.specs.Prelude.{◌≡◌, ◌≢◌, ℕ, ◌+◌, false, nat_eq, OnOk, All, count_by, MatchBool, ◌^◌, ◌<◌, ◌≤◌};
+ghost use Rattle.std.specs.Prelude.{◌≡◌, ◌≢◌, ℕ, ◌+◌, ◌++◌, ◌∷◌, [], false, nat_eq, IfOk, OnOk, All, count_by, MatchBool, ◌^◌, ◌<◌, ◌≤◌};
 ghost use Rattle.bit_image.specs.FirstBlack.{IsFirstBlack};
 ghost use Rattle.bit_image.specs.Image.{is_from};
 ghost use Rattle.bit_image.specs.Page.{image_of};
 ghost use Rattle.path_decompose.specs.declared.trail.Upright.{Upright};
 ghost use Rattle.path_decompose.specs.Inside.{is_odd, inside, black_count};
-ghost use Rattle.path_decompose.specs.Walk.{first_edge, IsBoundaryWalk};
+ghost use Rattle.path_decompose.specs.Trail.{upright_of, column_up, column_down};
+ghost use Rattle.path_decompose.specs.Walk.{first_edge, start_of, IsBoundaryWalk};
+ghost use Rattle.turn_policies.specs.Boundary.{IsBoundary};
+ghost use Rattle.turn_policies.specs.Turn.{next};
 
-use crate::trail::{Trail, add, clear};
+use crate::trail::{Trail, Upright, clear};
 use bit_image::bitmap::Bitmap;
 use pt_base::fault::NoMemory;
 use pt_base::path::Sign;
+use pt_base::point::Point;
 use pt_base::policy::Policy;
 use turn_policies::edge::Edge;
 use turn_policies::heading::Dir;
-use turn_policies::rule::next;
+use turn_policies::rule::turned_at;
 
 /// Walks once round the boundary that starts at the first black pixel, pixel (x, y), and notes it down.
 pub fn walk_round(
@@ -51,11 +55,56 @@ pub fn walk_round(
         heading: Dir::South,
     };
     'steps: loop {
-        add(trail, here)?;
-        here = next(page, here, policy, sign);
+        here = step(page, here, policy, sign, trail)?;
         if is_first(here, x, y) {
             return Ok(());
         }
+    }
+}
+
+/// The edge that follows an edge of a boundary, which is noted down.
+#[inline(always)]
+fn step(
+    page: &Bitmap,
+    edge: Edge,
+    policy: Policy,
+    sign: Sign,
+    trail: &mut Trail,
+) -> Result<Edge, NoMemory>
+    requires boundary { IsBoundary (image_of page.now) edge }
+    requires up { trail.old.up < 2 ^ 63 }
+    requires down { trail.old.down < 2 ^ 63 }
+    ensures value { IfOk result (λ after. after ≡ next (image_of page.now) policy sign edge) }
+    ensures boundary { IfOk result (λ after. IsBoundary (image_of page.now) after) }
+    ensures points { OnOk result
+        (trail.new.points.items ≡ trail.old.points.items ++ start_of edge ∷ []) }
+    ensures lines { OnOk result
+        (trail.new.lines.items ≡ trail.old.lines.items ++ upright_of edge) }
+    ensures up { OnOk result (trail.new.up ≡ trail.old.up + column_up edge) }
+    ensures down { OnOk result (trail.new.down ≡ trail.old.down + column_down edge) }
+{
+    // A boundary edge lies on the page, so its end has small coordinates too.
+    let (width, height) = (page.width(), page.height());
+    prove!(edge.x <= width && edge.y <= height);
+    let Edge { x, y, heading } = edge;
+    trail.points.push(Point {
+        x: x as i32,
+        y: y as i32,
+    })?;
+    // Each heading has code of its own, so that the processor foresees the turns better.
+    match heading {
+        Dir::North => {
+            trail.lines.push(Upright { x, y })?;
+            trail.up += u64::from(x);
+            Ok(turned_at(page, x, y + 1, Dir::North, policy, sign))
+        }
+        Dir::East => Ok(turned_at(page, x + 1, y, Dir::East, policy, sign)),
+        Dir::South => {
+            trail.lines.push(Upright { x, y: y - 1 })?;
+            trail.down += u64::from(x);
+            Ok(turned_at(page, x, y - 1, Dir::South, policy, sign))
+        }
+        Dir::West => Ok(turned_at(page, x - 1, y, Dir::West, policy, sign)),
     }
 }
 

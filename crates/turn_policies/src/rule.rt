@@ -72,7 +72,7 @@ pub fn next(page: &Bitmap, edge: Edge, policy: Policy, sign: Sign) -> Edge
 
 /// The edge on which a path goes on that comes to corner (x, y) with a heading.
 #[inline(always)]
-fn turned_at(page: &Bitmap, x: u32, y: u32, heading: Dir, policy: Policy, sign: Sign) -> Edge
+pub fn turned_at(page: &Bitmap, x: u32, y: u32, heading: Dir, policy: Policy, sign: Sign) -> Edge
     requires x { x ≤ 32767 }
     requires y { y ≤ 32767 }
     ensures x { result.x ≡ x }

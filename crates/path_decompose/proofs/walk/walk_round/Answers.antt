@@ -14,38 +14,38 @@ steps-init c =
       boundary = first_boundary _ _ _ c.requires;
     })
 
-pub add-requires-clause-up : goal.add-requires-clause-up
-add-requires-clause-up c =
+pub step-requires-clause-up : goal.step-requires-clause-up
+step-requires-clause-up c =
     (noted_small _ _ _ _ _ c.args.page.now.width c.args.page.now.height _ _ _ _ _ c.requires c.width.ensures.fits c.width.ensures.page.most_width c.width.ensures.page.most_height c.steps.invariant.noted).1
 
-pub add-requires-clause-down : goal.add-requires-clause-down
-add-requires-clause-down c =
+pub step-requires-clause-down : goal.step-requires-clause-down
+step-requires-clause-down c =
     (noted_small _ _ _ _ _ c.args.page.now.width c.args.page.now.height _ _ _ _ _ c.requires c.width.ensures.fits c.width.ensures.page.most_width c.width.ensures.page.most_height c.steps.invariant.noted).2
 
 pub returns-then-is_first-clause-walk : goal.returns-then-is_first-clause-walk
 returns-then-is_first-clause-walk c =
     (noted_closed _ _ _ _ _ c.args.page.now.width c.args.page.now.height _ _ _ _ _ _ _ _ _ c.requires c.width.ensures.fits c.steps.invariant.noted
-    c.in_ok-add.ensures.points c.in_ok-add.ensures.lines c.in_ok-add.ensures.up c.in_ok-add.ensures.down (sym c.next-here.ensures.value ∙ c.if-is_first.ensures)).walk
+    c.in_ok-here.ensures.points c.in_ok-here.ensures.lines c.in_ok-here.ensures.up c.in_ok-here.ensures.down (sym c.in_ok-here.ensures.value ∙ c.if-is_first.ensures)).walk
 
 pub returns-then-is_first-clause-on_page : goal.returns-then-is_first-clause-on_page
 returns-then-is_first-clause-on_page c =
     (noted_closed _ _ _ _ _ c.args.page.now.width c.args.page.now.height _ _ _ _ _ _ _ _ _ c.requires c.width.ensures.fits c.steps.invariant.noted
-    c.in_ok-add.ensures.points c.in_ok-add.ensures.lines c.in_ok-add.ensures.up c.in_ok-add.ensures.down (sym c.next-here.ensures.value ∙ c.if-is_first.ensures)).on_page
+    c.in_ok-here.ensures.points c.in_ok-here.ensures.lines c.in_ok-here.ensures.up c.in_ok-here.ensures.down (sym c.in_ok-here.ensures.value ∙ c.if-is_first.ensures)).on_page
 
 pub returns-then-is_first-clause-even : goal.returns-then-is_first-clause-even
 returns-then-is_first-clause-even c =
     (noted_closed _ _ _ _ _ c.args.page.now.width c.args.page.now.height _ _ _ _ _ _ _ _ _ c.requires c.width.ensures.fits c.steps.invariant.noted
-    c.in_ok-add.ensures.points c.in_ok-add.ensures.lines c.in_ok-add.ensures.up c.in_ok-add.ensures.down (sym c.next-here.ensures.value ∙ c.if-is_first.ensures)).even
+    c.in_ok-here.ensures.points c.in_ok-here.ensures.lines c.in_ok-here.ensures.up c.in_ok-here.ensures.down (sym c.in_ok-here.ensures.value ∙ c.if-is_first.ensures)).even
 
 pub returns-then-is_first-clause-inside : goal.returns-then-is_first-clause-inside
 returns-then-is_first-clause-inside c =
     (noted_closed _ _ _ _ _ c.args.page.now.width c.args.page.now.height _ _ _ _ _ _ _ _ _ c.requires c.width.ensures.fits c.steps.invariant.noted
-    c.in_ok-add.ensures.points c.in_ok-add.ensures.lines c.in_ok-add.ensures.up c.in_ok-add.ensures.down (sym c.next-here.ensures.value ∙ c.if-is_first.ensures)).inside_is
+    c.in_ok-here.ensures.points c.in_ok-here.ensures.lines c.in_ok-here.ensures.up c.in_ok-here.ensures.down (sym c.in_ok-here.ensures.value ∙ c.if-is_first.ensures)).inside_is
 
 pub returns-then-is_first-clause-area : goal.returns-then-is_first-clause-area
 returns-then-is_first-clause-area c =
     (noted_closed _ _ _ _ _ c.args.page.now.width c.args.page.now.height _ _ _ _ _ _ _ _ _ c.requires c.width.ensures.fits c.steps.invariant.noted
-    c.in_ok-add.ensures.points c.in_ok-add.ensures.lines c.in_ok-add.ensures.up c.in_ok-add.ensures.down (sym c.next-here.ensures.value ∙ c.if-is_first.ensures)).area
+    c.in_ok-here.ensures.points c.in_ok-here.ensures.lines c.in_ok-here.ensures.up c.in_ok-here.ensures.down (sym c.in_ok-here.ensures.value ∙ c.if-is_first.ensures)).area
 
 pub steps-smaller : goal.steps-smaller
 steps-smaller c =
@@ -53,7 +53,7 @@ steps-smaller c =
     let points = c.steps.trail.points.items in
     let short : length points < suc page.width * suc page.height * 4 =
     (noted_small _ _ _ _ _ page.width page.height _ _ _ _ _ c.requires c.width.ensures.fits c.width.ensures.page.most_width c.width.ensures.page.most_height c.steps.invariant.noted).0 in
-    let more : length c.add.new.trail.points.items ≡ suc (length points) = ap length c.in_ok-add.ensures.points ∙ length-push points _ in
+    let more : length c.step.new.trail.points.items ≡ suc (length points) = ap length c.in_ok-here.ensures.points ∙ length-push points _ in
     omega (arith, short, more)
 
 pub steps-preserved : goal.steps-preserved
@@ -63,7 +63,7 @@ steps-preserved c =
     let narrow : c.steps.here.x ≤ 16384 = omega (arith, on.column, c.width.ensures.page.most_width) in
     record {
       noted =
-          noted_more _ _ _ _ _ _ _ _ _ _ _ _ c.steps.invariant.noted narrow c.in_ok-add.ensures.points c.in_ok-add.ensures.lines c.in_ok-add.ensures.up c.in_ok-add.ensures.down
-          c.next-here.ensures.value (λ e. c.if-is_first.ensures (c.next-here.ensures.value ∙ e));
-      boundary = c.next-here.ensures.boundary;
+          noted_more _ _ _ _ _ _ _ _ _ _ _ _ c.steps.invariant.noted narrow c.in_ok-here.ensures.points c.in_ok-here.ensures.lines c.in_ok-here.ensures.up c.in_ok-here.ensures.down
+          c.in_ok-here.ensures.value (λ e. c.if-is_first.ensures (c.in_ok-here.ensures.value ∙ e));
+      boundary = c.in_ok-here.ensures.boundary;
     }
