@@ -17,10 +17,12 @@ pub mod Exists
 pub mod ClosedWalk
 pub mod Steps
 pub mod Corners
-pub mod Keys
-pub mod Pairs
 pub mod Prefix
 pub mod Above
 pub mod PathOn
 pub mod Rows
+pub mod Sides
+pub mod Area
+pub mod Noted
+pub mod Swept
 mod Examples

@@ -1,8 +1,10 @@
 -- Whether an odd number of a list's elements pass a test, and how often a test changes along a walk.
 use Rattle.std.proofs.Common.{◌≡◌, ℕ, ◌+◌, Bool, true, false, not, cond, List, [], ◌∷◌, count_by, All, refl, ap, sym, subst, ◌∙◌, arith}
+use Rattle.std.specs.List.Sorted.{IsPermutation}
 use Rattle.std.proofs.lemmas.Bool.Decides.{nat_tests}
 use Rattle.std.proofs.lemmas.List.Sums.{sum_by-cons}
 use Rattle.std.proofs.lemmas.List.Elements.{All-head, All-tail}
+use Rattle.std.proofs.lemmas.List.Sorted.{sum_by-IsPermutation}
 use Rattle.bit_image.specs.Image.{differ}
 use Rattle.turn_policies.specs.declared.edge.Edge.{Edge}
 use Rattle.path_decompose.specs.Walk.{IsRun}
@@ -57,3 +59,7 @@ odd_by-run step P keeps S f h (e ∷ es) a z p run =
 -- along a closed run it holds an even number of times
 pub odd_by-closed : (step : Edge → Edge) (P : Edge → Type 0) → ((e : Edge) → P e → P (step e)) → (S f : Edge → Bool) → ((e : Edge) → P e → f e ≡ differ (S e) (S (step e))) → (es : List Edge) (a : Edge) → P a → IsRun step a es a → odd_by f es ≡ false
 odd_by-closed step P keeps S f h es a p run = odd_by-run step P keeps S f h es a a p run ∙ differ_same (S a)
+
+-- a test holds of as many elements in any order
+pub count_by-order : {A : Type 0} (f : A → Bool) (xs ys : List A) → IsPermutation xs ys → count_by f ys ≡ count_by f xs
+count_by-order f xs ys moved = sum_by-IsPermutation (λ x. cond (f x) 1 0) xs ys moved

@@ -23,7 +23,7 @@ pub record IsPartWalk (f : Edge → Edge) (s : Edge) (n : ℕ) (points : List Po
   pub at : here ≡ nth_after f n s
   pub no_return : NoReturn f n s
 
-points_push : (f : Edge → Edge) (s : Edge) (n : ℕ) (points : List Point) (here : Edge) → points ≡ map start_of (orbit f n s) → here ≡ nth_after f n s → points ++ start_of here ∷ [] ≡ map start_of (orbit f (suc n) s)
+pub points_push : (f : Edge → Edge) (s : Edge) (n : ℕ) (points : List Point) (here : Edge) → points ≡ map start_of (orbit f n s) → here ≡ nth_after f n s → points ++ start_of here ∷ [] ≡ map start_of (orbit f (suc n) s)
 points_push f s n points here passed at =
     ap (λ ps. ps ++ start_of here ∷ []) passed
     ∙ ap (λ e. map start_of (orbit f n s) ++ start_of e ∷ []) at

@@ -16,6 +16,10 @@ use Rattle.path_decompose.specs.Inside.{inside, black_count}
 abbrev pub sign_at : Image → ℕ → ℕ → Sign
 sign_at page x y = cond (page x y) Plus Minus
 
+-- the path of this sign, with so many pixels inside, through these points
+abbrev pub path_of : Sign → ℕ → List Point → Path
+path_of sign area points = record { sign = sign; area = area; points = points }
+
 -- the image with the pixels inside a path inverted
 abbrev pub inverted : Image → List Point → Image
 inverted b points x y = differ (b x y) (inside points x y)
@@ -45,10 +49,14 @@ IsDecomposition page policy paths = IsDecomposed page policy (image_of page) pat
 abbrev pub kept : ℕ → List Path → List Path
 kept t paths = filter (λ path. nat_lt t path.area) paths
 
--- the path has more pixels inside than the limit, where there is one
+-- so many pixels are more than the limit, where there is one
+abbrev pub is_large : Option ℕ → ℕ → Bool
+is_large None area = true
+is_large (Some t) area = nat_lt t area
+
+-- the path has more pixels inside than the limit
 abbrev pub is_above : Option ℕ → Path → Bool
-is_above None path = true
-is_above (Some t) path = nat_lt t path.area
+is_above limit path = is_large limit path.area
 
 -- the paths above the limit, in order
 abbrev pub above : Option ℕ → List Path → List Path

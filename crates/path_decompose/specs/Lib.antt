@@ -27,23 +27,27 @@ pub mod Inside
 --   IsCornerOf: the point is a corner of a pixel of a page of this width and height
 --   IsPathOn: a closed walk over the corners of a page of this width and height, that starts above row 0's lower sides
 pub mod Bounds
--- The upright lines of a path as numbers, so that their order is that of rows.
---   key_of: the key of a line, where it is upright
---   keys_of: the keys of the upright ones of these lines, in their order
---   is_key_in_row: the line of this key stands in row y
---   is_key_crossed: on the way along row y from the left into pixel (x
-pub mod Keys
+-- What is noted down of a walk.
+--   upright_along: the line along which a step leaves corner (x, y), where it is upright
+--   upright_of: the line that an edge runs along, where it is upright
+--   column_if_up: the column x of a step that goes up
+--   column_if_down: and of one that goes down
+--   column_up: the column of an edge that goes up
+--   column_down: the column of an edge that goes down
+pub mod Trail
 -- The search for the pixel where the next path starts.
 --   IsWhiteThrough: on a page of this width the rows above pixel (x, y) are white
 --   IsStart: the first black pixel, or none where all is white
 pub mod Start
 -- The decomposition of a page into paths (Selinger, "Potrace", 2003, section 2.1.1).
 --   sign_at: the sign of a path that starts at pixel (x, y)
+--   path_of: the path of this sign, with so many pixels inside
 --   inverted: the image with the pixels inside a path inverted
 --   IsNextPath: The path that comes next where the page has become the image b
 --   IsDecomposed: these paths come, one after another, where the page has become the image b
 --   IsDecomposition: the paths of a page under a policy
 --   kept: the paths that are no speckles
+--   is_large: so many pixels are more than the limit
 --   is_above: the path has more pixels inside than the limit, where there is one
 --   above: the paths above the limit, in order
 pub mod Decomposition

@@ -5,17 +5,19 @@ ghost use Rattle.bit_image.specs.FirstBlack.{IsFirstBlack};
 ghost use Rattle.bit_image.specs.Image.{Fits};
 ghost use Rattle.bit_image.specs.Page.{SameSides, image_of};
 ghost use Rattle.path_decompose.specs.Bounds.{IsCornerOf, IsPathOn};
-ghost use Rattle.path_decompose.specs.Decomposition.{above, is_above, kept, sign_at, inverted, IsNextPath, IsDecomposition};
+ghost use Rattle.path_decompose.specs.Decomposition.{above, is_large, kept, path_of, sign_at, inverted, IsNextPath, IsDecomposition};
 ghost use Rattle.path_decompose.specs.Inside.{inside};
 ghost use Rattle.path_decompose.specs.Start.{IsWhiteThrough, IsStart};
 ghost use Rattle.path_decompose.specs.Sums.{IsEvenOdd, IsEdgesOnce};
 ghost use Rattle.pt_base.specs.declared.path.Path.{Path};
 
 use crate::inversion::invert;
+use crate::trail::{Trail, empty};
 use crate::walk::walk_round;
 use bit_image::bitmap::Bitmap;
 use pt_base::fault::NoMemory;
 use pt_base::path::{Path, Sign};
+use pt_base::point::Point;
 use pt_base::policy::Policy;
 use pt_base::sequence::Sequence;
 use std::alloc::Global;
@@ -91,66 +93,76 @@ fn found(
     ensures few { IfOk result (λ paths. length paths.items ≤ page.now.width * page.now.height) }
 {
     let mut rest = page.copy(alloc)?;
-    let mut keys = Vec::new(alloc);
+    let mut trail = empty(alloc);
     let mut paths = Vec::new(alloc);
     let mut start = rest.first_black(rest.height() - 1);
     'paths: while let Some((x, y)) = start {
-        let path = next_path(alloc, page, &mut rest, x, y, policy, &mut keys)?;
-        push_above(&mut paths, path, limit)?;
+        let (sign, area) = next_path(page, &mut rest, x, y, policy, &mut trail)?;
+        push_above(alloc, &mut paths, sign, area, &trail.points, limit)?;
         start = start_after(&rest, x, y);
     }
     Ok(paths)
 }
 
 /// Adds a path, where it is above the limit.
-fn push_above(paths: &mut Vec<Path>, path: Path, limit: Option<u32>) -> Result<(), NoMemory>
-    ensures added { OnOk result
-        (paths.new.items ≡ paths.old.items ++ above limit (path ∷ [])) }
+fn push_above(
+    alloc: Global,
+    paths: &mut Vec<Path>,
+    sign: Sign,
+    area: u64,
+    points: &[Point],
+    limit: Option<u32>,
+) -> Result<(), NoMemory>
+    ensures added { OnOk result (paths.new.items
+        ≡ paths.old.items ++ above limit (path_of sign area points.now ∷ [])) }
     ensures more { OnOk result (length paths.new.items ≤ length paths.old.items + 1) }
     ensures kept { OnErr result (paths.new.items ≡ paths.old.items) }
 {
-    if is_above(&path, limit) {
-        paths.push(path)?;
+    if is_above(area, limit) {
+        let points = Vec::from_slice(alloc, points)?;
+        paths.push(Path {
+            sign,
+            area,
+            points: Sequence::from_vec(points),
+        })?;
     }
     Ok(())
 }
 
-fn is_above(path: &Path, limit: Option<u32>) -> bool
-    ensures { result ≡ is_above limit path.now }
+/// Whether a path with so many pixels inside is above the limit.
+fn is_above(area: u64, limit: Option<u32>) -> bool
+    ensures { result ≡ is_large limit area }
 {
     match limit {
         None => true,
-        Some(most) => path.area > u64::from(most),
+        Some(most) => area > u64::from(most),
     }
 }
 
-/// The path from the first black pixel, pixel (x, y); its inside is inverted in `rest`.
+/// The sign of the path from the first black pixel, pixel (x, y), and the number of pixels inside, which are
+/// inverted in `rest`. The path itself is noted down.
 fn next_path(
-    alloc: Global,
     page: &Bitmap,
     rest: &mut Bitmap,
     x: u32,
     y: u32,
     policy: Policy,
-    keys: &mut Vec<u32>,
-) -> Result<Path, NoMemory>
+    trail: &mut Trail,
+) -> Result<(Sign, u64), NoMemory>
     requires first { IsFirstBlack (image_of rest.old) x y }
     requires column { x < rest.old.width }
     requires sides { SameSides page.now rest.old }
     ensures sides { SameSides rest.old rest.new }
-    ensures path { IfOk result (λ path. IsNextPath page.now policy (image_of rest.old) path) }
-    ensures inverted { IfOk result (λ path. (u v : ℕ) → u < rest.old.width
-        → image_of rest.new u v ≡ inverted (image_of rest.old) path.points u v) }
+    ensures path { IfOk result (λ told. IsNextPath page.now policy (image_of rest.old)
+        (path_of told.0 told.1 trail.new.points.items)) }
+    ensures inverted { OnOk result ((u v : ℕ) → u < rest.old.width
+        → image_of rest.new u v ≡ inverted (image_of rest.old) trail.new.points.items u v) }
     ensures white { OnOk result (IsWhiteThrough (image_of rest.new) rest.new.width x y) }
 {
     let sign = sign_at(page, x, y);
-    let points = walk_round(alloc, rest, x, y, policy, sign)?;
-    let area = invert(rest, &points, keys)?;
-    Ok(Path {
-        sign,
-        area,
-        points: Sequence::from_vec(points),
-    })
+    walk_round(rest, x, y, policy, sign, trail)?;
+    invert(rest, &trail.lines, x);
+    Ok((sign, trail.up - trail.down))
 }
 
 /// Whether a path that starts at pixel (x, y) bounds a black shape or a hole.

@@ -12,4 +12,5 @@ mod inversion;
 pub mod laws;
 pub mod line;
 pub mod speckle;
+mod trail;
 mod walk;

@@ -1,64 +1,110 @@
 //! The walk along a boundary, once round.
-ghost use Rattle.std.specs.Prelude.{◌≡◌, ◌≢◌, ℕ, false, IfOk, All, count_by, MatchBool, ◌^◌, ◌<◌, ◌≤◌};
+ghost use Rattle.std.specs.Prelude.{◌≡◌, ◌≢◌, ℕ, ◌+◌, ◌++◌, ◌∷◌, [], false, nat_eq, IfOk, OnOk, All, count_by, MatchBool, ◌^◌, ◌<◌, ◌≤◌};
 ghost use Rattle.bit_image.specs.FirstBlack.{IsFirstBlack};
+ghost use Rattle.bit_image.specs.Image.{is_from};
 ghost use Rattle.bit_image.specs.Page.{image_of};
-ghost use Rattle.path_decompose.specs.Inside.{lines_of, is_odd};
-ghost use Rattle.path_decompose.specs.Line.{IsLineOn, is_in_row};
-ghost use Rattle.path_decompose.specs.Walk.{start_of, first_edge, IsBoundaryWalk};
+ghost use Rattle.path_decompose.specs.declared.trail.Upright.{Upright};
+ghost use Rattle.path_decompose.specs.Inside.{is_odd, inside, black_count};
+ghost use Rattle.path_decompose.specs.Trail.{upright_of, column_up, column_down};
+ghost use Rattle.path_decompose.specs.Walk.{first_edge, start_of, IsBoundaryWalk};
+ghost use Rattle.turn_policies.specs.Boundary.{IsBoundary};
+ghost use Rattle.turn_policies.specs.Turn.{next};
 
+use crate::trail::{Trail, Upright, clear};
 use bit_image::bitmap::Bitmap;
 use pt_base::fault::NoMemory;
 use pt_base::path::Sign;
 use pt_base::point::Point;
 use pt_base::policy::Policy;
-use std::alloc::Global;
 use turn_policies::edge::Edge;
 use turn_policies::heading::Dir;
-use turn_policies::rule::next;
+use turn_policies::rule::turned_at;
 
-/// Walks once round the boundary that starts at the first black pixel, pixel (x, y).
+/// Walks once round the boundary that starts at the first black pixel, pixel (x, y), and notes it down.
 pub fn walk_round(
-    alloc: Global,
     page: &Bitmap,
     x: u32,
     y: u32,
     policy: Policy,
     sign: Sign,
-) -> Result<Vec<Point>, NoMemory>
+    trail: &mut Trail,
+) -> Result<(), NoMemory>
     requires { IsFirstBlack (image_of page.now) x y }
-    ensures walk { IfOk result
-        (λ points. IsBoundaryWalk (image_of page.now) policy sign x y points.items) }
-    ensures lines { IfOk result
-        (λ points. All (IsLineOn page.now.width page.now.height) (lines_of points.items)) }
-    ensures even { IfOk result (λ points. (v : ℕ)
-        → is_odd (count_by (is_in_row v) (lines_of points.items)) ≡ false) }
+    ensures walk { OnOk result
+        (IsBoundaryWalk (image_of page.now) policy sign x y trail.new.points.items) }
+
+    // Its upright lines lie on the page, and have what is inside between them.
+    ensures on_page { OnOk result
+        (All (λ (line : Upright). (line.x ≤ page.now.width) × (line.y < page.now.height))
+        trail.new.lines.items) }
+    ensures even { OnOk result ((v : ℕ)
+        → is_odd (count_by (λ (line : Upright). nat_eq line.y v) trail.new.lines.items) ≡ false) }
+    ensures inside { OnOk result ((u v : ℕ)
+        → is_odd (count_by (λ (line : Upright). is_from line.x line.y u v) trail.new.lines.items)
+        ≡ inside trail.new.points.items u v) }
+    ensures area { OnOk result
+        (black_count (inside trail.new.points.items) page.now.width page.now.height + trail.new.down
+        ≡ trail.new.up) }
 {
     // The sides are asked, so that the proof sees how many edges the page can have.
     let _ = page.width();
-    let mut points = Vec::new(alloc);
+    clear(trail);
     let mut here = Edge {
         x,
         y: y + 1,
         heading: Dir::South,
     };
     'steps: loop {
-        points.push(corner_of(here))?;
-        here = next(page, here, policy, sign);
+        here = step(page, here, policy, sign, trail)?;
         if is_first(here, x, y) {
-            return Ok(points);
+            return Ok(());
         }
     }
 }
 
-/// The corner where an edge begins.
-fn corner_of(edge: Edge) -> Point
-    requires x { edge.x < 2 ^ 31 }
-    requires y { edge.y < 2 ^ 31 }
-    ensures { result ≡ start_of edge }
+/// The edge that follows an edge of a boundary, which is noted down.
+#[inline(always)]
+fn step(
+    page: &Bitmap,
+    edge: Edge,
+    policy: Policy,
+    sign: Sign,
+    trail: &mut Trail,
+) -> Result<Edge, NoMemory>
+    requires boundary { IsBoundary (image_of page.now) edge }
+    requires up { trail.old.up < 2 ^ 63 }
+    requires down { trail.old.down < 2 ^ 63 }
+    ensures value { IfOk result (λ after. after ≡ next (image_of page.now) policy sign edge) }
+    ensures boundary { IfOk result (λ after. IsBoundary (image_of page.now) after) }
+    ensures points { OnOk result
+        (trail.new.points.items ≡ trail.old.points.items ++ start_of edge ∷ []) }
+    ensures lines { OnOk result
+        (trail.new.lines.items ≡ trail.old.lines.items ++ upright_of edge) }
+    ensures up { OnOk result (trail.new.up ≡ trail.old.up + column_up edge) }
+    ensures down { OnOk result (trail.new.down ≡ trail.old.down + column_down edge) }
 {
-    Point {
-        x: edge.x as i32,
-        y: edge.y as i32,
+    // A boundary edge lies on the page, so its end has small coordinates too.
+    let (width, height) = (page.width(), page.height());
+    prove!(edge.x <= width && edge.y <= height);
+    let Edge { x, y, heading } = edge;
+    trail.points.push(Point {
+        x: x as i32,
+        y: y as i32,
+    })?;
+    // Each heading has code of its own, so that the processor foresees the turns better.
+    match heading {
+        Dir::North => {
+            trail.lines.push(Upright { x, y })?;
+            trail.up += u64::from(x);
+            Ok(turned_at(page, x, y + 1, Dir::North, policy, sign))
+        }
+        Dir::East => Ok(turned_at(page, x + 1, y, Dir::East, policy, sign)),
+        Dir::South => {
+            trail.lines.push(Upright { x, y: y - 1 })?;
+            trail.down += u64::from(x);
+            Ok(turned_at(page, x, y - 1, Dir::South, policy, sign))
+        }
+        Dir::West => Ok(turned_at(page, x - 1, y, Dir::West, policy, sign)),
     }
 }
 

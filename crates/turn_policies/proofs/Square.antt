@@ -121,3 +121,11 @@ next_row pixels row j b x y short small before here = λ i k p q.
 
 pub all_rows : (pixels : ℕ) (b : Image) (x y : ℕ) → IsSquareTo 8 pixels b x y → (i j : ℕ) → i < 8 → j < 8 → is_one pixels (8 * j + i) ≡ behind b 4 (x + i) (y + j)
 all_rows pixels b x y whole = λ i j p q. whole i j p q ∙ ap (λ t. t && behind b 4 (x + i) (y + j)) (lt-ltb j 8 q)
+
+-- a pixel that lies on the page
+pub in_page : (b : Image) (row : List ℕ) (x y i : ℕ) → 4 ≤ x → 4 ≤ y → ((u : ℕ) → black_in row u ≡ b u (y - 4)) → black_in row (x - 4 + i) ≡ behind b 4 (x + i) y
+in_page b row x y i right high same =
+    let place : x - 4 + i ≡ x + i - 4 = omega arith in
+    let left : 4 ≤ x + i = omega arith in
+    ap (black_in row) place ∙ same (x + i - 4)
+    ∙ sym (ap (λ t. t && nat_le 4 y && b (x + i - 4) (y - 4)) (le-leb 4 (x + i) left) ∙ ap (λ t. t && b (x + i - 4) (y - 4)) (le-leb 4 y high))

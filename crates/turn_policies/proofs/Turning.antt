@@ -1,5 +1,5 @@
 -- A turned edge has black on its left and white on its right again.
-use Rattle.std.proofs.Common.{◌≡◌, ◌≢◌, ℕ, zero, suc, Bool, true, false, refl, ◌∙◌}
+use Rattle.std.proofs.Common.{◌≡◌, ◌≢◌, ℕ, zero, suc, Bool, true, false, refl, ap, sym, ◌∙◌}
 use Rattle.std.proofs.lemmas.Bool.{false≢true}
 use Rattle.pt_base.specs.declared.path.Sign.{Sign}
 use Rattle.pt_base.specs.declared.policy.Policy.{Policy}
@@ -10,7 +10,7 @@ use Rattle.turn_policies.specs.declared.edge.Edge.{Edge}
 use Rattle.turn_policies.specs.Heading.{left_of, right_of, opposite_of, end_x, end_y}
 use Rattle.turn_policies.specs.Boundary.{left_pixel, right_pixel, IsBoundary}
 use Rattle.turn_policies.specs.Majority.{major}
-use Rattle.turn_policies.specs.Turn.{goes_right, turn_of, next}
+use Rattle.turn_policies.specs.Turn.{goes_right, turn_of, turn, next}
 
 -- the pixel behind a corner, on the left of the edge that came there
 abbrev pub left_behind : (ℕ → ℕ → Bool) → ℕ → ℕ → Dir → Bool
@@ -128,3 +128,14 @@ onwards false true false d = left_of≢opposite_of d
 onwards true true right d = right_of≢opposite_of d
 onwards false false right d = left_of≢opposite_of d
 onwards true false right d = same≢opposite_of d
+
+-- the edge at an edge's end, on which the turn there leads, is the next one
+pub next_is : (b : Image) (policy : Policy) (sign : Sign) (e n : Edge) (d : Dir) (x y : ℕ) → e.heading ≡ d → x ≡ end_x e.x d → y ≡ end_y e.y d
+    → n.x ≡ x → n.y ≡ y → n.heading ≡ turn b policy sign x y d → n ≡ next b policy sign e
+next_is b policy sign e n d x y is column row nx ny nh =
+    let made : ℕ → ℕ → Dir → Edge = λ u v h. record { x = u; y = v; heading = h } in
+    let u : x ≡ end_x e.x e.heading = column ∙ ap (end_x e.x) (sym is) in
+    let v : y ≡ end_y e.y e.heading = row ∙ ap (end_y e.y) (sym is) in
+    let h : n.heading ≡ turn b policy sign (end_x e.x e.heading) (end_y e.y e.heading) e.heading =
+    nh ∙ ap (turn b policy sign x y) (sym is) ∙ ap (λ k. turn b policy sign k y e.heading) u ∙ ap (λ k. turn b policy sign (end_x e.x e.heading) k e.heading) v in
+    ap (λ k. made k n.y n.heading) (nx ∙ u) ∙ ap (λ k. made (end_x e.x e.heading) k n.heading) (ny ∙ v) ∙ ap (made (end_x e.x e.heading) (end_y e.y e.heading)) h

@@ -1,5 +1,5 @@
 //! The pixels around a corner, in one word.
-ghost use Rattle.std.specs.Prelude.{◌≡◌, ℕ, ◌+◌, ◌≤◌, ◌<◌, ◌^◌, ◌∷◌, slice_index_or};
+ghost use Rattle.std.specs.Prelude.{◌≡◌, ℕ, ◌+◌, ◌-◌, ◌%◌, ◌≤◌, ◌<◌, ◌^◌, ◌∷◌, slice_index_or};
 ghost use Rattle.bit_image.specs.Page.{image_of};
 ghost use Rattle.bit_image.specs.Words.{is_one, black_in};
 ghost use Rattle.turn_policies.specs.Majority.{behind};
@@ -10,6 +10,52 @@ use bit_image::bitmap::Bitmap;
 /// The square of 64 pixels with corner (x, y) at its middle: bits 0 to 7 are its lowest row from the
 /// left, bits 8 to 15 the next one, and so on.
 pub fn square(page: &Bitmap, x: u32, y: u32) -> u64
+    requires x { x ≤ 32767 }
+    requires y { y ≤ 32767 }
+    ensures { IsSquare result (image_of page.now) x y }
+{
+    // Nearly all squares lie on the page, and most of these in one word of each row.
+    let (width, height) = (page.width(), page.height());
+    if x >= 4 && x < width && (x - 4) % 64 <= 56 && y >= 4 && y + 4 <= height {
+        inner_square(page, x, y)
+    } else {
+        any_square(page, x, y)
+    }
+}
+
+/// The square around a corner that isn't near the page's sides, where each row's pixels lie in one word.
+fn inner_square(page: &Bitmap, x: u32, y: u32) -> u64
+    requires left { 4 ≤ x }
+    requires right { x < page.now.width }
+    requires word { (x - 4) % 64 ≤ 56 }
+    requires low { 4 ≤ y }
+    requires high { y + 4 ≤ page.now.height }
+    ensures { IsSquare result (image_of page.now) x y }
+{
+    // The sides are asked, so that the proof sees that a page is small.
+    let _ = page.width();
+    let mut pixels = 0;
+    for j in 0..8 {
+        pixels |= inner_row(page, x, y + j) << (8 * j);
+    }
+    pixels
+}
+
+/// The 8 pixels 4 rows below row `y`, from 4 columns left of column `x` on.
+fn inner_row(page: &Bitmap, x: u32, y: u32) -> u64
+    requires left { 4 ≤ x }
+    requires right { x < page.now.width }
+    requires word { (x - 4) % 64 ≤ 56 }
+    requires low { 4 ≤ y }
+    requires high { y < page.now.height + 4 }
+    ensures pixels { (i : ℕ) → i < 8 → is_one result i ≡ behind (image_of page.now) 4 (x + i) y }
+    ensures small { result < 2 ^ 8 }
+{
+    page.row_words(y - 4)[(x as usize - 4) / 64] >> ((x - 4) % 64) & 0xFF
+}
+
+/// The square around any corner.
+fn any_square(page: &Bitmap, x: u32, y: u32) -> u64
     requires x { x ≤ 32767 }
     requires y { y ≤ 32767 }
     ensures { IsSquare result (image_of page.now) x y }

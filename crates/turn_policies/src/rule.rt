@@ -31,14 +31,13 @@ pub fn turn(page: &Bitmap, at: Point, heading: Dir, policy: Policy, sign: Sign) 
 }
 
 /// Where a path goes on that comes to corner (x, y) with a heading.
+#[inline(always)]
 pub fn turn_at(page: &Bitmap, x: u32, y: u32, heading: Dir, policy: Policy, sign: Sign) -> Dir
     requires x { x ≤ 32767 }
     requires y { y ≤ 32767 }
     ensures { result ≡ turn (image_of page.now) policy sign x y heading }
 {
-    let left = is_left_black(page, x, y, heading);
-    let right = is_right_black(page, x, y, heading);
-    match (left, right) {
+    match pixels_ahead(page, x, y, heading) {
         (true, false) => heading,
         (true, true) => heading.right(),
         (false, false) => heading.left(),
@@ -61,41 +60,47 @@ pub fn next(page: &Bitmap, edge: Edge, policy: Policy, sign: Sign) -> Edge
     // A boundary edge lies on the page, so its end has small coordinates too.
     let (width, height) = (page.width(), page.height());
     prove!(edge.x <= width && edge.y <= height);
-    let x = edge.end_x();
-    let y = edge.end_y();
-    let heading = turn_at(page, x, y, edge.heading, policy, sign);
-    Edge { x, y, heading }
-}
-
-/// Whether the pixel on the left of the edge that leaves corner (x, y) is black.
-fn is_left_black(page: &Bitmap, x: u32, y: u32, heading: Dir) -> bool
-    requires x { x ≤ 32767 }
-    requires y { y ≤ 32767 }
-    ensures { result ≡ left_pixel (south_west (image_of page.now)) x y heading }
-{
+    let Edge { x, y, heading } = edge;
+    // Each heading has code of its own, so that the processor foresees a walk's turns better.
     match heading {
-        Dir::North => page.south_west(x, y + 1),
-        Dir::East => page.south_west(x + 1, y + 1),
-        Dir::South => page.south_west(x + 1, y),
-        Dir::West => page.south_west(x, y),
+        Dir::North => turned_at(page, x, y + 1, Dir::North, policy, sign),
+        Dir::East => turned_at(page, x + 1, y, Dir::East, policy, sign),
+        Dir::South => turned_at(page, x, y - 1, Dir::South, policy, sign),
+        Dir::West => turned_at(page, x - 1, y, Dir::West, policy, sign),
     }
 }
 
-/// Whether the pixel on the right of the edge that leaves corner (x, y) is black.
-fn is_right_black(page: &Bitmap, x: u32, y: u32, heading: Dir) -> bool
+/// The edge on which a path goes on that comes to corner (x, y) with a heading.
+#[inline(always)]
+pub fn turned_at(page: &Bitmap, x: u32, y: u32, heading: Dir, policy: Policy, sign: Sign) -> Edge
     requires x { x ≤ 32767 }
     requires y { y ≤ 32767 }
-    ensures { result ≡ right_pixel (south_west (image_of page.now)) x y heading }
+    ensures x { result.x ≡ x }
+    ensures y { result.y ≡ y }
+    ensures heading { result.heading ≡ turn (image_of page.now) policy sign x y heading }
+{
+    let heading = turn_at(page, x, y, heading, policy, sign);
+    Edge { x, y, heading }
+}
+
+/// Whether the pixels on the left and on the right of the edge that leaves corner (x, y) are black.
+#[inline(always)]
+fn pixels_ahead(page: &Bitmap, x: u32, y: u32, heading: Dir) -> (bool, bool)
+    requires x { x ≤ 32767 }
+    requires y { y ≤ 32767 }
+    ensures left { result.0 ≡ left_pixel (south_west (image_of page.now)) x y heading }
+    ensures right { result.1 ≡ right_pixel (south_west (image_of page.now)) x y heading }
 {
     match heading {
-        Dir::North => page.south_west(x + 1, y + 1),
-        Dir::East => page.south_west(x + 1, y),
-        Dir::South => page.south_west(x, y),
-        Dir::West => page.south_west(x, y + 1),
+        Dir::North => (page.south_west(x, y + 1), page.south_west(x + 1, y + 1)),
+        Dir::East => (page.south_west(x + 1, y + 1), page.south_west(x + 1, y)),
+        Dir::South => (page.south_west(x + 1, y), page.south_west(x, y)),
+        Dir::West => (page.south_west(x, y), page.south_west(x, y + 1)),
     }
 }
 
 /// Whether the policy turns right at corner (x, y), where the pixels ahead leave a choice.
+#[inline(never)]
 fn chooses_right(page: &Bitmap, x: u32, y: u32, policy: Policy, sign: Sign) -> bool
     requires x { x ≤ 32767 }
     requires y { y ≤ 32767 }

@@ -35,8 +35,8 @@ paths-smaller c =
     let start = c.start_after-start.result in
     let first : IsFirstBlack (image_of c.paths.rest) x y = subst (IsStart (image_of c.paths.rest)) c.in-Some.is c.paths.invariant.start in
     let place = c.paths.invariant.fits x y first.black in
-    let kept : rest.width ≡ c.paths.rest.width = c.in_ok-path.ensures.sides.width in
-    let fall = places_left_fall (image_of rest) rest.width rest.height x y start c.start_after-start.ensures.fits (omega arith) c.in_ok-path.ensures.white c.start_after-start.ensures.start in
+    let kept : rest.width ≡ c.paths.rest.width = c.in_ok-sign.ensures.sides.width in
+    let fall = places_left_fall (image_of rest) rest.width rest.height x y start c.start_after-start.ensures.fits (omega arith) c.in_ok-sign.ensures.white c.start_after-start.ensures.start in
     subst (λ s. places_left page.width start < places_left page.width s) (sym c.in-Some.is)
     (subst (λ width. places_left width start < y * width + (width - x)) (kept ∙ c.paths.invariant.sides.width) fall)
 
@@ -46,7 +46,7 @@ paths-preserved c =
     let rest = c.next_path.new.rest in
     let before = c.paths.rest in
     let fewer : places_left page.width c.start_after-start.result < places_left page.width c.paths.start = paths-smaller c in
-    let sides : SameSides before rest = c.in_ok-path.ensures.sides in
+    let sides : SameSides before rest = c.in_ok-sign.ensures.sides in
     let fits : Fits (image_of rest) before.width before.height =
     subst (λ width. Fits (image_of rest) width before.height) sides.width (subst (λ height. Fits (image_of rest) rest.width height) sides.height c.start_after-start.ensures.fits) in
     record {
@@ -57,8 +57,8 @@ paths-preserved c =
       fits = c.start_after-start.ensures.fits;
       start = c.start_after-start.ensures.start;
       paths =
-          above_push page c.args.policy (image_of page) c.args.limit c.paths.paths.items c.push_above.new.paths.items (image_of before) (image_of rest) c.in_ok-path.path before.width before.height
-          c.paths.invariant.paths c.in_ok-path.ensures.path c.paths.invariant.fits fits c.in_ok-path.ensures.inverted c.in_ok-push_above.ensures.added;
+          above_push page c.args.policy (image_of page) c.args.limit c.paths.paths.items c.push_above.new.paths.items (image_of before) (image_of rest) _ before.width before.height
+          c.paths.invariant.paths c.in_ok-sign.ensures.path c.paths.invariant.fits fits c.in_ok-sign.ensures.inverted (rw (← c.deref.ensures.value) c.in_ok-push_above.ensures.added);
       few = omega (arith, fewer, c.in_ok-push_above.ensures.more, c.paths.invariant.few);
     }
 

@@ -1,21 +1,24 @@
--- The lines of the walk lie on the page, and once its inside is inverted all is white through its start.
-use Rattle.std.proofs.Common.{◌∙◌, ap, sym, subst}
-use Rattle.bit_image.specs.Image.{differ}
+-- What is noted down of the walk says what lies inside, and once that is inverted all is white through its start.
+use Rattle.std.proofs.Common.{sym, subst}
 use Rattle.bit_image.specs.Page.{image_of}
-use Rattle.path_decompose.specs.Inside.{inside}
 use Rattle.path_decompose.specs.Start.{IsWhiteThrough}
 use Rattle.path_decompose.proofs.Walked.{white_through}
 use Rattle.path_decompose.proofs.decomposition.next_path.Goals as goal
 
-pub invert-requires-clause-lines : goal.invert-requires-clause-lines
-invert-requires-clause-lines c = rw c.deref.ensures.value c.in_ok-points.ensures.lines
+pub invert-requires-clause-on_page : goal.invert-requires-clause-on_page
+invert-requires-clause-on_page c = rw c.deref.ensures.value c.in_ok-walk_round.ensures.on_page
 
 pub invert-requires-clause-even : goal.invert-requires-clause-even
-invert-requires-clause-even c = rw c.deref.ensures.value c.in_ok-points.ensures.even
+invert-requires-clause-even c = rw c.deref.ensures.value c.in_ok-walk_round.ensures.even
+
+pub returns-clause-inverted : goal.returns-clause-inverted
+returns-clause-inverted c = λ u v left.
+    let rest = c.args.rest.now in
+    rw (← c.in_ok-walk_round.ensures.inside u v) (rw (← c.deref.ensures.value) (c.invert.ensures.pixels u v))
 
 pub returns-clause-white : goal.returns-clause-white
 returns-clause-white c =
     let rest = c.args.rest.now in
     subst (λ width. IsWhiteThrough (image_of c.invert.new.page) width c.args.x c.args.y) (sym c.invert.ensures.sides.width)
-    (white_through (image_of rest) (image_of c.invert.new.page) _ _ _ _ _ _ c.requires.first c.in_ok-points.ensures.walk c.requires.column
-    (λ u v left. c.in_ok-area.ensures.pixels u v ∙ ap (λ points. differ (image_of rest u v) (inside points u v)) c.deref.ensures.value))
+    (white_through (image_of rest) (image_of c.invert.new.page) _ _ _ _ _ _ c.requires.first c.in_ok-walk_round.ensures.walk c.requires.column
+    (λ u v left. rw (← c.in_ok-walk_round.ensures.inside u v) (rw (← c.deref.ensures.value) (c.invert.ensures.pixels u v))))

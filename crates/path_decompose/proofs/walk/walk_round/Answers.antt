@@ -1,37 +1,69 @@
--- Each push is one more step of the walk; the first edge comes again before the page has no more edges.
-use Rattle.std.proofs.Common.{◌∙◌, ◌<◌, ◌*◌, suc, sym, arith, add-one, vec_len}
-use Rattle.path_decompose.proofs.Steps.{part_more, part_closed, part_short}
-use Rattle.path_decompose.proofs.Walked.{walk_lines_on, walk_rows_even}
+-- Each edge is one more step of the walk; the first edge comes again before the page has no more edges.
+use Rattle.std.proofs.Common.{◌≡◌, ◌∙◌, ◌<◌, ◌≤◌, ◌*◌, suc, length, ap, sym, arith, add-one}
+use Rattle.bit_image.specs.Page.{image_of}
+use Rattle.path_decompose.proofs.Noted.{none_noted, length-push, noted_more, noted_closed, noted_small}
+use Rattle.path_decompose.proofs.OnPage.{edge_on}
+use Rattle.path_decompose.proofs.Round.{first_boundary}
 use Rattle.path_decompose.proofs.walk.walk_round.Goals as goal
+
+pub steps-init : goal.steps-init
+steps-init c =
+    rw add-one
+    (record {
+      noted = none_noted _ _ _ _ _ _ c.clear.ensures.points c.clear.ensures.lines c.clear.ensures.up c.clear.ensures.down;
+      boundary = first_boundary _ _ _ c.requires;
+    })
+
+pub step-requires-clause-up : goal.step-requires-clause-up
+step-requires-clause-up c =
+    (noted_small _ _ _ _ _ c.args.page.now.width c.args.page.now.height _ _ _ _ _ c.requires c.width.ensures.fits c.width.ensures.page.most_width c.width.ensures.page.most_height c.steps.invariant.noted).1
+
+pub step-requires-clause-down : goal.step-requires-clause-down
+step-requires-clause-down c =
+    (noted_small _ _ _ _ _ c.args.page.now.width c.args.page.now.height _ _ _ _ _ c.requires c.width.ensures.fits c.width.ensures.page.most_width c.width.ensures.page.most_height c.steps.invariant.noted).2
 
 pub returns-then-is_first-clause-walk : goal.returns-then-is_first-clause-walk
 returns-then-is_first-clause-walk c =
-    rw (c.in_ok-push.ensures.items, c.corner_of.ensures)
-    (part_closed _ _ _ _ _ _ _ _ c.requires c.steps.invariant.part (sym c.next-here.ensures.value ∙ c.if-is_first.ensures))
+    (noted_closed _ _ _ _ _ c.args.page.now.width c.args.page.now.height _ _ _ _ _ _ _ _ _ c.requires c.width.ensures.fits c.steps.invariant.noted
+    c.in_ok-here.ensures.points c.in_ok-here.ensures.lines c.in_ok-here.ensures.up c.in_ok-here.ensures.down (sym c.in_ok-here.ensures.value ∙ c.if-is_first.ensures)).walk
 
-pub returns-then-is_first-clause-lines : goal.returns-then-is_first-clause-lines
-returns-then-is_first-clause-lines c =
-    let walk = part_closed _ _ _ _ _ _ _ _ c.requires c.steps.invariant.part (sym c.next-here.ensures.value ∙ c.if-is_first.ensures) in
-    rw (c.in_ok-push.ensures.items, c.corner_of.ensures)
-    (walk_lines_on _ _ _ _ _ _ _ _ c.requires walk c.width.ensures.fits)
+pub returns-then-is_first-clause-on_page : goal.returns-then-is_first-clause-on_page
+returns-then-is_first-clause-on_page c =
+    (noted_closed _ _ _ _ _ c.args.page.now.width c.args.page.now.height _ _ _ _ _ _ _ _ _ c.requires c.width.ensures.fits c.steps.invariant.noted
+    c.in_ok-here.ensures.points c.in_ok-here.ensures.lines c.in_ok-here.ensures.up c.in_ok-here.ensures.down (sym c.in_ok-here.ensures.value ∙ c.if-is_first.ensures)).on_page
 
 pub returns-then-is_first-clause-even : goal.returns-then-is_first-clause-even
 returns-then-is_first-clause-even c =
-    let walk = part_closed _ _ _ _ _ _ _ _ c.requires c.steps.invariant.part (sym c.next-here.ensures.value ∙ c.if-is_first.ensures) in
-    rw (c.in_ok-push.ensures.items, c.corner_of.ensures)
-    (walk_rows_even _ _ _ _ _ _ _ _ c.requires walk c.width.ensures.fits)
+    (noted_closed _ _ _ _ _ c.args.page.now.width c.args.page.now.height _ _ _ _ _ _ _ _ _ c.requires c.width.ensures.fits c.steps.invariant.noted
+    c.in_ok-here.ensures.points c.in_ok-here.ensures.lines c.in_ok-here.ensures.up c.in_ok-here.ensures.down (sym c.in_ok-here.ensures.value ∙ c.if-is_first.ensures)).even
+
+pub returns-then-is_first-clause-inside : goal.returns-then-is_first-clause-inside
+returns-then-is_first-clause-inside c =
+    (noted_closed _ _ _ _ _ c.args.page.now.width c.args.page.now.height _ _ _ _ _ _ _ _ _ c.requires c.width.ensures.fits c.steps.invariant.noted
+    c.in_ok-here.ensures.points c.in_ok-here.ensures.lines c.in_ok-here.ensures.up c.in_ok-here.ensures.down (sym c.in_ok-here.ensures.value ∙ c.if-is_first.ensures)).inside_is
+
+pub returns-then-is_first-clause-area : goal.returns-then-is_first-clause-area
+returns-then-is_first-clause-area c =
+    (noted_closed _ _ _ _ _ c.args.page.now.width c.args.page.now.height _ _ _ _ _ _ _ _ _ c.requires c.width.ensures.fits c.steps.invariant.noted
+    c.in_ok-here.ensures.points c.in_ok-here.ensures.lines c.in_ok-here.ensures.up c.in_ok-here.ensures.down (sym c.in_ok-here.ensures.value ∙ c.if-is_first.ensures)).area
 
 pub steps-smaller : goal.steps-smaller
 steps-smaller c =
     let page = c.args.page.now in
-    let more : vec_len c.steps.points < suc page.width * suc page.height * 4 =
-    part_short _ _ _ _ _ _ _ _ page.width page.height c.requires c.width.ensures.fits c.steps.invariant.part in
-    omega (arith, more, c.in_ok-push.ensures.len)
+    let points = c.steps.trail.points.items in
+    let short : length points < suc page.width * suc page.height * 4 =
+    (noted_small _ _ _ _ _ page.width page.height _ _ _ _ _ c.requires c.width.ensures.fits c.width.ensures.page.most_width c.width.ensures.page.most_height c.steps.invariant.noted).0 in
+    let more : length c.step.new.trail.points.items ≡ suc (length points) = ap length c.in_ok-here.ensures.points ∙ length-push points _ in
+    omega (arith, short, more)
 
 pub steps-preserved : goal.steps-preserved
-steps-preserved c = record {
-  part =
-      rw (c.in_ok-push.ensures.items, c.in_ok-push.ensures.len, add-one, c.corner_of.ensures, c.next-here.ensures.value)
-      (part_more _ _ _ _ _ c.steps.invariant.part (λ e. c.if-is_first.ensures (c.next-here.ensures.value ∙ e)));
-  boundary = c.next-here.ensures.boundary;
-}
+steps-preserved c =
+    let page = c.args.page.now in
+    let on = edge_on (image_of page) page.width page.height c.width.ensures.fits c.steps.here c.steps.invariant.boundary in
+    let narrow : c.steps.here.x ≤ 16384 = omega (arith, on.column, c.width.ensures.page.most_width) in
+    record {
+      noted =
+          noted_more _ _ _ _ _ _ _ _ _ _ _ _ c.steps.invariant.noted narrow c.in_ok-here.ensures.points c.in_ok-here.ensures.lines c.in_ok-here.ensures.up c.in_ok-here.ensures.down
+          c.in_ok-here.ensures.value (λ e. c.if-is_first.ensures (c.in_ok-here.ensures.value ∙ e));
+      boundary = c.in_ok-here.ensures.boundary;
+    }

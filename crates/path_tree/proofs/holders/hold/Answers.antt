@@ -2,8 +2,7 @@
 use Rattle.std.proofs.Common.{◌/◌, ◌%◌, ◌&&◌, ℕ, count_by, get_or, ap, sym, ◌∙◌}
 use Rattle.std.proofs.lemmas.List.Sorted.{IsNonDecreasingBy-from_sort}
 use Rattle.path_decompose.specs.Inside.{inside, is_odd, lines_of}
-use Rattle.path_decompose.proofs.Keys.{count_by-order}
-use Rattle.path_decompose.proofs.Parity.{is_odd-count}
+use Rattle.path_decompose.proofs.Parity.{count_by-order, is_odd-count}
 use Rattle.path_tree.specs.declared.starts.TheConstants.{ROW}
 use Rattle.path_tree.specs.Groups.{is_plus}
 use Rattle.path_tree.specs.Starts.{is_in, is_passed, is_place_in, places_of}

@@ -2,14 +2,14 @@
 use Rattle.std.proofs.Common.{◌≡◌, subst, arith}
 use Rattle.bit_image.specs.Page.{image_of}
 use Rattle.turn_policies.proofs.Square.{IsSquareTo, no_rows, next_row, all_rows}
-use Rattle.turn_policies.proofs.around.square.Goals as goal
+use Rattle.turn_policies.proofs.around.inner_square.Goals as goal
 
 pub loop-j-init : goal.loop-j-init
 loop-j-init c = no_rows (image_of c.args.page.now) c.args.x c.args.y
 
 pub loop-j-preserved : goal.loop-j-preserved
 loop-j-preserved c =
-    next_row c.loop-j.pixels c.row_behind.result c.loop-j.j (image_of c.args.page.now) c.args.x c.args.y (omega arith) c.row_behind.ensures.small c.loop-j.invariant c.row_behind.ensures.pixels
+    next_row c.loop-j.pixels c.inner_row.result c.loop-j.j (image_of c.args.page.now) c.args.x c.args.y (omega arith) c.inner_row.ensures.small c.loop-j.invariant c.inner_row.ensures.pixels
 
 pub returns : goal.returns
 returns c =

@@ -1,0 +1,47 @@
+-- Each heading's end, and the turn there.
+use Rattle.std.proofs.Common.{◌≡◌, ◌-◌, ◌+◌, suc, pred, refl, sym, subst, arith}
+use Rattle.bit_image.specs.Page.{image_of}
+use Rattle.turn_policies.specs.Boundary.{IsBoundary}
+use Rattle.turn_policies.specs.declared.heading.Dir.TheVariants.{North, East, South, West}
+use Rattle.turn_policies.proofs.Turning.{next_boundary, next_is}
+use Rattle.path_decompose.proofs.walk.step.Goals as goal
+
+pub returns-in_ok-push-in-North-clause-value : goal.returns-in_ok-push-in-North-clause-value
+returns-in_ok-push-in-North-clause-value c =
+    let row : c.args.edge.y + 1 ≡ suc c.args.edge.y = omega arith in
+    next_is _ _ _ c.args.edge _ North c.args.edge.x (c.args.edge.y + 1) c.in-North.is refl row
+    c.turned_at.ensures.x c.turned_at.ensures.y c.turned_at.ensures.heading
+
+pub returns-in_ok-push-in-North-clause-boundary : goal.returns-in_ok-push-in-North-clause-boundary
+returns-in_ok-push-in-North-clause-boundary c =
+    subst (IsBoundary (image_of c.args.page.now)) (sym (returns-in_ok-push-in-North-clause-value c)) (next_boundary _ _ _ _ c.requires.boundary)
+
+pub returns-in-East-clause-value : goal.returns-in-East-clause-value
+returns-in-East-clause-value c =
+    let column : c.args.edge.x + 1 ≡ suc c.args.edge.x = omega arith in
+    next_is _ _ _ c.args.edge _ East (c.args.edge.x + 1) c.args.edge.y c.in-East.is column refl
+    c.turned_at-in-East.ensures.x c.turned_at-in-East.ensures.y c.turned_at-in-East.ensures.heading
+
+pub returns-in-East-clause-boundary : goal.returns-in-East-clause-boundary
+returns-in-East-clause-boundary c =
+    subst (IsBoundary (image_of c.args.page.now)) (sym (returns-in-East-clause-value c)) (next_boundary _ _ _ _ c.requires.boundary)
+
+pub returns-in_ok-push-in-South-clause-value : goal.returns-in_ok-push-in-South-clause-value
+returns-in_ok-push-in-South-clause-value c =
+    let row : c.args.edge.y - 1 ≡ pred c.args.edge.y = omega arith in
+    next_is _ _ _ c.args.edge _ South c.args.edge.x (c.args.edge.y - 1) c.in-South.is refl row
+    c.turned_at-in-South.ensures.x c.turned_at-in-South.ensures.y c.turned_at-in-South.ensures.heading
+
+pub returns-in_ok-push-in-South-clause-boundary : goal.returns-in_ok-push-in-South-clause-boundary
+returns-in_ok-push-in-South-clause-boundary c =
+    subst (IsBoundary (image_of c.args.page.now)) (sym (returns-in_ok-push-in-South-clause-value c)) (next_boundary _ _ _ _ c.requires.boundary)
+
+pub returns-in-West-clause-value : goal.returns-in-West-clause-value
+returns-in-West-clause-value c =
+    let column : c.args.edge.x - 1 ≡ pred c.args.edge.x = omega arith in
+    next_is _ _ _ c.args.edge _ West (c.args.edge.x - 1) c.args.edge.y c.in-West.is column refl
+    c.turned_at-in-West.ensures.x c.turned_at-in-West.ensures.y c.turned_at-in-West.ensures.heading
+
+pub returns-in-West-clause-boundary : goal.returns-in-West-clause-boundary
+returns-in-West-clause-boundary c =
+    subst (IsBoundary (image_of c.args.page.now)) (sym (returns-in-West-clause-value c)) (next_boundary _ _ _ _ c.requires.boundary)

@@ -1,0 +1,48 @@
+//! What is noted down of a walk along a boundary.
+ghost use Rattle.std.specs.Prelude.{◌≡◌, []};
+
+use pt_base::point::Point;
+use std::alloc::Global;
+
+/// The left side of pixel (x, y).
+#[derive(Clone, Copy, Debug)]
+pub struct Upright {
+    pub x: u32,
+    pub y: u32,
+}
+
+/// What is noted down of a walk along a boundary. A trail serves for one walk after another.
+#[derive(Debug, Drop)]
+pub struct Trail {
+    /// The corners where its edges begin.
+    pub points: Vec<Point>,
+    /// The upright lines that it goes along.
+    pub lines: Vec<Upright>,
+    /// The columns of those that it goes up, summed up.
+    pub up: u64,
+    /// The columns of those that it goes down, summed up.
+    pub down: u64,
+}
+
+/// The trail of no walk.
+pub fn empty(alloc: Global) -> Trail {
+    Trail {
+        points: Vec::new(alloc),
+        lines: Vec::new(alloc),
+        up: 0,
+        down: 0,
+    }
+}
+
+/// Forgets the walk.
+pub fn clear(trail: &mut Trail)
+    ensures points { trail.new.points.items ≡ [] }
+    ensures lines { trail.new.lines.items ≡ [] }
+    ensures up { trail.new.up ≡ 0 }
+    ensures down { trail.new.down ≡ 0 }
+{
+    trail.points.clear();
+    trail.lines.clear();
+    trail.up = 0;
+    trail.down = 0;
+}
