@@ -55,6 +55,12 @@ module _ (a b c d : ℤ) (ha : unsigned_abs a ≤ 2 ^ 27) (hb : unsigned_abs b �
       let q = product_most c d (2 ^ 27) (2 ^ 30) hc hd in
       rw (back a (omega arith), back b (omega arith), back c (omega arith), back d (omega arith), back (a *ℤ b) (omega arith), back (c *ℤ d) (omega arith)) refl
 
+-- their products fit as well
+pub product_fits : (a b : ℤ) → unsigned_abs a ≤ 2 ^ 27 → unsigned_abs b ≤ 2 ^ 30 → FitsSigned w64 (to_z w64 (of_z w64 a) *ℤ to_z w64 (of_z w64 b))
+product_fits a b ha hb =
+    let most = product_most a b (2 ^ 27) (2 ^ 30) ha hb in
+    rw (back a (omega arith), back b (omega arith)) (fits_signed_from_abs w64 (a *ℤ b) (omega arith))
+
 -- so a number of the code that is one of the formulas'
 pub back_of : (a b : ℤ) (m : ℕ) → a ≡ b → unsigned_abs b ≤ m → m < 2 ^ 63 → to_z w64 (of_z w64 a) ≡ b
 back_of a b m e h k = rw e (back b (omega arith))

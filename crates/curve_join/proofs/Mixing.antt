@@ -19,6 +19,32 @@ pub weights : (u : ℕ) → u ≤ 64
     → (64 - u) * (64 - u) * (64 - u) + 3 * u * (64 - u) * (64 - u) + 3 * u * u * (64 - u) + u * u * u ≡ 262144
 weights u few = weights_by u (64 - u) (omega arith)
 
+-- those of a quadratic one are 64 * 64
+squares_by : (u r : ℕ) → u + r ≡ 64 → r * r + 2 * u * r + u * u ≡ 4096
+squares_by u r e =
+    let square : (u + r) * (u + r) ≡ 4096 = ap (λ v. v * v) e in
+    omega arith
+
+squares : (u : ℕ) → u ≤ 64 → (64 - u) * (64 - u) + 2 * u * (64 - u) + u * u ≡ 4096
+squares u few = squares_by u (64 - u) (omega arith)
+
+-- each of them, and what is worked out on the way
+module _ (u : ℕ) (few : u ≤ 64) where
+  pub cube_below : (64 - u) * (64 - u) * (64 - u) ≤ 2 ^ 18
+  cube_below = omega (arith, weights u few)
+
+  pub cube_above : u * u * u ≤ 2 ^ 18
+  cube_above = omega (arith, weights u few)
+
+  pub square_below : (64 - u) * (64 - u) ≤ 2 ^ 12
+  square_below = omega (arith, squares u few)
+
+  pub square_above : u * u ≤ 2 ^ 12
+  square_above = omega (arith, squares u few)
+
+  pub square_between : 2 * u * (64 - u) ≤ 2 ^ 12
+  square_between = omega (arith, squares u few)
+
 -- a weighted number
 pub part_most : (n m : ℕ) (a : ℤ) → unsigned_abs a ≤ m → unsigned_abs (pos n *ℤ a) ≤ n * m
 part_most n m a h = product_most (pos n) a n m (omega arith) h
@@ -59,6 +85,9 @@ four a b c d ha hb hc hd = rw (three a b c ha hb hc, back d (omega arith), back 
 
 short_back : (a : ℤ) → unsigned_abs a ≤ 2 ^ 29 → to_z w32 (of_z w32 a) ≡ a
 short_back a h = to_z-of_z w32 a (fits_signed_from_abs w32 a (omega arith))
+
+pub short_size : (a : ℤ) → unsigned_abs a ≤ 2 ^ 29 → unsigned_abs (to_z w32 (of_z w32 a)) ≤ 2 ^ 29
+short_size a h = rw (short_back a h) h
 
 sum_of_four : (p q s t p' q' s' t' : ℤ) → p ≡ p' → q ≡ q' → s ≡ s' → t ≡ t' → ((p +ℤ q) +ℤ s) +ℤ t ≡ ((p' +ℤ q') +ℤ s') +ℤ t'
 sum_of_four p q s t p' q' s' t' e f g h = cc
@@ -125,6 +154,30 @@ weighted n a f g few h ef eg =
     let most = product_most (pos n) a (2 ^ 18) (2 ^ 29) few h in
     let same : g ≡ a = eg ∙ short_back a h in
     rw (ef, same, back (pos n) (omega arith), back a (omega arith), back (pos n *ℤ a) (omega arith)) refl
+
+pub weighted_fits : (n : ℕ) (a f g : ℤ) → n ≤ 2 ^ 18 → unsigned_abs a ≤ 2 ^ 29 → f ≡ pos n → g ≡ to_z w32 (of_z w32 a)
+    → FitsSigned w64 (to_z w64 (of_z w64 f) *ℤ to_z w64 (of_z w64 g))
+weighted_fits n a f g few h ef eg =
+    let most = product_most (pos n) a (2 ^ 18) (2 ^ 29) few h in
+    let same : g ≡ a = eg ∙ short_back a h in
+    rw (ef, same, back (pos n) (omega arith), back a (omega arith)) (fits_signed_from_abs w64 (pos n *ℤ a) (omega arith))
+
+-- in 128 bits
+module _ (n : ℕ) (a f g : ℤ) (few : n ≤ 2 ^ 12) (h : unsigned_abs a ≤ 2 ^ 58) (ef : f ≡ pos n) (eg : g ≡ to_z w64 (of_z w64 a)) where
+  pub part_fits : FitsSigned w128 (to_z w128 (of_z w128 f) *ℤ to_z w128 (of_z w128 g))
+  part_fits =
+      let most = product_most (pos n) a (2 ^ 12) (2 ^ 58) few h in
+      let same : g ≡ a = eg ∙ back a (omega arith) in
+      rw (ef, same, long_back (pos n) (omega arith), long_back a (omega arith)) (fits_signed_from_abs w128 (pos n *ℤ a) (omega arith))
+
+  pub part_is : to_z w128 (of_z w128 (to_z w128 (of_z w128 f) *ℤ to_z w128 (of_z w128 g))) ≡ pos n *ℤ a
+  part_is =
+      let most = product_most (pos n) a (2 ^ 12) (2 ^ 58) few h in
+      let same : g ≡ a = eg ∙ back a (omega arith) in
+      rw (ef, same, long_back (pos n) (omega arith), long_back a (omega arith), long_back (pos n *ℤ a) (omega arith)) refl
+
+  pub part_small : unsigned_abs (to_z w128 (of_z w128 (to_z w128 (of_z w128 f) *ℤ to_z w128 (of_z w128 g)))) ≤ 2 ^ 70
+  part_small = rw part_is (product_most (pos n) a (2 ^ 12) (2 ^ 58) few h)
 
 pub long_weighted : (n : ℕ) (a f g : ℤ) → n ≤ 10 → unsigned_abs a ≤ 2 ^ 58 → f ≡ pos n → g ≡ to_z w64 (of_z w64 a)
     → to_z w128 (of_z w128 (to_z w128 (of_z w128 f) *ℤ to_z w128 (of_z w128 g))) ≡ pos n *ℤ a

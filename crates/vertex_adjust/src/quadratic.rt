@@ -10,7 +10,7 @@ use pt_base::point::Point;
 ///
 /// A shift of r steps to the right and u steps upwards has the excess
 /// `8 (xx r r + 2 xy r u + yy u u) + x r + y u`: its sum is greater than that of no shift by 32 times this.
-#[derive(Clone, Copy, Debug)]
+#[derive(Clone, Copy)]
 pub(crate) struct Quadratic {
     pub xx: i64,
     pub xy: i64,
@@ -20,7 +20,7 @@ pub(crate) struct Quadratic {
 }
 
 /// The lowest shift of a column.
-#[derive(Clone, Copy, Debug)]
+#[derive(Clone, Copy)]
 pub(crate) struct Minimum {
     pub up: i64,
     pub excess: i64,

@@ -1,7 +1,7 @@
-use Rattle.std.proofs.Common.{◌≤◌, ◌^◌, ℤ, w64, sym, subst, rules}
+use Rattle.std.proofs.Common.{◌≤◌, ◌^◌, ℤ, w64, sym, subst, rules, arith}
 use Rattle.std.specs.Prelude.{unsigned_abs}
 use Rattle.std.specs.Int.RustNames.{FitsSigned}
-use Rattle.curve_join.proofs.Mixing.{weights, second_of, third_of, two_fit, three_fit, four_fit, mixed_is, mixed_most, rounded_fits}
+use Rattle.curve_join.proofs.Mixing.{cube_above, cube_below, short_size, square_above, square_below, square_between, weights, second_of, third_of, two_fit, three_fit, four_fit, mixed_is, mixed_most, rounded_fits}
 use Rattle.curve_join.proofs.cubic.mixed.Goals as goal
 
 pub part-requires-2-clause-weight : goal.part-requires-2-clause-weight
@@ -55,3 +55,60 @@ returns-clause-near c =
     c.part.ensures.value c.part-2.ensures.value c.part-3.ensures.value c.part-4.ensures.value
     c.part.ensures.share c.part-2.ensures.share c.part-3.ensures.share c.part-4.ensures.share in
     subst P (sym (returns-clause-value c)) ((rounded_fits _ _ c.div_euclid.result sum most fits c.div_euclid.ensures).0)
+
+pub overflow_sub-r : goal.overflow_sub-r
+overflow_sub-r c = c.requires.u
+
+pub overflow_mul-r : goal.overflow_mul-r
+overflow_mul-r c = omega (arith, square_below c.args.u c.requires.u)
+
+pub overflow_mul-r-2 : goal.overflow_mul-r-2
+overflow_mul-r-2 c = omega (arith, cube_below c.args.u c.requires.u)
+
+pub part-requires-clause-weight : goal.part-requires-clause-weight
+part-requires-clause-weight c = cube_below c.args.u c.requires.u
+
+pub part-requires-clause-coordinate : goal.part-requires-clause-coordinate
+part-requires-clause-coordinate c = short_size c.args.a c.requires.a
+
+pub overflow_mul-u : goal.overflow_mul-u
+overflow_mul-u c = omega (arith, c.requires.u)
+
+pub overflow_mul-u-2 : goal.overflow_mul-u-2
+overflow_mul-u-2 c = omega (arith, square_between c.args.u c.requires.u)
+
+pub overflow_mul-u-3 : goal.overflow_mul-u-3
+overflow_mul-u-3 c = omega (arith, part-requires-2-clause-weight c)
+
+pub part-requires-2-clause-coordinate : goal.part-requires-2-clause-coordinate
+part-requires-2-clause-coordinate c = short_size c.args.b c.requires.b
+
+pub overflow_mul-u-4 : goal.overflow_mul-u-4
+overflow_mul-u-4 c = omega (arith, c.requires.u)
+
+pub overflow_mul-u-5 : goal.overflow_mul-u-5
+overflow_mul-u-5 c = omega (arith, square_above c.args.u c.requires.u)
+
+pub overflow_mul-u-6 : goal.overflow_mul-u-6
+overflow_mul-u-6 c = omega (arith, part-requires-3-clause-weight c)
+
+pub part-requires-3-clause-coordinate : goal.part-requires-3-clause-coordinate
+part-requires-3-clause-coordinate c = short_size c.args.c c.requires.c
+
+pub overflow_mul-u-7 : goal.overflow_mul-u-7
+overflow_mul-u-7 c = omega (arith, square_above c.args.u c.requires.u)
+
+pub overflow_mul-u-8 : goal.overflow_mul-u-8
+overflow_mul-u-8 c = omega (arith, cube_above c.args.u c.requires.u)
+
+pub part-requires-4-clause-weight : goal.part-requires-4-clause-weight
+part-requires-4-clause-weight c = cube_above c.args.u c.requires.u
+
+pub part-requires-4-clause-coordinate : goal.part-requires-4-clause-coordinate
+part-requires-4-clause-coordinate c = short_size c.args.d c.requires.d
+
+pub div_euclid-requires-clause-nonzero : goal.div_euclid-requires-clause-nonzero
+div_euclid-requires-clause-nonzero c = omega arith
+
+pub div_euclid-requires-clause-no_overflow : goal.div_euclid-requires-clause-no_overflow
+div_euclid-requires-clause-no_overflow c = (λ e. absurd (omega arith))

@@ -1,6 +1,7 @@
-use Rattle.std.proofs.Common.{w64, to_z, sym, ap, ◌∙◌, arith}
+use Rattle.std.proofs.Common.{w64, to_z, sym, ap, ◌∙◌, arith, ◌^◌}
 use Rattle.curve_join.proofs.Crossing.{counted, least_at_start}
 use Rattle.curve_join.proofs.Fitting.{back}
+use Rattle.curve_join.proofs.Fitting.{size_back}
 use Rattle.curve_join.proofs.touch.least_part.Goals as goal
 
 pub returns-then-a-eq0-clause-value : goal.returns-then-a-eq0-clause-value
@@ -15,3 +16,12 @@ returns-clause-value c =
     ∙ counted c.of-sense.result c.args.a c.args.b c.args.c c.towards.result c.towards-2.result c.towards-end.result r.a r.b r.c
     c.towards.ensures.value c.towards-2.ensures.value c.towards-end.ensures.value
     c.towards.ensures.size c.towards-2.ensures.size c.towards-end.ensures.size
+
+pub tried-requires-clause-a : goal.tried-requires-clause-a
+tried-requires-clause-a c = size_back c.args.a (2 ^ 58) c.requires.a (omega arith)
+
+pub tried-requires-clause-b : goal.tried-requires-clause-b
+tried-requires-clause-b c = size_back c.args.b (2 ^ 58) c.requires.b (omega arith)
+
+pub tried-requires-clause-c : goal.tried-requires-clause-c
+tried-requires-clause-c c = size_back c.args.c (2 ^ 58) c.requires.c (omega arith)

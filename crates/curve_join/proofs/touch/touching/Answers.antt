@@ -1,7 +1,8 @@
-use Rattle.std.proofs.Common.{sym, subst, ℕ}
+use Rattle.std.proofs.Common.{sym, subst, ℕ, ◌^◌, arith}
 use Rattle.curve_join.specs.Cubic.{slant_at}
 use Rattle.curve_join.specs.Least.{IsFirstLeast}
 use Rattle.curve_join.proofs.Slants.{touching_found, touching_least}
+use Rattle.curve_join.proofs.Fitting.{size_back}
 use Rattle.curve_join.proofs.touch.touching.Goals as goal
 
 pub returns-clause-value : goal.returns-clause-value
@@ -15,3 +16,21 @@ pub returns-clause-least : goal.returns-clause-least
 returns-clause-least c =
     let P : ℕ → Type 0 = λ u. IsFirstLeast (slant_at c.args.cubic.now c.args.direction) 64 u in
     subst P (sym (returns-clause-value c)) (touching_least c.args.cubic.now c.args.direction)
+
+pub cross-a-requires-clause-short : goal.cross-a-requires-clause-short
+cross-a-requires-clause-short c = c.requires.direction
+
+pub cross-b-requires-clause-short : goal.cross-b-requires-clause-short
+cross-b-requires-clause-short c = c.requires.direction
+
+pub cross-c-requires-clause-short : goal.cross-c-requires-clause-short
+cross-c-requires-clause-short c = c.requires.direction
+
+pub least_part-requires-clause-a : goal.least_part-requires-clause-a
+least_part-requires-clause-a c = size_back c.cross-a.result (2 ^ 58) c.cross-a.ensures.most (omega arith)
+
+pub least_part-requires-clause-b : goal.least_part-requires-clause-b
+least_part-requires-clause-b c = size_back c.cross-b.result (2 ^ 58) c.cross-b.ensures.most (omega arith)
+
+pub least_part-requires-clause-c : goal.least_part-requires-clause-c
+least_part-requires-clause-c c = size_back c.cross-c.result (2 ^ 58) c.cross-c.ensures.most (omega arith)
