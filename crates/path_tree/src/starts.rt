@@ -17,7 +17,7 @@ pub(crate) const ROW: u32 = 65536;
 pub(crate) const ROWS: u32 = 32768;
 
 /// Where a path starts.
-#[derive(Clone, Copy, Debug, PartialEq, Eq)]
+#[derive(Clone, Copy, PartialEq, Eq)]
 pub(crate) struct Start {
     /// The pixel's place: its column, and `ROW` for each row below it.
     pub place: u32,

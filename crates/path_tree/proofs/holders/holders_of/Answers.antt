@@ -3,6 +3,10 @@ use Rattle.std.proofs.lemmas.List.Sorted.{All-permutation}
 use Rattle.path_tree.specs.declared.starts.Start.{Start}
 use Rattle.path_tree.specs.declared.starts.TheConstants.{ROW, ROWS}
 use Rattle.path_tree.specs.Starts.{is_in, marked, starts_from}
+use Rattle.std.specs.List.Sorted.{IsNonDecreasingBy}
+use Rattle.pt_base.specs.ClosedWalk.{IsClosedWalk}
+use Rattle.pt_base.specs.declared.path.Path.{Path}
+use Rattle.path_decompose.specs.Bounds.{IsCornerOf}
 use Rattle.path_tree.proofs.Holding.{IsHeld, come_back, held_all, held_more}
 use Rattle.path_tree.proofs.Listing.{starts_columns, starts_low, starts_within}
 use Rattle.path_tree.proofs.Marking.{all_below, length-marked}
@@ -62,3 +66,33 @@ returns c =
     let paths = c.args.paths.now in
     let all : c.loop-path.path ≡ length paths = omega arith in
     held_all paths c.loop-path.holders.items (subst (λ n. IsHeld paths c.loop-path.holders.items n) all c.loop-path.invariant)
+
+pub sorted_starts-requires-clause-few : goal.sorted_starts-requires-clause-few
+sorted_starts-requires-clause-few c = c.requires.few
+
+pub sorted_starts-requires-clause-closed : goal.sorted_starts-requires-clause-closed
+sorted_starts-requires-clause-closed c = c.requires.closed
+
+pub sorted_starts-requires-clause-corners : goal.sorted_starts-requires-clause-corners
+sorted_starts-requires-clause-corners c = c.requires.corners
+
+pub sorted_starts-requires-clause-starts : goal.sorted_starts-requires-clause-starts
+sorted_starts-requires-clause-starts c = c.requires.starts
+
+pub bounds-paths-path : goal.bounds-paths-path
+bounds-paths-path c = c.loop-path-test.true
+
+pub hold-requires-clause-closed : goal.hold-requires-clause-closed
+hold-requires-clause-closed c =
+    let P : Path → Type 0 = λ p. IsClosedWalk p.points in
+    subst P (sym c.index-paths-path.is) (c.requires.closed c.loop-path.path c.index-paths-path.result c.loop-path-test.true)
+
+pub hold-requires-clause-corners : goal.hold-requires-clause-corners
+hold-requires-clause-corners c =
+    let P : Path → Type 0 = λ p. All (IsCornerOf 32767 32767) p.points in
+    subst P (sym c.index-paths-path.is) (c.requires.corners c.loop-path.path c.index-paths-path.result c.loop-path-test.true)
+
+pub hold-requires-clause-order : goal.hold-requires-clause-order
+hold-requires-clause-order c =
+    let P : List Start → Type 0 = λ ss. IsNonDecreasingBy (λ s. s.place) ss in
+    subst P (sym c.deref-in-loop-path.ensures.value) c.in_ok-starts.ensures.order
