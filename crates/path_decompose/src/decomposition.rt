@@ -12,7 +12,7 @@ ghost use Rattle.path_decompose.specs.Sums.{IsEvenOdd, IsEdgesOnce};
 ghost use Rattle.pt_base.specs.declared.path.Path.{Path};
 
 use crate::inversion::invert;
-use crate::trail::{Trail, empty};
+use crate::trail::Trail;
 use crate::walk::walk_round;
 use bit_image::bitmap::Bitmap;
 use pt_base::fault::NoMemory;
@@ -93,7 +93,7 @@ fn found(
     ensures few { IfOk result (λ paths. length paths.items ≤ page.now.width * page.now.height) }
 {
     let mut rest = page.copy(alloc)?;
-    let mut trail = empty(alloc);
+    let mut trail = Trail::new(alloc);
     let mut paths = Vec::new(alloc);
     let mut start = rest.first_black(rest.height() - 1);
     'paths: while let Some((x, y)) = start {

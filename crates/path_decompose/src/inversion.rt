@@ -8,12 +8,12 @@ ghost use Rattle.path_decompose.specs.declared.trail.Upright.{Upright};
 use crate::trail::Upright;
 use bit_image::bitmap::Bitmap;
 
-/// Inverts each pixel that has an odd number of these lines on its left in its row: with the upright lines of
-/// a path, the pixels inside.
+/// Inverts each pixel that has an odd number of these lines on its left in its row: with the upright lines
+/// of a path, the pixels inside.
 ///
-/// Each line's row is inverted from the line to one column, the same for all. So a pixel left of that
-/// column is inverted for each line on its left, and one further right for each line on its right: of
-/// these a row has as many, or an even number more or less.
+/// Each line's row is inverted from the line to one column, the same for all. So a pixel left of that column
+/// is inverted once for each line on its left, and one further right once for each line on its right. As a
+/// row has an even number of lines, either both are odd or none is.
 pub fn invert(page: &mut Bitmap, lines: &[Upright], column: u32)
     requires on_page { All (λ (line : Upright). (line.x ≤ page.old.width) × (line.y < page.old.height))
         lines.now }

@@ -24,25 +24,27 @@ pub struct Trail {
     pub down: u64,
 }
 
-/// The trail of no walk.
-pub fn empty(alloc: Global) -> Trail {
-    Trail {
-        points: Vec::new(alloc),
-        lines: Vec::new(alloc),
-        up: 0,
-        down: 0,
+impl Trail {
+    /// The trail of no walk.
+    pub fn new(alloc: Global) -> Trail {
+        Trail {
+            points: Vec::new(alloc),
+            lines: Vec::new(alloc),
+            up: 0,
+            down: 0,
+        }
     }
-}
 
-/// Forgets the walk.
-pub fn clear(trail: &mut Trail)
-    ensures points { trail.new.points.items ≡ [] }
-    ensures lines { trail.new.lines.items ≡ [] }
-    ensures up { trail.new.up ≡ 0 }
-    ensures down { trail.new.down ≡ 0 }
-{
-    trail.points.clear();
-    trail.lines.clear();
-    trail.up = 0;
-    trail.down = 0;
+    /// Forgets the walk.
+    pub fn clear(&mut self)
+        ensures points { self.new.points.items ≡ [] }
+        ensures lines { self.new.lines.items ≡ [] }
+        ensures up { self.new.up ≡ 0 }
+        ensures down { self.new.down ≡ 0 }
+    {
+        self.points.clear();
+        self.lines.clear();
+        self.up = 0;
+        self.down = 0;
+    }
 }

@@ -10,7 +10,7 @@ ghost use Rattle.path_decompose.specs.Walk.{first_edge, start_of, IsBoundaryWalk
 ghost use Rattle.turn_policies.specs.Boundary.{IsBoundary};
 ghost use Rattle.turn_policies.specs.Turn.{next};
 
-use crate::trail::{Trail, Upright, clear};
+use crate::trail::{Trail, Upright};
 use bit_image::bitmap::Bitmap;
 use pt_base::fault::NoMemory;
 use pt_base::path::Sign;
@@ -48,7 +48,7 @@ pub fn walk_round(
 {
     // The sides are asked, so that the proof sees how many edges the page can have.
     let _ = page.width();
-    clear(trail);
+    trail.clear();
     let mut here = Edge {
         x,
         y: y + 1,
