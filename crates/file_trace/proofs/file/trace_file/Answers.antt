@@ -1,10 +1,10 @@
-use Rattle.std.proofs.Common.{◌≡◌, ◌⊎◌, ◌∙◌, ◌∷◌, ◌*◌, ℕ, List, Option, Err, ap, inl, inr, option_map, refl, subst, sym, arith}
+use Rattle.std.proofs.Common.{◌≡◌, ◌≤◌, ◌⊎◌, ◌∙◌, ◌∷◌, ◌*◌, ℕ, List, Option, Err, ap, inl, inr, option_map, refl, subst, sym, arith}
 use Rattle.pt_base.specs.Counts.{Rose}
 use Rattle.pt_base.specs.Files.{Lacks}
 use Rattle.pt_base.specs.declared.fault.OpenFault.{OpenFault}
 use Rattle.pt_base.specs.declared.fault.OpenFault.TheVariants as opening
 use Rattle.file_trace.specs.Items.{IsAbsent, told_contents}
-use Rattle.file_trace.specs.Progress.{InputCount, status_of}
+use Rattle.file_trace.specs.Progress.{InputCount, OutputCount, status_of}
 use Rattle.file_trace.proofs.Ending.{ends_at_once, ends_before, ends_behind, file_ends, file_halted, file_unopened, input_count, lacks_absent}
 use Rattle.file_trace.proofs.Filing.{file_goes_on, has_bytes}
 use Rattle.file_trace.proofs.Passing.{pass_ended, pass_halted, pass_unopened}
@@ -140,3 +140,58 @@ returns-in-Err-finish-clause-one_pass g c = λ is names first are.
     (λ e. subst (λ n. Rose n (g.I.Inputs.faults c.trace_pages.new.inputs)) c.in-Ok.ensures.steady (c.in-Ok-trace_pages.ensures.rose e)) traced c.in-Ok-trace_pages.ensures.still_not_full
     (rw is at c.in-Err-finish.ensures.ends)
     (c.in-Err-finish.ensures.unwritten is) names first are
+
+-- counts that never fall
+rises : (a b c : ℕ) → a ≤ b → b ≤ c → a ≤ c
+rises a b c e f = omega (arith, e, f)
+
+rises_from : (a b c : ℕ) → b ≡ a → b ≤ c → a ≤ c
+rises_from a b c e f = omega (arith, e, f)
+
+pub returns-in-Err-trace_pages-clause-one_more : goal.returns-in-Err-trace_pages-clause-one_more
+returns-in-Err-trace_pages-clause-one_more g c = c.trace_pages.ensures.same_openings ∙ c.in-Ok.ensures.one_more
+
+pub returns-in-Err-trace_pages-clause-inputs_never_fall : goal.returns-in-Err-trace_pages-clause-inputs_never_fall
+returns-in-Err-trace_pages-clause-inputs_never_fall g c = rises_from _ _ _ c.in-Ok.ensures.steady c.trace_pages.ensures.inputs_never_fall
+
+pub returns-in-Err-finish-clause-one_more : goal.returns-in-Err-finish-clause-one_more
+returns-in-Err-finish-clause-one_more g c = c.trace_pages.ensures.same_openings ∙ c.in-Ok.ensures.one_more
+
+pub returns-in-Err-finish-clause-inputs_never_fall : goal.returns-in-Err-finish-clause-inputs_never_fall
+returns-in-Err-finish-clause-inputs_never_fall g c = rises_from _ _ _ c.in-Ok.ensures.steady c.trace_pages.ensures.inputs_never_fall
+
+pub returns-in-Ok-add-clause-one_more : goal.returns-in-Ok-add-clause-one_more
+returns-in-Ok-add-clause-one_more g c = c.trace_pages.ensures.same_openings ∙ c.in-Ok.ensures.one_more
+
+pub returns-in-Ok-add-clause-inputs_never_fall : goal.returns-in-Ok-add-clause-inputs_never_fall
+returns-in-Ok-add-clause-inputs_never_fall g c = rises_from _ _ _ c.in-Ok.ensures.steady c.trace_pages.ensures.inputs_never_fall
+
+pub returns-in-Err-add-clause-one_more : goal.returns-in-Err-add-clause-one_more
+returns-in-Err-add-clause-one_more g c = c.trace_pages.ensures.same_openings ∙ c.in-Ok.ensures.one_more
+
+pub returns-in-Err-add-clause-inputs_never_fall : goal.returns-in-Err-add-clause-inputs_never_fall
+returns-in-Err-add-clause-inputs_never_fall g c = rises_from _ _ _ c.in-Ok.ensures.steady c.trace_pages.ensures.inputs_never_fall
+
+pub returns-in-Err-finish-clause-outputs_never_fall : goal.returns-in-Err-finish-clause-outputs_never_fall
+returns-in-Err-finish-clause-outputs_never_fall g c = rises _ _ _ c.trace_pages.ensures.outputs_never_fall c.finish.ensures.outputs_never_fall
+
+pub returns-in-Ok-add-clause-outputs_never_fall : goal.returns-in-Ok-add-clause-outputs_never_fall
+returns-in-Ok-add-clause-outputs_never_fall g c = rises _ _ _ c.trace_pages.ensures.outputs_never_fall c.finish.ensures.outputs_never_fall
+
+pub returns-in-Err-add-clause-outputs_never_fall : goal.returns-in-Err-add-clause-outputs_never_fall
+returns-in-Err-add-clause-outputs_never_fall g c = rises _ _ _ c.trace_pages.ensures.outputs_never_fall c.finish.ensures.outputs_never_fall
+
+pub returns-in-Err-finish-clause-output : goal.returns-in-Err-finish-clause-output
+returns-in-Err-finish-clause-output g c =
+    subst (λ n. OutputCount c.in-Err-finish.status n (g.O.Sink.faults c.finish.new.outs) (g.O.Sink.is_ready c.finish.new.outs)) c.in-Ok-trace_pages.ensures.steady_output.0 c.in-Err-finish.ensures.output
+
+pub returns-in-Ok-add-clause-steady_output : goal.returns-in-Ok-add-clause-steady_output
+returns-in-Ok-add-clause-steady_output g c = (c.in-Ok-finish.ensures.steady_output.0 ∙ c.in-Ok-trace_pages.ensures.steady_output.0, c.in-Ok-finish.ensures.steady_output.1)
+
+pub returns-in-Err-add-clause-output : goal.returns-in-Err-add-clause-output
+returns-in-Err-add-clause-output g c = (c.in-Ok-finish.ensures.steady_output.0 ∙ c.in-Ok-trace_pages.ensures.steady_output.0, c.in-Ok-finish.ensures.steady_output.1)
+
+pub returns-in-Ok-add-clause-steady_input : goal.returns-in-Ok-add-clause-steady_input
+returns-in-Ok-add-clause-steady_input g c =
+    let count = subst (λ s. InputCount s (g.I.Inputs.faults c.open.new.self) (g.I.Inputs.faults c.trace_pages.new.inputs)) c.in-Ok-finish.ensures.goes_on c.in-Ok-trace_pages.ensures.input in
+    count ∙ c.in-Ok.ensures.steady
