@@ -1,51 +1,55 @@
 -- The command as `clap` reads it: options that stand at most once, and any number of file names
 -- (the potrace manual page; `--flat` too).
-use Rattle.std.specs.Prelude.{ℕ, true, List, [], ◌∷◌, Some, codes}
+use Rattle.std.specs.Prelude.{ℕ, true, List, [], ◌∷◌, Option, None, Some, codes}
 use Rattle.clap.specs.Walk.{Row, Rule}
 use Rattle.clap.specs.Simple.{App, matches_of, new_app, new_rule, with_rule}
 use Rattle.clap.specs.Kinds.{Kinds}
 use Rattle.clap.specs.Faults.{fault_of}
+use Rattle.clap.specs.declared.builder.action.ArgAction.{ArgAction}
 use Rattle.clap.specs.declared.builder.action.ArgAction.TheVariants.{Set, SetTrue, Append}
+use Rattle.command_words.specs.declared.command.OptionRow.{OptionRow}
+
+-- an option of this short name, if it has one, and this long name, whose use does this
+abbrev pub option_rule : Option ℕ → List ℕ → ArgAction → Rule
+option_rule short name action = record (new_rule name) { short = short; long = Some name; action = Some action }
+
+-- the rule of a row of the program's table
+abbrev pub rule_of_row : OptionRow → Rule
+rule_of_row row = option_rule row.0 row.1.now row.2
 
 -- an option with a value: `-s VALUE` or `--name VALUE`
 abbrev pub option : ℕ → List ℕ → Rule
-option short name = record (new_rule name) { short = Some short; long = Some name; action = Some Set }
+option short name = option_rule (Some short) name Set
 
 -- an option with a value and without a short name: `--name VALUE`
 abbrev pub long_option : List ℕ → Rule
-long_option name = record (new_rule name) { long = Some name; action = Some Set }
+long_option name = option_rule None name Set
 
 -- an option without one: `-s` or `--name`
 abbrev pub flag : ℕ → List ℕ → Rule
-flag short name = record (new_rule name) { short = Some short; long = Some name; action = Some SetTrue }
+flag short name = option_rule (Some short) name SetTrue
 
 -- an option without a value and without a short name: `--name`
 abbrev pub long_flag : List ℕ → Rule
-long_flag name = record (new_rule name) { long = Some name; action = Some SetTrue }
+long_flag name = option_rule None name SetTrue
 
 -- words that are neither an option nor an option's value
 abbrev pub operands : List ℕ → Rule
 operands name = record (new_rule name) { action = Some Append }
 
--- what is written, and to where: -b, -s, -e and -o
-abbrev pub document_options : List Rule
-document_options = option 98 (codes "backend") ∷ flag 115 (codes "svg") ∷ flag 101 (codes "eps") ∷ option 111 (codes "output") ∷ []
-
--- how outlines run: -z, -t, -a, -n and -O
-abbrev pub outline_options : List Rule
-outline_options =
-    option 122 (codes "turnpolicy") ∷ option 116 (codes "turdsize") ∷ option 97 (codes "alphamax") ∷ flag 110 (codes "longcurve")
-    ∷ option 79 (codes "opttolerance") ∷ []
-
--- how pages are read and shown: -u, -k, -i, -c and --flat
-abbrev pub page_options : List Rule
-page_options =
-    option 117 (codes "unit") ∷ option 107 (codes "blacklevel") ∷ flag 105 (codes "invert") ∷ flag 99 (codes "cleartext")
-    ∷ long_flag (codes "flat") ∷ []
-
--- what the program is to do, by how many workers, and with which files: --workers, --demo, -v and the files
-abbrev pub run_options : List Rule
-run_options = long_option (codes "workers") ∷ long_option (codes "demo") ∷ flag 118 (codes "version") ∷ operands (codes "file") ∷ []
+-- the options, and the files
+abbrev pub options : List Rule
+options =
+    -- what is written, and to where: -b, -s, -e and -o
+    option 98 (codes "backend") ∷ flag 115 (codes "svg") ∷ flag 101 (codes "eps") ∷ option 111 (codes "output")
+    -- how outlines run: -z, -t, -a, -n and -O
+    ∷ option 122 (codes "turnpolicy") ∷ option 116 (codes "turdsize") ∷ option 97 (codes "alphamax") ∷ flag 110 (codes "longcurve")
+    ∷ option 79 (codes "opttolerance")
+    -- how pages are read and shown: -u, -k, -i, -c and --flat
+    ∷ option 117 (codes "unit") ∷ option 107 (codes "blacklevel") ∷ flag 105 (codes "invert") ∷ flag 99 (codes "cleartext")
+    ∷ long_flag (codes "flat")
+    -- what the program is to do, by how many workers, and with which files: --workers, --demo, -v and the files
+    ∷ long_option (codes "workers") ∷ long_option (codes "demo") ∷ flag 118 (codes "version") ∷ operands (codes "file") ∷ []
 
 -- a command with more options
 abbrev pub with_rules : App → List Rule → App
@@ -58,7 +62,7 @@ unnamed = record (new_app (codes "potrace")) { top = record (new_app (codes "pot
 
 -- the program's command
 abbrev pub command : App
-command = with_rules (with_rules (with_rules (with_rules unnamed document_options) outline_options) page_options) run_options
+command = with_rules unnamed options
 
 -- what `clap` finds in the words, where it takes them
 abbrev pub rows_of_words : List (List ℕ) → List Row

@@ -1,13 +1,12 @@
 -- The command as `clap` reads it.
+--   option_rule: an option of this short name, if it has one, and this long name, whose use does this
+--   rule_of_row: the rule of a row of the program's table
 --   option: an option with a value
 --   long_option: an option with a value and without a short name
 --   flag: an option without one
 --   long_flag: an option without a value and without a short name
 --   operands: words that are neither an option nor an option's value
---   document_options: what is written, and to where
---   outline_options: how outlines run
---   page_options: how pages are read and shown
---   run_options: what the program is to do, by how many workers, and with which files
+--   options: the options, and the files
 --   with_rules: a command with more options
 --   unnamed: a command without options, whose words come without the program's name
 --   command: the program's command
