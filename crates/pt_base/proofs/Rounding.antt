@@ -1,9 +1,7 @@
 -- Division rounded down.
 use Rattle.std.proofs.Common.{◌≡◌, ℕ, ◌+◌, ◌*◌, ◌/◌, ◌^◌, ◌<◌, ◌≤◌, ℤ, pos, negsuc, ◌+ℤ◌, ◌*ℤ◌, ◌<ℤ◌, ◌≤ℤ◌, neg_ℤ, zero, suc, unsigned_abs, w64, to_z, of_z, refl, ap, ◌∙◌, arith}
-use Rattle.std.proofs.lemmas.Int.{ints, unsigned_abs-mul, to_z-of_z, fits_signed_from_abs}
-use Rattle.std.proofs.lemmas.Nat.{le-div, mul-le}
+use Rattle.std.proofs.lemmas.Int.{ints, to_z-of_z}
 use Rattle.std.proofs.Math.IntN.{*ℤ-negsuc}
-use Rattle.std.proofs.Math.Nat.{div-mul-le_self}
 use Rattle.pt_base.specs.Floor.{IsFloor, floor_of, rounded}
 use Rattle.pt_base.proofs.Sizes.{back, divided, product_most, quotient_most}
 use mir.Syntax.{w128}

@@ -1,5 +1,5 @@
 //! Real files, and standard input, as inputs.
-ghost use Rattle.std.specs.Prelude.{◌≡◌, min, is_some, false, None};
+ghost use Rattle.std.specs.Prelude.{◌≡◌, ◌≤◌, min, is_some, false, length, None, IfSome};
 ghost use Rattle.pt_base.specs.Counts.{last_count};
 
 use crate::fault::{DeviceFault, OpenFault};
@@ -13,6 +13,18 @@ use std::rt::Files;
 enum Source<R: Files + Input> {
     Standard(R::Reader),
     Named(R::File),
+}
+
+impl<R: Files + Input> Source<R> {
+    /// Fills a prefix of the buffer and answers how many bytes, unless the device fails.
+    fn read(&mut self, buf: &mut [u8]) -> Option<usize>
+        ensures { IfSome result (λ n. n ≤ length buf.new) }
+    {
+        match self {
+            Source::Standard(reader) => reader.read(buf).ok(),
+            Source::Named(file) => file.read(buf).ok(),
+        }
+    }
 }
 
 /// Real files as inputs, with standard input under the name `-`.
@@ -41,6 +53,15 @@ impl<'a, R: Files + Input> FileInputs<'a, R> {
             faults: 0,
         }
     }
+
+    /// Takes another source, or none, in place of the one before.
+    fn turn_to(&mut self, source: Option<Source<R>>)
+        ensures opened { is_some self.new.source ≡ is_some source }
+        ensures openings { self.new.openings ≡ self.old.openings }
+        ensures faults { self.new.faults ≡ self.old.faults }
+    {
+        self.source = source;
+    }
 }
 
 impl<'a, R: Files + Input> Inputs for FileInputs<'a, R> {
@@ -57,16 +78,17 @@ impl<'a, R: Files + Input> Inputs for FileInputs<'a, R> {
     fn open(&mut self, name: &str) -> Result<(), OpenFault> {
         self.openings = self.openings.saturating_add(1);
         if name == "-" {
-            self.source = Some(Source::Standard(self.rt.reader()));
+            let reader = self.rt.reader();
+            self.turn_to(Some(Source::Standard(reader)));
             return Ok(());
         }
         match fs::open(self.rt, name) {
             Ok(file) => {
-                self.source = Some(Source::Named(file));
+                self.turn_to(Some(Source::Named(file)));
                 Ok(())
             }
             Err(_) => {
-                self.source = None;
+                self.turn_to(None);
                 self.faults = self.faults.saturating_add(1);
                 Err(OpenFault::Device)
             }
@@ -75,11 +97,7 @@ impl<'a, R: Files + Input> Inputs for FileInputs<'a, R> {
 
     fn read(&mut self, buf: &mut [u8]) -> Result<usize, DeviceFault> {
         if let Some(source) = &mut self.source {
-            let outcome = match source {
-                Source::Standard(reader) => reader.read(buf),
-                Source::Named(file) => file.read(buf),
-            };
-            if let Ok(n) = outcome {
+            if let Some(n) = source.read(buf) {
                 return Ok(n);
             }
         }

@@ -1,5 +1,5 @@
 //! Real files, and standard output, as outputs.
-ghost use Rattle.std.specs.Prelude.{◌≡◌, min, is_some, false, None};
+ghost use Rattle.std.specs.Prelude.{◌≡◌, ◌<◌, ◌≤◌, min, is_some, false, length, None, IfSome};
 ghost use Rattle.pt_base.specs.Counts.{last_count};
 
 use crate::fault::DeviceFault;
@@ -13,6 +13,22 @@ use std::rt::Files;
 enum Target<R: Files + Print> {
     Standard,
     Named(R::File),
+}
+
+impl<R: Files + Print> Target<R> {
+    /// Writes the first bytes of the piece and answers how many, if there are any.
+    fn write(&mut self, rt: &R, piece: &[u8]) -> Option<usize>
+        ensures { IfSome result (λ n. (0 < n) × (n ≤ length piece.now)) }
+    {
+        let outcome = match self {
+            Target::Standard => rt.write_some(piece),
+            Target::Named(file) => file.write(piece),
+        };
+        match outcome {
+            Ok(n) if n > 0 => Some(n),
+            _ => None,
+        }
+    }
 }
 
 /// Real files as outputs, with standard output under the name `-`.
@@ -38,6 +54,14 @@ impl<'a, R: Files + Print> FileOutputs<'a, R> {
             faults: 0,
         }
     }
+
+    /// Takes another target, or none, in place of the one before.
+    fn turn_to(&mut self, target: Option<Target<R>>)
+        ensures ready { is_some self.new.target ≡ is_some target }
+        ensures faults { self.new.faults ≡ self.old.faults }
+    {
+        self.target = target;
+    }
 }
 
 impl<'a, R: Files + Print> Sink for FileOutputs<'a, R> {
@@ -51,14 +75,8 @@ impl<'a, R: Files + Print> Sink for FileOutputs<'a, R> {
 
     fn write(&mut self, piece: &[u8]) -> Result<usize, DeviceFault> {
         if let Some(target) = &mut self.target {
-            let outcome = match target {
-                Target::Standard => self.rt.write_some(piece),
-                Target::Named(file) => file.write(piece),
-            };
-            if let Ok(n) = outcome {
-                if n > 0 {
-                    return Ok(n);
-                }
+            if let Some(n) = target.write(self.rt, piece) {
+                return Ok(n);
             }
         }
         self.faults = self.faults.saturating_add(1);
@@ -73,12 +91,12 @@ impl<'a, R: Files + Print> Sink for FileOutputs<'a, R> {
 impl<'a, R: Files + Print> Outputs for FileOutputs<'a, R> {
     fn begin(&mut self, name: &str) -> Result<(), DeviceFault> {
         if name == "-" {
-            self.target = Some(Target::Standard);
+            self.turn_to(Some(Target::Standard));
             return Ok(());
         }
         match fs::create(self.rt, name) {
             Ok(file) => {
-                self.target = Some(Target::Named(file));
+                self.turn_to(Some(Target::Named(file)));
                 Ok(())
             }
             Err(_) => {
@@ -90,7 +108,7 @@ impl<'a, R: Files + Print> Outputs for FileOutputs<'a, R> {
 
     /// Ends the document. Closing a real file reports nothing, so this never fails.
     fn end(&mut self) -> Result<(), DeviceFault> {
-        self.target = None;
+        self.turn_to(None);
         Ok(())
     }
 }
