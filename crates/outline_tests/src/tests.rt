@@ -1,8 +1,14 @@
 //! Values that were worked out by hand, or by a plain program.
 
 mod corners;
+mod drawings;
+mod groups;
+mod joins;
 mod lot;
+mod numbers;
 mod plain;
+mod postscript;
+mod samples;
 mod search;
 mod segments;
 mod svg;

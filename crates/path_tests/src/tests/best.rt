@@ -95,8 +95,8 @@ fn penalty(points: &[Point], i: usize, j: usize) -> u64 {
 /// How far one point is from another.
 fn offset(from: Point, to: Point) -> (i64, i64) {
     (
-        i64::from(to.x) - i64::from(from.x),
-        i64::from(to.y) - i64::from(from.y),
+        i64::from(to.x).wrapping_sub(i64::from(from.x)),
+        i64::from(to.y).wrapping_sub(i64::from(from.y)),
     )
 }
 

@@ -13,7 +13,7 @@ pub(super) struct Chain {
 
 impl Chain {
     /// What each step costs.
-    pub(super) const COST: u64 = (1 << 56) - 1;
+    const COST: u64 = (1 << 56) - 1;
 
     pub(super) fn new(size: u32) -> Chain
         requires some { 1 ≤ size }

@@ -1,7 +1,9 @@
 //! The paths of small pages, and those of noise beside a plain program.
+ghost use Rattle.std.specs.Prelude.{All};
+ghost use Rattle.pt_base.specs.ClosedWalk.{IsClosedWalk};
+ghost use Rattle.path_decompose.specs.Bounds.{IsCornerOf};
 
 use crate::tests::plain::paths_to_the_right;
-use bit_image::bitmap::Bitmap;
 use page_samples::pages::{checkered, drawn, noise};
 use path_decompose::decomposition::decompose;
 use path_decompose::interior::inside;
@@ -12,76 +14,113 @@ use pt_base::policy::Policy;
 use std::alloc::Global;
 use std::test::Fail;
 
-/// Whether the paths have these lines in their points text.
-fn are_shown(alloc: Global, page: &Bitmap, paths: &[Path], lines: &str) -> Result<bool, Fail> {
-    let (width, height, count) = (page.width(), page.height(), paths.len());
-    let text = points(alloc, width, height, paths)?;
-    let wanted = format!(in alloc; "points {width} {height} {count}\n{lines}")?;
-    Ok(text.as_slice() == wanted.as_bytes())
+/// Whether this is the points text of a page's paths of more than this area.
+fn is_shown(
+    alloc: Global,
+    rows: &[&str],
+    policy: Policy,
+    most: u32,
+    text: &str,
+) -> Result<bool, Fail> {
+    let page = drawn(alloc, rows)?;
+    let paths = keep(decompose(alloc, &page, policy)?, most);
+    let shown = points(alloc, page.width(), page.height(), &paths)?;
+    Ok(shown.as_slice() == text.as_bytes())
 }
+
+/// A page, the policy, the greatest area of a speckle, and the points text of the paths that are kept.
+const PAGES: [(&[&str], Policy, u32, &str); 15] = [
+    (&["."], Policy::Left, 0, "points 1 1 0\n"),
+    (
+        &["#"],
+        Policy::Left,
+        0,
+        "points 1 1 1\n+ 1 0,1 0,0 1,0 1,1\n",
+    ),
+    (
+        &["##"],
+        Policy::Minority,
+        0,
+        "points 2 1 1\n+ 2 0,1 0,0 1,0 2,0 2,1 1,1\n",
+    ),
+    (
+        &["#.", ".#"],
+        Policy::Left,
+        0,
+        "points 2 2 2\n+ 1 0,2 0,1 1,1 1,2\n+ 1 1,1 1,0 2,0 2,1\n",
+    ),
+    (
+        &["#.", ".#"],
+        Policy::Majority,
+        0,
+        "points 2 2 2\n+ 1 0,2 0,1 1,1 1,2\n+ 1 1,1 1,0 2,0 2,1\n",
+    ),
+    (
+        &["#.", ".#"],
+        Policy::Right,
+        0,
+        "points 2 2 1\n+ 2 0,2 0,1 1,1 1,0 2,0 2,1 1,1 1,2\n",
+    ),
+    (
+        &["#.", ".#"],
+        Policy::Minority,
+        0,
+        "points 2 2 1\n+ 2 0,2 0,1 1,1 1,0 2,0 2,1 1,1 1,2\n",
+    ),
+    (
+        &["###", "#.#", "###"],
+        Policy::Minority,
+        0,
+        "points 3 3 2\n+ 9 0,3 0,2 0,1 0,0 1,0 2,0 3,0 3,1 3,2 3,3 2,3 1,3\n- 1 1,2 1,1 2,1 2,2\n",
+    ),
+    (
+        &[".........", "#........"],
+        Policy::Minority,
+        0,
+        "points 9 2 1\n+ 1 0,1 0,0 1,0 1,1\n",
+    ),
+    (
+        &["#.#", ".#.", "#.#"],
+        Policy::Left,
+        0,
+        "points 3 3 5\n+ 1 0,3 0,2 1,2 1,3\n+ 1 2,3 2,2 3,2 3,3\n+ 1 1,2 1,1 2,1 2,2\n\
+         + 1 0,1 0,0 1,0 1,1\n+ 1 2,1 2,0 3,0 3,1\n",
+    ),
+    (
+        &["#.#", ".#.", "#.#"],
+        Policy::Right,
+        0,
+        "points 3 3 1\n+ 5 0,3 0,2 1,2 1,1 0,1 0,0 1,0 1,1 2,1 2,0 3,0 3,1 2,1 2,2 3,2 3,3 2,3 2,2 1,2 1,3\n",
+    ),
+    // Black has the majority around corner (2, 2) of the page, and not once the first path is gone.
+    (
+        &["#.##", ".#.#", "####"],
+        Policy::Majority,
+        0,
+        "points 4 3 2\n+ 1 0,3 0,2 1,2 1,3\n\
+         + 8 2,3 2,2 3,2 3,1 2,1 2,2 1,2 1,1 0,1 0,0 1,0 2,0 3,0 4,0 4,1 4,2 4,3 3,3\n",
+    ),
+    // Speckles are those of the limit and less.
+    (
+        &["##.#"],
+        Policy::Minority,
+        0,
+        "points 4 1 2\n+ 2 0,1 0,0 1,0 2,0 2,1 1,1\n+ 1 3,1 3,0 4,0 4,1\n",
+    ),
+    (
+        &["##.#"],
+        Policy::Minority,
+        1,
+        "points 4 1 1\n+ 2 0,1 0,0 1,0 2,0 2,1 1,1\n",
+    ),
+    (&["##.#"], Policy::Minority, 2, "points 4 1 0\n"),
+];
 
 #[test]
 fn paths_of_small_pages(rt: HostRuntime) -> Result<(), Fail> {
-    let cases: [(&[&str], Policy, &str); 12] = [
-        (&["."], Policy::Left, ""),
-        (&["#"], Policy::Left, "+ 1 0,1 0,0 1,0 1,1\n"),
-        (&["##"], Policy::Minority, "+ 2 0,1 0,0 1,0 2,0 2,1 1,1\n"),
-        (
-            &["#.", ".#"],
-            Policy::Left,
-            "+ 1 0,2 0,1 1,1 1,2\n+ 1 1,1 1,0 2,0 2,1\n",
-        ),
-        (
-            &["#.", ".#"],
-            Policy::Majority,
-            "+ 1 0,2 0,1 1,1 1,2\n+ 1 1,1 1,0 2,0 2,1\n",
-        ),
-        (
-            &["#.", ".#"],
-            Policy::Right,
-            "+ 2 0,2 0,1 1,1 1,0 2,0 2,1 1,1 1,2\n",
-        ),
-        (
-            &["#.", ".#"],
-            Policy::Minority,
-            "+ 2 0,2 0,1 1,1 1,0 2,0 2,1 1,1 1,2\n",
-        ),
-        (
-            &["###", "#.#", "###"],
-            Policy::Minority,
-            "+ 9 0,3 0,2 0,1 0,0 1,0 2,0 3,0 3,1 3,2 3,3 2,3 1,3\n- 1 1,2 1,1 2,1 2,2\n",
-        ),
-        (
-            &[".........", "#........"],
-            Policy::Minority,
-            "+ 1 0,1 0,0 1,0 1,1\n",
-        ),
-        (
-            &["#.#", ".#.", "#.#"],
-            Policy::Left,
-            "+ 1 0,3 0,2 1,2 1,3\n+ 1 2,3 2,2 3,2 3,3\n+ 1 1,2 1,1 2,1 2,2\n\
-             + 1 0,1 0,0 1,0 1,1\n+ 1 2,1 2,0 3,0 3,1\n",
-        ),
-        (
-            &["#.#", ".#.", "#.#"],
-            Policy::Right,
-            "+ 5 0,3 0,2 1,2 1,1 0,1 0,0 1,0 1,1 2,1 2,0 3,0 3,1 2,1 2,2 3,2 3,3 2,3 2,2 1,2 1,3\n",
-        ),
-        // Black has the majority around corner (2, 2) of the page, and not once the first path is gone.
-        (
-            &["#.##", ".#.#", "####"],
-            Policy::Majority,
-            "+ 1 0,3 0,2 1,2 1,3\n\
-             + 8 2,3 2,2 3,2 3,1 2,1 2,2 1,2 1,1 0,1 0,0 1,0 2,0 3,0 4,0 4,1 4,2 4,3 3,3\n",
-        ),
-    ];
-    for (rows, policy, want) in cases {
-        let page = drawn(rt.alloc(), rows)?;
-        let paths = decompose(rt.alloc(), &page, policy)?;
-        assert!(rt;
-            are_shown(rt.alloc(), &page, &paths, want)?,
-            "{policy:?}: {want}"
-        );
+    for (rows, policy, most, text) in PAGES {
+        let same = is_shown(rt.alloc(), rows, policy, most, text)?;
+        assert!(rt; same, "{policy:?}: {text}");
     }
     Ok(())
 }
@@ -99,13 +138,18 @@ fn a_checkerboard_uses_each_edge(rt: HostRuntime) -> Result<(), Fail> {
         Policy::Minority,
     ] {
         let paths = decompose(rt.alloc(), &page, policy)?;
-        let mut edges = 0u64;
-        for path in &paths {
-            edges = edges.saturating_add(path.points.as_slice().len() as u64);
-        }
-        assert_eq!(rt; edges, 8192, "{policy:?}");
+        assert_eq!(rt; edges_of(&paths), 8192, "{policy:?}");
     }
     Ok(())
+}
+
+/// How many edges the paths have together.
+fn edges_of(paths: &[Path]) -> usize {
+    let mut edges = 0usize;
+    for path in paths {
+        edges = edges.saturating_add(path.points.as_slice().len());
+    }
+    edges
 }
 
 // Widths around the ends of words.
@@ -134,39 +178,34 @@ fn paths_are_those_of_the_plain_page(rt: HostRuntime) -> Result<(), Fail> {
 }
 
 #[test]
-fn speckles_are_those_of_the_limit_and_less(rt: HostRuntime) -> Result<(), Fail> {
-    let two = drawn(rt.alloc(), &["##.#"])?;
-    for (most, want) in [
-        (0, "+ 2 0,1 0,0 1,0 2,0 2,1 1,1\n+ 1 3,1 3,0 4,0 4,1\n"),
-        (1, "+ 2 0,1 0,0 1,0 2,0 2,1 1,1\n"),
-        (2, ""),
-    ] {
-        let paths = decompose(rt.alloc(), &two, Policy::Minority)?;
-        let kept = keep(paths, most);
-        assert!(rt; are_shown(rt.alloc(), &two, &kept, want)?, "at most {most}");
+fn the_hole_is_inside_both_paths(rt: HostRuntime) -> Result<(), Fail> {
+    let page = drawn(rt.alloc(), &["###", "#.#", "###"])?;
+    // The proof reads here how long the page's sides are at most.
+    let _ = page.width();
+    for path in &decompose(rt.alloc(), &page, Policy::Minority)? {
+        assert_eq!(rt; insides(path), wanted_insides(path.sign));
     }
     Ok(())
 }
 
-#[test]
-fn the_hole_is_inside_both_paths(rt: HostRuntime) -> Result<(), Fail> {
-    let page = drawn(rt.alloc(), &["###", "#.#", "###"])?;
-    assert_eq!(rt; (page.width(), page.height()), (3, 3));
-    let paths = decompose(rt.alloc(), &page, Policy::Minority)?;
-    for path in &paths {
-        for (x, y, outer, hole) in [
-            (0, 0, true, false),
-            (1, 1, true, true),
-            (2, 1, true, false),
-            (3, 1, false, false),
-            (1, 3, false, false),
-        ] {
-            let want = match path.sign {
-                Sign::Plus => outer,
-                Sign::Minus => hole,
-            };
-            assert_eq!(rt; inside(path, x, y), want, "at {x}, {y}");
-        }
+/// Whether those places are inside the outer path, and inside the hole's.
+fn wanted_insides(sign: Sign) -> [bool; 5] {
+    match sign {
+        Sign::Plus => [true, true, true, false, false],
+        Sign::Minus => [false, true, false, false, false],
     }
-    Ok(())
+}
+
+/// Whether a black pixel, the hole, another black one and two beside the page are inside.
+fn insides(path: &Path) -> [bool; 5]
+    requires closed { IsClosedWalk path.now.points }
+    requires corners { All (IsCornerOf 32767 32767) path.now.points }
+{
+    [
+        inside(path, 0, 0),
+        inside(path, 1, 1),
+        inside(path, 2, 1),
+        inside(path, 3, 1),
+        inside(path, 1, 3),
+    ]
 }

@@ -49,29 +49,50 @@ fn walk(
     x: usize,
     y: usize,
 ) -> Result<Vec<Option<(usize, usize)>>, Fail> {
+    let start = (x, y.saturating_add(1), 2);
     let mut lines = Vec::new(alloc);
-    let (mut column, mut row, mut heading) = (x, y.saturating_add(1), 2u8);
+    let mut edge = start;
     for _ in 0..page.size().saturating_mul(4) {
-        let upright = match heading {
-            0 => Some((column, row)),
-            2 => Some((column, row.saturating_sub(1))),
-            _ => None,
-        };
-        lines.push(upright)?;
-        match heading {
-            0 => row = row.saturating_add(1),
-            1 => column = column.saturating_add(1),
-            2 => row = row.saturating_sub(1),
-            _ => column = column.saturating_sub(1),
-        }
-        heading = match page.ahead(column, row, heading) {
-            (true, false) => heading,
-            (_, true) => heading.wrapping_add(1) % 4,
-            (false, false) => heading.wrapping_add(3) % 4,
-        };
-        if (column, row, heading) == (x, y.saturating_add(1), 2) {
+        lines.push(upright(edge))?;
+        edge = onward(page, edge);
+        if edge == start {
             break;
         }
     }
     Ok(lines)
+}
+
+/// The place of a line that leaves a corner with this heading, if it is upright.
+fn upright(edge: (usize, usize, u8)) -> Option<(usize, usize)> {
+    let (column, row, heading) = edge;
+    match heading {
+        0 => Some((column, row)),
+        2 => Some((column, row.saturating_sub(1))),
+        _ => None,
+    }
+}
+
+/// The next corner, and the heading there.
+fn onward(page: &PlainPage, edge: (usize, usize, u8)) -> (usize, usize, u8) {
+    let (column, row, heading) = edge;
+    let (column, row) = match heading {
+        0 => (column, row.saturating_add(1)),
+        1 => (column.saturating_add(1), row),
+        2 => (column, row.saturating_sub(1)),
+        _ => (column.saturating_sub(1), row),
+    };
+    (
+        column,
+        row,
+        turned(page.ahead(column, row, heading), heading),
+    )
+}
+
+/// The heading between a pixel on the left and one on the right.
+fn turned(ahead: (bool, bool), heading: u8) -> u8 {
+    match ahead {
+        (true, false) => heading,
+        (_, true) => heading.wrapping_add(1) % 4,
+        (false, false) => heading.wrapping_add(3) % 4,
+    }
 }

@@ -14,12 +14,12 @@ use straight_paths::reach::Reach;
 #[derive(Clone, Copy)]
 struct Best {
     count: u32,
-    cost: u128,
+    cost: u64,
     next: usize,
 }
 
 /// The vertices of the best polygon, and its penalty.
-pub(super) fn plain_polygon(alloc: Global, points: &[Point]) -> Result<(Vec<u32>, u128), NoMemory>
+pub(super) fn plain_polygon(alloc: Global, points: &[Point]) -> Result<(Vec<u32>, u64), NoMemory>
     requires closed { IsClosedWalk points.now }
     requires on_page { AreOnPage points.now }
 {
@@ -34,7 +34,7 @@ pub(super) fn plain_polygon(alloc: Global, points: &[Point]) -> Result<(Vec<u32>
     let mut best = vec![in alloc; none; size + 1]?;
     for from in (0..size).rev() {
         let far = reach.far(from as u32) as usize;
-        best[from] = onward(&moments, from, size.min(from + far), &best);
+        best[from] = onward(&moments, from as u32, size.min(from + far) as u32, &best);
     }
     let mut at = Vec::new(alloc);
     let mut from = 0;
@@ -48,31 +48,37 @@ pub(super) fn plain_polygon(alloc: Global, points: &[Point]) -> Result<(Vec<u32>
 }
 
 /// The best way on from a point, by that from each later point up to the last in reach.
-fn onward(moments: &Moments, from: usize, last: usize, best: &[Best]) -> Best
+fn onward(moments: &Moments, from: u32, last: u32, best: &[Best]) -> Best
     requires point { from < length moments.now }
-    requires most { length moments.now ≤ 2147483648 }
     requires within { last ≤ length moments.now }
-    requires places { length best.now ≡ length moments.now + 1 }
 {
     let mut found = Best {
         count: u32::MAX,
-        cost: u128::MAX,
-        next: last,
+        cost: u64::MAX,
+        next: last as usize,
     };
-    for to in from + 1..last + 1 {
-        if to - from <= MOST_STEPS as usize {
-            let rest = best[to];
-            let count = rest.count.saturating_add(1);
-            let penalty = u128::from(moments.penalty(from as u32, to as u32));
-            let cost = rest.cost.saturating_add(penalty);
-            if (count, cost) < (found.count, found.cost) {
-                found = Best {
-                    count,
-                    cost,
-                    next: to,
-                };
+    for to in from..last.saturating_add(1) {
+        if from < to && to <= last && to - from <= MOST_STEPS {
+            if let Some(rest) = best.get(to as usize) {
+                let way = onto(moments.penalty(from, to), to, *rest);
+                if is_better(way, found) {
+                    found = way;
+                }
             }
         }
     }
     found
+}
+
+/// The best way that begins with a segment to this point, from which there is this one.
+fn onto(penalty: u64, to: u32, rest: Best) -> Best {
+    Best {
+        count: rest.count.saturating_add(1),
+        cost: rest.cost.saturating_add(penalty),
+        next: to as usize,
+    }
+}
+
+fn is_better(way: Best, other: Best) -> bool {
+    way.count < other.count || way.count == other.count && way.cost < other.cost
 }

@@ -1,5 +1,5 @@
 //! Turns and majorities at the corners of small pages.
-ghost use Rattle.std.specs.Prelude.{◌≡◌};
+ghost use Rattle.turn_policies.specs.Corner.{IsCorner};
 
 use page_samples::pages::drawn;
 use pt_base::path::Sign;
@@ -10,73 +10,74 @@ use turn_policies::heading::Dir;
 use turn_policies::majority::major;
 use turn_policies::rule::turn;
 
-fn at(x: i32, y: i32) -> Point
-    ensures { result ≡ record { x = x; y = y } }
+/// A corner of the widest page.
+fn corner(x: i32, y: i32) -> Point
+    ensures { IsCorner result }
 {
-    Point { x, y }
+    Point {
+        x: x.max(0).min(32767),
+        y: y.max(0).min(32767),
+    }
+}
+
+/// Where a path comes to a corner, and how it goes on there.
+const TURNS: [(i32, i32, Dir, Policy, Sign, Dir); 13] = [
+    // At a corner where two black pixels meet.
+    (1, 1, Dir::East, Policy::Left, Sign::Plus, Dir::North),
+    (1, 1, Dir::East, Policy::Right, Sign::Plus, Dir::South),
+    (1, 1, Dir::East, Policy::Black, Sign::Plus, Dir::South),
+    (1, 1, Dir::East, Policy::Black, Sign::Minus, Dir::North),
+    (1, 1, Dir::East, Policy::White, Sign::Plus, Dir::North),
+    (1, 1, Dir::East, Policy::White, Sign::Minus, Dir::South),
+    (1, 1, Dir::East, Policy::Majority, Sign::Plus, Dir::North),
+    (1, 1, Dir::East, Policy::Minority, Sign::Minus, Dir::South),
+    // At the edge of the page and beyond.
+    (0, 2, Dir::West, Policy::Minority, Sign::Plus, Dir::South),
+    (0, 1, Dir::South, Policy::Minority, Sign::Plus, Dir::East),
+    (2, 0, Dir::East, Policy::Minority, Sign::Plus, Dir::North),
+    (2, 1, Dir::North, Policy::Minority, Sign::Plus, Dir::West),
+    (
+        32767,
+        32767,
+        Dir::North,
+        Policy::Minority,
+        Sign::Plus,
+        Dir::West,
+    ),
+];
+
+#[test]
+fn turns_on_a_small_page(rt: HostRuntime) -> Result<(), Fail> {
+    let page = drawn(rt.alloc(), &["#.", ".#"])?;
+    for (x, y, from, policy, sign, to) in TURNS {
+        let found = turn(&page, corner(x, y), from, policy, sign);
+        assert_eq!(rt; found, to, "at {x}, {y}: {policy:?}, {sign:?}");
+    }
+    Ok(())
 }
 
 const QUARTERS: [&str; 8] = [
     "####....", "####....", "####....", "####....", "....####", "....####", "....####", "....####",
 ];
 
-#[test]
-fn choices_at_a_corner(rt: HostRuntime) -> Result<(), Fail> {
-    let page = drawn(rt.alloc(), &["#.", ".#"])?;
-    for (policy, sign, to) in [
-        (Policy::Left, Sign::Plus, Dir::North),
-        (Policy::Right, Sign::Plus, Dir::South),
-        (Policy::Black, Sign::Plus, Dir::South),
-        (Policy::Black, Sign::Minus, Dir::North),
-        (Policy::White, Sign::Plus, Dir::North),
-        (Policy::White, Sign::Minus, Dir::South),
-        (Policy::Majority, Sign::Plus, Dir::North),
-        (Policy::Minority, Sign::Minus, Dir::South),
-    ] {
-        assert_eq!(rt;
-            turn(&page, at(1, 1), Dir::East, policy, sign),
-            to,
-            "{policy:?}, {sign:?}"
-        );
-    }
-    Ok(())
-}
-
-#[test]
-fn turns_at_the_edge_and_beyond(rt: HostRuntime) -> Result<(), Fail> {
-    let page = drawn(rt.alloc(), &["#.", ".#"])?;
-    for (x, y, from, to) in [
-        (0, 2, Dir::West, Dir::South),
-        (0, 1, Dir::South, Dir::East),
-        (2, 0, Dir::East, Dir::North),
-        (2, 1, Dir::North, Dir::West),
-        (32767, 32767, Dir::North, Dir::West),
-    ] {
-        assert_eq!(rt;
-            turn(&page, at(x, y), from, Policy::Minority, Sign::Plus),
-            to,
-            "at {x}, {y}"
-        );
-    }
-    Ok(())
-}
-
 // At the middle of four quarters all rings tie; around a quarter's own middle black has more, at a corner
 // of the page white.
+const MAJORITIES: [(i32, i32, bool); 8] = [
+    (4, 4, false),
+    (6, 2, true),
+    (2, 6, true),
+    (2, 2, false),
+    (8, 8, false),
+    (0, 8, false),
+    (12, 4, false),
+    (32767, 32767, false),
+];
+
 #[test]
 fn majorities_of_quarters(rt: HostRuntime) -> Result<(), Fail> {
     let page = drawn(rt.alloc(), &QUARTERS)?;
-    for (x, y, black) in [
-        (4, 4, false),
-        (6, 2, true),
-        (2, 6, true),
-        (2, 2, false),
-        (8, 8, false),
-        (0, 8, false),
-        (12, 4, false),
-        (32767, 32767, false),
-    ] {
-        assert_eq!(rt; major(&page, at(x, y)), black, "at {x}, {y}");
+    for (x, y, black) in MAJORITIES {
+        assert_eq!(rt; major(&page, corner(x, y)), black, "at {x}, {y}");
     }
     Ok(())
 }

@@ -11,32 +11,38 @@ use std::test::Fail;
 use threshold_map::level::Level;
 
 /// The level at which half of white is black.
-pub(super) fn half() -> Level {
+fn half() -> Level {
     Level::from_micro(500000)
-}
-
-/// What the reader answers on a file at one half, however many bytes a read gives, or None where the
-/// answers differ.
-pub(super) fn told(alloc: Global, bytes: &[u8]) -> Result<Option<String>, Fail> {
-    let whole = answers(alloc, bytes, 65536, &[], &half(), false)?;
-    let single = answers(alloc, bytes, 1, &[], &half(), false)?;
-    if whole.as_str() == single.as_str() {
-        Ok(Some(whole))
-    } else {
-        Ok(None)
-    }
 }
 
 /// Whether the reader answers so on a file, however many bytes a read gives.
 pub(super) fn tells(alloc: Global, bytes: &[u8], text: &str) -> Result<bool, Fail> {
-    match told(alloc, bytes)? {
-        Some(told) => Ok(told.as_str() == text),
-        None => Ok(false),
-    }
+    let whole = answers(alloc, bytes, 65536, &[], &half(), false)?;
+    let single = answers(alloc, bytes, 1, &[], &half(), false)?;
+    Ok(whole.as_str() == text && single.as_str() == text)
+}
+
+/// Whether it answers so at a level in millionths, and where black is white.
+pub(super) fn tells_at(
+    alloc: Global,
+    bytes: &[u8],
+    micro: u32,
+    invert: bool,
+    text: &str,
+) -> Result<bool, Fail> {
+    let level = Level::from_micro(micro.min(1000000));
+    let told = answers(alloc, bytes, 65536, &[], &level, invert)?;
+    Ok(told.as_str() == text)
+}
+
+/// Whether it answers so where each read gives a byte and this one fails.
+pub(super) fn tells_failing(alloc: Global, bytes: &[u8], k: u64, text: &str) -> Result<bool, Fail> {
+    let told = answers(alloc, bytes, 1, &[InCall::Read(k)], &half(), false)?;
+    Ok(told.as_str() == text)
 }
 
 /// What the reader answers on a file, up to its end or a fault.
-pub(super) fn answers(
+fn answers(
     alloc: Global,
     bytes: &[u8],
     most: u32,

@@ -3,24 +3,25 @@ use crate::tests::answers::tells;
 use crate::tests::bmp::{Form, LOW, PALETTE, picture, small};
 use std::test::Fail;
 
+/// The header's size, the planes, the bits, the compression, and the colours used.
+const KINDS: [(u32, u32, u32, u32, u32); 12] = [
+    (0, 1, 1, 0, 0),
+    (64, 1, 1, 0, 0),
+    (4294967295, 1, 1, 0, 0),
+    (40, 0, 1, 0, 0),
+    (40, 2, 1, 0, 0),
+    (40, 1, 0, 0, 0),
+    (40, 1, 16, 0, 0),
+    (40, 1, 8, 1, 0),
+    (40, 1, 24, 3, 0),
+    (40, 1, 32, 6, 0),
+    (40, 1, 1, 0, 3),
+    (40, 1, 8, 0, 4294967295),
+];
+
 #[test]
 fn refused_kinds(rt: HostRuntime) -> Result<(), Fail> {
-    // The header's size, the planes, the bits, the compression, and the colours used.
-    let table = [
-        (0, 1, 1, 0, 0),
-        (64, 1, 1, 0, 0),
-        (4294967295, 1, 1, 0, 0),
-        (40, 0, 1, 0, 0),
-        (40, 2, 1, 0, 0),
-        (40, 1, 0, 0, 0),
-        (40, 1, 16, 0, 0),
-        (40, 1, 8, 1, 0),
-        (40, 1, 24, 3, 0),
-        (40, 1, 32, 6, 0),
-        (40, 1, 1, 0, 3),
-        (40, 1, 8, 0, 4294967295),
-    ];
-    for (header_size, planes, bits, compression, colors_used) in table {
+    for (header_size, planes, bits, compression, colors_used) in KINDS {
         // The kind comes before the sides and the offset.
         let form = Form {
             file_size: 0,
@@ -34,39 +35,38 @@ fn refused_kinds(rt: HostRuntime) -> Result<(), Fail> {
             colors_used,
         };
         let bytes = picture(rt.alloc(), &form, &[PALETTE, LOW])?;
-        assert!(rt;
-            tells(rt.alloc(), &bytes, "unsupported BMP kind")?,
-            "{form:?}"
-        );
+        let same = tells(rt.alloc(), &bytes, "unsupported BMP kind")?;
+        assert!(rt; same, "{form:?}");
     }
     Ok(())
 }
 
+/// The width, the height, the bits, the colours used, and the rows' place.
+const PLACES: [(u32, u32, u32, u32, u32, &str); 18] = [
+    (0, 2, 1, 0, 0, "zero side"),
+    (2147483648, 2147483648, 1, 0, 0, "zero side"),
+    (4294967295, 2, 1, 0, 0, "zero side"),
+    (20000, 0, 1, 0, 0, "zero side"),
+    (16385, 2, 1, 0, 0, "side too large"),
+    (3, 16385, 1, 0, 0, "side too large"),
+    (3, 2147483648, 1, 0, 0, "side too large"),
+    (3, 4294950911, 1, 0, 0, "side too large"),
+    (3, 2, 1, 0, 61, "bad BMP offset"),
+    (3, 2, 1, 0, 0, "bad BMP offset"),
+    (3, 2, 8, 0, 1077, "bad BMP offset"),
+    (3, 2, 8, 2, 61, "bad BMP offset"),
+    (3, 2, 24, 0, 53, "bad BMP offset"),
+    (3, 2, 1, 0, 4294967295, "truncated"),
+    (3, 2, 8, 0, 1078, "truncated"),
+    (16384, 1, 1, 0, 62, "truncated"),
+    (1, 4294950912, 1, 0, 62, "truncated"),
+    // Above eight bits no palette is read.
+    (3, 2, 24, 4294967295, 54, "truncated"),
+];
+
 #[test]
 fn refused_places(rt: HostRuntime) -> Result<(), Fail> {
-    // The width, the height, the bits, the colours used, and the rows' place.
-    let table = [
-        (0, 2, 1, 0, 0, "zero side"),
-        (2147483648, 2147483648, 1, 0, 0, "zero side"),
-        (4294967295, 2, 1, 0, 0, "zero side"),
-        (20000, 0, 1, 0, 0, "zero side"),
-        (16385, 2, 1, 0, 0, "side too large"),
-        (3, 16385, 1, 0, 0, "side too large"),
-        (3, 2147483648, 1, 0, 0, "side too large"),
-        (3, 4294950911, 1, 0, 0, "side too large"),
-        (3, 2, 1, 0, 61, "bad BMP offset"),
-        (3, 2, 1, 0, 0, "bad BMP offset"),
-        (3, 2, 8, 0, 1077, "bad BMP offset"),
-        (3, 2, 8, 2, 61, "bad BMP offset"),
-        (3, 2, 24, 0, 53, "bad BMP offset"),
-        (3, 2, 1, 0, 4294967295, "truncated"),
-        (3, 2, 8, 0, 1078, "truncated"),
-        (16384, 1, 1, 0, 62, "truncated"),
-        (1, 4294950912, 1, 0, 62, "truncated"),
-        // Above eight bits no palette is read.
-        (3, 2, 24, 4294967295, 54, "truncated"),
-    ];
-    for (width, height, bits, colors_used, pixel_offset, text) in table {
+    for (width, height, bits, colors_used, pixel_offset, text) in PLACES {
         let mut form = small(pixel_offset);
         form.file_size = 4294967295;
         form.width = width;
@@ -74,24 +74,30 @@ fn refused_places(rt: HostRuntime) -> Result<(), Fail> {
         form.bits = bits;
         form.colors_used = colors_used;
         let bytes = picture(rt.alloc(), &form, &[PALETTE, b"\xbf"])?;
-        assert!(rt; tells(rt.alloc(), &bytes, text)?, "{form:?}");
+        let same = tells(rt.alloc(), &bytes, text)?;
+        assert!(rt; same, "{form:?}");
     }
     Ok(())
 }
 
+const MASKS: &[u8] = b"\0\0\xff\0\0\xff\0\0\xff\0\0\0";
+
+const PIXELS: &[u8] = b"\0\0\0\xff\xff\xff\xff\0";
+
+const OTHER_MASKS: &[u8] = b"\xff\0\0\0\0\xff\0\0\0\0\xff\0";
+
+/// The header's size, the place of the rows, the masks, the row, and the answer.
+const MASKED: [(u32, u32, &[u8], &[u8], &str); 5] = [
+    (40, 66, MASKS, PIXELS, "#./ end"),
+    (56, 70, b"", PIXELS, "#./ end"),
+    (40, 66, OTHER_MASKS, PIXELS, "unsupported BMP kind"),
+    (40, 66, b"\0\0\xff\0\0\xff\0\0", b"", "truncated"),
+    (40, 65, MASKS, PIXELS, "bad BMP offset"),
+];
+
 #[test]
 fn masked_pictures(rt: HostRuntime) -> Result<(), Fail> {
-    let masks: &[u8] = b"\0\0\xff\0\0\xff\0\0\xff\0\0\0";
-    let pixels: &[u8] = b"\0\0\0\xff\xff\xff\xff\0";
-    let turned: &[u8] = b"\xff\0\0\0\0\xff\0\0\0\0\xff\0";
-    let table: [(u32, u32, &[u8], &[u8], &str); 5] = [
-        (40, 66, masks, pixels, "#./ end"),
-        (56, 70, b"", pixels, "#./ end"),
-        (40, 66, turned, pixels, "unsupported BMP kind"),
-        (40, 66, b"\0\0\xff\0\0\xff\0\0", b"", "truncated"),
-        (40, 65, masks, pixels, "bad BMP offset"),
-    ];
-    for (header_size, pixel_offset, masks, pixels, text) in table {
+    for (header_size, pixel_offset, masks, pixels, text) in MASKED {
         let mut form = small(pixel_offset);
         form.header_size = header_size;
         form.width = 2;
@@ -99,7 +105,8 @@ fn masked_pictures(rt: HostRuntime) -> Result<(), Fail> {
         form.bits = 32;
         form.compression = 3;
         let bytes = picture(rt.alloc(), &form, &[masks, pixels])?;
-        assert!(rt; tells(rt.alloc(), &bytes, text)?, "{form:?}");
+        let same = tells(rt.alloc(), &bytes, text)?;
+        assert!(rt; same, "{form:?}");
     }
     Ok(())
 }

@@ -1,5 +1,5 @@
 //! Rows of bits and of samples, which are put by words, beside the same rows pixel by pixel.
-use crate::tests::answers::{answers, half};
+use crate::tests::answers::tells_at;
 use std::alloc::Global;
 use std::test::Fail;
 
@@ -8,9 +8,25 @@ fn is_black(x: u32) -> bool {
     (x.wrapping_mul(37) ^ x / 5) % 3 == 0
 }
 
-/// A plain page of one row.
+/// What the reader answers on the row, pixel by pixel.
+fn shown(alloc: Global, width: u32, invert: bool) -> Result<String, Fail> {
+    let mut text = String::new(alloc);
+    for x in 0..width {
+        text.push(if is_black(x) != invert { '#' } else { '.' })?;
+    }
+    text.push_str("/ end")?;
+    Ok(text)
+}
+
+/// A page's magic, its sides, and what stands before its row.
+fn head(alloc: Global, magic: &str, width: u32, behind: &str) -> Result<Vec<u8>, Fail> {
+    let head = format!(in alloc; "{magic} {width} 1{behind}")?;
+    Ok(Vec::from_slice(alloc, head.as_bytes())?)
+}
+
+/// The row as a plain page.
 fn plain(alloc: Global, width: u32) -> Result<Vec<u8>, Fail> {
-    let mut bytes = Vec::from_slice(alloc, format!(in alloc; "P1 {width} 1 ")?.as_bytes())?;
+    let mut bytes = head(alloc, "P1", width, " ")?;
     for x in 0..width {
         bytes.push(if is_black(x) { b'1' } else { b'0' })?;
     }
@@ -28,7 +44,7 @@ fn packed(from: u32) -> u8 {
 
 /// The same row as packed bits, and pixels of some kind past the width.
 fn raw(alloc: Global, width: u32) -> Result<Vec<u8>, Fail> {
-    let mut bytes = Vec::from_slice(alloc, format!(in alloc; "P4 {width} 1\n")?.as_bytes())?;
+    let mut bytes = head(alloc, "P4", width, "\n")?;
     for at in 0..width.div_ceil(8) {
         bytes.push(packed(at.wrapping_mul(8)))?;
     }
@@ -37,38 +53,27 @@ fn raw(alloc: Global, width: u32) -> Result<Vec<u8>, Fail> {
 
 /// The same row as samples of a byte.
 fn gray(alloc: Global, width: u32) -> Result<Vec<u8>, Fail> {
-    let mut bytes = Vec::from_slice(alloc, format!(in alloc; "P5 {width} 1 255\n")?.as_bytes())?;
+    let mut bytes = head(alloc, "P5", width, " 255\n")?;
     for x in 0..width {
         bytes.push(if is_black(x) { 127 } else { 128 })?;
     }
     Ok(bytes)
 }
 
-/// Whether both files show the same page.
-fn show_the_same(alloc: Global, file: &[u8], other: &[u8], invert: bool) -> Result<bool, Fail> {
-    let page = answers(alloc, file, 65536, &[], &half(), invert)?;
-    let same = answers(alloc, other, 65536, &[], &half(), invert)?;
-    Ok(page.as_str() == same.as_str())
+/// Whether the reader answers so on the row as it stands in a file.
+fn tells(alloc: Global, file: &[u8], width: u32, invert: bool) -> Result<bool, Fail> {
+    let text = shown(alloc, width, invert)?;
+    tells_at(alloc, file, 500000, invert, text.as_str())
 }
 
 #[test]
-fn rows_of_bits(rt: HostRuntime) -> Result<(), Fail> {
+fn rows_of_each_kind(rt: HostRuntime) -> Result<(), Fail> {
     for n in 2..262u32 {
-        let pixels = plain(rt.alloc(), n / 2)?;
-        let bits = raw(rt.alloc(), n / 2)?;
-        let same = show_the_same(rt.alloc(), &pixels, &bits, n % 2 == 1)?;
-        assert!(rt; same, "{n} halves of a width");
-    }
-    Ok(())
-}
-
-#[test]
-fn rows_of_samples(rt: HostRuntime) -> Result<(), Fail> {
-    for n in 2..262u32 {
-        let pixels = plain(rt.alloc(), n / 2)?;
-        let samples = gray(rt.alloc(), n / 2)?;
-        let same = show_the_same(rt.alloc(), &pixels, &samples, n % 2 == 1)?;
-        assert!(rt; same, "{n} halves of a width");
+        let (width, invert) = (n / 2, n % 2 == 1);
+        let pixels = tells(rt.alloc(), &plain(rt.alloc(), width)?, width, invert)?;
+        let bits = tells(rt.alloc(), &raw(rt.alloc(), width)?, width, invert)?;
+        let samples = tells(rt.alloc(), &gray(rt.alloc(), width)?, width, invert)?;
+        assert_eq!(rt; (pixels, bits, samples), (true, true, true), "{width} wide");
     }
     Ok(())
 }

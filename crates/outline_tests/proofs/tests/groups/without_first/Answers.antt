@@ -1,9 +1,9 @@
-use Rattle.std.proofs.Common.{pos, ◌≤ℤ◌, ◌∷◌, All, List, subst}
+use Rattle.std.proofs.Common.{pos, ◌≤ℤ◌, All, subst}
 use Rattle.std.proofs.lemmas.List.Elements.{All-tail}
 use Rattle.pt_base.specs.declared.path.Path.{Path}
 use Rattle.pt_base.specs.ClosedWalk.{point_at}
 use Rattle.path_decompose.specs.Bounds.{IsCornerOf}
-use Rattle.format_tests.proofs.tests.groups.without_first.Goals as goal
+use Rattle.outline_tests.proofs.tests.groups.without_first.Goals as goal
 
 pub returns-in-Some-clause-corners : goal.returns-in-Some-clause-corners
 returns-in-Some-clause-corners c =

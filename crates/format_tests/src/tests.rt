@@ -1,5 +1,0 @@
-mod drawings;
-mod groups;
-mod numbers;
-mod postscript;
-mod samples;

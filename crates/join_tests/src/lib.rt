@@ -1,5 +1,0 @@
-//! Tests of joined curves.
-#![tactic(auto)]
-
-#[cfg(test)]
-mod tests;

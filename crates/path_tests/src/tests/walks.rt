@@ -1,0 +1,67 @@
+//! Possible segments of all short walks, beside the criterion over all triples.
+ghost use Rattle.std.specs.Prelude.{◌≡◌, ◌<◌, length};
+
+use page_samples::plain::is_possible;
+use page_samples::walks::draw;
+use pt_base::closed_walk::is_closed_walk;
+use pt_base::point::Point;
+use std::alloc::Global;
+use std::test::Fail;
+use straight_paths::reach::Reach;
+
+/// The steps of a walk, and how many ways they can go.
+const WALKS: [(usize, u32); 5] = [
+    (4, 256),
+    (6, 4096),
+    (8, 65536),
+    (10, 1 << 20),
+    (12, 1 << 24),
+];
+
+#[test]
+fn all_walks_of_twelve_steps(rt: HostRuntime) -> Result<(), Fail> {
+    let mut found = 0u32;
+    for (size, codes) in WALKS {
+        for code in 0..codes {
+            if let Some(alike) = compared(rt.alloc(), size, code)? {
+                assert!(rt; alike, "{size} steps of {code}");
+                found = found.wrapping_add(1);
+            }
+        }
+    }
+    assert_eq!(rt; found, 13848);
+    Ok(())
+}
+
+/// Whether the segments of a walk are possible where the criterion says so, if it is closed.
+fn compared(alloc: Global, size: usize, code: u32) -> Result<Option<bool>, Fail> {
+    let mut points = [Point { x: 0, y: 0 }; 12];
+    let Some(points) = points.get_mut(..size) else {
+        return Ok(None);
+    };
+    if !draw(code, points) || !is_closed_walk(points) {
+        return Ok(None);
+    }
+    let reach = Reach::of(alloc, points)?;
+    let mut alike = true;
+    for i in 0..12 {
+        alike = alike && is_alike_from(points, &reach, i);
+    }
+    Ok(Some(alike))
+}
+
+/// Whether those from a point are, if there is one of this number.
+fn is_alike_from(points: &[Point], reach: &Reach, i: u32) -> bool
+    requires { reach.now ≡ points.now }
+{
+    if points.len() <= i as usize {
+        return true;
+    }
+    for steps in 1..points.len().min(12) as u32 {
+        let j = i.saturating_add(steps);
+        if i < j && reach.possible(i, j) != is_possible(points, i as usize, j as usize) {
+            return false;
+        }
+    }
+    true
+}
