@@ -4,6 +4,8 @@ use Rattle.std.specs.FinMap.{get}
 use Rattle.pt_base.specs.Counts.{Rose, next_count}
 use Rattle.pt_base.specs.Documents.{IsSaid}
 use Rattle.pt_base.specs.Files.{Contents, Files, Lacks, Opened, unread, unread_of, with_file}
+use Rattle.pt_base.specs.declared.fault.OpenFault.{OpenFault}
+use Rattle.pt_base.specs.declared.fault.OpenFault.TheVariants as opening
 use Rattle.pt_base.specs.declared.settings.Settings.{Settings}
 use Rattle.page_trace.specs.Document.{CanWrite}
 use Rattle.file_trace.specs.Held.{AreHeld, Held}
@@ -107,9 +109,15 @@ file_unread size settings output name made start k held held_mid source source_n
     }
 
 -- what isn't there is absent
-pub lacks_absent : (told : Option Files) (name : List ℕ) → Lacks told name → IsAbsent (told_contents told) name
+lacks_absent : (told : Option Files) (name : List ℕ) → Lacks told name → IsAbsent (told_contents told) name
 lacks_absent None name lacking = lacking
 lacks_absent (Some files) name lacking = lacking
+
+-- why a file can't be opened
+pub unopened_by : (told : Option Files) (name : List ℕ) (before now : ℕ) (f : OpenFault) → (f ≡ opening.Absent → Lacks told name) → (f ≡ opening.Device → Rose before now)
+    → IsAbsent (told_contents told) name ⊎ Rose before now
+unopened_by told name before now opening.Absent absent device = inl (lacks_absent told name (absent refl))
+unopened_by told name before now opening.Device absent device = inr (device refl)
 
 -- where the run ends within items, and there are items of the files behind them
 pub outcome_of_halt : (s : Status) → IsHalt s → (first : List Item) (contents : Option Contents) (settings : Settings) (output : Option (List ℕ)) (names made : List (List ℕ)) (source source_now : Source) (a b : Sinks)
@@ -165,7 +173,7 @@ end_said name end k s line is going memory same items a b c done outs said most 
     inl (is, going, memory, subst (λ (l : List Item). AreCarriedOut l (end_message name end k ∷ []) a c) (append-nil items) both)
 
 -- how the inputs moved where the run ends within items: that isn't told
-input_of_halt : (s : Status) → IsHalt s → (before now : ℕ) → InputCount s before now
+pub input_of_halt : (s : Status) → IsHalt s → (before now : ℕ) → InputCount s before now
 input_of_halt s (inl is) before now = subst (λ v. InputCount v before now) (sym is) tt
 input_of_halt s (inr is) before now = subst (λ v. InputCount v before now) (sym is) tt
 

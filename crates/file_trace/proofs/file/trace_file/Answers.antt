@@ -1,26 +1,23 @@
-use Rattle.std.proofs.Common.{◌≡◌, ◌≤◌, ◌⊎◌, ◌∙◌, ◌∷◌, ◌*◌, ℕ, List, Option, Err, ap, inl, inr, option_map, refl, subst, sym, arith}
+use Rattle.std.proofs.Common.{◌≡◌, ◌∙◌, ◌∷◌, ◌*◌, ℕ, List, Option, Err, ap, inl, inr, option_map, refl, subst, sym, arith}
 use Rattle.pt_base.specs.Counts.{Rose}
 use Rattle.pt_base.specs.Files.{Lacks}
-use Rattle.pt_base.specs.declared.fault.OpenFault.{OpenFault}
-use Rattle.pt_base.specs.declared.fault.OpenFault.TheVariants as opening
-use Rattle.file_trace.specs.Items.{IsAbsent, told_contents}
-use Rattle.file_trace.specs.Progress.{InputCount, OutputCount, status_of}
-use Rattle.file_trace.proofs.Ending.{ends_at_once, ends_before, ends_behind, file_ends, file_halted, file_unopened, input_count, lacks_absent}
+use Rattle.file_trace.specs.Items.{told_contents}
+use Rattle.file_trace.specs.Progress.{InputCount, status_of}
+use Rattle.file_trace.proofs.Counting.{output_from, rises, rises_from}
+use Rattle.file_trace.proofs.Ending.{ends_at_once, ends_before, ends_behind, file_ends, file_halted, file_unopened, input_count, input_of_halt, unopened_by}
 use Rattle.file_trace.proofs.Filing.{file_goes_on, has_bytes}
 use Rattle.file_trace.proofs.Passing.{pass_ended, pass_halted, pass_unopened}
-use Rattle.file_trace.proofs.Reading.{name-with_file}
+use Rattle.file_trace.proofs.Reading.{contents_through, contents_unopened, name-with_file, no_name}
+use Rattle.file_trace.specs.declared.status.Status.TheVariants as status
 use Rattle.file_trace.proofs.file.trace_file.Goals as goal
 
 -- the file can't be opened: all that was held is carried out
 pub returns-in-Ok-carry_out-clause-ends : goal.returns-in-Ok-carry_out-clause-ends
 returns-in-Ok-carry_out-clause-ends g c = λ names first are.
     let output : Option (List ℕ) = option_map (λ s. s.now) c.args.output in
-    inl (file_unopened c.args.settings output c.args.name.now c.args.made.now _ _ _ _ _ c.in-Err.ensures.one_more c.in-Err.ensures.none_opened (by_fault c.in-Err.field-0 refl) refl
-    c.say_not_opened.ensures.said c.say_not_opened.ensures.never_falls names first (c.in-Ok-carry_out.ensures.done first are)) where
-      by_fault : (f : OpenFault) → f ≡ c.in-Err.field-0
-          → IsAbsent (told_contents (g.I.Inputs.files c.args.inputs.now)) c.args.name.now ⊎ Rose (g.I.Inputs.faults c.args.inputs.now) (g.I.Inputs.faults c.open.new.self)
-      by_fault opening.Absent e = inl (lacks_absent (g.I.Inputs.files c.args.inputs.now) c.args.name.now (c.in-Err.ensures.absent.0 (ap Err (sym e))))
-      by_fault opening.Device e = inr (c.in-Err.ensures.cause (ap Err (sym e)))
+    inl (file_unopened c.args.settings output c.args.name.now c.args.made.now _ _ _ _ _ c.in-Err.ensures.one_more c.in-Err.ensures.none_opened
+    (unopened_by (g.I.Inputs.files c.args.inputs.now) c.args.name.now (g.I.Inputs.faults c.args.inputs.now) (g.I.Inputs.faults c.open.new.self) c.in-Err.field-0 (λ e. c.in-Err.ensures.absent.0 (ap Err e)) (λ e. c.in-Err.ensures.cause (ap Err e))) refl
+    c.say_not_opened.ensures.said c.say_not_opened.ensures.never_falls names first (c.in-Ok-carry_out.ensures.done first are))
 
 -- or it isn't
 pub returns-in-Err-carry_out-clause-ends : goal.returns-in-Err-carry_out-clause-ends
@@ -110,11 +107,8 @@ returns-in-Err-carry_out-clause-one_pass g c = λ is names first are.
     let output : Option (List ℕ) = option_map (λ s. s.now) c.args.output in
     let ended = rw is at (c.in-Err-carry_out.ensures.ends first are) in
     pass_unopened (2 * c.args.workers) (omega (arith, c.requires.some_worker)) c.args.settings c.requires.offered.document output c.args.name.now c.args.made.now c.args.batch.now _ _ _ _
-    c.requires.not_full (by_fault c.in-Err.field-0 refl) names first are ended where
-      by_fault : (f : OpenFault) → f ≡ c.in-Err.field-0
-          → IsAbsent (told_contents (g.I.Inputs.files c.args.inputs.now)) c.args.name.now ⊎ Rose (g.I.Inputs.faults c.args.inputs.now) (g.I.Inputs.faults c.open.new.self)
-      by_fault opening.Absent e = inl (lacks_absent (g.I.Inputs.files c.args.inputs.now) c.args.name.now (c.in-Err.ensures.absent.0 (ap Err (sym e))))
-      by_fault opening.Device e = inr (c.in-Err.ensures.cause (ap Err (sym e)))
+    c.requires.not_full
+    (unopened_by (g.I.Inputs.files c.args.inputs.now) c.args.name.now (g.I.Inputs.faults c.args.inputs.now) (g.I.Inputs.faults c.open.new.self) c.in-Err.field-0 (λ e. c.in-Err.ensures.absent.0 (ap Err e)) (λ e. c.in-Err.ensures.cause (ap Err e))) names first are ended
 
 -- or with its pages
 pub returns-in-Err-trace_pages-clause-one_pass : goal.returns-in-Err-trace_pages-clause-one_pass
@@ -141,13 +135,7 @@ returns-in-Err-finish-clause-one_pass g c = λ is names first are.
     (rw is at c.in-Err-finish.ensures.ends)
     (c.in-Err-finish.ensures.unwritten is) names first are
 
--- counts that never fall
-rises : (a b c : ℕ) → a ≤ b → b ≤ c → a ≤ c
-rises a b c e f = omega (arith, e, f)
-
-rises_from : (a b c : ℕ) → b ≡ a → b ≤ c → a ≤ c
-rises_from a b c e f = omega (arith, e, f)
-
+-- the counts and the openings
 pub returns-in-Err-trace_pages-clause-one_more : goal.returns-in-Err-trace_pages-clause-one_more
 returns-in-Err-trace_pages-clause-one_more g c = c.trace_pages.ensures.same_openings ∙ c.in-Ok.ensures.one_more
 
@@ -182,8 +170,7 @@ pub returns-in-Err-add-clause-outputs_never_fall : goal.returns-in-Err-add-claus
 returns-in-Err-add-clause-outputs_never_fall g c = rises _ _ _ c.trace_pages.ensures.outputs_never_fall c.finish.ensures.outputs_never_fall
 
 pub returns-in-Err-finish-clause-output : goal.returns-in-Err-finish-clause-output
-returns-in-Err-finish-clause-output g c =
-    subst (λ n. OutputCount c.in-Err-finish.status n (g.O.Sink.faults c.finish.new.outs) (g.O.Sink.is_ready c.finish.new.outs)) c.in-Ok-trace_pages.ensures.steady_output.0 c.in-Err-finish.ensures.output
+returns-in-Err-finish-clause-output g c = output_from c.in-Err-finish.status _ _ _ _ c.in-Ok-trace_pages.ensures.steady_output.0 c.in-Err-finish.ensures.output
 
 pub returns-in-Ok-add-clause-steady_output : goal.returns-in-Ok-add-clause-steady_output
 returns-in-Ok-add-clause-steady_output g c = (c.in-Ok-finish.ensures.steady_output.0 ∙ c.in-Ok-trace_pages.ensures.steady_output.0, c.in-Ok-finish.ensures.steady_output.1)
@@ -195,3 +182,99 @@ pub returns-in-Ok-add-clause-steady_input : goal.returns-in-Ok-add-clause-steady
 returns-in-Ok-add-clause-steady_input g c =
     let count = subst (λ s. InputCount s (g.I.Inputs.faults c.open.new.self) (g.I.Inputs.faults c.trace_pages.new.inputs)) c.in-Ok-finish.ensures.goes_on c.in-Ok-trace_pages.ensures.input in
     count ∙ c.in-Ok.ensures.steady
+
+-- the same where no page was read, or the run ended within the pages
+pub returns-in-Ok-carry_out-clause-inputs_never_fall : goal.returns-in-Ok-carry_out-clause-inputs_never_fall
+returns-in-Ok-carry_out-clause-inputs_never_fall g c = c.in-Err.ensures.never_falls
+
+pub returns-in-Err-carry_out-clause-inputs_never_fall : goal.returns-in-Err-carry_out-clause-inputs_never_fall
+returns-in-Err-carry_out-clause-inputs_never_fall g c = c.in-Err.ensures.never_falls
+
+pub returns-in_default-clause-inputs_never_fall : goal.returns-in_default-clause-inputs_never_fall
+returns-in_default-clause-inputs_never_fall g c = c.in-Ok.ensures.never_falls
+
+pub returns-in-Ok-carry_out-clause-outputs_never_fall : goal.returns-in-Ok-carry_out-clause-outputs_never_fall
+returns-in-Ok-carry_out-clause-outputs_never_fall g c = c.carry_out.ensures.outputs_never_fall
+
+pub returns-in-Err-carry_out-clause-outputs_never_fall : goal.returns-in-Err-carry_out-clause-outputs_never_fall
+returns-in-Err-carry_out-clause-outputs_never_fall g c = c.carry_out.ensures.outputs_never_fall
+
+pub returns-in-Err-trace_pages-clause-outputs_never_fall : goal.returns-in-Err-trace_pages-clause-outputs_never_fall
+returns-in-Err-trace_pages-clause-outputs_never_fall g c = c.trace_pages.ensures.outputs_never_fall
+
+pub returns-in-Ok-carry_out-clause-output : goal.returns-in-Ok-carry_out-clause-output
+returns-in-Ok-carry_out-clause-output g c = c.in-Ok-carry_out.ensures.steady_output
+
+pub returns-in-Err-carry_out-clause-output : goal.returns-in-Err-carry_out-clause-output
+returns-in-Err-carry_out-clause-output g c = c.in-Err-carry_out.ensures.output
+
+pub returns-in_default-clause-output : goal.returns-in_default-clause-output
+returns-in_default-clause-output g c = (refl, c.requires.closed)
+
+pub returns-in-Err-trace_pages-clause-output : goal.returns-in-Err-trace_pages-clause-output
+returns-in-Err-trace_pages-clause-output g c = c.in-Err-trace_pages.ensures.output
+
+pub returns-in-Err-carry_out-clause-input : goal.returns-in-Err-carry_out-clause-input
+returns-in-Err-carry_out-clause-input g c = input_of_halt c.in-Err-carry_out.status c.in-Err-carry_out.ensures.status _ _
+
+pub returns-in-Err-trace_pages-clause-input : goal.returns-in-Err-trace_pages-clause-input
+returns-in-Err-trace_pages-clause-input g c = input_of_halt c.in-Err-trace_pages.status c.in-Err-trace_pages.ensures.status _ _
+
+pub returns-in-Ok-carry_out-clause-one_more : goal.returns-in-Ok-carry_out-clause-one_more
+returns-in-Ok-carry_out-clause-one_more g c = c.in-Err.ensures.one_more
+
+pub returns-in-Err-carry_out-clause-one_more : goal.returns-in-Err-carry_out-clause-one_more
+returns-in-Err-carry_out-clause-one_more g c = c.in-Err.ensures.one_more
+
+pub returns-in_default-clause-one_more : goal.returns-in_default-clause-one_more
+returns-in_default-clause-one_more g c = c.in-Ok.ensures.one_more
+
+-- no file is opened, or the one that was asked for
+pub returns-in-Ok-carry_out-clause-name : goal.returns-in-Ok-carry_out-clause-name
+returns-in-Ok-carry_out-clause-name g c = rw c.in-Err.ensures.no_file (no_name (g.I.Inputs.files c.args.inputs.now) c.args.name.now)
+
+pub returns-in-Err-carry_out-clause-name : goal.returns-in-Err-carry_out-clause-name
+returns-in-Err-carry_out-clause-name g c = rw c.in-Err.ensures.no_file (no_name (g.I.Inputs.files c.args.inputs.now) c.args.name.now)
+
+pub returns-in_default-clause-name : goal.returns-in_default-clause-name
+returns-in_default-clause-name g c = rw c.in-Ok.ensures.file (name-with_file (g.I.Inputs.files c.args.inputs.now) c.args.name.now)
+
+pub returns-in-Err-trace_pages-clause-name : goal.returns-in-Err-trace_pages-clause-name
+returns-in-Err-trace_pages-clause-name g c =
+    rw (c.trace_pages.ensures.same_name, c.in-Ok.ensures.file) (name-with_file (g.I.Inputs.files c.args.inputs.now) c.args.name.now)
+
+-- the files hold what they held
+pub returns-in-Ok-carry_out-clause-same_contents : goal.returns-in-Ok-carry_out-clause-same_contents
+returns-in-Ok-carry_out-clause-same_contents g c = contents_unopened (g.I.Inputs.files c.args.inputs.now) _ c.in-Err.ensures.no_file
+
+pub returns-in-Err-carry_out-clause-same_contents : goal.returns-in-Err-carry_out-clause-same_contents
+returns-in-Err-carry_out-clause-same_contents g c = contents_unopened (g.I.Inputs.files c.args.inputs.now) _ c.in-Err.ensures.no_file
+
+pub returns-in_default-clause-same_contents : goal.returns-in_default-clause-same_contents
+returns-in_default-clause-same_contents g c = contents_through (g.I.Inputs.files c.args.inputs.now) _ _ c.args.name.now c.in-Ok.ensures.file refl
+
+pub returns-in-Err-trace_pages-clause-same_contents : goal.returns-in-Err-trace_pages-clause-same_contents
+returns-in-Err-trace_pages-clause-same_contents g c = contents_through (g.I.Inputs.files c.args.inputs.now) _ _ c.args.name.now c.in-Ok.ensures.file c.trace_pages.ensures.same_contents
+
+pub returns-in-Err-finish-clause-same_contents : goal.returns-in-Err-finish-clause-same_contents
+returns-in-Err-finish-clause-same_contents g c = contents_through (g.I.Inputs.files c.args.inputs.now) _ _ c.args.name.now c.in-Ok.ensures.file c.trace_pages.ensures.same_contents
+
+pub returns-in-Ok-add-clause-same_contents : goal.returns-in-Ok-add-clause-same_contents
+returns-in-Ok-add-clause-same_contents g c = contents_through (g.I.Inputs.files c.args.inputs.now) _ _ c.args.name.now c.in-Ok.ensures.file c.trace_pages.ensures.same_contents
+
+pub returns-in-Err-add-clause-same_contents : goal.returns-in-Err-add-clause-same_contents
+returns-in-Err-add-clause-same_contents g c = contents_through (g.I.Inputs.files c.args.inputs.now) _ _ c.args.name.now c.in-Ok.ensures.file c.trace_pages.ensures.same_contents
+
+-- the run ends so, and not at a document
+pub returns-in-Ok-carry_out-clause-one_pass : goal.returns-in-Ok-carry_out-clause-one_pass
+returns-in-Ok-carry_out-clause-one_pass g c = λ is. absurd (let no : status.Unread ≡ status.Unwritten = is in cc)
+
+pub returns-in_default-clause-one_pass : goal.returns-in_default-clause-one_pass
+returns-in_default-clause-one_pass g c = λ is. absurd (let no : status.OutOfMemory ≡ status.Unwritten = is in cc)
+
+pub returns-in-Err-add-clause-one_pass : goal.returns-in-Err-add-clause-one_pass
+returns-in-Err-add-clause-one_pass g c = λ is. absurd (let no : status.OutOfMemory ≡ status.Unwritten = is in cc)
+
+-- a file's pages are as many as a run accepts
+pub add-requires : goal.add-requires
+add-requires g c = c.in-Ok-trace_pages.ensures.traced.few

@@ -1,7 +1,9 @@
 use Rattle.std.proofs.Common.{◌≡◌, ◌∙◌, Err, true, false, ap, refl, sym, arith}
 use Rattle.page_trace.proofs.Exists.{document_found}
+use Rattle.file_trace.proofs.Counting.{input_from, output_from, rises_from, rose_from, stands}
 use Rattle.file_trace.proofs.Naming.{next_name-made_with}
 use Rattle.file_trace.proofs.Tracing.{ends_by, halted, no_more, none_traced, one_more}
+use Rattle.file_trace.specs.Progress.{status_of}
 use Rattle.file_trace.proofs.pages.trace_pages.Goals as goal
 
 pub loop-pages-init : goal.loop-pages-init
@@ -40,20 +42,68 @@ loop-pages-preserved g c =
       output = c.in-Ok-hold_page.ensures.steady_output.0 ∙ c.loop-pages.invariant.output;
     }
 
-pub returns-in-Err-hold_page-clause-ends : goal.returns-in-Err-hold_page-clause-ends
-returns-in-Err-hold_page-clause-ends g c =
-    let named = next_name-made_with c.args.base.now c.count-first.result c.loop-pages.pages c.args.made.now c.count-first.ensures.value in
-    let document = document_found c.args.settings.backend c.in-Ok.page c.args.settings c.in-Ok.ensures.page c.requires.offered.document in
-    halted _ _ _ _ _ _ _ _ _ _ _ _ _ _ _ _ _ _ c.loop-pages.invariant.traced c.in-Ok.ensures.reads document.1
-    (λ left are. rw named (c.in-Err-hold_page.ensures.ends left are document.0 document.1)) (omega arith) c.in-Ok.ensures.within c.in-Err-hold_page.ensures.full
+-- a page more is read, and what was held with it isn't carried out
+pub returns-in-Err-hold_page : goal.returns-in-Err-hold_page
+returns-in-Err-hold_page g c = record {
+  traced = tt;
+  ends = let named = next_name-made_with c.args.base.now c.count-first.result c.loop-pages.pages c.args.made.now c.count-first.ensures.value in
+      let document = document_found c.args.settings.backend c.in-Ok.page c.args.settings c.in-Ok.ensures.page c.requires.offered.document in
+      halted _ _ _ _ _ _ _ _ _ _ _ _ _ _ _ _ _ _ c.loop-pages.invariant.traced c.in-Ok.ensures.reads document.1
+      (λ left are. rw named (c.in-Err-hold_page.ensures.ends left are document.0 document.1)) (omega arith) c.in-Ok.ensures.within c.in-Err-hold_page.ensures.full;
+  status = c.in-Err-hold_page.ensures.status;
+  still_not_full = tt;
+  input = tt;
+  rose = tt;
+  steady_input = c.in-Ok.ensures.steady ∙ c.loop-pages.invariant.input;
+  output = output_from c.in-Err-hold_page.status _ _ _ _ c.loop-pages.invariant.output c.in-Err-hold_page.ensures.output;
+  steady_output = tt;
+  inputs_never_fall = rises_from _ _ _ c.loop-pages.invariant.input c.in-Ok.ensures.never_falls;
+  outputs_never_fall = rises_from _ _ _ c.loop-pages.invariant.output c.in-Err-hold_page.ensures.outputs_never_fall;
+  same_openings = c.in-Ok.ensures.same_openings ∙ c.loop-pages.invariant.openings;
+  same_name = c.in-Ok.ensures.same_name ∙ c.loop-pages.invariant.name;
+  same_contents = c.in-Ok.ensures.same_contents ∙ c.loop-pages.invariant.contents;
+  stays_ready = c.in-Err-hold_page.ensures.stays_ready;
+}
 
-pub returns-in-Err-clause-traced : goal.returns-in-Err-clause-traced
-returns-in-Err-clause-traced g c =
-    let ends = ends_by _ _ c.in-Err.end c.in-Err.ensures.ends in
-    no_more _ _ _ _ _ _ _ _ _ _ _ _ _ _ _ c.loop-pages.invariant.traced ends.0 (λ e. (c.in-Err.ensures.read_fault (ap Err e)).0)
-    (omega arith) (λ e. absurd (ends.1 e))
+-- no page more is read
+pub returns-in-Err : goal.returns-in-Err
+returns-in-Err g c = record {
+  traced = let ends = ends_by _ _ c.in-Err.end c.in-Err.ensures.ends in
+      no_more _ _ _ _ _ _ _ _ _ _ _ _ _ _ _ c.loop-pages.invariant.traced ends.0 (λ e. (c.in-Err.ensures.read_fault (ap Err e)).0)
+      (omega arith) (λ e. absurd (ends.1 e));
+  ends = tt;
+  status = tt;
+  still_not_full = c.loop-pages.invariant.not_full;
+  input = input_from (status_of c.in-Err.end) _ _ _ c.loop-pages.invariant.input c.in-Err.ensures.input;
+  rose = λ e. rose_from _ _ _ c.loop-pages.invariant.input (c.in-Err.ensures.read_fault (ap Err e)).1;
+  steady_input = tt;
+  output = tt;
+  steady_output = (c.loop-pages.invariant.output, c.loop-pages.invariant.closed);
+  inputs_never_fall = rises_from _ _ _ c.loop-pages.invariant.input c.in-Err.ensures.never_falls;
+  outputs_never_fall = stands _ _ c.loop-pages.invariant.output;
+  same_openings = c.in-Err.ensures.same_openings ∙ c.loop-pages.invariant.openings;
+  same_name = c.in-Err.ensures.same_name ∙ c.loop-pages.invariant.name;
+  same_contents = c.in-Err.ensures.same_contents ∙ c.loop-pages.invariant.contents;
+  stays_ready = c.loop-pages.invariant.ready;
+}
 
-pub returns-clause-traced : goal.returns-clause-traced
-returns-clause-traced g c =
-    no_more _ _ _ _ _ _ _ _ _ _ _ _ _ _ _ c.loop-pages.invariant.traced c.end_after_most-end.ensures.ends (λ e. (c.end_after_most-end.ensures.read_fault e).0)
-    (omega arith) (λ _. omega arith)
+-- or one that is one too many
+pub returns : goal.returns
+returns g c = record {
+  traced = no_more _ _ _ _ _ _ _ _ _ _ _ _ _ _ _ c.loop-pages.invariant.traced c.end_after_most-end.ensures.ends (λ e. (c.end_after_most-end.ensures.read_fault e).0)
+      (omega arith) (λ _. omega arith);
+  ends = tt;
+  status = tt;
+  still_not_full = c.loop-pages.invariant.not_full;
+  input = input_from (status_of c.end_after_most-end.result) _ _ _ c.loop-pages.invariant.input c.end_after_most-end.ensures.input;
+  rose = λ e. rose_from _ _ _ c.loop-pages.invariant.input (c.end_after_most-end.ensures.read_fault e).1;
+  steady_input = tt;
+  output = tt;
+  steady_output = (c.loop-pages.invariant.output, c.loop-pages.invariant.closed);
+  inputs_never_fall = rises_from _ _ _ c.loop-pages.invariant.input c.end_after_most-end.ensures.never_falls;
+  outputs_never_fall = stands _ _ c.loop-pages.invariant.output;
+  same_openings = c.end_after_most-end.ensures.same_openings ∙ c.loop-pages.invariant.openings;
+  same_name = c.end_after_most-end.ensures.same_name ∙ c.loop-pages.invariant.name;
+  same_contents = c.end_after_most-end.ensures.same_contents ∙ c.loop-pages.invariant.contents;
+  stays_ready = c.loop-pages.invariant.ready;
+}
