@@ -69,17 +69,27 @@ returns-in-OutOfMemory g c = record {
 -- all that was held is carried out, and the end is said
 pub returns-in-Ok-clause-ends : goal.returns-in-Ok-clause-ends
 returns-in-Ok-clause-ends g c = λ first are.
-    elim c.match-traced.branch [
-      | in-Refused w ↦
-          end_said c.args.name.now c.args.traced.end c.args.traced.pages _ _ (rw (w.status-is, w.in-Refused.is) refl) (rw w.status-is (λ e. cc)) (rw w.status-is (λ e. cc))
-          (rw (w.status-is, w.in-Refused.is, c.from.ensures, w.text.ensures) refl) first _ _ _ (c.in-Ok.ensures.done first are) refl c.say_of_page.ensures.said c.say_of_page.ensures.never_falls
-      | in-TooMany w ↦
-          end_said c.args.name.now c.args.traced.end c.args.traced.pages _ _ (rw (w.status-is, w.in-TooMany.is) refl) (rw w.status-is (λ e. cc)) (rw w.status-is (λ e. cc))
-          (rw (w.status-is, w.in-TooMany.is, c.from.ensures) refl) first _ _ _ (c.in-Ok.ensures.done first are) refl c.say_of_page.ensures.said c.say_of_page.ensures.never_falls
-      | in-Unread w ↦
-          end_said c.args.name.now c.args.traced.end c.args.traced.pages _ _ (rw (w.status-is, w.in-Unread.is) refl) (rw w.status-is (λ e. cc)) (rw w.status-is (λ e. cc))
-          (rw (w.status-is, w.in-Unread.is, c.from.ensures) refl) first _ _ _ (c.in-Ok.ensures.done first are) refl c.say_of_page.ensures.said c.say_of_page.ensures.never_falls
-    ]
+    end_said c.args.name.now c.args.traced.end c.args.traced.pages _ _ first _ _ _ (c.in-Ok.ensures.done first are) refl c.say_of_page.ensures.said c.say_of_page.ensures.never_falls
+    (elim c.match-traced.branch [
+      | in-Refused w ↦ record {
+        is = rw (w.status-is, w.in-Refused.is) refl;
+        going = rw w.status-is (λ e. cc);
+        memory = rw w.status-is (λ e. cc);
+        same = rw (w.status-is, w.in-Refused.is, c.from.ensures, w.text.ensures) refl;
+      }
+      | in-TooMany w ↦ record {
+        is = rw (w.status-is, w.in-TooMany.is) refl;
+        going = rw w.status-is (λ e. cc);
+        memory = rw w.status-is (λ e. cc);
+        same = rw (w.status-is, w.in-TooMany.is, c.from.ensures) refl;
+      }
+      | in-Unread w ↦ record {
+        is = rw (w.status-is, w.in-Unread.is) refl;
+        going = rw w.status-is (λ e. cc);
+        memory = rw w.status-is (λ e. cc);
+        same = rw (w.status-is, w.in-Unread.is, c.from.ensures) refl;
+      }
+    ])
 
 pub returns-in-Ok-clause-status : goal.returns-in-Ok-clause-status
 returns-in-Ok-clause-status g c =
