@@ -122,20 +122,24 @@ pub returns-in-Ok-clause-stays_ready : goal.returns-in-Ok-clause-stays_ready
 returns-in-Ok-clause-stays_ready g c = c.say_of_page.ensures.stays_ready
 
 -- or it isn't carried out
-pub returns-in-Err : goal.returns-in-Err
-returns-in-Err g c = record {
-  goes_on = tt;
-  held = tt;
-  ends = λ first are. inr (c.in-Err.ensures.status, c.in-Err.ensures.ends first are);
-  status = inr c.in-Err.ensures.status;
-  unwritten = λ is. elim c.match-traced.branch [
-    | in-Refused w ↦ inl (rw w.in-Refused.is refl)
-    | in-TooMany w ↦ inl (rw w.in-TooMany.is refl)
-    | in-Unread w ↦ inr (rw w.in-Unread.is refl)
-  ];
-  still_not_full = tt;
-  output = c.in-Err.ensures.output;
-  steady_output = tt;
-  outputs_never_fall = c.carry_out.ensures.outputs_never_fall;
-  stays_ready = c.carry_out.ensures.stays_ready;
-}
+pub returns-in-Err-clause-ends : goal.returns-in-Err-clause-ends
+returns-in-Err-clause-ends g c = λ first are. inr (c.in-Err.ensures.status, c.in-Err.ensures.ends first are)
+
+pub returns-in-Err-clause-status : goal.returns-in-Err-clause-status
+returns-in-Err-clause-status g c = inr c.in-Err.ensures.status
+
+pub returns-in-Err-clause-unwritten : goal.returns-in-Err-clause-unwritten
+returns-in-Err-clause-unwritten g c = λ is. elim c.match-traced.branch [
+  | in-Refused w ↦ inl (rw w.in-Refused.is refl)
+  | in-TooMany w ↦ inl (rw w.in-TooMany.is refl)
+  | in-Unread w ↦ inr (rw w.in-Unread.is refl)
+]
+
+pub returns-in-Err-clause-output : goal.returns-in-Err-clause-output
+returns-in-Err-clause-output g c = c.in-Err.ensures.output
+
+pub returns-in-Err-clause-outputs_never_fall : goal.returns-in-Err-clause-outputs_never_fall
+returns-in-Err-clause-outputs_never_fall g c = c.carry_out.ensures.outputs_never_fall
+
+pub returns-in-Err-clause-stays_ready : goal.returns-in-Err-clause-stays_ready
+returns-in-Err-clause-stays_ready g c = c.carry_out.ensures.stays_ready

@@ -1,21 +1,28 @@
-use Rattle.std.proofs.Common.{◌≡◌, ◌∙◌, ◌++◌, ◌∷◌, [], ◌+◌, ◌*◌, ◌<◌, ◌≤◌, ℕ, List, Result, OnOk, Ok, Err, ap, inr, refl, string_bytes, arith}
+use Rattle.std.proofs.Common.{◌≡◌, ◌∙◌, ◌++◌, ◌∷◌, [], ◌+◌, ◌*◌, ◌<◌, ◌≤◌, ℕ, List, Result, OnOk, Ok, Err, ap, string_bytes, arith}
 use Rattle.bit_image.specs.Page.{Page as Pixels}
 use Rattle.file_trace.specs.Held.{Held, pages_held}
 use Rattle.file_trace.specs.Held.Held.{Page}
-use Rattle.std.proofs.lemmas.Result.{IfErr-weaker, on_ok_weaker}
-use Rattle.file_trace.specs.declared.status.Status.TheVariants as status
-use Rattle.file_trace.proofs.Counting.{stands}
+use Rattle.std.proofs.lemmas.Result.{IfErr-weaker}
 use Rattle.file_trace.proofs.Holding.{all_carried, all_held, doc_count-held, none_carried, page_held, pages_held-more}
 use Rattle.file_trace.proofs.pages.hold_page.Goals as goal
+
+pub returns-in_default-clause-ends : goal.returns-in_default-clause-ends
+returns-in_default-clause-ends g c = λ first are text is.
+    none_carried _ _ _ (λ i. g.O.Sink.documents c.args.outs.now) c.say_out_of_memory.ensures.said c.say_out_of_memory.ensures.never_falls
+
+pub returns-in_default-push-clause-ends : goal.returns-in_default-push-clause-ends
+returns-in_default-push-clause-ends g c = λ first are text is.
+    none_carried _ _ _ (λ i. g.O.Sink.documents c.args.outs.now) c.say_out_of_memory-in_default-push.ensures.said c.say_out_of_memory-in_default-push.ensures.never_falls
+
+pub returns-then-count-workers-clause-held : goal.returns-then-count-workers-clause-held
+returns-then-count-workers-clause-held g c =
+    let is = rw c.in-Ok.ensures at c.in-Ok-push.ensures.held in
+    λ first are text is_text. all_held _ _ _ _ _ (page_held _ _ _ _ _ is first are text is_text)
 
 pub carry_out-requires-clause-few : goal.carry_out-requires-clause-few
 carry_out-requires-clause-few g c κs within =
     let more = pages_held-more c.args.batch.now (string_bytes c.in-Ok.name) c.args.page in
     rw c.in-Ok-push.ensures.held (omega (arith, more, c.requires.not_full, c.requires.most_workers))
-
--- a count that is less
-counted_few : (count held size : ℕ) → count ≡ held → count < size → held < size
-counted_few count held size is few = omega (arith, is, few)
 
 -- one page more fills the batch
 filled : (old now : List Held) (name : List ℕ) (page : Pixels) (count workers : ℕ) → now ≡ old ++ Page name page ∷ [] → count ≡ pages_held now → 2 * workers ≤ count → pages_held old < 2 * workers
@@ -28,67 +35,21 @@ on_ok_both : {T E P Q R : Type 0} (result : Result T E) → OnOk result P → On
 on_ok_both (Ok x) p q f = f p q
 on_ok_both (Err y) p q f = tt
 
--- memory ran out before the document had a name
-pub returns-in_default : goal.returns-in_default
-returns-in_default g c = record {
-  held = tt;
-  ends = λ first are text is.
-      none_carried _ _ _ (λ i. g.O.Sink.documents c.args.outs.now) c.say_out_of_memory.ensures.said c.say_out_of_memory.ensures.never_falls;
-  status = inr refl;
-  full = λ is. absurd (let no : status.OutOfMemory ≡ status.Unwritten = is in cc);
-  still_not_full = tt;
-  output = (refl, c.requires.closed);
-  steady_output = tt;
-  outputs_never_fall = stands _ _ refl;
-  stays_ready = c.say_out_of_memory.ensures.stays_ready;
-}
-
--- or before the page was held
-pub returns-in_default-push : goal.returns-in_default-push
-returns-in_default-push g c = record {
-  held = tt;
-  ends = λ first are text is.
-      none_carried _ _ _ (λ i. g.O.Sink.documents c.args.outs.now) c.say_out_of_memory-in_default-push.ensures.said c.say_out_of_memory-in_default-push.ensures.never_falls;
-  status = inr refl;
-  full = λ is. absurd (let no : status.OutOfMemory ≡ status.Unwritten = is in cc);
-  still_not_full = tt;
-  output = (refl, c.requires.closed);
-  steady_output = tt;
-  outputs_never_fall = stands _ _ refl;
-  stays_ready = c.say_out_of_memory-in_default-push.ensures.stays_ready;
-}
-
--- the page is held
-pub returns-then-count-workers : goal.returns-then-count-workers
-returns-then-count-workers g c = record {
-  held = let is = rw c.in-Ok.ensures at c.in-Ok-push.ensures.held in
-      λ first are text is_text. all_held _ _ _ _ _ (page_held _ _ _ _ _ is first are text is_text);
-  ends = tt;
-  status = tt;
-  full = tt;
-  still_not_full = counted_few _ _ _ c.count.ensures c.if-count-workers.true;
-  output = tt;
-  steady_output = (refl, c.requires.closed);
-  outputs_never_fall = stands _ _ refl;
-  stays_ready = c.requires.ready;
-}
-
 -- the batch is full: all that it holds is carried out
-pub returns : goal.returns
-returns g c = record {
-  held = let is = rw c.in-Ok.ensures at c.in-Ok-push.ensures.held in
-      on_ok_both c.carry_out.result c.carry_out.ensures.done c.carry_out.ensures.emptied
-      (λ done emptied first are text is_text.
-      let now = page_held _ _ _ _ _ is first are text is_text in
-      all_carried _ _ _ _ _ _ emptied (doc_count-held _ _ _ now ∙ (filled _ _ _ _ _ _ is c.count.ensures c.if-count-workers.false c.requires.not_full).0) (done _ now));
-  ends = let is = rw c.in-Ok.ensures at c.in-Ok-push.ensures.held in
-      IfErr-weaker c.carry_out.result _ _ (λ status ends first are text is_text. ends _ (page_held _ _ _ _ _ is first are text is_text)) c.carry_out.ensures.ends;
-  status = c.carry_out.ensures.status;
-  full = let is = rw c.in-Ok.ensures at c.in-Ok-push.ensures.held in
-      IfErr-weaker c.carry_out.result _ _ (λ status _ halted. (filled _ _ _ _ _ _ is c.count.ensures c.if-count-workers.false c.requires.not_full).1) c.carry_out.ensures.status;
-  still_not_full = on_ok_weaker c.carry_out.result (λ e. rw e (omega (arith, c.requires.some_worker))) c.carry_out.ensures.emptied;
-  output = c.carry_out.ensures.output;
-  steady_output = c.carry_out.ensures.steady_output;
-  outputs_never_fall = c.carry_out.ensures.outputs_never_fall;
-  stays_ready = c.carry_out.ensures.stays_ready;
-}
+pub returns-clause-held : goal.returns-clause-held
+returns-clause-held g c =
+    let is = rw c.in-Ok.ensures at c.in-Ok-push.ensures.held in
+    on_ok_both c.carry_out.result c.carry_out.ensures.done c.carry_out.ensures.emptied
+    (λ done emptied first are text is_text.
+    let now = page_held _ _ _ _ _ is first are text is_text in
+    all_carried _ _ _ _ _ _ emptied (doc_count-held _ _ _ now ∙ (filled _ _ _ _ _ _ is c.count.ensures c.if-count-workers.false c.requires.not_full).0) (done _ now))
+
+pub returns-clause-ends : goal.returns-clause-ends
+returns-clause-ends g c =
+    let is = rw c.in-Ok.ensures at c.in-Ok-push.ensures.held in
+    IfErr-weaker c.carry_out.result _ _ (λ status ends first are text is_text. ends _ (page_held _ _ _ _ _ is first are text is_text)) c.carry_out.ensures.ends
+
+pub returns-clause-full : goal.returns-clause-full
+returns-clause-full g c =
+    let is = rw c.in-Ok.ensures at c.in-Ok-push.ensures.held in
+    IfErr-weaker c.carry_out.result _ _ (λ status _ halted. (filled _ _ _ _ _ _ is c.count.ensures c.if-count-workers.false c.requires.not_full).1) c.carry_out.ensures.status

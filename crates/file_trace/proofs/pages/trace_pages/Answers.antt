@@ -43,27 +43,38 @@ loop-pages-preserved g c =
     }
 
 -- a page more is read, and what was held with it isn't carried out
-pub returns-in-Err-hold_page : goal.returns-in-Err-hold_page
-returns-in-Err-hold_page g c = record {
-  traced = tt;
-  ends = let named = next_name-made_with c.args.base.now c.count-first.result c.loop-pages.pages c.args.made.now c.count-first.ensures.value in
-      let document = document_found c.args.settings.backend c.in-Ok.page c.args.settings c.in-Ok.ensures.page c.requires.offered.document in
-      halted _ _ _ _ _ _ _ _ _ _ _ _ _ _ _ _ _ _ c.loop-pages.invariant.traced c.in-Ok.ensures.reads document.1
-      (λ left are. rw named (c.in-Err-hold_page.ensures.ends left are document.0 document.1)) (omega arith) c.in-Ok.ensures.within c.in-Err-hold_page.ensures.full;
-  status = c.in-Err-hold_page.ensures.status;
-  still_not_full = tt;
-  input = tt;
-  rose = tt;
-  steady_input = c.in-Ok.ensures.steady ∙ c.loop-pages.invariant.input;
-  output = output_from c.in-Err-hold_page.status _ _ _ _ c.loop-pages.invariant.output c.in-Err-hold_page.ensures.output;
-  steady_output = tt;
-  inputs_never_fall = rises_from _ _ _ c.loop-pages.invariant.input c.in-Ok.ensures.never_falls;
-  outputs_never_fall = rises_from _ _ _ c.loop-pages.invariant.output c.in-Err-hold_page.ensures.outputs_never_fall;
-  same_openings = c.in-Ok.ensures.same_openings ∙ c.loop-pages.invariant.openings;
-  same_name = c.in-Ok.ensures.same_name ∙ c.loop-pages.invariant.name;
-  same_contents = c.in-Ok.ensures.same_contents ∙ c.loop-pages.invariant.contents;
-  stays_ready = c.in-Err-hold_page.ensures.stays_ready;
-}
+pub returns-in-Err-hold_page-clause-ends : goal.returns-in-Err-hold_page-clause-ends
+returns-in-Err-hold_page-clause-ends g c = let named = next_name-made_with c.args.base.now c.count-first.result c.loop-pages.pages c.args.made.now c.count-first.ensures.value in
+    let document = document_found c.args.settings.backend c.in-Ok.page c.args.settings c.in-Ok.ensures.page c.requires.offered.document in
+    halted _ _ _ _ _ _ _ _ _ _ _ _ _ _ _ _ _ _ c.loop-pages.invariant.traced c.in-Ok.ensures.reads document.1
+    (λ left are. rw named (c.in-Err-hold_page.ensures.ends left are document.0 document.1)) (omega arith) c.in-Ok.ensures.within c.in-Err-hold_page.ensures.full
+
+pub returns-in-Err-hold_page-clause-status : goal.returns-in-Err-hold_page-clause-status
+returns-in-Err-hold_page-clause-status g c = c.in-Err-hold_page.ensures.status
+
+pub returns-in-Err-hold_page-clause-steady_input : goal.returns-in-Err-hold_page-clause-steady_input
+returns-in-Err-hold_page-clause-steady_input g c = c.in-Ok.ensures.steady ∙ c.loop-pages.invariant.input
+
+pub returns-in-Err-hold_page-clause-output : goal.returns-in-Err-hold_page-clause-output
+returns-in-Err-hold_page-clause-output g c = output_from c.in-Err-hold_page.status _ _ _ _ c.loop-pages.invariant.output c.in-Err-hold_page.ensures.output
+
+pub returns-in-Err-hold_page-clause-inputs_never_fall : goal.returns-in-Err-hold_page-clause-inputs_never_fall
+returns-in-Err-hold_page-clause-inputs_never_fall g c = rises_from _ _ _ c.loop-pages.invariant.input c.in-Ok.ensures.never_falls
+
+pub returns-in-Err-hold_page-clause-outputs_never_fall : goal.returns-in-Err-hold_page-clause-outputs_never_fall
+returns-in-Err-hold_page-clause-outputs_never_fall g c = rises_from _ _ _ c.loop-pages.invariant.output c.in-Err-hold_page.ensures.outputs_never_fall
+
+pub returns-in-Err-hold_page-clause-same_openings : goal.returns-in-Err-hold_page-clause-same_openings
+returns-in-Err-hold_page-clause-same_openings g c = c.in-Ok.ensures.same_openings ∙ c.loop-pages.invariant.openings
+
+pub returns-in-Err-hold_page-clause-same_name : goal.returns-in-Err-hold_page-clause-same_name
+returns-in-Err-hold_page-clause-same_name g c = c.in-Ok.ensures.same_name ∙ c.loop-pages.invariant.name
+
+pub returns-in-Err-hold_page-clause-same_contents : goal.returns-in-Err-hold_page-clause-same_contents
+returns-in-Err-hold_page-clause-same_contents g c = c.in-Ok.ensures.same_contents ∙ c.loop-pages.invariant.contents
+
+pub returns-in-Err-hold_page-clause-stays_ready : goal.returns-in-Err-hold_page-clause-stays_ready
+returns-in-Err-hold_page-clause-stays_ready g c = c.in-Err-hold_page.ensures.stays_ready
 
 -- no page more is read
 pub returns-in-Err : goal.returns-in-Err
