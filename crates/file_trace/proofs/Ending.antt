@@ -4,6 +4,8 @@ use Rattle.std.specs.FinMap.{get}
 use Rattle.pt_base.specs.Counts.{Rose, next_count}
 use Rattle.pt_base.specs.Documents.{IsSaid}
 use Rattle.pt_base.specs.Files.{Contents, Files, Lacks, Opened, unread, unread_of, with_file}
+use Rattle.pt_base.specs.declared.fault.OpenFault.{OpenFault}
+use Rattle.pt_base.specs.declared.fault.OpenFault.TheVariants as opening
 use Rattle.pt_base.specs.declared.settings.Settings.{Settings}
 use Rattle.page_trace.specs.Document.{CanWrite}
 use Rattle.file_trace.specs.Held.{AreHeld, Held}
@@ -12,6 +14,7 @@ use Rattle.file_trace.specs.Names.{base_name}
 use Rattle.file_trace.specs.Items.{AreItems, IsAbsent, Item, Nothing, most_pages, told_contents}
 use Rattle.file_trace.specs.Outcome.{AreCarriedOut, HasEnded, HoldsBytes, IsOutcomeBehind, OpensUpTo, IsUnopened, IsUnread, Sinks, Source, opened_name}
 use Rattle.file_trace.specs.Progress.{EndsWithFile, Halts, InputCount, Traces, TracesFile, docs, end_message, status_of}
+use Rattle.file_trace.specs.Unopened.{EndsUnopened}
 use Rattle.file_trace.specs.declared.pages.PagesEnd.{PagesEnd}
 use Rattle.file_trace.specs.declared.pages.PagesEnd.TheVariants as why
 use Rattle.file_trace.specs.declared.status.Status.{Status}
@@ -28,12 +31,11 @@ pub at_first : (name : List ℕ) (names : List (List ℕ)) (openings openings_no
 at_first name names openings openings_now one = record { back = names; listed = refl; grew = one }
 
 -- the file can't be opened, behind the first items
-pub file_unopened : (settings : Settings) (output : Option (List ℕ)) (name : List ℕ) (made : List (List ℕ)) (source source_now : Source) (a b c : Sinks)
+file_unopened : (settings : Settings) (output : Option (List ℕ)) (name : List ℕ) (made : List (List ℕ)) (source source_now : Source) (a c : Sinks)
     → source_now.openings ≡ next_count source.openings → source_now.is_opened ≡ false → IsAbsent (told_contents source.files) name ⊎ Rose source.faults source_now.faults
-    → c.outs ≡ b.outs → IsSaid b.errs c.errs b.errs_faults c.errs_faults (not_opened name) → b.errs_faults ≤ c.errs_faults
-    → (names : List (List ℕ)) (first : List Item) → AreCarriedOut first [] a b
+    → (names : List (List ℕ)) (first : List Item) → AreCarriedOut first (not_opened name ∷ []) a c
     → IsUnopened first (told_contents source.files) settings output (name ∷ names) made source source_now a c
-file_unopened settings output name made source source_now a b c one closed cause same said most names first done = record {
+file_unopened settings output name made source source_now a c one closed cause names first done = record {
   name = name;
   front = [];
   before = [];
@@ -41,8 +43,18 @@ file_unopened settings output name made source source_now a b c one closed cause
   closed = closed;
   cause = cause;
   items = refl;
-  done = carried_on first [] (not_opened name ∷ []) a b c done (only_said (not_opened name) b c same said most);
+  done = subst (λ (l : List Item). AreCarriedOut l (not_opened name ∷ []) a c) (sym (append-nil first)) done;
 }
+
+-- all that was held is carried out, and then that is said
+pub unopened_said : (name : List ℕ) (items : List Item) (a b c : Sinks) → AreCarriedOut items [] a b
+    → c.outs ≡ b.outs → IsSaid b.errs c.errs b.errs_faults c.errs_faults (not_opened name) → b.errs_faults ≤ c.errs_faults → EndsUnopened name status.Unread items a c
+unopened_said name items a b c done same said most =
+    inl (
+      refl,
+      subst (λ (l : List Item). AreCarriedOut l (not_opened name ∷ []) a c) (append-nil items)
+          (carried_on items [] (not_opened name ∷ []) a b c done (only_said (not_opened name) b c same said most)),
+    )
 
 pub opened_as : (file : Option Opened) (name rest : List ℕ) → option_map unread_of file ≡ Some rest → option_map (λ (f : Opened). f.name) file ≡ Some name
     → file ≡ Some (record { name = name; rest = rest })
@@ -107,9 +119,15 @@ file_unread size settings output name made start k held held_mid source source_n
     }
 
 -- what isn't there is absent
-pub lacks_absent : (told : Option Files) (name : List ℕ) → Lacks told name → IsAbsent (told_contents told) name
+lacks_absent : (told : Option Files) (name : List ℕ) → Lacks told name → IsAbsent (told_contents told) name
 lacks_absent None name lacking = lacking
 lacks_absent (Some files) name lacking = lacking
+
+-- why a file can't be opened
+pub unopened_by : (told : Option Files) (name : List ℕ) (before now : ℕ) (f : OpenFault) → (f ≡ opening.Absent → Lacks told name) → (f ≡ opening.Device → Rose before now)
+    → IsAbsent (told_contents told) name ⊎ Rose before now
+unopened_by told name before now opening.Absent absent device = inl (lacks_absent told name (absent refl))
+unopened_by told name before now opening.Device absent device = inr (device refl)
 
 -- where the run ends within items, and there are items of the files behind them
 pub outcome_of_halt : (s : Status) → IsHalt s → (first : List Item) (contents : Option Contents) (settings : Settings) (output : Option (List ℕ)) (names made : List (List ℕ)) (source source_now : Source) (a b : Sinks)
@@ -129,6 +147,18 @@ pub ends_before : (s : Status) → IsHalt s → (contents : Option Contents) (se
 ends_before s which contents settings can output names made source source_now a b first ended =
     let items = items_found contents settings can output names made in
     outcome_of_halt s which first contents settings output names made source source_now a b (items.0, items.1, ended_more s which first items.0 a b ended)
+
+-- the run ends where the file can't be opened
+pub unopened_ends : (settings : Settings) → CanWrite settings → (output : Option (List ℕ)) (name : List ℕ) (made : List (List ℕ)) (held : List Held) (source source_now : Source) (a c : Sinks)
+    → source_now.openings ≡ next_count source.openings → source_now.is_opened ≡ false → IsAbsent (told_contents source.files) name ⊎ Rose source.faults source_now.faults
+    → (s : Status) → ((first : List Item) → AreHeld settings held first → EndsUnopened name s first a c)
+    → (names : List (List ℕ)) (first : List Item) → AreHeld settings held first → IsOutcomeBehind s first (told_contents source.files) settings output (name ∷ names) made source source_now a c
+unopened_ends settings can output name made held source source_now a c one closed cause s ends names first are = elim (ends first are) [
+  | inl (is, done) ↦
+      subst (λ (v : Status). IsOutcomeBehind v first (told_contents source.files) settings output (name ∷ names) made source source_now a c) (sym is)
+      (inl (file_unopened settings output name made source source_now a c one closed cause names first done))
+  | inr (which, ended) ↦ ends_before s which (told_contents source.files) settings can output (name ∷ names) made source source_now a c first ended
+]
 
 -- memory ran out before any of the first items was carried out, and of the files behind them
 pub ends_at_once : (contents : Option Contents) (settings : Settings) → CanWrite settings → (output : Option (List ℕ)) (names made : List (List ℕ)) (a b : Sinks)
@@ -154,20 +184,31 @@ ends_behind size contents settings can output name made made_now held held_now a
           (ended_behind status.OutOfMemory size settings (first ++ file.items) more.0 held_now a b c h (λ left is. memory_out (left ++ more.0) b c same said most)),
     )
 
+-- the run ends so with the pages of a file, and this line is said
+pub record IsStop (name : List ℕ) (end : PagesEnd) (k : ℕ) (s : Status) (line : List ℕ) : Type 0 where
+  pub is : s ≡ status_of end
+  pub going : s ≢ status.Done
+  pub memory : s ≢ status.OutOfMemory
+  pub same : line ≡ end_message name end k
+
 -- all that was held is carried out, and then the line of the end is said
-pub end_said : (name : List ℕ) (end : PagesEnd) (k : ℕ) (s : Status) (line : List ℕ) → s ≡ status_of end → s ≢ status.Done → s ≢ status.OutOfMemory → line ≡ end_message name end k
-    → (items : List Item) (a b c : Sinks) → AreCarriedOut items [] a b → c.outs ≡ b.outs → IsSaid b.errs c.errs b.errs_faults c.errs_faults line → b.errs_faults ≤ c.errs_faults
-    → EndsWithFile name end k s items a c
-end_said name end k s line is going memory same items a b c done outs said most =
+pub end_said : (name : List ℕ) (end : PagesEnd) (k : ℕ) (s : Status) (line : List ℕ) (items : List Item) (a b c : Sinks) → AreCarriedOut items [] a b → c.outs ≡ b.outs → IsSaid b.errs c.errs b.errs_faults c.errs_faults line → b.errs_faults ≤ c.errs_faults
+    → IsStop name end k s line → EndsWithFile name end k s items a c
+end_said name end k s line items a b c done outs said most stop =
     let both : AreCarriedOut (items ++ []) (end_message name end k ∷ []) a c =
     carried_on items [] (end_message name end k ∷ []) a b c done
-    (only_said (end_message name end k) b c outs (subst (λ m. IsSaid b.errs c.errs b.errs_faults c.errs_faults m) same said) most) in
-    inl (is, going, memory, subst (λ (l : List Item). AreCarriedOut l (end_message name end k ∷ []) a c) (append-nil items) both)
+    (only_said (end_message name end k) b c outs (subst (λ m. IsSaid b.errs c.errs b.errs_faults c.errs_faults m) stop.same said) most) in
+    inl (stop.is, stop.going, stop.memory, subst (λ (l : List Item). AreCarriedOut l (end_message name end k ∷ []) a c) (append-nil items) both)
 
 -- how the inputs moved where the run ends within items: that isn't told
-input_of_halt : (s : Status) → IsHalt s → (before now : ℕ) → InputCount s before now
+pub input_of_halt : (s : Status) → IsHalt s → (before now : ℕ) → InputCount s before now
 input_of_halt s (inl is) before now = subst (λ v. InputCount v before now) (sym is) tt
 input_of_halt s (inr is) before now = subst (λ v. InputCount v before now) (sym is) tt
+
+-- nor where the file can't be opened
+pub input_unopened : (s : Status) → (s ≡ status.Unread) ⊎ IsHalt s → (before now : ℕ) → InputCount s before now
+input_unopened s (inl is) before now = subst (λ v. InputCount v before now) (sym is) tt
+input_unopened s (inr which) before now = input_of_halt s which before now
 
 -- how they moved where the run ends in a file
 pub input_count : (s : Status) (end : PagesEnd) (before now : ℕ) → (s ≡ status_of end) ⊎ IsHalt s → InputCount (status_of end) before now → InputCount s before now

@@ -138,6 +138,20 @@ read_by_tracing size contents settings name base made start now held held_now a 
   holds = λ more ending pages. holds_pages contents name (unread start) t.rest t.raws more ending has t.begins pages;
 }
 
+-- the same base name, spelled otherwise
+pub traced_named : (size : ℕ) (settings : Settings) (base other : List ℕ) (made : List (List ℕ)) (start now : Option Files) (held held_now : List Held) (a b : Sinks) (k : ℕ) (end : PagesEnd) → base ≡ other
+    → Traces size settings base made start now held held_now a b k end → Traces size settings other made start now held held_now a b k end
+traced_named size settings base other made start now held held_now a b k end same t = subst (λ (name : List ℕ). Traces size settings name made start now held held_now a b k end) same t
+
+pub halts_named : (s : Status) (size : ℕ) (settings : Settings) (base other : List ℕ) (made : List (List ℕ)) (start now : Option Files) (held : List Held) (a b : Sinks) → base ≡ other
+    → Halts s size settings base made start now held a b → Halts s size settings other made start now held a b
+halts_named s size settings base other made start now held a b same t = subst (λ (name : List ℕ). Halts s size settings name made start now held a b) same t
+
+-- the reading halted at a document that couldn't be written
+pub halts_unwritten : (s : Status) (size : ℕ) (settings : Settings) (base : List ℕ) (made : List (List ℕ)) (start now : Option Files) (held : List Held) (a b : Sinks) → s ≡ status.Unwritten
+    → Halts s size settings base made start now held a b → Halts status.Unwritten size settings base made start now held a b
+halts_unwritten s size settings base made start now held a b is t = subst (λ (v : Status). Halts v size settings base made start now held a b) is t
+
 -- the same where the reading halted
 pub record IsBehind (contents : Option Contents) (name : List ℕ) (raws : List Raw) : Type 0 where
   pub rest : Option (List ℕ)

@@ -1,5 +1,6 @@
 pub mod Batching
 pub mod Carrying
+pub mod Counting
 pub mod Ending
 pub mod Exists
 pub mod Filing

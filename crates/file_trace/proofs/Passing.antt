@@ -9,10 +9,12 @@ use Rattle.file_trace.specs.Names.{base_name}
 use Rattle.file_trace.specs.Items.{IsAbsent, Item, doc_count, told_contents}
 use Rattle.file_trace.specs.Items.Item.{Missing, Stop}
 use Rattle.file_trace.specs.OnePass.{IfReadsTo, IsOnePass}
-use Rattle.file_trace.specs.Outcome.{BeginsWith, IsUnwritten, Sinks, Source, opened_name}
+use Rattle.file_trace.specs.Outcome.{BeginsWith, HasEnded, IsUnwritten, Sinks, Source, opened_name}
 use Rattle.file_trace.specs.Progress.{EndsWithFile, Halts, IsInPart, Traces, docs, end_message, status_of}
+use Rattle.file_trace.specs.Unopened.{EndsUnopened}
 use Rattle.file_trace.specs.declared.pages.PagesEnd.{PagesEnd}
 use Rattle.file_trace.specs.declared.pages.PagesEnd.TheVariants as why
+use Rattle.file_trace.specs.declared.status.Status.{Status}
 use Rattle.file_trace.specs.declared.status.Status.TheVariants as status
 use Rattle.file_trace.proofs.Ending.{at_first, name-opened, opened_as}
 use Rattle.file_trace.proofs.Exists.{items_found}
@@ -28,10 +30,10 @@ held_part size settings held first a c few are u =
     record { unwritten = u; batches = 0; behind = omega (arith, none); most = omega (arith, count, few, none) }
 
 -- the file can't be opened, and a document of what was held couldn't be written
-pub pass_unopened : (size : ℕ) → 0 < size → (settings : Settings) → CanWrite settings → (output : Option (List ℕ)) (name : List ℕ) (made : List (List ℕ)) (held : List Held) (source source_now : Source) (a c : Sinks)
+pass_held : (size : ℕ) → 0 < size → (settings : Settings) → CanWrite settings → (output : Option (List ℕ)) (name : List ℕ) (made : List (List ℕ)) (held : List Held) (source source_now : Source) (a c : Sinks)
     → pages_held held < size → IsAbsent (told_contents source.files) name ⊎ Rose source.faults source_now.faults → (names : List (List ℕ)) (first : List Item) → AreHeld settings held first → IsUnwritten first a c
     → IsOnePass size first (told_contents source.files) settings output (name ∷ names) made source source_now a c
-pass_unopened size some settings can output name made held source source_now a c few cause names first are u = by_cause cause where
+pass_held size some settings can output name made held source source_now a c few cause names first are u = by_cause cause where
   by_cause : IsAbsent (told_contents source.files) name ⊎ Rose source.faults source_now.faults
       → IsOnePass size first (told_contents source.files) settings output (name ∷ names) made source source_now a c
   by_cause (inl absent) =
@@ -40,6 +42,16 @@ pass_unopened size some settings can output name made held source source_now a c
   by_cause (inr rose) =
       let more = items_found (told_contents source.files) settings can output (name ∷ names) made in
       pass_of_rise size some first (told_contents source.files) settings output (name ∷ names) made source source_now a c first more.0 more.0 more.1 u refl rose
+
+pub pass_unopened : (size : ℕ) → 0 < size → (settings : Settings) → CanWrite settings → (output : Option (List ℕ)) (name : List ℕ) (made : List (List ℕ)) (held : List Held) (source source_now : Source) (a c : Sinks)
+    → pages_held held < size → IsAbsent (told_contents source.files) name ⊎ Rose source.faults source_now.faults
+    → (s : Status) → ((first : List Item) → AreHeld settings held first → EndsUnopened name s first a c) → s ≡ status.Unwritten → (names : List (List ℕ)) (first : List Item) → AreHeld settings held first
+    → IsOnePass size first (told_contents source.files) settings output (name ∷ names) made source source_now a c
+pass_unopened size some settings can output name made held source source_now a c few cause s ends unwritten names first are = elim (ends first are) [
+  | inl (is, done) ↦ absurd (let no : status.Unread ≡ status.Unwritten = sym is ∙ unwritten in cc)
+  | inr (which, ended) ↦
+      pass_held size some settings can output name made held source source_now a c few cause names first are (subst (λ (v : Status). HasEnded v first a c) unwritten ended)
+]
 
 -- the file was opened
 module _ (size : ℕ) (some : 0 < size) (settings : Settings) (can : CanWrite settings) (output : Option (List ℕ)) (name : List ℕ) (made : List (List ℕ)) (start : Option Files)

@@ -215,13 +215,21 @@ fault_contents fault.BadOffset old new before now ends fails wants = same_conten
 fault_contents fault.TooLong old new before now ends fails wants = same_contents before now (length ends.answers.more) ends.answers.moves.files
 
 -- opening a file keeps it too
-pub contents-with_file : (before : Option Files) (name : List ℕ) → told_contents (with_file before name) ≡ told_contents before
+contents-with_file : (before : Option Files) (name : List ℕ) → told_contents (with_file before name) ≡ told_contents before
 contents-with_file None name = refl
 contents-with_file (Some files) name = refl
 
-pub contents-with_no_file : (before : Option Files) → told_contents (with_no_file before) ≡ told_contents before
+contents-with_no_file : (before : Option Files) → told_contents (with_no_file before) ≡ told_contents before
 contents-with_no_file None = refl
 contents-with_no_file (Some files) = refl
+
+-- opening a file, and then what keeps it, keeps it
+pub contents_through : (before mid now : Option Files) (name : List ℕ) → mid ≡ with_file before name → told_contents now ≡ told_contents mid → told_contents now ≡ told_contents before
+contents_through before mid now name opened same = same ∙ ap told_contents opened ∙ contents-with_file before name
+
+-- and so does a file that can't be opened
+pub contents_unopened : (before now : Option Files) → now ≡ with_no_file before → told_contents now ≡ told_contents before
+contents_unopened before now closed = ap told_contents closed ∙ contents-with_no_file before
 
 abbrev opened_as : List ℕ → List ℕ → Opened
 opened_as name bytes = record { name = name; rest = bytes }

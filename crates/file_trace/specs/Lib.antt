@@ -114,3 +114,6 @@ pub mod Entries
 --   EndsWith: nothing follows, and these are the base names of the documents so far
 --   TracesFile: the items of a file are carried out or held
 pub mod Progress
+-- How a run ends where a file can't be opened.
+--   EndsUnopened: all that was held is carried out, and that is said
+pub mod Unopened

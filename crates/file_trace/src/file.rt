@@ -12,6 +12,7 @@ ghost use Rattle.file_trace.specs.Offered.{IsOffered};
 ghost use Rattle.file_trace.specs.OnePass.{IsOnePass};
 ghost use Rattle.file_trace.specs.Outcome.{IsOutcomeBehind, opened_name, sinks_of, source_of};
 ghost use Rattle.file_trace.specs.Progress.{EndsWithFile, InputCount, OutputCount, TracesFile, end_notes, status_of};
+ghost use Rattle.file_trace.specs.Unopened.{EndsUnopened};
 ghost use Rattle.file_trace.specs.declared.status.Status.{Status};
 
 use crate::batch::Batch;
@@ -91,13 +92,7 @@ pub(crate) fn trace_file<R: Threads + Sync, I: Inputs, O: Outputs, E: Sink, G: G
     match inputs.open(name) {
         Ok(()) => {}
         Err(_) => {
-            return match batch.carry_out(rt, alloc, settings, workers, outs, errs, gate) {
-                Ok(()) => {
-                    say_not_opened(errs, name);
-                    Err(Status::Unread)
-                }
-                Err(status) => Err(status),
-            };
+            return end_unopened(rt, alloc, settings, workers, name, batch, outs, errs, gate);
         }
     }
     let Ok(base) = base_name(alloc, output, settings.backend, name) else {
@@ -124,6 +119,44 @@ pub(crate) fn trace_file<R: Threads + Sync, I: Inputs, O: Outputs, E: Sink, G: G
             say_out_of_memory(errs);
             Err(Status::OutOfMemory)
         }
+    }
+}
+
+/// Carries out all that is held, and then says that a file couldn't be opened: the run ends with it.
+fn end_unopened<R: Threads + Sync, O: Outputs, E: Sink, G: Gate + Sync>(
+    rt: &R,
+    alloc: Global,
+    settings: Settings,
+    workers: u32,
+    name: &str,
+    batch: &mut Batch,
+    outs: &mut O,
+    errs: &mut E,
+    gate: &G,
+) -> Result<(), Status>
+    requires document { CanWrite settings }
+    requires some_worker { 1 ≤ workers }
+    requires most_workers { workers ≤ 64 }
+    requires not_full { pages_held batch.old < 2 * workers }
+    requires closed { O.is_ready outs.old ≡ false }
+    requires ready { E.is_ready errs.old ≡ true }
+    ensures never_goes_on { OnOk result ⊥ }
+    ensures ends { IfErr result (λ status. (first : List Item) → AreHeld settings batch.old first
+        → EndsUnopened name.now status first
+        (sinks_of O.Sink E.Sink outs.old errs.old) (sinks_of O.Sink E.Sink outs.new errs.new)) }
+    ensures status { IfErr result (λ status. (status ≡ Status.Unread)
+        ⊎ ((status ≡ Status.Unwritten) ⊎ (status ≡ Status.OutOfMemory))) }
+    ensures output { IfErr result
+        (λ status. OutputCount status (O.faults outs.old) (O.faults outs.new) (O.is_ready outs.new)) }
+    ensures outputs_never_fall { O.faults outs.old ≤ O.faults outs.new }
+    ensures stays_ready { E.is_ready errs.new ≡ true }
+{
+    match batch.carry_out(rt, alloc, settings, workers, outs, errs, gate) {
+        Ok(()) => {
+            say_not_opened(errs, name);
+            Err(Status::Unread)
+        }
+        Err(status) => Err(status),
     }
 }
 

@@ -1,33 +1,50 @@
-use Rattle.std.proofs.Common.{◌≡◌, ◌≤◌, ◌⊎◌, ◌∙◌, ◌∷◌, ◌*◌, ℕ, List, Option, Err, ap, inl, inr, option_map, refl, subst, sym, arith}
+use Rattle.std.proofs.Common.{◌≡◌, ◌∙◌, ◌∷◌, ◌*◌, ℕ, List, Option, Result, Ok, Err, OnOk, OnErr, ap, option_map, refl, subst, arith}
+use Rattle.std.proofs.lemmas.Result.{IfErr-weaker, on_ok_weaker}
 use Rattle.pt_base.specs.Counts.{Rose}
 use Rattle.pt_base.specs.Files.{Lacks}
-use Rattle.pt_base.specs.declared.fault.OpenFault.{OpenFault}
-use Rattle.pt_base.specs.declared.fault.OpenFault.TheVariants as opening
-use Rattle.file_trace.specs.Items.{IsAbsent, told_contents}
-use Rattle.file_trace.specs.Progress.{InputCount, OutputCount, status_of}
-use Rattle.file_trace.proofs.Ending.{ends_at_once, ends_before, ends_behind, file_ends, file_halted, file_unopened, input_count, lacks_absent}
-use Rattle.file_trace.proofs.Filing.{file_goes_on, has_bytes}
+use Rattle.file_trace.specs.Items.{told_contents}
+use Rattle.file_trace.specs.Progress.{InputCount, status_of}
+use Rattle.file_trace.proofs.Counting.{output_from, rises, rises_from}
+use Rattle.file_trace.proofs.Ending.{ends_at_once, ends_behind, file_ends, file_halted, input_count, input_of_halt, input_unopened, unopened_by, unopened_ends}
+use Rattle.file_trace.proofs.Filing.{file_goes_on, halts_named, halts_unwritten, has_bytes, traced_named}
 use Rattle.file_trace.proofs.Passing.{pass_ended, pass_halted, pass_unopened}
-use Rattle.file_trace.proofs.Reading.{name-with_file}
+use Rattle.file_trace.proofs.Reading.{contents_through, contents_unopened, name-with_file, no_name}
+use Rattle.file_trace.specs.declared.status.Status.TheVariants as status
 use Rattle.file_trace.proofs.file.trace_file.Goals as goal
 
--- the file can't be opened: all that was held is carried out
-pub returns-in-Ok-carry_out-clause-ends : goal.returns-in-Ok-carry_out-clause-ends
-returns-in-Ok-carry_out-clause-ends g c = λ names first are.
-    let output : Option (List ℕ) = option_map (λ s. s.now) c.args.output in
-    inl (file_unopened c.args.settings output c.args.name.now c.args.made.now _ _ _ _ _ c.in-Err.ensures.one_more c.in-Err.ensures.none_opened (by_fault c.in-Err.field-0 refl) refl
-    c.say_not_opened.ensures.said c.say_not_opened.ensures.never_falls names first (c.in-Ok-carry_out.ensures.done first are)) where
-      by_fault : (f : OpenFault) → f ≡ c.in-Err.field-0
-          → IsAbsent (told_contents (g.I.Inputs.files c.args.inputs.now)) c.args.name.now ⊎ Rose (g.I.Inputs.faults c.args.inputs.now) (g.I.Inputs.faults c.open.new.self)
-      by_fault opening.Absent e = inl (lacks_absent (g.I.Inputs.files c.args.inputs.now) c.args.name.now (c.in-Err.ensures.absent.0 (ap Err (sym e))))
-      by_fault opening.Device e = inr (c.in-Err.ensures.cause (ap Err (sym e)))
+-- where the run doesn't go on nothing is said of that
+no_on : {T E : Type 0} (r : Result T E) (P : Type 0) → OnOk r ⊥ → OnOk r P
+no_on r P none = on_ok_weaker r (λ (no : ⊥). absurd no) none
 
--- or it isn't
-pub returns-in-Err-carry_out-clause-ends : goal.returns-in-Err-carry_out-clause-ends
-returns-in-Err-carry_out-clause-ends g c = λ names first are.
-    let output : Option (List ℕ) = option_map (λ s. s.now) c.args.output in
-    ends_before c.in-Err-carry_out.status c.in-Err-carry_out.ensures.status (told_contents (g.I.Inputs.files c.args.inputs.now)) c.args.settings c.requires.offered.document output
-    (c.args.name.now ∷ names) c.args.made.now _ _ _ _ first (c.in-Err-carry_out.ensures.ends first are)
+-- what holds, holds where there is an error
+on_err : {T E P : Type 0} (r : Result T E) → P → OnErr r P
+on_err (Ok x) h = tt
+on_err (Err e) h = h
+
+-- the file can't be opened
+pub returns-in-Err : goal.returns-in-Err
+returns-in-Err g c =
+    let cause = unopened_by (g.I.Inputs.files c.args.inputs.now) c.args.name.now (g.I.Inputs.faults c.args.inputs.now) (g.I.Inputs.faults c.open.new.self) c.in-Err.field-0 (λ e. c.in-Err.ensures.absent.0 (ap Err e)) (λ e. c.in-Err.ensures.cause (ap Err e)) in
+    record {
+      traced = no_on c.end_unopened.result _ c.end_unopened.ensures.never_goes_on;
+      ends = IfErr-weaker c.end_unopened.result _ _ (λ s ends.
+          unopened_ends c.args.settings c.requires.offered.document (option_map (λ s. s.now) c.args.output) c.args.name.now c.args.made.now c.args.batch.now _ _ _ _ c.in-Err.ensures.one_more c.in-Err.ensures.none_opened cause s ends) c.end_unopened.ensures.ends;
+      one_pass = IfErr-weaker c.end_unopened.result _ _ (λ s ends.
+          pass_unopened (2 * c.args.workers) (omega (arith, c.requires.some_worker)) c.args.settings c.requires.offered.document (option_map (λ s. s.now) c.args.output) c.args.name.now c.args.made.now c.args.batch.now _ _ _ _
+          c.requires.not_full cause s ends) c.end_unopened.ensures.ends;
+      same_made = on_err c.end_unopened.result refl;
+      still_not_full = no_on c.end_unopened.result _ c.end_unopened.ensures.never_goes_on;
+      input = IfErr-weaker c.end_unopened.result _ _ (λ s which. input_unopened s which _ _) c.end_unopened.ensures.status;
+      steady_input = no_on c.end_unopened.result _ c.end_unopened.ensures.never_goes_on;
+      output = c.end_unopened.ensures.output;
+      steady_output = no_on c.end_unopened.result _ c.end_unopened.ensures.never_goes_on;
+      inputs_never_fall = c.in-Err.ensures.never_falls;
+      outputs_never_fall = c.end_unopened.ensures.outputs_never_fall;
+      one_more = c.in-Err.ensures.one_more;
+      name = rw c.in-Err.ensures.no_file (no_name (g.I.Inputs.files c.args.inputs.now) c.args.name.now);
+      same_contents = contents_unopened (g.I.Inputs.files c.args.inputs.now) _ c.in-Err.ensures.no_file;
+      stays_ready = c.end_unopened.ensures.stays_ready;
+    }
 
 -- memory ran out before the file's name was made
 pub returns-in_default-clause-ends : goal.returns-in_default-clause-ends
@@ -42,7 +59,7 @@ returns-in-Err-trace_pages-clause-ends g c = λ names first are.
     let output : Option (List ℕ) = option_map (λ s. s.now) c.args.output in
     let there : Lacks (g.I.Inputs.files c.args.inputs.now) c.args.name.now → ⊥ = λ lacking. let clash = c.in-Ok.ensures.absent.1 lacking in cc in
     let named = c.deref.ensures ∙ c.in-Ok-base_name.ensures in
-    let halts = rw named at c.in-Err-trace_pages.ensures.ends in
+    let halts = halts_named _ _ _ _ _ _ _ _ _ _ _ named c.in-Err-trace_pages.ensures.ends in
     file_halted _ c.args.settings c.requires.offered.document output c.args.name.now c.args.made.now (g.I.Inputs.files c.open.new.self) c.args.batch.now _ _ _ _ c.in-Err-trace_pages.status
     c.in-Ok.ensures.file there c.in-Err-trace_pages.ensures.status halts names first are
 
@@ -52,7 +69,7 @@ returns-in-Err-finish-clause-ends g c = λ names first are.
     let output : Option (List ℕ) = option_map (λ s. s.now) c.args.output in
     let there : Lacks (g.I.Inputs.files c.args.inputs.now) c.args.name.now → ⊥ = λ lacking. let clash = c.in-Ok.ensures.absent.1 lacking in cc in
     let named = c.deref.ensures ∙ c.in-Ok-base_name.ensures in
-    let traced = rw named at c.in-Ok-trace_pages.ensures.traced in
+    let traced = traced_named _ _ _ _ _ _ _ _ _ _ _ _ _ named c.in-Ok-trace_pages.ensures.traced in
     file_ends _ c.args.settings c.requires.offered.document output c.args.name.now c.args.made.now (g.I.Inputs.files c.open.new.self) c.in-Ok-trace_pages.traced.pages c.args.batch.now c.trace_pages.new.batch _ _ _ _ _
     c.in-Ok.ensures.file there (c.trace_pages.ensures.same_openings ∙ c.in-Ok.ensures.one_more) c.trace_pages.ensures.same_contents c.trace_pages.ensures.same_name
     c.in-Err-finish.status c.in-Ok-trace_pages.traced.end
@@ -70,7 +87,7 @@ returns-in-Ok-add-clause-traced g c =
     let output : Option (List ℕ) = option_map (λ s. s.now) c.args.output in
     let there : Lacks (g.I.Inputs.files c.args.inputs.now) c.args.name.now → ⊥ = λ lacking. let clash = c.in-Ok.ensures.absent.1 lacking in cc in
     let named = c.deref.ensures ∙ c.in-Ok-base_name.ensures in
-    let traced = rw named at c.in-Ok-trace_pages.ensures.traced in
+    let traced = traced_named _ _ _ _ _ _ _ _ _ _ _ _ _ named c.in-Ok-trace_pages.ensures.traced in
     let has = has_bytes (g.I.Inputs.files c.args.inputs.now) (g.I.Inputs.files c.open.new.self) c.args.name.now c.in-Ok.ensures.file there in
     rw (c.in-Ok-add.ensures.added, c.in-Ok-base_name.ensures)
     (file_goes_on (told_contents (g.I.Inputs.files c.args.inputs.now)) c.args.settings output c.args.name.now c.args.made.now _ (g.I.Inputs.files c.open.new.self)
@@ -83,7 +100,7 @@ returns-in-Err-add-clause-ends g c = λ names first are.
     let output : Option (List ℕ) = option_map (λ s. s.now) c.args.output in
     let there : Lacks (g.I.Inputs.files c.args.inputs.now) c.args.name.now → ⊥ = λ lacking. let clash = c.in-Ok.ensures.absent.1 lacking in cc in
     let named = c.deref.ensures ∙ c.in-Ok-base_name.ensures in
-    let traced = rw named at c.in-Ok-trace_pages.ensures.traced in
+    let traced = traced_named _ _ _ _ _ _ _ _ _ _ _ _ _ named c.in-Ok-trace_pages.ensures.traced in
     let has = has_bytes (g.I.Inputs.files c.args.inputs.now) (g.I.Inputs.files c.open.new.self) c.args.name.now c.in-Ok.ensures.file there in
     ends_behind _ (told_contents (g.I.Inputs.files c.args.inputs.now)) c.args.settings c.requires.offered.document output c.args.name.now c.args.made.now _ c.args.batch.now c.finish.new.batch _ _ _
     (file_goes_on (told_contents (g.I.Inputs.files c.args.inputs.now)) c.args.settings output c.args.name.now c.args.made.now _ (g.I.Inputs.files c.open.new.self)
@@ -104,25 +121,13 @@ pub returns-in-Err-add-clause-name : goal.returns-in-Err-add-clause-name
 returns-in-Err-add-clause-name g c =
     rw (c.trace_pages.ensures.same_name, c.in-Ok.ensures.file) (name-with_file (g.I.Inputs.files c.args.inputs.now) c.args.name.now)
 
--- a document couldn't be written, where the file can't be opened
-pub returns-in-Err-carry_out-clause-one_pass : goal.returns-in-Err-carry_out-clause-one_pass
-returns-in-Err-carry_out-clause-one_pass g c = λ is names first are.
-    let output : Option (List ℕ) = option_map (λ s. s.now) c.args.output in
-    let ended = rw is at (c.in-Err-carry_out.ensures.ends first are) in
-    pass_unopened (2 * c.args.workers) (omega (arith, c.requires.some_worker)) c.args.settings c.requires.offered.document output c.args.name.now c.args.made.now c.args.batch.now _ _ _ _
-    c.requires.not_full (by_fault c.in-Err.field-0 refl) names first are ended where
-      by_fault : (f : OpenFault) → f ≡ c.in-Err.field-0
-          → IsAbsent (told_contents (g.I.Inputs.files c.args.inputs.now)) c.args.name.now ⊎ Rose (g.I.Inputs.faults c.args.inputs.now) (g.I.Inputs.faults c.open.new.self)
-      by_fault opening.Absent e = inl (lacks_absent (g.I.Inputs.files c.args.inputs.now) c.args.name.now (c.in-Err.ensures.absent.0 (ap Err (sym e))))
-      by_fault opening.Device e = inr (c.in-Err.ensures.cause (ap Err (sym e)))
-
--- or with its pages
+-- a document couldn't be written with its pages
 pub returns-in-Err-trace_pages-clause-one_pass : goal.returns-in-Err-trace_pages-clause-one_pass
 returns-in-Err-trace_pages-clause-one_pass g c = λ is names first are.
     let output : Option (List ℕ) = option_map (λ s. s.now) c.args.output in
     let there : Lacks (g.I.Inputs.files c.args.inputs.now) c.args.name.now → ⊥ = λ lacking. let clash = c.in-Ok.ensures.absent.1 lacking in cc in
     let named = c.deref.ensures ∙ c.in-Ok-base_name.ensures in
-    let halts = rw (named, is) at c.in-Err-trace_pages.ensures.ends in
+    let halts = halts_unwritten _ _ _ _ _ _ _ _ _ _ is (halts_named _ _ _ _ _ _ _ _ _ _ _ named c.in-Err-trace_pages.ensures.ends) in
     pass_halted (2 * c.args.workers) (omega (arith, c.requires.some_worker)) c.args.settings c.requires.offered.document output c.args.name.now c.args.made.now (g.I.Inputs.files c.open.new.self) _ _
     c.in-Ok.ensures.file there (c.trace_pages.ensures.same_openings ∙ c.in-Ok.ensures.one_more) c.trace_pages.ensures.same_contents c.trace_pages.ensures.same_name
     c.args.batch.now _ _ halts names first are
@@ -133,7 +138,7 @@ returns-in-Err-finish-clause-one_pass g c = λ is names first are.
     let output : Option (List ℕ) = option_map (λ s. s.now) c.args.output in
     let there : Lacks (g.I.Inputs.files c.args.inputs.now) c.args.name.now → ⊥ = λ lacking. let clash = c.in-Ok.ensures.absent.1 lacking in cc in
     let named = c.deref.ensures ∙ c.in-Ok-base_name.ensures in
-    let traced = rw named at c.in-Ok-trace_pages.ensures.traced in
+    let traced = traced_named _ _ _ _ _ _ _ _ _ _ _ _ _ named c.in-Ok-trace_pages.ensures.traced in
     pass_ended (2 * c.args.workers) (omega (arith, c.requires.some_worker)) c.args.settings c.requires.offered.document output c.args.name.now c.args.made.now (g.I.Inputs.files c.open.new.self) _ _
     c.in-Ok.ensures.file there (c.trace_pages.ensures.same_openings ∙ c.in-Ok.ensures.one_more) c.trace_pages.ensures.same_contents c.trace_pages.ensures.same_name
     c.in-Ok-trace_pages.traced.pages c.args.batch.now c.trace_pages.new.batch _ _ _ c.in-Ok-trace_pages.traced.end
@@ -141,13 +146,7 @@ returns-in-Err-finish-clause-one_pass g c = λ is names first are.
     (rw is at c.in-Err-finish.ensures.ends)
     (c.in-Err-finish.ensures.unwritten is) names first are
 
--- counts that never fall
-rises : (a b c : ℕ) → a ≤ b → b ≤ c → a ≤ c
-rises a b c e f = omega (arith, e, f)
-
-rises_from : (a b c : ℕ) → b ≡ a → b ≤ c → a ≤ c
-rises_from a b c e f = omega (arith, e, f)
-
+-- the counts and the openings
 pub returns-in-Err-trace_pages-clause-one_more : goal.returns-in-Err-trace_pages-clause-one_more
 returns-in-Err-trace_pages-clause-one_more g c = c.trace_pages.ensures.same_openings ∙ c.in-Ok.ensures.one_more
 
@@ -182,8 +181,7 @@ pub returns-in-Err-add-clause-outputs_never_fall : goal.returns-in-Err-add-claus
 returns-in-Err-add-clause-outputs_never_fall g c = rises _ _ _ c.trace_pages.ensures.outputs_never_fall c.finish.ensures.outputs_never_fall
 
 pub returns-in-Err-finish-clause-output : goal.returns-in-Err-finish-clause-output
-returns-in-Err-finish-clause-output g c =
-    subst (λ n. OutputCount c.in-Err-finish.status n (g.O.Sink.faults c.finish.new.outs) (g.O.Sink.is_ready c.finish.new.outs)) c.in-Ok-trace_pages.ensures.steady_output.0 c.in-Err-finish.ensures.output
+returns-in-Err-finish-clause-output g c = output_from c.in-Err-finish.status _ _ _ _ c.in-Ok-trace_pages.ensures.steady_output.0 c.in-Err-finish.ensures.output
 
 pub returns-in-Ok-add-clause-steady_output : goal.returns-in-Ok-add-clause-steady_output
 returns-in-Ok-add-clause-steady_output g c = (c.in-Ok-finish.ensures.steady_output.0 ∙ c.in-Ok-trace_pages.ensures.steady_output.0, c.in-Ok-finish.ensures.steady_output.1)
@@ -195,3 +193,57 @@ pub returns-in-Ok-add-clause-steady_input : goal.returns-in-Ok-add-clause-steady
 returns-in-Ok-add-clause-steady_input g c =
     let count = subst (λ s. InputCount s (g.I.Inputs.faults c.open.new.self) (g.I.Inputs.faults c.trace_pages.new.inputs)) c.in-Ok-finish.ensures.goes_on c.in-Ok-trace_pages.ensures.input in
     count ∙ c.in-Ok.ensures.steady
+
+-- the same where no page was read, or the run ended within the pages
+pub returns-in_default-clause-inputs_never_fall : goal.returns-in_default-clause-inputs_never_fall
+returns-in_default-clause-inputs_never_fall g c = c.in-Ok.ensures.never_falls
+
+pub returns-in-Err-trace_pages-clause-outputs_never_fall : goal.returns-in-Err-trace_pages-clause-outputs_never_fall
+returns-in-Err-trace_pages-clause-outputs_never_fall g c = c.trace_pages.ensures.outputs_never_fall
+
+pub returns-in_default-clause-output : goal.returns-in_default-clause-output
+returns-in_default-clause-output g c = (refl, c.requires.closed)
+
+pub returns-in-Err-trace_pages-clause-output : goal.returns-in-Err-trace_pages-clause-output
+returns-in-Err-trace_pages-clause-output g c = c.in-Err-trace_pages.ensures.output
+
+pub returns-in-Err-trace_pages-clause-input : goal.returns-in-Err-trace_pages-clause-input
+returns-in-Err-trace_pages-clause-input g c = input_of_halt c.in-Err-trace_pages.status c.in-Err-trace_pages.ensures.status _ _
+
+pub returns-in_default-clause-one_more : goal.returns-in_default-clause-one_more
+returns-in_default-clause-one_more g c = c.in-Ok.ensures.one_more
+
+-- no file is opened, or the one that was asked for
+pub returns-in_default-clause-name : goal.returns-in_default-clause-name
+returns-in_default-clause-name g c = rw c.in-Ok.ensures.file (name-with_file (g.I.Inputs.files c.args.inputs.now) c.args.name.now)
+
+pub returns-in-Err-trace_pages-clause-name : goal.returns-in-Err-trace_pages-clause-name
+returns-in-Err-trace_pages-clause-name g c =
+    rw (c.trace_pages.ensures.same_name, c.in-Ok.ensures.file) (name-with_file (g.I.Inputs.files c.args.inputs.now) c.args.name.now)
+
+-- the files hold what they held
+pub returns-in_default-clause-same_contents : goal.returns-in_default-clause-same_contents
+returns-in_default-clause-same_contents g c = contents_through (g.I.Inputs.files c.args.inputs.now) _ _ c.args.name.now c.in-Ok.ensures.file refl
+
+pub returns-in-Err-trace_pages-clause-same_contents : goal.returns-in-Err-trace_pages-clause-same_contents
+returns-in-Err-trace_pages-clause-same_contents g c = contents_through (g.I.Inputs.files c.args.inputs.now) _ _ c.args.name.now c.in-Ok.ensures.file c.trace_pages.ensures.same_contents
+
+pub returns-in-Err-finish-clause-same_contents : goal.returns-in-Err-finish-clause-same_contents
+returns-in-Err-finish-clause-same_contents g c = contents_through (g.I.Inputs.files c.args.inputs.now) _ _ c.args.name.now c.in-Ok.ensures.file c.trace_pages.ensures.same_contents
+
+pub returns-in-Ok-add-clause-same_contents : goal.returns-in-Ok-add-clause-same_contents
+returns-in-Ok-add-clause-same_contents g c = contents_through (g.I.Inputs.files c.args.inputs.now) _ _ c.args.name.now c.in-Ok.ensures.file c.trace_pages.ensures.same_contents
+
+pub returns-in-Err-add-clause-same_contents : goal.returns-in-Err-add-clause-same_contents
+returns-in-Err-add-clause-same_contents g c = contents_through (g.I.Inputs.files c.args.inputs.now) _ _ c.args.name.now c.in-Ok.ensures.file c.trace_pages.ensures.same_contents
+
+-- the run ends so, and not at a document
+pub returns-in_default-clause-one_pass : goal.returns-in_default-clause-one_pass
+returns-in_default-clause-one_pass g c = λ is. absurd (let no : status.OutOfMemory ≡ status.Unwritten = is in cc)
+
+pub returns-in-Err-add-clause-one_pass : goal.returns-in-Err-add-clause-one_pass
+returns-in-Err-add-clause-one_pass g c = λ is. absurd (let no : status.OutOfMemory ≡ status.Unwritten = is in cc)
+
+-- a file's pages are as many as a run accepts
+pub add-requires : goal.add-requires
+add-requires g c = c.in-Ok-trace_pages.ensures.traced.few

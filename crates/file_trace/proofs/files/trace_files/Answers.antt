@@ -1,20 +1,12 @@
-use Rattle.std.proofs.Common.{◌∙◌, ◌*◌, [], ℕ, List, Option, inl, option_map, refl, arith}
+use Rattle.std.proofs.Common.{◌≡◌, ◌∙◌, ◌*◌, [], ℕ, List, Option, inl, option_map, refl, arith}
 use Rattle.std.proofs.lemmas.List.{take_all}
 use Rattle.file_trace.specs.Items.{told_contents}
 use Rattle.file_trace.specs.Outcome.{source_of}
-use Rattle.file_trace.proofs.Ending.{ends_at_once}
+use Rattle.file_trace.proofs.Counting.{input_from, output_from}
+use Rattle.file_trace.proofs.Ending.{ends_at_once, input_of_halt}
 use Rattle.file_trace.proofs.Running.{all_done, ends_after, ends_in, none_done, one_done, openings_more, opens_to, passes_after, passes_in}
+use Rattle.file_trace.specs.declared.status.Status.TheVariants as status
 use Rattle.file_trace.proofs.files.trace_files.Goals as goal
-
--- memory ran out before the first file
-pub returns-in_default-clause-outcome : goal.returns-in_default-clause-outcome
-returns-in_default-clause-outcome g c =
-    let output : Option (List ℕ) = option_map (λ s. s.now) c.args.output in
-    ends_at_once (told_contents (g.I.Inputs.files c.args.inputs.now)) c.args.settings c.requires.offered.document output c.args.names.now [] _ _ refl
-    c.say_out_of_memory.ensures.said c.say_out_of_memory.ensures.never_falls []
-
-pub returns-in_default-clause-opened : goal.returns-in_default-clause-opened
-returns-in_default-clause-opened g c = inl (refl, refl)
 
 -- no file is done yet
 pub loop-name-init : goal.loop-name-init
@@ -50,48 +42,54 @@ loop-name-preserved g c =
       ready = c.trace_file-traced.ensures.stays_ready;
     }
 
+-- memory ran out before the first file
+pub returns-in_default : goal.returns-in_default
+returns-in_default g c = record {
+  outcome = let output : Option (List ℕ) = option_map (λ s. s.now) c.args.output in
+      ends_at_once (told_contents (g.I.Inputs.files c.args.inputs.now)) c.args.settings c.requires.offered.document output c.args.names.now [] _ _ refl
+      c.say_out_of_memory.ensures.said c.say_out_of_memory.ensures.never_falls [];
+  opened = inl (refl, refl);
+  one_pass = λ is. absurd (let no : status.OutOfMemory ≡ status.Unwritten = is in cc);
+  input = tt;
+  output = (refl, c.requires.closed);
+}
+
 -- the run ends in a file
-pub returns-in-Err-clause-outcome : goal.returns-in-Err-clause-outcome
-returns-in-Err-clause-outcome g c =
-    let ends = rw (c.loop-name.invariant.contents, c.as_str.ensures) at c.in-Err.ensures.ends in
-    ends_in c.in-Err.status _ _ _ _ _ c.loop-name.name-index c.name-item.result _ _ _ _ _ _ _ _ c.loop-name-test.true c.name-item.is c.loop-name.invariant.done
-    c.loop-name.invariant.openings c.loop-name.invariant.input ends
+pub returns-in-Err : goal.returns-in-Err
+returns-in-Err g c = record {
+  outcome = let ends = rw (c.loop-name.invariant.contents, c.as_str.ensures) at c.in-Err.ensures.ends in
+      ends_in c.in-Err.status _ _ _ _ _ c.loop-name.name-index c.name-item.result _ _ _ _ _ _ _ _ c.loop-name-test.true c.name-item.is c.loop-name.invariant.done
+      c.loop-name.invariant.openings c.loop-name.invariant.input ends;
+  opened = let named = rw c.as_str.ensures at c.trace_file-traced.ensures.name in
+      opens_to c.args.names.now c.loop-name.name-index c.name-item.result
+      (source_of g.I.Inputs c.args.inputs.now) (source_of g.I.Inputs c.loop-name.inputs) (source_of g.I.Inputs c.trace_file-traced.new.inputs) c.loop-name-test.true c.name-item.is c.loop-name.invariant.openings c.trace_file-traced.ensures.one_more named;
+  one_pass = λ is.
+      let passes = rw (c.loop-name.invariant.contents, c.as_str.ensures) at c.in-Err.ensures.one_pass is in
+      passes_in (2 * c.args.workers) (omega (arith, c.requires.some_worker)) _ _ _ _ c.loop-name.name-index c.name-item.result _ _ _ _ _ _ _ _ c.loop-name-test.true c.name-item.is c.loop-name.invariant.done
+      c.loop-name.invariant.openings c.loop-name.invariant.input passes;
+  input = input_from c.in-Err.status _ _ _ c.loop-name.invariant.input c.in-Err.ensures.input;
+  output = output_from c.in-Err.status _ _ _ _ c.loop-name.invariant.output c.in-Err.ensures.output;
+}
 
-pub returns-in-Err-clause-opened : goal.returns-in-Err-clause-opened
-returns-in-Err-clause-opened g c =
-    let named = rw c.as_str.ensures at c.trace_file-traced.ensures.name in
-    opens_to c.args.names.now c.loop-name.name-index c.name-item.result
-    (source_of g.I.Inputs c.args.inputs.now) (source_of g.I.Inputs c.loop-name.inputs) (source_of g.I.Inputs c.trace_file-traced.new.inputs) c.loop-name-test.true c.name-item.is c.loop-name.invariant.openings c.trace_file-traced.ensures.one_more named
+-- all files are done, and what is held then is carried out
+pub returns-in-Ok-carry_out : goal.returns-in-Ok-carry_out
+returns-in-Ok-carry_out g c = record {
+  outcome = all_done _ _ _ _ _ _ _ _ _ _ (rw (take_all c.loop-name.name-index c.args.names.now c.loop-name-test.false) at c.loop-name.invariant.done) c.in-Ok-carry_out.ensures.done;
+  opened = c.loop-name.invariant.opened;
+  one_pass = λ is. absurd (let no : status.Done ≡ status.Unwritten = is in cc);
+  input = c.loop-name.invariant.input;
+  output = (c.in-Ok-carry_out.ensures.steady_output.0 ∙ c.loop-name.invariant.output, c.in-Ok-carry_out.ensures.steady_output.1);
+}
 
-pub returns-in-Err-clause-input : goal.returns-in-Err-clause-input
-returns-in-Err-clause-input g c = rw c.loop-name.invariant.input at c.in-Err.ensures.input
-
-pub returns-in-Err-clause-output : goal.returns-in-Err-clause-output
-returns-in-Err-clause-output g c = rw c.loop-name.invariant.output at c.in-Err.ensures.output
-
--- all files are done
-pub returns-in-Ok-carry_out-clause-outcome : goal.returns-in-Ok-carry_out-clause-outcome
-returns-in-Ok-carry_out-clause-outcome g c =
-    all_done _ _ _ _ _ _ _ _ _ _ (rw (take_all c.loop-name.name-index c.args.names.now c.loop-name-test.false) at c.loop-name.invariant.done) c.in-Ok-carry_out.ensures.done
-
-pub returns-in-Ok-carry_out-clause-output : goal.returns-in-Ok-carry_out-clause-output
-returns-in-Ok-carry_out-clause-output g c = (c.in-Ok-carry_out.ensures.steady_output.0 ∙ c.loop-name.invariant.output, c.in-Ok-carry_out.ensures.steady_output.1)
-
--- or not carried out
-pub returns-clause-outcome : goal.returns-clause-outcome
-returns-clause-outcome g c =
-    ends_after c.in-Err-carry_out.status c.in-Err-carry_out.ensures.status _ _ _ _ _ _ _ _ _ _ _ _ (rw (take_all c.loop-name.name-index c.args.names.now c.loop-name-test.false) at c.loop-name.invariant.done)
-    c.in-Err-carry_out.ensures.ends
-
--- a document couldn't be written in a file
-pub returns-in-Err-clause-one_pass : goal.returns-in-Err-clause-one_pass
-returns-in-Err-clause-one_pass g c = λ is.
-    let passes = rw (c.loop-name.invariant.contents, c.as_str.ensures) at c.in-Err.ensures.one_pass is in
-    passes_in (2 * c.args.workers) (omega (arith, c.requires.some_worker)) _ _ _ _ c.loop-name.name-index c.name-item.result _ _ _ _ _ _ _ _ c.loop-name-test.true c.name-item.is c.loop-name.invariant.done
-    c.loop-name.invariant.openings c.loop-name.invariant.input passes
-
--- or behind them
-pub returns-clause-one_pass : goal.returns-clause-one_pass
-returns-clause-one_pass g c = λ is.
-    passes_after (2 * c.args.workers) (omega (arith, c.requires.some_worker)) _ _ _ _ _ _ _ _ _ _ _ (rw (take_all c.loop-name.name-index c.args.names.now c.loop-name-test.false) at c.loop-name.invariant.done)
-    c.loop-name.invariant.not_full (rw is at c.in-Err-carry_out.ensures.ends)
+-- or it isn't
+pub returns : goal.returns
+returns g c = record {
+  outcome = ends_after c.in-Err-carry_out.status c.in-Err-carry_out.ensures.status _ _ _ _ _ _ _ _ _ _ _ _ (rw (take_all c.loop-name.name-index c.args.names.now c.loop-name-test.false) at c.loop-name.invariant.done)
+      c.in-Err-carry_out.ensures.ends;
+  opened = c.loop-name.invariant.opened;
+  one_pass = λ is.
+      passes_after (2 * c.args.workers) (omega (arith, c.requires.some_worker)) _ _ _ _ _ _ _ _ _ _ _ (rw (take_all c.loop-name.name-index c.args.names.now c.loop-name-test.false) at c.loop-name.invariant.done)
+      c.loop-name.invariant.not_full (rw is at c.in-Err-carry_out.ensures.ends);
+  input = input_of_halt c.in-Err-carry_out.status c.in-Err-carry_out.ensures.status _ _;
+  output = output_from c.in-Err-carry_out.status _ _ _ _ c.loop-name.invariant.output c.in-Err-carry_out.ensures.output;
+}
