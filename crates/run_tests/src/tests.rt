@@ -1,8 +1,8 @@
-//! Worked pages, what is refused, and failing devices.
+//! Worked pages, what is refused, failing devices, and workers.
 
 mod cases;
+mod claims;
 mod cuts;
-mod documents;
 mod failing;
 mod files;
 mod formats;
@@ -14,3 +14,4 @@ mod pages;
 mod refusals;
 mod words;
 mod workers;
+mod workers_alone;

@@ -1,4 +1,4 @@
-//! Runs over files in memory.
+//! Runs over files in memory, and what is to come of them.
 ghost use Rattle.std.specs.Prelude.{◌≡◌, IfOk, string_bytes};
 
 use potrace_main::top::run;
@@ -12,6 +12,53 @@ use std::process::Abort;
 use std::test::Fail;
 use std::thread::Threads;
 
+/// What a run is made of, and what is to come of it.
+#[derive(Clone, Copy)]
+pub struct Case<'a> {
+    /// The words, with a space between them.
+    pub words: &'a str,
+    /// A file's name and its bytes.
+    pub name: &'a str,
+    pub input: &'a [u8],
+    /// Perhaps another file.
+    pub other: Option<(&'a str, &'a [u8])>,
+    /// How many bytes a read and a write take.
+    pub most_read: u32,
+    pub most_written: u32,
+    /// The room for documents, in bytes of their names and texts.
+    pub room: u32,
+    /// The calls that fail; those of a message are counted from 1.
+    pub unread: Option<InCall>,
+    pub unwritten: Option<OutCall>,
+    pub unsaid: Option<u64>,
+    /// How the run is to end.
+    pub status: u8,
+    /// The names and the texts of the documents that are to be there.
+    pub documents: &'a [(&'a str, &'a str)],
+    /// Whether the last one of them isn't whole.
+    pub cut_off: bool,
+    /// All messages.
+    pub said: &'a str,
+}
+
+/// A run over an empty standard input where no call fails, which writes nothing and says nothing.
+pub const PLAIN: Case<'static> = Case {
+    words: "",
+    name: "-",
+    input: b"",
+    other: None,
+    most_read: 4096,
+    most_written: 4096,
+    room: 1_000_000,
+    unread: None,
+    unwritten: None,
+    unsaid: None,
+    status: 0,
+    documents: &[],
+    cut_off: false,
+    said: "",
+};
+
 /// What a run did.
 #[derive(Drop)]
 pub struct Done {
@@ -20,59 +67,8 @@ pub struct Done {
     pub errs: MemSink,
 }
 
-/// What a run is made of: the words with a space between them, a file's name and its bytes, perhaps those of
-/// another file, how many bytes a read and a write take, the room for documents in bytes, and the calls that fail.
-#[derive(Drop)]
-pub struct Case<'a> {
-    pub words: &'a str,
-    pub name: &'a str,
-    pub input: &'a [u8],
-    pub other: Option<(&'a str, &'a [u8])>,
-    pub most_read: u32,
-    pub most_written: u32,
-    pub room: u32,
-    pub unread: &'a [InCall],
-    pub unwritten: &'a [OutCall],
-    pub unsaid: &'a [u64],
-}
-
 impl<'a> Case<'a> {
-    /// The words, over standard input.
-    pub fn new(words: &'a str, input: &'a [u8]) -> Case<'a> {
-        Case::over(words, "-", input)
-    }
-
-    /// The words, over a file.
-    pub fn over(words: &'a str, name: &'a str, input: &'a [u8]) -> Case<'a> {
-        Case {
-            words,
-            name,
-            input,
-            other: None,
-            most_read: 4096,
-            most_written: 4096,
-            room: 1_000_000,
-            unread: &[],
-            unwritten: &[],
-            unsaid: &[],
-        }
-    }
-
-    pub fn run<R: Threads + Sync>(&self, rt: &R, alloc: Global) -> Result<Done, Fail> {
-        self.run_past(rt, alloc, &NoGate)
-    }
-
-    /// Runs with a gate, which each page passes.
-    pub fn run_past<R: Threads + Sync, G: Gate + Sync>(
-        &self,
-        rt: &R,
-        alloc: Global,
-        gate: &G,
-    ) -> Result<Done, Fail> {
-        Ok(self.done(rt, alloc, gate)?)
-    }
-
-    /// What the run did, or want of memory before it.
+    /// What the run did, or want of memory before it. Each page passes the gate.
     pub fn done<R: Threads + Sync, G: Gate + Sync>(
         &self,
         rt: &R,
@@ -82,8 +78,8 @@ impl<'a> Case<'a> {
         let words = split(alloc, self.words)?;
         let mut inputs = self.inputs(alloc)?;
         let most = self.most_written.max(1);
-        let unwritten = Vec::from_slice(alloc, self.unwritten)?;
-        let unsaid = Vec::from_slice(alloc, self.unsaid)?;
+        let unwritten = listed(alloc, self.unwritten)?;
+        let unsaid = listed(alloc, self.unsaid)?;
         let mut outs = MemOutputs::new(alloc, most, unwritten, 65_537, self.room)?;
         let mut errs = MemSink::new(alloc, most, unsaid, 1000)?;
         let status = run(rt, alloc, &words, &mut inputs, &mut outs, &mut errs, gate);
@@ -93,7 +89,7 @@ impl<'a> Case<'a> {
     fn inputs(&self, alloc: Global) -> Result<MemInputs, NoMemory> {
         let file = named(alloc, self.name, self.input)?;
         let most = self.most_read.max(1);
-        let unread = Vec::from_slice(alloc, self.unread)?;
+        let unread = listed(alloc, self.unread)?;
         match self.other {
             Some((name, input)) if name != self.name => {
                 let other = named(alloc, name, input)?;
@@ -103,6 +99,69 @@ impl<'a> Case<'a> {
             _ => Ok(MemInputs::new(vec![in alloc; file]?, most, unread)),
         }
     }
+
+    /// Runs, and looks at all that came of it.
+    pub fn check<R: Threads + Abort + Sync>(&self, rt: &R, alloc: Global) -> Result<(), Fail> {
+        let done = self.done(rt, alloc, &NoGate)?;
+        self.expect(rt, &done);
+        Ok(())
+    }
+
+    /// Runs by 1, 2, 7 and 64 workers, for whom the same is to come.
+    pub fn check_by_all<R: Threads + Abort + Sync>(
+        &self,
+        rt: &R,
+        alloc: Global,
+    ) -> Result<(), Fail> {
+        for workers in ["1", "2", "7", "64"] {
+            let words = format!(in alloc; "--workers {workers} {}", self.words)?;
+            Case {
+                words: &words,
+                ..*self
+            }
+            .check(rt, alloc)?;
+        }
+        Ok(())
+    }
+
+    /// Looks at all that came of a run.
+    pub fn expect(&self, rt: &impl Abort, done: &Done) {
+        let count = self.documents.len();
+        assert_eq!(rt;
+            (done.status, done.errs.text(), done.outs.count() as usize),
+            (self.status, self.said.as_bytes(), count),
+            "{}",
+            self.words
+        );
+        for (i, (name, text)) in self.documents.iter().enumerate() {
+            let whole = !self.cut_off || i < count - 1;
+            assert_eq!(rt;
+                document_at(&done.outs, i),
+                Some((name.as_bytes(), text.as_bytes(), whole)),
+                "{}",
+                self.words
+            );
+        }
+    }
+}
+
+/// The name, the text and whether it is whole, of the document in this place.
+pub fn document_at(outs: &MemOutputs, place: usize) -> Option<(&[u8], &[u8], bool)> {
+    if place < outs.count() as usize {
+        let i = place as u32;
+        Some((outs.name(i), outs.text(i), outs.whole(i)))
+    } else {
+        None
+    }
+}
+
+/// One call or none.
+fn listed<T: Copy>(alloc: Global, call: Option<T>) -> Result<Vec<T>, NoMemory> {
+    let mut calls = Vec::new(alloc);
+    if let Some(call) = call {
+        calls.push(call)?;
+    }
+    Ok(calls)
 }
 
 fn named(alloc: Global, name: &str, bytes: &[u8]) -> Result<NamedBytes, NoMemory>
@@ -114,55 +173,51 @@ fn named(alloc: Global, name: &str, bytes: &[u8]) -> Result<NamedBytes, NoMemory
     })
 }
 
-fn split(alloc: Global, text: &str) -> Result<Vec<String>, NoMemory> {
+/// The words of a line; an empty line has none, and two spaces have an empty word between them.
+pub fn split(alloc: Global, line: &str) -> Result<Vec<String>, NoMemory> {
     let mut words = Vec::new(alloc);
-    for word in text.split(' ') {
+    if line.is_empty() {
+        return Ok(words);
+    }
+    for word in line.split(' ') {
         words.push(String::from_str(alloc, word)?)?;
     }
     Ok(words)
 }
 
-/// The run ended so, with these documents, all of them whole and named for standard output, and this message.
-pub fn expect(rt: &impl Abort, done: &Done, status: u8, documents: &[&str], message: &str) {
-    let count = done.outs.count() as usize;
-    expect_end(rt, done, status, documents.len(), message);
-    for (i, text) in documents.iter().enumerate() {
-        if i < count {
-            expect_whole(rt, &done.outs, i as u32, "-", text);
+/// Runs each case by 1, 2, 7 and 64 workers.
+pub fn check_all<R: Threads + Abort + Sync>(
+    rt: &R,
+    alloc: Global,
+    cases: &[Case],
+) -> Result<(), Fail> {
+    for case in cases {
+        case.check_by_all(rt, alloc)?;
+    }
+    Ok(())
+}
+
+/// Words, standard input, and the documents.
+pub type Page = (
+    &'static str,
+    &'static [u8],
+    &'static [(&'static str, &'static str)],
+);
+
+/// Runs over pages which have nothing to say.
+pub fn check_pages<R: Threads + Abort + Sync>(
+    rt: &R,
+    alloc: Global,
+    pages: &[Page],
+) -> Result<(), Fail> {
+    for (words, input, documents) in pages {
+        Case {
+            words,
+            input,
+            documents,
+            ..PLAIN
         }
+        .check(rt, alloc)?;
     }
-}
-
-/// The same, with names.
-pub fn expect_named(
-    rt: &impl Abort,
-    done: &Done,
-    status: u8,
-    documents: &[(&str, &str)],
-    message: &str,
-) {
-    let count = done.outs.count() as usize;
-    expect_end(rt, done, status, documents.len(), message);
-    for (i, (name, text)) in documents.iter().enumerate() {
-        if i < count {
-            expect_whole(rt, &done.outs, i as u32, name, text);
-        }
-    }
-}
-
-/// The run ended so, with so many documents and this message.
-fn expect_end(rt: &impl Abort, done: &Done, status: u8, count: usize, message: &str) {
-    assert_eq!(rt;
-        (done.errs.text(), done.status, done.outs.count() as usize),
-        (message.as_bytes(), status, count)
-    );
-}
-
-/// The document is whole, and has this name and this text.
-fn expect_whole(rt: &impl Abort, outs: &MemOutputs, i: u32, name: &str, text: &str) {
-    if i < outs.count() {
-        let found = (outs.name(i), outs.text(i), outs.whole(i));
-        let wanted = (name.as_bytes(), text.as_bytes(), true);
-        assert_eq!(rt; found, wanted, "document {i}");
-    }
+    Ok(())
 }

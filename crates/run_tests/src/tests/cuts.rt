@@ -1,16 +1,16 @@
 //! Inputs that are cut off after every number of bytes, and pages with hostile headers.
 
-use crate::tests::cases::{Case, expect};
-use std::alloc::Global;
+use crate::tests::cases::{Case, PLAIN, check_all};
+use pt_base::gate::NoGate;
 use std::test::Fail;
 
 const LEFT: &str = "-b points -t 0";
 
-const PIXEL: &str = "points 1 1 1\n+ 1 0,1 0,0 1,0 1,1\n";
+const PIXEL: (&str, &str) = ("-", "points 1 1 1\n+ 1 0,1 0,0 1,0 1,1\n");
 
-const TALL: &str = "points 1 2 1\n+ 1 0,2 0,1 1,1 1,2\n";
+const TALL: (&str, &str) = ("-", "points 1 2 1\n+ 1 0,2 0,1 1,1 1,2\n");
 
-const WIDE: &str = "points 2 1 1\n+ 1 0,1 0,0 1,0 1,1\n";
+const WIDE: (&str, &str) = ("-", "points 2 1 1\n+ 1 0,1 0,0 1,0 1,1\n");
 
 const UNKNOWN: &str = "potrace: -: page 1: unknown format\n";
 
@@ -23,8 +23,9 @@ const TRAILING: &str = "potrace: -: trailing bytes after page 1\n";
 const TRAILING_LATER: &str = "potrace: -: trailing bytes after page 2\n";
 
 /// A BMP of 1 by 2 pixels of 24 bits, from the top: black above white.
-const PICTURE: &[u8] =
-    b"BM\x3e\0\0\0\0\0\0\0\x36\0\0\0\x28\0\0\0\x01\0\0\0\xfe\xff\xff\xff\x01\0\x18\0\0\0\0\0\x08\0\0\0\0\0\0\0\0\0\0\0\0\0\0\0\0\0\0\0\0\0\0\0\xff\xff\xff\0";
+const PICTURE: &[u8] = b"BM\x3e\0\0\0\0\0\0\0\x36\0\0\0\
+\x28\0\0\0\x01\0\0\0\xfe\xff\xff\xff\x01\0\x18\0\0\0\0\0\x08\0\0\0\0\0\0\0\0\0\0\0\0\0\0\0\0\0\0\0\
+\0\0\0\0\xff\xff\xff\0";
 
 const COMMENTS: &[u8] = b"P1 # c\n2 #d\n1\n1#x\n0";
 
@@ -36,12 +37,12 @@ type Cut = (
     &'static [u8],
     usize,
     usize,
-    &'static [&'static str],
+    &'static [(&'static str, &'static str)],
     u8,
     &'static str,
 );
 
-const CUTS: [Cut; 13] = [
+const CUTS: &[Cut] = &[
     (PICTURE, 0, 1, &[], 2, UNKNOWN),
     (PICTURE, 2, 61, &[], 2, TRUNCATED),
     (PICTURE, 62, 62, &[TALL], 0, ""),
@@ -60,121 +61,133 @@ const CUTS: [Cut; 13] = [
 #[test]
 fn inputs_cut_after_each_byte(rt: HostRuntime) -> Result<(), Fail> {
     for (input, first, last, documents, status, said) in CUTS {
-        for n in first..=last {
-            let kept = input.get(..n).unwrap_or(input);
-            let done = Case::new(LEFT, kept).run(&rt, rt.alloc())?;
-            expect(&rt, &done, status, documents, said);
+        for n in *first..=*last {
+            Case {
+                words: LEFT,
+                input: input.get(..n).unwrap_or(input),
+                status: *status,
+                documents,
+                said,
+                ..PLAIN
+            }
+            .check(&rt, rt.alloc())?;
         }
     }
     Ok(())
 }
 
-/// The bytes, and then so many times another one.
-fn followed(alloc: Global, front: &[u8], byte: u8, times: usize) -> Result<Vec<u8>, Fail> {
-    let mut bytes = Vec::from_slice(alloc, front)?;
-    for _ in 0..times {
-        bytes.push(byte)?;
-    }
-    Ok(bytes)
-}
-
-/// The front of an input, the byte that follows and how often; and then the documents, the status and the message.
+/// The front of an input, the byte that follows and how often, and the input's end; and then the documents, the
+/// status and the message.
 type Long = (
     &'static [u8],
     u8,
     usize,
-    &'static [&'static str],
+    &'static [u8],
+    &'static [(&'static str, &'static str)],
     u8,
     &'static str,
 );
 
-const LONG: [Long; 4] = [
-    (b"P4 16384 1\n", 0, 2048, &["points 16384 1 0\n"], 0, ""),
+const GAP_TOO_LONG: &str = "potrace: -: page 1: gap too long\n";
+
+const SIDE_TOO_LARGE: &str = "potrace: -: page 1: side too large\n";
+
+const LONG: &[Long] = &[
+    // A white row.
     (
-        b"P1 1 ",
-        b'9',
-        30,
-        &[],
-        2,
-        "potrace: -: page 1: side too large\n",
+        b"P4 16384 1\n",
+        0,
+        2048,
+        b"",
+        &[("-", "points 16384 1 0\n")],
+        0,
+        "",
     ),
-    (
-        b"P1 ",
-        b'1',
-        1_048_577,
-        &[],
-        2,
-        "potrace: -: page 1: gap too long\n",
-    ),
-    (b"P1 ", b'1', 1_048_576, &[], 2, TRUNCATED),
+    // Long numbers.
+    (b"P1 1 ", b'9', 30, b"", &[], 2, SIDE_TOO_LARGE),
+    (b"P1 ", b'1', 1_048_577, b"", &[], 2, GAP_TOO_LONG),
+    (b"P1 ", b'1', 1_048_576, b"", &[], 2, TRUNCATED),
+    // Long gaps.
+    (b"P1", b' ', 1_048_576, b"1 1 1", &[PIXEL], 0, ""),
+    (b"P1", b' ', 1_048_577, b"1 1 1", &[], 2, GAP_TOO_LONG),
 ];
 
 #[test]
 fn long_headers_and_a_white_row(rt: HostRuntime) -> Result<(), Fail> {
-    for (front, byte, times, documents, status, said) in LONG {
-        let input = followed(rt.alloc(), front, byte, times)?;
-        let done = Case::new("-b points", &input).run(&rt, rt.alloc())?;
-        expect(&rt, &done, status, documents, said);
+    for (front, byte, times, back, documents, status, said) in LONG {
+        let mut input = Vec::from_slice(rt.alloc(), front)?;
+        input.extend_from_slice(&vec![in rt.alloc(); *byte; *times]?)?;
+        input.extend_from_slice(back)?;
+        let case = Case {
+            words: LEFT,
+            input: &input,
+            ..PLAIN
+        };
+        let wanted = Case {
+            words: LEFT,
+            status: *status,
+            documents,
+            said,
+            ..PLAIN
+        };
+        wanted.expect(&rt, &case.done(&rt, rt.alloc(), &NoGate)?);
     }
     Ok(())
 }
 
-/// The picture with other bytes from these two places on.
-fn changed(alloc: Global, changes: [(usize, &[u8]); 2]) -> Result<Vec<u8>, Fail> {
-    let mut bytes = Vec::from_slice(alloc, PICTURE)?;
-    for (place, new) in changes {
-        put(&mut bytes, place, new);
-    }
-    Ok(bytes)
-}
-
-/// Writes bytes over those from a place on.
-fn put(bytes: &mut Vec<u8>, place: usize, new: &[u8]) {
-    for (i, byte) in new.iter().enumerate() {
-        if let Some(old) = bytes.get_mut(place.saturating_add(i)) {
-            *old = *byte;
-        }
-    }
-}
-
-/// What is changed in the picture, and then the documents, the status and the message.
-type Changed = (
-    [(usize, &'static [u8]); 2],
-    &'static [&'static str],
-    u8,
-    &'static str,
-);
-
-// At 2 the file size, at 10 the place of the rows, at 22 the height, at 28 the bits, at 46 the colours used.
-const CHANGED: [Changed; 5] = [
-    ([(2, b"\xff\xff\xff\xff"), (0, b"")], &[TALL], 0, ""),
-    (
-        [(22, b"\0\0\0\x80"), (0, b"")],
-        &[],
-        2,
-        "potrace: -: page 1: side too large\n",
-    ),
-    (
-        [(10, b"\0\0\0\0"), (0, b"")],
-        &[],
-        2,
-        "potrace: -: page 1: bad BMP offset\n",
-    ),
-    ([(10, b"\xff\xff\xff\xff"), (0, b"")], &[], 2, TRUNCATED),
-    (
-        [(28, b"\x08\0"), (46, b"\x01\x01\0\0")],
-        &[],
-        2,
-        "potrace: -: page 1: unsupported BMP kind\n",
-    ),
+/// The picture with other bytes in some places of its header.
+const PICTURES: &[Case] = &[
+    // The file's size is beyond its end.
+    Case {
+        words: LEFT,
+        input: b"BM\xff\xff\xff\xff\0\0\0\06\0\0\0\
+(\0\0\0\x01\0\0\0\xfe\xff\xff\xff\x01\0\x18\0\0\0\0\0\x08\0\0\0\0\0\0\0\0\0\0\0\0\0\0\0\0\0\0\0\
+\0\0\0\0\xff\xff\xff\0",
+        documents: &[TALL],
+        ..PLAIN
+    },
+    // The height is the least number of its kind.
+    Case {
+        words: LEFT,
+        input: b"BM>\0\0\0\0\0\0\06\0\0\0\
+(\0\0\0\x01\0\0\0\0\0\0\x80\x01\0\x18\0\0\0\0\0\x08\0\0\0\0\0\0\0\0\0\0\0\0\0\0\0\0\0\0\0\
+\0\0\0\0\xff\xff\xff\0",
+        status: 2,
+        said: SIDE_TOO_LARGE,
+        ..PLAIN
+    },
+    // The rows begin within the header, and then far beyond the file's end.
+    Case {
+        words: LEFT,
+        input: b"BM>\0\0\0\0\0\0\0\0\0\0\0\
+(\0\0\0\x01\0\0\0\xfe\xff\xff\xff\x01\0\x18\0\0\0\0\0\x08\0\0\0\0\0\0\0\0\0\0\0\0\0\0\0\0\0\0\0\
+\0\0\0\0\xff\xff\xff\0",
+        status: 2,
+        said: "potrace: -: page 1: bad BMP offset\n",
+        ..PLAIN
+    },
+    Case {
+        words: LEFT,
+        input: b"BM>\0\0\0\0\0\0\0\xff\xff\xff\xff\
+(\0\0\0\x01\0\0\0\xfe\xff\xff\xff\x01\0\x18\0\0\0\0\0\x08\0\0\0\0\0\0\0\0\0\0\0\0\0\0\0\0\0\0\0\
+\0\0\0\0\xff\xff\xff\0",
+        status: 2,
+        said: TRUNCATED,
+        ..PLAIN
+    },
+    // A pixel has 8 bits, which tell 256 colours, and 257 colours are used.
+    Case {
+        words: LEFT,
+        input: b"BM>\0\0\0\0\0\0\06\0\0\0\
+(\0\0\0\x01\0\0\0\xfe\xff\xff\xff\x01\0\x08\0\0\0\0\0\x08\0\0\0\0\0\0\0\0\0\0\0\x01\x01\0\0\0\0\0\0\
+\0\0\0\0\xff\xff\xff\0",
+        status: 2,
+        said: "potrace: -: page 1: unsupported BMP kind\n",
+        ..PLAIN
+    },
 ];
 
 #[test]
 fn pictures_with_hostile_headers(rt: HostRuntime) -> Result<(), Fail> {
-    for (changes, documents, status, said) in CHANGED {
-        let input = changed(rt.alloc(), changes)?;
-        let done = Case::new(LEFT, &input).run(&rt, rt.alloc())?;
-        expect(&rt, &done, status, documents, said);
-    }
-    Ok(())
+    check_all(&rt, rt.alloc(), PICTURES)
 }

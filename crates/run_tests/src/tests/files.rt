@@ -1,172 +1,194 @@
 //! Several files: the names of their documents, and what ends a run.
 
-use crate::tests::cases::{Case, Done, expect, expect_named};
+use crate::tests::cases::{Case, PLAIN, check_all};
 use pt_base::mem_inputs::InCall;
-use pt_base::mem_outputs::OutCall;
-use std::alloc::Global;
 use std::test::Fail;
-use std::thread::Threads;
 
 const PIXEL: &str = "points 1 1 1\n+ 1 0,1 0,0 1,0 1,1\n";
 
 const NONE: &str = "points 1 1 0\n";
 
+const NO_OUTLINE: &str = "<?xml version=\"1.0\" standalone=\"no\"?>\n\
+<svg version=\"1.0\" xmlns=\"http://www.w3.org/2000/svg\" width=\"1pt\" height=\"1pt\" viewBox=\"0 0 10 10\">\n\
+<g transform=\"translate(0,10) scale(1,-1)\" fill=\"#000000\" stroke=\"none\">\n\
+</g>\n</svg>\n";
+
 const TWO_PAGES: &[u8] = b"P1 1 1 1\nP1 1 1 0\n";
+
+/// The words, with the name of a file at their end, the file's name, and its pages' documents.
+const NAMES: &[(&str, &str, &[(&str, &str)])] = &[
+    (
+        "-b points -t 0 -o out.svg scan.pbm",
+        "scan.pbm",
+        &[("out.svg", PIXEL), ("out-2.svg", NONE)],
+    ),
+    (
+        "-b points -t 0 scan.pbm",
+        "scan.pbm",
+        &[("scan.points", PIXEL), ("scan-2.points", NONE)],
+    ),
+    (
+        "-b points -t 0 a.b/c",
+        "a.b/c",
+        &[("a.b/c.points", PIXEL), ("a.b/c-2.points", NONE)],
+    ),
+    (
+        "-b points -t 0 ..",
+        "..",
+        &[("..points", PIXEL), (".-2.points", NONE)],
+    ),
+    (
+        "-b points -t 0 -o .o x",
+        "x",
+        &[(".o", PIXEL), (".o-2", NONE)],
+    ),
+    ("-b points -t 0 -o - x", "x", &[("-", PIXEL), ("-", NONE)]),
+];
 
 #[test]
 fn names_of_documents(rt: HostRuntime) -> Result<(), Fail> {
-    let table: [(&str, &str, &str, &str); 6] = [
-        (
-            "-b points -t 0 -o out.svg",
-            "scan.pbm",
-            "out.svg",
-            "out-2.svg",
-        ),
-        ("-b points -t 0", "scan.pbm", "scan.points", "scan-2.points"),
-        ("-b points -t 0", "a.b/c", "a.b/c.points", "a.b/c-2.points"),
-        ("-b points -t 0", "..", "..points", ".-2.points"),
-        ("-b points -t 0 -o .o", "x", ".o", ".o-2"),
-        ("-b points -t 0 -o -", "x", "-", "-"),
-    ];
-    for (options, file, first, second) in table {
-        let words = format!(in rt.alloc(); "{options} {file}")?;
-        let done = Case::over(&words, file, TWO_PAGES).run(&rt, rt.alloc())?;
-        expect_named(&rt, &done, 0, &[(first, PIXEL), (second, NONE)], "");
+    for (words, name, documents) in NAMES {
+        Case {
+            words,
+            name,
+            input: TWO_PAGES,
+            documents,
+            ..PLAIN
+        }
+        .check(&rt, rt.alloc())?;
     }
     Ok(())
 }
 
-#[test]
-fn names_of_drawings(rt: HostRuntime) -> Result<(), Fail> {
-    let table = [
-        ("-s -o out.svg scan.pbm", "out.svg", "out-2.svg"),
-        ("-s scan.pbm", "scan.svg", "scan-2.svg"),
-    ];
-    for (words, first, second) in table {
-        let done = Case::over(words, "scan.pbm", TWO_PAGES).run(&rt, rt.alloc())?;
-        assert!(rt; done.status == 0 && done.outs.count() == 2);
-        let names = (done.outs.name(0), done.outs.name(1));
-        let whole = (done.outs.whole(0), done.outs.whole(1));
-        assert_eq!(rt;
-            (names, whole),
-            ((first.as_bytes(), second.as_bytes()), (true, true))
-        );
-    }
-    Ok(())
-}
+const RUNS: &[Case] = &[
+    // Drawings, whose pixel is a speckle.
+    Case {
+        words: "-s -o out.svg scan.pbm",
+        name: "scan.pbm",
+        input: TWO_PAGES,
+        documents: &[("out.svg", NO_OUTLINE), ("out-2.svg", NO_OUTLINE)],
+        ..PLAIN
+    },
+    Case {
+        words: "-s scan.pbm",
+        name: "scan.pbm",
+        input: TWO_PAGES,
+        documents: &[("scan.svg", NO_OUTLINE), ("scan-2.svg", NO_OUTLINE)],
+        ..PLAIN
+    },
+    // Documents that would have one name are numbered on.
+    Case {
+        words: "-b points -t 0 a.pbm a.pgm",
+        name: "a.pbm",
+        input: TWO_PAGES,
+        other: Some(("a.pgm", b"P1 1 1 1\n")),
+        documents: &[
+            ("a.points", PIXEL),
+            ("a-2.points", NONE),
+            ("a-3.points", PIXEL),
+        ],
+        ..PLAIN
+    },
+    // Files are taken in the words' order.
+    Case {
+        words: "-b points -t 0 b.pbm a.pbm",
+        name: "a.pbm",
+        input: b"P1 1 1 1\n",
+        other: Some(("b.pbm", b"P1 1 1 0\nx")),
+        documents: &[("b.points", NONE), ("a.points", PIXEL)],
+        said: "potrace: b.pbm: trailing bytes after page 1\n",
+        ..PLAIN
+    },
+    // Batches go over the border of the files: of one worker the first one is a page of each file.
+    Case {
+        words: "-b points -t 0 b.pbm a.pbm",
+        name: "b.pbm",
+        input: b"P1 1 1 1\nxyz",
+        other: Some(("a.pbm", b"P1 1 1 1\nP1 1 1 1\n")),
+        documents: &[
+            ("b.points", PIXEL),
+            ("a.points", PIXEL),
+            ("a-2.points", PIXEL),
+        ],
+        said: "potrace: b.pbm: trailing bytes after page 1\n",
+        ..PLAIN
+    },
+    // A second file that isn't there, can't be opened, can't be read and is refused.
+    Case {
+        words: "-b points a.pbm b.pbm",
+        name: "a.pbm",
+        input: b"P1 1 1 1\n",
+        status: 3,
+        documents: &[("a.points", NONE)],
+        said: "potrace: b.pbm: cannot be opened\n",
+        ..PLAIN
+    },
+    Case {
+        words: "-b points -t 0 a.pbm b.pbm",
+        name: "a.pbm",
+        input: b"P1 1 1 1\n",
+        other: Some(("b.pbm", b"P1 1 1 1\n")),
+        unread: Some(InCall::Open(2)),
+        status: 3,
+        documents: &[("a.points", PIXEL)],
+        said: "potrace: b.pbm: cannot be opened\n",
+        ..PLAIN
+    },
+    Case {
+        words: "-b points -t 0 a.pbm b.pbm",
+        name: "a.pbm",
+        input: b"P1 1 1 1\n",
+        other: Some(("b.pbm", b"P1 1 1 1\n")),
+        unread: Some(InCall::Read(3)),
+        status: 3,
+        documents: &[("a.points", PIXEL)],
+        said: "potrace: b.pbm: page 1: read fault\n",
+        ..PLAIN
+    },
+    Case {
+        words: "-b points b.pbm a.pbm",
+        name: "a.pbm",
+        input: b"P1 1 1 1\n",
+        other: Some(("b.pbm", b"P1 1 1 1\nP1 1 1 x")),
+        status: 2,
+        documents: &[("b.points", NONE)],
+        said: "potrace: b.pbm: page 2: bad raster\n",
+        ..PLAIN
+    },
+    // Help and the version.
+    Case {
+        words: "-h",
+        documents: &[(
+            "-",
+            "usage: potrace [options] [file...]\n\
+options are those of the potrace manual page, see 01 section 9\n",
+        )],
+        ..PLAIN
+    },
+    Case {
+        words: "-v",
+        documents: &[("-", "potrace, integer profile 1\n")],
+        ..PLAIN
+    },
+    Case {
+        words: "-v -t x",
+        documents: &[("-", "potrace, integer profile 1\n")],
+        ..PLAIN
+    },
+    // Made-up pages.
+    Case {
+        words: "--demo 3",
+        documents: &[(
+            "-",
+            "paths 42 segments 198 curves 197 bytes 6968\n\
+paths 42 segments 208 curves 202 bytes 7067\n\
+paths 36 segments 229 curves 217 bytes 7287\n",
+        )],
+        ..PLAIN
+    },
+];
 
-/// A run over two files, which says so when it opens or reads one of them in vain.
-fn run_both<'a, R: Threads + Sync>(
-    rt: &R,
-    alloc: Global,
-    words: &'a str,
-    files: [(&'a str, &'a [u8]); 2],
-    unread: &'a [InCall],
-) -> Result<Done, Fail> {
-    let [(name, input), other] = files;
-    let mut case = Case::over(words, name, input);
-    case.other = Some(other);
-    case.unread = unread;
-    case.run(rt, alloc)
-}
-
 #[test]
-fn documents_of_two_files(rt: HostRuntime) -> Result<(), Fail> {
-    let words = "-b points -t 0 a.pbm a.pgm";
-    let files: [(&str, &[u8]); 2] = [("a.pbm", TWO_PAGES), ("a.pgm", b"P1 1 1 1\n")];
-    let done = run_both(&rt, rt.alloc(), words, files, &[])?;
-    let wanted = [
-        ("a.points", PIXEL),
-        ("a-2.points", NONE),
-        ("a-3.points", PIXEL),
-    ];
-    expect_named(&rt, &done, 0, &wanted, "");
-    let words = "-b points -t 0 b.pbm a.pbm";
-    let files: [(&str, &[u8]); 2] = [("a.pbm", b"P1 1 1 1\n"), ("b.pbm", b"P1 1 1 0\nx")];
-    let done = run_both(&rt, rt.alloc(), words, files, &[])?;
-    let note = "potrace: b.pbm: trailing bytes after page 1\n";
-    expect_named(
-        &rt,
-        &done,
-        0,
-        &[("b.points", NONE), ("a.points", PIXEL)],
-        note,
-    );
-    Ok(())
-}
-
-#[test]
-fn a_file_that_is_not_opened(rt: HostRuntime) -> Result<(), Fail> {
-    let words = "-b points -t 0 a.pbm b.pbm";
-    let files: [(&str, &[u8]); 2] = [("a.pbm", b"P1 1 1 1\n"), ("b.pbm", b"P1 1 1 1\n")];
-    let done = run_both(&rt, rt.alloc(), words, files, &[InCall::Open(2)])?;
-    let said = "potrace: b.pbm: cannot be opened\n";
-    expect_named(&rt, &done, 3, &[("a.points", PIXEL)], said);
-    Ok(())
-}
-
-#[test]
-fn a_file_that_is_not_read(rt: HostRuntime) -> Result<(), Fail> {
-    let words = "-b points -t 0 a.pbm b.pbm";
-    let files: [(&str, &[u8]); 2] = [("a.pbm", b"P1 1 1 1\n"), ("b.pbm", b"P1 1 1 1\n")];
-    let done = run_both(&rt, rt.alloc(), words, files, &[InCall::Read(3)])?;
-    let said = "potrace: b.pbm: page 1: read fault\n";
-    expect_named(&rt, &done, 3, &[("a.points", PIXEL)], said);
-    Ok(())
-}
-
-#[test]
-fn files_that_are_missing_or_refused(rt: HostRuntime) -> Result<(), Fail> {
-    let done = Case::over("-b points a.pbm b.pbm", "a.pbm", b"P1 1 1 1\n").run(&rt, rt.alloc())?;
-    let said = "potrace: b.pbm: cannot be opened\n";
-    expect_named(&rt, &done, 3, &[("a.points", NONE)], said);
-    let words = "-b points b.pbm a.pbm";
-    let files: [(&str, &[u8]); 2] = [("a.pbm", b"P1 1 1 1\n"), ("b.pbm", b"P1 1 1 1\nP1 1 1 x")];
-    let done = run_both(&rt, rt.alloc(), words, files, &[])?;
-    let said = "potrace: b.pbm: page 2: bad raster\n";
-    expect_named(&rt, &done, 2, &[("b.points", NONE)], said);
-    Ok(())
-}
-
-#[test]
-fn the_fault_of_an_output_names_the_document(rt: HostRuntime) -> Result<(), Fail> {
-    let mut case = Case::over("-b points -t 0 a.pbm", "a.pbm", TWO_PAGES);
-    case.unwritten = &[OutCall::Begin(2)];
-    let done = case.run(&rt, rt.alloc())?;
-    let said = "potrace: a-2.points: write fault\n";
-    expect_named(&rt, &done, 4, &[("a.points", PIXEL)], said);
-    Ok(())
-}
-
-#[test]
-fn a_document_that_is_cut_off(rt: HostRuntime) -> Result<(), Fail> {
-    let mut case = Case::new("-", b"P4 8 8\n\xff\xff\xff\xff\xff\xff\xff\xff");
-    case.most_written = 16;
-    case.unwritten = &[OutCall::Write(3)];
-    let done = case.run(&rt, rt.alloc())?;
-    let said = b"potrace: -: write fault\n".as_slice();
-    assert_eq!(rt;
-        (done.status, done.errs.text(), done.outs.count()),
-        (4, said, 1)
-    );
-    assert!(rt; done.outs.count() == 1);
-    let front = b"%!PS-Adobe-3.0 EPSF-3.0\n%%Boundi".as_slice();
-    assert_eq!(rt; (done.outs.text(0), done.outs.whole(0)), (front, false));
-    Ok(())
-}
-
-#[test]
-fn help_and_version(rt: HostRuntime) -> Result<(), Fail> {
-    let help =
-        "usage: potrace [options] [file...]\noptions are those of the potrace manual page, see 01 section 9\n";
-    let table = [
-        ("-h", help),
-        ("-v", "potrace, integer profile 1\n"),
-        ("-v -t x", "potrace, integer profile 1\n"),
-    ];
-    for (words, text) in table {
-        let done = Case::new(words, b"").run(&rt, rt.alloc())?;
-        expect(&rt, &done, 0, &[text], "");
-    }
-    Ok(())
+fn documents_of_files(rt: HostRuntime) -> Result<(), Fail> {
+    check_all(&rt, rt.alloc(), RUNS)
 }

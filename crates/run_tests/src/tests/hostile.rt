@@ -1,279 +1,311 @@
 //! Each call of the outside fails in turn, in a run over two files of two pages, with one byte a read and 16
 //! bytes a write. What is to come is worked out from the files' bytes and the documents' texts.
 
-use crate::tests::cases::{Case, Done};
+use crate::tests::cases::{Case, PLAIN, check_all};
 use pt_base::mem_inputs::InCall;
-use pt_base::mem_outputs::{MemOutputs, OutCall};
-use std::alloc::Global;
-use std::process::Abort;
+use pt_base::mem_outputs::OutCall;
 use std::test::Fail;
-use std::thread::Threads;
 
-const BY_ONE: &str = "-b points -t 0 --workers 1 a.pbm b.pbm";
+/// The first file's pages end behind 8 and 17 bytes; that the rest is no page is decided behind 20. The second
+/// one's end behind 9 and 18 bytes; that no page follows is decided by the end, behind 19.
+const BOTH: Case<'static> = Case {
+    words: "-b points -t 0 a.pbm b.pbm",
+    name: "a.pbm",
+    input: b"P1 1 1 1\nP1 1 1 0\nxyz",
+    other: Some(("b.pbm", b"P1 2 1 01\nP1 1 1 1\n")),
+    most_read: 1,
+    most_written: 16,
+    ..PLAIN
+};
 
-const BY_FOUR: &str = "-b points -t 0 --workers 4 a.pbm b.pbm";
+const A1: (&str, &str) = ("a.points", "points 1 1 1\n+ 1 0,1 0,0 1,0 1,1\n");
 
-/// Pages that end behind 8 and 17 bytes; that the rest is no page is decided behind 20.
-const FIRST: &[u8] = b"P1 1 1 1\nP1 1 1 0\nxyz";
+const A2: (&str, &str) = ("a-2.points", "points 1 1 0\n");
 
-/// Pages that end behind 9 and 18 bytes; that no page follows is decided by the end, behind 19.
-const SECOND: &[u8] = b"P1 2 1 01\nP1 1 1 1\n";
+const B1: (&str, &str) = ("b.points", "points 2 1 1\n+ 1 1,1 1,0 2,0 2,1\n");
+
+const B2: (&str, &str) = ("b-2.points", "points 1 1 1\n+ 1 0,1 0,0 1,0 1,1\n");
 
 const NOTE: &str = "potrace: a.pbm: trailing bytes after page 2\n";
 
-const DOCUMENTS: [(&str, &str); 4] = [
-    ("a.points", "points 1 1 1\n+ 1 0,1 0,0 1,0 1,1\n"),
-    ("a-2.points", "points 1 1 0\n"),
-    ("b.points", "points 2 1 1\n+ 1 1,1 1,0 2,0 2,1\n"),
-    ("b-2.points", "points 1 1 1\n+ 1 0,1 0,0 1,0 1,1\n"),
+const A1_FAULT: &str = "potrace: a.points: write fault\n";
+
+const A2_FAULT: &str = "potrace: a-2.points: write fault\n";
+
+const B1_FAULT: &str =
+    "potrace: a.pbm: trailing bytes after page 2\npotrace: b.points: write fault\n";
+
+const B2_FAULT: &str =
+    "potrace: a.pbm: trailing bytes after page 2\npotrace: b-2.points: write fault\n";
+
+/// From which read on and up to which, of 20 in each file, one that fails makes the run end so: with these whole
+/// documents and this message.
+const READS: &[(u64, u64, &[(&str, &str)], &str)] = &[
+    (1, 8, &[], "potrace: a.pbm: page 1: read fault\n"),
+    (9, 17, &[A1], "potrace: a.pbm: page 2: read fault\n"),
+    (18, 20, &[A1, A2], "potrace: a.pbm: page 3: read fault\n"),
+    (
+        21,
+        29,
+        &[A1, A2],
+        "potrace: a.pbm: trailing bytes after page 2\npotrace: b.pbm: page 1: read fault\n",
+    ),
+    (
+        30,
+        38,
+        &[A1, A2, B1],
+        "potrace: a.pbm: trailing bytes after page 2\npotrace: b.pbm: page 2: read fault\n",
+    ),
+    (
+        39,
+        40,
+        &[A1, A2, B1, B2],
+        "potrace: a.pbm: trailing bytes after page 2\npotrace: b.pbm: page 3: read fault\n",
+    ),
 ];
-
-/// What a run is to have done: how many documents are whole, how many bytes of the next one there are where it
-/// is begun, and what was said.
-#[derive(Drop)]
-struct Wanted {
-    status: u8,
-    whole: usize,
-    open: Option<usize>,
-    said: String,
-}
-
-/// The run where these calls fail.
-fn failing<'a, R: Threads + Sync>(
-    rt: &R,
-    alloc: Global,
-    words: &'a str,
-    unread: &'a [InCall],
-    unwritten: &'a [OutCall],
-) -> Result<Done, Fail> {
-    let mut case = Case::over(words, "a.pbm", FIRST);
-    case.other = Some(("b.pbm", SECOND));
-    case.most_read = 1;
-    case.most_written = 16;
-    case.unread = unread;
-    case.unwritten = unwritten;
-    case.run(rt, alloc)
-}
-
-/// The run has done what is wanted.
-fn expect_wanted(rt: &impl Abort, done: &Done, wanted: &Wanted) {
-    let begun = wanted
-        .whole
-        .saturating_add(usize::from(wanted.open.is_some()));
-    assert_eq!(rt;
-        (done.errs.text(), done.status, done.outs.count() as usize),
-        (wanted.said.as_bytes(), wanted.status, begun)
-    );
-    for (i, (name, text)) in DOCUMENTS.iter().enumerate() {
-        if i < done.outs.count() as usize {
-            expect_document(rt, &done.outs, i as u32, name, text, wanted);
-        }
-    }
-}
-
-/// The document is whole, or its front is there.
-fn expect_document(
-    rt: &impl Abort,
-    outs: &MemOutputs,
-    i: u32,
-    name: &str,
-    text: &str,
-    wanted: &Wanted,
-) {
-    if i < outs.count() {
-        let whole = (i as usize) < wanted.whole;
-        let length = match wanted.open {
-            Some(length) if !whole => length,
-            _ => text.len(),
-        };
-        let text = text.as_bytes().get(..length).unwrap_or(text.as_bytes());
-        let found = (outs.name(i), outs.text(i), outs.whole(i));
-        assert_eq!(rt; found, (name.as_bytes(), text, whole), "document {i}");
-    }
-}
-
-/// What is to come where the n-th opening fails.
-fn wanted_unopened(alloc: Global, n: usize) -> Result<Wanted, Fail> {
-    let (status, whole, said) = match n {
-        1 => (
-            3,
-            0,
-            format!(in alloc; "potrace: a.pbm: cannot be opened\n")?,
-        ),
-        2 => (
-            3,
-            2,
-            format!(in alloc; "{NOTE}potrace: b.pbm: cannot be opened\n")?,
-        ),
-        _ => (0, 4, String::from_str(alloc, NOTE)?),
-    };
-    Ok(Wanted {
-        status,
-        whole,
-        open: None,
-        said,
-    })
-}
-
-/// What is to come where the n-th read fails, of 20 in each file.
-fn wanted_unread(alloc: Global, n: usize) -> Result<Wanted, Fail> {
-    let (note, name, before, taken, ends) = match n {
-        1..=20 => ("", "a.pbm", 0, n - 1, [8, 17]),
-        21..=40 => (NOTE, "b.pbm", 2, n - 21, [9, 18]),
-        _ => {
-            return Ok(Wanted {
-                status: 0,
-                whole: 4,
-                open: None,
-                said: String::from_str(alloc, NOTE)?,
-            });
-        }
-    };
-    let pages = ends.iter().filter(|end| **end <= taken).count();
-    let page = pages.saturating_add(1);
-    Ok(Wanted {
-        status: 3,
-        whole: pages.saturating_add(before),
-        open: None,
-        said: format!(in alloc; "{note}potrace: {name}: page {page}: read fault\n")?,
-    })
-}
-
-/// What is to come where so many documents are whole and the next one, if there is one, is cut off.
-fn wanted_unwritten(alloc: Global, whole: usize, open: Option<usize>) -> Result<Wanted, Fail> {
-    let note = if whole >= 2 { NOTE } else { "" };
-    match DOCUMENTS.get(whole) {
-        Some((name, _)) => Ok(Wanted {
-            status: 4,
-            whole,
-            open,
-            said: format!(in alloc; "{note}potrace: {name}: write fault\n")?,
-        }),
-        None => Ok(Wanted {
-            status: 0,
-            whole,
-            open: None,
-            said: String::from_str(alloc, NOTE)?,
-        }),
-    }
-}
-
-/// How many documents are whole before the n-th write of 16 bytes, and how many bytes of the next one there are.
-fn place_of_write(n: usize) -> (usize, usize) {
-    let mut left = n;
-    for (whole, (_, text)) in DOCUMENTS.iter().enumerate() {
-        let writes = text.len().div_ceil(16);
-        if left <= writes {
-            return (whole, left.saturating_sub(1).saturating_mul(16));
-        }
-        left -= writes;
-    }
-    (DOCUMENTS.len(), 0)
-}
-
-#[test]
-fn each_opening_fails(rt: HostRuntime) -> Result<(), Fail> {
-    for n in 1..=3 {
-        let wanted = wanted_unopened(rt.alloc(), n)?;
-        for words in [BY_ONE, BY_FOUR] {
-            let done = failing(&rt, rt.alloc(), words, &[InCall::Open(n as u64)], &[])?;
-            expect_wanted(&rt, &done, &wanted);
-        }
-    }
-    Ok(())
-}
 
 #[test]
 fn each_read_fails(rt: HostRuntime) -> Result<(), Fail> {
-    for n in 1..=41 {
-        let wanted = wanted_unread(rt.alloc(), n)?;
-        for words in [BY_ONE, BY_FOUR] {
-            let done = failing(&rt, rt.alloc(), words, &[InCall::Read(n as u64)], &[])?;
-            expect_wanted(&rt, &done, &wanted);
+    for (first, last, documents, said) in READS {
+        for n in *first..=*last {
+            Case {
+                unread: Some(InCall::Read(n)),
+                status: 3,
+                documents,
+                said,
+                ..BOTH
+            }
+            .check_by_all(&rt, rt.alloc())?;
         }
     }
     Ok(())
 }
 
+/// A call that fails; the documents, of which the last one isn't whole where the call was one that writes or ends it;
+/// and the message.
+type Fault = (
+    OutCall,
+    &'static [(&'static str, &'static str)],
+    bool,
+    &'static str,
+);
+
+const WRITES: &[Fault] = &[
+    (OutCall::Begin(1), &[], false, A1_FAULT),
+    (OutCall::Begin(2), &[A1], false, A2_FAULT),
+    (OutCall::Begin(3), &[A1, A2], false, B1_FAULT),
+    (OutCall::Begin(4), &[A1, A2, B1], false, B2_FAULT),
+    (OutCall::Write(1), &[("a.points", "")], true, A1_FAULT),
+    (
+        OutCall::Write(2),
+        &[("a.points", "points 1 1 1\n+ 1")],
+        true,
+        A1_FAULT,
+    ),
+    (
+        OutCall::Write(3),
+        &[("a.points", "points 1 1 1\n+ 1 0,1 0,0 1,0 1,1")],
+        true,
+        A1_FAULT,
+    ),
+    (OutCall::Write(4), &[A1, ("a-2.points", "")], true, A2_FAULT),
+    (
+        OutCall::Write(5),
+        &[A1, A2, ("b.points", "")],
+        true,
+        B1_FAULT,
+    ),
+    (
+        OutCall::Write(6),
+        &[A1, A2, ("b.points", "points 2 1 1\n+ 1")],
+        true,
+        B1_FAULT,
+    ),
+    (
+        OutCall::Write(7),
+        &[A1, A2, ("b.points", "points 2 1 1\n+ 1 1,1 1,0 2,0 2,1")],
+        true,
+        B1_FAULT,
+    ),
+    (
+        OutCall::Write(8),
+        &[A1, A2, B1, ("b-2.points", "")],
+        true,
+        B2_FAULT,
+    ),
+    (
+        OutCall::Write(9),
+        &[A1, A2, B1, ("b-2.points", "points 1 1 1\n+ 1")],
+        true,
+        B2_FAULT,
+    ),
+    (
+        OutCall::Write(10),
+        &[
+            A1,
+            A2,
+            B1,
+            ("b-2.points", "points 1 1 1\n+ 1 0,1 0,0 1,0 1,1"),
+        ],
+        true,
+        B2_FAULT,
+    ),
+    (OutCall::End(1), &[A1], true, A1_FAULT),
+    (OutCall::End(2), &[A1, A2], true, A2_FAULT),
+    (OutCall::End(3), &[A1, A2, B1], true, B1_FAULT),
+    (OutCall::End(4), &[A1, A2, B1, B2], true, B2_FAULT),
+];
+
 #[test]
-fn each_beginning_and_each_end_fails(rt: HostRuntime) -> Result<(), Fail> {
-    for n in 1..=5 {
-        let whole = n - 1;
-        let text = DOCUMENTS.get(whole).map(|document| document.1.len());
-        for (call, open) in [
-            (OutCall::Begin(n as u64), None),
-            (OutCall::End(n as u64), text),
-        ] {
-            let wanted = wanted_unwritten(rt.alloc(), whole, open)?;
-            let done = failing(&rt, rt.alloc(), BY_FOUR, &[], &[call])?;
-            expect_wanted(&rt, &done, &wanted);
+fn each_beginning_write_and_end_fails(rt: HostRuntime) -> Result<(), Fail> {
+    for (call, documents, cut_off, said) in WRITES {
+        Case {
+            unwritten: Some(*call),
+            status: 4,
+            documents,
+            cut_off: *cut_off,
+            said,
+            ..BOTH
         }
+        .check_by_all(&rt, rt.alloc())?;
     }
     Ok(())
 }
+
+/// A second file that isn't there, and messages that are written in pieces.
+const MISSING: Case<'static> = Case {
+    words: "-b points -t 0 a.pbm c.pbm",
+    status: 3,
+    documents: &[A1, A2],
+    ..BOTH
+};
+
+const RUNS: &[Case] = &[
+    // The openings fail.
+    Case {
+        unread: Some(InCall::Open(1)),
+        status: 3,
+        said: "potrace: a.pbm: cannot be opened\n",
+        ..BOTH
+    },
+    Case {
+        unread: Some(InCall::Open(2)),
+        status: 3,
+        documents: &[A1, A2],
+        said: "potrace: a.pbm: trailing bytes after page 2\npotrace: b.pbm: cannot be opened\n",
+        ..BOTH
+    },
+    // There is no further call of any kind.
+    Case {
+        unread: Some(InCall::Open(3)),
+        documents: &[A1, A2, B1, B2],
+        said: NOTE,
+        ..BOTH
+    },
+    Case {
+        unread: Some(InCall::Read(41)),
+        documents: &[A1, A2, B1, B2],
+        said: NOTE,
+        ..BOTH
+    },
+    Case {
+        unwritten: Some(OutCall::Begin(5)),
+        documents: &[A1, A2, B1, B2],
+        said: NOTE,
+        ..BOTH
+    },
+    Case {
+        unwritten: Some(OutCall::Write(11)),
+        documents: &[A1, A2, B1, B2],
+        said: NOTE,
+        ..BOTH
+    },
+    Case {
+        unwritten: Some(OutCall::End(5)),
+        documents: &[A1, A2, B1, B2],
+        said: NOTE,
+        ..BOTH
+    },
+    Case {
+        unsaid: Some(7),
+        documents: &[A1, A2, B1, B2],
+        said: NOTE,
+        ..BOTH
+    },
+    // There is room for each byte of the names and the texts, and then for one less.
+    Case {
+        room: 148,
+        documents: &[A1, A2, B1, B2],
+        said: NOTE,
+        ..BOTH
+    },
+    Case {
+        room: 147,
+        status: 4,
+        documents: &[
+            A1,
+            A2,
+            B1,
+            ("b-2.points", "points 1 1 1\n+ 1 0,1 0,0 1,0 1,1"),
+        ],
+        cut_off: true,
+        said: B2_FAULT,
+        ..BOTH
+    },
+    // A write of a message fails, and then the rest of that message isn't written, but the other one is.
+    Case {
+        unsaid: Some(1),
+        said: "potrace: c.pbm: cannot be opened\n",
+        ..MISSING
+    },
+    Case {
+        unsaid: Some(2),
+        said: "potrace: potrace: c.pbm: cannot be opened\n",
+        ..MISSING
+    },
+    Case {
+        unsaid: Some(3),
+        said: "potrace: a.pbmpotrace: c.pbm: cannot be opened\n",
+        ..MISSING
+    },
+    Case {
+        unsaid: Some(4),
+        said: "potrace: a.pbm: trailing bytespotrace: c.pbm: cannot be opened\n",
+        ..MISSING
+    },
+    Case {
+        unsaid: Some(5),
+        said: "potrace: a.pbm: trailing bytes after page potrace: c.pbm: cannot be opened\n",
+        ..MISSING
+    },
+    Case {
+        unsaid: Some(6),
+        said: "potrace: a.pbm: trailing bytes after page 2potrace: c.pbm: cannot be opened\n",
+        ..MISSING
+    },
+    Case {
+        unsaid: Some(7),
+        said: "potrace: a.pbm: trailing bytes after page 2\n",
+        ..MISSING
+    },
+    Case {
+        unsaid: Some(8),
+        said: "potrace: a.pbm: trailing bytes after page 2\npotrace: ",
+        ..MISSING
+    },
+    Case {
+        unsaid: Some(9),
+        said: "potrace: a.pbm: trailing bytes after page 2\npotrace: c.pbm",
+        ..MISSING
+    },
+    Case {
+        unsaid: Some(10),
+        said: "potrace: a.pbm: trailing bytes after page 2\npotrace: c.pbm: cannot be open",
+        ..MISSING
+    },
+];
 
 #[test]
-fn each_write_fails(rt: HostRuntime) -> Result<(), Fail> {
-    for n in 1..=11 {
-        let (whole, written) = place_of_write(n);
-        let wanted = wanted_unwritten(rt.alloc(), whole, Some(written))?;
-        for words in [BY_ONE, BY_FOUR] {
-            let done = failing(&rt, rt.alloc(), words, &[], &[OutCall::Write(n as u64)])?;
-            expect_wanted(&rt, &done, &wanted);
-        }
-    }
-    Ok(())
-}
-
-/// How many bytes the names and the texts of all documents have.
-fn bytes_of_all() -> u32 {
-    let mut bytes: u32 = 0;
-    for (name, text) in DOCUMENTS {
-        for part in [name, text] {
-            bytes = bytes.saturating_add(u32::try_from(part.len()).unwrap_or(0));
-        }
-    }
-    bytes
-}
-
-// There is room for each byte of the names and the texts, and then for one less.
-#[test]
-fn a_room_that_is_a_byte_too_small(rt: HostRuntime) -> Result<(), Fail> {
-    let all = bytes_of_all();
-    let last = DOCUMENTS[3].1.len();
-    for (room, whole, open) in [
-        (all, 4, None),
-        (all.saturating_sub(1), 3, Some(last.saturating_sub(1))),
-    ] {
-        let mut case = Case::over(BY_FOUR, "a.pbm", FIRST);
-        case.other = Some(("b.pbm", SECOND));
-        case.room = room;
-        let done = case.run(&rt, rt.alloc())?;
-        expect_wanted(&rt, &done, &wanted_unwritten(rt.alloc(), whole, open)?);
-    }
-    Ok(())
-}
-
-/// Whether the text is a front of the one message and then the other, or the one and then a front of the other.
-fn is_cut_in_one(text: &[u8], one: &[u8], other: &[u8]) -> bool {
-    match (text.strip_suffix(other), text.strip_prefix(one)) {
-        (Some(front), _) => one.starts_with(front),
-        (None, Some(front)) => other.starts_with(front),
-        (None, None) => false,
-    }
-}
-
-#[test]
-fn each_write_of_a_message_fails(rt: HostRuntime) -> Result<(), Fail> {
-    let missing = b"potrace: c.pbm: cannot be opened\n".as_slice();
-    for n in 1..=10 {
-        let unsaid = [n];
-        let mut case = Case::over("-b points -t 0 a.pbm c.pbm", "a.pbm", FIRST);
-        case.most_written = 16;
-        case.unsaid = &unsaid;
-        let done = case.run(&rt, rt.alloc())?;
-        let cut = is_cut_in_one(done.errs.text(), NOTE.as_bytes(), missing);
-        assert_eq!(rt; (done.status, done.outs.count(), cut), (3, 2, true), "{n}");
-    }
-    Ok(())
+fn openings_room_and_messages(rt: HostRuntime) -> Result<(), Fail> {
+    check_all(&rt, rt.alloc(), RUNS)
 }

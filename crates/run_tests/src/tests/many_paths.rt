@@ -1,6 +1,6 @@
 //! Pages whose paths are as many, or as deep in one another, as such pages can have.
 
-use crate::tests::cases::{Case, expect};
+use crate::tests::cases::{Case, PLAIN};
 use std::alloc::Global;
 use std::test::Fail;
 
@@ -33,10 +33,14 @@ fn board_text(alloc: Global) -> Result<String, Fail> {
 fn a_board_of_single_pixels(rt: HostRuntime) -> Result<(), Fail> {
     let input = board(rt.alloc())?;
     let text = board_text(rt.alloc())?;
-    let mut case = Case::new("-b points -z left -t 0", &input);
-    case.room = 5_000_000;
-    expect(&rt, &case.run(&rt, rt.alloc())?, 0, &[&text], "");
-    Ok(())
+    Case {
+        words: "-b points -z left -t 0",
+        input: &input,
+        room: 5_000_000,
+        documents: &[("-", &text)],
+        ..PLAIN
+    }
+    .check(&rt, rt.alloc())
 }
 
 /// A plain page of 255 by 255 pixels: squares around the middle pixel, which is white, black and white in turn.
@@ -67,10 +71,11 @@ fn nest_text(alloc: Global) -> Result<String, Fail> {
 fn a_nest_of_squares(rt: HostRuntime) -> Result<(), Fail> {
     let input = nest(rt.alloc())?;
     let text = nest_text(rt.alloc())?;
-    for workers in [1, 2, 7, 64] {
-        let words = format!(in rt.alloc(); "-b polygons -t 0 --workers {workers}")?;
-        let done = Case::new(&words, &input).run(&rt, rt.alloc())?;
-        expect(&rt, &done, 0, &[&text], "");
+    Case {
+        words: "-b polygons -t 0",
+        input: &input,
+        documents: &[("-", &text)],
+        ..PLAIN
     }
-    Ok(())
+    .check_by_all(&rt, rt.alloc())
 }

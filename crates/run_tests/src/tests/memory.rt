@@ -2,9 +2,8 @@
 //!
 //! With memory at hand this is met as it stands. It is meant to be run with one growth refused, whichever it is.
 
-use crate::tests::cases::{Case, Done};
+use crate::tests::cases::{Case, Done, PLAIN, document_at};
 use pt_base::gate::NoGate;
-use pt_base::mem_outputs::MemOutputs;
 use std::test::Fail;
 
 const PIXEL: &[u8] = b"P1 1 1 1\n";
@@ -36,7 +35,7 @@ const OUT_OF_MEMORY: &[u8] = b"potrace: out of memory\n";
 /// A document's name and its text, or a message without a name.
 type Item = (&'static str, &'static str);
 
-const TWO_FILES: [Item; 5] = [
+const TWO_FILES: &[Item] = &[
     ("a.points", POINTS),
     ("a-2.points", "points 1 1 0\n"),
     ("", "potrace: a.pbm: trailing bytes after page 2\n"),
@@ -44,26 +43,20 @@ const TWO_FILES: [Item; 5] = [
     ("b-2.points", POINTS),
 ];
 
-/// Whether this document is whole, and has this name and this text.
-fn is_whole(outs: &MemOutputs, i: u32, name: &str, text: &str) -> bool {
-    i < outs.count()
-        && (outs.name(i), outs.text(i), outs.whole(i)) == (name.as_bytes(), text.as_bytes(), true)
-}
-
 /// What is left of the messages where the documents are just those of the items, and the items' messages came first.
 fn left_of<'a>(done: &'a Done, items: &[Item]) -> Option<&'a [u8]> {
     let mut said = done.errs.text();
-    let mut count = 0u32;
+    let mut count = 0usize;
     for (name, text) in items {
         if name.is_empty() {
             said = said.strip_prefix(text.as_bytes())?;
-        } else if is_whole(&done.outs, count, name, text) {
+        } else if document_at(&done.outs, count) == Some((name.as_bytes(), text.as_bytes(), true)) {
             count = count.saturating_add(1);
         } else {
             return None;
         }
     }
-    if count == done.outs.count() {
+    if count == done.outs.count() as usize {
         Some(said)
     } else {
         None
@@ -81,24 +74,38 @@ fn is_answer(done: &Done, items: &[Item]) -> bool {
     done.status == 0 && left_of(done, items) == Some(b"".as_slice())
 }
 
+/// Words, the file `-` or `a.pbm` and its bytes, and what the run writes and says.
+const RUNS: &[(&str, &str, &[u8], &[Item])] = &[
+    ("-b points -z left -t 0", "-", PIXEL, &[("-", POINTS)]),
+    ("-b polygons -z left -t 0", "-", PIXEL, &[("-", POLYGONS)]),
+    ("-b polygons -t 0", "-", RINGS, &[("-", RING_POLYGONS)]),
+    ("-s -t 0", "-", PIXEL, &[("-", DRAWING)]),
+    ("-b dxf -a 0 -t 0", "-", PIXEL, &[("-", POLYLINE)]),
+    ("--demo 3", "-", b"", &[("-", LINES)]),
+    (
+        "-b points -t 0 --workers 1 a.pbm b.pbm",
+        "a.pbm",
+        FIRST,
+        TWO_FILES,
+    ),
+    (
+        "-b points -t 0 --workers 4 a.pbm b.pbm",
+        "a.pbm",
+        FIRST,
+        TWO_FILES,
+    ),
+];
+
 #[test]
 fn memory_refused(rt: HostRuntime) -> Result<(), Fail> {
-    let table: [(&str, &[u8], &[Item]); 8] = [
-        ("-b points -z left -t 0", PIXEL, &[("-", POINTS)]),
-        ("-b polygons -z left -t 0", PIXEL, &[("-", POLYGONS)]),
-        ("-b polygons -t 0", RINGS, &[("-", RING_POLYGONS)]),
-        ("-s -t 0", PIXEL, &[("-", DRAWING)]),
-        ("-b dxf -a 0 -t 0", PIXEL, &[("-", POLYLINE)]),
-        ("--demo 3", b"", &[("-", LINES)]),
-        ("-b points -t 0 --workers 1 a.pbm b.pbm", FIRST, &TWO_FILES),
-        ("-b points -t 0 --workers 4 a.pbm b.pbm", FIRST, &TWO_FILES),
-    ];
-    for (words, input, items) in table {
-        let mut case = Case::over(words, "-", input);
-        if items.len() > 1 {
-            case.name = "a.pbm";
-            case.other = Some(("b.pbm", SECOND));
-        }
+    for (words, name, input, items) in RUNS {
+        let case = Case {
+            words,
+            name,
+            input,
+            other: Some(("b.pbm", SECOND)),
+            ..PLAIN
+        };
         // What the run is made of may be refused too.
         if let Ok(done) = case.done(&rt, rt.alloc(), &NoGate) {
             assert!(rt; is_answer(&done, items), "{words}");

@@ -1,297 +1,268 @@
-//! One picture in all drawings: the documents of all four are written here from the same rings.
-ghost use Rattle.std.specs.Prelude.{◌≡◌};
-ghost use Rattle.page_trace.specs.Document.{CanDraw};
+//! One picture in all drawings, with sharp corners alone and a thousand units a pixel: an outline's points are its
+//! corners and the middles of its sides, from the middle before the first corner on, in the same order in all four.
 
-use page_samples::pages::drawn;
-use page_trace::document::document;
-use pt_base::policy::Policy;
-use pt_base::settings::{Backend, Settings};
-use std::alloc::Global;
-use std::fmt::Write;
+use crate::tests::cases::{Page, check_pages};
 use std::test::Fail;
 
-/// The corners of an outline and the middles of its sides, from the middle before the first corner on, in
-/// 1/1000 pixel.
-type Ring = [(i32, i32); 8];
+// ###
+// #.#
+// ###
+const RING: &[u8] = b"P1 3 3 111 101 111\n";
 
-/// What stands round a ring's first point, round each step to the next one, and at its end.
-struct Marks {
-    place: (&'static str, &'static str),
-    step: (&'static str, &'static str),
-    end: &'static str,
-}
+const RING_SVG: &str = "<?xml version=\"1.0\" standalone=\"no\"?>\n\
+<svg version=\"1.0\" xmlns=\"http://www.w3.org/2000/svg\" width=\"3pt\" height=\"3pt\" viewBox=\"0 0 3000 3000\">\n\
+<g transform=\"translate(0,3000) scale(1,-1)\" fill=\"#000000\" stroke=\"none\">\n\
+<path fill-rule=\"evenodd\" d=\"M1500 3000 l-1500 0 l0 -1500 l0 -1500 l1500 0 l1500 0 l0 1500 l0 1500 l-1500 0 z \
+M1500 2000 l-500 0 l0 -500 l0 -500 l500 0 l500 0 l0 500 l0 500 l-500 0 z\"/>\n\
+</g>\n</svg>\n";
 
-const SVG: Marks = Marks {
-    place: ("M", ""),
-    step: (" l", ""),
-    end: " z",
-};
+const RING_EPS: &str =
+    "%!PS-Adobe-3.0 EPSF-3.0\n%%BoundingBox: 0 0 3 3\n%%EndComments\ngsave\n1 1000 div dup scale\n\
+1500 3000 moveto\n-1500 0 rlineto\n0 -1500 rlineto\n\
+0 -1500 rlineto\n1500 0 rlineto\n1500 0 rlineto\n\
+0 1500 rlineto\n0 1500 rlineto\n-1500 0 rlineto\nclosepath\n\
+1500 2000 moveto\n-500 0 rlineto\n0 -500 rlineto\n\
+0 -500 rlineto\n500 0 rlineto\n500 0 rlineto\n\
+0 500 rlineto\n0 500 rlineto\n-500 0 rlineto\nclosepath\n\
+eofill\n\
+grestore\n%%EOF\n";
 
-const EPS: Marks = Marks {
-    place: ("", " moveto\n"),
-    step: ("", " rlineto\n"),
-    end: "closepath\n",
-};
+const RING_DXF: &str = "0\nSECTION\n2\nENTITIES\n0\nPOLYLINE\n8\n0\n66\n1\n70\n1\n\
+0\nVERTEX\n8\n0\n10\n1.500\n20\n3.000\n0\nVERTEX\n8\n0\n10\n0.000\n20\n3.000\n\
+0\nVERTEX\n8\n0\n10\n0.000\n20\n1.500\n0\nVERTEX\n8\n0\n10\n0.000\n20\n0.000\n\
+0\nVERTEX\n8\n0\n10\n1.500\n20\n0.000\n0\nVERTEX\n8\n0\n10\n3.000\n20\n0.000\n\
+0\nVERTEX\n8\n0\n10\n3.000\n20\n1.500\n0\nVERTEX\n8\n0\n10\n3.000\n20\n3.000\n\
+0\nSEQEND\n0\nPOLYLINE\n8\n0\n66\n1\n70\n1\n\
+0\nVERTEX\n8\n0\n10\n1.500\n20\n2.000\n0\nVERTEX\n8\n0\n10\n1.000\n20\n2.000\n\
+0\nVERTEX\n8\n0\n10\n1.000\n20\n1.500\n0\nVERTEX\n8\n0\n10\n1.000\n20\n1.000\n\
+0\nVERTEX\n8\n0\n10\n1.500\n20\n1.000\n0\nVERTEX\n8\n0\n10\n2.000\n20\n1.000\n\
+0\nVERTEX\n8\n0\n10\n2.000\n20\n1.500\n0\nVERTEX\n8\n0\n10\n2.000\n20\n2.000\n\
+0\nSEQEND\n0\nENDSEC\n0\nEOF\n";
 
-#[test]
-fn a_ring(rt: HostRuntime) -> Result<(), Fail> {
-    let page = ["###", "#.#", "###"];
-    let shapes: [&[Ring]; 1] = [&[square(0, 0, 3, 3), square(1, 1, 2, 2)]];
-    for (backend, text) in texts(rt.alloc(), 3, 3, &shapes)? {
-        assert_eq!(rt;
-            found(rt.alloc(), &page, backend)?.as_slice(),
-            text.as_bytes()
-        );
-    }
-    Ok(())
-}
+const RING_GEOJSON: &str = "{\"type\":\"FeatureCollection\",\"features\":[\n\
+{\"type\":\"Feature\",\"properties\":{},\"geometry\":{\"type\":\"Polygon\",\"coordinates\":[\
+[[1.500,3.000],[0.000,3.000],[0.000,1.500],[0.000,0.000],[1.500,0.000],[3.000,0.000],[3.000,1.500],[3.000,3.000],[1.500,3.000]],\
+[[1.500,2.000],[2.000,2.000],[2.000,1.500],[2.000,1.000],[1.500,1.000],[1.000,1.000],[1.000,1.500],[1.000,2.000],[1.500,2.000]]]}}\n\
+]}\n";
 
-#[test]
-fn a_hole_in_a_hole(rt: HostRuntime) -> Result<(), Fail> {
-    let page = [
-        "#######", "#.....#", "#.###.#", "#.#.#.#", "#.###.#", "#.....#", "#######",
-    ];
-    let shapes: [&[Ring]; 2] = [
-        &[square(0, 0, 7, 7), square(1, 1, 6, 6)],
-        &[square(2, 2, 5, 5), square(3, 3, 4, 4)],
-    ];
-    for (backend, text) in texts(rt.alloc(), 7, 7, &shapes)? {
-        assert_eq!(rt;
-            found(rt.alloc(), &page, backend)?.as_slice(),
-            text.as_bytes()
-        );
-    }
-    Ok(())
-}
+// #######
+// #.....#
+// #.###.#
+// #.#.#.#
+// #.###.#
+// #.....#
+// #######
+const NEST: &[u8] = b"P1 7 7 1111111 1000001 1011101 1010101 1011101 1000001 1111111\n";
 
-#[test]
-fn two_shapes_in_a_hole(rt: HostRuntime) -> Result<(), Fail> {
-    let page = ["#######", "#.....#", "#.#.#.#", "#.....#", "#######"];
-    let shapes: [&[Ring]; 3] = [
-        &[square(0, 0, 7, 5), square(1, 1, 6, 4)],
-        &[square(2, 2, 3, 3)],
-        &[square(4, 2, 5, 3)],
-    ];
-    for (backend, text) in texts(rt.alloc(), 7, 5, &shapes)? {
-        assert_eq!(rt;
-            found(rt.alloc(), &page, backend)?.as_slice(),
-            text.as_bytes()
-        );
-    }
-    Ok(())
-}
+const NEST_SVG: &str = "<?xml version=\"1.0\" standalone=\"no\"?>\n\
+<svg version=\"1.0\" xmlns=\"http://www.w3.org/2000/svg\" width=\"7pt\" height=\"7pt\" viewBox=\"0 0 7000 7000\">\n\
+<g transform=\"translate(0,7000) scale(1,-1)\" fill=\"#000000\" stroke=\"none\">\n\
+<path fill-rule=\"evenodd\" d=\"M3500 7000 l-3500 0 l0 -3500 l0 -3500 l3500 0 l3500 0 l0 3500 l0 3500 l-3500 0 z \
+M3500 6000 l-2500 0 l0 -2500 l0 -2500 l2500 0 l2500 0 l0 2500 l0 2500 l-2500 0 z\"/>\n\
+<path fill-rule=\"evenodd\" d=\"M3500 5000 l-1500 0 l0 -1500 l0 -1500 l1500 0 l1500 0 l0 1500 l0 1500 l-1500 0 z \
+M3500 4000 l-500 0 l0 -500 l0 -500 l500 0 l500 0 l0 500 l0 500 l-500 0 z\"/>\n\
+</g>\n</svg>\n";
 
-/// The hole of the page below, whose corner at the lower right is cut off.
-const CUT: Ring = [
-    (2586, 4000),
-    (1000, 4000),
-    (1000, 2414),
-    (1000, 828),
-    (2188, 1227),
-    (3375, 1625),
-    (3773, 2813),
-    (4172, 4000),
+const NEST_EPS: &str =
+    "%!PS-Adobe-3.0 EPSF-3.0\n%%BoundingBox: 0 0 7 7\n%%EndComments\ngsave\n1 1000 div dup scale\n\
+3500 7000 moveto\n-3500 0 rlineto\n0 -3500 rlineto\n\
+0 -3500 rlineto\n3500 0 rlineto\n3500 0 rlineto\n\
+0 3500 rlineto\n0 3500 rlineto\n-3500 0 rlineto\nclosepath\n\
+3500 6000 moveto\n-2500 0 rlineto\n0 -2500 rlineto\n\
+0 -2500 rlineto\n2500 0 rlineto\n2500 0 rlineto\n\
+0 2500 rlineto\n0 2500 rlineto\n-2500 0 rlineto\nclosepath\n\
+eofill\n\
+3500 5000 moveto\n-1500 0 rlineto\n0 -1500 rlineto\n\
+0 -1500 rlineto\n1500 0 rlineto\n1500 0 rlineto\n\
+0 1500 rlineto\n0 1500 rlineto\n-1500 0 rlineto\nclosepath\n\
+3500 4000 moveto\n-500 0 rlineto\n0 -500 rlineto\n\
+0 -500 rlineto\n500 0 rlineto\n500 0 rlineto\n\
+0 500 rlineto\n0 500 rlineto\n-500 0 rlineto\nclosepath\n\
+eofill\n\
+grestore\n%%EOF\n";
+
+const NEST_DXF: &str = "0\nSECTION\n2\nENTITIES\n0\nPOLYLINE\n8\n0\n66\n1\n70\n1\n\
+0\nVERTEX\n8\n0\n10\n3.500\n20\n7.000\n0\nVERTEX\n8\n0\n10\n0.000\n20\n7.000\n\
+0\nVERTEX\n8\n0\n10\n0.000\n20\n3.500\n0\nVERTEX\n8\n0\n10\n0.000\n20\n0.000\n\
+0\nVERTEX\n8\n0\n10\n3.500\n20\n0.000\n0\nVERTEX\n8\n0\n10\n7.000\n20\n0.000\n\
+0\nVERTEX\n8\n0\n10\n7.000\n20\n3.500\n0\nVERTEX\n8\n0\n10\n7.000\n20\n7.000\n\
+0\nSEQEND\n0\nPOLYLINE\n8\n0\n66\n1\n70\n1\n\
+0\nVERTEX\n8\n0\n10\n3.500\n20\n6.000\n0\nVERTEX\n8\n0\n10\n1.000\n20\n6.000\n\
+0\nVERTEX\n8\n0\n10\n1.000\n20\n3.500\n0\nVERTEX\n8\n0\n10\n1.000\n20\n1.000\n\
+0\nVERTEX\n8\n0\n10\n3.500\n20\n1.000\n0\nVERTEX\n8\n0\n10\n6.000\n20\n1.000\n\
+0\nVERTEX\n8\n0\n10\n6.000\n20\n3.500\n0\nVERTEX\n8\n0\n10\n6.000\n20\n6.000\n\
+0\nSEQEND\n0\nPOLYLINE\n8\n0\n66\n1\n70\n1\n\
+0\nVERTEX\n8\n0\n10\n3.500\n20\n5.000\n0\nVERTEX\n8\n0\n10\n2.000\n20\n5.000\n\
+0\nVERTEX\n8\n0\n10\n2.000\n20\n3.500\n0\nVERTEX\n8\n0\n10\n2.000\n20\n2.000\n\
+0\nVERTEX\n8\n0\n10\n3.500\n20\n2.000\n0\nVERTEX\n8\n0\n10\n5.000\n20\n2.000\n\
+0\nVERTEX\n8\n0\n10\n5.000\n20\n3.500\n0\nVERTEX\n8\n0\n10\n5.000\n20\n5.000\n\
+0\nSEQEND\n0\nPOLYLINE\n8\n0\n66\n1\n70\n1\n\
+0\nVERTEX\n8\n0\n10\n3.500\n20\n4.000\n0\nVERTEX\n8\n0\n10\n3.000\n20\n4.000\n\
+0\nVERTEX\n8\n0\n10\n3.000\n20\n3.500\n0\nVERTEX\n8\n0\n10\n3.000\n20\n3.000\n\
+0\nVERTEX\n8\n0\n10\n3.500\n20\n3.000\n0\nVERTEX\n8\n0\n10\n4.000\n20\n3.000\n\
+0\nVERTEX\n8\n0\n10\n4.000\n20\n3.500\n0\nVERTEX\n8\n0\n10\n4.000\n20\n4.000\n\
+0\nSEQEND\n0\nENDSEC\n0\nEOF\n";
+
+const NEST_GEOJSON: &str = "{\"type\":\"FeatureCollection\",\"features\":[\n\
+{\"type\":\"Feature\",\"properties\":{},\"geometry\":{\"type\":\"Polygon\",\"coordinates\":[\
+[[3.500,7.000],[0.000,7.000],[0.000,3.500],[0.000,0.000],[3.500,0.000],[7.000,0.000],[7.000,3.500],[7.000,7.000],[3.500,7.000]],\
+[[3.500,6.000],[6.000,6.000],[6.000,3.500],[6.000,1.000],[3.500,1.000],[1.000,1.000],[1.000,3.500],[1.000,6.000],[3.500,6.000]]]}},\n\
+{\"type\":\"Feature\",\"properties\":{},\"geometry\":{\"type\":\"Polygon\",\"coordinates\":[\
+[[3.500,5.000],[2.000,5.000],[2.000,3.500],[2.000,2.000],[3.500,2.000],[5.000,2.000],[5.000,3.500],[5.000,5.000],[3.500,5.000]],\
+[[3.500,4.000],[4.000,4.000],[4.000,3.500],[4.000,3.000],[3.500,3.000],[3.000,3.000],[3.000,3.500],[3.000,4.000],[3.500,4.000]]]}}\n\
+]}\n";
+
+// #######
+// #.....#
+// #.#.#.#
+// #.....#
+// #######
+const TWO: &[u8] = b"P1 7 5 1111111 1000001 1010101 1000001 1111111\n";
+
+const TWO_SVG: &str = "<?xml version=\"1.0\" standalone=\"no\"?>\n\
+<svg version=\"1.0\" xmlns=\"http://www.w3.org/2000/svg\" width=\"7pt\" height=\"5pt\" viewBox=\"0 0 7000 5000\">\n\
+<g transform=\"translate(0,5000) scale(1,-1)\" fill=\"#000000\" stroke=\"none\">\n\
+<path fill-rule=\"evenodd\" d=\"M3500 5000 l-3500 0 l0 -2500 l0 -2500 l3500 0 l3500 0 l0 2500 l0 2500 l-3500 0 z \
+M3500 4000 l-2500 0 l0 -1500 l0 -1500 l2500 0 l2500 0 l0 1500 l0 1500 l-2500 0 z\"/>\n\
+<path fill-rule=\"evenodd\" d=\"M2500 3000 l-500 0 l0 -500 l0 -500 l500 0 l500 0 l0 500 l0 500 l-500 0 z\"/>\n\
+<path fill-rule=\"evenodd\" d=\"M4500 3000 l-500 0 l0 -500 l0 -500 l500 0 l500 0 l0 500 l0 500 l-500 0 z\"/>\n\
+</g>\n</svg>\n";
+
+const TWO_EPS: &str =
+    "%!PS-Adobe-3.0 EPSF-3.0\n%%BoundingBox: 0 0 7 5\n%%EndComments\ngsave\n1 1000 div dup scale\n\
+3500 5000 moveto\n-3500 0 rlineto\n0 -2500 rlineto\n\
+0 -2500 rlineto\n3500 0 rlineto\n3500 0 rlineto\n\
+0 2500 rlineto\n0 2500 rlineto\n-3500 0 rlineto\nclosepath\n\
+3500 4000 moveto\n-2500 0 rlineto\n0 -1500 rlineto\n\
+0 -1500 rlineto\n2500 0 rlineto\n2500 0 rlineto\n\
+0 1500 rlineto\n0 1500 rlineto\n-2500 0 rlineto\nclosepath\n\
+eofill\n\
+2500 3000 moveto\n-500 0 rlineto\n0 -500 rlineto\n\
+0 -500 rlineto\n500 0 rlineto\n500 0 rlineto\n\
+0 500 rlineto\n0 500 rlineto\n-500 0 rlineto\nclosepath\n\
+eofill\n\
+4500 3000 moveto\n-500 0 rlineto\n0 -500 rlineto\n\
+0 -500 rlineto\n500 0 rlineto\n500 0 rlineto\n\
+0 500 rlineto\n0 500 rlineto\n-500 0 rlineto\nclosepath\n\
+eofill\n\
+grestore\n%%EOF\n";
+
+const TWO_DXF: &str = "0\nSECTION\n2\nENTITIES\n0\nPOLYLINE\n8\n0\n66\n1\n70\n1\n\
+0\nVERTEX\n8\n0\n10\n3.500\n20\n5.000\n0\nVERTEX\n8\n0\n10\n0.000\n20\n5.000\n\
+0\nVERTEX\n8\n0\n10\n0.000\n20\n2.500\n0\nVERTEX\n8\n0\n10\n0.000\n20\n0.000\n\
+0\nVERTEX\n8\n0\n10\n3.500\n20\n0.000\n0\nVERTEX\n8\n0\n10\n7.000\n20\n0.000\n\
+0\nVERTEX\n8\n0\n10\n7.000\n20\n2.500\n0\nVERTEX\n8\n0\n10\n7.000\n20\n5.000\n\
+0\nSEQEND\n0\nPOLYLINE\n8\n0\n66\n1\n70\n1\n\
+0\nVERTEX\n8\n0\n10\n3.500\n20\n4.000\n0\nVERTEX\n8\n0\n10\n1.000\n20\n4.000\n\
+0\nVERTEX\n8\n0\n10\n1.000\n20\n2.500\n0\nVERTEX\n8\n0\n10\n1.000\n20\n1.000\n\
+0\nVERTEX\n8\n0\n10\n3.500\n20\n1.000\n0\nVERTEX\n8\n0\n10\n6.000\n20\n1.000\n\
+0\nVERTEX\n8\n0\n10\n6.000\n20\n2.500\n0\nVERTEX\n8\n0\n10\n6.000\n20\n4.000\n\
+0\nSEQEND\n0\nPOLYLINE\n8\n0\n66\n1\n70\n1\n\
+0\nVERTEX\n8\n0\n10\n2.500\n20\n3.000\n0\nVERTEX\n8\n0\n10\n2.000\n20\n3.000\n\
+0\nVERTEX\n8\n0\n10\n2.000\n20\n2.500\n0\nVERTEX\n8\n0\n10\n2.000\n20\n2.000\n\
+0\nVERTEX\n8\n0\n10\n2.500\n20\n2.000\n0\nVERTEX\n8\n0\n10\n3.000\n20\n2.000\n\
+0\nVERTEX\n8\n0\n10\n3.000\n20\n2.500\n0\nVERTEX\n8\n0\n10\n3.000\n20\n3.000\n\
+0\nSEQEND\n0\nPOLYLINE\n8\n0\n66\n1\n70\n1\n\
+0\nVERTEX\n8\n0\n10\n4.500\n20\n3.000\n0\nVERTEX\n8\n0\n10\n4.000\n20\n3.000\n\
+0\nVERTEX\n8\n0\n10\n4.000\n20\n2.500\n0\nVERTEX\n8\n0\n10\n4.000\n20\n2.000\n\
+0\nVERTEX\n8\n0\n10\n4.500\n20\n2.000\n0\nVERTEX\n8\n0\n10\n5.000\n20\n2.000\n\
+0\nVERTEX\n8\n0\n10\n5.000\n20\n2.500\n0\nVERTEX\n8\n0\n10\n5.000\n20\n3.000\n\
+0\nSEQEND\n0\nENDSEC\n0\nEOF\n";
+
+const TWO_GEOJSON: &str = "{\"type\":\"FeatureCollection\",\"features\":[\n\
+{\"type\":\"Feature\",\"properties\":{},\"geometry\":{\"type\":\"Polygon\",\"coordinates\":[\
+[[3.500,5.000],[0.000,5.000],[0.000,2.500],[0.000,0.000],[3.500,0.000],[7.000,0.000],[7.000,2.500],[7.000,5.000],[3.500,5.000]],\
+[[3.500,4.000],[6.000,4.000],[6.000,2.500],[6.000,1.000],[3.500,1.000],[1.000,1.000],[1.000,2.500],[1.000,4.000],[3.500,4.000]]]}},\n\
+{\"type\":\"Feature\",\"properties\":{},\"geometry\":{\"type\":\"Polygon\",\"coordinates\":[\
+[[2.500,3.000],[2.000,3.000],[2.000,2.500],[2.000,2.000],[2.500,2.000],[3.000,2.000],[3.000,2.500],[3.000,3.000],[2.500,3.000]]]}},\n\
+{\"type\":\"Feature\",\"properties\":{},\"geometry\":{\"type\":\"Polygon\",\"coordinates\":[\
+[[4.500,3.000],[4.000,3.000],[4.000,2.500],[4.000,2.000],[4.500,2.000],[5.000,2.000],[5.000,2.500],[5.000,3.000],[4.500,3.000]]]}}\n\
+]}\n";
+
+// #####
+// #...#
+// #.#.#
+// #..##
+// #####
+const CORNER: &[u8] = b"P1 5 5 11111 10001 10101 10011 11111\n";
+
+const CORNER_SVG: &str = "<?xml version=\"1.0\" standalone=\"no\"?>\n\
+<svg version=\"1.0\" xmlns=\"http://www.w3.org/2000/svg\" width=\"5pt\" height=\"5pt\" viewBox=\"0 0 5000 5000\">\n\
+<g transform=\"translate(0,5000) scale(1,-1)\" fill=\"#000000\" stroke=\"none\">\n\
+<path fill-rule=\"evenodd\" d=\"M2500 5000 l-2500 0 l0 -2500 l0 -2500 l2500 0 l2500 0 l0 2500 l0 2500 l-2500 0 z \
+M2586 4000 l-1586 0 l0 -1586 l0 -1586 l1188 399 l1187 398 l398 1188 l399 1187 l-1586 0 z\"/>\n\
+<path fill-rule=\"evenodd\" d=\"M2500 3000 l-500 0 l0 -500 l0 -500 l500 0 l500 0 l0 500 l0 500 l-500 0 z\"/>\n\
+</g>\n</svg>\n";
+
+const CORNER_EPS: &str =
+    "%!PS-Adobe-3.0 EPSF-3.0\n%%BoundingBox: 0 0 5 5\n%%EndComments\ngsave\n1 1000 div dup scale\n\
+2500 5000 moveto\n-2500 0 rlineto\n0 -2500 rlineto\n\
+0 -2500 rlineto\n2500 0 rlineto\n2500 0 rlineto\n\
+0 2500 rlineto\n0 2500 rlineto\n-2500 0 rlineto\nclosepath\n\
+2586 4000 moveto\n-1586 0 rlineto\n0 -1586 rlineto\n\
+0 -1586 rlineto\n1188 399 rlineto\n1187 398 rlineto\n\
+398 1188 rlineto\n399 1187 rlineto\n-1586 0 rlineto\nclosepath\n\
+eofill\n\
+2500 3000 moveto\n-500 0 rlineto\n0 -500 rlineto\n\
+0 -500 rlineto\n500 0 rlineto\n500 0 rlineto\n\
+0 500 rlineto\n0 500 rlineto\n-500 0 rlineto\nclosepath\n\
+eofill\n\
+grestore\n%%EOF\n";
+
+const CORNER_DXF: &str = "0\nSECTION\n2\nENTITIES\n0\nPOLYLINE\n8\n0\n66\n1\n70\n1\n\
+0\nVERTEX\n8\n0\n10\n2.500\n20\n5.000\n0\nVERTEX\n8\n0\n10\n0.000\n20\n5.000\n\
+0\nVERTEX\n8\n0\n10\n0.000\n20\n2.500\n0\nVERTEX\n8\n0\n10\n0.000\n20\n0.000\n\
+0\nVERTEX\n8\n0\n10\n2.500\n20\n0.000\n0\nVERTEX\n8\n0\n10\n5.000\n20\n0.000\n\
+0\nVERTEX\n8\n0\n10\n5.000\n20\n2.500\n0\nVERTEX\n8\n0\n10\n5.000\n20\n5.000\n\
+0\nSEQEND\n0\nPOLYLINE\n8\n0\n66\n1\n70\n1\n\
+0\nVERTEX\n8\n0\n10\n2.586\n20\n4.000\n0\nVERTEX\n8\n0\n10\n1.000\n20\n4.000\n\
+0\nVERTEX\n8\n0\n10\n1.000\n20\n2.414\n0\nVERTEX\n8\n0\n10\n1.000\n20\n0.828\n\
+0\nVERTEX\n8\n0\n10\n2.188\n20\n1.227\n0\nVERTEX\n8\n0\n10\n3.375\n20\n1.625\n\
+0\nVERTEX\n8\n0\n10\n3.773\n20\n2.813\n0\nVERTEX\n8\n0\n10\n4.172\n20\n4.000\n\
+0\nSEQEND\n0\nPOLYLINE\n8\n0\n66\n1\n70\n1\n\
+0\nVERTEX\n8\n0\n10\n2.500\n20\n3.000\n0\nVERTEX\n8\n0\n10\n2.000\n20\n3.000\n\
+0\nVERTEX\n8\n0\n10\n2.000\n20\n2.500\n0\nVERTEX\n8\n0\n10\n2.000\n20\n2.000\n\
+0\nVERTEX\n8\n0\n10\n2.500\n20\n2.000\n0\nVERTEX\n8\n0\n10\n3.000\n20\n2.000\n\
+0\nVERTEX\n8\n0\n10\n3.000\n20\n2.500\n0\nVERTEX\n8\n0\n10\n3.000\n20\n3.000\n\
+0\nSEQEND\n0\nENDSEC\n0\nEOF\n";
+
+const CORNER_GEOJSON: &str = "{\"type\":\"FeatureCollection\",\"features\":[\n\
+{\"type\":\"Feature\",\"properties\":{},\"geometry\":{\"type\":\"Polygon\",\"coordinates\":[\
+[[2.500,5.000],[0.000,5.000],[0.000,2.500],[0.000,0.000],[2.500,0.000],[5.000,0.000],[5.000,2.500],[5.000,5.000],[2.500,5.000]],\
+[[2.586,4.000],[4.172,4.000],[3.773,2.813],[3.375,1.625],[2.188,1.227],[1.000,0.828],[1.000,2.414],[1.000,4.000],[2.586,4.000]]]}},\n\
+{\"type\":\"Feature\",\"properties\":{},\"geometry\":{\"type\":\"Polygon\",\"coordinates\":[\
+[[2.500,3.000],[2.000,3.000],[2.000,2.500],[2.000,2.000],[2.500,2.000],[3.000,2.000],[3.000,2.500],[3.000,3.000],[2.500,3.000]]]}}\n\
+]}\n";
+
+const SVG: &str = "-b svg -t 0 -a 0 -n -u 1000";
+
+const EPS: &str = "-b eps -t 0 -a 0 -n -u 1000";
+
+const DXF: &str = "-b dxf -t 0 -a 0 -n -u 1000";
+
+const GEOJSON: &str = "-b geojson -t 0 -a 0 -n -u 1000";
+
+/// A ring; a hole in a hole; two shapes in a hole; and a shape at its hole's corner.
+const PAGES: &[Page] = &[
+    (SVG, RING, &[("-", RING_SVG)]),
+    (EPS, RING, &[("-", RING_EPS)]),
+    (DXF, RING, &[("-", RING_DXF)]),
+    (GEOJSON, RING, &[("-", RING_GEOJSON)]),
+    (SVG, NEST, &[("-", NEST_SVG)]),
+    (EPS, NEST, &[("-", NEST_EPS)]),
+    (DXF, NEST, &[("-", NEST_DXF)]),
+    (GEOJSON, NEST, &[("-", NEST_GEOJSON)]),
+    (SVG, TWO, &[("-", TWO_SVG)]),
+    (EPS, TWO, &[("-", TWO_EPS)]),
+    (DXF, TWO, &[("-", TWO_DXF)]),
+    (GEOJSON, TWO, &[("-", TWO_GEOJSON)]),
+    (SVG, CORNER, &[("-", CORNER_SVG)]),
+    (EPS, CORNER, &[("-", CORNER_EPS)]),
+    (DXF, CORNER, &[("-", CORNER_DXF)]),
+    (GEOJSON, CORNER, &[("-", CORNER_GEOJSON)]),
 ];
 
 #[test]
-fn a_shape_at_its_holes_corner(rt: HostRuntime) -> Result<(), Fail> {
-    let page = ["#####", "#...#", "#.#.#", "#..##", "#####"];
-    let shapes: [&[Ring]; 2] = [&[square(0, 0, 5, 5), CUT], &[square(2, 2, 3, 3)]];
-    for (backend, text) in texts(rt.alloc(), 5, 5, &shapes)? {
-        assert_eq!(rt;
-            found(rt.alloc(), &page, backend)?.as_slice(),
-            text.as_bytes()
-        );
-    }
-    Ok(())
-}
-
-/// The document of a page, with sharp corners alone and a thousand units a pixel.
-fn found(alloc: Global, rows: &[&str], backend: Backend) -> Result<Vec<u8>, Fail> {
-    let page = drawn(alloc, rows)?;
-    let text = document(alloc, &page, &settings(backend))?;
-    Ok(text)
-}
-
-fn settings(backend: Backend) -> Settings
-    ensures backend { result.backend ≡ backend }
-    ensures drawn { CanDraw result }
-{
-    Settings {
-        backend,
-        policy: Policy::Minority,
-        turd: 0,
-        alphamax: 0,
-        long_curve: true,
-        tolerance: 200_000,
-        unit: 1000,
-        flat: false,
-        level: 500_000,
-        invert: false,
-    }
-}
-
-/// The ring round these columns and rows of pixels.
-fn square(left: i16, bottom: i16, right: i16, top: i16) -> Ring {
-    let (left, right) = (500 * i32::from(left), 500 * i32::from(right));
-    let (bottom, top) = (500 * i32::from(bottom), 500 * i32::from(top));
-    [
-        (left + right, 2 * top),
-        (2 * left, 2 * top),
-        (2 * left, bottom + top),
-        (2 * left, 2 * bottom),
-        (left + right, 2 * bottom),
-        (2 * right, 2 * bottom),
-        (2 * right, bottom + top),
-        (2 * right, 2 * top),
-    ]
-}
-
-/// All four drawings of a page with these shapes: each one's outline, and then its holes.
-fn texts(
-    alloc: Global,
-    width: u8,
-    height: u8,
-    shapes: &[&[Ring]],
-) -> Result<[(Backend, String); 4], Fail> {
-    Ok([
-        (Backend::Svg, svg(alloc, width, height, shapes)?),
-        (Backend::Eps, eps(alloc, width, height, shapes)?),
-        (Backend::Dxf, dxf(alloc, shapes)?),
-        (Backend::GeoJson, geojson(alloc, shapes)?),
-    ])
-}
-
-fn svg(alloc: Global, width: u8, height: u8, shapes: &[&[Ring]]) -> Result<String, Fail> {
-    let mut text = String::new(alloc);
-    text.push_str(
-        "<?xml version=\"1.0\" standalone=\"no\"?>\n<svg version=\"1.0\" xmlns=\"http://www.w3.org/2000/svg\" ",
-    )?;
-    write!(text, "width=\"{width}pt\" height=\"{height}pt\" ")?;
-    writeln!(text, "viewBox=\"0 0 {width}000 {height}000\">")?;
-    write!(
-        text,
-        "<g transform=\"translate(0,{height}000) scale(1,-1)\" "
-    )?;
-    text.push_str("fill=\"#000000\" stroke=\"none\">\n")?;
-    for rings in shapes {
-        text.push_str("<path fill-rule=\"evenodd\" d=\"")?;
-        put_rings(&mut text, rings, " ", &SVG)?;
-        text.push_str("\"/>\n")?;
-    }
-    text.push_str("</g>\n</svg>\n")?;
-    Ok(text)
-}
-
-fn eps(alloc: Global, width: u8, height: u8, shapes: &[&[Ring]]) -> Result<String, Fail> {
-    let mut text = String::new(alloc);
-    text.push_str("%!PS-Adobe-3.0 EPSF-3.0\n")?;
-    writeln!(text, "%%BoundingBox: 0 0 {width} {height}")?;
-    text.push_str("%%EndComments\ngsave\n1 1000 div dup scale\n")?;
-    for rings in shapes {
-        put_rings(&mut text, rings, "", &EPS)?;
-        text.push_str("eofill\n")?;
-    }
-    text.push_str("grestore\n%%EOF\n")?;
-    Ok(text)
-}
-
-/// Appends rings, with a text between two.
-fn put_rings(text: &mut String, rings: &[Ring], between: &str, marks: &Marks) -> Result<(), Fail> {
-    for (i, ring) in rings.iter().enumerate() {
-        text.push_str(if i == 0 { "" } else { between })?;
-        put_steps(text, ring, marks)?;
-    }
-    Ok(())
-}
-
-/// Appends a ring's first point, and the steps round to it.
-fn put_steps(text: &mut String, ring: &Ring, marks: &Marks) -> Result<(), Fail> {
-    let mut from = ring[0];
-    write!(
-        text,
-        "{}{} {}{}",
-        marks.place.0, from.0, from.1, marks.place.1
-    )?;
-    for place in [1, 2, 3, 4, 5, 6, 7, 0] {
-        let to = ring[place];
-        let across = i64::from(to.0) - i64::from(from.0);
-        let up = i64::from(to.1) - i64::from(from.1);
-        write!(text, "{}{across} {up}{}", marks.step.0, marks.step.1)?;
-        from = to;
-    }
-    text.push_str(marks.end)?;
-    Ok(())
-}
-
-fn dxf(alloc: Global, shapes: &[&[Ring]]) -> Result<String, Fail> {
-    let mut text = String::from_str(alloc, "0\nSECTION\n2\nENTITIES\n")?;
-    for rings in shapes {
-        put_polylines(&mut text, rings)?;
-    }
-    text.push_str("0\nENDSEC\n0\nEOF\n")?;
-    Ok(text)
-}
-
-fn put_polylines(text: &mut String, rings: &[Ring]) -> Result<(), Fail> {
-    for ring in rings {
-        text.push_str("0\nPOLYLINE\n8\n0\n66\n1\n70\n1\n")?;
-        put_positions(text, ring, ("0\nVERTEX\n8\n0\n10\n", "\n20\n", "\n"))?;
-        text.push_str("0\nSEQEND\n")?;
-    }
-    Ok(())
-}
-
-/// Appends points in pixels, with these texts before, between and behind their numbers.
-fn put_positions(
-    text: &mut String,
-    points: &[(i32, i32)],
-    marks: (&str, &str, &str),
-) -> Result<(), Fail> {
-    for (x, y) in points {
-        text.push_str(marks.0)?;
-        put_pixels(text, *x)?;
-        text.push_str(marks.1)?;
-        put_pixels(text, *y)?;
-        text.push_str(marks.2)?;
-    }
-    Ok(())
-}
-
-/// Appends a number of 1/1000 pixel as pixels with three decimals.
-fn put_pixels(text: &mut String, n: i32) -> Result<(), Fail> {
-    let (whole, tenths) = (n / 1000, n / 100 % 10);
-    let (hundredths, thousandths) = (n / 10 % 10, n % 10);
-    write!(text, "{whole}.{tenths}{hundredths}{thousandths}")?;
-    Ok(())
-}
-
-fn geojson(alloc: Global, shapes: &[&[Ring]]) -> Result<String, Fail> {
-    let mut text = String::new(alloc);
-    text.push_str("{\"type\":\"FeatureCollection\",\"features\":[\n")?;
-    for (i, rings) in shapes.iter().enumerate() {
-        text.push_str(if i == 0 { "" } else { ",\n" })?;
-        text.push_str("{\"type\":\"Feature\",\"properties\":{},\"geometry\":")?;
-        text.push_str("{\"type\":\"Polygon\",\"coordinates\":[")?;
-        put_loops(&mut text, rings)?;
-        text.push_str("]}}")?;
-    }
-    text.push_str("\n]}\n")?;
-    Ok(text)
-}
-
-/// Appends the outline's points in their order, and those of the holes the other way round.
-fn put_loops(text: &mut String, rings: &[Ring]) -> Result<(), Fail> {
-    for (i, ring) in rings.iter().enumerate() {
-        let mut points = *ring;
-        if i > 0 {
-            points.reverse();
-            points.rotate_right(1);
-            text.push_str(",")?;
-        }
-        text.push_str("[")?;
-        put_positions(text, &points, ("[", ",", "],"))?;
-        put_positions(text, &points[..1], ("[", ",", "]]"))?;
-    }
-    Ok(())
+fn one_picture_in_all_drawings(rt: HostRuntime) -> Result<(), Fail> {
+    check_pages(&rt, rt.alloc(), PAGES)
 }

@@ -1,5 +1,6 @@
 //! What words ask for: which of them `clap` takes how, and which values are in their ranges.
 
+use crate::tests::cases::split;
 use command_words::name::Name;
 use potrace_main::ask::{Ask, WordFault};
 use potrace_main::words::settings_of;
@@ -240,18 +241,6 @@ fn lines_of_words(rt: HostRuntime) -> Result<(), Fail> {
     Ok(())
 }
 
-/// The words of a line; an empty line has none.
-fn split(alloc: Global, line: &str) -> Result<Vec<String>, Fail> {
-    let mut words = Vec::new(alloc);
-    if line.is_empty() {
-        return Ok(words);
-    }
-    for word in line.split(' ') {
-        words.push(String::from_str(alloc, word)?)?;
-    }
-    Ok(words)
-}
-
 /// What the words ask for.
 fn told(alloc: Global, words: &[String]) -> Result<String, Fail> {
     let text = match settings_of(alloc, words) {
@@ -325,7 +314,8 @@ fn put_number(
     default: u32,
 ) -> Result<(), Fail> {
     if number != default {
-        text.push_str(format!(in alloc; "{name}{number} ")?.as_str())?;
+        let word = format!(in alloc; "{name}{number} ")?;
+        text.push_str(&word)?;
     }
     Ok(())
 }

@@ -1,7 +1,7 @@
 //! One seat of a counter, and one worker.
 ghost use Rattle.std.specs.Prelude.{◌≡◌, IfOk};
 
-use super::width::{Width, pages};
+use crate::tests::workers_alone::{Width, pages};
 use page_workers::claims::Claims;
 use page_workers::job::Done;
 use page_workers::seat::ClaimSeat;
@@ -58,6 +58,7 @@ fn one_worker_makes_all_texts(rt: HostRuntime) -> Result<(), Fail> {
     let alloc = rt.alloc();
     let (claims, mut seat) = with_one_seat(alloc, 3)?;
     let pages = pages(alloc, &[7, 8, 9])?;
+    assert!(rt; pages.len() == 3);
     let done = work(alloc, &claims, &mut seat, &Width, &pages, &NoGate)?;
     assert_eq!(rt;
         shown(alloc, &done)?.as_slice(),

@@ -1,5 +1,0 @@
-//! Tests of pages that workers share.
-#![tactic(auto)]
-
-#[cfg(test)]
-mod tests;
