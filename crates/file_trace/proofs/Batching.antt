@@ -8,16 +8,16 @@ use Rattle.pt_base.specs.Documents.{IsSaid}
 use Rattle.pt_base.specs.declared.settings.Settings.{Settings}
 use Rattle.page_trace.specs.Document.{IsDocument}
 use Rattle.page_trace.proofs.OneTrace.{one_document}
+use Rattle.run_output.specs.Messages.{trailing_line}
+use Rattle.run_output.specs.declared.status.Status.TheVariants as status
 use Rattle.file_trace.specs.Entries.{held_by, items_by, pages_among}
 use Rattle.file_trace.specs.Held.{AreHeld, Held, pages_held}
 use Rattle.file_trace.specs.Held.Held.{Message, Page}
 use Rattle.file_trace.specs.Items.{Item}
 use Rattle.file_trace.specs.Items.Item.{Doc, Note}
-use Rattle.file_trace.specs.Messages.{trailing_line}
 use Rattle.file_trace.specs.Outcome.{AreCarriedOut, IsUnwritten, Sinks}
 use Rattle.file_trace.specs.declared.batch.Entry.{Entry as Given}
 use Rattle.file_trace.specs.declared.batch.Entry.TheVariants as entry
-use Rattle.file_trace.specs.declared.status.Status.TheVariants as status
 use Rattle.file_trace.proofs.Carrying.{carried_on, ended_on, nothing_done, one_said}
 
 pub pages_among-append : (entries more : List Given) → pages_among (entries ++ more) ≡ pages_among entries + pages_among more

@@ -6,12 +6,12 @@ use Rattle.std.proofs.lemmas.List.Folds.{concat-append}
 use Rattle.pt_base.specs.Counts.{Rose}
 use Rattle.pt_base.specs.Documents.{Documents, IsCutOff, IsSaid, with_bytes, with_whole}
 use Rattle.pt_base.proofs.Writing.{with_bytes-none, with_bytes-with_bytes}
-use Rattle.file_trace.specs.Messages.{not_written, out_of_memory}
+use Rattle.run_output.specs.Messages.{not_written, out_of_memory}
+use Rattle.run_output.specs.declared.status.Status.{Status}
+use Rattle.run_output.specs.declared.status.Status.TheVariants as status
 use Rattle.file_trace.specs.Items.{Item}
 use Rattle.file_trace.specs.Items.Item.{Doc, Missing, Note, Stop}
 use Rattle.file_trace.specs.Outcome.{AreCarriedOut, AreFronts, AreSaid, GoesOn, HasEnded, IsUnwritten, Sinks, notes, with_items}
-use Rattle.file_trace.specs.declared.status.Status.{Status}
-use Rattle.file_trace.specs.declared.status.Status.TheVariants as status
 
 pub GoesOn-append : (items more : List Item) → GoesOn items → GoesOn more → GoesOn (items ++ more)
 GoesOn-append [] more h k = k

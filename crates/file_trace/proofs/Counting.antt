@@ -1,8 +1,8 @@
 -- How the counts of faults move.
 use Rattle.std.proofs.Common.{◌≡◌, ◌≤◌, ℕ, Bool, subst, arith}
 use Rattle.pt_base.specs.Counts.{Rose}
+use Rattle.run_output.specs.declared.status.Status.{Status}
 use Rattle.file_trace.specs.Progress.{InputCount, OutputCount}
-use Rattle.file_trace.specs.declared.status.Status.{Status}
 
 -- counts that never fall
 pub rises : (a b c : ℕ) → a ≤ b → b ≤ c → a ≤ c

@@ -8,17 +8,18 @@ use Rattle.pt_base.specs.declared.fault.OpenFault.{OpenFault}
 use Rattle.pt_base.specs.declared.fault.OpenFault.TheVariants as opening
 use Rattle.pt_base.specs.declared.settings.Settings.{Settings}
 use Rattle.page_trace.specs.Document.{CanWrite}
+use Rattle.run_output.specs.Messages.{not_opened, out_of_memory, page_line, read_fault}
+use Rattle.run_output.specs.Names.{base_name}
+use Rattle.run_output.specs.Made.{most_pages}
+use Rattle.run_output.specs.declared.status.Status.{Status}
+use Rattle.run_output.specs.declared.status.Status.TheVariants as status
 use Rattle.file_trace.specs.Held.{AreHeld, Held}
-use Rattle.file_trace.specs.Messages.{not_opened, out_of_memory, page_line, read_fault}
-use Rattle.file_trace.specs.Names.{base_name}
-use Rattle.file_trace.specs.Items.{AreItems, IsAbsent, Item, Nothing, most_pages, told_contents}
+use Rattle.file_trace.specs.Items.{AreItems, IsAbsent, Item, Nothing, told_contents}
 use Rattle.file_trace.specs.Outcome.{AreCarriedOut, HasEnded, HoldsBytes, IsOutcomeBehind, OpensUpTo, IsUnopened, IsUnread, Sinks, Source, opened_name}
 use Rattle.file_trace.specs.Progress.{EndsWithFile, Halts, InputCount, Traces, TracesFile, docs, end_message, status_of}
 use Rattle.file_trace.specs.Unopened.{EndsUnopened}
 use Rattle.file_trace.specs.declared.pages.PagesEnd.{PagesEnd}
 use Rattle.file_trace.specs.declared.pages.PagesEnd.TheVariants as why
-use Rattle.file_trace.specs.declared.status.Status.{Status}
-use Rattle.file_trace.specs.declared.status.Status.TheVariants as status
 use Rattle.file_trace.proofs.Carrying.{carried_on, ended_on, only_said}
 use Rattle.file_trace.proofs.Exists.{items_found}
 use Rattle.file_trace.proofs.Filing.{docs_alone, file_full, file_halts, file_refused, has_bytes, read_by_halting, read_by_tracing, HasBytes, HasRead}

@@ -15,10 +15,11 @@ use Rattle.bitmap_input.proofs.Files.{file_pages_some}
 use Rattle.bitmap_input.proofs.Sided.{pages_shown}
 use Rattle.page_trace.specs.Document.{CanWrite}
 use Rattle.page_trace.proofs.Exists.{document_found}
-use Rattle.file_trace.specs.Items.{AreEndItems, AreItems, ArePageItems, Item, Nothing, Rest, most_pages, too_many}
+use Rattle.run_output.specs.Made.{most_pages}
+use Rattle.run_output.specs.Messages.{page_line, trailing_line}
+use Rattle.run_output.specs.Names.{base_name, next_name}
+use Rattle.file_trace.specs.Items.{AreEndItems, AreItems, ArePageItems, Item, Nothing, Rest, too_many}
 use Rattle.file_trace.specs.Items.Item.{Doc, Missing, Note, Stop}
-use Rattle.file_trace.specs.Messages.{page_line, trailing_line}
-use Rattle.file_trace.specs.Names.{base_name, next_name}
 
 end_items_found : (name : List ℕ) (pages : ℕ) (ending : Ending) (Follow : List Item → Type 0) → (items : List Item) × Follow items
     → (items : List Item) × AreEndItems name pages ending Follow items

@@ -15,21 +15,22 @@ use Rattle.bitmap_input.specs.FilePages.{FilePages, next_begins}
 use Rattle.bitmap_input.specs.FilePages.FilePages.{Ended, Next}
 use Rattle.bitmap_input.specs.declared.fault.InFault.{InFault}
 use Rattle.page_trace.specs.Document.{CanWrite}
+use Rattle.run_output.specs.Messages.{page_line, trailing_line}
+use Rattle.run_output.specs.Names.{base_name, made_with}
+use Rattle.run_output.specs.Made.{most_pages}
+use Rattle.run_output.specs.declared.status.Status.{Status}
+use Rattle.run_output.specs.declared.status.Status.TheVariants as status
+use Rattle.run_output.proofs.Naming.{length-made_with, made_with-in}
 use Rattle.file_trace.specs.Held.{AreHeld, Held, Holds}
-use Rattle.file_trace.specs.Messages.{page_line, trailing_line}
-use Rattle.file_trace.specs.Names.{base_name, made_with}
-use Rattle.file_trace.specs.Items.{AreItems, ArePageItems, HoldsPages, Item, Nothing, Rest, told_contents, most_pages, too_many}
+use Rattle.file_trace.specs.Items.{AreItems, ArePageItems, HoldsPages, Item, Nothing, Rest, told_contents, too_many}
 use Rattle.file_trace.specs.Items.Item.{Note, Stop}
 use Rattle.file_trace.specs.Outcome.{AreCarriedOut, BeginsWith, HasEnded, Sinks, is_later}
 use Rattle.file_trace.specs.Progress.{AreTraced, EndsWith, Halts, Traces, TracesFile, docs, end_message, end_notes, status_of}
 use Rattle.file_trace.specs.declared.pages.PagesEnd.{PagesEnd}
 use Rattle.file_trace.specs.declared.pages.PagesEnd.TheVariants as why
-use Rattle.file_trace.specs.declared.status.Status.{Status}
-use Rattle.file_trace.specs.declared.status.Status.TheVariants as status
 use Rattle.file_trace.proofs.Exists.{AreShown, items_found, page_items_found, pages_found}
 use Rattle.file_trace.proofs.Holding.{holds_on}
 use Rattle.file_trace.proofs.Keeping.{IsHalt, ended_more}
-use Rattle.file_trace.proofs.Naming.{length-made_with, made_with-in}
 use Rattle.file_trace.proofs.Paging.{pages_on}
 
 -- the items of a file are the documents of its first pages and what follows those

@@ -5,13 +5,13 @@ use Rattle.pt_base.specs.Documents.{IsSaid}
 use Rattle.bit_image.specs.Page.{Page as Pixels}
 use Rattle.page_trace.specs.Document.{IsDocument}
 use Rattle.pt_base.specs.declared.settings.Settings.{Settings}
+use Rattle.run_output.specs.Messages.{out_of_memory}
+use Rattle.run_output.specs.declared.status.Status.{Status}
 use Rattle.file_trace.specs.Held.{AreHeld, Held, Holds, pages_held}
 use Rattle.file_trace.specs.Held.Held.{Message, Page}
 use Rattle.file_trace.specs.Items.{Item, doc_count}
 use Rattle.file_trace.specs.Items.Item.{Doc, Missing, Note, Stop}
-use Rattle.file_trace.specs.Messages.{out_of_memory}
 use Rattle.file_trace.specs.Outcome.{AreCarriedOut, HasEnded, IsOutOfMemory, Sinks}
-use Rattle.file_trace.specs.declared.status.Status.{Status}
 use Rattle.file_trace.proofs.Carrying.{carried_on, ended_on, nothing_done, only_said}
 
 -- the items of what is held, and of what is held behind it

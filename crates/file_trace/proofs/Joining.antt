@@ -6,15 +6,15 @@ use Rattle.pt_base.specs.declared.settings.Settings.{Settings}
 use Rattle.bitmap_input.specs.Cut.{Ending}
 use Rattle.bitmap_input.specs.Cut.Ending.{End, Trailing, Refused}
 use Rattle.bitmap_input.specs.Raw.{Raw}
+use Rattle.run_output.specs.Messages.{not_opened, page_line, read_fault}
+use Rattle.run_output.specs.Names.{base_name}
+use Rattle.run_output.specs.declared.status.Status.{Status}
+use Rattle.run_output.specs.declared.status.Status.TheVariants as status
 use Rattle.file_trace.specs.Held.{AreHeld, Held, Holds}
-use Rattle.file_trace.specs.Messages.{not_opened, page_line, read_fault}
-use Rattle.file_trace.specs.Names.{base_name}
 use Rattle.file_trace.specs.Items.{AreItems, ArePageItems, IsAbsent, Item, Nothing, Rest, doc_count}
 use Rattle.file_trace.specs.OnePass.{IfReadsTo, IsOnePass, batch_end}
 use Rattle.file_trace.specs.Outcome.{AreCarriedOut, GoesOn, HasEnded, IsOutcomeBehind, OpensUpTo, Sinks, Source}
 use Rattle.file_trace.specs.Progress.{EndsWith}
-use Rattle.file_trace.specs.declared.status.Status.{Status}
-use Rattle.file_trace.specs.declared.status.Status.TheVariants as status
 use Rattle.file_trace.proofs.Carrying.{carried_on, ended_on, unwritten_as, unwritten_on}
 use Rattle.file_trace.proofs.Holding.{doc_count-append}
 use Rattle.file_trace.proofs.Keeping.{GoesOn-behind, holds_goes_on}

@@ -2,14 +2,14 @@
 use Rattle.std.proofs.Common.{◌≡◌, ◌≤◌, ◌⊎◌, ℕ, List, [], ◌∷◌, ◌++◌, inl, inr, refl, sym, ◌∙◌, ap, subst, append_assoc}
 use Rattle.pt_base.specs.Documents.{IsSaid}
 use Rattle.pt_base.specs.declared.settings.Settings.{Settings}
+use Rattle.run_output.specs.Messages.{out_of_memory}
+use Rattle.run_output.specs.declared.status.Status.{Status}
+use Rattle.run_output.specs.declared.status.Status.TheVariants as status
 use Rattle.file_trace.specs.Held.{AreHeld, Held, Holds}
 use Rattle.file_trace.specs.Held.Held.{Message, Page}
 use Rattle.file_trace.specs.Items.{Item}
 use Rattle.file_trace.specs.Items.Item.{Doc, Missing, Note, Stop}
-use Rattle.file_trace.specs.Messages.{out_of_memory}
 use Rattle.file_trace.specs.Outcome.{GoesOn, HasEnded, Sinks}
-use Rattle.file_trace.specs.declared.status.Status.{Status}
-use Rattle.file_trace.specs.declared.status.Status.TheVariants as status
 use Rattle.file_trace.proofs.Carrying.{only_said, unwritten_more, GoesOn-append}
 
 -- the run goes on after what is held

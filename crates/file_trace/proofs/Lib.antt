@@ -8,12 +8,9 @@ pub mod Holding
 pub mod OnePass
 pub mod Joining
 pub mod Keeping
-pub mod NameExamples
-pub mod Naming
 pub mod OneItems
 pub mod Paging
 pub mod Passing
 pub mod Reading
 pub mod Running
-pub mod Saying
 pub mod Tracing

@@ -8,10 +8,10 @@ use Rattle.bitmap_input.specs.Raw.{Raw, shown}
 use Rattle.bitmap_input.specs.FilePages.{FilePages}
 use Rattle.bitmap_input.proofs.Files.{file_pages_same}
 use Rattle.page_trace.proofs.OneTrace.{one_document}
+use Rattle.run_output.specs.Messages.{trailing_line}
+use Rattle.run_output.specs.Names.{base_name, next_name}
 use Rattle.file_trace.specs.Items.{AreEndItems, AreItems, ArePageItems, HoldsPages, Item, Rest}
 use Rattle.file_trace.specs.Items.Item.{Doc, Note}
-use Rattle.file_trace.specs.Messages.{trailing_line}
-use Rattle.file_trace.specs.Names.{base_name, next_name}
 
 -- what follows is one list
 abbrev IsOne : (List Item → Type 0) → Type 0

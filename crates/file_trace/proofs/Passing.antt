@@ -4,8 +4,10 @@ use Rattle.pt_base.specs.Counts.{Rose, next_count}
 use Rattle.pt_base.specs.Files.{Contents, Files, Lacks, unread, with_file}
 use Rattle.pt_base.specs.declared.settings.Settings.{Settings}
 use Rattle.page_trace.specs.Document.{CanWrite}
+use Rattle.run_output.specs.Names.{base_name}
+use Rattle.run_output.specs.declared.status.Status.{Status}
+use Rattle.run_output.specs.declared.status.Status.TheVariants as status
 use Rattle.file_trace.specs.Held.{AreHeld, Held, pages_held}
-use Rattle.file_trace.specs.Names.{base_name}
 use Rattle.file_trace.specs.Items.{IsAbsent, Item, doc_count, told_contents}
 use Rattle.file_trace.specs.Items.Item.{Missing, Stop}
 use Rattle.file_trace.specs.OnePass.{IfReadsTo, IsOnePass}
@@ -14,8 +16,6 @@ use Rattle.file_trace.specs.Progress.{EndsWithFile, Halts, IsInPart, Traces, doc
 use Rattle.file_trace.specs.Unopened.{EndsUnopened}
 use Rattle.file_trace.specs.declared.pages.PagesEnd.{PagesEnd}
 use Rattle.file_trace.specs.declared.pages.PagesEnd.TheVariants as why
-use Rattle.file_trace.specs.declared.status.Status.{Status}
-use Rattle.file_trace.specs.declared.status.Status.TheVariants as status
 use Rattle.file_trace.proofs.Ending.{at_first, name-opened, opened_as}
 use Rattle.file_trace.proofs.Exists.{items_found}
 use Rattle.file_trace.proofs.Filing.{docs_alone, full_items, has_bytes, items_after, read_by_halting, read_by_tracing, refused_items, HasBytes}

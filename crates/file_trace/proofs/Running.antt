@@ -4,13 +4,13 @@ use Rattle.std.proofs.lemmas.List.{length-take-le, take-append-drop, take_more}
 use Rattle.pt_base.specs.Counts.{last_count, next_count}
 use Rattle.pt_base.specs.Files.{Contents}
 use Rattle.pt_base.specs.declared.settings.Settings.{Settings}
+use Rattle.run_output.specs.declared.status.Status.{Status}
+use Rattle.run_output.specs.declared.status.Status.TheVariants as status
 use Rattle.file_trace.specs.Held.{AreHeld, Held, Holds, pages_held}
 use Rattle.file_trace.specs.Items.{AreItems, Item, Nothing}
 use Rattle.file_trace.specs.OnePass.{IsOnePass}
 use Rattle.file_trace.specs.Outcome.{AreCarriedOut, HasEnded, IsOutcome, IsOutcomeBehind, IsUnwritten, OpensFirst, Sinks, Source, opened_name}
 use Rattle.file_trace.specs.Progress.{EndsWith, TracesFile}
-use Rattle.file_trace.specs.declared.status.Status.{Status}
-use Rattle.file_trace.specs.declared.status.Status.TheVariants as status
 use Rattle.file_trace.proofs.Carrying.{carried_on, ended_on}
 use Rattle.file_trace.proofs.Ending.{outcome_of_halt}
 use Rattle.file_trace.proofs.Holding.{all_held, holds_on}

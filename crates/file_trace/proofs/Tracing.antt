@@ -12,20 +12,21 @@ use Rattle.bitmap_input.specs.Front.Answer.{Page}
 use Rattle.bitmap_input.specs.FilePages.{next_begins}
 use Rattle.bitmap_input.specs.Reading.{Moves}
 use Rattle.bitmap_input.specs.Reader.{Reader, ReadFails, ahead as reader_ahead, at_start, is_later as reader_is_later}
-use Rattle.file_trace.specs.Names.{made_with, next_name}
 use Rattle.page_trace.specs.Document.{IsDocument}
+use Rattle.run_output.specs.Names.{made_with, next_name}
+use Rattle.run_output.specs.Made.{most_pages}
+use Rattle.run_output.specs.declared.status.Status.{Status}
+use Rattle.run_output.specs.declared.status.Status.TheVariants as status
+use Rattle.run_output.proofs.Naming.{made_with-in}
 use Rattle.file_trace.specs.Held.{AreHeld, Held, Holds, pages_held}
-use Rattle.file_trace.specs.Items.{Item, most_pages}
+use Rattle.file_trace.specs.Items.{Item}
 use Rattle.file_trace.specs.Items.Item.{Doc}
 use Rattle.file_trace.specs.Outcome.{BeginsSettled, BeginsWith, HasEnded, Sinks, is_later}
 use Rattle.file_trace.specs.Progress.{AreTraced, EndsBy, EndsReading, Halts, HasUnread, IsInBatch, ReadsPage, Settles, Traces, ahead, docs}
 use Rattle.pt_base.specs.declared.settings.Settings.{Settings}
 use Rattle.file_trace.specs.declared.pages.PagesEnd.{PagesEnd}
 use Rattle.file_trace.specs.declared.pages.PagesEnd.TheVariants as why
-use Rattle.file_trace.specs.declared.status.Status.{Status}
-use Rattle.file_trace.specs.declared.status.Status.TheVariants as status
 use Rattle.file_trace.proofs.Holding.{all_held, ended_behind, holds_on}
-use Rattle.file_trace.proofs.Naming.{made_with-in}
 use Rattle.file_trace.proofs.OnePass.{batch_halts}
 use Rattle.file_trace.proofs.Paging.{AreTraced-more, BeginsSettled-more, BeginsWith-more}
 use Rattle.file_trace.proofs.Reading.{first_taken, unread-with_read}

@@ -2,11 +2,11 @@
 use Rattle.std.specs.Prelude.{ℕ, suc, List, [], ◌∷◌, Vec, string_bytes}
 use Rattle.std.specs.Global.{Global}
 use Rattle.bit_image.specs.Page.{Page as Pixels}
+use Rattle.run_output.specs.Messages.{trailing_line}
 use Rattle.file_trace.specs.Held.{Held}
 use Rattle.file_trace.specs.Held.Held.{Message, Page}
 use Rattle.file_trace.specs.Items.{Item}
 use Rattle.file_trace.specs.Items.Item.{Doc, Note}
-use Rattle.file_trace.specs.Messages.{trailing_line}
 use Rattle.file_trace.specs.declared.batch.Entry.{Entry as Given}
 use Rattle.file_trace.specs.declared.batch.Entry.TheVariants as entry
 

@@ -6,8 +6,8 @@ use Rattle.pt_base.specs.Files.{Contents}
 use Rattle.pt_base.specs.declared.settings.Settings.{Settings}
 use Rattle.bitmap_input.specs.Cut.Ending.{End}
 use Rattle.bitmap_input.specs.Raw.{Raw}
+use Rattle.run_output.specs.Names.{base_name}
 use Rattle.file_trace.specs.Items.{AreItems, ArePageItems, Item, Nothing, doc_count}
-use Rattle.file_trace.specs.Names.{base_name}
 use Rattle.file_trace.specs.Outcome.{BeginsWith, IsUnwritten, OpensUpTo, Sinks, Source}
 
 -- in batches of so many pages, how many pages there are up to the end of the batch behind k whole documents

@@ -14,12 +14,12 @@ use Rattle.bitmap_input.specs.Raw.{Raw}
 use Rattle.bitmap_input.specs.Front.{front, page_at}
 use Rattle.bitmap_input.specs.Front.Answer.{Page}
 use Rattle.bitmap_input.specs.FilePages.{next_begins}
-use Rattle.file_trace.specs.Names.{base_name}
-use Rattle.file_trace.specs.Messages.{not_opened, not_written, out_of_memory, page_line, read_fault}
+use Rattle.run_output.specs.Names.{base_name}
+use Rattle.run_output.specs.Messages.{not_opened, not_written, out_of_memory, page_line, read_fault}
+use Rattle.run_output.specs.declared.status.Status.{Status}
+use Rattle.run_output.specs.declared.status.Status.TheVariants as status
 use Rattle.file_trace.specs.Items.{Item, AreItems, ArePageItems, IsAbsent, Nothing}
 use Rattle.file_trace.specs.Items.Item.{Doc, Note, Stop, Missing}
-use Rattle.file_trace.specs.declared.status.Status.{Status}
-use Rattle.file_trace.specs.declared.status.Status.TheVariants as status
 
 -- the outputs and the sink for messages: the documents that they tell, their counts of faults, and whether
 -- a document is open

@@ -15,16 +15,17 @@ use Rattle.bitmap_input.specs.FilePages.{next_begins}
 use Rattle.bitmap_input.specs.Reading.{Moves, cause_of_fault}
 use Rattle.bitmap_input.specs.Reading.Cause.{Says}
 use Rattle.bitmap_input.specs.Reader.{Reader, ahead as reader_ahead, is_later as reader_is_later}
-use Rattle.file_trace.specs.Messages.{out_of_memory, page_line, read_fault, trailing_line}
-use Rattle.file_trace.specs.Names.{next_name}
 use Rattle.page_trace.specs.Document.{IsDocument}
-use Rattle.file_trace.specs.Items.{AreItems, Item, Rest, doc_count, most_pages, too_many}
+use Rattle.run_output.specs.Messages.{out_of_memory, page_line, read_fault, trailing_line}
+use Rattle.run_output.specs.Names.{next_name}
+use Rattle.run_output.specs.Made.{most_pages}
+use Rattle.run_output.specs.declared.status.Status.{Status}
+use Rattle.run_output.specs.declared.status.Status.TheVariants as status
+use Rattle.file_trace.specs.Items.{AreItems, Item, Rest, doc_count, too_many}
 use Rattle.file_trace.specs.Items.Item.{Doc, Note}
 use Rattle.file_trace.specs.Held.{AreHeld, Held, Holds}
 use Rattle.file_trace.specs.Outcome.{AreCarriedOut, BeginsWith, HasEnded, IsUnwritten, Sinks, StopsReading, is_later}
 use Rattle.pt_base.specs.declared.settings.Settings.{Settings}
-use Rattle.file_trace.specs.declared.status.Status.{Status}
-use Rattle.file_trace.specs.declared.status.Status.TheVariants as status
 use Rattle.file_trace.specs.declared.pages.PagesEnd.{PagesEnd}
 use Rattle.file_trace.specs.declared.pages.PagesEnd.TheVariants as why
 

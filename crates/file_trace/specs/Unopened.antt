@@ -1,10 +1,10 @@
 -- How a run ends where a file can't be opened.
 use Rattle.std.specs.Prelude.{◌≡◌, ◌⊎◌, ℕ, List, [], ◌∷◌}
+use Rattle.run_output.specs.Messages.{not_opened}
+use Rattle.run_output.specs.declared.status.Status.{Status}
+use Rattle.run_output.specs.declared.status.Status.TheVariants as status
 use Rattle.file_trace.specs.Items.{Item}
-use Rattle.file_trace.specs.Messages.{not_opened}
 use Rattle.file_trace.specs.Outcome.{AreCarriedOut, HasEnded, Sinks}
-use Rattle.file_trace.specs.declared.status.Status.{Status}
-use Rattle.file_trace.specs.declared.status.Status.TheVariants as status
 
 -- the run ends where the file of this name can't be opened: these items, which were held, are carried out, and
 -- that is said; or they are carried out as far as the status says

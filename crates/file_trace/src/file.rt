@@ -3,29 +3,30 @@ ghost use Rattle.std.specs.Prelude.{◌≡◌, ◌+◌, ◌*◌, ◌++◌, ◌<�
 ghost use Rattle.pt_base.specs.Counts.{next_count};
 ghost use Rattle.pt_base.specs.Documents.{IsSaid};
 ghost use Rattle.page_trace.specs.Document.{CanWrite};
+ghost use Rattle.page_trace.specs.Offered.{IsOffered};
+ghost use Rattle.run_output.specs.Made.{most_pages};
+ghost use Rattle.run_output.specs.Messages.{out_of_memory, trailing_line};
+ghost use Rattle.run_output.specs.Names.{base_name};
+ghost use Rattle.run_output.specs.declared.status.Status.{Status};
 ghost use Rattle.file_trace.specs.Held.{AreHeld, Holds, pages_held};
 ghost use Rattle.file_trace.specs.Held.Held.{Message};
-ghost use Rattle.file_trace.specs.Items.{Item, told_contents, most_pages};
-ghost use Rattle.file_trace.specs.Messages.{out_of_memory, trailing_line};
-ghost use Rattle.file_trace.specs.Names.{base_name};
-ghost use Rattle.file_trace.specs.Offered.{IsOffered};
+ghost use Rattle.file_trace.specs.Items.{Item, told_contents};
 ghost use Rattle.file_trace.specs.OnePass.{IsOnePass};
 ghost use Rattle.file_trace.specs.Outcome.{IsOutcomeBehind, opened_name, sinks_of, source_of};
 ghost use Rattle.file_trace.specs.Progress.{EndsWithFile, InputCount, OutputCount, TracesFile, end_notes, status_of};
 ghost use Rattle.file_trace.specs.Unopened.{EndsUnopened};
-ghost use Rattle.file_trace.specs.declared.status.Status.{Status};
 
 use crate::batch::Batch;
-use crate::made::Made;
-use crate::message::{say_not_opened, say_of_page, say_out_of_memory};
-use crate::names::base_name;
 use crate::pages::{PagesEnd, Traced, trace_pages};
-use crate::status::Status;
 use bitmap_input::reader::PageReader;
 use pt_base::gate::Gate;
 use pt_base::inputs::Inputs;
 use pt_base::settings::Settings;
 use pt_base::sink::{Outputs, Sink};
+use run_output::made::Made;
+use run_output::message::{say_not_opened, say_of_page, say_out_of_memory};
+use run_output::names::base_name;
+use run_output::status::Status;
 use std::alloc::Global;
 use std::thread::Threads;
 
@@ -92,7 +93,7 @@ pub(crate) fn trace_file<R: Threads + Sync, I: Inputs, O: Outputs, E: Sink, G: G
     match inputs.open(name) {
         Ok(()) => {}
         Err(_) => {
-            return end_unopened(rt, alloc, settings, workers, name, batch, outs, errs, gate);
+            return Err(end_unopened(rt, alloc, settings, workers, name, batch, outs, errs, gate));
         }
     }
     let Ok(base) = base_name(alloc, output, settings.backend, name) else {
@@ -122,7 +123,8 @@ pub(crate) fn trace_file<R: Threads + Sync, I: Inputs, O: Outputs, E: Sink, G: G
     }
 }
 
-/// Carries out all that is held, and then says that a file couldn't be opened: the run ends with it.
+/// Carries out all that is held, and then says that a file couldn't be opened. Answers how the run ends: so, or
+/// where that couldn't be carried out.
 fn end_unopened<R: Threads + Sync, O: Outputs, E: Sink, G: Gate + Sync>(
     rt: &R,
     alloc: Global,
@@ -133,30 +135,28 @@ fn end_unopened<R: Threads + Sync, O: Outputs, E: Sink, G: Gate + Sync>(
     outs: &mut O,
     errs: &mut E,
     gate: &G,
-) -> Result<(), Status>
+) -> Status
     requires document { CanWrite settings }
     requires some_worker { 1 ≤ workers }
     requires most_workers { workers ≤ 64 }
     requires not_full { pages_held batch.old < 2 * workers }
     requires closed { O.is_ready outs.old ≡ false }
     requires ready { E.is_ready errs.old ≡ true }
-    ensures never_goes_on { OnOk result ⊥ }
-    ensures ends { IfErr result (λ status. (first : List Item) → AreHeld settings batch.old first
-        → EndsUnopened name.now status first
-        (sinks_of O.Sink E.Sink outs.old errs.old) (sinks_of O.Sink E.Sink outs.new errs.new)) }
-    ensures status { IfErr result (λ status. (status ≡ Status.Unread)
-        ⊎ ((status ≡ Status.Unwritten) ⊎ (status ≡ Status.OutOfMemory))) }
-    ensures output { IfErr result
-        (λ status. OutputCount status (O.faults outs.old) (O.faults outs.new) (O.is_ready outs.new)) }
+    ensures ends { (first : List Item) → AreHeld settings batch.old first
+        → EndsUnopened name.now result first
+        (sinks_of O.Sink E.Sink outs.old errs.old) (sinks_of O.Sink E.Sink outs.new errs.new) }
+    ensures status { (result ≡ Status.Unread)
+        ⊎ ((result ≡ Status.Unwritten) ⊎ (result ≡ Status.OutOfMemory)) }
+    ensures output { OutputCount result (O.faults outs.old) (O.faults outs.new) (O.is_ready outs.new) }
     ensures outputs_never_fall { O.faults outs.old ≤ O.faults outs.new }
     ensures stays_ready { E.is_ready errs.new ≡ true }
 {
     match batch.carry_out(rt, alloc, settings, workers, outs, errs, gate) {
         Ok(()) => {
             say_not_opened(errs, name);
-            Err(Status::Unread)
+            Status::Unread
         }
-        Err(status) => Err(status),
+        Err(status) => status,
     }
 }
 

@@ -1,23 +1,23 @@
 //! The files of a run, one after another.
 ghost use Rattle.std.specs.Prelude.{◌≡◌, ◌≤◌, ◌*◌, [], false, true, option_map};
+ghost use Rattle.page_trace.specs.Offered.{IsOffered};
+ghost use Rattle.run_output.specs.declared.status.Status.{Status};
 ghost use Rattle.file_trace.specs.Items.{told_contents};
-ghost use Rattle.file_trace.specs.Offered.{IsOffered};
 ghost use Rattle.file_trace.specs.OnePass.{IsOnePass};
 ghost use Rattle.file_trace.specs.Outcome.{IsOutcome, OpensFirst, sinks_of, source_of};
-ghost use Rattle.file_trace.specs.declared.status.Status.{Status};
 ghost use Rattle.file_trace.specs.Progress.{InputCount, OutputCount};
 
 use crate::batch::Batch;
 use crate::file::trace_file;
-use crate::made::Made;
-use crate::message::say_out_of_memory;
-use crate::status::Status;
 use bitmap_input::reader::PageReader;
 use command_words::name::Name;
 use pt_base::gate::Gate;
 use pt_base::inputs::Inputs;
 use pt_base::settings::Settings;
 use pt_base::sink::{Outputs, Sink};
+use run_output::made::Made;
+use run_output::message::say_out_of_memory;
+use run_output::status::Status;
 use std::alloc::Global;
 use std::thread::Threads;
 

@@ -2,8 +2,8 @@
 ghost use Rattle.std.specs.Prelude.{◌≡◌, ℕ, List, Option, Some};
 ghost use Rattle.pt_base.specs.Files.{Contents};
 ghost use Rattle.pt_base.specs.declared.settings.Settings.{Settings};
+ghost use Rattle.page_trace.specs.Offered.{IsOffered};
 ghost use Rattle.file_trace.specs.Items.{AreItems, Item, Nothing};
-ghost use Rattle.file_trace.specs.Offered.{IsOffered};
 
 /// Whatever the files hold, there is a list of what a run is to write.
 pub fn files_have_items()

@@ -7,13 +7,8 @@
 #![tactic(auto)]
 
 mod batch;
-mod document;
 mod file;
 pub mod files;
 pub mod laws;
-mod made;
-pub mod message;
-mod names;
 mod pages;
-pub mod status;
 pub mod text;

@@ -1,14 +1,14 @@
 //! A text of the program's own, as a whole run.
 ghost use Rattle.std.specs.Prelude.{◌≡◌, ◌≤◌, [], ◌∷◌, false, true};
+ghost use Rattle.run_output.specs.Names.{dash};
 ghost use Rattle.file_trace.specs.Items.Item.{Doc};
-ghost use Rattle.file_trace.specs.Names.{dash};
 ghost use Rattle.file_trace.specs.Outcome.{HasEnded, sinks_of};
 ghost use Rattle.file_trace.specs.Progress.{OutputCount};
 
-use crate::document::write_document;
-use crate::message::say_not_written;
-use crate::status::Status;
 use pt_base::sink::{Outputs, Sink};
+use run_output::document::write_document;
+use run_output::message::say_not_written;
+use run_output::status::Status;
 
 /// Writes a text as the one document, to standard output.
 pub fn write_text<O: Outputs, E: Sink>(outs: &mut O, errs: &mut E, text: &[u8]) -> Status

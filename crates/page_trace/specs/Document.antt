@@ -1,4 +1,4 @@
--- The document of a page: all that is said of a backend stands here.
+-- The document of a page: all that is said of a backend stands here, but the suffix of its documents' names.
 use Rattle.std.specs.Prelude.{◌≡◌, ℕ, ◌≤◌, List, codes}
 use Rattle.pt_base.specs.PointsText.{points_text}
 use Rattle.pt_base.specs.PolygonsText.{polygons_text}
@@ -22,15 +22,6 @@ backend_word Dxf = codes "dxf"
 backend_word GeoJson = codes "geojson"
 backend_word Points = codes "points"
 backend_word Polygons = codes "polygons"
-
--- the suffix of a backend's documents
-abbrev pub backend_suffix : Backend → List ℕ
-backend_suffix Eps = codes ".eps"
-backend_suffix Svg = codes ".svg"
-backend_suffix Dxf = codes ".dxf"
-backend_suffix GeoJson = codes ".json"
-backend_suffix Points = codes ".points"
-backend_suffix Polygons = codes ".polygons"
 
 -- the text of a trace under a backend
 abbrev pub text_under : Settings → Backend → Trace → List ℕ

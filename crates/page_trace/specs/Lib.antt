@@ -8,9 +8,8 @@
 --   IsOutlineOf
 --   IsTrace: a trace has the page's paths and polygons, the adjusted vertices of each polygon
 pub mod Trace
--- The document of a page: all that is said of a backend stands here.
+-- The document of a page: all that is said of a backend stands here, but the suffix of its documents' names.
 --   backend_word: the word of a backend
---   backend_suffix: the suffix of a backend's documents
 --   text_under: the text of a trace under a backend
 --   text_of: the text of a trace
 --   IsDocumentUnder: the text is the page's under a backend
@@ -20,3 +19,6 @@ pub mod Trace
 --   CanWriteUnder: what a document needs of the settings, under a backend
 --   CanWrite: what a document needs of the settings
 pub mod Document
+-- What pages can be read and traced under.
+--   IsOffered: pages can be read, and documents written, under the settings
+pub mod Offered

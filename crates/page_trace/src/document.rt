@@ -1,6 +1,6 @@
-//! The document of a page: all that a backend is stands here.
+//! The document of a page: all that a backend is stands here, but the suffix of its documents' names.
 ghost use Rattle.std.specs.Prelude.{◌≡◌, IfNone, IfOk, IfSome};
-ghost use Rattle.page_trace.specs.Document.{CanWrite, IsDocument, backend_suffix, backend_word};
+ghost use Rattle.page_trace.specs.Document.{CanWrite, IsDocument, backend_word};
 ghost use Rattle.pt_base.specs.declared.settings.Backend.{Backend};
 
 use crate::paths::kept_paths;
@@ -28,20 +28,6 @@ pub fn backend_of(word: &str) -> Option<Backend>
         "points" => Some(Backend::Points),
         "polygons" => Some(Backend::Polygons),
         _ => None,
-    }
-}
-
-/// The suffix of a backend's documents.
-pub fn suffix_of(backend: Backend) -> &'static str
-    ensures { result.now ≡ backend_suffix backend }
-{
-    match backend {
-        Backend::Eps => ".eps",
-        Backend::Svg => ".svg",
-        Backend::Dxf => ".dxf",
-        Backend::GeoJson => ".json",
-        Backend::Points => ".points",
-        Backend::Polygons => ".polygons",
     }
 }
 

@@ -4,23 +4,23 @@ use Rattle.pt_base.specs.Counts.{Rose}
 use Rattle.pt_base.specs.Files.{Contents}
 use Rattle.pt_base.specs.declared.settings.Settings.{Settings}
 use Rattle.page_trace.specs.Document.{CanWrite}
-use Rattle.file_trace.specs.Messages.{out_of_memory}
-use Rattle.file_trace.specs.Names.{dash}
+use Rattle.run_output.specs.Messages.{out_of_memory}
+use Rattle.run_output.specs.Names.{dash}
+use Rattle.run_output.specs.Status.{code_of}
+use Rattle.run_output.specs.declared.status.Status.{Status}
+use Rattle.run_output.specs.declared.status.Status.TheVariants as status
+use Rattle.command_asks.specs.Asked.{CanBeDone}
+use Rattle.command_asks.specs.declared.ask.Ask.{Ask}
+use Rattle.command_asks.specs.declared.ask.Ask.TheVariants as asks
 use Rattle.file_trace.specs.Items.{AreItems, IsAbsent, Item, Nothing, told_contents}
 use Rattle.file_trace.specs.Items.Item.{Doc, Missing, Note, Stop}
 use Rattle.file_trace.specs.Outcome.{AreCarriedOut, GoesOn, HasEnded, IsOutcome, Sinks, Source}
 use Rattle.file_trace.specs.Progress.{OutputCount}
-use Rattle.file_trace.specs.Status.{code_of}
-use Rattle.file_trace.specs.declared.status.Status.{Status}
-use Rattle.file_trace.specs.declared.status.Status.TheVariants as status
 use Rattle.file_trace.proofs.Exists.{items_found}
 use Rattle.file_trace.proofs.Joining.{items_behind}
 use Rattle.page_demo.proofs.Found.{demo_found}
-use Rattle.potrace_main.specs.Asked.{CanBeDone}
 use Rattle.potrace_main.specs.Run.{AreItemsOf, EndsMissing, EndsRefused, IsComplete, IsMissing, IsOutcomeOf, IsRun, names_of}
 use Rattle.potrace_main.specs.Usage.{help_text, version_text}
-use Rattle.potrace_main.specs.declared.ask.Ask.{Ask}
-use Rattle.potrace_main.specs.declared.ask.Ask.TheVariants as asks
 
 -- a run doesn't go on after a refusal
 no_stop : (before : List Item) (message : List ℕ) → GoesOn (before ++ Stop message ∷ []) → ⊥

@@ -1,3 +1,1 @@
 pub mod Completing
-pub mod OneAsk
-pub mod Possible

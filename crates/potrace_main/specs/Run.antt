@@ -1,20 +1,20 @@
 -- What the top call promises.
 use Rattle.std.specs.Prelude.{◌≡◌, ℕ, ◌*◌, ◌⊎◌, List, [], ◌∷◌, ◌++◌, Option}
 use Rattle.pt_base.specs.Files.{Contents}
-use Rattle.file_trace.specs.Messages.{bad_words, out_of_memory}
-use Rattle.file_trace.specs.Names.{dash}
+use Rattle.run_output.specs.Messages.{bad_words, out_of_memory}
+use Rattle.run_output.specs.Names.{dash}
+use Rattle.run_output.specs.Status.{code_of}
+use Rattle.run_output.specs.declared.status.Status.{Status}
+use Rattle.run_output.specs.declared.status.Status.TheVariants as status
+use Rattle.command_asks.specs.declared.ask.Ask.{Ask}
+use Rattle.command_asks.specs.declared.ask.Ask.TheVariants as asks
 use Rattle.file_trace.specs.Items.{AreItems, IsAbsent, Item, Nothing, told_contents}
 use Rattle.file_trace.specs.Items.Item.{Doc, Missing, Stop}
 use Rattle.file_trace.specs.OnePass.{IsOnePass}
 use Rattle.file_trace.specs.Outcome.{AreCarriedOut, GoesOn, HasEnded, IsOutcome, OpensFirst, Sinks, Source}
 use Rattle.file_trace.specs.Progress.{InputCount, OutputCount}
-use Rattle.file_trace.specs.Status.{code_of}
-use Rattle.file_trace.specs.declared.status.Status.{Status}
-use Rattle.file_trace.specs.declared.status.Status.TheVariants as status
 use Rattle.page_demo.specs.Line.{IsDemoText}
 use Rattle.potrace_main.specs.Usage.{help_text, version_text}
-use Rattle.potrace_main.specs.declared.ask.Ask.{Ask}
-use Rattle.potrace_main.specs.declared.ask.Ask.TheVariants as asks
 
 -- the exit status is the code of a status of which this holds
 abbrev pub IsCodeOf : ℕ → (Status → Type 0) → Type 0

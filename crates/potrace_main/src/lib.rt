@@ -1,10 +1,5 @@
-//! All that the program does: what its words ask, and its run over the files.
+//! All that the program does: its run.
 #![tactic(auto)]
 
-pub mod ask;
-pub mod asking;
-mod numbers;
-mod settings_given;
 pub mod top;
 pub mod usage;
-pub mod words;

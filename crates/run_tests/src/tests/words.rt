@@ -1,9 +1,9 @@
 //! What words ask for: which of them `clap` takes how, and which values are in their ranges.
 
 use crate::tests::cases::split;
+use command_asks::ask::{Ask, WordFault};
+use command_asks::words::settings_of;
 use command_words::name::Name;
-use potrace_main::ask::{Ask, WordFault};
-use potrace_main::words::settings_of;
 use pt_base::policy::Policy;
 use pt_base::settings::{Backend, Settings};
 use std::alloc::Global;

@@ -5,7 +5,6 @@ use Rattle.file_trace.proofs.file.end_unopened.Goals as goal
 -- all that was held is carried out
 pub returns-in-Ok : goal.returns-in-Ok
 returns-in-Ok g c = record {
-  never_goes_on = tt;
   ends = λ first are. unopened_said c.args.name.now first _ _ _ (c.in-Ok.ensures.done first are) refl c.say_not_opened.ensures.said c.say_not_opened.ensures.never_falls;
   status = inl refl;
   output = c.in-Ok.ensures.steady_output;
@@ -16,7 +15,6 @@ returns-in-Ok g c = record {
 -- or it isn't
 pub returns-in-Err : goal.returns-in-Err
 returns-in-Err g c = record {
-  never_goes_on = tt;
   ends = λ first are. inr (c.in-Err.ensures.status, c.in-Err.ensures.ends first are);
   status = inr c.in-Err.ensures.status;
   output = c.in-Err.ensures.output;

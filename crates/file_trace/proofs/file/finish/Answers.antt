@@ -1,8 +1,8 @@
 use Rattle.std.proofs.Common.{◌≡◌, ◌∙◌, ◌∷◌, [], Result, Ok, Err, OnOk, inl, inr, refl, sym, append-nil, arith}
 use Rattle.std.proofs.lemmas.Result.{IfErr-weaker, on_ok_weaker}
+use Rattle.run_output.specs.Messages.{trailing_line}
+use Rattle.run_output.specs.declared.status.Status.TheVariants as variant
 use Rattle.file_trace.specs.Held.Held.{Message}
-use Rattle.file_trace.specs.Messages.{trailing_line}
-use Rattle.file_trace.specs.declared.status.Status.TheVariants as variant
 use Rattle.file_trace.proofs.Counting.{stands}
 use Rattle.file_trace.proofs.Ending.{end_said}
 use Rattle.file_trace.proofs.Holding.{AreHeld-note, all_held, pages_held-append}

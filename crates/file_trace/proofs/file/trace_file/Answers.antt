@@ -1,7 +1,7 @@
-use Rattle.std.proofs.Common.{◌≡◌, ◌∙◌, ◌∷◌, ◌*◌, ℕ, List, Option, Result, Ok, Err, OnOk, OnErr, ap, option_map, refl, subst, arith}
-use Rattle.std.proofs.lemmas.Result.{IfErr-weaker, on_ok_weaker}
+use Rattle.std.proofs.Common.{◌≡◌, ◌∙◌, ◌∷◌, ◌*◌, ℕ, List, Option, Err, ap, option_map, refl, subst, arith}
 use Rattle.pt_base.specs.Counts.{Rose}
 use Rattle.pt_base.specs.Files.{Lacks}
+use Rattle.run_output.specs.declared.status.Status.TheVariants as status
 use Rattle.file_trace.specs.Items.{told_contents}
 use Rattle.file_trace.specs.Progress.{InputCount, status_of}
 use Rattle.file_trace.proofs.Counting.{output_from, rises, rises_from}
@@ -9,35 +9,23 @@ use Rattle.file_trace.proofs.Ending.{ends_at_once, ends_behind, file_ends, file_
 use Rattle.file_trace.proofs.Filing.{file_goes_on, halts_named, halts_unwritten, has_bytes, traced_named}
 use Rattle.file_trace.proofs.Passing.{pass_ended, pass_halted, pass_unopened}
 use Rattle.file_trace.proofs.Reading.{contents_through, contents_unopened, name-with_file, no_name}
-use Rattle.file_trace.specs.declared.status.Status.TheVariants as status
 use Rattle.file_trace.proofs.file.trace_file.Goals as goal
-
--- where the run doesn't go on nothing is said of that
-no_on : {T E : Type 0} (r : Result T E) (P : Type 0) → OnOk r ⊥ → OnOk r P
-no_on r P none = on_ok_weaker r (λ (no : ⊥). absurd no) none
-
--- what holds, holds where there is an error
-on_err : {T E P : Type 0} (r : Result T E) → P → OnErr r P
-on_err (Ok x) h = tt
-on_err (Err e) h = h
 
 -- the file can't be opened
 pub returns-in-Err : goal.returns-in-Err
 returns-in-Err g c =
     let cause = unopened_by (g.I.Inputs.files c.args.inputs.now) c.args.name.now (g.I.Inputs.faults c.args.inputs.now) (g.I.Inputs.faults c.open.new.self) c.in-Err.field-0 (λ e. c.in-Err.ensures.absent.0 (ap Err e)) (λ e. c.in-Err.ensures.cause (ap Err e)) in
     record {
-      traced = no_on c.end_unopened.result _ c.end_unopened.ensures.never_goes_on;
-      ends = IfErr-weaker c.end_unopened.result _ _ (λ s ends.
-          unopened_ends c.args.settings c.requires.offered.document (option_map (λ s. s.now) c.args.output) c.args.name.now c.args.made.now c.args.batch.now _ _ _ _ c.in-Err.ensures.one_more c.in-Err.ensures.none_opened cause s ends) c.end_unopened.ensures.ends;
-      one_pass = IfErr-weaker c.end_unopened.result _ _ (λ s ends.
-          pass_unopened (2 * c.args.workers) (omega (arith, c.requires.some_worker)) c.args.settings c.requires.offered.document (option_map (λ s. s.now) c.args.output) c.args.name.now c.args.made.now c.args.batch.now _ _ _ _
-          c.requires.not_full cause s ends) c.end_unopened.ensures.ends;
-      same_made = on_err c.end_unopened.result refl;
-      still_not_full = no_on c.end_unopened.result _ c.end_unopened.ensures.never_goes_on;
-      input = IfErr-weaker c.end_unopened.result _ _ (λ s which. input_unopened s which _ _) c.end_unopened.ensures.status;
-      steady_input = no_on c.end_unopened.result _ c.end_unopened.ensures.never_goes_on;
+      traced = tt;
+      ends = unopened_ends c.args.settings c.requires.offered.document (option_map (λ s. s.now) c.args.output) c.args.name.now c.args.made.now c.args.batch.now _ _ _ _ c.in-Err.ensures.one_more c.in-Err.ensures.none_opened cause c.end_unopened.result c.end_unopened.ensures.ends;
+      one_pass = pass_unopened (2 * c.args.workers) (omega (arith, c.requires.some_worker)) c.args.settings c.requires.offered.document (option_map (λ s. s.now) c.args.output) c.args.name.now c.args.made.now c.args.batch.now _ _ _ _
+          c.requires.not_full cause c.end_unopened.result c.end_unopened.ensures.ends;
+      same_made = refl;
+      still_not_full = tt;
+      input = input_unopened c.end_unopened.result c.end_unopened.ensures.status _ _;
+      steady_input = tt;
       output = c.end_unopened.ensures.output;
-      steady_output = no_on c.end_unopened.result _ c.end_unopened.ensures.never_goes_on;
+      steady_output = tt;
       inputs_never_fall = c.in-Err.ensures.never_falls;
       outputs_never_fall = c.end_unopened.ensures.outputs_never_fall;
       one_more = c.in-Err.ensures.one_more;

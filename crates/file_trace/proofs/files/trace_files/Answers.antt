@@ -1,11 +1,11 @@
 use Rattle.std.proofs.Common.{◌≡◌, ◌∙◌, ◌*◌, [], ℕ, List, Option, inl, option_map, refl, arith}
 use Rattle.std.proofs.lemmas.List.{take_all}
+use Rattle.run_output.specs.declared.status.Status.TheVariants as status
 use Rattle.file_trace.specs.Items.{told_contents}
 use Rattle.file_trace.specs.Outcome.{source_of}
 use Rattle.file_trace.proofs.Counting.{input_from, output_from}
 use Rattle.file_trace.proofs.Ending.{ends_at_once, input_of_halt}
 use Rattle.file_trace.proofs.Running.{all_done, ends_after, ends_in, none_done, one_done, openings_more, opens_to, passes_after, passes_in}
-use Rattle.file_trace.specs.declared.status.Status.TheVariants as status
 use Rattle.file_trace.proofs.files.trace_files.Goals as goal
 
 -- no file is done yet

@@ -1,7 +1,7 @@
 use Rattle.std.proofs.Common.{◌≡◌, ◌∙◌, Err, true, false, ap, refl, sym, arith}
 use Rattle.page_trace.proofs.Exists.{document_found}
+use Rattle.run_output.proofs.Naming.{next_name-made_with}
 use Rattle.file_trace.proofs.Counting.{input_from, output_from, rises_from, rose_from, stands}
-use Rattle.file_trace.proofs.Naming.{next_name-made_with}
 use Rattle.file_trace.proofs.Tracing.{ends_by, halted, no_more, none_traced, one_more}
 use Rattle.file_trace.specs.Progress.{status_of}
 use Rattle.file_trace.proofs.pages.trace_pages.Goals as goal

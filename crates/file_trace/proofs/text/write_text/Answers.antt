@@ -1,5 +1,5 @@
 use Rattle.std.proofs.Common.{[], refl}
-use Rattle.file_trace.specs.Names.{dash}
+use Rattle.run_output.specs.Names.{dash}
 use Rattle.file_trace.proofs.Carrying.{one_said}
 use Rattle.file_trace.proofs.text.write_text.Goals as goal
 

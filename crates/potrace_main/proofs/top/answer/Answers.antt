@@ -1,11 +1,11 @@
 use Rattle.std.proofs.Common.{◌≡◌, inl, map, refl}
 use Rattle.std.specs.Prelude.{string_bytes}
-use Rattle.file_trace.specs.Messages.{bad_words, out_of_memory}
-use Rattle.file_trace.specs.declared.status.Status.TheVariants as status
+use Rattle.run_output.specs.Messages.{bad_words, out_of_memory}
+use Rattle.run_output.specs.declared.status.Status.TheVariants as status
+use Rattle.command_asks.proofs.OneAsk.{one_ask}
+use Rattle.command_asks.proofs.Possible.{possible}
 use Rattle.file_trace.proofs.Carrying.{only_said}
 use Rattle.potrace_main.proofs.Completing.{never_refuses, out_at_once}
-use Rattle.potrace_main.proofs.OneAsk.{one_ask}
-use Rattle.potrace_main.proofs.Possible.{possible}
 use Rattle.potrace_main.proofs.top.answer.Goals as goal
 
 -- what the words ask for is done

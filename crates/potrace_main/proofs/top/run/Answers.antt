@@ -1,8 +1,8 @@
 use Rattle.std.proofs.Common.{◌∙◌, ap, inl, inr, map, sym}
 use Rattle.std.specs.Prelude.{string_bytes}
-use Rattle.file_trace.specs.Status.{code_of}
+use Rattle.run_output.specs.Status.{code_of}
+use Rattle.command_asks.proofs.Possible.{possible}
 use Rattle.potrace_main.proofs.Completing.{closed_else, code_one, rose_unwritten, run_absent, run_complete, run_unread, written_rose}
-use Rattle.potrace_main.proofs.Possible.{possible}
 use Rattle.potrace_main.proofs.top.run.Goals as goal
 
 pub returns-clause-outcome : goal.returns-clause-outcome

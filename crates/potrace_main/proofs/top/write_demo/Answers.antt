@@ -1,6 +1,6 @@
 use Rattle.std.proofs.Common.{[], ◌∷◌, refl}
+use Rattle.run_output.specs.Names.{dash}
 use Rattle.file_trace.specs.Items.Item.{Doc}
-use Rattle.file_trace.specs.Names.{dash}
 use Rattle.file_trace.proofs.Keeping.{memory_out}
 use Rattle.page_demo.proofs.Found.{demo_found}
 use Rattle.potrace_main.proofs.top.write_demo.Goals as goal

@@ -1,7 +1,7 @@
 use Rattle.std.proofs.Common.{◌∙◌, [], ◌∷◌, ◌++◌, ap, arith}
 use Rattle.std.specs.Prelude.{string_bytes}
+use Rattle.run_output.specs.Messages.{trailing_line}
 use Rattle.file_trace.specs.Held.Held.{Message}
-use Rattle.file_trace.specs.Messages.{trailing_line}
 use Rattle.file_trace.proofs.Batching.{held_by-message, pages_among-append}
 use Rattle.file_trace.proofs.batch.Batch.push_trailing.Goals as goal
 

@@ -1,0 +1,2 @@
+pub mod OneAsk
+pub mod Possible

@@ -1,0 +1,17 @@
+-- What the words of the command line ask for.
+--   policy_word: the word of a policy (the potrace manual page, option "turnpolicy")
+--   NamesBackend: the value of `-b`, and whether `-s` and `-e` are given, name this backend
+--   NamesPolicy: the value of `-z` names this policy
+--   IsWholeOr: n is the default where there is no value; else the value is the whole number n, in a range
+--   IsWholeOf: there is a value, and it is the whole number n, in a range
+--   IsMicroOr: n is the default where there is no value; else the value is a decimal number of n millionths
+--   GivesSettings: the options give these settings
+--   AreProper: no file name is empty, and standard input is named at most once
+--   inputs_of: the files to be read
+--   AsksDemo: made-up pages are to be traced
+--   AsksFiles: files are to be traced
+--   AsksOf: what the options and files ask for
+--   Asks: what words that come to this ask for
+--   IsAsked: the words ask for this
+--   CanBeDone: the program can do what is asked for
+pub mod Asked

@@ -1,0 +1,8 @@
+//! What the words of the command line ask for: made-up pages or files, and the settings to trace them under.
+#![tactic(auto)]
+
+pub mod ask;
+pub mod asking;
+mod numbers;
+mod settings_given;
+pub mod words;

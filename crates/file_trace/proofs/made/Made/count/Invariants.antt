@@ -1,8 +1,0 @@
-use Rattle.std.proofs.Common.{◌≡◌, take}
-use Rattle.std.specs.List.{sum_by}
-use Rattle.file_trace.specs.Made.{documents_of}
-use Rattle.file_trace.proofs.made.Made.count.Given as goal
-
--- the documents of the first files are counted
-abbrev pub invariant-loop-file : goal.invariant-loop-file
-invariant-loop-file l = l.count ≡ sum_by (documents_of l.base) (take l.file-index l.file-items)

@@ -1,6 +1,0 @@
-use Rattle.std.proofs.Common.{◌∙◌}
-use Rattle.file_trace.proofs.message.say_trailing.Goals as goal
-
--- the two texts are those that the pieces were made of
-pub returns-clause-said : goal.returns-clause-said
-returns-clause-said g c = rw (← c.as_bytes.ensures.value, ← (c.as_bytes-pages.ensures.value ∙ c.format.ensures.text)) c.say.ensures.said

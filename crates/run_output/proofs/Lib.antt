@@ -1,0 +1,3 @@
+pub mod NameExamples
+pub mod Naming
+pub mod Saying

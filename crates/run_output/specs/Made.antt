@@ -1,0 +1,17 @@
+-- The documents that were made, file by file.
+use Rattle.std.specs.Prelude.{ℕ, List, [], ◌∷◌, ◌++◌, replicate, string_bytes}
+use Rattle.run_output.specs.Names.{count_of}
+use Rattle.run_output.specs.declared.made.FileMade.{FileMade}
+
+-- how many pages a run accepts
+abbrev pub most_pages : ℕ
+most_pages = 65536
+
+-- the base names of the documents of these files, the last one first
+abbrev pub made_by : List FileMade → List (List ℕ)
+made_by [] = []
+made_by (file ∷ files) = made_by files ++ replicate file.pages (string_bytes file.base)
+
+-- how many documents of a file have this base name
+abbrev pub documents_of : List ℕ → FileMade → ℕ
+documents_of base file = count_of base (replicate file.pages (string_bytes file.base))

@@ -1,0 +1,32 @@
+//! Writing a whole document.
+ghost use Rattle.std.specs.Prelude.{◌≡◌, ◌≤◌, false, OnOk, OnErr};
+ghost use Rattle.pt_base.specs.Counts.{Rose};
+ghost use Rattle.pt_base.specs.Documents.{IsCutOff, with_whole};
+
+use pt_base::fault::SinkFault;
+use pt_base::sink::Outputs;
+use pt_base::write::write_whole;
+
+/// Begins a document, writes its text and ends it.
+///
+/// After a fault nothing more is written: the document is cut off there.
+pub fn write_document<O: Outputs>(outs: &mut O, name: &str, text: &[u8]) -> Result<(), SinkFault>
+    requires { O.is_ready outs.old ≡ false }
+    ensures whole { OnOk result (O.documents outs.new
+        ≡ with_whole (O.documents outs.old) name.now text.now) }
+    ensures steady { OnOk result (O.faults outs.new ≡ O.faults outs.old) }
+    ensures closed { OnOk result (O.is_ready outs.new ≡ false) }
+    ensures cut_off { OnErr result
+        (IsCutOff (O.documents outs.old) (O.documents outs.new) name.now text.now) }
+    ensures cause { OnErr result (Rose (O.faults outs.old) (O.faults outs.new)) }
+    ensures never_falls { O.faults outs.old ≤ O.faults outs.new }
+{
+    if outs.begin(name).is_err() {
+        return Err(SinkFault);
+    }
+    write_whole(outs, text)?;
+    match outs.end() {
+        Ok(()) => Ok(()),
+        Err(_) => Err(SinkFault),
+    }
+}

@@ -1,0 +1,118 @@
+//! The lines that the program writes to standard error.
+ghost use Rattle.std.specs.Prelude.{◌≡◌, ◌≤◌, true, map};
+ghost use Rattle.std.specs.List.{concat};
+ghost use Rattle.pt_base.specs.Documents.{IsSaid};
+ghost use Rattle.run_output.specs.Messages.{bad_words, not_opened, not_written, out_of_memory, page_line, trailing_line};
+
+use itoa::Buffer;
+use pt_base::sink::Sink;
+use pt_base::write::write_whole;
+
+/// Says that the words aren't the program's.
+pub fn say_bad_words<E: Sink>(errs: &mut E)
+    requires { E.is_ready errs.old ≡ true }
+    ensures said { IsSaid (E.documents errs.old) (E.documents errs.new) (E.faults errs.old)
+        (E.faults errs.new) bad_words }
+    ensures never_falls { E.faults errs.old ≤ E.faults errs.new }
+    ensures stays_ready { E.is_ready errs.new ≡ true }
+{
+    say(errs, &[b"potrace: bad arguments, see potrace -h\n"])
+}
+
+/// Says that memory ran out.
+pub fn say_out_of_memory<E: Sink>(errs: &mut E)
+    requires { E.is_ready errs.old ≡ true }
+    ensures said { IsSaid (E.documents errs.old) (E.documents errs.new) (E.faults errs.old)
+        (E.faults errs.new) out_of_memory }
+    ensures never_falls { E.faults errs.old ≤ E.faults errs.new }
+    ensures stays_ready { E.is_ready errs.new ≡ true }
+{
+    say(errs, &[b"potrace: out of memory\n"])
+}
+
+/// Says that a file couldn't be opened.
+pub fn say_not_opened<E: Sink>(errs: &mut E, name: &str)
+    requires { E.is_ready errs.old ≡ true }
+    ensures said { IsSaid (E.documents errs.old) (E.documents errs.new) (E.faults errs.old)
+        (E.faults errs.new) (not_opened name.now) }
+    ensures never_falls { E.faults errs.old ≤ E.faults errs.new }
+    ensures stays_ready { E.is_ready errs.new ≡ true }
+{
+    say(
+        errs,
+        &[b"potrace: ", name.as_bytes(), b": cannot be opened\n"],
+    )
+}
+
+/// Says that a document couldn't be written.
+pub fn say_not_written<E: Sink>(errs: &mut E, name: &str)
+    requires { E.is_ready errs.old ≡ true }
+    ensures said { IsSaid (E.documents errs.old) (E.documents errs.new) (E.faults errs.old)
+        (E.faults errs.new) (not_written name.now) }
+    ensures never_falls { E.faults errs.old ≤ E.faults errs.new }
+    ensures stays_ready { E.is_ready errs.new ≡ true }
+{
+    say(errs, &[b"potrace: ", name.as_bytes(), b": write fault\n"])
+}
+
+/// Says something of a page of a file, counted from 1.
+pub fn say_of_page<E: Sink>(errs: &mut E, name: &str, page: u64, text: &str)
+    requires { E.is_ready errs.old ≡ true }
+    ensures said { IsSaid (E.documents errs.old) (E.documents errs.new) (E.faults errs.old)
+        (E.faults errs.new) (page_line name.now page text.now) }
+    ensures never_falls { E.faults errs.old ≤ E.faults errs.new }
+    ensures stays_ready { E.is_ready errs.new ≡ true }
+{
+    let mut digits = Buffer::new();
+    let page = digits.format(page).as_bytes();
+    say(
+        errs,
+        &[
+            b"potrace: ",
+            name.as_bytes(),
+            b": page ",
+            page,
+            b": ",
+            text.as_bytes(),
+            b"\n",
+        ],
+    )
+}
+
+/// Says that bytes after so many pages of a file begin no page.
+pub fn say_trailing<E: Sink>(errs: &mut E, name: &str, pages: u64)
+    requires { E.is_ready errs.old ≡ true }
+    ensures said { IsSaid (E.documents errs.old) (E.documents errs.new) (E.faults errs.old)
+        (E.faults errs.new) (trailing_line name.now pages) }
+    ensures never_falls { E.faults errs.old ≤ E.faults errs.new }
+    ensures stays_ready { E.is_ready errs.new ≡ true }
+{
+    let mut digits = Buffer::new();
+    let pages = digits.format(pages).as_bytes();
+    say(
+        errs,
+        &[
+            b"potrace: ",
+            name.as_bytes(),
+            b": trailing bytes after page ",
+            pages,
+            b"\n",
+        ],
+    )
+}
+
+/// Writes the pieces one after another, and gives up the rest where a write fails.
+fn say<E: Sink>(errs: &mut E, pieces: &[&[u8]])
+    requires { E.is_ready errs.old ≡ true }
+    ensures said { IsSaid (E.documents errs.old) (E.documents errs.new) (E.faults errs.old)
+        (E.faults errs.new) (concat (map (λ piece. piece.now) pieces.now)) }
+    ensures never_falls { E.faults errs.old ≤ E.faults errs.new }
+    ensures stays_ready { E.is_ready errs.new ≡ true }
+{
+    for piece in pieces {
+        match write_whole(errs, piece) {
+            Ok(()) => {}
+            Err(_) => return,
+        }
+    }
+}

@@ -1,0 +1,104 @@
+//! The names of documents, from those of files or of the output.
+ghost use Rattle.std.specs.Prelude.{◌≡◌, ◌≤◌, ◌<◌, None, IfOk, IfSome, get_or, length, option_map, string_bytes};
+ghost use Rattle.std.specs.Str.{IsCharBoundary};
+ghost use Rattle.run_output.specs.Names.{backend_suffix, base_name, document_name, last_place, part_begins, suffix_begins};
+
+use itoa::Buffer;
+use pt_base::settings::Backend;
+use std::alloc::{AllocError, Global};
+
+/// The name by which all documents of a file go.
+pub fn base_name(
+    alloc: Global,
+    output: Option<&str>,
+    backend: Backend,
+    file: &str,
+) -> Result<String, AllocError>
+    ensures { IfOk result (λ name. string_bytes name
+        ≡ base_name (option_map (λ s. s.now) output.entry) backend file.now) }
+{
+    match output {
+        Some(output) => String::from_str(alloc, output),
+        None => file_base_name(alloc, backend, file),
+    }
+}
+
+fn file_base_name(alloc: Global, backend: Backend, file: &str) -> Result<String, AllocError>
+    ensures { IfOk result (λ name. string_bytes name ≡ base_name None backend file.now) }
+{
+    if file == "-" {
+        return String::from_str(alloc, "-");
+    }
+    let at = suffix_begins(file);
+    let mut name = String::from_str(alloc, &file[..at])?;
+    name.push_str(backend_suffix(backend))?;
+    Ok(name)
+}
+
+/// The suffix of a backend's documents.
+fn backend_suffix(backend: Backend) -> &'static str
+    ensures { result.now ≡ backend_suffix backend }
+{
+    match backend {
+        Backend::Eps => ".eps",
+        Backend::Svg => ".svg",
+        Backend::Dxf => ".dxf",
+        Backend::GeoJson => ".json",
+        Backend::Points => ".points",
+        Backend::Polygons => ".polygons",
+    }
+}
+
+/// The name of the k-th document with a base name, counted from 1.
+pub fn document_name(alloc: Global, base: &str, k: u32) -> Result<String, AllocError>
+    ensures { IfOk result (λ name. string_bytes name ≡ document_name base.now k) }
+{
+    if base == "-" || k <= 1 {
+        return String::from_str(alloc, base);
+    }
+    let at = suffix_begins(base);
+    let mut digits = Buffer::new();
+    let mut name = String::from_str(alloc, &base[..at])?;
+    name.push_str("-")?;
+    name.push_str(digits.format(k))?;
+    name.push_str(&base[at..])?;
+    Ok(name)
+}
+
+/// Where the suffix of a name begins: at the end where it has none.
+fn suffix_begins(name: &str) -> usize
+    ensures value { result ≡ suffix_begins name.now }
+    ensures boundary { IsCharBoundary name.now result }
+    ensures within { result ≤ length name.now }
+{
+    match last_place(name.as_bytes(), b'.') {
+        Some(dot) if part_begins(name.as_bytes()) < dot => dot,
+        _ => name.len(),
+    }
+}
+
+/// Where the last part of a name begins.
+fn part_begins(name: &[u8]) -> usize
+    ensures { result ≡ part_begins name.now }
+{
+    match last_place(name, b'/') {
+        Some(slash) => slash + 1,
+        None => 0,
+    }
+}
+
+/// Where the last such byte stands.
+fn last_place(name: &[u8], byte: u8) -> Option<usize>
+    ensures value { result ≡ last_place byte name.now }
+    ensures found { IfSome result
+        (λ i. (i < length name.now) × (get_or name.now i 0 ≡ byte)) }
+{
+    let mut end = name.len();
+    while end > 0 {
+        if name[end - 1] == byte {
+            return Some(end - 1);
+        }
+        end -= 1;
+    }
+    None
+}
