@@ -59,6 +59,15 @@ count_by-agree f g (x ∷ xs) h =
 
 -- ---- the edges along one line
 
+-- the column and the row that a line starts from
+abbrev column_of : Line → ℕ
+column_of (upright x y) = x
+column_of (level x y) = x
+
+abbrev row_of : Line → ℕ
+row_of (upright x y) = y
+row_of (level x y) = y
+
 -- an edge along an upright line goes up where the pixel on the left side of the line is the black one, and else down
 way_of : (w : Image) (x y u v : ℕ) (d : Dir) → left_pixel (south_west w) u v d ≡ true → right_pixel (south_west w) u v d ≡ false → upright x y ≡ line_along u v d
     → (is_up d ≡ south_west w x (suc y)) × (is_down d ≡ not (south_west w x (suc y)))
@@ -67,14 +76,6 @@ way_of w x y u v North black white e =
     let row : y ≡ v = ap row_of e in
     let left : south_west w x (suc y) ≡ true = ap (λ n. south_west w n (suc y)) column ∙ ap (λ n. south_west w u (suc n)) row ∙ black in
     (sym left, sym (ap not left))
-  where
-    column_of : Line → ℕ
-    column_of (upright a b) = a
-    column_of (level a b) = a
-
-    row_of : Line → ℕ
-    row_of (upright a b) = b
-    row_of (level a b) = b
 way_of w x y u v East black white e = cc
 way_of w x y u zero South black white e = absurd (false≢true black)
 way_of w x y u (suc v) South black white e =
@@ -82,14 +83,6 @@ way_of w x y u (suc v) South black white e =
     let row : y ≡ v = ap row_of e in
     let left : south_west w x (suc y) ≡ false = ap (λ n. south_west w n (suc y)) column ∙ ap (λ n. south_west w u (suc n)) row ∙ white in
     (sym left, sym (ap not left))
-  where
-    column_of : Line → ℕ
-    column_of (upright a b) = a
-    column_of (level a b) = a
-
-    row_of : Line → ℕ
-    row_of (upright a b) = b
-    row_of (level a b) = b
 way_of w x y u v West black white e = cc
 
 -- how many edges of a list go up, or down, along a line

@@ -110,9 +110,8 @@ fn refused_gray_pages(rt: HostRuntime) -> Result<(), Fail> {
     Ok(())
 }
 
-// The last sample of a plain page ends with the byte behind it, or with the end of the file, and the
-// last one of a raw page with its own byte.
-/// A page, the read that fails, and the answer.
+/// A page, the read that fails, and the answer. The last sample of a plain page ends with the byte behind it, or
+/// with the end of the file, and the last one of a raw page with its own byte.
 const FAILING: [(&[u8], u64, &str); 6] = [
     (b"P2 1 1 255 0", 12, "read fault"),
     (b"P2 1 1 255 0", 13, "read fault"),
