@@ -53,9 +53,10 @@ pub mod Courses
 --   IsClearBefore: of the steps from an index on, up to the limit and to this end
 --   IsStraightFor: of the steps from point i on, up to the limit
 --   AreStraight: for each point, how many steps from there on are straight
---   IsNext: `index` is where this step is taken next, at `at` or after it
+--   IsNext: `index` is where this step is taken next, as far as a last index can tell
 --   IsAhead
---   IsTail: of the subpaths from `at`, up to the limit and the last index
+--   IsTail: of the subpaths from `at`, up to the limit and the last index that was looked at
+--   IsSettled: what stands beyond that index changes nothing
 --   AreKnown: for each point, a number of steps from there for which the cones hold
 --   AreSeen: from each index that isn't below the first one and is below the second
 --   IsSweep

@@ -33,13 +33,14 @@ pub(crate) struct Sweep {
 }
 
 impl Sweep {
-    /// At the last index that matters: nothing is known of the indices before.
-    pub(crate) fn at_last(track: &Track) -> Sweep
-        ensures { IsSweep track.now (last_of track.now) result }
+    /// At the last index that is looked at: nothing is known of the indices before.
+    pub(crate) fn at_last(track: &Track, last: usize) -> Sweep
+        requires { last ≤ last_of track.now }
+        ensures sweep { IsSweep track.now last result }
+        ensures last { result.tail.ahead.last ≡ last }
     {
-        let last = track.last();
         Sweep {
-            tail: Tail::at_last(track),
+            tail: Tail::at_last(track, last),
             seen: last,
             leap: SHORTEST_LEAP,
             rest: last,
@@ -52,6 +53,8 @@ impl Sweep {
         requires index { index + 1 < 2 * length track.now }
         requires later { IsSweep track.now (index + 1) self }
         ensures sweep { IsSweep track.now index result }
+        ensures same_last { result.tail.ahead.last ≡ self.tail.ahead.last }
+        ensures no_later { result.tail.end ≤ self.tail.end }
         ensures clear { IsClear (path_from track.now index) (result.tail.end - index) }
     {
         let sweep = self.looked(track, known, index);
@@ -69,7 +72,8 @@ impl Sweep {
         requires known { AreKnown track.now known.now }
         requires index { index + 1 < 2 * length track.now }
         requires later { IsSweep track.now (index + 1) self }
-        ensures { IsSweep track.now (index + 1) result }
+        ensures sweep { IsSweep track.now (index + 1) result }
+        ensures same_tail { result.tail ≡ self.tail }
     {
         if self.seen <= index {
             return self;
@@ -89,7 +93,8 @@ impl Sweep {
         requires known { AreKnown track.now known.now }
         requires next { next < 2 * length track.now }
         requires later { IsSweep track.now next self }
-        ensures { IsSweep track.now next result }
+        ensures sweep { IsSweep track.now next result }
+        ensures same_tail { result.tail ≡ self.tail }
     {
         let last = track.last();
         if last <= next || !steps.is_power_of_two() {
@@ -110,7 +115,8 @@ impl Sweep {
         requires known { AreKnown track.now known.now }
         requires next { next < 2 * length track.now }
         requires later { IsSweep track.now next self }
-        ensures { IsSweep track.now next result }
+        ensures sweep { IsSweep track.now next result }
+        ensures same_tail { result.tail ≡ self.tail }
     {
         if self.rest < next {
             return self;
@@ -129,7 +135,8 @@ impl Sweep {
     fn leapt(self, track: &Track, next: usize, seen: usize) -> Sweep
         requires tail { IsTail track.now next self.tail }
         requires seen { AreSeen track.now seen next self.tail.end }
-        ensures { IsSweep track.now next result }
+        ensures sweep { IsSweep track.now next result }
+        ensures same_tail { result.tail ≡ self.tail }
     {
         let _ = track;
         if seen < next {
