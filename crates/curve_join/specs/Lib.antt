@@ -47,6 +47,7 @@ pub mod Least
 --   LiesWithin: none of its places is farther from 0
 --   quadratic: the weights of a quadratic and of a cubic curve at u / 64
 --   cubic
+--   AreWithin: none of a quadratic's coefficients is farther from 0
 --   tangent_at: the curve's direction at u / 64
 --   place_at: its place there, rounded down
 --   slant_at: how little the curve at u / 64 goes in this direction
