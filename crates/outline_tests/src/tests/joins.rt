@@ -197,25 +197,25 @@ fn steepness(heights: [i8; 4], u: u8) -> u64 {
         .unsigned_abs()
 }
 
-// Curves that rise, fall, turn once or twice, touch a level line, or are level at an end or throughout.
+// Curves that rise, fall, turn once or twice, touch a level line, or are level at an end or throughout. Most cross
+// products with the long level are more than 2^49, and most with the short one are less.
 #[test]
 fn flattest_parts(rt: HostRuntime) -> Result<(), Fail> {
     let heights = [-128, -99, -31, -2, 0, 1, 7, 64, 127];
-    let level = Vector {
+    let long = Vector {
         x: 134_217_728,
         y: 0,
     };
+    let short = Vector { x: 1_048_576, y: 0 };
     for start in heights {
         for first in heights {
             for second in heights {
                 for end in heights {
                     let heights = [start, first, second, end];
-                    let found = touching(&wave(heights), level);
-                    assert_eq!(rt;
-                        found,
-                        u32::from(flattest(heights)),
-                        "{start} {first} {second} {end}"
-                    );
+                    let curve = wave(heights);
+                    let found = (touching(&curve, long), touching(&curve, short));
+                    let flat = u32::from(flattest(heights));
+                    assert_eq!(rt; found, (flat, flat), "{start} {first} {second} {end}");
                 }
             }
         }
