@@ -63,14 +63,16 @@ fn square(side: u64) -> u128
 }
 
 /// Newton's method. A guess that isn't below the root gives, by the mean of itself and of n
-/// divided by it, a lower one that isn't below the root either, until it is the root.
+/// divided by it, a lower one that isn't below the root either, until it is the root. The first
+/// guess is such a mean too, of a power of two, by which a division is a shift.
 fn short_root(n: u64) -> u64
     ensures { IsRoot n result }
 {
     if n == 0 {
         return 0;
     }
-    let mut guess = guess_above(n);
+    let side = power_near(n);
+    let mut guess = (side + n / side) / 2;
     loop {
         let mean = (guess + n / guess) / 2;
         if guess <= mean {
@@ -80,10 +82,11 @@ fn short_root(n: u64) -> u64
     }
 }
 
-/// A power of two above the root: its exponent is half the number's bits, rounded up.
-fn guess_above(n: u64) -> u64
-    ensures above { n < result * result }
-    ensures most { result < 2 ^ 33 }
+/// A power of two near the root: its exponent is half the number's bits, rounded down.
+fn power_near(n: u64) -> u64
+    ensures some { 0 < result }
+    ensures near { n < 2 * (result * result) }
+    ensures most { result ≤ 2 ^ 32 }
 {
-    1 << ((65 - n.leading_zeros()) / 2)
+    1 << ((64 - n.leading_zeros()) / 2)
 }

@@ -1,5 +1,5 @@
-use Rattle.std.proofs.Common.{◌∙◌, Result, Ok, Err, refl}
-use Rattle.std.specs.Prelude.{OnErr}
+use Rattle.std.proofs.Common.{◌∙◌, refl}
+use Rattle.pt_base.proofs.Appending.{on_err}
 use Rattle.file_trace.proofs.Batching.{message_written, none_written, page_cut, page_written}
 use Rattle.file_trace.proofs.batch.write_entries.Goals as goal
 use Rattle.file_trace.proofs.batch.write_entries.Goals.{in-Page+in_ok-write_page-in-Page, in-Trailing}
@@ -12,11 +12,6 @@ loop-entry-init g c = record {
   closed = c.requires.closed;
   ready = c.requires.ready;
 }
-
--- what holds, holds where there is an error
-on_err : {T E P : Type 0} (r : Result T E) → P → OnErr r P
-on_err (Ok x) h = tt
-on_err (Err e) h = h
 
 -- the document of a page is cut off
 pub returns-in_err-write_page-in-Page-clause-ends : goal.returns-in_err-write_page-in-Page-clause-ends
