@@ -1,5 +1,5 @@
 //! Where a line of some direction touches a curve.
-ghost use Rattle.std.specs.Prelude.{◌≡◌, ◌≤◌, ◌<◌, ◌+◌, ◌*◌, ◌-◌, ◌^◌, ℤ, pos, ◌+ℤ◌, ◌*ℤ◌, ◌<ℤ◌, ◌≤ℤ◌, unsigned_abs, true, ◌↔◌};
+ghost use Rattle.std.specs.Prelude.{◌≡◌, ◌≤◌, ◌<◌, ◌+◌, ◌*◌, ◌-◌, ◌^◌, ℤ, pos, ◌+ℤ◌, ◌*ℤ◌, ◌<ℤ◌, ◌≤ℤ◌, unsigned_abs, ◌↔◌, IsTrue};
 ghost use Rattle.curve_join.specs.Cubic.{AreWithin, LiesWithin, quadratic, slant_at, touching_of, touching_part};
 ghost use Rattle.curve_join.specs.Least.{IsFirstLeast, least_at};
 ghost use Rattle.curve_join.specs.Vector.{IsPlaced, IsWithin};
@@ -57,7 +57,7 @@ fn least_part(a: i64, b: i64, c: i64) -> u32
 
 /// Whether the quadratic of these coefficients is narrow.
 fn is_narrow(a: i64, b: i64, c: i64) -> bool
-    ensures { (result ≡ true) ↔ AreWithin MOST_NARROW a b c }
+    ensures { IsTrue result ↔ AreWithin MOST_NARROW a b c }
 {
     a.unsigned_abs() <= MOST_NARROW
         && b.unsigned_abs() <= MOST_NARROW

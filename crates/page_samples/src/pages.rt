@@ -1,4 +1,6 @@
 //! Small pages.
+ghost use Rattle.std.specs.Prelude.{◌≡◌};
+ghost use Rattle.page_samples.specs.declared.pages.NoPage.{NoPage};
 
 use bit_image::bitmap::Bitmap;
 use pt_base::fault::NoMemory;
@@ -14,6 +16,8 @@ pub enum NoPage {
 }
 
 impl From<NoMemory> for NoPage {
+    ghost from_gives = { λ _ page. page ≡ NoPage.OutOfMemory };
+
     fn from(_fault: NoMemory) -> NoPage {
         NoPage::OutOfMemory
     }

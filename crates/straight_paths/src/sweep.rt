@@ -1,4 +1,4 @@
-//! The walk from the end of its second lap down.
+//! The walk taken backwards, from an index of its second lap down.
 ghost use Rattle.std.specs.Prelude.{◌≡◌, ◌+◌, ◌-◌, ◌*◌, ◌<◌, ◌≤◌, length, IsTrue};
 ghost use Rattle.straight_paths.specs.Cones.{IsClear};
 ghost use Rattle.straight_paths.specs.Corners.{IsNextCorner};

@@ -59,6 +59,13 @@ pub const PLAIN: Case<'static> = Case {
     said: "",
 };
 
+/// The points and the polygons document of a page of one black pixel, and the points document of one white pixel.
+pub const PIXEL: &str = "points 1 1 1\n+ 1 0,1 0,0 1,0 1,1\n";
+
+pub const PIXEL_POLYGON: &str = "polygons 1 1 1\n+ 1 4 4 0: 0 1 2 3\n";
+
+pub const WHITE: &str = "points 1 1 0\n";
+
 /// What a run did.
 #[derive(Drop)]
 pub struct Done {

@@ -1,12 +1,12 @@
 //! Inputs that are cut off after every number of bytes, and pages with hostile headers.
 
-use crate::tests::cases::{Case, PLAIN, check_all};
+use crate::tests::cases::{Case, PIXEL, PLAIN, check_all};
 use pt_base::gate::NoGate;
 use std::test::Fail;
 
 const LEFT: &str = "-b points -t 0";
 
-const PIXEL: (&str, &str) = ("-", "points 1 1 1\n+ 1 0,1 0,0 1,0 1,1\n");
+const ONE: (&str, &str) = ("-", PIXEL);
 
 const TALL: (&str, &str) = ("-", "points 1 2 1\n+ 1 0,2 0,1 1,1 1,2\n");
 
@@ -51,11 +51,11 @@ const CUTS: &[Cut] = &[
     (COMMENTS, 19, 19, &[WIDE], 0, ""),
     (PAGES, 0, 1, &[], 2, UNKNOWN),
     (PAGES, 2, 7, &[], 2, TRUNCATED),
-    (PAGES, 8, 8, &[PIXEL], 0, ""),
-    (PAGES, 9, 9, &[PIXEL], 0, TRAILING),
-    (PAGES, 10, 15, &[PIXEL], 2, TRUNCATED_LATER),
-    (PAGES, 16, 16, &[PIXEL, PIXEL], 0, ""),
-    (PAGES, 17, 19, &[PIXEL, PIXEL], 0, TRAILING_LATER),
+    (PAGES, 8, 8, &[ONE], 0, ""),
+    (PAGES, 9, 9, &[ONE], 0, TRAILING),
+    (PAGES, 10, 15, &[ONE], 2, TRUNCATED_LATER),
+    (PAGES, 16, 16, &[ONE, ONE], 0, ""),
+    (PAGES, 17, 19, &[ONE, ONE], 0, TRAILING_LATER),
 ];
 
 #[test]
@@ -108,7 +108,7 @@ const LONG: &[Long] = &[
     (b"P1 ", b'1', 1_048_577, b"", &[], 2, GAP_TOO_LONG),
     (b"P1 ", b'1', 1_048_576, b"", &[], 2, TRUNCATED),
     // Long gaps.
-    (b"P1", b' ', 1_048_576, b"1 1 1", &[PIXEL], 0, ""),
+    (b"P1", b' ', 1_048_576, b"1 1 1", &[ONE], 0, ""),
     (b"P1", b' ', 1_048_577, b"1 1 1", &[], 2, GAP_TOO_LONG),
 ];
 

@@ -1,11 +1,9 @@
 //! Failing devices: what was whole stays, and nothing more is written after.
 
-use crate::tests::cases::{Case, PLAIN, check_all};
+use crate::tests::cases::{Case, PIXEL, PLAIN, check_all};
 use pt_base::mem_inputs::InCall;
 use pt_base::mem_outputs::OutCall;
 use std::test::Fail;
-
-const PIXEL: &str = "points 1 1 1\n+ 1 0,1 0,0 1,0 1,1\n";
 
 /// A stream of two pages and what is no page, by reads that end with the first page.
 const STREAM: Case<'static> = Case {

@@ -1,12 +1,8 @@
 //! Several files: the names of their documents, and what ends a run.
 
-use crate::tests::cases::{Case, PLAIN, check_all};
+use crate::tests::cases::{Case, PIXEL, PLAIN, WHITE, check_all};
 use pt_base::mem_inputs::InCall;
 use std::test::Fail;
-
-const PIXEL: &str = "points 1 1 1\n+ 1 0,1 0,0 1,0 1,1\n";
-
-const NONE: &str = "points 1 1 0\n";
 
 const NO_OUTLINE: &str = "<?xml version=\"1.0\" standalone=\"no\"?>\n\
 <svg version=\"1.0\" xmlns=\"http://www.w3.org/2000/svg\" width=\"1pt\" height=\"1pt\" viewBox=\"0 0 10 10\">\n\
@@ -20,29 +16,29 @@ const NAMES: &[(&str, &str, &[(&str, &str)])] = &[
     (
         "-b points -t 0 -o out.svg scan.pbm",
         "scan.pbm",
-        &[("out.svg", PIXEL), ("out-2.svg", NONE)],
+        &[("out.svg", PIXEL), ("out-2.svg", WHITE)],
     ),
     (
         "-b points -t 0 scan.pbm",
         "scan.pbm",
-        &[("scan.points", PIXEL), ("scan-2.points", NONE)],
+        &[("scan.points", PIXEL), ("scan-2.points", WHITE)],
     ),
     (
         "-b points -t 0 a.b/c",
         "a.b/c",
-        &[("a.b/c.points", PIXEL), ("a.b/c-2.points", NONE)],
+        &[("a.b/c.points", PIXEL), ("a.b/c-2.points", WHITE)],
     ),
     (
         "-b points -t 0 ..",
         "..",
-        &[("..points", PIXEL), (".-2.points", NONE)],
+        &[("..points", PIXEL), (".-2.points", WHITE)],
     ),
     (
         "-b points -t 0 -o .o x",
         "x",
-        &[(".o", PIXEL), (".o-2", NONE)],
+        &[(".o", PIXEL), (".o-2", WHITE)],
     ),
-    ("-b points -t 0 -o - x", "x", &[("-", PIXEL), ("-", NONE)]),
+    ("-b points -t 0 -o - x", "x", &[("-", PIXEL), ("-", WHITE)]),
 ];
 
 #[test]
@@ -84,7 +80,7 @@ const RUNS: &[Case] = &[
         other: Some(("a.pgm", b"P1 1 1 1\n")),
         documents: &[
             ("a.points", PIXEL),
-            ("a-2.points", NONE),
+            ("a-2.points", WHITE),
             ("a-3.points", PIXEL),
         ],
         ..PLAIN
@@ -95,7 +91,7 @@ const RUNS: &[Case] = &[
         name: "a.pbm",
         input: b"P1 1 1 1\n",
         other: Some(("b.pbm", b"P1 1 1 0\nx")),
-        documents: &[("b.points", NONE), ("a.points", PIXEL)],
+        documents: &[("b.points", WHITE), ("a.points", PIXEL)],
         said: "potrace: b.pbm: trailing bytes after page 1\n",
         ..PLAIN
     },
@@ -119,7 +115,7 @@ const RUNS: &[Case] = &[
         name: "a.pbm",
         input: b"P1 1 1 1\n",
         status: 3,
-        documents: &[("a.points", NONE)],
+        documents: &[("a.points", WHITE)],
         said: "potrace: b.pbm: cannot be opened\n",
         ..PLAIN
     },
@@ -151,7 +147,7 @@ const RUNS: &[Case] = &[
         input: b"P1 1 1 1\n",
         other: Some(("b.pbm", b"P1 1 1 1\nP1 1 1 x")),
         status: 2,
-        documents: &[("b.points", NONE)],
+        documents: &[("b.points", WHITE)],
         said: "potrace: b.pbm: page 2: bad raster\n",
         ..PLAIN
     },

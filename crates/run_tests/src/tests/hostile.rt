@@ -1,7 +1,7 @@
 //! Each call of the outside fails in turn, in a run over two files of two pages, with one byte a read and 16
 //! bytes a write. What is to come is worked out from the files' bytes and the documents' texts.
 
-use crate::tests::cases::{Case, PLAIN, check_all};
+use crate::tests::cases::{Case, PIXEL, PLAIN, WHITE, check_all};
 use pt_base::mem_inputs::InCall;
 use pt_base::mem_outputs::OutCall;
 use std::test::Fail;
@@ -18,13 +18,13 @@ const BOTH: Case<'static> = Case {
     ..PLAIN
 };
 
-const A1: (&str, &str) = ("a.points", "points 1 1 1\n+ 1 0,1 0,0 1,0 1,1\n");
+const A1: (&str, &str) = ("a.points", PIXEL);
 
-const A2: (&str, &str) = ("a-2.points", "points 1 1 0\n");
+const A2: (&str, &str) = ("a-2.points", WHITE);
 
 const B1: (&str, &str) = ("b.points", "points 2 1 1\n+ 1 1,1 1,0 2,0 2,1\n");
 
-const B2: (&str, &str) = ("b-2.points", "points 1 1 1\n+ 1 0,1 0,0 1,0 1,1\n");
+const B2: (&str, &str) = ("b-2.points", PIXEL);
 
 const NOTE: &str = "potrace: a.pbm: trailing bytes after page 2\n";
 

@@ -2,21 +2,17 @@
 //!
 //! With memory at hand this is met as it stands. It is meant to be run with one growth refused, whichever it is.
 
-use crate::tests::cases::{Case, Done, PLAIN, document_at};
+use crate::tests::cases::{Case, Done, PIXEL, PIXEL_POLYGON, PLAIN, WHITE, document_at};
 use pt_base::gate::NoGate;
 use std::test::Fail;
 
-const PIXEL: &[u8] = b"P1 1 1 1\n";
+const PAGE: &[u8] = b"P1 1 1 1\n";
 
 const RINGS: &[u8] = b"P1 5 5 11111 10001 10101 10001 11111\n";
 
 const FIRST: &[u8] = b"P1 1 1 1\nP1 1 1 0\nxyz";
 
 const SECOND: &[u8] = b"P1 2 1 01\nP1 1 1 1\n";
-
-const POINTS: &str = "points 1 1 1\n+ 1 0,1 0,0 1,0 1,1\n";
-
-const POLYGONS: &str = "polygons 1 1 1\n+ 1 4 4 0: 0 1 2 3\n";
 
 const RING_POLYGONS: &str =
     "polygons 5 5 3\n+ 25 20 4 0: 0 5 10 15\n- 9 12 4 0: 0 3 6 9\n+ 1 4 4 0: 0 1 2 3\n";
@@ -36,11 +32,11 @@ const OUT_OF_MEMORY: &[u8] = b"potrace: out of memory\n";
 type Item = (&'static str, &'static str);
 
 const TWO_FILES: &[Item] = &[
-    ("a.points", POINTS),
-    ("a-2.points", "points 1 1 0\n"),
+    ("a.points", PIXEL),
+    ("a-2.points", WHITE),
     ("", "potrace: a.pbm: trailing bytes after page 2\n"),
     ("b.points", "points 2 1 1\n+ 1 1,1 1,0 2,0 2,1\n"),
-    ("b-2.points", POINTS),
+    ("b-2.points", PIXEL),
 ];
 
 /// What is left of the messages where the documents are just those of the items, and the items' messages came first.
@@ -76,11 +72,16 @@ fn is_answer(done: &Done, items: &[Item]) -> bool {
 
 /// Words, the file `-` or `a.pbm` and its bytes, and what the run writes and says.
 const RUNS: &[(&str, &str, &[u8], &[Item])] = &[
-    ("-b points -z left -t 0", "-", PIXEL, &[("-", POINTS)]),
-    ("-b polygons -z left -t 0", "-", PIXEL, &[("-", POLYGONS)]),
+    ("-b points -z left -t 0", "-", PAGE, &[("-", PIXEL)]),
+    (
+        "-b polygons -z left -t 0",
+        "-",
+        PAGE,
+        &[("-", PIXEL_POLYGON)],
+    ),
     ("-b polygons -t 0", "-", RINGS, &[("-", RING_POLYGONS)]),
-    ("-s -t 0", "-", PIXEL, &[("-", DRAWING)]),
-    ("-b dxf -a 0 -t 0", "-", PIXEL, &[("-", POLYLINE)]),
+    ("-s -t 0", "-", PAGE, &[("-", DRAWING)]),
+    ("-b dxf -a 0 -t 0", "-", PAGE, &[("-", POLYLINE)]),
     ("--demo 3", "-", b"", &[("-", LINES)]),
     (
         "-b points -t 0 --workers 1 a.pbm b.pbm",

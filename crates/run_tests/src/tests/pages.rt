@@ -1,11 +1,7 @@
 //! Worked pages.
 
-use crate::tests::cases::{Case, PLAIN, Page, check_all, check_pages};
+use crate::tests::cases::{Case, PIXEL, PIXEL_POLYGON, PLAIN, Page, WHITE, check_all, check_pages};
 use std::test::Fail;
-
-const PIXEL: &str = "points 1 1 1\n+ 1 0,1 0,0 1,0 1,1\n";
-
-const PIXEL_POLYGON: &str = "polygons 1 1 1\n+ 1 4 4 0: 0 1 2 3\n";
 
 const PAIR: &str = "points 2 1 1\n+ 2 0,1 0,0 1,0 2,0 2,1 1,1\n";
 
@@ -86,12 +82,8 @@ const EMPTY_SVG: &str = square_svg!(1, "");
 const PAGES: &[Page] = &[
     // Speckles.
     (LEFT, b"P1 1 1 1\n", &[("-", PIXEL)]),
-    (LEFT, b"P1 1 1 0", &[("-", "points 1 1 0\n")]),
-    (
-        "-b points -z left -t 2",
-        b"P1 1 1 1\n",
-        &[("-", "points 1 1 0\n")],
-    ),
+    (LEFT, b"P1 1 1 0", &[("-", WHITE)]),
+    ("-b points -z left -t 2", b"P1 1 1 1\n", &[("-", WHITE)]),
     (
         "-b points -z left -t 2",
         b"P1 2 1 11",
@@ -270,7 +262,7 @@ const STREAMS: &[Case] = &[
     Case {
         words: LEFT,
         input: b"P1 1 1 1 P1 2 1 11 P1 1 1 0\n",
-        documents: &[("-", PIXEL), ("-", PAIR), ("-", "points 1 1 0\n")],
+        documents: &[("-", PIXEL), ("-", PAIR), ("-", WHITE)],
         ..PLAIN
     },
     Case {

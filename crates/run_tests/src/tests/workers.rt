@@ -1,13 +1,11 @@
 //! Runs by several workers: they share the pages as they go, up to the most pages that a run may have.
 
-use crate::tests::cases::{Case, Done, PLAIN, document_at};
+use crate::tests::cases::{Case, Done, PIXEL, PLAIN, document_at};
 use page_samples::gates::HoldsFirst;
 use pt_base::gate::NoGate;
 use std::alloc::Global;
 use std::process::Abort;
 use std::test::Fail;
-
-const PIXEL: &str = "points 1 1 1\n+ 1 0,1 0,0 1,0 1,1\n";
 
 const FOUR_PAGES: Case<'static> = Case {
     words: "-b points -t 0 --workers 2",
