@@ -97,3 +97,9 @@ pub mod Choice
 --   goes_up
 --   penalty_most
 pub mod Costs
+-- Halves of a stretch of a quadratic.
+--   middle_value: four times its value in the middle
+--   IsFirstHalf: four times its coefficients on the first half
+--   IsSecondHalf: the same on the second half
+--   IsHalf: the second half if it is above 0 in the middle, and else the first
+pub mod Halves

@@ -1,0 +1,241 @@
+-- A quadratic on one of equal stretches.
+use Rattle.std.proofs.Common.{◌≡◌, inl, inr, ℕ, zero, suc, ◌+◌, ◌-◌, ◌*◌, ◌<◌, ◌≤◌, ◌^◌, ℤ, pos, ◌+ℤ◌, ◌*ℤ◌, ◌<ℤ◌, ◌≤ℤ◌, sym, ap, subst, ◌∙◌, arith}
+use Rattle.std.proofs.lemmas.Int.{ints}
+use Rattle.std.proofs.lemmas.Nat.{mul-le, pow-add}
+use Rattle.std.proofs.Math.Decide.{dec_lt}
+use Rattle.std.specs.Prelude.{unsigned_abs}
+use Rattle.pt_base.proofs.Terms.{Term, same_value}
+use Rattle.pt_base.proofs.Terms.Term.{num, plus, times}
+use Rattle.curve_join.proofs.Crossing.{least_found}
+use Rattle.curve_join.specs.Cubic.{AreWithin, quadratic}
+use Rattle.curve_join.specs.Least.{IsFirstLeast}
+use Rattle.curve_join.specs.Halves.{IsHalf, IsFirstHalf, IsSecondHalf, middle_value}
+use Rattle.curve_join.specs.declared.touch.Stretch.{Stretch}
+
+-- three weighted coefficients
+abbrev pub weighted : ℕ → ℕ → ℕ → ℤ → ℤ → ℤ → ℤ
+weighted k l m a b c = (pos k *ℤ a +ℤ pos l *ℤ b) +ℤ pos m *ℤ c
+
+abbrev term : ℕ → ℕ → ℕ → ℤ → ℤ → ℤ → Term
+term k l m a b c = plus (plus (times (num (pos k)) (num a)) (times (num (pos l)) (num b))) (times (num (pos m)) (num c))
+
+-- the coefficients on stretch number l, with r behind it, times the square of their number
+abbrev pub start_by : ℕ → ℕ → ℤ → ℤ → ℤ → ℤ
+start_by l r = weighted ((r + 1) * (r + 1)) (2 * l * (r + 1)) (l * l)
+
+abbrev pub between_by : ℕ → ℕ → ℤ → ℤ → ℤ → ℤ
+between_by l r = weighted ((r + 1) * r) ((r + 1) * (l + 1) + l * r) (l * (l + 1))
+
+abbrev pub end_by : ℕ → ℕ → ℤ → ℤ → ℤ → ℤ
+end_by l r = weighted (r * r) (2 * (l + 1) * r) ((l + 1) * (l + 1))
+
+abbrev start_term : ℕ → ℕ → ℤ → ℤ → ℤ → Term
+start_term l r = term ((r + 1) * (r + 1)) (2 * l * (r + 1)) (l * l)
+
+abbrev between_term : ℕ → ℕ → ℤ → ℤ → ℤ → Term
+between_term l r = term ((r + 1) * r) ((r + 1) * (l + 1) + l * r) (l * (l + 1))
+
+abbrev end_term : ℕ → ℕ → ℤ → ℤ → ℤ → Term
+end_term l r = term (r * r) (2 * (l + 1) * r) ((l + 1) * (l + 1))
+
+module _ (l r : ℕ) (a b c : ℤ) where
+  start_twice : pos 4 *ℤ start_by l r a b c ≡ start_by (2 * l) (2 * r + 1) a b c
+  start_twice = same_value (times (num (pos 4)) (start_term l r a b c)) (start_term (2 * l) (2 * r + 1) a b c) (omega arith)
+
+  first_between : pos 2 *ℤ (start_by l r a b c +ℤ between_by l r a b c) ≡ between_by (2 * l) (2 * r + 1) a b c
+  first_between = same_value (times (num (pos 2)) (plus (start_term l r a b c) (between_term l r a b c))) (between_term (2 * l) (2 * r + 1) a b c) (omega arith)
+
+  first_end : (start_by l r a b c +ℤ between_by l r a b c) +ℤ (between_by l r a b c +ℤ end_by l r a b c) ≡ end_by (2 * l) (2 * r + 1) a b c
+  first_end = same_value (plus (plus (start_term l r a b c) (between_term l r a b c)) (plus (between_term l r a b c) (end_term l r a b c)))
+      (end_term (2 * l) (2 * r + 1) a b c) (omega arith)
+
+  second_start : (start_by l r a b c +ℤ between_by l r a b c) +ℤ (between_by l r a b c +ℤ end_by l r a b c) ≡ start_by (2 * l + 1) (2 * r) a b c
+  second_start = same_value (plus (plus (start_term l r a b c) (between_term l r a b c)) (plus (between_term l r a b c) (end_term l r a b c)))
+      (start_term (2 * l + 1) (2 * r) a b c) (omega arith)
+
+  second_between : pos 2 *ℤ (between_by l r a b c +ℤ end_by l r a b c) ≡ between_by (2 * l + 1) (2 * r) a b c
+  second_between = same_value (times (num (pos 2)) (plus (between_term l r a b c) (end_term l r a b c))) (between_term (2 * l + 1) (2 * r) a b c) (omega arith)
+
+  end_twice : pos 4 *ℤ end_by l r a b c ≡ end_by (2 * l + 1) (2 * r) a b c
+  end_twice = same_value (times (num (pos 4)) (end_term l r a b c)) (end_term (2 * l + 1) (2 * r) a b c) (omega arith)
+
+-- the stretch is one of n, of the quadratic of these coefficients, which is above 0 at its start and not at its end
+pub record IsStretch (n : ℕ) (a b c : ℤ) (s : Stretch) : Type 0 where
+  pub rest : ℕ
+  pub parts : s.last + rest + 1 ≡ n
+  pub start : s.start ≡ start_by s.last rest a b c
+  pub between : s.between ≡ between_by s.last rest a b c
+  pub end : s.end ≡ end_by s.last rest a b c
+  pub small : AreWithin (2 ^ 49 * (n * n)) s.start s.between s.end
+  pub above : pos 0 <ℤ s.start
+  pub below : s.end ≤ℤ pos 0
+
+middle_is : (s : Stretch) (x y z : ℤ) → s.start ≡ x → s.between ≡ y → s.end ≡ z → middle_value s ≡ (x +ℤ y) +ℤ (y +ℤ z)
+middle_is s x y z e f g = cc
+
+sum_is : (s t x y : ℤ) → s ≡ x → t ≡ y → pos 2 *ℤ (s +ℤ t) ≡ pos 2 *ℤ (x +ℤ y)
+sum_is s t x y e f = cc
+
+four_times : (m : ℕ) (z w : ℤ) → w ≡ pos 4 *ℤ z → unsigned_abs z ≤ m → unsigned_abs w ≤ 4 * m
+four_times m z w e h = omega (arith, ints)
+
+twice_both : (m : ℕ) (y z w : ℤ) → w ≡ pos 2 *ℤ (y +ℤ z) → unsigned_abs y ≤ m → unsigned_abs z ≤ m → unsigned_abs w ≤ 4 * m
+twice_both m y z w e h k = omega (arith, ints)
+
+all_four : (m : ℕ) (x y z w : ℤ) → w ≡ (x +ℤ y) +ℤ (y +ℤ z) → unsigned_abs x ≤ m → unsigned_abs y ≤ m → unsigned_abs z ≤ m → unsigned_abs w ≤ 4 * m
+all_four m x y z w e h k l = omega (arith, ints)
+
+square_twice : (n m : ℕ) → m ≤ 4 * (2 ^ 49 * (n * n)) → m ≤ 2 ^ 49 * (2 * n * (2 * n))
+square_twice n m h = omega arith
+
+module _ (n : ℕ) (a b c : ℤ) (s half : Stretch) (is : IsStretch n a b c s) where
+  first : middle_value s ≤ℤ pos 0 → IsFirstHalf s half → IsStretch (2 * n) a b c half
+  first low h =
+      let parts = is.parts in
+      let last = h.last in
+      let above = is.above in
+      let e = h.start in
+      let f = h.end in
+      record {
+        rest = 2 * is.rest + 1;
+        parts = omega arith;
+        start = h.start ∙ ap (λ z. pos 4 *ℤ z) is.start ∙ start_twice s.last is.rest a b c ∙ ap (λ k. start_by k (2 * is.rest + 1) a b c) (sym h.last);
+        between = h.between ∙ sum_is _ _ _ _ is.start is.between ∙ first_between s.last is.rest a b c ∙ ap (λ k. between_by k (2 * is.rest + 1) a b c) (sym h.last);
+        end = h.end ∙ middle_is s _ _ _ is.start is.between is.end ∙ first_end s.last is.rest a b c ∙ ap (λ k. end_by k (2 * is.rest + 1) a b c) (sym h.last);
+        small = record {
+          a = square_twice n _ (four_times _ s.start half.start h.start is.small.a);
+          b = square_twice n _ (twice_both _ s.start s.between half.between h.between is.small.a is.small.b);
+          c = square_twice n _ (all_four _ s.start s.between s.end half.end h.end is.small.a is.small.b is.small.c);
+        };
+        above = omega (arith, ints);
+        below = omega (arith, ints);
+      }
+
+  second : pos 0 <ℤ middle_value s → IsSecondHalf s half → IsStretch (2 * n) a b c half
+  second high h =
+      let parts = is.parts in
+      let last = h.last in
+      let below = is.below in
+      let e = h.start in
+      let f = h.end in
+      record {
+        rest = 2 * is.rest;
+        parts = omega arith;
+        start = h.start ∙ middle_is s _ _ _ is.start is.between is.end ∙ second_start s.last is.rest a b c ∙ ap (λ k. start_by k (2 * is.rest) a b c) (sym h.last);
+        between = h.between ∙ sum_is _ _ _ _ is.between is.end ∙ second_between s.last is.rest a b c ∙ ap (λ k. between_by k (2 * is.rest) a b c) (sym h.last);
+        end = h.end ∙ ap (λ z. pos 4 *ℤ z) is.end ∙ end_twice s.last is.rest a b c ∙ ap (λ k. end_by k (2 * is.rest) a b c) (sym h.last);
+        small = record {
+          a = square_twice n _ (all_four _ s.start s.between s.end half.start h.start is.small.a is.small.b is.small.c);
+          b = square_twice n _ (twice_both _ s.between s.end half.between h.between is.small.b is.small.c);
+          c = square_twice n _ (four_times _ s.end half.end h.end is.small.c);
+        };
+        above = omega (arith, ints);
+        below = omega (arith, ints);
+      }
+
+  pub halved : IsHalf s half → IsStretch (2 * n) a b c half
+  halved h = elim h [
+    | inl k ↦ first k.0 k.1
+    | inr k ↦ second k.0 k.1
+  ]
+
+-- the whole
+pub whole : (a b c : ℤ) (s : Stretch) → s.last ≡ 0 → s.start ≡ a → s.between ≡ b → s.end ≡ c → AreWithin (2 ^ 49) a b c
+    → pos 0 <ℤ a → c ≤ℤ pos 0 → IsStretch 1 a b c s
+whole a b c s none ea eb ec h above below =
+    let ha = h.a in
+    let hb = h.b in
+    let hc = h.c in
+    record {
+      rest = 0;
+      parts = omega arith;
+      start = ea ∙ omega (arith, ints) ∙ ap (λ k. start_by k 0 a b c) (sym none);
+      between = eb ∙ omega (arith, ints) ∙ ap (λ k. between_by k 0 a b c) (sym none);
+      end = ec ∙ omega (arith, ints) ∙ ap (λ k. end_by k 0 a b c) (sym none);
+      small = record { a = omega (arith, ints); b = omega (arith, ints); c = omega (arith, ints) };
+      above = omega (arith, ints);
+      below = omega (arith, ints);
+    }
+
+-- one of 64 stretches: where it begins and where it ends
+module _ (a b c : ℤ) (s : Stretch) (is : IsStretch 64 a b c s) where
+  pub last_below : s.last < 64
+  last_below = let p = is.parts in omega arith
+
+  pub start_is : s.start ≡ quadratic s.last a b c
+  start_is =
+      let p = is.parts in
+      let e : is.rest + 1 ≡ 64 - s.last = omega arith in
+      is.start ∙ ap (λ n. (pos (n * n) *ℤ a +ℤ pos (2 * s.last * n) *ℤ b) +ℤ pos (s.last * s.last) *ℤ c) e
+
+  pub end_is : s.end ≡ quadratic (s.last + 1) a b c
+  end_is =
+      let p = is.parts in
+      let e : is.rest ≡ 64 - (s.last + 1) = omega arith in
+      is.end ∙ ap (λ n. (pos (n * n) *ℤ a +ℤ pos (2 * (s.last + 1) * n) *ℤ b) +ℤ pos ((s.last + 1) * (s.last + 1)) *ℤ c) e
+
+-- ---- of two numbers, the one with the lesser size
+
+abbrev pub IsNearer : ℕ → ℕ → ℕ → ℕ → ℕ → ℕ → Type 0
+IsNearer u m v n p k = (n < m → (p ≡ v) × (k ≡ n)) × (m ≤ n → (p ≡ u) × (k ≡ m))
+
+module _ (f : ℕ → ℕ) (u m v n p k : ℕ) (em : m ≡ f u) (en : n ≡ f v) (nearer : IsNearer u m v n p k) where
+  pub is_second : f v < f u → p ≡ v
+  is_second h = (nearer.0 (omega arith)).0
+
+  pub is_first : f u ≤ f v → p ≡ u
+  is_first h = (nearer.1 (omega arith)).0
+
+  pub its_size : k ≡ f p
+  its_size = elim (dec_lt n m) [
+    | yes l ↦ let h = nearer.0 l in h.1 ∙ en ∙ ap f (sym h.0)
+    | no g ↦ let h = nearer.1 (omega arith) in h.1 ∙ em ∙ ap f (sym h.0)
+  ]
+
+start_size : (a b c : ℤ) → 4096 * unsigned_abs a ≡ unsigned_abs (quadratic 0 a b c)
+start_size a b c = omega (arith, ints)
+
+end_size : (a b c : ℤ) → 4096 * unsigned_abs c ≡ unsigned_abs (quadratic 64 a b c)
+end_size a b c = omega (arith, ints)
+
+pub found : (a b c : ℤ) → pos 0 <ℤ a → c <ℤ pos 0 → (low m n i j p k q l r s : ℕ) → low < 64
+    → pos 0 <ℤ quadratic low a b c → quadratic (low + 1) a b c ≤ℤ pos 0
+    → m ≡ unsigned_abs (quadratic low a b c) → n ≡ unsigned_abs (quadratic (low + 1) a b c)
+    → i ≡ unsigned_abs a → j ≡ unsigned_abs c
+    → IsNearer 0 (4096 * i) low m p k → IsNearer (low + 1) n 64 (4096 * j) q l → IsNearer p k q l r s
+    → IsFirstLeast (λ u. unsigned_abs (quadratic u a b c)) 64 r
+found a b c ha hc low m n i j p k q l r s within last next em en ei ej first second both =
+    let f : ℕ → ℕ = λ u. unsigned_abs (quadratic u a b c) in
+    let e0 : 4096 * i ≡ f 0 = ap (λ v. 4096 * v) ei ∙ start_size a b c in
+    let e64 : 4096 * j ≡ f 64 = ap (λ v. 4096 * v) ej ∙ end_size a b c in
+    let ek = its_size f 0 (4096 * i) low m p k e0 em first in
+    let el = its_size f (low + 1) n 64 (4096 * j) q l en e64 second in
+    least_found a b c ha hc low p q r within last next
+    (is_second f 0 (4096 * i) low m p k e0 em first) (is_first f 0 (4096 * i) low m p k e0 em first)
+    (is_second f (low + 1) n 64 (4096 * j) q l en e64 second) (is_first f (low + 1) n 64 (4096 * j) q l en e64 second)
+    (is_second f p k q l r s ek el both) (is_first f p k q l r s ek el both)
+
+-- ---- the numbers that fit
+
+pub within_59 : (n : ℕ) (x y z : ℤ) → n ≤ 32 → AreWithin (2 ^ 49 * (n * n)) x y z → AreWithin (2 ^ 59) x y z
+within_59 n x y z few h =
+    let square = mul-le n n 32 32 few few in
+    let ha = h.a in
+    let hb = h.b in
+    let hc = h.c in
+    record { a = omega arith; b = omega arith; c = omega arith }
+
+pub few_parts : (k : ℕ) → k < 6 → 2 ^ k ≤ 32
+few_parts zero h = omega arith
+few_parts (suc zero) h = omega arith
+few_parts (suc (suc zero)) h = omega arith
+few_parts (suc (suc (suc zero))) h = omega arith
+few_parts (suc (suc (suc (suc zero)))) h = omega arith
+few_parts (suc (suc (suc (suc (suc zero))))) h = omega arith
+few_parts (suc (suc (suc (suc (suc (suc k)))))) h = absurd (omega arith)
+
+pub twice_is : (k : ℕ) → 2 * 2 ^ k ≡ 2 ^ (k + 1)
+twice_is k = omega (arith, pow-add 2 k 1)
+
+pub at_end : (k : ℕ) (a b c : ℤ) (s : Stretch) → k ≡ 6 → IsStretch (2 ^ k) a b c s → IsStretch 64 a b c s
+at_end k a b c s e is = subst (λ n. IsStretch (2 ^ n) a b c s) e is
