@@ -62,3 +62,12 @@ pub mod Courses
 --   IsSweep
 --   IsOneWay: one of east and west isn't taken before the end, and one of north and south
 pub mod Tails
+-- Cones in one quarter of the plane, and how far a scan has come.
+--   IsSign: 1 or -1
+--   IsQuarter: both of its numbers are signs
+--   far_of: how far an offset goes into the quarter, in both coordinates together
+--   IsInQuarter: the way lies in the quarter, and on no axis
+--   IsBorder: the border is short, and how far it goes into the quarter is known
+--   IsWedge: a cone between two borders in a quarter
+--   IsScan: the cones hold for the first steps of a path, and this cone is what is left of them
+pub mod Wedges
