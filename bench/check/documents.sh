@@ -2,7 +2,7 @@
 # Traces a scan, a map and a page of small shapes into each format, and has the programs that people use for
 # these formats read the documents.
 #
-# usage: bench/check_documents.sh [FOLDER]
+# usage: bench/check/documents.sh [FOLDER]
 #
 # Each document must be read without an error or a warning: SVG by xmllint and rsvg-convert, EPS by Ghostscript,
 # DXF and GeoJSON by GDAL, and GeoJSON by jq too. The drawings of SVG, EPS and GeoJSON must be the same but for
@@ -16,15 +16,15 @@
 # It is no part of the gate.
 set -euo pipefail
 
-top=$(cd "$(dirname "$(readlink -f "${BASH_SOURCE[0]}")")/.." && pwd)
+top=$(cd "$(dirname "$(readlink -f "${BASH_SOURCE[0]}")")/../.." && pwd)
 for tool in xmllint rsvg-convert gs ogrinfo gdal_rasterize gdal_translate jq python3; do
-  command -v "$tool" >/dev/null || { echo "check_documents: $tool is missing" >&2; exit 2; }
+  command -v "$tool" >/dev/null || { echo "documents: $tool is missing" >&2; exit 2; }
 done
 work=$(mktemp -d)
 trap 'rm -rf "$work"' EXIT
 
 fail() {
-  echo "check_documents: $*" >&2
+  echo "documents: $*" >&2
   exit 1
 }
 
@@ -87,13 +87,13 @@ def all_about(marks):
 name, first, second = sys.argv[1:]
 (width, a), (other, b) = picture(first), picture(second)
 if width != other or len(a) != len(b):
-    sys.exit(f"check_documents: {name}: the drawings are not of one size")
+    sys.exit(f"documents: {name}: the drawings are not of one size")
 black = all_about(rows(width, a, lambda gray: gray < 64))
 white = all_about(rows(width, a, lambda gray: gray >= 192))
 drawn = rows(width, b, lambda gray: gray < 128)[1:-1]
 left = sum(bin(yes & ~row | no & row).count("1") for yes, no, row in zip(black, white, drawn))
 if left:
-    sys.exit(f"check_documents: {name}: {left} pixels away from an edge differ")
+    sys.exit(f"documents: {name}: {left} pixels away from an edge differ")
 END
 }
 
@@ -134,9 +134,9 @@ if [ $# -gt 0 ]; then
   exit 0
 fi
 
-python3 "$top/bench/make_scan.py" >"$work/scan.pbm"
-python3 "$top/bench/make_map.py" 1200 900 120 >"$work/map.pbm"
-python3 "$top/bench/make_map.py" 900 700 6 >"$work/shapes.pbm"
+python3 "$top/bench/pages.py" scan >"$work/scan.pbm"
+python3 "$top/bench/pages.py" map 1200 900 120 >"$work/map.pbm"
+python3 "$top/bench/pages.py" map 900 700 6 >"$work/shapes.pbm"
 for page in scan map shapes; do
   trace "$work/$page"
   read_page "$work/$page"

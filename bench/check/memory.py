@@ -1,7 +1,7 @@
 #!/usr/bin/env python3
 """Refuses one growth of memory after another, and looks at how each run ends.
 
-usage: check_memory.py PROGRAM [TESTS]
+usage: memory.py PROGRAM [TESTS]
 
 PROGRAM is run on small pages, over real files and streams, with its first request for memory refused, then with its
 second one, and so on until a run asks less often. Each run has to end with its whole answer, or with status 5, `potrace:
@@ -141,7 +141,7 @@ def main():
     if len(sys.argv) not in (2, 3):
         sys.exit(__doc__)
     if not shutil.which("cc"):
-        sys.exit("check_memory: cc is missing")
+        sys.exit("memory: cc is missing")
     failed = 0
     with tempfile.TemporaryDirectory() as place:
         library = os.path.join(place, "refuses.so")

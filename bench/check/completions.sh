@@ -1,15 +1,15 @@
 #!/usr/bin/env bash
 # Presses Tab in real shells: the completions of bash and zsh have to offer what fits.
 #
-# usage: bench/check_completions.sh
+# usage: bench/check/completions.sh
 #
 # bash is asked for what its completion function offers for a line; zsh runs on a terminal of its own, and what it
 # shows is read. It needs Debian's packages bash and zsh, and python3. It is no part of the gate.
 set -euo pipefail
 
-top=$(cd "$(dirname "$(readlink -f "${BASH_SOURCE[0]}")")/.." && pwd)
+top=$(cd "$(dirname "$(readlink -f "${BASH_SOURCE[0]}")")/../.." && pwd)
 for tool in bash zsh python3; do
-  command -v "$tool" >/dev/null || { echo "check_completions: $tool is missing" >&2; exit 2; }
+  command -v "$tool" >/dev/null || { echo "completions: $tool is missing" >&2; exit 2; }
 done
 work=$(mktemp -d)
 trap 'rm -rf "$work" 2>/dev/null || true' EXIT
@@ -65,7 +65,7 @@ printf '%s\n' "${COMPREPLY[@]}"
 def offered_by_bash(line):
     said = subprocess.run(["bash", "-c", ASK_BASH, "bash", FOLDER, line], capture_output=True, text=True, check=True)
     if said.stderr:
-        sys.exit(f"check_completions: bash says on {line!r}: {said.stderr}")
+        sys.exit(f"completions: bash says on {line!r}: {said.stderr}")
     return said.stdout
 
 
@@ -105,7 +105,7 @@ def check(shell, line, offered, wanted, unwanted):
     lacks = [it for it in wanted.split() if not any(it in word for word in have)]
     extra = [it for it in unwanted.split() if it in have]
     if lacks or extra:
-        sys.exit(f"check_completions: {shell}, {line!r}: offers {have}, lacks {lacks}, and has {extra}")
+        sys.exit(f"completions: {shell}, {line!r}: offers {have}, lacks {lacks}, and has {extra}")
 
 
 for line, wanted, unwanted in CASES:

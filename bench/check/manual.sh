@@ -1,7 +1,7 @@
 #!/usr/bin/env bash
 # Tries the manual page: it must be well-formed, and each of its examples must work as it stands.
 #
-# usage: bench/check_manual.sh [PROGRAM]
+# usage: bench/check/manual.sh [PROGRAM]
 #
 # The examples are taken from docs/potrace.1 and run one after another in a folder with the pages that they name; the
 # documents that they speak of must then be there and be read by a parser. The batch queue is played by the shell.
@@ -9,9 +9,9 @@
 # poppler-utils, and python3. It is no part of the gate.
 set -euo pipefail
 
-top=$(cd "$(dirname "$(readlink -f "${BASH_SOURCE[0]}")")/.." && pwd)
+top=$(cd "$(dirname "$(readlink -f "${BASH_SOURCE[0]}")")/../.." && pwd)
 for tool in mandoc man convert pdftoppm python3 find xargs split; do
-  command -v "$tool" >/dev/null || { echo "check_manual: $tool is missing" >&2; exit 2; }
+  command -v "$tool" >/dev/null || { echo "manual: $tool is missing" >&2; exit 2; }
 done
 program=$(readlink -f "${1:-$top/potrace}")
 manual=$top/docs/potrace.1
@@ -19,7 +19,7 @@ work=$(mktemp -d)
 trap 'rm -rf "$work"' EXIT
 
 fail() {
-  echo "check_manual: $*" >&2
+  echo "manual: $*" >&2
   exit 1
 }
 
@@ -47,8 +47,8 @@ printf '#!/bin/sh\nexec sh\n' >"$work/bin/batch"
 chmod +x "$work/bin/batch"
 PATH=$work/bin:$PATH
 
-python3 "$top/bench/make_scan.py" 400 300 >scan.pbm
-python3 "$top/bench/make_map.py" 300 200 40 >mask.pbm
+python3 "$top/bench/pages.py" scan 400 300 >scan.pbm
+python3 "$top/bench/pages.py" map 300 200 40 >mask.pbm
 cp "$top/examples/ampersand.pbm" logo.pbm
 cp "$top/examples/gray.pgm" .
 cp scan.pbm 'scans/first page.pbm'
@@ -101,6 +101,6 @@ for name in sys.argv[1:]:
         assert lines[-3:] == ["0", "EOF", ""], name
         shapes = lines.count("POLYLINE")
     if not shapes:
-        sys.exit(f"check_manual: {name} has no shape")
+        sys.exit(f"manual: {name} has no shape")
 END
 echo "the manual page is well-formed; its $count examples work, and their ${#documents[@]} documents are read"

@@ -1,7 +1,7 @@
 #!/usr/bin/env python3
 """Runs the built program where devices fail, memory is short and input never ends.
 
-usage: check_trouble.py PROGRAM
+usage: trouble.py PROGRAM
 
 Each line says what came: the status, the message and how many bytes of documents. A case fails where none of the
 answers that docs/FORMATS.md allows there came, and the status is then 1. It needs python3, and two processors or more
@@ -242,7 +242,7 @@ def main():
     if len(sys.argv) != 2:
         sys.exit(__doc__)
     if not os.access(sys.argv[1], os.X_OK):
-        sys.exit(f"check_trouble: {sys.argv[1]} is no program")
+        sys.exit(f"trouble: {sys.argv[1]} is no program")
     with tempfile.TemporaryDirectory() as folder:
         os.chmod(folder, 0o755)
         program = os.path.join(folder, "potrace")
