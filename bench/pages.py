@@ -11,7 +11,8 @@ usage: pages.py KIND [NUMBER ..]
     photo SIZE                      a ball before a ground, dithered by error diffusion
     board FIELD                     a board of 1024 by 1024 pixels, with fields of FIELD pixels
     stairs [SIDE]                   what lies under a line: SIDE pixels wide, a quarter of it high
-    spiral, squares, comb [SIDE]    walls of eight pixels: one path, a nest of rings, teeth
+    spiral, squares [SIDE [WALL]]   one path, or a nest of rings, between walls of WALL pixels, eight unless it is said
+    comb [SIDE]                     teeth of eight pixels
     white, checkerboard, dither WIDTH HEIGHT   hard on the search for paths: nothing, single pixels, two waves of gray
 
 The same words give the same page. It needs python3 alone.
@@ -280,15 +281,15 @@ def dither(width, height):
 WALL = 8
 
 
-def ring(x, y, side):
+def ring(x, y, side, wall):
     """The number of the wall in which the pixel lies, counted from the page's edge."""
-    return min(x, y, side - 1 - x, side - 1 - y) // WALL
+    return min(x, y, side - 1 - x, side - 1 - y) // wall
 
 
-def is_spiral(x, y, side):
+def is_spiral(x, y, side, wall):
     """The squares, where a step at the left of each leads on to the next one."""
-    around = ring(x, y, side)
-    if x // WALL == around and y // WALL == around + 1 and 2 * (around + 1) * WALL < side:
+    around = ring(x, y, side, wall)
+    if x // wall == around and y // wall == around + 1 and 2 * (around + 1) * wall < side:
         return around % 2 == 1
     return around % 2 == 0
 
@@ -301,12 +302,12 @@ def stairs(side=2048):
     return where(side, side // 4, lambda x, y: x * (side // 4) <= y * side)
 
 
-def spiral(side=2048):
-    return where(side, side, lambda x, y: is_spiral(x, y, side))
+def spiral(side=2048, wall=WALL):
+    return where(side, side, lambda x, y: is_spiral(x, y, side, wall))
 
 
-def squares(side=2048):
-    return where(side, side, lambda x, y: ring(x, y, side) % 2 == 0)
+def squares(side=2048, wall=WALL):
+    return where(side, side, lambda x, y: ring(x, y, side, wall) % 2 == 0)
 
 
 def comb(side=2048):
