@@ -7,9 +7,9 @@ ghost use Rattle.pt_base.specs.Documents.{IsSaid};
 ghost use Rattle.pt_base.specs.Failures.{StopsAtFailure};
 ghost use Rattle.run_output.specs.Messages.{bad_words, not_opened, not_written, out_of_memory, page_line, trailing_line};
 
+use crate::pieces::write_pieces;
 use itoa::Buffer;
 use pt_base::sink::Sink;
-use pt_base::write::write_whole;
 
 /// Says that the words aren't the program's.
 pub fn say_bad_words<E: Sink>(errs: &mut E)
@@ -119,10 +119,8 @@ fn say<E: Sink>(errs: &mut E, pieces: &[&[u8]])
     ensures never_falls { E.faults errs.old ≤ E.faults errs.new }
     ensures stays_ready { E.is_ready errs.new ≡ true }
 {
-    for piece in pieces {
-        match write_whole(errs, piece) {
-            Ok(()) => {}
-            Err(_) => return,
-        }
+    match write_pieces(errs, pieces) {
+        Ok(()) => {}
+        Err(_) => {}
     }
 }
