@@ -14,6 +14,10 @@ pub(crate) struct Fraction {
 
 /// How sharp a vertex is between its neighbours: 0 where a straight line would do, near 4/3 where the
 /// outline all but turns back.
+///
+/// This is Selinger's alpha ("Potrace", 2003, section 2.3.3), a real number there, and as a fraction exactly
+/// the same. Where both neighbours are one place it is 4/3, its greatest value: a path that turns back is as
+/// sharp as can be.
 pub(crate) fn sharpness(before: Point, at: Point, after: Point) -> Fraction
     requires before { IsNearWidePage before }
     requires at { IsNearWidePage at }

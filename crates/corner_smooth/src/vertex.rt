@@ -61,6 +61,9 @@ fn control(al: u32, neighbour: Point, at: Point) -> Point
 }
 
 /// The coordinate that lies (65536 + `al`) / 131072 of the way from one to another, rounded down.
+//
+// Each coordinate is rounded by itself, so a control is off its side of the polygon by less than 1/1024 pixel each
+// way.
 fn part(al: u32, from: i32, to: i32) -> i32
     requires al { al ≤ 65536 }
     requires from { IsInReach from }

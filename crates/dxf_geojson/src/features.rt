@@ -14,8 +14,8 @@ use pt_base::sequence::Sequence;
 use pt_base::trace::{Group, Trace};
 use std::alloc::Global;
 
-/// The document of a page's trace: a polygon for each shape, whose first ring goes round it against the
-/// clock, and whose other rings go round its holes with the clock.
+/// The document of a page's trace: a polygon for each shape, whose first ring is its outline, and whose other
+/// rings are those of its holes in reverse. Without shapes it is the two lines of an empty collection.
 ///
 /// Coordinates are in pixels, rounded to thousandths. A group's path that has no outline in the trace is
 /// written as an outline of no pieces.

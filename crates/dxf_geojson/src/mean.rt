@@ -5,6 +5,8 @@ ghost use Rattle.dxf_geojson.specs.Chords.{mean_of, mean_point};
 use pt_base::point::Point;
 
 /// The mean of four points with these weights, which come to 512, rounded down.
+//
+// A weighted mean of four 32-bit numbers is one, so no bound on coordinates is asked.
 pub(crate) fn mean_point(
     i: u32,
     j: u32,

@@ -15,7 +15,8 @@ use std::alloc::Global;
 ///
 /// The parent of a path is the last path before it of plus sign that has the path's start pixel
 /// inside: the pixel below and right of its first point. A path of minus sign that has a parent
-/// bounds a hole in the shape of its parent. Every other path opens a group.
+/// bounds a hole in the shape of its parent. Every other path opens a group, so each path stands in one. That
+/// a hole lies in its shape whole is not asked.
 pub fn group(alloc: Global, paths: &[Path]) -> Result<Vec<Group>, NoMemory>
     requires few { length paths.now < 2 ^ 32 }
     requires closed { All (λ path. IsClosedWalk path.points) paths.now }

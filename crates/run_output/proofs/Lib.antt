@@ -1,3 +1,4 @@
+pub mod Cutting
 pub mod NameExamples
 pub mod Naming
 pub mod Saying

@@ -1,11 +1,10 @@
--- Pieces of a message, written one after another.
-use Rattle.std.proofs.Common.{◌≡◌, ◌≤◌, ◌<◌, ℕ, ◌+◌, List, [], ◌∷◌, ◌++◌, length, map, take, drop, get_or, Option, inr, sym, ◌∙◌, ap, append_assoc, add-one, length-append, arith}
+-- Pieces that are written one after another.
+use Rattle.std.proofs.Common.{◌≡◌, ◌≤◌, ◌<◌, ℕ, ◌+◌, List, [], ◌∷◌, ◌++◌, length, map, take, drop, get_or, Option, sym, ◌∙◌, ap, append_assoc, add-one, length-append, arith}
 use Rattle.std.specs.List.{concat}
 use Rattle.std.proofs.Math.Seq.{take-append-add, take-suc}
 use Rattle.std.proofs.lemmas.List.Folds.{concat-append}
 use Rattle.std.proofs.lemmas.List.{take-append-drop, map-append, append-nil, take-append-le}
-use Rattle.pt_base.specs.Counts.{Rose}
-use Rattle.pt_base.specs.Documents.{Documents, IsSaid, with_bytes}
+use Rattle.pt_base.specs.Documents.{Documents, with_bytes}
 use Rattle.pt_base.proofs.Writing.{with_bytes-with_bytes}
 
 -- the first pieces and the next one
@@ -30,12 +29,12 @@ piece_said A f old mid new xs i d within e h =
     h ∙ ap (λ t. with_bytes t (f (get_or xs i d))) e ∙ with_bytes-with_bytes old _ _
     ∙ ap (with_bytes old) (sym (concat-step A f xs i d within))
 
--- a part of a piece is said, and the rest is given up
-pub cut_said : (A : Type 0) (f : A → List ℕ) (old mid new : Option Documents) (faults faults_now : ℕ) (xs : List A) (i : ℕ) (d : A) → i < length xs
-    → mid ≡ with_bytes old (concat (map f (take i xs))) → Rose faults faults_now
+-- a front of a piece is said, and the rest is given up
+pub piece_cut : (A : Type 0) (f : A → List ℕ) (old mid new : Option Documents) (xs : List A) (i : ℕ) (d : A) → i < length xs
+    → mid ≡ with_bytes old (concat (map f (take i xs)))
     → ((n : ℕ) × (n ≤ length (f (get_or xs i d))) × (new ≡ with_bytes mid (take n (f (get_or xs i d)))))
-    → IsSaid old new faults faults_now (concat (map f xs))
-cut_said A f old mid new faults faults_now xs i d within e rose (n, most, h) =
+    → (n : ℕ) × (n ≤ length (concat (map f xs))) × (new ≡ with_bytes old (take n (concat (map f xs))))
+piece_cut A f old mid new xs i d within e (n, most, h) =
     let front = concat (map f (take i xs)) in
     let piece = f (get_or xs i d) in
     let rest = concat (map f (drop (i + 1) xs)) in
@@ -44,12 +43,8 @@ cut_said A f old mid new faults faults_now xs i d within e rose (n, most, h) =
     let short : length front + n ≤ length (concat (map f xs)) = rw (split, length-append, length-append) (omega arith) in
     let cut : take (length front + n) (concat (map f xs)) ≡ front ++ take n piece =
     ap (take (length front + n)) (split ∙ append_assoc front piece rest) ∙ take-append-add front (piece ++ rest) n
-    ∙ ap (λ r. front ++ r) (take-append-le n piece rest most) in
-    inr (
-      rose,
-      (
-        length front + n,
-        short,
-        h ∙ ap (λ t. with_bytes t (take n piece)) e ∙ with_bytes-with_bytes old front (take n piece) ∙ ap (with_bytes old) (sym cut),
-      ),
+    ∙ ap (λ r. front ++ r) (take-append-le n piece rest most) in (
+      length front + n,
+      short,
+      h ∙ ap (λ t. with_bytes t (take n piece)) e ∙ with_bytes-with_bytes old front (take n piece) ∙ ap (with_bytes old) (sym cut),
     )

@@ -31,3 +31,22 @@ pub mod Made
 -- How a run ends, as a number.
 --   code_of: the exit status
 pub mod Status
+-- Documents in parts.
+--   Part: a part of a document
+--   part_in_pieces: a part of these pieces
+--   whole: the one part of a whole document
+--   prolog_text: what stands before all pages that are bound together
+--   page_pieces: one of them, in pieces
+--   trailer_text: what stands behind n of them
+--   is_first_page: whether a page behind so many of its file is the first one
+--   prolog_before: what stands before it
+--   is_begun: whether a document of a file is open behind so many of its pages
+--   page_part: the part that is a page
+--   end_part: the part that ends a document of several pages
+--   pages_text: the texts of pages, one behind another
+--   file_text: the document of a file of pages
+--   begun: a document is begun, where the part begins one
+--   ended: the open document is ended, where the part ends it
+--   with_part: the part is written
+--   IsCutIn: the part was cut off
+pub mod Parts

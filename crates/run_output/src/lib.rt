@@ -8,4 +8,6 @@ pub mod document;
 pub mod made;
 pub mod message;
 pub mod names;
+pub mod part;
+mod pieces;
 pub mod status;

@@ -1,0 +1,106 @@
+#!/usr/bin/env bash
+# Tries the manual page: it must be well-formed, and each of its examples must work as it stands.
+#
+# usage: bench/check/manual.sh [PROGRAM]
+#
+# The examples are taken from docs/potrace.1 and run one after another in a folder with the pages that they name; the
+# documents that they speak of must then be there and be read by a parser. The batch queue is played by the shell.
+# PROGRAM is ours, and is built if it isn't given. It needs Debian's packages mandoc, man-db, imagemagick and
+# poppler-utils, and python3. It is no part of the gate.
+set -euo pipefail
+
+top=$(cd "$(dirname "$(readlink -f "${BASH_SOURCE[0]}")")/../.." && pwd)
+for tool in mandoc man convert pdftoppm python3 find xargs split; do
+  command -v "$tool" >/dev/null || { echo "manual: $tool is missing" >&2; exit 2; }
+done
+program=$(readlink -f "${1:-$top/potrace}")
+manual=$top/docs/potrace.1
+work=$(mktemp -d)
+trap 'rm -rf "$work"' EXIT
+
+fail() {
+  echo "manual: $*" >&2
+  exit 1
+}
+
+mandoc -T lint "$manual" >"$work/said" 2>&1 || true
+man --warnings -E UTF-8 -l "$manual" >/dev/null 2>>"$work/said"
+[ ! -s "$work/said" ] || { cat "$work/said" >&2; fail "the manual page isn't well-formed"; }
+
+# Each example is a line behind .Dl, or the lines between .Bd and .Ed; a line with a zero byte ends one.
+python3 - "$manual" >"$work/examples" <<'END'
+import re
+import sys
+
+with open(sys.argv[1], encoding="utf-8") as file:
+    section = file.read().split(".Sh EXAMPLES\n")[1].split("\n.Sh ")[0]
+for line, block in re.findall(r"^\.Dl (.*)$|^\.Bd .*\n((?:.*\n)*?)\.Ed$", section, re.M):
+    text = (line or block).replace("\\(aq", "'").replace("\\en", "\\n").rstrip("\n")
+    assert "\\(" not in text, text
+    print(text, end="\n\0\n")
+END
+
+mkdir "$work/bin" "$work/at" "$work/at/scans"
+cd "$work/at"
+ln -s "$program" "$work/bin/potrace"
+printf '#!/bin/sh\nexec sh\n' >"$work/bin/batch"
+chmod +x "$work/bin/batch"
+PATH=$work/bin:$PATH
+
+python3 "$top/bench/pages.py" scan 400 300 >scan.pbm
+python3 "$top/bench/pages.py" map 300 200 40 >mask.pbm
+cp "$top/examples/ampersand.pbm" logo.pbm
+cp "$top/examples/gray.pgm" .
+cp scan.pbm 'scans/first page.pbm'
+cp scan.pbm scans/second.pbm
+cp mask.pbm third.pbm
+cp logo.pbm 'fourth page.pbm'
+printf 'third.pbm\nfourth page.pbm\n' >pages.txt
+convert gray.pgm -transparent white -resize 400% photo.png
+# A PDF of two pages, each with a black bar.
+python3 - >letter.pdf <<'END'
+bar = b"30 40 %d 20 re f"
+parts = [b"<</Type/Catalog/Pages 2 0 R>>", b"<</Type/Pages/Kids[3 0 R 5 0 R]/Count 2>>"]
+for number in (3, 5):
+    text = bar % (number * 10)
+    parts.append(b"<</Type/Page/Parent 2 0 R/MediaBox[0 0 144 144]/Resources<<>>/Contents %d 0 R>>" % (number + 1))
+    parts.append(b"<</Length %d>>stream\n%s\nendstream" % (len(text), text))
+pdf, places = b"%PDF-1.4\n", []
+for number, part in enumerate(parts, 1):
+    places.append(len(pdf))
+    pdf += b"%d 0 obj\n%s\nendobj\n" % (number, part)
+table = b"".join(b"%010d 00000 n \n" % place for place in places)
+end = b"xref\n0 7\n0000000000 65535 f \n%strailer\n<</Size 7/Root 1 0 R>>\nstartxref\n%d\n%%%%EOF\n" % (table, len(pdf))
+open(1, "wb").write(pdf + end)
+END
+
+count=0
+while IFS= read -r -d '' example; do
+  example=${example#$'\n'}
+  bash -euo pipefail -c "$example" >"$work/said" 2>&1 </dev/null || { cat "$work/said" >&2; fail "this example fails: $example"; }
+  [ ! -s "$work/said" ] || { cat "$work/said" >&2; fail "this example says something: $example"; }
+  count=$((count + 1))
+done <"$work/examples"
+
+documents=(scan.svg smooth.svg mask.json logo.dxf 'scans/first page.svg' scans/second.svg third.svg 'fourth page.svg'
+  level-0.35.svg level-0.5.svg level-0.65.svg photo.svg letter.svg letter-2.svg)
+python3 - "${documents[@]}" <<'END'
+import json
+import sys
+import xml.etree.ElementTree
+
+for name in sys.argv[1:]:
+    if name.endswith(".svg"):
+        shapes = len(xml.etree.ElementTree.parse(name).getroot().findall(".//{*}path"))
+    elif name.endswith(".json"):
+        with open(name, encoding="utf-8") as file:
+            shapes = len(json.load(file)["features"])
+    else:
+        with open(name, encoding="ascii") as file:
+            lines = file.read().split("\n")
+        assert lines[-3:] == ["0", "EOF", ""], name
+        shapes = lines.count("POLYLINE")
+    if not shapes:
+        sys.exit(f"manual: {name} has no shape")
+END
+echo "the manual page is well-formed; its $count examples work, and their ${#documents[@]} documents are read"

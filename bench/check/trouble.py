@@ -1,0 +1,258 @@
+#!/usr/bin/env python3
+"""Runs the built program where devices fail, memory is short and input never ends.
+
+usage: trouble.py PROGRAM
+
+Each line says what came: the status, the message and how many bytes of documents. A case fails where none of the
+answers that docs/FORMATS.md allows there came, and the status is then 1. It needs python3, and two processors or more
+for the workers' case. As root it tries the folder that may not be written in as the user 65534.
+"""
+import collections
+import os
+import resource
+import shutil
+import signal
+import subprocess
+import sys
+import tempfile
+import threading
+
+LIMIT = 120  # seconds for a run
+
+Ran = collections.namedtuple("Ran", "status out said")
+
+
+def black(width, height):
+    """A black page, raw, and its polygons text."""
+    page = b"P4 %d %d\n" % (width, height) + b"\xff" * (-(-width // 8) * height)
+    around = (width * height, 2 * (width + height), height, width + height, 2 * height + width)
+    return page, b"polygons %d %d 1\n+ %d %d 4 0: 0 %d %d %d\n" % (width, height, *around)
+
+
+POLYGONS = ["-b", "polygons", "-t", "0"]
+PAGE, TEXT = black(100, 60)
+PIXEL = b"P1 1 1 1\n"
+OUT_OF_MEMORY = b"potrace: out of memory\n"
+
+
+def fault(name, text, page=1):
+    return b"potrace: %s: page %d: %s\n" % (name, page, text)
+
+
+class Trouble:
+    def __init__(self, program, folder):
+        self.program = program
+        self.folder = folder
+        self.failed = 0
+
+    def file(self, name, data):
+        with open(os.path.join(self.folder, name), "wb") as it:
+            it.write(data)
+
+    def text(self, name):
+        with open(os.path.join(self.folder, name), "rb") as it:
+            return it.read()
+
+    def start(self, words, **how):
+        how = {"stdin": subprocess.PIPE, "stdout": subprocess.PIPE, "stderr": subprocess.PIPE, **how}
+        return subprocess.Popen([self.program, *words], cwd=self.folder, **how)
+
+    def run(self, words, data=b"", **how):
+        process = self.start(words, **how)
+        try:
+            out, said = process.communicate(data, timeout=LIMIT)
+        except subprocess.TimeoutExpired:
+            process.kill()
+            process.communicate()
+            return Ran("no end", b"", b"")
+        return Ran(process.returncode, out or b"", said or b"")
+
+    def expect(self, what, ran, *allowed):
+        """One of the allowed answers came: a status, the documents at standard output, and the messages."""
+        came = tuple(ran) in allowed
+        self.failed += not came
+        said = ran.said.decode(errors="replace").strip().replace("\n", " | ")
+        said = said if len(said) < 100 else said[:20] + " .. " + said[-20:]
+        print(f"{'ok  ' if came else 'FAIL'} {what}: {ran.status}, {len(ran.out)} bytes, {said or 'no message'}", flush=True)
+
+    def is_same(self, what, found, wanted):
+        self.expect(what, Ran("the document", b"", b"" if found == wanted else b"differs"), ("the document", b"", b""))
+
+
+def outputs(it):
+    """Full disks, closed pipes and folders that aren't to be written in."""
+    it.file("a.pbm", PAGE)
+    with open("/dev/full", "wb") as full:
+        it.expect("a full standard output", it.run(POLYGONS, PAGE, stdout=full), (4, b"", b"potrace: -: write fault\n"))
+        it.expect("a full standard error", it.run(["-q"], stderr=full), (1, b"", b""))
+    words = [*POLYGONS, "-o", "/dev/full", "a.pbm"]
+    it.expect("a full disk", it.run(words), (4, b"", b"potrace: /dev/full: write fault\n"))
+    it.expect("no such folder", it.run([*POLYGONS, "-o", "b/a", "a.pbm"]), (4, b"", b"potrace: b/a: write fault\n"))
+    it.expect("a folder's name", it.run([*POLYGONS, "-o", ".", "a.pbm"]), (4, b"", b"potrace: .: write fault\n"))
+    ends = os.pipe()
+    os.close(ends[0])
+    it.expect("a closed pipe", it.run(POLYGONS, PAGE, stdout=ends[1]), (4, b"", b"potrace: -: write fault\n"))
+    it.expect("a closed pipe for messages", it.run(["-q"], stderr=ends[1]), (1, b"", b""))
+    os.close(ends[1])
+    closed = lambda: os.close(1)
+    it.expect("no standard output", it.run(POLYGONS, PAGE, preexec_fn=closed), (4, b"", b"potrace: -: write fault\n"))
+    closed = lambda: os.close(2)
+    it.expect("no standard error", it.run(POLYGONS, PAGE + b"xyz", preexec_fn=closed), (0, TEXT, b""))
+    it.expect("a note and no standard error", it.run([*POLYGONS, "a.pbm"], preexec_fn=closed), (0, b"", b""))
+    it.is_same("its document", it.text("a.polygons"), TEXT)
+    os.mkdir(os.path.join(it.folder, "mine"), 0o555)
+    other = (lambda: os.setuid(65534)) if os.geteuid() == 0 else None
+    ran = it.run([*POLYGONS, "-o", "mine/a", "-"], PAGE, preexec_fn=other)
+    it.expect("a folder not to be written in", ran, (4, b"", b"potrace: mine/a: write fault\n"))
+
+
+def inputs(it):
+    """Folders, and files that grow, shrink or vanish."""
+    closed = lambda: os.close(0)
+    it.expect("no standard input", it.run(POLYGONS, stdin=subprocess.DEVNULL, preexec_fn=closed),
+              (3, b"", fault(b"-", b"read fault")), (3, b"", b"potrace: -: cannot be opened\n"))
+    os.mkdir(os.path.join(it.folder, "pages"))
+    it.expect("a folder for a file", it.run([*POLYGONS, "pages"]),
+              (3, b"", fault(b"pages", b"read fault")), (3, b"", b"potrace: pages: cannot be opened\n"))
+    it.expect("a file below a file", it.run([*POLYGONS, "a.pbm/b"]), (3, b"", b"potrace: a.pbm/b: cannot be opened\n"))
+    words = [os.fsencode(word) for word in POLYGONS]
+    bad_words = (1, b"", b"potrace: bad arguments, see potrace -h\n")
+    it.expect("a name that isn't UTF-8", it.run([*words, b"\xff\xfe.pbm"]), bad_words)
+    it.expect("a name of 5,000 bytes", it.run([*POLYGONS, "a" * 5000]), (3, b"", b"potrace: %s: cannot be opened\n" % (b"a" * 5000)))
+
+    def meanwhile(what, change, *allowed):
+        """The change is made while the program waits for standard input, the first of its files."""
+        it.file("b.pbm", PAGE[:100])
+        process = it.start([*POLYGONS, "-o", "-", "-", "b.pbm"])
+        process.stdin.write(PAGE)
+        process.stdin.flush()
+        change(os.path.join(it.folder, "b.pbm"))
+        out, said = process.communicate(timeout=LIMIT)
+        it.expect(what, Ran(process.returncode, out, said), *allowed)
+
+    meanwhile("a file that has vanished", os.remove, (3, TEXT, b"potrace: b.pbm: cannot be opened\n"))
+    meanwhile("a file that has grown", lambda name: it.file("b.pbm", PAGE), (0, TEXT + TEXT, b""))
+    meanwhile("a file that has shrunk", lambda name: os.truncate(name, 20), (2, TEXT, fault(b"b.pbm", b"truncated")))
+    page, text = black(16384, 16384)
+    cut = [(2, b"", fault(b"c.pbm", reason)) for reason in (b"truncated", b"unknown format")]
+    for what, change, allowed in (
+        ("vanishes", os.remove, [(0, text, b"")]),
+        ("shrinks", lambda name: os.truncate(name, 0), [(0, text, b""), *cut]),
+        ("grows", lambda name: append(name, PAGE), [(0, text, b""), (0, text + TEXT, b"")]),
+    ):
+        it.file("c.pbm", page)
+        process = it.start([*POLYGONS, "-o", "-", "c.pbm"])
+        while process.poll() is None and not is_open(process.pid, "c.pbm"):
+            pass
+        process.send_signal(signal.SIGSTOP)
+        change(os.path.join(it.folder, "c.pbm"))
+        process.send_signal(signal.SIGCONT)
+        out, said = process.communicate(timeout=LIMIT)
+        it.expect(f"a file that {what} while it is read", Ran(process.returncode, out, said), *allowed)
+
+
+def append(name, data):
+    with open(name, "ab") as it:
+        it.write(data)
+
+
+def is_open(process, name):
+    """Whether the process has this file open."""
+    folder = f"/proc/{process}/fd"
+    try:
+        return any(os.readlink(os.path.join(folder, it)).endswith("/" + name) for it in os.listdir(folder))
+    except OSError:
+        return False
+
+
+def endless(it):
+    """Input that never ends."""
+    page, text = black(256, 256)
+    unknown, long, bad = (fault(b"-", text) for text in (b"unknown format", b"gap too long", b"bad raster"))
+    note = b"potrace: -: trailing bytes after page 1\n"
+    for front, byte, answer in (
+        *((b"", byte, (2, b"", unknown)) for byte in (b"\0", b"#", b"0", b"1", b"a", b"P", b"B", b"\x7f", b"\xff")),
+        *((b"", byte, (2, b"", long)) for byte in (b" ", b"\t", b"\n", b"\r", b"\x0b", b"\x0c")),
+        *((b"P1 ", byte, (2, b"", long)) for byte in (b" ", b"#", b"0", b"9")),
+        *((b"P1 ", byte, (2, b"", fault(b"-", b"bad header"))) for byte in (b"a", b"P", b"\0", b"\xff")),
+        *((b"P1 8 8 ", byte, (2, b"", long)) for byte in (b" ", b"#")),
+        *((b"P1 8 8 ", byte, (2, b"", bad)) for byte in (b"2", b"a", b"P", b"\0", b"\xff")),
+        *((b"P2 8 8 9 ", byte, (2, b"", long)) for byte in (b" ", b"#", b"7")),
+        *((b"P2 8 8 9 ", byte, (2, b"", bad)) for byte in (b"a", b"P", b"\0", b"\xff")),
+        (b"P1 256 256 ", b"1", (0, text, note)),
+        (b"P4 256 256 ", b"\xff", (0, text, note)),
+        (b"P5 256 256 9 ", b"\0", (0, text, note)),
+        (page, b" ", (2, text, fault(b"-", b"gap too long", 2))),
+        (page, b"#", (0, text, note)),
+        (b"BM", b"\0", (2, b"", fault(b"-", b"unsupported BMP kind"))),
+        (b"BM", b"\xff", (2, b"", fault(b"-", b"unsupported BMP kind"))),
+    ):
+        process = it.start(POLYGONS)
+        writer = threading.Thread(target=feed, args=(process.stdin, front, byte * 65536))
+        writer.start()
+        kill = threading.Timer(LIMIT, process.kill)
+        kill.start()
+        out, said = process.stdout.read(), process.stderr.read()
+        status = process.wait()
+        kill.cancel()
+        writer.join()
+        it.expect(f"{front[:14]!r} and then {byte!r} without end", Ran(status, out, said), answer)
+
+
+def feed(pipe, front, piece):
+    try:
+        pipe.write(front)
+        while True:
+            pipe.write(piece)
+    except OSError:
+        pass
+    try:
+        pipe.close()
+    except OSError:
+        pass
+
+
+def memory(it):
+    """Ten limits of the address space, in MB, over eight pages."""
+    page, text = black(2048, 2048)
+    allowed = [(0, 8 * text, b""), *((5, count * text, OUT_OF_MEMORY) for count in range(9)), ("not started", b"", b"")]
+    for limit in (2, 3, 4, 6, 8, 12, 16, 24, 48, 256):
+        bound = lambda: resource.setrlimit(resource.RLIMIT_AS, (limit << 20, limit << 20))
+        ran = it.run([*POLYGONS, "--workers", "4"], 8 * page, preexec_fn=bound)
+        if ran.status == 127 and b"error while loading" in ran.said:
+            ran = Ran("not started", b"", b"")
+        it.expect(f"{limit} MB of memory", ran, *allowed)
+
+
+def workers(it):
+    """The greatest page, and more workers than processors."""
+    page, text = black(16384, 16384)
+    for number in ("1", "64"):
+        it.expect(f"the greatest page by {number}", it.run([*POLYGONS, "--workers", number], page), (0, text, b""))
+    pages, texts = (b"".join(parts) for parts in zip(*(black(width, 9 + width % 7) for width in range(9, 1009))))
+    page, text = PIXEL * 65537, b"points 1 1 0\n" * 65536
+    said = fault(b"-", b"too many pages", 65537)
+    for number in ("1", "2", "7", "64"):
+        it.expect(f"one page too many by {number}", it.run(["-b", "points", "--workers", number], page), (2, text, said))
+    few = lambda: os.sched_setaffinity(0, sorted(os.sched_getaffinity(0))[:2])
+    it.expect("1,000 pages, 64 workers and 2 processors", it.run([*POLYGONS, "--workers", "64"], pages, preexec_fn=few), (0, texts, b""))
+
+
+def main():
+    if len(sys.argv) != 2:
+        sys.exit(__doc__)
+    if not os.access(sys.argv[1], os.X_OK):
+        sys.exit(f"trouble: {sys.argv[1]} is no program")
+    with tempfile.TemporaryDirectory() as folder:
+        os.chmod(folder, 0o755)
+        program = os.path.join(folder, "potrace")
+        shutil.copy(sys.argv[1], program)
+        it = Trouble(program, folder)
+        for part in (outputs, inputs, endless, memory, workers):
+            part(it)
+    print(f"{it.failed} failed")
+    sys.exit(it.failed > 0)
+
+
+if __name__ == "__main__":
+    main()

@@ -1,0 +1,92 @@
+-- Documents in parts: how pages become parts of them (PostScript Language Document Structuring Conventions 3.0:
+-- a prolog, the pages, a trailer), and what a part adds to the documents that are told.
+use Rattle.std.specs.Prelude.{◌≡◌, ◌≤◌, ◌⊎◌, ℕ, zero, suc, ◌+◌, Bool, true, false, not, List, [], ◌∷◌, ◌++◌, length, take, Option, codes, decimal}
+use Rattle.std.specs.List.{concat}
+use Rattle.pt_base.specs.Documents.{Documents, with_bytes, with_end, with_open}
+use Rattle.run_output.specs.declared.part.Binding.{Binding}
+use Rattle.run_output.specs.declared.part.Binding.TheVariants as binding
+
+-- a part of a document: it begins the document of this name, or goes on with the open one, which has that name;
+-- its bytes come next; it ends the document, or leaves it open; and then these messages are said
+pub record Part : Type 0 where
+  pub name : List ℕ
+  pub begins : Bool
+  pub bytes : List ℕ
+  pub ends : Bool
+  pub notes : List (List ℕ)
+
+-- a part of these pieces, without messages
+abbrev pub part_in_pieces : List ℕ → Bool → List (List ℕ) → Bool → Part
+part_in_pieces name begins pieces ends =
+    record { name = name; begins = begins; bytes = concat pieces; ends = ends; notes = [] }
+
+-- the one part of a whole document
+abbrev pub whole : List ℕ → List ℕ → Part
+whole name text = record { name = name; begins = true; bytes = text; ends = true; notes = [] }
+
+-- what stands before all pages that are bound together
+abbrev pub prolog_text : List ℕ
+prolog_text = codes "%!PS-Adobe-3.0\n%%Pages: (atend)\n%%EndComments\n"
+
+-- page p of them, counted from 1, in pieces
+abbrev pub page_pieces : ℕ → List ℕ → List (List ℕ)
+page_pieces p text = codes "%%Page: " ∷ decimal p ∷ codes " " ∷ decimal p ∷ codes "\n" ∷ text ∷ []
+
+-- what stands behind n of them
+abbrev pub trailer_text : ℕ → List ℕ
+trailer_text n = concat (codes "%%Trailer\n%%Pages: " ∷ decimal n ∷ codes "\n%%EOF\n" ∷ [])
+
+-- whether a page behind so many of its file is the first one
+abbrev pub is_first_page : ℕ → Bool
+is_first_page zero = true
+is_first_page (suc before) = false
+
+-- what stands before it: the prolog, where it is the first one
+abbrev pub prolog_before : ℕ → List ℕ
+prolog_before zero = prolog_text
+prolog_before (suc before) = []
+
+-- whether a document of a file is open behind so many of its pages
+abbrev pub is_begun : Binding → ℕ → Bool
+is_begun binding.Apart pages = false
+is_begun binding.Together pages = not (is_first_page pages)
+
+-- the part that is the page of this text, behind so many pages of its file
+abbrev pub page_part : Binding → List ℕ → ℕ → List ℕ → Part
+page_part binding.Apart name before text = whole name text
+page_part binding.Together name before text =
+    part_in_pieces name (is_first_page before) (prolog_before before ∷ page_pieces (before + 1) text) false
+
+-- the part that ends the document of so many pages, and then these messages
+abbrev pub end_part : List ℕ → ℕ → List (List ℕ) → Part
+end_part name pages notes =
+    record { name = name; begins = false; bytes = trailer_text pages; ends = true; notes = notes }
+
+-- the texts of pages, one behind another, behind so many pages of their file
+abbrev pub pages_text : ℕ → List (List ℕ) → List ℕ
+pages_text before [] = []
+pages_text before (text ∷ texts) = concat (page_pieces (before + 1) text) ++ pages_text (suc before) texts
+
+-- the document of a file of pages with these texts
+abbrev pub file_text : List (List ℕ) → List ℕ
+file_text texts = (prolog_text ++ pages_text 0 texts) ++ trailer_text (length texts)
+
+-- a document of this name is begun, where the part begins one
+abbrev pub begun : Bool → Option Documents → List ℕ → Option Documents
+begun true told name = with_open told name []
+begun false told name = told
+
+-- the open document is ended, where the part ends it
+abbrev pub ended : Bool → Option Documents → Option Documents
+ended true told = with_end told
+ended false told = told
+
+-- the part is written
+abbrev pub with_part : Option Documents → Part → Option Documents
+with_part told part = ended part.ends (with_bytes (begun part.begins told part.name) part.bytes)
+
+-- the part was cut off: nothing of it is there, or its document was begun and a front of its bytes written
+abbrev pub IsCutIn : Part → Option Documents → Option Documents → Type 0
+IsCutIn part old new =
+    (new ≡ old)
+    ⊎ ((n : ℕ) × (n ≤ length part.bytes) × (new ≡ with_bytes (begun part.begins old part.name) (take n part.bytes)))

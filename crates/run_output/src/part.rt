@@ -1,0 +1,184 @@
+//! Writing documents in parts: a page is a whole document, or goes into one with the other pages of its file.
+//!
+//! A part begins its document or goes on with the open one, and ends it or leaves it open. Writing one takes no
+//! memory: its pieces are written one after another.
+ghost use Rattle.std.specs.Prelude.{◌≡◌, ◌≤◌, suc, [], true, false, not, map, OnOk, OnErr};
+ghost use Rattle.pt_base.specs.Counts.{Rose};
+ghost use Rattle.pt_base.specs.Failures.{after_err};
+ghost use Rattle.run_output.specs.Parts.{IsCutIn, begun, end_part, ended, is_begun, is_first_page, page_part, part_in_pieces, prolog_before, with_part};
+ghost use Rattle.run_output.specs.declared.part.Binding.{Binding};
+
+use crate::pieces::write_pieces;
+use itoa::Buffer;
+use pt_base::fault::SinkFault;
+use pt_base::sink::Outputs;
+
+/// How the pages of a file are bound: each is a document, or all together are one.
+#[derive(Clone, Copy, Debug, PartialEq, Eq)]
+pub enum Binding {
+    Apart,
+    Together,
+}
+
+/// What stands before all pages that are bound together.
+const PROLOG: &[u8] = b"%!PS-Adobe-3.0\n%%Pages: (atend)\n%%EndComments\n";
+
+/// Begins the document of this name, where the part begins one; writes the pieces one after another; and ends the
+/// document, where the part ends it.
+///
+/// After a fault nothing more is written: the part is cut off there.
+pub fn write_part<O: Outputs>(
+    outs: &mut O,
+    name: &str,
+    begins: bool,
+    pieces: &[&[u8]],
+    ends: bool,
+) -> Result<(), SinkFault>
+    requires turn { O.is_ready outs.old ≡ not begins }
+    ensures written { OnOk result (O.documents outs.new ≡ with_part (O.documents outs.old)
+        (part_in_pieces name.now begins (map (λ piece. piece.now) pieces.now) ends)) }
+    ensures turned { OnOk result (O.is_ready outs.new ≡ not ends) }
+    ensures steady { OnOk result (O.faults outs.new ≡ O.faults outs.old) }
+    ensures went { OnOk result ((O.failures outs.new).count ≡ (O.failures outs.old).count) }
+
+    // One call failed, and none came after it.
+    ensures failed { OnErr result (O.failures outs.new ≡ after_err (O.failures outs.old)) }
+    ensures cut_off { OnErr result (IsCutIn
+        (part_in_pieces name.now begins (map (λ piece. piece.now) pieces.now) ends)
+        (O.documents outs.old) (O.documents outs.new)) }
+    ensures cause { OnErr result (Rose (O.faults outs.old) (O.faults outs.new)) }
+    ensures never_falls { O.faults outs.old ≤ O.faults outs.new }
+{
+    begin_where(outs, begins, name)?;
+    write_pieces(outs, pieces)?;
+    match end_where(outs, ends) {
+        Ok(()) => Ok(()),
+        Err(_) => Err(SinkFault),
+    }
+}
+
+/// Begins the document, where the part begins one.
+fn begin_where<O: Outputs>(outs: &mut O, begins: bool, name: &str) -> Result<(), SinkFault>
+    requires turn { O.is_ready outs.old ≡ not begins }
+    ensures begun { OnOk result (O.documents outs.new ≡ begun begins (O.documents outs.old) name.now) }
+    ensures ready { OnOk result (O.is_ready outs.new ≡ true) }
+    ensures steady { OnOk result (O.faults outs.new ≡ O.faults outs.old) }
+    ensures went { OnOk result ((O.failures outs.new).count ≡ (O.failures outs.old).count) }
+    ensures failed { OnErr result (O.failures outs.new ≡ after_err (O.failures outs.old)) }
+    ensures nothing { OnErr result (O.documents outs.new ≡ O.documents outs.old) }
+    ensures cause { OnErr result (Rose (O.faults outs.old) (O.faults outs.new)) }
+    ensures never_falls { O.faults outs.old ≤ O.faults outs.new }
+{
+    if !begins {
+        return Ok(());
+    }
+    if outs.begin(name).is_err() {
+        return Err(SinkFault);
+    }
+    Ok(())
+}
+
+/// Ends the document, where the part ends it.
+fn end_where<O: Outputs>(outs: &mut O, ends: bool) -> Result<(), SinkFault>
+    requires { O.is_ready outs.old ≡ true }
+    ensures ended { OnOk result (O.documents outs.new ≡ ended ends (O.documents outs.old)) }
+    ensures turned { OnOk result (O.is_ready outs.new ≡ not ends) }
+    ensures steady { OnOk result (O.faults outs.new ≡ O.faults outs.old) }
+    ensures went { OnOk result ((O.failures outs.new).count ≡ (O.failures outs.old).count) }
+    ensures failed { OnErr result (O.failures outs.new ≡ after_err (O.failures outs.old)) }
+    ensures nothing { OnErr result (O.documents outs.new ≡ O.documents outs.old) }
+    ensures cause { OnErr result (Rose (O.faults outs.old) (O.faults outs.new)) }
+    ensures never_falls { O.faults outs.old ≤ O.faults outs.new }
+{
+    if !ends {
+        return Ok(());
+    }
+    if outs.end().is_err() {
+        return Err(SinkFault);
+    }
+    Ok(())
+}
+
+/// Writes the part that is a page, behind so many pages of its file, of the document of this name.
+pub fn write_page_part<O: Outputs>(
+    outs: &mut O,
+    binding: Binding,
+    name: &str,
+    before: u32,
+    text: &[u8],
+) -> Result<(), SinkFault>
+    requires turn { O.is_ready outs.old ≡ is_begun binding before }
+    ensures written { OnOk result (O.documents outs.new
+        ≡ with_part (O.documents outs.old) (page_part binding name.now before text.now)) }
+    ensures turned { OnOk result (O.is_ready outs.new ≡ is_begun binding (suc before)) }
+    ensures steady { OnOk result (O.faults outs.new ≡ O.faults outs.old) }
+    ensures went { OnOk result ((O.failures outs.new).count ≡ (O.failures outs.old).count) }
+    ensures failed { OnErr result (O.failures outs.new ≡ after_err (O.failures outs.old)) }
+    ensures cut_off { OnErr result (IsCutIn (page_part binding name.now before text.now)
+        (O.documents outs.old) (O.documents outs.new)) }
+    ensures cause { OnErr result (Rose (O.faults outs.old) (O.faults outs.new)) }
+    ensures never_falls { O.faults outs.old ≤ O.faults outs.new }
+{
+    match binding {
+        Binding::Apart => write_part(outs, name, true, &[text], true),
+        Binding::Together if before == 0 => {
+            write_page_together(outs, name, true, PROLOG, before, text)
+        }
+        Binding::Together => write_page_together(outs, name, false, b"", before, text),
+    }
+}
+
+/// The same where the pages of a file are bound together, and this stands before the page.
+fn write_page_together<O: Outputs>(
+    outs: &mut O,
+    name: &str,
+    begins: bool,
+    prolog: &[u8],
+    before: u32,
+    text: &[u8],
+) -> Result<(), SinkFault>
+    requires first { begins ≡ is_first_page before }
+    requires prolog { prolog.now ≡ prolog_before before }
+    requires turn { O.is_ready outs.old ≡ not (is_first_page before) }
+    ensures written { OnOk result (O.documents outs.new
+        ≡ with_part (O.documents outs.old) (page_part Binding.Together name.now before text.now)) }
+    ensures turned { OnOk result (O.is_ready outs.new ≡ true) }
+    ensures steady { OnOk result (O.faults outs.new ≡ O.faults outs.old) }
+    ensures went { OnOk result ((O.failures outs.new).count ≡ (O.failures outs.old).count) }
+    ensures failed { OnErr result (O.failures outs.new ≡ after_err (O.failures outs.old)) }
+    ensures cut_off { OnErr result (IsCutIn (page_part Binding.Together name.now before text.now)
+        (O.documents outs.old) (O.documents outs.new)) }
+    ensures cause { OnErr result (Rose (O.faults outs.old) (O.faults outs.new)) }
+    ensures never_falls { O.faults outs.old ≤ O.faults outs.new }
+{
+    let mut digits = Buffer::new();
+    let page = digits.format(u64::from(before) + 1).as_bytes();
+    let pieces = [prolog, b"%%Page: ", page, b" ", page, b"\n", text];
+    match write_part(outs, name, begins, &pieces, false) {
+        Ok(()) => Ok(()),
+        Err(_) => Err(SinkFault),
+    }
+}
+
+/// Ends the open document, which has this name and so many pages.
+pub fn write_end_part<O: Outputs>(outs: &mut O, name: &str, pages: u32) -> Result<(), SinkFault>
+    requires turn { O.is_ready outs.old ≡ true }
+    ensures written { OnOk result (O.documents outs.new
+        ≡ with_part (O.documents outs.old) (end_part name.now pages [])) }
+    ensures turned { OnOk result (O.is_ready outs.new ≡ false) }
+    ensures steady { OnOk result (O.faults outs.new ≡ O.faults outs.old) }
+    ensures went { OnOk result ((O.failures outs.new).count ≡ (O.failures outs.old).count) }
+    ensures failed { OnErr result (O.failures outs.new ≡ after_err (O.failures outs.old)) }
+    ensures cut_off { OnErr result (IsCutIn (end_part name.now pages [])
+        (O.documents outs.old) (O.documents outs.new)) }
+    ensures cause { OnErr result (Rose (O.faults outs.old) (O.faults outs.new)) }
+    ensures never_falls { O.faults outs.old ≤ O.faults outs.new }
+{
+    let mut digits = Buffer::new();
+    let count = digits.format(u64::from(pages)).as_bytes();
+    let pieces: [&[u8]; 3] = [b"%%Trailer\n%%Pages: ", count, b"\n%%EOF\n"];
+    match write_part(outs, name, false, &pieces, true) {
+        Ok(()) => Ok(()),
+        Err(_) => Err(SinkFault),
+    }
+}

@@ -1,0 +1,35 @@
+//! Writing pieces one after another.
+ghost use Rattle.std.specs.Prelude.{◌≡◌, ◌≤◌, ℕ, true, length, map, take, OnOk, OnErr};
+ghost use Rattle.std.specs.List.{concat};
+ghost use Rattle.pt_base.specs.Counts.{Rose};
+ghost use Rattle.pt_base.specs.Documents.{with_bytes};
+ghost use Rattle.pt_base.specs.Failures.{after_err};
+
+use pt_base::fault::SinkFault;
+use pt_base::sink::Sink;
+use pt_base::write::write_whole;
+
+/// Writes the pieces one after another.
+///
+/// A `SinkFault` means that a call failed: a prefix of all their bytes was appended then, and the rest is given up.
+pub(crate) fn write_pieces<S: Sink>(sink: &mut S, pieces: &[&[u8]]) -> Result<(), SinkFault>
+    requires { S.is_ready sink.old ≡ true }
+    ensures appended { OnOk result (S.documents sink.new
+        ≡ with_bytes (S.documents sink.old) (concat (map (λ piece. piece.now) pieces.now))) }
+    ensures steady { OnOk result (S.faults sink.new ≡ S.faults sink.old) }
+    ensures went { OnOk result ((S.failures sink.new).count ≡ (S.failures sink.old).count) }
+
+    // One call failed, and none came after it.
+    ensures failed { OnErr result (S.failures sink.new ≡ after_err (S.failures sink.old)) }
+    ensures prefix { OnErr result ((n : ℕ) × (n ≤ length (concat (map (λ piece. piece.now) pieces.now)))
+        × (S.documents sink.new ≡ with_bytes (S.documents sink.old)
+        (take n (concat (map (λ piece. piece.now) pieces.now))))) }
+    ensures cause { OnErr result (Rose (S.faults sink.old) (S.faults sink.new)) }
+    ensures never_falls { S.faults sink.old ≤ S.faults sink.new }
+    ensures stays_ready { S.is_ready sink.new ≡ true }
+{
+    for piece in pieces {
+        write_whole(sink, piece)?;
+    }
+    Ok(())
+}
