@@ -1,12 +1,15 @@
 #!/usr/bin/env python3
 """Draws a page that is hard on the search for paths, as a raw PBM on standard output.
 
-usage: make_page.py white|checkerboard|dither WIDTH HEIGHT
+usage: make_page.py white|bar|dust|checkerboard|dither WIDTH HEIGHT
 
-white has no black pixel. checkerboard has pixels of one colour that meet at corners alone. dither is two waves of
-gray, spread by Floyd and Steinberg's error diffusion. It needs python3 alone.
+white has no black pixel. bar has one black bar across, a third as high as the page. dust has each pixel black by
+chance, one in 1,024. checkerboard has pixels of one colour that meet at corners alone. dither is two waves of
+gray, spread by Floyd and Steinberg's error diffusion. Rows are written as they are drawn, so a page may be
+as large as you like. It needs python3 alone.
 """
 import math
+import random
 import sys
 
 
@@ -21,6 +24,22 @@ def white(width, height):
     row = bytes((width + 7) // 8)
     for _ in range(height):
         yield row
+
+
+def bar(width, height):
+    rows = [bytes((width + 7) // 8), packed([True] * width)]
+    for y in range(height):
+        yield rows[height // 3 <= y < height - height // 3]
+
+
+def dust(width, height):
+    numbers = random.Random(1)
+    bits = (width + 7) // 8 * 8
+    for _ in range(height):
+        row = numbers.getrandbits(bits)
+        for _ in range(9):
+            row &= numbers.getrandbits(bits)
+        yield row.to_bytes(bits // 8, "big")
 
 
 def checkerboard(width, height):
@@ -50,7 +69,7 @@ def dither(width, height):
 
 
 def main():
-    kinds = {"white": white, "checkerboard": checkerboard, "dither": dither}
+    kinds = {"white": white, "bar": bar, "dust": dust, "checkerboard": checkerboard, "dither": dither}
     if len(sys.argv) != 4 or sys.argv[1] not in kinds:
         sys.exit(__doc__)
     width, height = int(sys.argv[2]), int(sys.argv[3])

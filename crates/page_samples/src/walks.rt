@@ -22,6 +22,29 @@ pub fn round(alloc: Global, width: i32, height: i32) -> Result<Vec<Point>, NoMem
     Ok(points)
 }
 
+/// A walk whose longest straight part has as many steps as one can have within a square: stairs, with a step
+/// before them and one behind.
+///
+/// From (0, 1) it goes south, and then east and north in turn up to a step below the upper side; then north, east,
+/// and back by way of (`side`, 1).
+pub fn hooked_stairs(alloc: Global, side: i32) -> Result<Vec<Point>, NoMemory> {
+    let last = side.wrapping_sub(1);
+    let mut points = vec![in alloc; Point { x: 0, y: 1 }]?;
+    for step in 0..last {
+        points.push(Point { x: step, y: step })?;
+        points.push(Point {
+            x: step.wrapping_add(1),
+            y: step,
+        })?;
+    }
+    points.push(Point { x: last, y: last })?;
+    points.push(Point { x: last, y: side })?;
+    put_side(&mut points, Point { x: side, y: side }, (0, -1), last)?;
+    put_side(&mut points, Point { x: side, y: 1 }, (-1, 0), last)?;
+    points.push(Point { x: 1, y: 1 })?;
+    Ok(points)
+}
+
 /// Appends so many points on a straight way.
 fn put_side(
     points: &mut Vec<Point>,

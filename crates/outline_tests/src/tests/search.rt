@@ -3,6 +3,7 @@ ghost use Rattle.std.specs.Prelude.{IsTrue, pos, unsigned_abs, ◌≤◌, ◌≤
 
 use super::lot::Lot;
 use super::plain::{best_of_all, best_of_column, moved};
+use pt_base::limits::LONGEST_SIDE;
 use pt_base::point::Point;
 use vertex_adjust::columns::column;
 use vertex_adjust::line::Line;
@@ -10,7 +11,7 @@ use vertex_adjust::vertices::vertex;
 
 /// How large the numbers of a normal are, and how far from the point a line's centre may lie: lines that meet
 /// near, lines far away, and flat ones with many ties.
-const KINDS: [(u32, u32); 5] = [(4096, 700), (4096, 1 << 24), (3, 600), (1, 40), (4096, 60)];
+const KINDS: [(u32, u32); 5] = [(4096, 700), (4096, 1 << 25), (3, 600), (1, 40), (4096, 60)];
 
 /// A point whose coordinates are from 0 to `most`, and two lines near it.
 fn drawn(lot: &mut Lot, round: usize, most: u16) -> (Point, Line, Line) {
@@ -36,10 +37,11 @@ fn is_within(line: &Line, centre: u64) -> bool
 
 /// The vertex at a point between two lines, if they may be those of a path on a page.
 fn vertex_at(before: &Line, after: &Line, v: Point) -> Option<(i64, i64)> {
-    if !is_within(before, 1 << 25) || !is_within(after, 1 << 25) {
+    if !is_within(before, 1 << 26) || !is_within(after, 1 << 26) {
         return None;
     }
-    if v.x < 0 || 16384 < v.x || v.y < 0 || 16384 < v.y {
+    let longest = LONGEST_SIDE as i32;
+    if v.x < 0 || longest < v.x || v.y < 0 || longest < v.y {
         return None;
     }
     let found = vertex(before, after, v);
@@ -105,7 +107,7 @@ fn ties_and_lines_that_do_not_meet(rt: HostRuntime) {
 fn vertices_are_the_best_of_all_places(rt: HostRuntime) {
     let mut lot = Lot::new();
     for round in 0..500 {
-        let (v, before, mut after) = drawn(&mut lot, round, 16384);
+        let (v, before, mut after) = drawn(&mut lot, round, 32767);
         // Each third pair of lines is parallel.
         if round % 3 == 0 {
             after = line((before.nx, before.ny, after.cx, after.cy));
