@@ -10,6 +10,7 @@ use Rattle.pt_base.specs.declared.point.Point.{Point}
 use Rattle.pt_base.specs.declared.path.Sign.{Sign}
 use Rattle.pt_base.specs.declared.policy.Policy.{Policy}
 use Rattle.pt_base.specs.ClosedWalk.{origin, point_at, IsNextTo, IsUnitStep, IsClosedWalk}
+use Rattle.pt_base.specs.declared.limits.TheConstants.{LONGEST_SIDE}
 use Rattle.bit_image.specs.Image.{Image, Fits, south_west, differ}
 use Rattle.turn_policies.specs.declared.heading.Dir.{Dir}
 use Rattle.turn_policies.specs.declared.heading.Dir.TheVariants.{North, East, South, West}
@@ -121,17 +122,15 @@ length-run b policy sign s (a ∷ c ∷ d ∷ e ∷ es) h some run even = omega 
 pub length-round : (b : Image) (policy : Policy) (sign : Sign) (s : Edge) (es : List Edge) → IsCircuit b policy sign s es → 4 ≤ length es
 length-round b policy sign s es c = length-run b policy sign s es c.boundary c.some c.closes (length_even b policy sign s es c.boundary c.closes)
 
-pub length-le : (b : Image) (policy : Policy) (sign : Sign) (s : Edge) (es : List Edge) → IsCircuit b policy sign s es → (width height : ℕ) → Fits b width height → length es ≤ suc width * suc height * 4
+pub length-le : (b : Image) (policy : Policy) (sign : Sign) (s : Edge) (es : List Edge) → IsCircuit b policy sign s es → (width height : ℕ) → Fits b width height → length es ≤ suc width * suc height * 2
 length-le b policy sign s es c width height fits =
-    length-distinct width height es
-    (λ k d short. let on = edge_on b width height fits (get_or es k d) (all_boundary b policy sign s es c k d short) in (on.column, on.row))
-    c.distinct
+    length-distinct b width height fits es (all_boundary b policy sign s es c) c.distinct
 
-most_edges : (width height n : ℕ) → width ≤ 16384 → height ≤ 16384 → n ≤ suc width * suc height * 4 → n ≤ 2 ^ 31
-most_edges width height n w h le = omega (arith, mul-le (suc width) (suc height) 16385 16385 (omega arith) (omega arith))
+most_edges : (width height n : ℕ) → width ≤ LONGEST_SIDE → height ≤ LONGEST_SIDE → n ≤ suc width * suc height * 2 → n ≤ 2 ^ 31
+most_edges width height n w h le = omega (arith, mul-le (suc width) (suc height) (suc LONGEST_SIDE) (suc LONGEST_SIDE) (omega arith) (omega arith))
 
 -- the points of a walk once round are a closed walk
-pub closed_walk : (b : Image) (policy : Policy) (sign : Sign) (s : Edge) (es : List Edge) → IsCircuit b policy sign s es → (width height : ℕ) → Fits b width height → width ≤ 16384 → height ≤ 16384 → IsClosedWalk (map start_of es)
+pub closed_walk : (b : Image) (policy : Policy) (sign : Sign) (s : Edge) (es : List Edge) → IsCircuit b policy sign s es → (width height : ℕ) → Fits b width height → width ≤ LONGEST_SIDE → height ≤ LONGEST_SIDE → IsClosedWalk (map start_of es)
 closed_walk b policy sign s es c width height fits w h =
     let f : Edge → Edge = next b policy sign in
     let points : List Point = map start_of es in

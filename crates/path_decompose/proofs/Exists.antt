@@ -9,6 +9,7 @@ use Rattle.bit_image.specs.Page.{Page, IsPage, image_of}
 use Rattle.bit_image.specs.FirstBlack.{IsFirstBlack}
 use Rattle.bit_image.proofs.Pages.{Fits-page}
 use Rattle.turn_policies.specs.declared.heading.Dir.{Dir}
+use Rattle.turn_policies.specs.declared.heading.Dir.TheVariants.{North, East, South, West}
 use Rattle.turn_policies.specs.declared.edge.Edge.{Edge}
 use Rattle.turn_policies.specs.Turn.{next}
 use Rattle.path_decompose.specs.Walk.{IsBoundaryWalk, first_edge, start_of}
@@ -16,7 +17,6 @@ use Rattle.path_decompose.specs.Inside.{inside, black_count}
 use Rattle.path_decompose.specs.Decomposition.{sign_at, inverted, IsNextPath, IsDecomposed, IsDecomposition}
 use Rattle.path_decompose.specs.Start.{IsStart}
 use Rattle.path_decompose.proofs.Orbit.{nth_after, orbit, NoReturn}
-use Rattle.path_decompose.proofs.OnPage.{number_of_heading, heading_back}
 use Rattle.path_decompose.proofs.Steps.{part_short, part_round, no_return_more}
 use Rattle.path_decompose.proofs.Walked.{white_through}
 use Rattle.path_decompose.proofs.NextPath.{fits_inverted}
@@ -51,6 +51,31 @@ start_found : (b : Image) (width height : ℕ) → Fits b width height → (star
 start_found b width height fits =
     start_below b width height height fits (λ u v above. elim (cases_Bool (b u v)) [ inl black ↦ let at = fits u v black in absurd (omega arith) | inr white ↦ white ])
 
+number_of_heading : Dir → ℕ
+number_of_heading North = 0
+number_of_heading East = 1
+number_of_heading South = 2
+number_of_heading West = 3
+
+heading_back : (c d : Dir) → number_of_heading c ≡ number_of_heading d → c ≡ d
+unfolding number_of_heading
+heading_back North North h = refl
+heading_back North East h = absurd (omega arith)
+heading_back North South h = absurd (omega arith)
+heading_back North West h = absurd (omega arith)
+heading_back East North h = absurd (omega arith)
+heading_back East East h = refl
+heading_back East South h = absurd (omega arith)
+heading_back East West h = absurd (omega arith)
+heading_back South North h = absurd (omega arith)
+heading_back South East h = absurd (omega arith)
+heading_back South South h = refl
+heading_back South West h = absurd (omega arith)
+heading_back West North h = absurd (omega arith)
+heading_back West East h = absurd (omega arith)
+heading_back West South h = absurd (omega arith)
+heading_back West West h = refl
+
 same_heading : (c d : Dir) → (c ≡ d) ⊎ (c ≢ d)
 same_heading c d =
     elim (cases_eq (number_of_heading c) (number_of_heading d)) [
@@ -73,10 +98,10 @@ same_edge d e =
     ]
 
 -- the walk comes back to its first edge within as many steps as the page has edges
-returns_within : (b : Image) (policy : Policy) (sign : Sign) (x y width height : ℕ) → IsFirstBlack b x y → Fits b width height → (fuel n : ℕ) → suc width * suc height * 4 ≤ n + fuel → NoReturn (next b policy sign) n (first_edge x y)
+returns_within : (b : Image) (policy : Policy) (sign : Sign) (x y width height : ℕ) → IsFirstBlack b x y → Fits b width height → (fuel n : ℕ) → suc width * suc height * 2 ≤ n + fuel → NoReturn (next b policy sign) n (first_edge x y)
     → (m : ℕ) × NoReturn (next b policy sign) m (first_edge x y) × (nth_after (next b policy sign) (suc m) (first_edge x y) ≡ first_edge x y)
 returns_within b policy sign x y width height first fits zero n enough so_far =
-    let short : n < suc width * suc height * 4 = part_short b policy sign x y n _ _ width height first fits (record { passed = refl; at = refl; no_return = so_far }) in
+    let short : n < suc width * suc height * 2 = part_short b policy sign x y n _ _ width height first fits (record { passed = refl; at = refl; no_return = so_far }) in
     absurd (omega arith)
 returns_within b policy sign x y width height first fits (suc fuel) n enough so_far =
     elim (same_edge (nth_after (next b policy sign) (suc n) (first_edge x y)) (first_edge x y)) [
@@ -88,7 +113,7 @@ returns_within b policy sign x y width height first fits (suc fuel) n enough so_
 pub walk_found : (b : Image) (policy : Policy) (sign : Sign) (x y width height : ℕ) → IsFirstBlack b x y → Fits b width height
     → (es : List Edge) × IsBoundaryWalk b policy sign x y (map start_of es)
 walk_found b policy sign x y width height first fits =
-    let back = returns_within b policy sign x y width height first fits (suc width * suc height * 4) 0 (omega arith) (λ k below. absurd (omega arith)) in
+    let back = returns_within b policy sign x y width height first fits (suc width * suc height * 2) 0 (omega arith) (λ k below. absurd (omega arith)) in
     let es : List Edge = orbit (next b policy sign) (suc back.0) (first_edge x y) in
     (es, record { edges = es; round = part_round b policy sign x y back.0 first back.1 back.2; starts = refl })
 

@@ -8,6 +8,7 @@ use Rattle.std.proofs.lemmas.List.Sums.{sum_by-append, sum_by-cons}
 use Rattle.pt_base.specs.declared.point.Point.{Point}
 use Rattle.pt_base.specs.declared.path.Sign.{Sign}
 use Rattle.pt_base.specs.declared.policy.Policy.{Policy}
+use Rattle.pt_base.specs.declared.limits.TheConstants.{LONGEST_SIDE}
 use Rattle.bit_image.specs.Image.{Image, Fits, differ, is_from}
 use Rattle.bit_image.specs.FirstBlack.{IsFirstBlack}
 use Rattle.turn_policies.specs.declared.heading.Dir.{Dir}
@@ -74,8 +75,8 @@ pub record IsNoted (f : Edge → Edge) (s : Edge) (points : List Point) (lines :
   pub lines_are : lines ≡ uprights_of (orbit f (length points) s)
   pub up_is : up ≡ sum_by column_up (orbit f (length points) s)
   pub down_is : down ≡ sum_by column_down (orbit f (length points) s)
-  pub up_most : up ≤ length points * 16384
-  pub down_most : down ≤ length points * 16384
+  pub up_most : up ≤ length points * LONGEST_SIDE
+  pub down_most : down ≤ length points * LONGEST_SIDE
 
 -- nothing is noted down yet
 pub none_noted : (f : Edge → Edge) (s : Edge) (points : List Point) (lines : List Upright) (up down : ℕ) → points ≡ [] → lines ≡ [] → up ≡ 0 → down ≡ 0 → IsNoted f s points lines up down s
@@ -118,7 +119,7 @@ sum_push g f s n sum here is at =
     omega (arith, one, same, more, sum_by-append g (orbit f n s) (nth_after f n s ∷ []))
 
 -- one more edge
-pub noted_more : (f : Edge → Edge) (s : Edge) (points new_points : List Point) (lines new_lines : List Upright) (up down new_up new_down : ℕ) (here after : Edge) → IsNoted f s points lines up down here → here.x ≤ 16384
+pub noted_more : (f : Edge → Edge) (s : Edge) (points new_points : List Point) (lines new_lines : List Upright) (up down new_up new_down : ℕ) (here after : Edge) → IsNoted f s points lines up down here → here.x ≤ LONGEST_SIDE
     → new_points ≡ points ++ start_of here ∷ [] → new_lines ≡ lines ++ upright_of here → new_up ≡ up + column_up here → new_down ≡ down + column_down here → after ≡ f here → f here ≢ s
     → IsNoted f s new_points new_lines new_up new_down after
 noted_more f s points new_points lines new_lines up down new_up new_down here after noted narrow ps ls u d next other =
@@ -188,9 +189,9 @@ noted_closed b policy sign x y width height points new_points lines new_lines up
 
 -- the sums stay small, as a page has only so many edges
 pub noted_small : (b : Image) (policy : Policy) (sign : Sign) (x y width height : ℕ) (points : List Point) (lines : List Upright) (up down : ℕ) (here : Edge)
-    → IsFirstBlack b x y → Fits b width height → width ≤ 16384 → height ≤ 16384 → IsNoted (next b policy sign) (first_edge x y) points lines up down here
-    → (length points < suc width * suc height * 4) × (up < 2 ^ 63) × (down < 2 ^ 63)
+    → IsFirstBlack b x y → Fits b width height → width ≤ LONGEST_SIDE → height ≤ LONGEST_SIDE → IsNoted (next b policy sign) (first_edge x y) points lines up down here
+    → (length points < suc width * suc height * 2) × (up < 2 ^ 63) × (down < 2 ^ 63)
 noted_small b policy sign x y width height points lines up down here first fits w h noted =
-    let short : length points < suc width * suc height * 4 = part_short b policy sign x y (length points) points here width height first fits noted.part in
-    let sides : suc width * suc height ≤ 16385 * suc height = mul-le (suc width) (suc height) 16385 (suc height) (omega arith) (omega arith) in
+    let short : length points < suc width * suc height * 2 = part_short b policy sign x y (length points) points here width height first fits noted.part in
+    let sides : suc width * suc height ≤ suc LONGEST_SIDE * suc LONGEST_SIDE = mul-le (suc width) (suc height) (suc LONGEST_SIDE) (suc LONGEST_SIDE) (omega arith) (omega arith) in
     (short, omega (arith, noted.up_most), omega (arith, noted.down_most))

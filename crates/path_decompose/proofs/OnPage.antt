@@ -1,7 +1,7 @@
 -- A boundary edge lies on the page, and a page has only so many.
-use Rattle.std.proofs.Common.{◌≡◌, ◌≢◌, ℕ, zero, suc, ◌+◌, ◌*◌, ◌<◌, ◌≤◌, true, eqb, List, [], ◌∷◌, map, length, get_or, AllPairs, All, refl, sym, ◌∙◌, inl, inr, arith}
+use Rattle.std.proofs.Common.{◌≡◌, ◌≢◌, ℕ, zero, suc, ◌+◌, ◌*◌, ◌<◌, ◌≤◌, true, false, eqb, List, [], ◌∷◌, map, length, get_or, AllPairs, All, refl, sym, ◌∙◌, inl, inr, arith}
 use Rattle.std.specs.List.{list_any}
-use Rattle.std.proofs.lemmas.Bool.{or_cases, eqb-true}
+use Rattle.std.proofs.lemmas.Bool.{or_cases, eqb-true, false≢true}
 use Rattle.std.proofs.lemmas.Bool.Decides.{Decides-eqb}
 use Rattle.std.proofs.lemmas.List.{length-map, get_or-map}
 use Rattle.std.proofs.lemmas.List.Elements.{All-map, All-head, All-tail}
@@ -13,7 +13,7 @@ use Rattle.turn_policies.specs.declared.heading.Dir.{Dir}
 use Rattle.turn_policies.specs.declared.heading.Dir.TheVariants.{North, East, South, West}
 use Rattle.turn_policies.specs.declared.edge.Edge.{Edge}
 use Rattle.turn_policies.specs.Heading.{end_x, end_y}
-use Rattle.turn_policies.specs.Boundary.{IsBoundary, left_pixel}
+use Rattle.turn_policies.specs.Boundary.{IsBoundary, left_pixel, right_pixel}
 use Rattle.path_decompose.specs.Line.{IsLineOn}
 use Rattle.path_decompose.proofs.EdgeLine.{line_along}
 
@@ -47,55 +47,61 @@ step_on b width height fits (suc x) (suc y) West black =
 pub edge_on : (b : Image) (width height : ℕ) → Fits b width height → (e : Edge) → IsBoundary b e → IsStepOn width height e.x e.y e.heading
 edge_on b width height fits e h = step_on b width height fits e.x e.y e.heading h.black_left
 
-pub number_of_heading : Dir → ℕ
-number_of_heading North = 0
-number_of_heading East = 1
-number_of_heading South = 2
-number_of_heading West = 3
+-- 0 for north and east, 1 for south and west
+half_of : Dir → ℕ
+half_of North = 0
+half_of East = 0
+half_of South = 1
+half_of West = 1
 
--- each edge of a page of this width has a number of its own
+half_below : (d : Dir) → half_of d < 2
+unfolding half_of
+half_below North = omega arith
+half_below East = omega arith
+half_below South = omega arith
+half_below West = omega arith
+
+-- Two boundary edges that leave one corner are in different halves: the pixel between north and east, and
+-- that between south and west, would be white for one of them and black for the other.
+half_back : (b : Image) (x y : ℕ) (c d : Dir) → left_pixel (south_west b) x y c ≡ true → right_pixel (south_west b) x y c ≡ false
+    → left_pixel (south_west b) x y d ≡ true → right_pixel (south_west b) x y d ≡ false → half_of c ≡ half_of d → c ≡ d
+unfolding half_of
+half_back b x y North North black white other_black other_white h = refl
+half_back b x y North East black white other_black other_white h = absurd (false≢true (sym white ∙ other_black))
+half_back b x y North South black white other_black other_white h = absurd (omega arith)
+half_back b x y North West black white other_black other_white h = absurd (omega arith)
+half_back b x y East North black white other_black other_white h = absurd (false≢true (sym other_white ∙ black))
+half_back b x y East East black white other_black other_white h = refl
+half_back b x y East South black white other_black other_white h = absurd (omega arith)
+half_back b x y East West black white other_black other_white h = absurd (omega arith)
+half_back b x y South North black white other_black other_white h = absurd (omega arith)
+half_back b x y South East black white other_black other_white h = absurd (omega arith)
+half_back b x y South South black white other_black other_white h = refl
+half_back b x y South West black white other_black other_white h = absurd (false≢true (sym white ∙ other_black))
+half_back b x y West North black white other_black other_white h = absurd (omega arith)
+half_back b x y West East black white other_black other_white h = absurd (omega arith)
+half_back b x y West South black white other_black other_white h = absurd (false≢true (sym other_white ∙ black))
+half_back b x y West West black white other_black other_white h = refl
+
+-- each boundary edge of a page of this width has a number of its own, two a corner
 edge_number : ℕ → Edge → ℕ
-edge_number width e = (e.y * suc width + e.x) * 4 + number_of_heading e.heading
+edge_number width e = (e.y * suc width + e.x) * 2 + half_of e.heading
 
-heading_below : (d : Dir) → number_of_heading d < 4
-unfolding number_of_heading
-heading_below North = omega arith
-heading_below East = omega arith
-heading_below South = omega arith
-heading_below West = omega arith
-
-pub heading_back : (c d : Dir) → number_of_heading c ≡ number_of_heading d → c ≡ d
-unfolding number_of_heading
-heading_back North North h = refl
-heading_back North East h = absurd (omega arith)
-heading_back North South h = absurd (omega arith)
-heading_back North West h = absurd (omega arith)
-heading_back East North h = absurd (omega arith)
-heading_back East East h = refl
-heading_back East South h = absurd (omega arith)
-heading_back East West h = absurd (omega arith)
-heading_back South North h = absurd (omega arith)
-heading_back South East h = absurd (omega arith)
-heading_back South South h = refl
-heading_back South West h = absurd (omega arith)
-heading_back West North h = absurd (omega arith)
-heading_back West East h = absurd (omega arith)
-heading_back West South h = absurd (omega arith)
-heading_back West West h = refl
-
-edge_back : (width : ℕ) (d e : Edge) → d.x ≤ width → e.x ≤ width → edge_number width d ≡ edge_number width e → d ≡ e
+edge_back : (b : Image) (width : ℕ) (d e : Edge) → IsBoundary b d → IsBoundary b e → d.x ≤ width → e.x ≤ width → edge_number width d ≡ edge_number width e → d ≡ e
 unfolding edge_number
-edge_back width d e dx ex same =
-    let by_heading = same_from_place (d.y * suc width + d.x) (number_of_heading d.heading) (e.y * suc width + e.x) (number_of_heading e.heading) 4 (heading_below d.heading) (heading_below e.heading) same in
-    let by_place = same_from_place d.y d.x e.y e.x (suc width) (omega arith) (omega arith) by_heading.0 in
-    let turned = heading_back d.heading e.heading by_heading.1 in
+edge_back b width d e hd he dx ex same =
+    let by_half = same_from_place (d.y * suc width + d.x) (half_of d.heading) (e.y * suc width + e.x) (half_of e.heading) 2 (half_below d.heading) (half_below e.heading) same in
+    let by_place = same_from_place d.y d.x e.y e.x (suc width) (omega arith) (omega arith) by_half.0 in
+    let black : left_pixel (south_west b) d.x d.y e.heading ≡ true = rw (by_place.0, by_place.1) he.black_left in
+    let white : right_pixel (south_west b) d.x d.y e.heading ≡ false = rw (by_place.0, by_place.1) he.white_right in
+    let turned = half_back b d.x d.y d.heading e.heading hd.black_left hd.white_right black white by_half.1 in
     rw (by_place.0, by_place.1, turned) refl
 
-edge_number_below : (width height : ℕ) (e : Edge) → e.x ≤ width → e.y ≤ height → edge_number width e < suc width * suc height * 4
+edge_number_below : (width height : ℕ) (e : Edge) → e.x ≤ width → e.y ≤ height → edge_number width e < suc width * suc height * 2
 unfolding edge_number
 edge_number_below width height e ex ey =
     let place = mul-add-lt e.y (suc width) e.x (suc height) (omega arith) (omega arith) in
-    let heading = heading_below e.heading in
+    let half = half_below e.heading in
     omega arith
 
 below_from_any : (n q : ℕ) (xs : List ℕ) → All (λ x. x < n) xs → list_any (eqb q) xs ≡ true → q < n
@@ -106,17 +112,19 @@ below_from_any n q (x ∷ xs) all any =
       | inr later ↦ below_from_any n q xs (All-tail (λ y. y < n) x xs all) later
     ]
 
--- different edges on a page of this width and height are no more than four at each corner
-pub length-distinct : (width height : ℕ) (es : List Edge) → All (λ e. (e.x ≤ width) × (e.y ≤ height)) es → AllPairs (λ d e. d ≢ e) es → length es ≤ suc width * suc height * 4
-length-distinct width height es on distinct =
+-- different boundary edges on a page of this width and height are no more than two at each corner
+pub length-distinct : (b : Image) (width height : ℕ) → Fits b width height → (es : List Edge) → All (IsBoundary b) es → AllPairs (λ d e. d ≢ e) es → length es ≤ suc width * suc height * 2
+length-distinct b width height fits es boundary distinct =
     let numbers : List ℕ = map (edge_number width) es in
     let some : Edge = record { x = 0; y = 0; heading = North } in
+    let on : (k : ℕ) (d : Edge) → k < length es → ((get_or es k d).x ≤ width) × ((get_or es k d).y ≤ height) =
+    λ k d short. let on_page = edge_on b width height fits (get_or es k d) (boundary k d short) in (on_page.column, on_page.row) in
     let apart : AllPairs (λ m n. m ≢ n) numbers =
     λ i j n before below same.
     let j_in : j < length es = omega (arith, length-map es (edge_number width)) in
     let i_in : i < length es = omega arith in
     distinct i j some before j_in
-    (edge_back width (get_or es i some) (get_or es j some) (on i some i_in).0 (on j some j_in).0
+    (edge_back b width (get_or es i some) (get_or es j some) (boundary i some i_in) (boundary j some j_in) (on i some i_in).0 (on j some j_in).0
     (sym (get_or-map (edge_number width) es i some n i_in) ∙ same ∙ get_or-map (edge_number width) es j some n j_in)) in
-    let below : All (λ n. n < suc width * suc height * 4) numbers = All-map (λ n. n < suc width * suc height * 4) (edge_number width) es (λ k d short. edge_number_below width height (get_or es k d) (on k d short).0 (on k d short).1) in
-    omega (arith, length-map es (edge_number width), length-le_from_distinct_below numbers (suc width * suc height * 4) (IsDistinct-from_AllPairs Decides-eqb numbers apart) (λ q any. below_from_any (suc width * suc height * 4) q numbers below any))
+    let below : All (λ n. n < suc width * suc height * 2) numbers = All-map (λ n. n < suc width * suc height * 2) (edge_number width) es (λ k d short. edge_number_below width height (get_or es k d) (on k d short).0 (on k d short).1) in
+    omega (arith, length-map es (edge_number width), length-le_from_distinct_below numbers (suc width * suc height * 2) (IsDistinct-from_AllPairs Decides-eqb numbers apart) (λ q any. below_from_any (suc width * suc height * 2) q numbers below any))

@@ -6,6 +6,7 @@ use Rattle.pt_base.specs.ClosedWalk.{point_at, IsClosedWalk}
 use Rattle.pt_base.specs.declared.path.Path.{Path}
 use Rattle.pt_base.specs.declared.policy.Policy.{Policy}
 use Rattle.pt_base.specs.declared.point.Point.{Point}
+use Rattle.pt_base.specs.declared.limits.TheConstants.{LONGEST_SIDE}
 use Rattle.bit_image.specs.Image.{Image, Fits}
 use Rattle.bit_image.specs.Page.{Page, IsPage, image_of}
 use Rattle.path_decompose.specs.Bounds.{IsCornerOf, IsPathOn}
@@ -19,7 +20,7 @@ one_above points x y at =
     let row : (point_at points 0).y ≡ pos (suc y) = ap (λ p. p.y) at in
     rw row (omega (arith, ints))
 
-path_on : (page : Page) (policy : Policy) (b : Image) (path : Path) (width height : ℕ) → IsNextPath page policy b path → Fits b width height → width ≤ 16384 → height ≤ 16384 → IsPathOn width height path
+path_on : (page : Page) (policy : Policy) (b : Image) (path : Path) (width height : ℕ) → IsNextPath page policy b path → Fits b width height → width ≤ LONGEST_SIDE → height ≤ LONGEST_SIDE → IsPathOn width height path
 path_on page policy b path width height n fits w h =
     let c = next_circuit page policy b path n in
     let s = first_edge n.x n.y in
@@ -30,7 +31,7 @@ path_on page policy b path width height n fits w h =
       inside_on_page = next_fits page policy b path width height n fits;
     }
 
-pub paths_on : (page : Page) (policy : Policy) (b : Image) (paths : List Path) (width height : ℕ) → IsDecomposed page policy b paths → Fits b width height → width ≤ 16384 → height ≤ 16384 → All (IsPathOn width height) paths
+pub paths_on : (page : Page) (policy : Policy) (b : Image) (paths : List Path) (width height : ℕ) → IsDecomposed page policy b paths → Fits b width height → width ≤ LONGEST_SIDE → height ≤ LONGEST_SIDE → All (IsPathOn width height) paths
 paths_on page policy b [] width height d fits w h = All-nil (IsPathOn width height)
 paths_on page policy b (path ∷ paths) width height d fits w h =
     All-cons (IsPathOn width height) path paths (path_on page policy b path width height d.0 fits w h)

@@ -15,7 +15,7 @@ use Rattle.turn_policies.proofs.Back.{previous, previous-next}
 use Rattle.path_decompose.specs.Walk.{IsRoundTrip, IsBoundaryWalk, first_edge, start_of}
 use Rattle.path_decompose.proofs.Orbit.{nth_after, orbit, NoReturn, nth_after-keeps, length-orbit, orbit_push, orbit_run, get_or-orbit, distinct_orbit}
 use Rattle.path_decompose.proofs.Round.{first_boundary}
-use Rattle.path_decompose.proofs.OnPage.{edge_on, length-distinct}
+use Rattle.path_decompose.proofs.OnPage.{length-distinct}
 
 -- After n steps from s the walk is at an edge, it has passed these points, and s hasn't come again.
 pub record IsPartWalk (f : Edge → Edge) (s : Edge) (n : ℕ) (points : List Point) (here : Edge) : Type 0 where
@@ -53,18 +53,16 @@ part_distinct b policy sign s n h no_return =
     distinct_orbit (next b policy sign) (previous b policy sign) (IsBoundary b) (next_boundary b policy sign) (previous-next b policy sign) n s h no_return
 
 -- so the walk has not yet passed as many edges as the page can have
-pub part_short : (b : Image) (policy : Policy) (sign : Sign) (x y n : ℕ) (points : List Point) (here : Edge) (width height : ℕ) → IsFirstBlack b x y → Fits b width height → IsPartWalk (next b policy sign) (first_edge x y) n points here → n < suc width * suc height * 4
+pub part_short : (b : Image) (policy : Policy) (sign : Sign) (x y n : ℕ) (points : List Point) (here : Edge) (width height : ℕ) → IsFirstBlack b x y → Fits b width height → IsPartWalk (next b policy sign) (first_edge x y) n points here → n < suc width * suc height * 2
 part_short b policy sign x y n points here width height first fits p =
     let f : Edge → Edge = next b policy sign in
     let s : Edge = first_edge x y in
     let boundary : IsBoundary b s = first_boundary b x y first in
-    let on : All (λ e. (e.x ≤ width) × (e.y ≤ height)) (orbit f (suc n) s) =
+    let all : All (IsBoundary b) (orbit f (suc n) s) =
     λ k d short.
     let below : k < suc n = omega (arith, length-orbit f (suc n) s) in
-    let hk : IsBoundary b (get_or (orbit f (suc n) s) k d) = subst (IsBoundary b) (sym (get_or-orbit f (suc n) k s d below)) (nth_after-keeps f (IsBoundary b) (next_boundary b policy sign) s boundary k) in
-    let on_page = edge_on b width height fits (get_or (orbit f (suc n) s) k d) hk in
-    (on_page.column, on_page.row) in
-    omega (arith, length-orbit f (suc n) s, length-distinct width height (orbit f (suc n) s) on (part_distinct b policy sign s n boundary p.no_return))
+    subst (IsBoundary b) (sym (get_or-orbit f (suc n) k s d below)) (nth_after-keeps f (IsBoundary b) (next_boundary b policy sign) s boundary k) in
+    omega (arith, length-orbit f (suc n) s, length-distinct b width height fits (orbit f (suc n) s) all (part_distinct b policy sign s n boundary p.no_return))
 
 -- once the first edge comes again, the walk is whole
 pub part_round : (b : Image) (policy : Policy) (sign : Sign) (x y n : ℕ) → IsFirstBlack b x y → NoReturn (next b policy sign) n (first_edge x y) → nth_after (next b policy sign) (suc n) (first_edge x y) ≡ first_edge x y

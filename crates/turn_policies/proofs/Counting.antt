@@ -56,16 +56,3 @@ and_false false n = refl
 pub sum_below-if : (n : ℕ) (t : Bool) (f : ℕ → Bool) → sum_below n (λ k. cond (f k && t) 1 0) ≡ cond t (sum_below n (λ k. cond (f k) 1 0)) 0
 sum_below-if n true f = sum_below-same n (λ k. cond (f k && true) 1 0) (λ k. cond (f k) 1 0) (λ k below. and_true (f k) 1)
 sum_below-if n false f = sum_below-same n (λ k. cond (f k && false) 1 0) (λ k. 0) (λ k below. and_false (f k) 1) ∙ sum_below-zero n
-
-pub count_below-le : (n : ℕ) (f : ℕ → Bool) → count_below n f ≤ n
-count_below-le zero f = omega arith
-count_below-le (suc n) f = one_more (f n) (count_below n f) n (count_below-le n f)
-  where
-    one_more : (t : Bool) (m n : ℕ) → m ≤ n → cond t (suc m) m ≤ suc n
-    one_more true m n h = omega arith
-    one_more false m n h = omega arith
-
--- the rows of the widest page
-pub sum_below-le : (n : ℕ) (f : ℕ → ℕ) → ((k : ℕ) → f k ≤ 16384) → sum_below n f ≤ n * 16384
-sum_below-le zero f h = omega arith
-sum_below-le (suc n) f h = omega (arith, sum_below-le n f h, h n)

@@ -1,10 +1,26 @@
--- Each heading's end, and the turn there.
-use Rattle.std.proofs.Common.{◌≡◌, ◌-◌, ◌+◌, suc, pred, refl, sym, subst, arith}
+-- Each heading's end, which lies on the page, and the turn there.
+use Rattle.std.proofs.Common.{◌≡◌, ◌-◌, ◌+◌, ◌≤◌, suc, pred, refl, sym, subst, arith}
 use Rattle.bit_image.specs.Page.{image_of}
 use Rattle.turn_policies.specs.Boundary.{IsBoundary}
 use Rattle.turn_policies.specs.declared.heading.Dir.TheVariants.{North, East, South, West}
+use Rattle.turn_policies.specs.Heading.{end_x, end_y}
 use Rattle.turn_policies.proofs.Turning.{next_boundary, next_is}
+use Rattle.path_decompose.proofs.OnPage.{edge_on}
 use Rattle.path_decompose.proofs.walk.step.Goals as goal
+
+pub turned_at-requires-clause-y : goal.turned_at-requires-clause-y
+turned_at-requires-clause-y c =
+    let page = c.args.page.now in
+    let on = edge_on (image_of page) page.width page.height c.width-width.ensures.fits c.args.edge c.requires.boundary in
+    let row : suc c.args.edge.y ≤ page.height = subst (λ d. end_y c.args.edge.y d ≤ page.height) c.in-North.is on.end_row in
+    omega (arith, row, c.width-width.ensures.page.most_height)
+
+pub turned_at-requires-in-East-clause-x : goal.turned_at-requires-in-East-clause-x
+turned_at-requires-in-East-clause-x c =
+    let page = c.args.page.now in
+    let on = edge_on (image_of page) page.width page.height c.width-width.ensures.fits c.args.edge c.requires.boundary in
+    let column : suc c.args.edge.x ≤ page.width = subst (λ d. end_x c.args.edge.x d ≤ page.width) c.in-East.is on.end_column in
+    omega (arith, column, c.width-width.ensures.page.most_width)
 
 pub returns-in_ok-push-in-North-clause-value : goal.returns-in_ok-push-in-North-clause-value
 returns-in_ok-push-in-North-clause-value c =

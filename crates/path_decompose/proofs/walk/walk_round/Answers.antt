@@ -1,5 +1,6 @@
 -- Each edge is one more step of the walk; the first edge comes again before the page has no more edges.
 use Rattle.std.proofs.Common.{◌≡◌, ◌∙◌, ◌<◌, ◌≤◌, ◌*◌, suc, length, ap, sym, arith, add-one}
+use Rattle.pt_base.specs.declared.limits.TheConstants.{LONGEST_SIDE}
 use Rattle.bit_image.specs.Page.{image_of}
 use Rattle.path_decompose.proofs.Noted.{none_noted, length-push, noted_more, noted_closed, noted_small}
 use Rattle.path_decompose.proofs.OnPage.{edge_on}
@@ -51,7 +52,7 @@ pub steps-smaller : goal.steps-smaller
 steps-smaller c =
     let page = c.args.page.now in
     let points = c.steps.trail.points.items in
-    let short : length points < suc page.width * suc page.height * 4 =
+    let short : length points < suc page.width * suc page.height * 2 =
     (noted_small _ _ _ _ _ page.width page.height _ _ _ _ _ c.requires c.width.ensures.fits c.width.ensures.page.most_width c.width.ensures.page.most_height c.steps.invariant.noted).0 in
     let more : length c.step.new.trail.points.items ≡ suc (length points) = ap length c.in_ok-here.ensures.points ∙ length-push points _ in
     omega (arith, short, more)
@@ -60,7 +61,7 @@ pub steps-preserved : goal.steps-preserved
 steps-preserved c =
     let page = c.args.page.now in
     let on = edge_on (image_of page) page.width page.height c.width.ensures.fits c.steps.here c.steps.invariant.boundary in
-    let narrow : c.steps.here.x ≤ 16384 = omega (arith, on.column, c.width.ensures.page.most_width) in
+    let narrow : c.steps.here.x ≤ LONGEST_SIDE = omega (arith, on.column, c.width.ensures.page.most_width) in
     record {
       noted =
           noted_more _ _ _ _ _ _ _ _ _ _ _ _ c.steps.invariant.noted narrow c.in_ok-here.ensures.points c.in_ok-here.ensures.lines c.in_ok-here.ensures.up c.in_ok-here.ensures.down

@@ -15,4 +15,4 @@ invariant-steps l =
 
 -- the edges that the page has more than the walk so far
 abbrev pub decreases-steps : goal.decreases-steps
-decreases-steps l = suc l.page.width * suc l.page.height * 4 - length l.trail.points.items
+decreases-steps l = suc l.page.width * suc l.page.height * 2 - length l.trail.points.items
