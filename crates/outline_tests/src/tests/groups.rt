@@ -58,7 +58,10 @@ fn holes_at_the_far_side(rt: HostRuntime) -> Result<(), Fail> {
     let open = row_with_hole(rt.alloc(), 32767, 32765)?;
     let mut upright = vec![in rt.alloc(); "###"; 32767]?;
     upright[1] = "#.#";
-    for rows in [&[full.as_str(), open.as_str(), full.as_str()], upright.as_slice()] {
+    for rows in [
+        &[full.as_str(), open.as_str(), full.as_str()],
+        upright.as_slice(),
+    ] {
         let paths = paths_of(rt.alloc(), rows)?;
         let groups = group(rt.alloc(), &paths)?;
         assert!(rt; are_groups(&groups, &[(0, &[1])]), "{groups:?}");

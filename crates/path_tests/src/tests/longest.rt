@@ -43,8 +43,7 @@ fn farthest(alloc: Global, i: u32) -> Result<u32, Fail> {
 }
 
 /// A segment, and whether it is possible.
-const SEGMENTS: [(u32, u32, bool); 3] =
-    [(1, 65535, true), (1, 65536, false), (0, 65534, false)];
+const SEGMENTS: [(u32, u32, bool); 3] = [(1, 65535, true), (1, 65536, false), (0, 65534, false)];
 
 #[test]
 fn possible_along_stairs(rt: HostRuntime) -> Result<(), Fail> {

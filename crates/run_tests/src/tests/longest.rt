@@ -7,7 +7,10 @@ use std::test::Fail;
 
 /// A raw page that is black but for one of its bytes.
 fn black(alloc: Global, width: usize, height: usize, other: (usize, u8)) -> Result<Vec<u8>, Fail> {
-    let mut bytes = Vec::from_slice(alloc, format!(in alloc; "P4 {width} {height}\n")?.as_bytes())?;
+    let mut bytes = Vec::from_slice(
+        alloc,
+        format!(in alloc; "P4 {width} {height}\n")?.as_bytes(),
+    )?;
     let (place, byte) = other;
     for at in 0..width.div_ceil(8).saturating_mul(height) {
         bytes.push(if at == place { byte } else { 0xff })?;
