@@ -17,7 +17,7 @@ pub enum InFault {
     BadHeader,
     /// The page has no column or no row.
     ZeroSide,
-    /// A side has more than 16384 pixels.
+    /// A side has more pixels than `LONGEST_SIDE`.
     TooLarge,
     /// The file ends inside the page.
     Truncated,

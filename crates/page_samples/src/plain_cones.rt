@@ -1,5 +1,6 @@
 //! How far possible segments reach, by cones that walk along every point of the path.
 use pt_base::fault::NoMemory;
+use pt_base::limits::MOST_STEPS;
 use pt_base::point::Point;
 use std::alloc::Global;
 
@@ -7,7 +8,7 @@ use std::alloc::Global;
 type Way = (i64, i64);
 
 /// The most steps of a possible segment.
-const MOST: usize = 32_767;
+const MOST: usize = MOST_STEPS as usize;
 
 /// For each point of a closed walk, how many steps its longest possible segment has.
 pub fn reaches(alloc: Global, points: &[Point]) -> Result<Vec<u32>, NoMemory> {

@@ -9,6 +9,7 @@ use Rattle.pt_base.specs.ClosedWalk.{IsClosedWalk, origin}
 use Rattle.pt_base.specs.OnPage.{AreOnPage}
 use Rattle.pt_base.specs.declared.path.Path.{Path}
 use Rattle.pt_base.specs.declared.point.Point.{Point}
+use Rattle.pt_base.specs.declared.limits.TheConstants.{LONGEST_SIDE}
 use Rattle.path_decompose.specs.Bounds.{IsCornerOf}
 use Rattle.path_decompose.specs.Decomposition.{kept}
 
@@ -16,11 +17,11 @@ pub all_kept : (turd : ℕ) (P : Path → Type 0) (all paths : List Path) → pa
 all_kept turd P all paths is holds = subst (All P) (sym is) (All-filter (λ path. nat_lt turd path.area) P all holds)
 
 -- corners of a page lie on a page of the longest sides
-on_page : (width height : ℕ) → width ≤ 16384 → height ≤ 16384 → (points : List Point) → 0 < length points → All (IsCornerOf width height) points → AreOnPage points
+on_page : (width height : ℕ) → width ≤ LONGEST_SIDE → height ≤ LONGEST_SIDE → (points : List Point) → 0 < length points → All (IsCornerOf width height) points → AreOnPage points
 on_page width height w h points some corners = λ k. (let corner = corners (k % length points) origin (mod-lt k some) in
     record { left = corner.from_left; right = omega (arith, ints, corner.to_right); bottom = corner.from_bottom; top = omega (arith, ints, corner.to_top) })
 
-pub all_on_page : (width height : ℕ) → width ≤ 16384 → height ≤ 16384 → (paths : List Path) → All (λ path. IsClosedWalk path.points) paths
+pub all_on_page : (width height : ℕ) → width ≤ LONGEST_SIDE → height ≤ LONGEST_SIDE → (paths : List Path) → All (λ path. IsClosedWalk path.points) paths
     → All (λ path. All (IsCornerOf width height) path.points) paths → All (λ path. AreOnPage path.points) paths
 all_on_page width height w h paths closed corners k d below =
     let walk = closed k d below in

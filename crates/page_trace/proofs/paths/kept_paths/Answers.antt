@@ -1,6 +1,7 @@
 -- The paths lie on a page of the longest sides.
 use Rattle.std.proofs.Common.{◌≤◌, ◌*◌, arith}
 use Rattle.std.proofs.lemmas.Nat.{mul-le}
+use Rattle.pt_base.specs.declared.limits.TheConstants.{LONGEST_SIDE}
 use Rattle.page_trace.proofs.Kept.{all_on_page, all_wider}
 use Rattle.page_trace.proofs.paths.kept_paths.Goals as goal
 
@@ -23,5 +24,5 @@ returns-clause-corners c =
 pub returns-clause-few : goal.returns-clause-few
 returns-clause-few c =
     let page = c.width.ensures.page in
-    let pixels : c.args.page.now.width * c.args.page.now.height ≤ 16384 * 16384 = mul-le _ _ _ _ page.most_width page.most_height in
+    let pixels : c.args.page.now.width * c.args.page.now.height ≤ LONGEST_SIDE * LONGEST_SIDE = mul-le _ _ _ _ page.most_width page.most_height in
     omega (arith, pixels, c.in_ok-paths.ensures.few)
