@@ -13,6 +13,7 @@ use crate::stop::Stop;
 use crate::window::{Look, Window};
 use bit_image::bitmap::Bitmap;
 use pt_base::inputs::Inputs;
+use pt_base::limits::LONGEST_SIDE;
 
 /// As many bytes as the row is long.
 pub(crate) fn read_block<I: Inputs>(
@@ -53,7 +54,7 @@ pub(crate) fn place_row(page: &mut Bitmap, y: u32, bytes: &[u8], invert: bool)
 }
 
 /// The most bytes of a row of bits.
-const LONGEST_ROW: usize = 2048;
+const LONGEST_ROW: usize = (LONGEST_SIDE as usize + 7) / 8;
 
 /// The rows of a raw raster of bits from the top, put into the page, inverted or not.
 pub(crate) fn read_raw_rows<I: Inputs>(

@@ -29,13 +29,14 @@ fn line_round(alloc: Global, width: i32, height: i32) -> Result<String, Fail> {
     Ok(line)
 }
 
-/// A page's sides, the byte that isn't all black, the document's first line, and its last one, behind that of the
-/// path round the page.
-const PAGES: [(u16, u16, (usize, u8), &str, &str); 4] = [
-    (32767, 1, (9999, 0), "points 32767 1 1\n", ""),
-    (1, 32767, (99999, 0), "points 1 32767 1\n", ""),
+/// The greatest area of a speckle, a page's sides, the byte that isn't all black, the document's first line, and its
+/// last one, behind that of the path round the page.
+const PAGES: [(u32, u16, u16, (usize, u8), &str, &str); 4] = [
+    (32766, 32767, 1, (9999, 0), "points 32767 1 1\n", ""),
+    (0, 1, 32767, (99999, 0), "points 1 32767 1\n", ""),
     // One white pixel, far to the right or far up.
     (
+        0,
         32767,
         3,
         (8191, 0xfb),
@@ -43,6 +44,7 @@ const PAGES: [(u16, u16, (usize, u8), &str, &str); 4] = [
         "- 1 32765,2 32765,1 32766,1 32766,2\n",
     ),
     (
+        0,
         3,
         32767,
         (1, 0xbf),
@@ -53,13 +55,13 @@ const PAGES: [(u16, u16, (usize, u8), &str, &str); 4] = [
 
 #[test]
 fn paths_round_the_longest_pages(rt: HostRuntime) -> Result<(), Fail> {
-    for (width, height, other, first, last) in PAGES {
+    for (most, width, height, other, first, last) in PAGES {
         let input = black(rt.alloc(), width.into(), height.into(), other)?;
         let mut text = String::from_str(rt.alloc(), first)?;
         text.push_str(&line_round(rt.alloc(), width.into(), height.into())?)?;
         text.push_str(last)?;
         Case {
-            words: "-b points -t 0",
+            words: &format!(in rt.alloc(); "-b points -t {most}")?,
             input: &input,
             documents: &[("-", &text)],
             ..PLAIN
