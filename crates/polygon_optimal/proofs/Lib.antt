@@ -8,5 +8,6 @@ pub mod Reaching
 pub mod Rising
 pub mod Scanning
 pub mod Slots
+pub mod Small
 pub mod Vertices
 mod Examples

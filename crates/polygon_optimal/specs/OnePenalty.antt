@@ -5,6 +5,7 @@ use Rattle.std.specs.Prelude.{unsigned_abs}
 use Rattle.std.proofs.Math.Nat.{div-le_of_le-mul}
 use Rattle.pt_base.specs.declared.point.Point.{Point}
 use Rattle.pt_base.specs.OnPage.{AreOnPage}
+use Rattle.pt_base.specs.declared.limits.TheConstants.{LONGEST_SIDE}
 use Rattle.pt_base.proofs.Roots.{root_is, root_is_one, root_below}
 use Rattle.prefix_moments.specs.Sums.{IsPenalty, spread_of, chord_cross_of, right_of, above_of}
 use Rattle.pt_base.proofs.Sizes.{product_most}
@@ -21,29 +22,32 @@ penalty_is_one points i j penalty is =
     root_is_one (65536 * unsigned_abs (spread_of points i j) / (j - i + 1)) penalty (penalty_of points i j) is (penalty_is points i j)
 
 -- two points of a page are no farther apart than its longest side
-right_most : (points : List Point) → AreOnPage points → (i k : ℕ) → unsigned_abs (right_of points i k) ≤ 2 ^ 14
+right_most : (points : List Point) → AreOnPage points → (i k : ℕ) → unsigned_abs (right_of points i k) ≤ LONGEST_SIDE
 right_most points on_page i k = let p = on_page k in let q = on_page i in omega (arith, ints)
 
-above_most : (points : List Point) → AreOnPage points → (i k : ℕ) → unsigned_abs (above_of points i k) ≤ 2 ^ 14
+above_most : (points : List Point) → AreOnPage points → (i k : ℕ) → unsigned_abs (above_of points i k) ≤ LONGEST_SIDE
 above_most points on_page i k = let p = on_page k in let q = on_page i in omega (arith, ints)
 
-difference_most : (a b : ℤ) → unsigned_abs a ≤ 2 ^ 28 → unsigned_abs b ≤ 2 ^ 28 → unsigned_abs (a -ℤ b) ≤ 2 ^ 29
-difference_most a b h k = omega (arith, ints)
+difference_most : (a b : ℤ) (most : ℕ) → unsigned_abs a ≤ most → unsigned_abs b ≤ most → unsigned_abs (a -ℤ b) ≤ 2 * most
+difference_most a b most h k = omega (arith, ints)
 
 -- so the cross products are small
-cross_most : (points : List Point) → AreOnPage points → (i j k : ℕ) → unsigned_abs (chord_cross_of points i j k) ≤ 2 ^ 29
-cross_most points on_page i j k =
-    difference_most (right_of points i k *ℤ above_of points i j) (above_of points i k *ℤ right_of points i j)
-    (product_most (right_of points i k) (above_of points i j) (2 ^ 14) (2 ^ 14) (right_most points on_page i k) (above_most points on_page i j))
-    (product_most (above_of points i k) (right_of points i j) (2 ^ 14) (2 ^ 14) (above_most points on_page i k) (right_most points on_page i j))
+abbrev most_cross : ℕ
+most_cross = 2 * (LONGEST_SIDE * LONGEST_SIDE)
 
-spread_most : (points : List Point) → AreOnPage points → (i j : ℕ) → unsigned_abs (spread_of points i j) ≤ (j - i + 1) * 2 ^ 58
+cross_most : (points : List Point) → AreOnPage points → (i j k : ℕ) → unsigned_abs (chord_cross_of points i j k) ≤ most_cross
+cross_most points on_page i j k =
+    difference_most (right_of points i k *ℤ above_of points i j) (above_of points i k *ℤ right_of points i j) (LONGEST_SIDE * LONGEST_SIDE)
+    (product_most (right_of points i k) (above_of points i j) LONGEST_SIDE LONGEST_SIDE (right_most points on_page i k) (above_most points on_page i j))
+    (product_most (above_of points i k) (right_of points i j) LONGEST_SIDE LONGEST_SIDE (above_most points on_page i k) (right_most points on_page i j))
+
+spread_most : (points : List Point) → AreOnPage points → (i j : ℕ) → unsigned_abs (spread_of points i j) ≤ (j - i + 1) * (most_cross * most_cross)
 spread_most points on_page i j =
-    sum_most (λ d. chord_cross_of points i j (i + d) *ℤ chord_cross_of points i j (i + d)) (2 ^ 58) (j - i + 1)
-    (λ d. product_most (chord_cross_of points i j (i + d)) (chord_cross_of points i j (i + d)) (2 ^ 29) (2 ^ 29) (cross_most points on_page i j (i + d)) (cross_most points on_page i j (i + d)))
+    sum_most (λ d. chord_cross_of points i j (i + d) *ℤ chord_cross_of points i j (i + d)) (most_cross * most_cross) (j - i + 1)
+    (λ d. product_most (chord_cross_of points i j (i + d)) (chord_cross_of points i j (i + d)) most_cross most_cross (cross_most points on_page i j (i + d)) (cross_most points on_page i j (i + d)))
 
 -- the mean of so many numbers isn't above the greatest
-mean_most : (total count most : ℕ) → total ≤ count * most → 65536 * total / count ≤ 65536 * most
+pub mean_most : (total count most : ℕ) → total ≤ count * most → 65536 * total / count ≤ 65536 * most
 mean_most total count most h =
     let few : 65536 * total ≤ count * (65536 * most) = omega arith in
     div-le_of_le-mul count few
@@ -51,5 +55,5 @@ mean_most total count most h =
 -- a penalty fits with room to spare
 pub penalty_most : (points : List Point) → AreOnPage points → (i j : ℕ) → penalty_of points i j < 2 ^ 56
 penalty_most points on_page i j =
-    let mean = mean_most (unsigned_abs (spread_of points i j)) (j - i + 1) (2 ^ 58) (spread_most points on_page i j) in
+    let mean = mean_most (unsigned_abs (spread_of points i j)) (j - i + 1) (most_cross * most_cross) (spread_most points on_page i j) in
     root_below (65536 * unsigned_abs (spread_of points i j) / (j - i + 1)) (penalty_of points i j) (2 ^ 56) (penalty_is points i j) (omega arith)

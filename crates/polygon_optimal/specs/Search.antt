@@ -1,7 +1,7 @@
 -- What the search for a path's best polygon knows of its points.
 use Rattle.std.specs.Prelude.{◌≡◌, ℕ, ◌+◌, ◌%◌, ◌<◌, ◌≤◌, List, length, slice_index}
-use Rattle.pt_base.specs.declared.limits.TheConstants.{MOST_STEPS}
 use Rattle.polygon_optimal.specs.declared.search.Onward.{Onward}
+use Rattle.polygon_optimal.specs.declared.search.TheConstants.{SLOTS}
 
 -- from each later point, from `low` to the end, no more segments are left than from an earlier one
 abbrev pub AreFalling : ℕ → ℕ → List ℕ → Type 0
@@ -25,7 +25,7 @@ pub record IsBegin (size : ℕ) (counts : List ℕ) (i begin : ℕ) : Type 0 whe
 
 -- where the cost of the best way from point k is kept: no segment leads from one point to another of the same slot
 abbrev pub slot_of : ℕ → ℕ
-slot_of k = k % (MOST_STEPS + 1)
+slot_of k = k % SLOTS
 
 -- each point up to the end has its slot in the list
 abbrev pub HasSlots : ℕ → List ℕ → Type 0

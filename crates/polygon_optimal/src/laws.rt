@@ -1,9 +1,10 @@
 //! What follows from the definitions alone.
-ghost use Rattle.std.specs.Prelude.{◌≡◌, ℕ, ◌<◌, ◌≤◌, List, length, All};
+ghost use Rattle.std.specs.Prelude.{◌≡◌, ℕ, ◌-◌, ◌*◌, ◌<◌, ◌≤◌, List, length, All};
 ghost use Rattle.pt_base.specs.ClosedWalk.{IsClosedWalk};
 ghost use Rattle.pt_base.specs.declared.point.Point.{Point};
 ghost use Rattle.prefix_moments.specs.Sums.{IsPenalty};
-ghost use Rattle.polygon_optimal.specs.Polygon.{IsPolygon, IsBestPolygon, penalty_of};
+ghost use Rattle.polygon_optimal.specs.Polygon.{IsPolygon, IsBestPolygon, penalty_of, total_penalty};
+ghost use Rattle.straight_paths.specs.Straight.{IsPossible};
 
 /// A path has at most one best polygon.
 pub fn best_polygons_are_one()
@@ -16,6 +17,15 @@ pub fn penalties_are_one()
     ensures is { (points : List Point) (i j : ℕ) → IsPenalty points i j (penalty_of points i j) }
     ensures one { (points : List Point) (i j penalty : ℕ)
         → IsPenalty points i j penalty → penalty ≡ penalty_of points i j }
+{}
+
+/// Penalties are small: a possible segment's is at most 1 for each of its steps, in units of 1/256 as penalties
+/// are, and so a polygon's are together at most 1 for each step of the walk.
+pub fn penalties_are_small()
+    ensures segment { (points : List Point) (i j penalty : ℕ) → IsClosedWalk points
+        → IsPossible points i j → IsPenalty points i j penalty → penalty ≤ 256 * (j - i) }
+    ensures polygon { (points : List Point) (at : List ℕ) → IsClosedWalk points
+        → IsPolygon points at → total_penalty points at ≤ 256 * length points }
 {}
 
 /// A polygon of a closed walk has at least two vertices, and each of them is a point of the walk.

@@ -20,12 +20,12 @@ ghost use Rattle.polygon_optimal.specs.Search.{AreFalling, AreFarthest, HasCheap
 use crate::segments::Segments;
 use least_walk::walk::Walk;
 use pt_base::fault::NoMemory;
-use pt_base::limits::MOST_STEPS;
 use pt_base::sequence::Sequence;
 use std::alloc::Global;
 
-/// How many costs are kept: no segment is as long.
-const SLOTS: usize = MOST_STEPS as usize + 1;
+/// How many costs are kept: more than the longest segment has steps. As they are a power of two, a slot is
+/// found without a division.
+const SLOTS: usize = 1 << 16;
 
 /// A segment to go on by.
 #[derive(Clone, Copy)]

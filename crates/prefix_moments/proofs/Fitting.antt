@@ -1,10 +1,10 @@
 -- Numbers that fit their types.
-use Rattle.std.proofs.Common.{◌≡◌, ℕ, ◌*◌, ◌<◌, ◌≤◌, ◌^◌, ℤ, pos, ◌+ℤ◌, ◌-ℤ◌, ◌*ℤ◌, ◌≤ℤ◌, w32, w64, to_z, of_z, refl, sym, ap, ◌∙◌, arith}
+use Rattle.std.proofs.Common.{◌≡◌, ℕ, ◌+◌, ◌*◌, ◌<◌, ◌≤◌, ◌^◌, ℤ, pos, ◌+ℤ◌, ◌-ℤ◌, ◌*ℤ◌, ◌≤ℤ◌, w32, w64, to_z, of_z, refl, sym, ap, ◌∙◌, arith}
 use Rattle.std.proofs.lemmas.Int.{ints, fits_signed_from_abs}
 use Rattle.std.specs.Prelude.{unsigned_abs}
 use Rattle.std.specs.Int.RustNames.{FitsSigned}
 use mir.Syntax.{w128}
-use Rattle.pt_base.specs.declared.limits.TheConstants.{LONGEST_SIDE}
+use Rattle.pt_base.specs.declared.limits.TheConstants.{LONGEST_SIDE, MOST_STEPS}
 use Rattle.pt_base.proofs.Sizes.{back, long_back, product_most}
 
 -- the value of a difference
@@ -88,19 +88,20 @@ spread_most a b c h k l =
     rw (spread_back a b c h k l) (omega (arith, ints))
 
 -- what a call of `moved` gives
-pub moved_value : (r s f : ℤ) (n : ℕ) → unsigned_abs r ≤ 2 ^ 30 → unsigned_abs s ≤ 2 ^ 29 → unsigned_abs f ≤ 2 ^ 14
+pub moved_value : (r s f : ℤ) (n : ℕ) → unsigned_abs r ≤ 2 * (MOST_STEPS + 1) * LONGEST_SIDE → unsigned_abs s ≤ (MOST_STEPS + 1) * LONGEST_SIDE → unsigned_abs f ≤ LONGEST_SIDE
     → r ≡ to_z w64 (of_z w64 s) -ℤ pos n *ℤ to_z w64 (of_z w64 f) → to_z w64 (of_z w64 r) ≡ s -ℤ pos n *ℤ f
 moved_value r s f n hr hs hf e =
     rw (back r (omega arith)) (rw (back s (omega arith), back f (omega arith)) at e)
 
 -- what a call of `moved_products` gives
-pub moved_products_value : (r p a o b f g : ℤ) → unsigned_abs p ≤ 2 ^ 43 → unsigned_abs a ≤ 2 ^ 14 → unsigned_abs o ≤ 2 ^ 29 → unsigned_abs b ≤ 2 ^ 14
-    → unsigned_abs f ≤ 2 ^ 30 → to_z w64 (of_z w64 f) ≡ g
+pub moved_products_value : (r p a o b f g : ℤ) → unsigned_abs p ≤ (MOST_STEPS + 1) * LONGEST_SIDE * LONGEST_SIDE → unsigned_abs a ≤ LONGEST_SIDE
+    → unsigned_abs o ≤ (MOST_STEPS + 1) * LONGEST_SIDE → unsigned_abs b ≤ LONGEST_SIDE
+    → unsigned_abs f ≤ 2 * (MOST_STEPS + 1) * LONGEST_SIDE → to_z w64 (of_z w64 f) ≡ g
     → r ≡ (to_z w64 (of_z w64 p) -ℤ to_z w64 (of_z w64 a) *ℤ to_z w64 (of_z w64 o)) -ℤ to_z w64 (of_z w64 b) *ℤ to_z w64 (of_z w64 f)
     → to_z w64 (of_z w64 r) ≡ (p -ℤ a *ℤ o) -ℤ b *ℤ g
 moved_products_value r p a o b f g hp ha ho hb hf eg e =
-    let ao = product_most a o (2 ^ 14) (2 ^ 29) ha ho in
-    let bf = product_most b f (2 ^ 14) (2 ^ 30) hb hf in
+    let ao = product_most a o LONGEST_SIDE ((MOST_STEPS + 1) * LONGEST_SIDE) ha ho in
+    let bf = product_most b f LONGEST_SIDE (2 * (MOST_STEPS + 1) * LONGEST_SIDE) hb hf in
     let is_f : f ≡ g = sym (back f (omega arith)) ∙ eg in
     let is_r : r ≡ (p -ℤ a *ℤ o) -ℤ b *ℤ f =
     e ∙ rw (back p (omega arith), back a (omega arith), back o (omega arith), back b (omega arith), back f (omega arith)) refl in

@@ -9,6 +9,7 @@ use Rattle.std.proofs.lemmas.List.{get_or_read}
 use Rattle.std.specs.Prelude.{unsigned_abs, slice_index_or}
 use Rattle.pt_base.specs.declared.point.Point.{Point}
 use Rattle.pt_base.specs.ClosedWalk.{point_at, origin}
+use Rattle.pt_base.specs.declared.limits.TheConstants.{MOST_STEPS}
 use Rattle.pt_base.specs.OnPage.{IsOnPage, AreOnPage}
 use Rattle.prefix_moments.specs.declared.prefix.Prefix.{Prefix}
 use Rattle.prefix_moments.specs.declared.raw.Raw.{Raw}
@@ -135,7 +136,7 @@ abbrev pub whole_of : Raw → Prefix
 whole_of r = prefix (unsigned_abs r.x) (unsigned_abs r.y) (unsigned_abs r.xx) (unsigned_abs r.xy) (unsigned_abs r.yy)
 
 -- the sums over a segment, of those up to its end and those before it
-segment_kept : (points : List Point) → AreOnPage points → (i count : ℕ) → count ≤ 2 ^ 15
+segment_kept : (points : List Point) → AreOnPage points → (i count : ℕ) → count ≤ MOST_STEPS + 1
     → less_of (prefix_of points (i + count)) (prefix_of points i) ≡ whole_of (raw_of (λ d. point_at points (i + d)) count)
 segment_kept points on_page i count few =
     let before = raw_natural (point_at points) i on_page in
@@ -150,7 +151,7 @@ segment_kept points on_page i count few =
     (rw (split (λ k. (at k).y *ℤ (at k).y) i count) (less_kept_long _ _ before.yy here.yy (omega (arith, most.yy))))
 
 -- what `minus` gives of two rows
-pub segment_is : (points : List Point) → AreOnPage points → (i j : ℕ) (a b m : Prefix) → i < j → j - i + 1 ≤ 2 ^ 15
+pub segment_is : (points : List Point) → AreOnPage points → (i j : ℕ) (a b m : Prefix) → i < j → j - i + 1 ≤ MOST_STEPS + 1
     → a ≡ prefix_of points (j + 1) → b ≡ prefix_of points i → m ≡ less_of a b
     → m ≡ whole_of (raw_of (λ d. point_at points (i + d)) (j - i + 1))
 segment_is points on_page i j a b m h few ea eb em =
@@ -162,7 +163,7 @@ natural_back : (z : ℤ) → pos 0 ≤ℤ z → pos (unsigned_abs z) ≡ z
 natural_back z h = omega (arith, ints)
 
 -- what `raw` gives of them: they fit
-pub whole_back : (points : List Point) → AreOnPage points → (i count : ℕ) (m : Prefix) (r : Raw) → count ≤ 2 ^ 15
+pub whole_back : (points : List Point) → AreOnPage points → (i count : ℕ) (m : Prefix) (r : Raw) → count ≤ MOST_STEPS + 1
     → m ≡ whole_of (raw_of (λ d. point_at points (i + d)) count)
     → r.x ≡ pos m.x → r.y ≡ pos m.y → (m.xx < 2 ^ 63 → r.xx ≡ pos m.xx) → (m.xy < 2 ^ 63 → r.xy ≡ pos m.xy) → (m.yy < 2 ^ 63 → r.yy ≡ pos m.yy)
     → r ≡ raw_of (λ d. point_at points (i + d)) count

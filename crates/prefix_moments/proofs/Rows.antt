@@ -1,9 +1,10 @@
 -- The sums over the points of a segment.
-use Rattle.std.proofs.Common.{◌≡◌, ℕ, ◌+◌, ◌-◌, ◌≤◌, ◌^◌, ℤ, pos, ◌-ℤ◌, ◌*ℤ◌, ◌≤ℤ◌, List, refl, sym, ap, ◌∙◌, subst, arith}
+use Rattle.std.proofs.Common.{◌≡◌, ℕ, ◌+◌, ◌-◌, ◌*◌, ◌≤◌, ℤ, pos, ◌-ℤ◌, ◌*ℤ◌, ◌≤ℤ◌, List, refl, sym, ap, ◌∙◌, subst, arith}
 use Rattle.std.proofs.lemmas.Int.{ints}
 use Rattle.std.specs.Prelude.{unsigned_abs}
 use Rattle.pt_base.specs.declared.point.Point.{Point}
 use Rattle.pt_base.specs.ClosedWalk.{point_at}
+use Rattle.pt_base.specs.declared.limits.TheConstants.{LONGEST_SIDE, MOST_STEPS}
 use Rattle.prefix_moments.specs.declared.raw.Raw.{Raw}
 use Rattle.prefix_moments.specs.declared.sums.Sums.{Sums}
 use Rattle.pt_base.specs.OnPage.{IsOnPage, AreOnPage}
@@ -27,14 +28,14 @@ raw_same r s x y xx xy yy =
 -- the sums of some points on a page are small
 pub raw_most : (at : ℕ → Point) (count : ℕ) → ((k : ℕ) → IsOnPage (at k)) → IsRawOf count (raw_of at count)
 raw_most at count on_page =
-    let x : (k : ℕ) → unsigned_abs ((at k).x) ≤ 2 ^ 14 = λ k. (let p = on_page k in omega (arith, ints)) in
-    let y : (k : ℕ) → unsigned_abs ((at k).y) ≤ 2 ^ 14 = λ k. (let p = on_page k in omega (arith, ints)) in
+    let x : (k : ℕ) → unsigned_abs ((at k).x) ≤ LONGEST_SIDE = λ k. (let p = on_page k in omega (arith, ints)) in
+    let y : (k : ℕ) → unsigned_abs ((at k).y) ≤ LONGEST_SIDE = λ k. (let p = on_page k in omega (arith, ints)) in
     record {
-      x = sum_most (λ k. (at k).x) (2 ^ 14) count x;
-      y = sum_most (λ k. (at k).y) (2 ^ 14) count y;
-      xx = sum_most (λ k. (at k).x *ℤ (at k).x) (2 ^ 28) count (λ k. product_most ((at k).x) ((at k).x) (2 ^ 14) (2 ^ 14) (x k) (x k));
-      xy = sum_most (λ k. (at k).x *ℤ (at k).y) (2 ^ 28) count (λ k. product_most ((at k).x) ((at k).y) (2 ^ 14) (2 ^ 14) (x k) (y k));
-      yy = sum_most (λ k. (at k).y *ℤ (at k).y) (2 ^ 28) count (λ k. product_most ((at k).y) ((at k).y) (2 ^ 14) (2 ^ 14) (y k) (y k));
+      x = sum_most (λ k. (at k).x) LONGEST_SIDE count x;
+      y = sum_most (λ k. (at k).y) LONGEST_SIDE count y;
+      xx = sum_most (λ k. (at k).x *ℤ (at k).x) (LONGEST_SIDE * LONGEST_SIDE) count (λ k. product_most ((at k).x) ((at k).x) LONGEST_SIDE LONGEST_SIDE (x k) (x k));
+      xy = sum_most (λ k. (at k).x *ℤ (at k).y) (LONGEST_SIDE * LONGEST_SIDE) count (λ k. product_most ((at k).x) ((at k).y) LONGEST_SIDE LONGEST_SIDE (x k) (y k));
+      yy = sum_most (λ k. (at k).y *ℤ (at k).y) (LONGEST_SIDE * LONGEST_SIDE) count (λ k. product_most ((at k).y) ((at k).y) LONGEST_SIDE LONGEST_SIDE (y k) (y k));
     }
 
 -- so are those of fewer points
@@ -83,11 +84,11 @@ pub sums_by : (points : List Point) (i j : ℕ) (r : Raw) (x y : ℤ) (s : Sums)
     → s ≡ offsets_of r (j - i + 1) x y → s ≡ sums_of points i j
 sums_by points i j r x y s er ex ey es = es ∙ rw (er, ex, ey) (offsets_are points i j)
 
-pub segment_most : (points : List Point) → AreOnPage points → (i count : ℕ) (m : Raw) → count ≤ 2 ^ 15
-    → m ≡ raw_of (λ d. point_at points (i + d)) count → IsRawOf (2 ^ 15) m
+pub segment_most : (points : List Point) → AreOnPage points → (i count : ℕ) (m : Raw) → count ≤ MOST_STEPS + 1
+    → m ≡ raw_of (λ d. point_at points (i + d)) count → IsRawOf (MOST_STEPS + 1) m
 segment_most points on_page i count m h e =
-    let P : Raw → Type 0 = λ v. IsRawOf (2 ^ 15) v in
-    subst P (sym e) (raw_more _ count (2 ^ 15) h (raw_most (λ d. point_at points (i + d)) count (λ k. on_page (i + k))))
+    let P : Raw → Type 0 = λ v. IsRawOf (MOST_STEPS + 1) v in
+    subst P (sym e) (raw_more _ count (MOST_STEPS + 1) h (raw_most (λ d. point_at points (i + d)) count (λ k. on_page (i + k))))
 
 -- the total that `spread` gives
 pub total_is : (points : List Point) (i j : ℕ) (s : Sums) (right above t : ℤ) → s ≡ sums_of points i j → right ≡ right_of points i j → above ≡ above_of points i j

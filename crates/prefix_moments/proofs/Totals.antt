@@ -26,7 +26,7 @@ between_is r a b al ah bl bh e = omega (arith, ints)
 -- what a call of `spread` on a segment's sums gives
 pub total_from : (points : List Point) (i j : ℕ) (s : Sums) (first last : Point) (right above t : ℤ)
     → IsOnPage first → IsOnPage last → first ≡ point_at points i → last ≡ point_at points j → s ≡ sums_of points i j
-    → FitsSigned w64 s.xx → FitsSigned w64 s.xy → FitsSigned w64 s.yy → unsigned_abs right ≤ 2 ^ 14 → unsigned_abs above ≤ 2 ^ 14
+    → FitsSigned w64 s.xx → FitsSigned w64 s.xy → FitsSigned w64 s.yy → unsigned_abs right ≤ LONGEST_SIDE → unsigned_abs above ≤ LONGEST_SIDE
     → right ≡ to_z w32 (of_z w32 last.x) -ℤ to_z w32 (of_z w32 first.x) → above ≡ to_z w32 (of_z w32 last.y) -ℤ to_z w32 (of_z w32 first.y)
     → t ≡ spread_by (to_z w64 (of_z w64 s.xx)) (to_z w64 (of_z w64 s.xy)) (to_z w64 (of_z w64 s.yy)) (to_z w64 (of_z w64 right)) (to_z w64 (of_z w64 above))
     → t ≡ spread_of points i j

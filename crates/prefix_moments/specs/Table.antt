@@ -2,6 +2,7 @@
 use Rattle.std.specs.Prelude.{◌≡◌, ℕ, ◌+◌, ◌-◌, ◌*◌, ◌%◌, ◌<◌, ◌≤◌, ◌^◌, ℤ, pos, ◌+ℤ◌, ◌-ℤ◌, ◌*ℤ◌, List, [], ◌∷◌, length, slice_index_or, unsigned_abs}
 use Rattle.pt_base.specs.declared.point.Point.{Point}
 use Rattle.pt_base.specs.ClosedWalk.{point_at}
+use Rattle.pt_base.specs.declared.limits.TheConstants.{LONGEST_SIDE}
 use Rattle.pt_base.specs.OnPage.{AreOnPage}
 use Rattle.prefix_moments.specs.Sums.{sum_of}
 use Rattle.prefix_moments.specs.declared.sums.Sums.{Sums}
@@ -18,13 +19,13 @@ raw_of at count = record {
   yy = sum_of (λ k. (at k).y *ℤ (at k).y) count;
 }
 
--- the sums are at most what `count` points give
+-- the sums are at most what `count` points of a page give
 pub record IsRawOf (count : ℕ) (r : Raw) : Type 0 where
-  pub x : unsigned_abs r.x ≤ count * 2 ^ 14
-  pub y : unsigned_abs r.y ≤ count * 2 ^ 14
-  pub xx : unsigned_abs r.xx ≤ count * 2 ^ 28
-  pub xy : unsigned_abs r.xy ≤ count * 2 ^ 28
-  pub yy : unsigned_abs r.yy ≤ count * 2 ^ 28
+  pub x : unsigned_abs r.x ≤ count * LONGEST_SIDE
+  pub y : unsigned_abs r.y ≤ count * LONGEST_SIDE
+  pub xx : unsigned_abs r.xx ≤ count * (LONGEST_SIDE * LONGEST_SIDE)
+  pub xy : unsigned_abs r.xy ≤ count * (LONGEST_SIDE * LONGEST_SIDE)
+  pub yy : unsigned_abs r.yy ≤ count * (LONGEST_SIDE * LONGEST_SIDE)
 
 -- the sums over no points
 abbrev pub no_prefix : Prefix

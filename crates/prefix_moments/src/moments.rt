@@ -77,7 +77,7 @@ impl Moments {
         requires steps { j - i ≤ MOST_STEPS }
         requires lap { j - i ≤ length self.now }
         ensures value { result ≡ raw_of (λ d. point_at self.now (i + d)) (j - i + 1) }
-        ensures most { IsRawOf (2 ^ 15) result }
+        ensures most { IsRawOf (MOST_STEPS + 1) result }
     {
         self.row(j as usize + 1).minus(self.row(i as usize)).raw()
     }
@@ -178,17 +178,17 @@ fn between(from: i32, to: i32) -> i64
     requires to_low { pos 0 ≤ℤ to }
     requires to_high { to ≤ℤ pos LONGEST_SIDE }
     ensures value { result ≡ to -ℤ from }
-    ensures most { unsigned_abs result ≤ 2 ^ 14 }
+    ensures most { unsigned_abs result ≤ LONGEST_SIDE }
 {
     i64::from(to) - i64::from(from)
 }
 
 /// The sums of the offsets of `count` points from the first of them, which is at (`x0`, `y0`).
 fn offsets(raw: Raw, count: u32, x0: i64, y0: i64) -> Sums
-    requires count { count ≤ 2 ^ 15 }
-    requires raw { IsRawOf (2 ^ 15) raw }
-    requires x0 { unsigned_abs x0 ≤ 2 ^ 14 }
-    requires y0 { unsigned_abs y0 ≤ 2 ^ 14 }
+    requires count { count ≤ MOST_STEPS + 1 }
+    requires raw { IsRawOf (MOST_STEPS + 1) raw }
+    requires x0 { unsigned_abs x0 ≤ LONGEST_SIDE }
+    requires y0 { unsigned_abs y0 ≤ LONGEST_SIDE }
     ensures { result ≡ offsets_of raw count x0 y0 }
 {
     let x = moved(count, raw.x, x0);
@@ -220,7 +220,7 @@ fn root_of_mean(total: u128, count: u32) -> u64
 /// division.
 fn is_reached(limit: u64, total: u128, count: u32) -> bool
     requires limit { limit ≤ 2 ^ 56 }
-    requires few { count ≤ 2 ^ 15 }
+    requires few { count ≤ MOST_STEPS + 1 }
     requires total { total < 2 ^ 110 }
     ensures { IsTrue result ↔ (limit * limit * count ≤ 65536 * total) }
 {
@@ -239,7 +239,7 @@ fn square(limit: u64) -> u128
 /// A square for each of `count` points.
 fn times(square: u128, count: u32) -> u128
     requires square { square ≤ 2 ^ 112 }
-    requires few { count ≤ 2 ^ 15 }
+    requires few { count ≤ MOST_STEPS + 1 }
     ensures { result ≡ square * count }
 {
     square * u128::from(count)

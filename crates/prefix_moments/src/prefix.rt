@@ -4,6 +4,7 @@ ghost use Rattle.pt_base.specs.OnPage.{IsOnPage};
 ghost use Rattle.prefix_moments.specs.Table.{no_prefix, both_of, less_of, point_between};
 
 use crate::raw::Raw;
+use pt_base::limits::LONGEST_SIDE;
 use pt_base::point::Point;
 
 /// The sums of some points' coordinates modulo 2^32, and of their squares and products modulo 2^64.
@@ -107,8 +108,8 @@ impl Prefix {
 
 /// The product of two coordinates.
 fn product(a: u32, b: u32) -> u64
-    requires a { a ≤ 2 ^ 14 }
-    requires b { b ≤ 2 ^ 14 }
+    requires a { a ≤ LONGEST_SIDE }
+    requires b { b ≤ LONGEST_SIDE }
     ensures { result ≡ a * b }
 {
     u64::from(a * b)

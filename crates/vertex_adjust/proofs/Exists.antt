@@ -24,18 +24,18 @@ use Rattle.vertex_adjust.proofs.Spreading.{spread_is_sound}
 greatest_some : (a b : ℕ) → 1 ≤ max (max a b) 1
 greatest_some a b = omega arith
 
-greatest_most : (a b m : ℕ) → 1 ≤ m → a ≤ m → b ≤ m → max (max a b) 1 ≤ m
+greatest_most : (a b m : ℕ) → 1 < m → a < m → b < m → max (max a b) 1 < m
 greatest_most a b m some ha hb = omega arith
 
-pub enlarged_found : (c : Covariance) → greatest_of c ≤ 2 ^ 58 → (larger : Covariance) × IsEnlarged c larger
+pub enlarged_found : (c : Covariance) → greatest_of c < 2 ^ 62 → (larger : Covariance) × IsEnlarged c larger
 enlarged_found c most =
-    let d = doublings_are (greatest_of c) (greatest_some (unsigned_abs c.xx) (unsigned_abs c.yy)) most in
-    (times (2 ^ _) c, record { doublings = _; keeps = d.1.keeps; no_more = d.1.no_more; is = refl })
+    let d = doublings_are (greatest_of c) (greatest_some (unsigned_abs c.xx) (unsigned_abs c.yy)) (omega arith) in
+    (times (2 ^ _) c, record { doublings = _; keeps = d.keeps; no_more = d.no_more; is = refl })
 
 pub line_found : (s : Sums) (from : Point) → AreSums s → (line : Line) × IsLine s from line
 line_found s from are =
     let sound = spread_is_sound s are in
-    let larger = enlarged_found (covariance_of s) (greatest_most (unsigned_abs (covariance_of s).xx) (unsigned_abs (covariance_of s).yy) (2 ^ 58) (omega arith) sound.xx_most sound.yy_most) in
+    let larger = enlarged_found (covariance_of s) (greatest_most (unsigned_abs (covariance_of s).xx) (unsigned_abs (covariance_of s).yy) (2 ^ 62) (omega arith) sound.xx.most sound.yy.most) in
     (line_along (direction_of larger.0) s from, record { spread = larger.0; enlarged = larger.1; along = refl })
 
 -- ---- vertices

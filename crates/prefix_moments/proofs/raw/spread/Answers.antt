@@ -11,17 +11,17 @@ overflow_add-result c = spread_fits c.wide.result c.wide-2.result c.wide-3.resul
 
 pub returns-clause-value : goal.returns-clause-value
 returns-clause-value c =
-    let a : c.product.result ≡ c.args.above *ℤ c.args.above =
-    product_value c.product.result c.args.above c.args.above c.args.above c.args.above (omega (arith, ints)) (omega (arith, ints)) c.product.ensures.value in
-    let b : c.product-2.result ≡ c.args.right *ℤ c.args.above =
-    product_value c.product-2.result c.args.right c.args.above c.args.right c.args.above (omega (arith, ints)) (omega (arith, ints)) c.product-2.ensures.value in
-    let d : c.product-3.result ≡ c.args.right *ℤ c.args.right =
-    product_value c.product-3.result c.args.right c.args.right c.args.right c.args.right (omega (arith, ints)) (omega (arith, ints)) c.product-3.ensures.value in
-    spread_value c.wide.result c.wide-2.result c.wide-3.result c.product.result c.product-2.result c.product-3.result _ _ _ c.args.xx c.args.xy c.args.yy
+    let a : c.offset_product.result ≡ c.args.above *ℤ c.args.above =
+    product_value c.offset_product.result c.args.above c.args.above c.args.above c.args.above (omega (arith, ints)) (omega (arith, ints)) c.offset_product.ensures.value in
+    let b : c.offset_product-2.result ≡ c.args.right *ℤ c.args.above =
+    product_value c.offset_product-2.result c.args.right c.args.above c.args.right c.args.above (omega (arith, ints)) (omega (arith, ints)) c.offset_product-2.ensures.value in
+    let d : c.offset_product-3.result ≡ c.args.right *ℤ c.args.right =
+    product_value c.offset_product-3.result c.args.right c.args.right c.args.right c.args.right (omega (arith, ints)) (omega (arith, ints)) c.offset_product-3.ensures.value in
+    spread_value c.wide.result c.wide-2.result c.wide-3.result c.offset_product.result c.offset_product-2.result c.offset_product-3.result _ _ _ c.args.xx c.args.xy c.args.yy
     c.wide.ensures.most c.wide-2.ensures.most c.wide-3.ensures.most
-    (product_value c.wide.result c.product.result c.args.xx c.product.result c.args.xx (omega (arith, ints)) (omega (arith, ints)) c.wide.ensures.value)
-    (product_value c.wide-2.result c.product-2.result c.args.xy c.product-2.result c.args.xy (omega (arith, ints)) (omega (arith, ints)) c.wide-2.ensures.value)
-    (product_value c.wide-3.result c.product-3.result c.args.yy c.product-3.result c.args.yy (omega (arith, ints)) (omega (arith, ints)) c.wide-3.ensures.value)
+    (product_value c.wide.result c.offset_product.result c.args.xx c.offset_product.result c.args.xx (omega (arith, ints)) (omega (arith, ints)) c.wide.ensures.value)
+    (product_value c.wide-2.result c.offset_product-2.result c.args.xy c.offset_product-2.result c.args.xy (omega (arith, ints)) (omega (arith, ints)) c.wide-2.ensures.value)
+    (product_value c.wide-3.result c.offset_product-3.result c.args.yy c.offset_product-3.result c.args.yy (omega (arith, ints)) (omega (arith, ints)) c.wide-3.ensures.value)
     a b d
 
 pub returns-clause-most : goal.returns-clause-most
