@@ -11,7 +11,19 @@ use vertex_adjust::vertices::vertex;
 
 /// How large the numbers of a normal are, and how far from the point a line's centre may lie: lines that meet
 /// near, lines far away, and flat ones with many ties.
-const KINDS: [(u32, u32); 5] = [(4096, 700), (4096, 1 << 25), (3, 600), (1, 40), (4096, 60)];
+const KINDS: [(u32, u32); 5] = [
+    (4096, 700),
+    (4096, 1024 * LONGEST_SIDE),
+    (3, 600),
+    (1, 40),
+    (4096, 60),
+];
+
+/// The last column and row of a page's corners.
+const LAST: u16 = LONGEST_SIDE as u16;
+
+/// How far right or up the centre of a segment's line may lie, in units of 1/1024 pixel: a side beyond the last corner.
+const FARTHEST: u64 = 2048 * LONGEST_SIDE as u64;
 
 /// A point whose coordinates are from 0 to `most`, and two lines near it.
 fn drawn(lot: &mut Lot, round: usize, most: u16) -> (Point, Line, Line) {
@@ -37,11 +49,10 @@ fn is_within(line: &Line, centre: u64) -> bool
 
 /// The vertex at a point between two lines, if they may be those of a path on a page.
 fn vertex_at(before: &Line, after: &Line, v: Point) -> Option<(i64, i64)> {
-    if !is_within(before, 1 << 26) || !is_within(after, 1 << 26) {
+    if !is_within(before, FARTHEST) || !is_within(after, FARTHEST) {
         return None;
     }
-    let longest = LONGEST_SIDE as i32;
-    if v.x < 0 || longest < v.x || v.y < 0 || longest < v.y {
+    if v.x < 0 || i32::from(LAST) < v.x || v.y < 0 || i32::from(LAST) < v.y {
         return None;
     }
     let found = vertex(before, after, v);
@@ -107,7 +118,7 @@ fn ties_and_lines_that_do_not_meet(rt: HostRuntime) {
 fn vertices_are_the_best_of_all_places(rt: HostRuntime) {
     let mut lot = Lot::new();
     for round in 0..500 {
-        let (v, before, mut after) = drawn(&mut lot, round, 32767);
+        let (v, before, mut after) = drawn(&mut lot, round, LAST);
         // Each third pair of lines is parallel.
         if round % 3 == 0 {
             after = line((before.nx, before.ny, after.cx, after.cy));

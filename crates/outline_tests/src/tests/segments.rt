@@ -13,7 +13,7 @@ use pt_base::point::Point;
 pub(super) fn is_polygon(points: &[Point], at: &[u32]) -> bool
     ensures { IsTrue result → IsPolygonAlong points.now at.now }
 {
-    if at.is_empty() || 100_000 < points.len() {
+    if at.is_empty() || 1 << 31 < points.len() {
         return false;
     }
     for k in 0..at.len() {
@@ -26,7 +26,7 @@ pub(super) fn is_polygon(points: &[Point], at: &[u32]) -> bool
 
 /// Whether segment number `k` is a run of the path, of at most one lap.
 fn is_segment(points: &[Point], at: &[u32], k: usize) -> bool
-    requires few { length points.now ≤ 100000 }
+    requires few { length points.now ≤ 2 ^ 31 }
     requires segment { k < length at.now }
     ensures { IsTrue result → IsSegmentOf points.now at.now k }
 {

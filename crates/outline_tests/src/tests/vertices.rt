@@ -6,6 +6,7 @@ use super::segments::{is_polygon, segment_sums};
 use prefix_moments::moments::Moments;
 use pt_base::closed_walk::is_closed_walk;
 use pt_base::fault::NoMemory;
+use pt_base::limits::MOST_STEPS;
 use pt_base::polygon::Polygon;
 use pt_base::sequence::Sequence;
 use std::alloc::Global;
@@ -88,7 +89,7 @@ fn line_along(alloc: Global, path: &[Place], i: u32, j: u32) -> Result<Option<Li
     if !is_closed_walk(&points) || points.len() <= start || end <= start {
         return Ok(None);
     }
-    if 100 < j || points.len() < end - start {
+    if MOST_STEPS < j - i || points.len() < end - start {
         return Ok(None);
     }
     let moments = Moments::of(alloc, &points)?;
