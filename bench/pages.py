@@ -14,6 +14,10 @@ usage: pages.py KIND [NUMBER ..]
     spiral, squares [SIDE [WALL]]   one path, or a nest of rings, between walls of WALL pixels, eight unless it is said
     comb [SIDE]                     teeth of eight pixels
     white, checkerboard, dither WIDTH HEIGHT   hard on the search for paths: nothing, single pixels, two waves of gray
+    bar, dust WIDTH HEIGHT          one black bar across, a third as high as the page; one pixel in 1,024 black by chance
+    tiles PAGE WIDTH HEIGHT         a page of this module's, whose width goes into bytes, side by side until it fills a larger one
+
+Rows are written as they are drawn, so that a page may be as large as one likes.
 
 The same words give the same page. It needs python3 alone.
 """
@@ -23,7 +27,9 @@ import sys
 
 
 def packed(row):
-    """A row of pixels, 1 where black, as bytes with the most significant bit first."""
+    """A row of pixels, 1 where black, as bytes with the most significant bit first; bytes are such a row already."""
+    if isinstance(row, bytes):
+        return row
     bits = bytes(row).translate(bytes.maketrans(b"\0\1", b"01")) + b"0" * (-len(row) % 8)
     return int(bits, 2).to_bytes(len(bits) // 8, "big")
 
@@ -328,10 +334,47 @@ def white(width, height):
     return width, height, (row for _ in range(height))
 
 
+def bar(width, height):
+    rows = [bytearray(width), bytearray(b"\1") * width]
+    return width, height, (rows[height // 3 <= y < height - height // 3] for y in range(height))
+
+
+# Pages whose rows are bytes already.
+
+def dust_rows(width, height):
+    numbers = random.Random(1)
+    size = (width + 7) // 8
+    for _ in range(height):
+        row = numbers.getrandbits(8 * size)
+        for _ in range(9):
+            row &= numbers.getrandbits(8 * size)
+        yield row.to_bytes(size, "big")
+
+
+def dust(width, height):
+    return width, height, dust_rows(width, height)
+
+
+def tile_rows(bits, step, width, height):
+    size = (width + 7) // 8
+    for y in range(height):
+        at = y * step % len(bits)
+        yield (bits[at:at + step] * (size // step + 1))[:size]
+
+
+def tiles(page, width, height):
+    with open(page, "rb") as file:
+        magic, side, rows, bits = file.read().split(maxsplit=3)
+    step = int(side) // 8
+    if magic != b"P4" or int(side) % 8 or len(bits) != step * int(rows):
+        raise ValueError(page)
+    return width, height, tile_rows(bits, step, width, height)
+
+
 KINDS = {
     "scan": scan, "map": land, "text": text, "logo": logo, "engraving": engraving, "photo": photo, "board": board,
     "stairs": stairs, "spiral": spiral, "squares": squares, "comb": comb,
-    "white": white, "checkerboard": checkerboard, "dither": dither,
+    "white": white, "checkerboard": checkerboard, "dither": dither, "bar": bar, "dust": dust, "tiles": tiles,
 }
 
 
@@ -345,7 +388,7 @@ def main():
     if len(sys.argv) < 2 or sys.argv[1] not in KINDS:
         sys.exit(__doc__)
     try:
-        page = KINDS[sys.argv[1]](*(int(word) for word in sys.argv[2:]))
+        page = KINDS[sys.argv[1]](*(int(word) if word.isdigit() else word for word in sys.argv[2:]))
     except (TypeError, ValueError):
         sys.exit(__doc__)
     write(sys.stdout.buffer, *page)

@@ -213,7 +213,7 @@ def feed(pipe, front, piece):
 
 
 def memory(it):
-    """Ten limits of the address space, in MB, over eight pages."""
+    """Ten limits of the address space, in MB, over eight pages, and one that the greatest page doesn't fit."""
     page, text = black(2048, 2048)
     allowed = [(0, 8 * text, b""), *((5, count * text, OUT_OF_MEMORY) for count in range(9)), ("not started", b"", b"")]
     for limit in (2, 3, 4, 6, 8, 12, 16, 24, 48, 256):
@@ -222,11 +222,14 @@ def memory(it):
         if ran.status == 127 and b"error while loading" in ran.said:
             ran = Ran("not started", b"", b"")
         it.expect(f"{limit} MB of memory", ran, *allowed)
+    bound = lambda: resource.setrlimit(resource.RLIMIT_AS, (128 << 20, 128 << 20))
+    ran = it.run([*POLYGONS, "--workers", "1"], b"P4 32767 32767\n", preexec_fn=bound)
+    it.expect("the greatest page's header in 128 MB", ran, (5, b"", OUT_OF_MEMORY))
 
 
 def workers(it):
     """The greatest page, and more workers than processors."""
-    page, text = black(16384, 16384)
+    page, text = black(32767, 32767)
     for number in ("1", "64"):
         it.expect(f"the greatest page by {number}", it.run([*POLYGONS, "--workers", number], page), (0, text, b""))
     pages, texts = (b"".join(parts) for parts in zip(*(black(width, 9 + width % 7) for width in range(9, 1009))))

@@ -90,7 +90,7 @@ colors = refl
 no_gap : page_at false (codes "P11 1 1") ≡ Stops false (Refused BadHeader)
 no_gap = refl
 
-wide : page_at false (codes "P4 16385 1\n") ≡ Stops false (Refused TooLarge)
+wide : page_at false (codes "P4 32768 1\n") ≡ Stops false (Refused TooLarge)
 wide = refl
 
 zero_before_large : page_at false (codes "P4 0 99999\n") ≡ Stops false (Refused ZeroSide)

@@ -4,6 +4,7 @@ mod corners;
 mod drawings;
 mod groups;
 mod joins;
+mod long_lines;
 mod lot;
 mod numbers;
 mod plain;

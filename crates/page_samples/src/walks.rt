@@ -54,3 +54,49 @@ pub fn draw(code: u32, points: &mut [Point]) -> bool {
     }
     x == 100 && y == 100
 }
+
+/// Steps of one pixel, to the right and upwards, and how often they are taken in turn.
+pub type Leg = (&'static [(i32, i32)], u32);
+
+/// The walk that goes from a place by these legs, to the last point before it is closed.
+pub fn walked(alloc: Global, start: (i32, i32), legs: &[Leg]) -> Result<Vec<Point>, NoMemory> {
+    let mut points = Vec::new(alloc);
+    let mut at = Point {
+        x: start.0,
+        y: start.1,
+    };
+    points.push(at)?;
+    for (steps, times) in legs {
+        at = put_leg(&mut points, at, steps, *times)?;
+    }
+    Ok(points)
+}
+
+/// Appends the points of a leg; its last one.
+fn put_leg(
+    points: &mut Vec<Point>,
+    from: Point,
+    steps: &[(i32, i32)],
+    times: u32,
+) -> Result<Point, NoMemory> {
+    let mut at = from;
+    for _ in 0..times {
+        at = put_steps(points, at, steps)?;
+    }
+    Ok(at)
+}
+
+/// Appends the points of some steps; the last one.
+fn put_steps(
+    points: &mut Vec<Point>,
+    from: Point,
+    steps: &[(i32, i32)],
+) -> Result<Point, NoMemory> {
+    let mut at = from;
+    for (right, up) in steps {
+        at.x = at.x.wrapping_add(*right);
+        at.y = at.y.wrapping_add(*up);
+        points.push(at)?;
+    }
+    Ok(at)
+}

@@ -4,6 +4,7 @@ mod beside_plain;
 mod best;
 mod chain;
 mod least;
+mod long_segments;
 mod paths;
 mod plain;
 mod plain_best;

@@ -7,6 +7,7 @@ mod failing;
 mod files;
 mod formats;
 mod hostile;
+mod longest;
 mod many_paths;
 mod memory;
 mod one_picture;

@@ -43,6 +43,32 @@ fn shapes_of_small_pages(rt: HostRuntime) -> Result<(), Fail> {
     Ok(())
 }
 
+/// A row with a white pixel in this column.
+fn row_with_hole(alloc: Global, width: usize, hole: usize) -> Result<String, Fail> {
+    let mut row = String::new(alloc);
+    for x in 0..width {
+        row.push(if x == hole { '.' } else { '#' })?;
+    }
+    Ok(row)
+}
+
+#[test]
+fn holes_at_the_far_side(rt: HostRuntime) -> Result<(), Fail> {
+    let full = row_with_hole(rt.alloc(), 32767, 32767)?;
+    let open = row_with_hole(rt.alloc(), 32767, 32765)?;
+    let mut upright = vec![in rt.alloc(); "###"; 32767]?;
+    upright[1] = "#.#";
+    for rows in [
+        &[full.as_str(), open.as_str(), full.as_str()],
+        upright.as_slice(),
+    ] {
+        let paths = paths_of(rt.alloc(), rows)?;
+        let groups = group(rt.alloc(), &paths)?;
+        assert!(rt; are_groups(&groups, &[(0, &[1])]), "{groups:?}");
+    }
+    Ok(())
+}
+
 #[test]
 fn a_hole_without_its_shape(rt: HostRuntime) -> Result<(), Fail> {
     let paths = paths_of(rt.alloc(), RING_IN_RING)?;

@@ -46,11 +46,11 @@ const PLACES: [(u32, u32, u32, u32, u32, &str); 18] = [
     (0, 2, 1, 0, 0, "zero side"),
     (2147483648, 2147483648, 1, 0, 0, "zero side"),
     (4294967295, 2, 1, 0, 0, "zero side"),
-    (20000, 0, 1, 0, 0, "zero side"),
-    (16385, 2, 1, 0, 0, "side too large"),
-    (3, 16385, 1, 0, 0, "side too large"),
+    (40000, 0, 1, 0, 0, "zero side"),
+    (32768, 2, 1, 0, 0, "side too large"),
+    (3, 32768, 1, 0, 0, "side too large"),
     (3, 2147483648, 1, 0, 0, "side too large"),
-    (3, 4294950911, 1, 0, 0, "side too large"),
+    (3, 4294934528, 1, 0, 0, "side too large"),
     (3, 2, 1, 0, 61, "bad BMP offset"),
     (3, 2, 1, 0, 0, "bad BMP offset"),
     (3, 2, 8, 0, 1077, "bad BMP offset"),
@@ -58,8 +58,8 @@ const PLACES: [(u32, u32, u32, u32, u32, &str); 18] = [
     (3, 2, 24, 0, 53, "bad BMP offset"),
     (3, 2, 1, 0, 4294967295, "truncated"),
     (3, 2, 8, 0, 1078, "truncated"),
-    (16384, 1, 1, 0, 62, "truncated"),
-    (1, 4294950912, 1, 0, 62, "truncated"),
+    (32767, 1, 1, 0, 62, "truncated"),
+    (1, 4294934529, 1, 0, 62, "truncated"),
     // Above eight bits no palette is read.
     (3, 2, 24, 4294967295, 54, "truncated"),
 ];
@@ -74,6 +74,29 @@ fn refused_places(rt: HostRuntime) -> Result<(), Fail> {
         form.bits = bits;
         form.colors_used = colors_used;
         let bytes = picture(rt.alloc(), &form, &[PALETTE, b"\xbf"])?;
+        let same = tells(rt.alloc(), &bytes, text)?;
+        assert!(rt; same, "{form:?}");
+    }
+    Ok(())
+}
+
+/// The sides in a header of 12 bytes, which has two bytes for each, and the answer.
+const OLDEST: [(u32, u32, &str); 5] = [
+    (32767, 1, "truncated"),
+    (1, 32767, "truncated"),
+    (32768, 1, "side too large"),
+    (65535, 1, "side too large"),
+    (1, 65535, "side too large"),
+];
+
+#[test]
+fn sides_in_the_oldest_header(rt: HostRuntime) -> Result<(), Fail> {
+    for (width, height, text) in OLDEST {
+        let mut form = small(32);
+        form.header_size = 12;
+        form.width = width;
+        form.height = height;
+        let bytes = picture(rt.alloc(), &form, &[b"\0\0\0\xff\xff\xff", b"\xbf"])?;
         let same = tells(rt.alloc(), &bytes, text)?;
         assert!(rt; same, "{form:?}");
     }

@@ -17,7 +17,7 @@ const FILES: [(&[u8], &str); 15] = [
     (b"P6 1 1 255\n", "unknown format"),
     (b"P1 1 1 x", "bad raster"),
     (b"P4 1 1x\x80", "bad header"),
-    (b"P4 16385 1\n", "side too large"),
+    (b"P4 32768 1\n", "side too large"),
     (b"P4 0 99999\n", "zero side"),
     (b"P1 2 1 12", "bad raster"),
     (b"P1 2 1 1", "truncated"),

@@ -95,11 +95,11 @@ const SIDE_TOO_LARGE: &str = "potrace: -: page 1: side too large\n";
 const LONG: &[Long] = &[
     // A white row.
     (
-        b"P4 16384 1\n",
+        b"P4 32767 1\n",
         0,
-        2048,
+        4096,
         b"",
-        &[("-", "points 16384 1 0\n")],
+        &[("-", "points 32767 1 0\n")],
         0,
         "",
     ),

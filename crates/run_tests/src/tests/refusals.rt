@@ -20,10 +20,11 @@ const REFUSALS: &[(&str, &[u8], u8, &str)] = &[
     ),
     (
         LEFT,
-        b"P4 16385 1\n",
+        b"P4 32768 1\n",
         2,
         "potrace: -: page 1: side too large\n",
     ),
+    (LEFT, b"P4 16385 1\n", 2, "potrace: -: page 1: truncated\n"),
     (LEFT, b"P4 0 99999\n", 2, "potrace: -: page 1: zero side\n"),
     (LEFT, b"P1 2 1 12", 2, "potrace: -: page 1: bad raster\n"),
     (LEFT, b"P1 1 1 x", 2, "potrace: -: page 1: bad raster\n"),
