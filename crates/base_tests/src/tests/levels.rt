@@ -72,7 +72,11 @@ fn color_samples(rt: HostRuntime) -> Result<(), Fail> {
         assert!(rt; micro <= 1000000 && 1 <= maxval && maxval <= 65535);
         assert!(rt; r <= GREATEST_SAMPLE && g <= GREATEST_SAMPLE && b <= GREATEST_SAMPLE);
         let level = Level::from_micro(micro);
-        assert_eq!(rt; level.color(r, g, b, maxval), black, "{r}, {g}, {b} of {maxval} at {micro}");
+        assert_eq!(rt;
+            level.color(r, g, b, maxval),
+            black,
+            "{r}, {g}, {b} of {maxval} at {micro}"
+        );
     }
     Ok(())
 }

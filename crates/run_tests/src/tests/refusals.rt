@@ -13,7 +13,12 @@ const REFUSALS: &[(&str, &[u8], u8, &str)] = &[
     (LEFT, b"P5 1 1 0\n", 2, "potrace: -: page 1: bad header\n"),
     (LEFT, b"P2 1 1 255x", 2, "potrace: -: page 1: bad raster\n"),
     (LEFT, b"P6 1 1 255\n", 2, "potrace: -: page 1: truncated\n"),
-    (LEFT, b"P3 1 1 255 0 0", 2, "potrace: -: page 1: truncated\n"),
+    (
+        LEFT,
+        b"P3 1 1 255 0 0",
+        2,
+        "potrace: -: page 1: truncated\n",
+    ),
     (
         LEFT,
         b"P3 1 1 255 0 0 x",
