@@ -23,12 +23,12 @@ export LC_ALL=C
 # same NAME FILE OTHER: both are traced to the same points, and to some.
 same() {
   local words
-  for words in "" "-k 0.2" "-k 0.85" "-i"; do
+  for words in "-k 0.2" "-k 0.85" "-i" ""; do
     # shellcheck disable=SC2086
     "$program" -b points $words <"$2" >"$work/a.points" && "$program" -b points $words <"$3" >"$work/b.points" &&
       cmp -s "$work/a.points" "$work/b.points" || { echo "$1: not the same ($words)"; failed=yes; return; }
   done
-  "$program" -b points <"$2" | head -1 | sed "s|^|$1: |"
+  echo "$1: $(head -1 "$work/a.points")"
 }
 
 # magic FILE: its first two bytes.
