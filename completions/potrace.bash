@@ -58,7 +58,7 @@ _potrace_files() {
   compopt -o filenames
   while IFS= read -r name; do
     case ${name,,} in
-      *.pbm | *.pgm | *.pnm | *.bmp) COMPREPLY+=("$name") ;;
+      *.pbm | *.pgm | *.ppm | *.pnm | *.bmp) COMPREPLY+=("$name") ;;
       *) [ ! -d "$name" ] || COMPREPLY+=("$name") ;;
     esac
   done < <(compgen -f -- "$1")

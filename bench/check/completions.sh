@@ -15,7 +15,7 @@ work=$(mktemp -d)
 trap 'rm -rf "$work" 2>/dev/null || true' EXIT
 cd "$work"
 mkdir sub
-touch 'a scan.pbm' gray.PGM photo.bmp notes.txt drawing.svg sub/page.pbm
+touch 'a scan.pbm' gray.PGM color.ppm photo.bmp notes.txt drawing.svg sub/page.pbm
 
 python3 - "$top/completions" <<'END'
 import os
@@ -42,7 +42,7 @@ CASES = [
     ("potrace --l", "--longcurve", "--level"),
     ("potrace --", "--svg --eps --output --opttolerance --workers --demo --flat --help", "--turd "),
     ("potrace -s g", "gray.PGM", "notes.txt"),
-    ("potrace ", "scan.pbm gray.PGM photo.bmp sub", "notes.txt drawing.svg"),
+    ("potrace ", "scan.pbm gray.PGM color.ppm photo.bmp sub", "notes.txt drawing.svg"),
     ("potrace -s a", "scan.pbm", "gray.PGM"),
     ("potrace sub/", "page.pbm", "gray.PGM"),
     ("potrace -s -- g", "gray.PGM", "--svg"),

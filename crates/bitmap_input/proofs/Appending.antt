@@ -1,6 +1,6 @@
 -- An answer that isn't by the end of the bytes stays the same where bytes are added: of each part,
 -- and so of the page.
-use Rattle.std.proofs.Common.{◌≡◌, refl, ℕ, zero, suc, ◌≤◌, ◌<◌, Bool, true, false, cond, ◌||◌, List, [], ◌∷◌, ◌++◌, length, take, drop, arith, Option, Some, None}
+use Rattle.std.proofs.Common.{◌≡◌, refl, ℕ, zero, suc, ◌*◌, ◌≤◌, ◌<◌, Bool, true, false, cond, ◌||◌, List, [], ◌∷◌, ◌++◌, length, take, drop, arith, Option, Some, None}
 use Rattle.std.specs.Prelude.{nat_eq, nat_lt}
 use Rattle.std.proofs.lemmas.List.{take-append-le, drop-append-le, length-append}
 use Rattle.std.proofs.lemmas.Bool.{ltb-true, lt-ltb, le-ltb, ltb-false}
@@ -9,8 +9,11 @@ use Rattle.bitmap_input.specs.Cut.Kind.{BadHeader, ZeroSide, TooLarge, BadRaster
 use Rattle.bitmap_input.specs.Cut.Ending.{Refused}
 use Rattle.bitmap_input.specs.Cut.Cut.{Takes, Stops}
 use Rattle.bitmap_input.specs.Parts.{longest, is_zero, is_empty, is_space, is_digit, run_length, gap_length, missing, run_of, spaces, gap, some_gap, value, number, number_behind_gap, space, pixel, block, times}
-use Rattle.bitmap_input.specs.Raw.{Entry, entries_page, row_bytes, unpacked, samples}
-use Rattle.bitmap_input.specs.Front.{Magic, no_magic, magic_of_name, magic_named, magic_behind, magic, checked, sides, checked_maxval, maxval, greatest_maxval, plain_pixel, raw_row, plain_sample, is_wide, gray_row_bytes, raw_gray_row, raster}
+use Rattle.bitmap_input.specs.Raw.{Entry, entries_page, row_bytes, unpacked}
+use Rattle.bitmap_input.specs.Front.{Magic, no_magic, magic_of_name, magic_named, magic_behind, magic, checked, sides, checked_maxval, maxval, greatest_maxval, plain_pixel, raw_row, raster}
+use Rattle.bitmap_input.specs.Samples.{samples_in, plain_sample, plain_samples, is_wide, sample_bytes, samples, grouped, raw_samples_row}
+use Rattle.bitmap_input.specs.declared.channels.Channels.{Channels}
+use Rattle.bitmap_input.specs.declared.channels.Channels.TheVariants.{Gray, Color}
 use Rattle.bitmap_input.proofs.Bytes.{run_length-le, run_length-append-le, run_length-append, gap_length-le, gap_length-append-le, gap_length-append}
 use Rattle.pt_base.specs.declared.limits.TheConstants.{LONGEST_SIDE}
 
@@ -245,11 +248,21 @@ raw_row_stays width bytes more not_end =
 pub plain_sample_stays : Stays plain_sample
 plain_sample_stays = number_behind_gap_stays BadRaster
 
-pub raw_gray_row_stays : (white width : ℕ) → Stays (raw_gray_row white width)
-raw_gray_row_stays white width bytes more not_end =
-    stays_bind (block (gray_row_bytes white width) bytes) (block (gray_row_bytes white width) (bytes ++ more))
-    (λ row rest. Takes false (samples (is_wide white) row) rest) more
-    (λ row. take_stays false (samples (is_wide white) row)) (block_stays (gray_row_bytes white width) bytes more) not_end
+pub plain_samples_stay : (c : Channels) → Stays (plain_samples c)
+plain_samples_stay Gray bytes more not_end = plain_sample_stays bytes more not_end
+plain_samples_stay Color bytes more not_end =
+    stays_bind (plain_sample bytes) (plain_sample (bytes ++ more)) _ more
+    (λ r bytes more not_end. stays_bind (plain_sample bytes) (plain_sample (bytes ++ more)) _ more
+    (λ g bytes more not_end. stays_bind (plain_sample bytes) (plain_sample (bytes ++ more)) _ more
+    (λ b. take_stays false (r, g, b)) (plain_sample_stays bytes more) not_end)
+    (plain_sample_stays bytes more) not_end)
+    (plain_sample_stays bytes more) not_end
+
+pub raw_samples_row_stays : (c : Channels) (white width : ℕ) → Stays (raw_samples_row c white width)
+raw_samples_row_stays c white width bytes more not_end =
+    stays_bind (block (sample_bytes white (samples_in c * width)) bytes) (block (sample_bytes white (samples_in c * width)) (bytes ++ more))
+    (λ row rest. Takes false (grouped c (samples (is_wide white) row)) rest) more
+    (λ row. take_stays false (grouped c (samples (is_wide white) row))) (block_stays (sample_bytes white (samples_in c * width)) bytes more) not_end
 
 pub raster_stays : {A : Type 0} (entry : A → Entry) (row : List ℕ → Cut (List A)) (width height : ℕ) → Stays row →
     Stays (raster entry row width height)

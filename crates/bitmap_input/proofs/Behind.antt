@@ -10,9 +10,11 @@ use Rattle.bitmap_input.specs.Cut.{Cut, is_by_end, after, ◌>>=◌}
 use Rattle.bitmap_input.specs.Cut.Cut.{Takes, Stops}
 use Rattle.bitmap_input.specs.Parts.{longest, is_empty, is_space, run_length, run_of, spaces, space, times}
 use Rattle.bitmap_input.specs.Raw.{Raw, Entry, entries_page, IsShown}
-use Rattle.bitmap_input.specs.Raw.Entry.{Bit, Sample}
-use Rattle.bitmap_input.specs.Front.{Magic, no_magic, magic_of_name, magic_named, magic_behind, magic, sides, maxval, plain_pixel, raw_row, plain_sample, raw_gray_row, raster, body, page_at, answer_of, front}
-use Rattle.bitmap_input.specs.Front.Magic.{PlainBits, RawBits, PlainGray, RawGray}
+use Rattle.bitmap_input.specs.Raw.Entry.{Bit}
+use Rattle.bitmap_input.specs.Front.{Magic, no_magic, magic_of_name, magic_named, magic_behind, magic, sides, maxval, plain_pixel, raw_row, raster, body, page_at, answer_of, front}
+use Rattle.bitmap_input.specs.Samples.{as_entry, plain_samples, raw_samples_row}
+use Rattle.bitmap_input.specs.declared.channels.Channels.{Channels}
+use Rattle.bitmap_input.specs.Front.Magic.{PlainBits, RawBits, PlainSamples, RawSamples}
 use Rattle.bitmap_input.specs.Front.Answer.{Page}
 use Rattle.bitmap_input.specs.FilePages.{next_begins}
 use Rattle.bitmap_input.specs.Reading.{Held, Cause, cause_of, StopsBy, AreNeeded, Reads}
@@ -26,7 +28,7 @@ use Rattle.bitmap_input.proofs.BmpLengths.{Cuts, cuts_bind, cuts_take}
 use Rattle.bitmap_input.proofs.Appending.{after-false}
 use Rattle.bitmap_input.proofs.Needing.{needs_as}
 
--- Pages of bits and gray pages claim no bytes.
+-- Pages of bits and of samples claim no bytes.
 
 -- the page claims no bytes behind those that it takes
 abbrev pub ClaimsNone : Raw → List ℕ → Type 0
@@ -53,18 +55,18 @@ raw_bits_unclaimed bytes =
     (λ s rest. value_bind ClaimsNone (space rest) (λ _ rest. raster (λ b. Bit b) (raw_row s.0) s.0 s.1 rest)
     (λ _. rows_claim_none (λ b. Bit b) (raw_row s.0) s.0 s.1))
 
-pub plain_gray_unclaimed : (bytes : List ℕ) → Cuts ClaimsNone (body PlainGray bytes)
-plain_gray_unclaimed bytes =
-    value_bind ClaimsNone (sides bytes) (λ s rest. maxval rest >>= λ white rest. raster (λ v. Sample v white) (times plain_sample s.0) s.0 s.1 rest)
-    (λ s rest. value_bind ClaimsNone (maxval rest) (λ white rest. raster (λ v. Sample v white) (times plain_sample s.0) s.0 s.1 rest)
-    (λ white. rows_claim_none (λ v. Sample v white) (times plain_sample s.0) s.0 s.1))
+pub plain_samples_unclaimed : (c : Channels) (bytes : List ℕ) → Cuts ClaimsNone (body (PlainSamples c) bytes)
+plain_samples_unclaimed c bytes =
+    value_bind ClaimsNone (sides bytes) (λ s rest. maxval rest >>= λ white rest. raster (as_entry c white) (times (plain_samples c) s.0) s.0 s.1 rest)
+    (λ s rest. value_bind ClaimsNone (maxval rest) (λ white rest. raster (as_entry c white) (times (plain_samples c) s.0) s.0 s.1 rest)
+    (λ white. rows_claim_none (as_entry c white) (times (plain_samples c) s.0) s.0 s.1))
 
-pub raw_gray_unclaimed : (bytes : List ℕ) → Cuts ClaimsNone (body RawGray bytes)
-raw_gray_unclaimed bytes =
-    value_bind ClaimsNone (sides bytes) (λ s rest. maxval rest >>= λ white rest. space rest >>= λ _ rest. raster (λ v. Sample v white) (raw_gray_row white s.0) s.0 s.1 rest)
-    (λ s rest. value_bind ClaimsNone (maxval rest) (λ white rest. space rest >>= λ _ rest. raster (λ v. Sample v white) (raw_gray_row white s.0) s.0 s.1 rest)
-    (λ white rest. value_bind ClaimsNone (space rest) (λ _ rest. raster (λ v. Sample v white) (raw_gray_row white s.0) s.0 s.1 rest)
-    (λ _. rows_claim_none (λ v. Sample v white) (raw_gray_row white s.0) s.0 s.1)))
+pub raw_samples_unclaimed : (c : Channels) (bytes : List ℕ) → Cuts ClaimsNone (body (RawSamples c) bytes)
+raw_samples_unclaimed c bytes =
+    value_bind ClaimsNone (sides bytes) (λ s rest. maxval rest >>= λ white rest. space rest >>= λ _ rest. raster (as_entry c white) (raw_samples_row c white s.0) s.0 s.1 rest)
+    (λ s rest. value_bind ClaimsNone (maxval rest) (λ white rest. space rest >>= λ _ rest. raster (as_entry c white) (raw_samples_row c white s.0) s.0 s.1 rest)
+    (λ white rest. value_bind ClaimsNone (space rest) (λ _ rest. raster (as_entry c white) (raw_samples_row c white s.0) s.0 s.1 rest)
+    (λ _. rows_claim_none (as_entry c white) (raw_samples_row c white s.0) s.0 s.1)))
 
 is_by_end-counted : {A : Type 0} (bytes : List ℕ) (c : Cut A) → is_by_end (counted bytes c) ≡ is_by_end c
 is_by_end-counted bytes (Takes e a rest) = refl

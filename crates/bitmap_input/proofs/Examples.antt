@@ -84,8 +84,8 @@ nothing_more = refl
 half_a_magic : page_at true (codes "P") ≡ Stops true Trailing
 half_a_magic = refl
 
-colors : page_at false (codes "P6 1 1 255\n") ≡ Stops false (Refused UnknownFormat)
-colors = refl
+no_such_magic : page_at false (codes "P7\n") ≡ Stops false (Refused UnknownFormat)
+no_such_magic = refl
 
 no_gap : page_at false (codes "P11 1 1") ≡ Stops false (Refused BadHeader)
 no_gap = refl

@@ -4,16 +4,16 @@ use Rattle.std.specs.Prelude.{nat_lt}
 use Rattle.std.proofs.lemmas.List.{length-append}
 use Rattle.std.proofs.Math.Seq.{drop-append_seam}
 use Rattle.bitmap_input.specs.Cut.{Cut, ◌>>=◌}
-use Rattle.bitmap_input.specs.Cut.Kind.{BadRaster}
 use Rattle.bitmap_input.specs.Cut.Cut.{Takes, Stops}
 use Rattle.bitmap_input.specs.Parts.{longest, is_empty, is_space, run_length, run_of, spaces, space, times}
 use Rattle.bitmap_input.specs.Raw.{Raw, Entry, entries_page}
-use Rattle.bitmap_input.specs.Raw.Entry.{Bit, Sample}
-use Rattle.bitmap_input.specs.Front.{Magic, magic, sides, maxval, plain_pixel, raw_row, plain_sample, raw_gray_row, raster, body, page_at, answer_of, front}
+use Rattle.bitmap_input.specs.Raw.Entry.{Bit}
+use Rattle.bitmap_input.specs.Front.{Magic, magic, sides, maxval, plain_pixel, raw_row, raster, body, page_at, answer_of, front}
+use Rattle.bitmap_input.specs.Samples.{as_entry, plain_samples, raw_samples_row}
 use Rattle.bitmap_input.specs.Front.Answer.{Page}
-use Rattle.bitmap_input.specs.Front.Magic.{PlainBits, RawBits, PlainGray, RawGray, Picture}
+use Rattle.bitmap_input.specs.Front.Magic.{PlainBits, RawBits, PlainSamples, RawSamples, Picture}
 use Rattle.bitmap_input.proofs.Showing.{after_takes}
-use Rattle.bitmap_input.proofs.Keeping.{IsRest, Keeps, all_rest, keeps_take, keeps_bind, keeps_run, keeps_space, keeps_times, keeps_magic_behind, keeps_magic, keeps_sides, keeps_maxval, keeps_number_behind_gap, keeps_plain_pixel, keeps_raw_row, keeps_raw_gray_row}
+use Rattle.bitmap_input.proofs.Keeping.{IsRest, Keeps, all_rest, keeps_take, keeps_bind, keeps_run, keeps_space, keeps_times, keeps_magic_behind, keeps_magic, keeps_sides, keeps_maxval, keeps_plain_pixel, keeps_raw_row, keeps_plain_samples, keeps_raw_samples_row}
 use Rattle.bitmap_input.proofs.BmpKeeps.{keeps_bmp}
 
 keeps_rows : {A : Type 0} (entry : A → Entry) (row : List ℕ → Cut (List A)) → ((bytes : List ℕ) → Keeps bytes (row bytes)) →
@@ -30,15 +30,15 @@ keeps_body RawBits bytes =
     keeps_bind bytes (sides bytes) (λ s rest. space rest >>= λ _ rest. raster (λ b. Bit b) (raw_row s.0) s.0 s.1 rest) (keeps_sides bytes)
     (λ s rest. keeps_bind rest (space rest) (λ _ rest. raster (λ b. Bit b) (raw_row s.0) s.0 s.1 rest) (keeps_space rest)
     (λ _. keeps_rows (λ b. Bit b) (raw_row s.0) (keeps_raw_row s.0) s.0 s.1))
-keeps_body PlainGray bytes =
-    keeps_bind bytes (sides bytes) (λ s rest. maxval rest >>= λ white rest. raster (λ v. Sample v white) (times plain_sample s.0) s.0 s.1 rest) (keeps_sides bytes)
-    (λ s rest. keeps_bind rest (maxval rest) (λ white rest. raster (λ v. Sample v white) (times plain_sample s.0) s.0 s.1 rest) (keeps_maxval rest)
-    (λ white. keeps_rows (λ v. Sample v white) (times plain_sample s.0) (keeps_times plain_sample (keeps_number_behind_gap BadRaster) s.0) s.0 s.1))
-keeps_body RawGray bytes =
-    keeps_bind bytes (sides bytes) (λ s rest. maxval rest >>= λ white rest. space rest >>= λ _ rest. raster (λ v. Sample v white) (raw_gray_row white s.0) s.0 s.1 rest) (keeps_sides bytes)
-    (λ s rest. keeps_bind rest (maxval rest) (λ white rest. space rest >>= λ _ rest. raster (λ v. Sample v white) (raw_gray_row white s.0) s.0 s.1 rest) (keeps_maxval rest)
-    (λ white rest. keeps_bind rest (space rest) (λ _ rest. raster (λ v. Sample v white) (raw_gray_row white s.0) s.0 s.1 rest) (keeps_space rest)
-    (λ _. keeps_rows (λ v. Sample v white) (raw_gray_row white s.0) (keeps_raw_gray_row white s.0) s.0 s.1)))
+keeps_body (PlainSamples c) bytes =
+    keeps_bind bytes (sides bytes) (λ s rest. maxval rest >>= λ white rest. raster (as_entry c white) (times (plain_samples c) s.0) s.0 s.1 rest) (keeps_sides bytes)
+    (λ s rest. keeps_bind rest (maxval rest) (λ white rest. raster (as_entry c white) (times (plain_samples c) s.0) s.0 s.1 rest) (keeps_maxval rest)
+    (λ white. keeps_rows (as_entry c white) (times (plain_samples c) s.0) (keeps_times (plain_samples c) (keeps_plain_samples c) s.0) s.0 s.1))
+keeps_body (RawSamples c) bytes =
+    keeps_bind bytes (sides bytes) (λ s rest. maxval rest >>= λ white rest. space rest >>= λ _ rest. raster (as_entry c white) (raw_samples_row c white s.0) s.0 s.1 rest) (keeps_sides bytes)
+    (λ s rest. keeps_bind rest (maxval rest) (λ white rest. space rest >>= λ _ rest. raster (as_entry c white) (raw_samples_row c white s.0) s.0 s.1 rest) (keeps_maxval rest)
+    (λ white rest. keeps_bind rest (space rest) (λ _ rest. raster (as_entry c white) (raw_samples_row c white s.0) s.0 s.1 rest) (keeps_space rest)
+    (λ _. keeps_rows (as_entry c white) (raw_samples_row c white s.0) (keeps_raw_samples_row c white s.0) s.0 s.1)))
 keeps_body Picture bytes = keeps_bmp bytes
 
 keeps_page : (later : Bool) (bytes : List ℕ) → Keeps bytes (page_at later bytes)

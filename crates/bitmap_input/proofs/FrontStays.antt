@@ -6,11 +6,12 @@ use Rattle.bitmap_input.proofs.Appending.{with_more}
 use Rattle.bitmap_input.specs.Cut.Cut.{Takes, Stops}
 use Rattle.bitmap_input.specs.Parts.{spaces, space, times}
 use Rattle.bitmap_input.specs.Raw.{Raw}
-use Rattle.bitmap_input.specs.Raw.Entry.{Bit, Sample}
-use Rattle.bitmap_input.specs.Front.{Magic, magic, sides, maxval, plain_pixel, raw_row, plain_sample, raw_gray_row, body, page_at, answer_of, front}
-use Rattle.bitmap_input.specs.Front.Magic.{PlainBits, RawBits, PlainGray, RawGray, Picture}
+use Rattle.bitmap_input.specs.Raw.Entry.{Bit}
+use Rattle.bitmap_input.specs.Front.{Magic, magic, sides, maxval, plain_pixel, raw_row, body, page_at, answer_of, front}
+use Rattle.bitmap_input.specs.Samples.{as_entry, plain_samples, raw_samples_row}
+use Rattle.bitmap_input.specs.Front.Magic.{PlainBits, RawBits, PlainSamples, RawSamples, Picture}
 use Rattle.bitmap_input.specs.Front.Answer.{Page}
-use Rattle.bitmap_input.proofs.Appending.{Stays, stays_bind, times_stay, raster_stays, space_stays, spaces_stay, sides_stay, maxval_stays, plain_pixel_stays, raw_row_stays, plain_sample_stays, raw_gray_row_stays, magic_stays}
+use Rattle.bitmap_input.proofs.Appending.{Stays, stays_bind, times_stay, raster_stays, space_stays, spaces_stay, sides_stay, maxval_stays, plain_pixel_stays, raw_row_stays, plain_samples_stay, raw_samples_row_stays, magic_stays}
 use Rattle.bitmap_input.proofs.BmpStays.{bmp_stays}
 
 pub body_stays : (m : Magic) → Stays (body m)
@@ -24,17 +25,17 @@ body_stays RawBits bytes more not_end =
     (λ _. raster_stays (λ b. Bit b) (raw_row s.0) s.0 s.1 (raw_row_stays s.0))
     (space_stays bytes more) not_end)
     (sides_stay bytes more) not_end
-body_stays PlainGray bytes more not_end =
+body_stays (PlainSamples c) bytes more not_end =
     stays_bind (sides bytes) (sides (bytes ++ more)) _ more
     (λ s bytes more not_end. stays_bind (maxval bytes) (maxval (bytes ++ more)) _ more
-    (λ white. raster_stays (λ v. Sample v white) (times plain_sample s.0) s.0 s.1 (times_stay plain_sample plain_sample_stays s.0))
+    (λ white. raster_stays (as_entry c white) (times (plain_samples c) s.0) s.0 s.1 (times_stay (plain_samples c) (plain_samples_stay c) s.0))
     (maxval_stays bytes more) not_end)
     (sides_stay bytes more) not_end
-body_stays RawGray bytes more not_end =
+body_stays (RawSamples c) bytes more not_end =
     stays_bind (sides bytes) (sides (bytes ++ more)) _ more
     (λ s bytes more not_end. stays_bind (maxval bytes) (maxval (bytes ++ more)) _ more
     (λ white bytes more not_end. stays_bind (space bytes) (space (bytes ++ more)) _ more
-    (λ _. raster_stays (λ v. Sample v white) (raw_gray_row white s.0) s.0 s.1 (raw_gray_row_stays white s.0))
+    (λ _. raster_stays (as_entry c white) (raw_samples_row c white s.0) s.0 s.1 (raw_samples_row_stays c white s.0))
     (space_stays bytes more) not_end)
     (maxval_stays bytes more) not_end)
     (sides_stay bytes more) not_end

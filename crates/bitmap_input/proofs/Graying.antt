@@ -1,10 +1,19 @@
--- Samples that become pixels: how a row of bytes holds them, and when a number that was cut is the same
--- pixel as the whole one.
-use Rattle.std.proofs.Common.{◌≡◌, refl, ℕ, zero, suc, ◌+◌, ◌*◌, ◌<◌, inl, inr, Bool, true, false, List, [], ◌∷◌, length, get_or, arith, ap, sym, ◌∙◌}
+-- Samples that become pixels: how a row of bytes holds them, and when numbers that were cut are the same
+-- pixel as the whole ones.
+use Rattle.std.proofs.Common.{◌≡◌, refl, ℕ, zero, suc, ◌+◌, ◌*◌, ◌≤◌, ◌<◌, inl, inr, Bool, true, false, List, [], ◌∷◌, length, map, get_or, arith, ap, sym, ◌∙◌, Option, Ok}
 use Rattle.std.specs.Prelude.{if◌then◌else◌, nat_le}
-use Rattle.std.proofs.lemmas.Bool.{lt-leb, cases_lt}
-use Rattle.bitmap_input.specs.Raw.{samples}
+use Rattle.std.proofs.lemmas.Bool.{lt-leb, le-leb, cases_lt}
+use Rattle.std.proofs.lemmas.List.{get_or-map}
+use Rattle.pt_base.specs.Files.{Files}
+use Rattle.bit_image.specs.Image.{differ}
+use Rattle.bitmap_input.specs.Cut.{Cut}
+use Rattle.bitmap_input.specs.Samples.{PixelSamples, samples_in, samples, grouped}
+use Rattle.bitmap_input.specs.Shading.{brightness, brightness_at, IsCappedBrightness, is_black_at, black_of, IsInRange}
 use Rattle.bitmap_input.specs.Run.{cap, IsCapped}
+use Rattle.bitmap_input.specs.Reading.{Held, Reads}
+use Rattle.bitmap_input.specs.declared.channels.Channels.{Channels}
+use Rattle.bitmap_input.specs.declared.channels.Channels.TheVariants.{Gray, Color}
+use Rattle.bitmap_input.specs.declared.samples.Shading.{Shading}
 
 -- Two bytes hold a wide sample.
 
@@ -19,26 +28,95 @@ pub samples-length : (wide : Bool) (n : ℕ) (bytes : List ℕ) → length bytes
 samples-length true n bytes h = wide_samples-length n bytes h
 samples-length false n bytes h = h
 
-pub wide_within : (x : ℕ) (bytes : List ℕ) → x < length (samples true bytes) → 2 * x + 1 < length bytes
-wide_within x [] h = absurd (omega arith)
-wide_within x (a ∷ []) h = absurd (omega arith)
+pub wide_within : (i : ℕ) (bytes : List ℕ) → i < length (samples true bytes) → 2 * i + 1 < length bytes
+wide_within i [] h = absurd (omega arith)
+wide_within i (a ∷ []) h = absurd (omega arith)
 wide_within zero (a ∷ b ∷ bytes) h = omega arith
-wide_within (suc x) (a ∷ b ∷ bytes) h = omega (arith, wide_within x bytes (omega arith))
+wide_within (suc i) (a ∷ b ∷ bytes) h = omega (arith, wide_within i bytes (omega arith))
 
-pub wide_sample : (x : ℕ) (bytes : List ℕ) → x < length (samples true bytes) →
-    get_or (samples true bytes) x 0 ≡ 256 * get_or bytes (2 * x) 0 + get_or bytes (2 * x + 1) 0
-wide_sample x [] h = absurd (omega arith)
-wide_sample x (a ∷ []) h = absurd (omega arith)
+pub wide_sample : (i : ℕ) (bytes : List ℕ) → i < length (samples true bytes) →
+    get_or (samples true bytes) i 0 ≡ 256 * get_or bytes (2 * i) 0 + get_or bytes (2 * i + 1) 0
+wide_sample i [] h = absurd (omega arith)
+wide_sample i (a ∷ []) h = absurd (omega arith)
 wide_sample zero (a ∷ b ∷ bytes) h = refl
-wide_sample (suc x) (a ∷ b ∷ bytes) h =
-    let first : 2 * suc x ≡ suc (suc (2 * x)) = omega arith in
-    let second : 2 * suc x + 1 ≡ suc (suc (2 * x + 1)) = omega arith in
-    rw (second, first) (wide_sample x bytes (omega arith))
+wide_sample (suc i) (a ∷ b ∷ bytes) h =
+    let first : 2 * suc i ≡ suc (suc (2 * i)) = omega arith in
+    let second : 2 * suc i + 1 ≡ suc (suc (2 * i + 1)) = omega arith in
+    rw (second, first) (wide_sample i bytes (omega arith))
 
--- A number that is cut is above each sample that is black.
+-- no sample has less than a byte
+wide_samples-most : (bytes : List ℕ) → length (samples true bytes) ≤ length bytes
+wide_samples-most [] = omega arith
+wide_samples-most (a ∷ []) = omega arith
+wide_samples-most (a ∷ b ∷ bytes) = omega (arith, wide_samples-most bytes)
 
-pub capped_limit : (limit x a : ℕ) → limit < cap → IsCapped x a → nat_le x limit ≡ nat_le a limit
-capped_limit limit x a less capped = elim (cases_lt a cap) [
-  | inl h ↦ let same : x ≡ a = omega arith in ap (λ v. nat_le v limit) same
-  | inr h ↦ lt-leb x limit (omega arith) ∙ sym (lt-leb a limit (omega arith))
+pub samples-most : (wide : Bool) (bytes : List ℕ) → length (samples wide bytes) ≤ length bytes
+samples-most true bytes = wide_samples-most bytes
+samples-most false bytes = omega arith
+
+-- A pixel has one sample or three.
+
+-- fewer pixels have no more samples
+pub fewer_samples : (c : Channels) (m n most : ℕ) → m ≤ n → samples_in c * n ≤ most → samples_in c * m ≤ most
+fewer_samples Gray m n most less h = omega arith
+fewer_samples Color m n most less h = omega arith
+
+color_pixels-length : (n : ℕ) (vs : List ℕ) → length vs ≡ 3 * n → length (grouped Color vs) ≡ n
+color_pixels-length zero [] h = refl
+color_pixels-length zero (r ∷ vs) h = absurd (omega arith)
+color_pixels-length (suc n) [] h = absurd (omega arith)
+color_pixels-length (suc n) (r ∷ []) h = absurd (omega arith)
+color_pixels-length (suc n) (r ∷ g ∷ []) h = absurd (omega arith)
+color_pixels-length (suc n) (r ∷ g ∷ b ∷ vs) h = ap suc (color_pixels-length n vs (omega arith))
+
+pub grouped-length : (c : Channels) (n : ℕ) (vs : List ℕ) → length vs ≡ samples_in c * n → length (grouped c vs) ≡ n
+grouped-length Gray n vs h = omega arith
+grouped-length Color n vs h = color_pixels-length n vs h
+
+color_shaded : (f : ℕ → Bool) (x : ℕ) (vs : List ℕ) → x < length (grouped Color vs) →
+    f (brightness_at Color vs x) ≡ get_or (map (λ a. f (brightness Color a)) (grouped Color vs)) x false
+color_shaded f x [] h = absurd (omega arith)
+color_shaded f x (r ∷ []) h = absurd (omega arith)
+color_shaded f x (r ∷ g ∷ []) h = absurd (omega arith)
+color_shaded f zero (r ∷ g ∷ b ∷ vs) h = refl
+color_shaded f (suc x) (r ∷ g ∷ b ∷ vs) h =
+    let first : 3 * suc x ≡ suc (suc (suc (3 * x))) = omega arith in
+    let second : 3 * suc x + 1 ≡ suc (suc (suc (3 * x + 1))) = omega arith in
+    let third : 3 * suc x + 2 ≡ suc (suc (suc (3 * x + 2))) = omega arith in
+    rw (third, second, first) (color_shaded f x vs (omega arith))
+
+-- what is made of the brightness of a pixel is that of its place in a row
+pub shaded : (c : Channels) (f : ℕ → Bool) (x : ℕ) (vs : List ℕ) → x < length (grouped c vs) →
+    f (brightness_at c vs x) ≡ get_or (map (λ a. f (brightness c a)) (grouped c vs)) x false
+shaded Gray f x vs h = sym (get_or-map f vs x 0 _ h)
+shaded Color f x vs h = color_shaded f x vs h
+
+-- A number that is cut is above the brightness of each pixel that is black.
+
+pub least_cap : (c : Channels) (limit white : ℕ) → white ≤ 65535 → limit ≤ samples_in c * white → limit < cap
+least_cap Gray limit white most less = omega arith
+least_cap Color limit white most less = omega arith
+
+pub capped_brightness : (c : Channels) (limit x : ℕ) (a : PixelSamples c) → limit < cap → IsCappedBrightness c x a →
+    nat_le (brightness c a) limit ≡ nat_le x limit
+capped_brightness Gray limit x v less capped = elim (cases_lt limit v) [
+  | inl h ↦ lt-leb v limit h ∙ sym (lt-leb x limit (omega arith))
+  | inr h ↦ le-leb v limit h ∙ sym (le-leb x limit (omega arith))
 ]
+capped_brightness Color limit x (r, g, b) less capped = elim (cases_lt limit (r + g + b)) [
+  | inl h ↦ lt-leb (r + g + b) limit h ∙ sym (lt-leb x limit (omega arith))
+  | inr h ↦ le-leb (r + g + b) limit h ∙ sym (le-leb x limit (omega arith))
+]
+
+pub capped_black : (s : Shading) → IsInRange s → (x : ℕ) (a : PixelSamples s.channels) → IsCappedBrightness s.channels x a →
+    black_of s a ≡ is_black_at s x
+capped_black s range x a capped =
+    ap (differ s.invert) (capped_brightness s.channels s.limit x a (least_cap s.channels s.limit s.white range.most range.limit) capped)
+
+-- three numbers that were cut
+pub capped_sum : (x y z r g b : ℕ) → IsCapped x r → IsCapped y g → IsCapped z b → IsCappedBrightness Color (x + y + z) (r, g, b)
+capped_sum x y z r g b is_red is_green is_blue = omega (arith, is_red, is_green, is_blue)
+
+-- a number that was read is cut
+pub read_within : {part : List ℕ → Cut ℕ} {old new : Held} {files now : Option Files} {x : ℕ} → Reads IsCapped part old files (Ok x) new now → x ≤ cap
+read_within r = let (e, a, is, takes, settled) = r.gives in omega (arith, is)

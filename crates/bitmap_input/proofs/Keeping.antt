@@ -1,5 +1,5 @@
 -- What a part leaves is the end of what it was given.
-use Rattle.std.proofs.Common.{◌≡◌, refl, ℕ, zero, suc, Bool, true, false, cond, ◌||◌, List, [], ◌∷◌, ◌++◌, length, take, drop, ap, sym, ◌∙◌, append_assoc, Option, Some, None}
+use Rattle.std.proofs.Common.{◌≡◌, refl, ℕ, ◌*◌, zero, suc, Bool, true, false, cond, ◌||◌, List, [], ◌∷◌, ◌++◌, length, take, drop, ap, sym, ◌∙◌, append_assoc, Option, Some, None}
 use Rattle.std.specs.Prelude.{nat_eq, nat_lt}
 use Rattle.std.proofs.lemmas.List.{take-append-drop}
 use Rattle.bitmap_input.specs.Cut.{Kind, Ending, Cut, ◌>>=◌}
@@ -7,8 +7,11 @@ use Rattle.bitmap_input.specs.Cut.Kind.{BadHeader, BadRaster, Truncated, TooLong
 use Rattle.bitmap_input.specs.Cut.Ending.{End, Trailing, Refused}
 use Rattle.bitmap_input.specs.Cut.Cut.{Takes, Stops}
 use Rattle.bitmap_input.specs.Parts.{longest, is_zero, is_empty, is_space, is_digit, run_length, gap_length, missing, run_of, gap, some_gap, value, number, number_behind_gap, space, pixel, block, times}
-use Rattle.bitmap_input.specs.Raw.{row_bytes, unpacked, samples}
-use Rattle.bitmap_input.specs.Front.{Magic, no_magic, magic_of_name, magic_named, magic_behind, magic, checked, sides, checked_maxval, maxval, greatest_maxval, plain_pixel, raw_row, is_wide, gray_row_bytes, raw_gray_row, front}
+use Rattle.bitmap_input.specs.Raw.{row_bytes, unpacked}
+use Rattle.bitmap_input.specs.Front.{Magic, no_magic, magic_of_name, magic_named, magic_behind, magic, checked, sides, checked_maxval, maxval, greatest_maxval, plain_pixel, raw_row, front}
+use Rattle.bitmap_input.specs.Samples.{samples_in, plain_sample, plain_samples, is_wide, sample_bytes, samples, grouped, raw_samples_row}
+use Rattle.bitmap_input.specs.declared.channels.Channels.{Channels}
+use Rattle.bitmap_input.specs.declared.channels.Channels.TheVariants.{Gray, Color}
 use Rattle.bitmap_input.proofs.Showing.{after_takes}
 use Rattle.pt_base.specs.declared.limits.TheConstants.{LONGEST_SIDE}
 
@@ -145,7 +148,15 @@ keeps_raw_row width bytes =
     keeps_bind bytes (block (row_bytes width) bytes) (λ row rest. Takes false (take width (unpacked row)) rest) (keeps_block (row_bytes width) bytes)
     (λ row rest. keeps_take rest false (take width (unpacked row)) rest (all_rest rest))
 
-pub keeps_raw_gray_row : (white width : ℕ) (bytes : List ℕ) → Keeps bytes (raw_gray_row white width bytes)
-keeps_raw_gray_row white width bytes =
-    keeps_bind bytes (block (gray_row_bytes white width) bytes) (λ row rest. Takes false (samples (is_wide white) row) rest) (keeps_block (gray_row_bytes white width) bytes)
-    (λ row rest. keeps_take rest false (samples (is_wide white) row) rest (all_rest rest))
+pub keeps_plain_samples : (c : Channels) (bytes : List ℕ) → Keeps bytes (plain_samples c bytes)
+keeps_plain_samples Gray bytes = keeps_number_behind_gap BadRaster bytes
+keeps_plain_samples Color bytes =
+    keeps_bind bytes (plain_sample bytes) (λ r rest. plain_sample rest >>= λ g rest. plain_sample rest >>= λ b rest. Takes false (r, g, b) rest) (keeps_number_behind_gap BadRaster bytes)
+    (λ r rest. keeps_bind rest (plain_sample rest) (λ g rest. plain_sample rest >>= λ b rest. Takes false (r, g, b) rest) (keeps_number_behind_gap BadRaster rest)
+    (λ g rest. keeps_bind rest (plain_sample rest) (λ b rest. Takes false (r, g, b) rest) (keeps_number_behind_gap BadRaster rest)
+    (λ b rest. keeps_take rest false (r, g, b) rest (all_rest rest))))
+
+pub keeps_raw_samples_row : (c : Channels) (white width : ℕ) (bytes : List ℕ) → Keeps bytes (raw_samples_row c white width bytes)
+keeps_raw_samples_row c white width bytes =
+    keeps_bind bytes (block (sample_bytes white (samples_in c * width)) bytes) (λ row rest. Takes false (grouped c (samples (is_wide white) row)) rest) (keeps_block (sample_bytes white (samples_in c * width)) bytes)
+    (λ row rest. keeps_take rest false (grouped c (samples (is_wide white) row)) rest (all_rest rest))

@@ -1,6 +1,7 @@
 mod Examples
 mod BmpExamples
 mod GrayExamples
+mod ColorExamples
 pub mod Bytes
 pub mod Appending
 pub mod BmpStays

@@ -1,5 +1,5 @@
 -- What a page takes are bytes of its parts, one behind another.
-use Rattle.std.proofs.Common.{◌≡◌, refl, ℕ, zero, suc, ◌-◌, ◌≤◌, inl, inr, Bool, true, false, cond, ◌||◌, List, [], ◌∷◌, ◌++◌, length, take, drop, map, arith, ap, sym, ◌∙◌, subst, append_assoc, append-nil, Some, None, Option}
+use Rattle.std.proofs.Common.{◌≡◌, refl, ℕ, zero, suc, ◌-◌, ◌*◌, ◌≤◌, inl, inr, Bool, true, false, cond, ◌||◌, List, [], ◌∷◌, ◌++◌, length, take, drop, map, arith, ap, sym, ◌∙◌, subst, append_assoc, append-nil, Some, None, Option}
 use Rattle.std.specs.Prelude.{nat_eq, nat_lt, nat_le}
 use Rattle.std.specs.List.{range_with_len}
 use Rattle.std.proofs.lemmas.List.{length-append, length-take-le, take-append-drop}
@@ -12,16 +12,19 @@ use Rattle.bitmap_input.specs.Cut.Cut.{Takes, Stops}
 use Rattle.bitmap_input.specs.Parts.{longest, is_zero, is_empty, is_space, is_digit, run_length, gap_length, missing, run_of, spaces, gap, some_gap, value, number, number_behind_gap, space, pixel, block, times}
 use Rattle.bitmap_input.specs.Sets.{IsRun, IsGap}
 use Rattle.bitmap_input.specs.Sides.{checked}
-use Rattle.bitmap_input.specs.Raw.{Raw, Entry, entries_page, row_bytes, unpacked, samples}
-use Rattle.bitmap_input.specs.Raw.Entry.{Bit, Sample}
+use Rattle.bitmap_input.specs.Raw.{Raw, Entry, entries_page, row_bytes, unpacked}
+use Rattle.bitmap_input.specs.Raw.Entry.{Bit}
 use Rattle.bitmap_input.specs.BmpHeader.{header_size, is_known_size, is_known_kind, mask_bytes, has_known_colors, width, height, pixel_offset, palette_bytes, palette_end, palette_length, color_bytes, row_length, bits}
 use Rattle.bitmap_input.specs.BmpRaster as bmp_raster
 use Rattle.bitmap_input.specs.BmpRaster.{palette_color, pixel_in}
 use Rattle.bitmap_input.specs.Bmp.{passes, start, info, masks, placed, header}
-use Rattle.bitmap_input.specs.Front.{Magic, no_magic, magic_of_name, magic_named, magic_behind, magic, sides, greatest_maxval, checked_maxval, maxval, plain_pixel, plain_sample, raw_row, is_wide, gray_row_bytes, raw_gray_row, raster, body, page_at, answer_of, front}
+use Rattle.bitmap_input.specs.Front.{Magic, no_magic, magic_of_name, magic_named, magic_behind, magic, sides, greatest_maxval, checked_maxval, maxval, plain_pixel, raw_row, raster, body, page_at, answer_of, front}
+use Rattle.bitmap_input.specs.Samples.{samples_in, as_entry, plain_sample, plain_samples, is_wide, sample_bytes, samples, grouped, raw_samples_row}
+use Rattle.bitmap_input.specs.declared.channels.Channels.{Channels}
+use Rattle.bitmap_input.specs.declared.channels.Channels.TheVariants.{Gray, Color}
 use Rattle.bitmap_input.specs.Front.Answer.{Page}
-use Rattle.bitmap_input.specs.Front.Magic.{PlainBits, RawBits, PlainGray, RawGray, Picture}
-use Rattle.bitmap_input.specs.PageText.{IsJoined, IsRepeated, IsBlock, IsSpace, IsSomeGap, IsNumber, IsNumberBehindGap, AreSides, IsPixel, IsPlainPixel, IsPlainSample, IsMagic, IsBody, IsPageText}
+use Rattle.bitmap_input.specs.Front.Magic.{PlainBits, RawBits, PlainSamples, RawSamples, Picture}
+use Rattle.bitmap_input.specs.PageText.{IsJoined, IsRepeated, IsBlock, IsSpace, IsSomeGap, IsNumber, IsNumberBehindGap, AreSides, IsPixel, IsPlainPixel, IsPlainSample, ArePlainSamples, IsMagic, IsBody, IsPageText}
 use Rattle.bitmap_input.proofs.Showing.{after_takes}
 use Rattle.bitmap_input.proofs.Bytes.{run_length-le, gap_length-le}
 use Rattle.bitmap_input.proofs.Longest.{run_is_run, gap_is_gap}
@@ -228,6 +231,23 @@ spells_block_row n f bytes = spells_made (Itself (IsBlock n)) (λ _. IsBlock n) 
 spells_plain_sample : (bytes : List ℕ) → Spells (λ _. IsPlainSample) bytes (plain_sample bytes)
 spells_plain_sample bytes e v rest h = let s = spells_number_behind_gap BadRaster bytes e v rest h in (s.0, s.1, (v, s.2))
 
+-- a sample, and what stands behind it
+spells_first : {A : Type 0} (n : ℕ) (bytes : List ℕ) (g : ℕ → List ℕ → Cut A) → ((v : ℕ) (rest : List ℕ) → Spells (λ _. IsRepeated IsPlainSample n) rest (g v rest)) →
+    Spells (λ _. IsRepeated IsPlainSample (suc n)) bytes (plain_sample bytes >>= g)
+spells_first n bytes g parts =
+    spells_bind (λ _. IsPlainSample) (λ _ _. IsRepeated IsPlainSample n) (λ _. IsRepeated IsPlainSample (suc n)) bytes (plain_sample bytes) g (spells_plain_sample bytes) parts
+    (λ v a one two is rest. joined IsPlainSample (IsRepeated IsPlainSample n) one two is rest)
+
+spells_plain_samples : (c : Channels) (bytes : List ℕ) → Spells (λ _. ArePlainSamples c) bytes (plain_samples c bytes)
+spells_plain_samples Gray bytes = λ e v rest h.
+    let s = spells_plain_sample bytes e v rest h in
+    (s.0, s.1, record { first = s.0; second = []; split = sym (append-nil s.0); is_first = s.2; is_second = refl })
+spells_plain_samples Color bytes =
+    spells_first 2 bytes (λ r rest. plain_sample rest >>= λ g rest. plain_sample rest >>= λ b rest. Takes false (r, g, b) rest)
+    (λ r rest. spells_first 1 rest (λ g rest. plain_sample rest >>= λ b rest. Takes false (r, g, b) rest)
+    (λ g rest. spells_first 0 rest (λ b rest. Takes false (r, g, b) rest)
+    (λ b rest. spells_take (λ _ taken. taken ≡ []) rest false (r, g, b) rest [] refl refl)))
+
 -- What follows a magic.
 
 abbrev Rows : (ℕ → List ℕ → Type 0) → Raw → List ℕ → Type 0
@@ -356,18 +376,18 @@ spells_body RawBits bytes =
     spells_sided (λ raw. IsJoined IsSpace (Rows (λ w. IsBlock (row_bytes w)) raw)) bytes (λ s rest. space rest >>= λ _ rest. raster (λ b. Bit b) (raw_row s.0) s.0 s.1 rest)
     (λ s rest. spells_behind IsSpace (Rows (λ w. IsBlock (row_bytes w))) s rest (space rest) (λ _ rest. raster (λ b. Bit b) (raw_row s.0) s.0 s.1 rest) (spells_space rest)
     (λ _ rest. spells_rows (λ w. IsBlock (row_bytes w)) (λ b. Bit b) raw_row (λ w bytes. spells_block_row (row_bytes w) (λ row. take w (unpacked row)) bytes) s rest))
-spells_body PlainGray bytes = λ e raw rest h.
-    let s = spells_sided (WithWhite (λ white. Rows (λ w. IsRepeated IsPlainSample w))) bytes (λ s rest. maxval rest >>= λ white rest. raster (λ v. Sample v white) (times plain_sample s.0) s.0 s.1 rest)
-    (λ s rest. spells_white (λ white. Rows (λ w. IsRepeated IsPlainSample w)) s rest (λ white rest. raster (λ v. Sample v white) (times plain_sample s.0) s.0 s.1 rest)
-    (λ white rest. spells_rows (λ w. IsRepeated IsPlainSample w) (λ v. Sample v white) (λ w. times plain_sample w) (λ w. spells_times IsPlainSample plain_sample spells_plain_sample w) s rest)) e raw rest h in
-    (s.0, s.1, white_first (λ white. Rows (λ w. IsRepeated IsPlainSample w)) raw s.0 s.2)
-spells_body RawGray bytes = λ e raw rest h.
-    let s = spells_sided (WithWhite (λ white raw. IsJoined IsSpace (Rows (λ w. IsBlock (gray_row_bytes white w)) raw))) bytes
-    (λ s rest. maxval rest >>= λ white rest. space rest >>= λ _ rest. raster (λ v. Sample v white) (raw_gray_row white s.0) s.0 s.1 rest)
-    (λ s rest. spells_white (λ white raw. IsJoined IsSpace (Rows (λ w. IsBlock (gray_row_bytes white w)) raw)) s rest (λ white rest. space rest >>= λ _ rest. raster (λ v. Sample v white) (raw_gray_row white s.0) s.0 s.1 rest)
-    (λ white rest. spells_behind IsSpace (Rows (λ w. IsBlock (gray_row_bytes white w))) s rest (space rest) (λ _ rest. raster (λ v. Sample v white) (raw_gray_row white s.0) s.0 s.1 rest) (spells_space rest)
-    (λ _ rest. spells_rows (λ w. IsBlock (gray_row_bytes white w)) (λ v. Sample v white) (raw_gray_row white) (λ w bytes. spells_block_row (gray_row_bytes white w) (samples (is_wide white)) bytes) s rest))) e raw rest h in
-    (s.0, s.1, white_first (λ white raw. IsJoined IsSpace (Rows (λ w. IsBlock (gray_row_bytes white w)) raw)) raw s.0 s.2)
+spells_body (PlainSamples c) bytes = λ e raw rest h.
+    let s = spells_sided (WithWhite (λ white. Rows (λ w. IsRepeated (ArePlainSamples c) w))) bytes (λ s rest. maxval rest >>= λ white rest. raster (as_entry c white) (times (plain_samples c) s.0) s.0 s.1 rest)
+    (λ s rest. spells_white (λ white. Rows (λ w. IsRepeated (ArePlainSamples c) w)) s rest (λ white rest. raster (as_entry c white) (times (plain_samples c) s.0) s.0 s.1 rest)
+    (λ white rest. spells_rows (λ w. IsRepeated (ArePlainSamples c) w) (as_entry c white) (λ w. times (plain_samples c) w) (λ w. spells_times (ArePlainSamples c) (plain_samples c) (spells_plain_samples c) w) s rest)) e raw rest h in
+    (s.0, s.1, white_first (λ white. Rows (λ w. IsRepeated (ArePlainSamples c) w)) raw s.0 s.2)
+spells_body (RawSamples c) bytes = λ e raw rest h.
+    let s = spells_sided (WithWhite (λ white raw. IsJoined IsSpace (Rows (λ w. IsBlock (sample_bytes white (samples_in c * w))) raw))) bytes
+    (λ s rest. maxval rest >>= λ white rest. space rest >>= λ _ rest. raster (as_entry c white) (raw_samples_row c white s.0) s.0 s.1 rest)
+    (λ s rest. spells_white (λ white raw. IsJoined IsSpace (Rows (λ w. IsBlock (sample_bytes white (samples_in c * w))) raw)) s rest (λ white rest. space rest >>= λ _ rest. raster (as_entry c white) (raw_samples_row c white s.0) s.0 s.1 rest)
+    (λ white rest. spells_behind IsSpace (Rows (λ w. IsBlock (sample_bytes white (samples_in c * w)))) s rest (space rest) (λ _ rest. raster (as_entry c white) (raw_samples_row c white s.0) s.0 s.1 rest) (spells_space rest)
+    (λ _ rest. spells_rows (λ w. IsBlock (sample_bytes white (samples_in c * w))) (as_entry c white) (raw_samples_row c white) (λ w bytes. spells_block_row (sample_bytes white (samples_in c * w)) (λ row. grouped c (samples (is_wide white) row)) bytes) s rest))) e raw rest h in
+    (s.0, s.1, white_first (λ white raw. IsJoined IsSpace (Rows (λ w. IsBlock (sample_bytes white (samples_in c * w))) raw)) raw s.0 s.2)
 spells_body Picture bytes =
     spells_bind (λ head taken. taken ≡ head) IsPicture (IsBody Picture) bytes (header bytes) bmp_raster.raster (spells_header bytes) spells_picture
     (λ head raw one two is rest. (head, rest.0, rest.1, joined (λ first. first ≡ head) _ one two is rest.2))

@@ -1,22 +1,26 @@
 -- The first page of a list of bytes, or what stands there in place of one (Netpbm's format pages
--- "pbm" and "pgm"): the parts of a page one after another, as far as each is there and passes its checks.
-use Rattle.std.specs.Prelude.{ℕ, ◌-◌, ◌*◌, Bool, true, false, ◌&&◌, ◌||◌, List, [], ◌∷◌, length, take, if◌then◌else◌, nat_eq, nat_lt, Option, Some, None}
+-- "pbm", "pgm" and "ppm"): the parts of a page one after another, as far as each is there and passes its checks.
+use Rattle.std.specs.Prelude.{ℕ, ◌-◌, Bool, true, false, ◌&&◌, ◌||◌, List, [], ◌∷◌, length, take, if◌then◌else◌, nat_eq, nat_lt, Option, Some, None}
 use Rattle.bitmap_input.specs.Cut.{Ending, Cut, ◌>>=◌}
-use Rattle.bitmap_input.specs.Cut.Kind.{UnknownFormat, BadHeader, BadRaster}
+use Rattle.bitmap_input.specs.Cut.Kind.{UnknownFormat, BadHeader}
 use Rattle.bitmap_input.specs.Cut.Ending.{End, Trailing, Refused}
 use Rattle.bitmap_input.specs.Cut.Cut.{Takes, Stops}
 use Rattle.bitmap_input.specs.Parts.{is_zero, spaces, gap, number_behind_gap, space, pixel, block, times}
 pub use Rattle.bitmap_input.specs.Sides.{checked}
 use Rattle.bitmap_input.specs.Bmp.{bmp}
-use Rattle.bitmap_input.specs.Raw.{Raw, Entry, entries_page, row_bytes, unpacked, samples}
-use Rattle.bitmap_input.specs.Raw.Entry.{Bit, Sample}
+use Rattle.bitmap_input.specs.Raw.{Raw, Entry, entries_page, row_bytes, unpacked}
+use Rattle.bitmap_input.specs.Raw.Entry.{Bit}
+use Rattle.bitmap_input.specs.Samples.{as_entry, plain_samples, raw_samples_row}
+use Rattle.bitmap_input.specs.declared.channels.Channels.{Channels}
+use Rattle.bitmap_input.specs.declared.channels.Channels.TheVariants.{Gray, Color}
 
--- the known formats: plain and raw PBM, plain and raw PGM, and BMP
+-- the known formats: plain and raw PBM, plain and raw PGM and PPM, which differ in the samples of a
+-- pixel, and BMP
 pub data Magic : Type 0 where
   PlainBits : Magic
   RawBits : Magic
-  PlainGray : Magic
-  RawGray : Magic
+  PlainSamples : Channels → Magic
+  RawSamples : Channels → Magic
   Picture : Magic
 
 -- no known magic stands there: a first page is of an unknown format, and after a page the file ends
@@ -24,14 +28,16 @@ abbrev pub no_magic : Bool → Bool → Cut Magic
 no_magic e true = Stops e Trailing
 no_magic e false = Stops e (Refused UnknownFormat)
 
--- the format that two bytes name: `P` and then `1`, `2`, `4` or `5`, or `BM`
+-- the format that two bytes name: `P` and then `1` to `6`, or `BM`
 abbrev pub magic_named : ℕ → ℕ → Option Magic
 magic_named a b =
     if nat_eq a 80 then
     (if nat_eq b 49 then Some PlainBits
-    else (if nat_eq b 50 then Some PlainGray
+    else (if nat_eq b 50 then Some (PlainSamples Gray)
+    else (if nat_eq b 51 then Some (PlainSamples Color)
     else (if nat_eq b 52 then Some RawBits
-    else (if nat_eq b 53 then Some RawGray else None))))
+    else (if nat_eq b 53 then Some (RawSamples Gray)
+    else (if nat_eq b 54 then Some (RawSamples Color) else None))))))
     else (if nat_eq a 66 && nat_eq b 77 then Some Picture else None)
 
 -- a magic where its two bytes name a format
@@ -76,23 +82,6 @@ plain_pixel bytes = gap bytes >>= λ _ rest. pixel rest
 abbrev pub raw_row : ℕ → List ℕ → Cut (List Bool)
 raw_row width bytes = block (row_bytes width) bytes >>= λ row rest. Takes false (take width (unpacked row)) rest
 
--- a gray sample as a number, with a gap before it
-abbrev pub plain_sample : List ℕ → Cut ℕ
-plain_sample bytes = number_behind_gap BadRaster bytes
-
--- whether samples are wide: of two bytes each, where one byte has no room for the sample for white
-abbrev pub is_wide : ℕ → Bool
-is_wide white = nat_lt 255 white
-
--- the bytes of a row of samples
-abbrev pub gray_row_bytes : ℕ → ℕ → ℕ
-gray_row_bytes white width = if is_wide white then 2 * width else width
-
--- the samples of a row, where `white` is the sample for white; one above it is read as it stands
-abbrev pub raw_gray_row : ℕ → ℕ → List ℕ → Cut (List ℕ)
-raw_gray_row white width bytes =
-    block (gray_row_bytes white width) bytes >>= λ row rest. Takes false (samples (is_wide white) row) rest
-
 -- so many rows of values that each stand for an entry, as a page of these sides
 abbrev pub raster : {A : Type 0} → (A → Entry) → (List ℕ → Cut (List A)) → ℕ → ℕ → List ℕ → Cut Raw
 raster entry row width height bytes =
@@ -103,12 +92,12 @@ abbrev pub body : Magic → List ℕ → Cut Raw
 body PlainBits bytes = sides bytes >>= λ s rest. raster (λ b. Bit b) (times plain_pixel s.0) s.0 s.1 rest
 body RawBits bytes =
     sides bytes >>= λ s rest. space rest >>= λ _ rest. raster (λ b. Bit b) (raw_row s.0) s.0 s.1 rest
-body PlainGray bytes =
+body (PlainSamples c) bytes =
     sides bytes >>= λ s rest. maxval rest >>= λ white rest.
-    raster (λ v. Sample v white) (times plain_sample s.0) s.0 s.1 rest
-body RawGray bytes =
+    raster (as_entry c white) (times (plain_samples c) s.0) s.0 s.1 rest
+body (RawSamples c) bytes =
     sides bytes >>= λ s rest. maxval rest >>= λ white rest. space rest >>= λ _ rest.
-    raster (λ v. Sample v white) (raw_gray_row white s.0) s.0 s.1 rest
+    raster (as_entry c white) (raw_samples_row c white s.0) s.0 s.1 rest
 body Picture bytes = bmp bytes
 
 -- the page that stands at the front of the bytes, with whitespace before its magic or not

@@ -3,7 +3,7 @@ use Rattle.std.specs.Prelude.{◌≡◌, ℕ, false, List, Result, Ok, Err}
 use Rattle.bitmap_input.specs.Cut.Cut.{Takes, Stops}
 use Rattle.bitmap_input.specs.Cut.{Ending}
 use Rattle.bitmap_input.specs.Front.{Magic, checked, checked_maxval}
-use Rattle.bitmap_input.specs.Front.Magic.{PlainBits, RawBits, PlainGray, RawGray, Picture}
+use Rattle.bitmap_input.specs.Front.Magic.{PlainBits, RawBits, PlainSamples, RawSamples, Picture}
 use Rattle.bitmap_input.specs.Run.{IsCapped}
 use Rattle.bitmap_input.specs.Reading.{cause_of}
 use Rattle.bitmap_input.specs.Reading.Cause.{Says}
@@ -16,8 +16,8 @@ use Rattle.bitmap_input.specs.declared.header.Sides.{Sides}
 abbrev pub magic_of : Format → Magic
 magic_of format.PlainBits = PlainBits
 magic_of format.RawBits = RawBits
-magic_of format.PlainGray = PlainGray
-magic_of format.RawGray = RawGray
+magic_of (format.PlainSamples c) = PlainSamples c
+magic_of (format.RawSamples c) = RawSamples c
 magic_of format.Picture = Picture
 
 -- the magic names this format

@@ -6,7 +6,7 @@
 --   after: a cut that came after another one, which was or wasn't by the end itself
 --   ◌>>=◌: one part, and then another that begins where the first one ended
 pub mod Cut
--- The parts of a PBM or PGM page (Netpbm's format pages "pbm" and "pgm").
+-- The parts of a PBM, PGM or PPM page (Netpbm's format pages "pbm", "pgm" and "ppm").
 --   longest: the greatest length of a gap, and of a run of digits
 --   is_space: tab, line feed, vertical tab, form feed, carriage return and blank
 --   ends_line: a line feed or a carriage return, where a comment ends
@@ -42,7 +42,6 @@ pub mod Sets
 --   bit_worth: the bit of a byte that is worth so much
 --   bits_of: the eight pixels of a byte, the most significant bit first
 --   unpacked: the pixels of a row of bytes
---   samples: the samples of a row of bytes
 --   is_dark: whether an entry is a black pixel at a level, in millionths, before any inversion
 --   black: whether an entry is a black pixel at a level, in millionths
 --   picture_of: the image of a raw page
@@ -105,6 +104,18 @@ pub mod BmpRaster
 --   header: the header with its masks
 --   bmp: the picture
 pub mod Bmp
+-- The samples of gray pages and of pages of colours.
+--   samples_in: how many samples a pixel has
+--   PixelSamples: the samples of a pixel
+--   as_entry: the same as an entry, beside the sample for white
+--   plain_sample: a sample as a number, with a gap before it
+--   plain_samples: the samples of a pixel as numbers, each with a gap before it
+--   is_wide: whether samples are wide
+--   sample_bytes: the bytes of so many samples
+--   samples: the samples of a row of bytes
+--   grouped: samples as pixels
+--   raw_samples_row: the pixels of a row, where `white` is the sample for white
+pub mod Samples
 -- The first page of a list of bytes.
 --   use
 --   Magic: the known formats
@@ -119,10 +130,6 @@ pub mod Bmp
 --   maxval: the sample for white
 --   plain_pixel: a pixel's character, with whitespace and comments before it or not
 --   raw_row: the pixels of a row of whole bytes
---   plain_sample: a gray sample as a number, with a gap before it
---   is_wide: whether samples are wide
---   gray_row_bytes: the bytes of a row of samples
---   raw_gray_row: the samples of a row, where `white` is the sample for white
 --   raster: so many rows of values that each stand for an entry, as a page of these sides
 --   body: what follows the magic, to the end of the page
 --   page_at: the page that stands at the front of the bytes, with whitespace before its magic or not
@@ -141,7 +148,8 @@ pub mod Front
 --   AreSides: the width and the height
 --   IsPixel: a plain pixel's character
 --   IsPlainPixel: the same with whitespace and comments before it or not
---   IsPlainSample: a plain gray sample
+--   IsPlainSample: a sample as a number
+--   ArePlainSamples: the samples of a pixel as numbers
 --   IsMagic: the two bytes of a magic
 --   IsBody: what follows the magic
 --   IsPageText: a page
@@ -216,9 +224,15 @@ pub mod Header
 --   pixels_by: the rows
 --   raster_by: all of it
 pub mod BmpHead
--- How the samples of a gray page become pixels, in the program.
---   black_of: whether a sample is a black pixel
---   IsInRange: the sample for white is at most 65535, and no brighter sample is black
+-- How the samples of a pixel become a black pixel or a white one, in the program.
+--   brightness: the brightness of a pixel
+--   brightness_at: the same of a row of samples, of the pixel in column x
+--   IsCappedBrightness: the number is the brightness of a pixel, with each sample cut where it is larger than
+--     any that can be black
+--   is_black_at: whether a pixel of this brightness is black
+--   black_of: whether a pixel of these samples is black
+--   black_in: whether the pixel in column x of a row of bytes is black
+--   IsInRange: the sample for white is at most 65535, and no pixel that is brighter than white is black
 pub mod Shading
 -- Putting the rows of a raster into a page.
 --   with_pixels: the image with these pixels in row y, from column x on, one after another

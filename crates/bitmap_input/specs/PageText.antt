@@ -1,12 +1,14 @@
 -- The bytes of a page as a set of byte lists: the sets of its parts, joined one behind another (Netpbm's
--- format pages "pbm" and "pgm"; Microsoft's "Bitmap Storage").
-use Rattle.std.specs.Prelude.{◌≡◌, ℕ, zero, suc, ◌-◌, ◌≤◌, true, ◌⊎◌, List, [], ◌∷◌, ◌++◌, length, Some}
+-- format pages "pbm", "pgm" and "ppm"; Microsoft's "Bitmap Storage").
+use Rattle.std.specs.Prelude.{◌≡◌, ℕ, zero, suc, ◌-◌, ◌*◌, ◌≤◌, true, ◌⊎◌, List, [], ◌∷◌, ◌++◌, length, Some}
 use Rattle.bitmap_input.specs.Parts.{is_space, is_digit, value}
 use Rattle.bitmap_input.specs.Sets.{IsRun, IsGap}
 use Rattle.bitmap_input.specs.Raw.{Raw, row_bytes}
 use Rattle.bitmap_input.specs.BmpHeader.{width, height, palette_bytes, pixel_offset, palette_end, row_length}
-use Rattle.bitmap_input.specs.Front.{Magic, magic_named, gray_row_bytes}
-use Rattle.bitmap_input.specs.Front.Magic.{PlainBits, RawBits, PlainGray, RawGray, Picture}
+use Rattle.bitmap_input.specs.Front.{Magic, magic_named}
+use Rattle.bitmap_input.specs.Samples.{samples_in, sample_bytes}
+use Rattle.bitmap_input.specs.declared.channels.Channels.{Channels}
+use Rattle.bitmap_input.specs.Front.Magic.{PlainBits, RawBits, PlainSamples, RawSamples, Picture}
 
 -- bytes of one set, and behind them bytes of another
 pub record IsJoined (P Q : List ℕ → Type 0) (bytes : List ℕ) : Type 0 where
@@ -53,9 +55,13 @@ IsPixel bytes = (bytes ≡ 48 ∷ []) ⊎ (bytes ≡ 49 ∷ [])
 abbrev pub IsPlainPixel : List ℕ → Type 0
 IsPlainPixel bytes = IsJoined IsGap IsPixel bytes
 
--- a plain gray sample
+-- a sample as a number
 abbrev pub IsPlainSample : List ℕ → Type 0
 IsPlainSample bytes = (v : ℕ) × IsNumberBehindGap v bytes
+
+-- the samples of a pixel as numbers
+abbrev pub ArePlainSamples : Channels → List ℕ → Type 0
+ArePlainSamples c bytes = IsRepeated IsPlainSample (samples_in c) bytes
 
 -- the two bytes of a magic
 abbrev pub IsMagic : Magic → List ℕ → Type 0
@@ -67,11 +73,11 @@ IsBody PlainBits raw bytes =
     IsJoined (AreSides raw.width raw.height) (IsRepeated (IsRepeated IsPlainPixel raw.width) raw.height) bytes
 IsBody RawBits raw bytes =
     IsJoined (AreSides raw.width raw.height) (IsJoined IsSpace (IsRepeated (IsBlock (row_bytes raw.width)) raw.height)) bytes
-IsBody PlainGray raw bytes = (white : ℕ)
-    × IsJoined (AreSides raw.width raw.height) (IsJoined (IsNumberBehindGap white) (IsRepeated (IsRepeated IsPlainSample raw.width) raw.height)) bytes
-IsBody RawGray raw bytes = (white : ℕ)
+IsBody (PlainSamples c) raw bytes = (white : ℕ)
+    × IsJoined (AreSides raw.width raw.height) (IsJoined (IsNumberBehindGap white) (IsRepeated (IsRepeated (ArePlainSamples c) raw.width) raw.height)) bytes
+IsBody (RawSamples c) raw bytes = (white : ℕ)
     × IsJoined (AreSides raw.width raw.height) (IsJoined (IsNumberBehindGap white) (IsJoined IsSpace
-    (IsRepeated (IsBlock (gray_row_bytes white raw.width)) raw.height))) bytes
+    (IsRepeated (IsBlock (sample_bytes white (samples_in c * raw.width))) raw.height))) bytes
 IsBody Picture raw bytes = (head : List ℕ) × (raw.width ≡ width head) × (raw.height ≡ height head)
     × IsJoined (λ first. first ≡ head) (IsJoined (IsBlock (palette_bytes head)) (IsJoined (IsBlock (pixel_offset head - palette_end head))
     (IsRepeated (IsBlock (row_length head)) raw.height))) bytes

@@ -1,4 +1,4 @@
--- The parts of a PBM or PGM page (Netpbm's format pages "pbm" and "pgm"): whitespace, gaps with comments, decimal
+-- The parts of a PBM, PGM or PPM page (Netpbm's format pages "pbm", "pgm" and "ppm"): whitespace, gaps with comments, decimal
 -- numbers, the characters of a plain raster, and blocks of a stated length.
 use Rattle.std.specs.Prelude.{ℕ, zero, suc, ◌+◌, ◌-◌, ◌*◌, Bool, true, false, not, ◌&&◌, ◌||◌, List, [], ◌∷◌, length, take, drop, if◌then◌else◌, nat_eq, nat_lt, nat_le}
 use Rattle.bitmap_input.specs.Cut.{Kind, Cut}

@@ -1,15 +1,17 @@
--- Raw pages, as a file holds them: rows from the top, each of entries (Netpbm's format pages "pbm" and
--- "pgm"), and the page of black and white pixels that one shows at a level.
-use Rattle.std.specs.Prelude.{◌≡◌, ℕ, suc, ◌+◌, ◌-◌, ◌*◌, ◌/◌, ◌%◌, Bool, true, false, List, [], ◌∷◌, ◌++◌, map, slice_index_or, if◌then◌else◌, nat_eq, nat_lt}
+-- Raw pages, as a file holds them: rows from the top, each of entries (Netpbm's format pages "pbm", "pgm"
+-- and "ppm"), and the page of black and white pixels that one shows at a level.
+use Rattle.std.specs.Prelude.{◌≡◌, ℕ, suc, ◌+◌, ◌-◌, ◌/◌, ◌%◌, Bool, false, List, [], ◌∷◌, ◌++◌, map, slice_index_or, if◌then◌else◌, nat_eq, nat_lt}
 use Rattle.bit_image.specs.Image.{Image, differ}
 use Rattle.threshold_map.specs.Levels.{is_gray_black, is_color_black}
 use Rattle.bit_image.specs.Page.{Page, page_of}
 
 -- what the raster holds for one pixel: a bit, which is 1 where the pixel is black; a gray sample, with
--- the sample that is white; or the red, green and blue of a colour, each from 0 to 255
+-- the sample that is white; three samples, of red, green and blue, with the same; or the red, green and
+-- blue of a colour, each from 0 to 255
 pub data Entry : Type 0 where
   Bit : Bool → Entry
   Sample : ℕ → ℕ → Entry
+  Triple : ℕ → ℕ → ℕ → ℕ → Entry
   Color : ℕ → ℕ → ℕ → Entry
 
 -- a page as the file holds it, with its rows from the top, and the least number of bytes that it
@@ -44,20 +46,13 @@ abbrev pub unpacked : List ℕ → List Bool
 unpacked [] = []
 unpacked (b ∷ bs) = bits_of b ++ unpacked bs
 
--- the samples of a row of bytes: of a byte each, or where they are wide of two, the most significant
--- byte first (one byte alone at the end is no sample)
-abbrev pub samples : Bool → List ℕ → List ℕ
-samples false bytes = bytes
-samples true [] = []
-samples true (a ∷ []) = []
-samples true (a ∷ b ∷ bs) = (256 * a + b) ∷ samples true bs
-
 -- whether an entry is a black pixel at a level, in millionths, before any inversion: a bit is black
 -- whatever the level
 abbrev pub is_dark : ℕ → Entry → Bool
 is_dark level (Bit b) = b
 is_dark level (Sample v maxval) = is_gray_black level v maxval
-is_dark level (Color r g b) = is_color_black level r g b
+is_dark level (Triple r g b maxval) = is_color_black level r g b maxval
+is_dark level (Color r g b) = is_color_black level r g b 255
 
 -- whether an entry is a black pixel at a level, in millionths, on a page that is then inverted or not
 abbrev pub black : ℕ → Bool → Entry → Bool

@@ -26,9 +26,9 @@ abbrev pub digits : List ℕ → Cut ℕ
 digits bytes = run_of (run_length is_digit bytes) bytes >>= λ ds rest. Takes false (value 0 ds) rest
 
 -- the number, or this where it is less: a number that is too large for a side, for the sample for white
--- or for a black sample may be cut here
+-- or for a sample of a black pixel may be cut here
 abbrev pub cap : ℕ
-cap = 100000
+cap = 200000
 
 -- the number, cut where it is larger
 abbrev pub IsCapped : ℕ → ℕ → Type 0

@@ -2,17 +2,20 @@
 ghost use Rattle.std.specs.Prelude.{◌≡◌, ℕ, true};
 ghost use Rattle.bitmap_input.specs.Reading.{Reads, Leaves};
 ghost use Rattle.bitmap_input.specs.Front.{body};
-ghost use Rattle.bitmap_input.specs.Front.Magic.{PlainBits as plain_bits, RawBits as raw_bits, PlainGray as plain_gray, RawGray as raw_gray};
+ghost use Rattle.bitmap_input.specs.Front.Magic.{PlainBits as plain_bits, RawBits as raw_bits, PlainSamples as plain_samples, RawSamples as raw_samples};
 ghost use Rattle.bitmap_input.specs.Behind.{IsRead, counted_body};
 ghost use Rattle.bitmap_input.specs.Header.{magic_of};
 ghost use Rattle.bitmap_input.specs.Raw.{IsShown};
 
 use crate::bmp::read_bmp;
+use crate::channels::Channels;
 use crate::extent::{ReadPage, claiming_none, known};
-use crate::gray::{Shading, read_plain_gray_rows, read_raw_gray_rows, row_bytes};
 use crate::header::{Format, read_maxval, read_sides, skip_space};
 use crate::plain::read_plain_rows;
 use crate::raw::read_raw_rows;
+use crate::samples::{
+    Shading, brightest_black, read_plain_sample_rows, read_raw_sample_rows, row_bytes,
+};
 use crate::stop::Stop;
 use crate::window::Window;
 use bit_image::bitmap::Bitmap;
@@ -61,16 +64,17 @@ fn read_raw_body<I: Inputs>(
     Ok(page)
 }
 
-/// A plain gray page, behind its magic.
-fn read_plain_gray_body<I: Inputs>(
+/// A plain page of samples, behind its magic.
+fn read_plain_samples_body<I: Inputs>(
     alloc: Global,
     window: &mut Window,
     inputs: &mut I,
+    channels: Channels,
     level: &Level,
     invert: bool,
 ) -> Result<Bitmap, Stop>
     requires { I.is_opened inputs.old ≡ true }
-    ensures reads { Reads (IsShown level.now invert) (body plain_gray) window.old
+    ensures reads { Reads (IsShown level.now invert) (body (plain_samples channels)) window.old
         (I.files inputs.old) result window.new (I.files inputs.new) }
     ensures leaves { Leaves I.Inputs result inputs.old inputs.new }
 {
@@ -78,25 +82,27 @@ fn read_plain_gray_body<I: Inputs>(
     let white = read_maxval(window, inputs)?;
     let mut page = Bitmap::new(alloc, sides.width, sides.height)?;
     let shading = Shading {
+        channels,
         white,
-        limit: level.gray_limit(white),
+        limit: brightest_black(level, channels, white),
         invert,
     };
-    read_plain_gray_rows(window, inputs, &mut page, &shading)?;
+    read_plain_sample_rows(window, inputs, &mut page, &shading)?;
     known(&page);
     Ok(page)
 }
 
-/// A raw gray page, behind its magic.
-fn read_raw_gray_body<I: Inputs>(
+/// A raw page of samples, behind its magic.
+fn read_raw_samples_body<I: Inputs>(
     alloc: Global,
     window: &mut Window,
     inputs: &mut I,
+    channels: Channels,
     level: &Level,
     invert: bool,
 ) -> Result<Bitmap, Stop>
     requires { I.is_opened inputs.old ≡ true }
-    ensures reads { Reads (IsShown level.now invert) (body raw_gray) window.old
+    ensures reads { Reads (IsShown level.now invert) (body (raw_samples channels)) window.old
         (I.files inputs.old) result window.new (I.files inputs.new) }
     ensures leaves { Leaves I.Inputs result inputs.old inputs.new }
 {
@@ -104,13 +110,14 @@ fn read_raw_gray_body<I: Inputs>(
     let white = read_maxval(window, inputs)?;
     skip_space(window, inputs)?;
     let mut page = Bitmap::new(alloc, sides.width, sides.height)?;
-    let mut row = vec![in alloc; 0u8; row_bytes(sides.width, white)]?;
+    let mut row = vec![in alloc; 0u8; row_bytes(channels, sides.width, white)]?;
     let shading = Shading {
+        channels,
         white,
-        limit: level.gray_limit(white),
+        limit: brightest_black(level, channels, white),
         invert,
     };
-    read_raw_gray_rows(window, inputs, &mut page, &shading, &mut row)?;
+    read_raw_sample_rows(window, inputs, &mut page, &shading, &mut row)?;
     known(&page);
     Ok(page)
 }
@@ -132,10 +139,12 @@ pub(crate) fn read_body<I: Inputs>(
     match format {
         Format::PlainBits => claiming_none(read_plain_body(alloc, window, inputs, invert)),
         Format::RawBits => claiming_none(read_raw_body(alloc, window, inputs, invert)),
-        Format::PlainGray => {
-            claiming_none(read_plain_gray_body(alloc, window, inputs, level, invert))
-        }
-        Format::RawGray => claiming_none(read_raw_gray_body(alloc, window, inputs, level, invert)),
+        Format::PlainSamples(channels) => claiming_none(read_plain_samples_body(
+            alloc, window, inputs, channels, level, invert,
+        )),
+        Format::RawSamples(channels) => claiming_none(read_raw_samples_body(
+            alloc, window, inputs, channels, level, invert,
+        )),
         Format::Picture => read_bmp(alloc, window, inputs, level, invert),
     }
 }

@@ -5,6 +5,7 @@ ghost use Rattle.bitmap_input.specs.Parts.{space};
 ghost use Rattle.bitmap_input.specs.Front.{magic, magic_named, magic_behind, sides, maxval};
 ghost use Rattle.bitmap_input.specs.Header.{magic_of, IsFormat, IsSides, Checks, ChecksMaxval};
 
+use crate::channels::Channels;
 use crate::fault::InFault;
 use crate::number::{Part, read_number_behind_gap};
 use crate::run::is_space;
@@ -23,10 +24,10 @@ pub(crate) enum Format {
     PlainBits,
     /// `P4`, raw PBM.
     RawBits,
-    /// `P2`, plain PGM.
-    PlainGray,
-    /// `P5`, raw PGM.
-    RawGray,
+    /// `P2`, plain PGM, or `P3`, plain PPM.
+    PlainSamples(Channels),
+    /// `P5`, raw PGM, or `P6`, raw PPM.
+    RawSamples(Channels),
     /// `BM`, a BMP picture.
     Picture,
 }
@@ -55,9 +56,11 @@ fn format_named(first: u8, second: u8) -> Option<Format>
 {
     match (first, second) {
         (b'P', b'1') => Some(Format::PlainBits),
-        (b'P', b'2') => Some(Format::PlainGray),
+        (b'P', b'2') => Some(Format::PlainSamples(Channels::Gray)),
+        (b'P', b'3') => Some(Format::PlainSamples(Channels::Color)),
         (b'P', b'4') => Some(Format::RawBits),
-        (b'P', b'5') => Some(Format::RawGray),
+        (b'P', b'5') => Some(Format::RawSamples(Channels::Gray)),
+        (b'P', b'6') => Some(Format::RawSamples(Channels::Color)),
         (b'B', b'M') => Some(Format::Picture),
         _ => None,
     }

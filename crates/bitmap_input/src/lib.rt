@@ -1,8 +1,8 @@
 //! The pages of a file: what each shows, how they end, and where and why a page is refused.
 //!
-//! A file holds pages one behind another, with whitespace before each or not. Plain and raw PBM and
-//! PGM (Netpbm's format pages "pbm" and "pgm") and BMP (Microsoft's "Bitmap Storage") are read; gray
-//! pixels and colours are thresholded at a level. A BMP picture may claim bytes behind its last row;
+//! A file holds pages one behind another, with whitespace before each or not. Plain and raw PBM, PGM
+//! and PPM (Netpbm's format pages "pbm", "pgm" and "ppm") and BMP (Microsoft's "Bitmap Storage") are
+//! read; gray pixels and colours are thresholded at a level. A BMP picture may claim bytes behind its last row;
 //! the next page stands behind them.
 //!
 //! ```text
@@ -17,9 +17,9 @@
 
 mod bmp;
 mod body;
+mod channels;
 mod extent;
 pub mod fault;
-mod gray;
 mod header;
 pub mod laws;
 pub mod next;
@@ -28,6 +28,7 @@ mod plain;
 mod raw;
 pub mod reader;
 mod run;
+mod samples;
 mod skip;
 mod stop;
 mod window;

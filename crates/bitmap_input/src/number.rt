@@ -14,8 +14,8 @@ use crate::window::{Look, Window};
 use pt_base::inputs::Inputs;
 
 /// A number is cut here where it is larger: it is too large for a side, for the sample for white and for a
-/// black sample either way.
-pub(crate) const CAP: u32 = 100000;
+/// sample of a black pixel either way.
+pub(crate) const CAP: u32 = 200000;
 
 /// A part of a page, to which a number belongs.
 #[derive(Clone, Copy, Debug)]
@@ -68,7 +68,7 @@ fn read_digits<I: Inputs>(window: &mut Window, inputs: &mut I) -> Result<u32, St
     Err(Stop::Fault(InFault::TooLong))
 }
 
-/// A number, or 100000 where it is larger.
+/// A number, or 200000 where it is larger.
 fn read_number<I: Inputs>(window: &mut Window, inputs: &mut I, part: Part) -> Result<u32, Stop>
     requires { I.is_opened inputs.old ≡ true }
     ensures reads { Reads IsCapped (number (kind_at part)) window.old
@@ -105,7 +105,7 @@ fn skip_gap<I: Inputs>(window: &mut Window, inputs: &mut I, part: Part) -> Resul
     }
 }
 
-/// A number behind a gap, or 100000 where it is larger.
+/// A number behind a gap, or 200000 where it is larger.
 pub(crate) fn read_number_behind_gap<I: Inputs>(
     window: &mut Window,
     inputs: &mut I,

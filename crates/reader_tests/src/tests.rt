@@ -4,6 +4,7 @@
 mod answers;
 mod bmp;
 mod bmp_refusals;
+mod color;
 mod gray;
 mod pages;
 mod rows;

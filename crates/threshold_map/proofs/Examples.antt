@@ -28,11 +28,22 @@ above_white : is_gray_black 1000000 256 255 ≡ false
 above_white = refl
 
 -- pure red is a third of white, and yellow two thirds
-red : is_color_black 333333 255 0 0 ≡ false
+red : is_color_black 333333 255 0 0 255 ≡ false
 red = refl
 
-red_at_the_next_level : is_color_black 333334 255 0 0 ≡ true
+red_at_the_next_level : is_color_black 333334 255 0 0 255 ≡ true
 red_at_the_next_level = refl
 
-yellow : is_color_black 500000 255 255 0 ≡ false
+yellow : is_color_black 500000 255 255 0 255 ≡ false
 yellow = refl
+
+-- at one half a sum of 98302 in three times 65535 is black, and 98303 isn't
+below_half_of_white : is_color_black 500000 32768 32767 32767 65535 ≡ true
+below_half_of_white = refl
+
+above_half_of_white : is_color_black 500000 32768 32768 32767 65535 ≡ false
+above_half_of_white = refl
+
+-- a sample above the greatest one counts as it stands
+above_the_greatest : is_color_black 500000 3 0 0 2 ≡ true
+above_the_greatest = refl

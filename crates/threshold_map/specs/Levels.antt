@@ -6,6 +6,7 @@ use Rattle.std.specs.Prelude.{ℕ, ◌+◌, ◌*◌, Bool, nat_le}
 abbrev pub is_gray_black : ℕ → ℕ → ℕ → Bool
 is_gray_black k6 v maxval = nat_le (v * 1000000) (k6 * maxval)
 
--- a colour of three parts, each from 0 to 255, is black by their mean at a level of k6 millionths
-abbrev pub is_color_black : ℕ → ℕ → ℕ → ℕ → Bool
-is_color_black k6 r g b = nat_le ((r + g + b) * 1000000) (k6 * 765)
+-- a colour of red, green and blue, where white is `maxval` of each, is black by their mean at a level of k6
+-- millionths
+abbrev pub is_color_black : ℕ → ℕ → ℕ → ℕ → ℕ → Bool
+is_color_black k6 r g b maxval = nat_le ((r + g + b) * 1000000) (k6 * 3 * maxval)

@@ -1,8 +1,11 @@
 //! Black levels.
-ghost use Rattle.std.specs.Prelude.{◌≡◌, ℕ, ◌≤◌, nat_le};
+ghost use Rattle.std.specs.Prelude.{◌≡◌, ℕ, ◌+◌, ◌*◌, ◌≤◌, nat_le};
 ghost use Rattle.threshold_map.specs.Levels.{is_gray_black, is_color_black};
 
 use std::marker::Model;
+
+/// The greatest sample of a colour that is compared.
+pub const GREATEST_SAMPLE: u32 = 1073741824;
 
 /// The brightness, as a part of full white, up to which a pixel is black.
 #[derive(Clone, Copy, Debug)]
@@ -52,10 +55,35 @@ impl Level {
         (self.micro as u64 * maxval as u64 / 1000000) as u32
     }
 
-    /// Whether a pixel of a colour is black: its brightness is the mean of red, green and blue.
-    pub fn rgb(&self, r: u8, g: u8, b: u8) -> bool
-        ensures { result ≡ is_color_black self.now r g b }
+    /// Whether a pixel of a colour is black: its brightness is the mean of red, green and blue, and
+    /// `maxval` of each is full white.
+    pub fn color(&self, r: u32, g: u32, b: u32, maxval: u32) -> bool
+        requires some { 1 ≤ maxval }
+        requires most { maxval ≤ 65535 }
+        requires red { r ≤ GREATEST_SAMPLE }
+        requires green { g ≤ GREATEST_SAMPLE }
+        requires blue { b ≤ GREATEST_SAMPLE }
+        ensures { result ≡ is_color_black self.now r g b maxval }
     {
-        (r as u32 + g as u32 + b as u32) * 1000000 <= self.micro * 765
+        (r as u64 + g as u64 + b as u64) * 1000000 <= self.micro as u64 * 3 * maxval as u64
+    }
+
+    /// The greatest sum of red, green and blue of a pixel that is black, where `maxval` of each is
+    /// full white.
+    pub fn color_limit(&self, maxval: u32) -> u32
+        requires some { 1 ≤ maxval }
+        requires most { maxval ≤ 65535 }
+        ensures black { (r g b : ℕ) → is_color_black self.now r g b maxval
+            ≡ nat_le (r + g + b) result }
+        ensures most { result ≤ 3 * maxval }
+    {
+        (self.micro as u64 * 3 * maxval as u64 / 1000000) as u32
+    }
+
+    /// Whether a pixel of a colour of three bytes is black: 255 of each is full white.
+    pub fn rgb(&self, r: u8, g: u8, b: u8) -> bool
+        ensures { result ≡ is_color_black self.now r g b 255 }
+    {
+        self.color(r as u32, g as u32, b as u32, 255)
     }
 }

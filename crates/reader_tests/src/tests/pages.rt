@@ -14,7 +14,7 @@ const FILES: [(&[u8], &str); 15] = [
     (b"P4 1 1\n\x80P4 8 2\n\xff", "#/ truncated"),
     (b"P1 1 1 1 #", "#/ trailing"),
     (b"", "unknown format"),
-    (b"P6 1 1 255\n", "unknown format"),
+    (b"P6 1 1 255\n", "truncated"),
     (b"P1 1 1 x", "bad raster"),
     (b"P4 1 1x\x80", "bad header"),
     (b"P4 32768 1\n", "side too large"),

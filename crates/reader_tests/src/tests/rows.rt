@@ -60,6 +60,16 @@ fn gray(alloc: Global, width: u32) -> Result<Vec<u8>, Fail> {
     Ok(bytes)
 }
 
+/// The same row as three samples of a byte.
+fn colors(alloc: Global, width: u32) -> Result<Vec<u8>, Fail> {
+    let mut bytes = head(alloc, "P6", width, " 255\n")?;
+    for x in 0..width {
+        let last = if is_black(x) { 127 } else { 128 };
+        bytes.extend_from_slice(&[128, 127, last])?;
+    }
+    Ok(bytes)
+}
+
 /// Whether the reader answers so on the row as it stands in a file.
 fn tells(alloc: Global, file: &[u8], width: u32, invert: bool) -> Result<bool, Fail> {
     let text = shown(alloc, width, invert)?;
@@ -73,7 +83,9 @@ fn rows_of_each_kind(rt: HostRuntime) -> Result<(), Fail> {
         let pixels = tells(rt.alloc(), &plain(rt.alloc(), width)?, width, invert)?;
         let bits = tells(rt.alloc(), &raw(rt.alloc(), width)?, width, invert)?;
         let samples = tells(rt.alloc(), &gray(rt.alloc(), width)?, width, invert)?;
-        assert_eq!(rt; (pixels, bits, samples), (true, true, true), "{width} wide");
+        let triples = tells(rt.alloc(), &colors(rt.alloc(), width)?, width, invert)?;
+        let same = (pixels, bits, samples, triples);
+        assert_eq!(rt; same, (true, true, true, true), "{width} wide");
     }
     Ok(())
 }

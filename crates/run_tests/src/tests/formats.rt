@@ -25,6 +25,18 @@ const NETPBM: &[Page] = &[
         b"P5 2 2 65535\n\x00\x00\xff\xff\xff\xff\x00\x00",
         SQUARES_ALONE,
     ),
+    // Red, green and blue, each a third of white, and what they leave of it.
+    (LEFT, b"P3 2 2 9 9 0 0 0 9 9 9 0 9 0 0 9", SQUARES_ALONE),
+    (
+        LEFT,
+        b"P6 2 2 255\n\xff\x00\x00\x00\xff\xff\xff\x00\xff\x00\x00\xff",
+        SQUARES_ALONE,
+    ),
+    (
+        LEFT,
+        b"P6 2 2 256\n\x01\0\0\0\0\0\0\0\x01\0\x01\0\x01\0\0\0\x01\0\0\0\0\0\x01\0",
+        SQUARES_ALONE,
+    ),
 ];
 
 #[test]

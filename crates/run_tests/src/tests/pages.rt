@@ -126,6 +126,27 @@ const PAGES: &[Page] = &[
         &[("-", "points 9 2 1\n+ 1 0,1 0,0 1,0 1,1\n")],
     ),
     (LEFT, b"P1 # c\n2 #d\n1\n1#x\n0", &[("-", LEFT_ALONE)]),
+    // Pages of colours: red, and green and blue together; and sums on either side of the middle.
+    (
+        "-b points -t 0",
+        b"P3 2 1 255 255 0 0 0 255 255\n",
+        &[("-", LEFT_ALONE)],
+    ),
+    (
+        "-b points -t 0",
+        b"P6 1 1 65535\n\x80\x00\x80\x00\x7f\xff",
+        &[("-", WHITE)],
+    ),
+    (
+        "-b points -t 0",
+        b"P6 1 1 65535\n\x80\x00\x7f\xff\x7f\xff",
+        &[("-", PIXEL)],
+    ),
+    (
+        "-b points -t 0",
+        b"P4 1 1\n\x80P6 1 1 255\n\xff\xff\xff",
+        &[("-", PIXEL), ("-", WHITE)],
+    ),
     // Black levels, and pages turned to their negative.
     (LEFT, GRAYS, &[("-", LEFT_ALONE)]),
     ("-b points -z left -t 0 -i", GRAYS, &[("-", RIGHT_ALONE)]),

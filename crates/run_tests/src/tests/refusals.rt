@@ -12,12 +12,20 @@ const REFUSALS: &[(&str, &[u8], u8, &str)] = &[
     (LEFT, b"", 2, "potrace: -: page 1: unknown format\n"),
     (LEFT, b"P5 1 1 0\n", 2, "potrace: -: page 1: bad header\n"),
     (LEFT, b"P2 1 1 255x", 2, "potrace: -: page 1: bad raster\n"),
+    (LEFT, b"P6 1 1 255\n", 2, "potrace: -: page 1: truncated\n"),
     (
         LEFT,
-        b"P6 1 1 255\n",
+        b"P3 1 1 255 0 0",
         2,
-        "potrace: -: page 1: unknown format\n",
+        "potrace: -: page 1: truncated\n",
     ),
+    (
+        LEFT,
+        b"P3 1 1 255 0 0 x",
+        2,
+        "potrace: -: page 1: bad raster\n",
+    ),
+    (LEFT, b"P7\n", 2, "potrace: -: page 1: unknown format\n"),
     (
         LEFT,
         b"P4 32768 1\n",

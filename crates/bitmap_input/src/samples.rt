@@ -1,0 +1,249 @@
+//! Rasters of samples: for each pixel one of gray, or three of red, green and blue, as numbers or as a
+//! byte or two.
+ghost use Rattle.std.specs.Prelude.{◌≡◌, ℕ, ◌+◌, ◌*◌, ◌<◌, ◌≤◌, true, length, map, nat_le, get_or};
+ghost use Rattle.bit_image.specs.Words.{is_one};
+ghost use Rattle.bit_image.specs.Page.{Page, SameSides, image_of};
+ghost use Rattle.bitmap_input.specs.Reading.{Reads, Leaves};
+ghost use Rattle.bitmap_input.specs.Parts.{times};
+ghost use Rattle.bitmap_input.specs.Raw.{is_dark};
+ghost use Rattle.bitmap_input.specs.Samples.{PixelSamples, samples_in, as_entry, plain_samples, is_wide, sample_bytes, samples, grouped, raw_samples_row};
+ghost use Rattle.bitmap_input.specs.Raster.{with_row, with_rows};
+ghost use Rattle.bitmap_input.specs.Shading.{brightness, brightness_at, IsCappedBrightness, is_black_at, black_of, black_in, IsInRange};
+ghost use Rattle.bitmap_input.specs.declared.channels.Channels.TheVariants as channels;
+
+use crate::channels::Channels;
+use crate::header::GREATEST_MAXVAL;
+use crate::number::{Part, read_number_behind_gap};
+use crate::raw::read_block;
+use crate::stop::Stop;
+use crate::window::Window;
+use crate::words::with_pixel;
+use bit_image::bitmap::Bitmap;
+use pt_base::inputs::Inputs;
+use pt_base::limits::LONGEST_SIDE;
+use threshold_map::level::Level;
+
+/// How the samples of a page become pixels.
+#[derive(Clone, Copy, Debug)]
+pub(crate) struct Shading {
+    pub(crate) channels: Channels,
+    /// The sample that is white, from 1 to 65535.
+    pub(crate) white: u32,
+    /// The greatest sum of the samples of a pixel that is black, at most that of a white one.
+    pub(crate) limit: u32,
+    pub(crate) invert: bool,
+}
+
+impl Shading {
+    /// Whether a pixel of this brightness is black.
+    #[inline(always)]
+    fn black(&self, brightness: u32) -> bool
+        ensures { result ≡ is_black_at self.now brightness }
+    {
+        (brightness <= self.limit) != self.invert
+    }
+}
+
+/// The brightness of the brightest pixel that is black, as the sum of its samples.
+pub(crate) fn brightest_black(level: &Level, channels: Channels, white: u32) -> u32
+    requires some { 1 ≤ white }
+    requires most { white ≤ GREATEST_MAXVAL }
+    ensures black { (a : PixelSamples channels) → is_dark level.now (as_entry channels white a)
+        ≡ nat_le (brightness channels a) result }
+    ensures most { result ≤ samples_in channels * white }
+{
+    match channels {
+        Channels::Gray => level.gray_limit(white),
+        Channels::Color => level.color_limit(white),
+    }
+}
+
+/// The brightness of a pixel of three samples as numbers.
+fn read_plain_color<I: Inputs>(window: &mut Window, inputs: &mut I) -> Result<u32, Stop>
+    requires { I.is_opened inputs.old ≡ true }
+    ensures reads { Reads (IsCappedBrightness channels.Color) (plain_samples channels.Color)
+        window.old (I.files inputs.old) result window.new (I.files inputs.new) }
+    ensures leaves { Leaves I.Inputs result inputs.old inputs.new }
+{
+    let red = read_number_behind_gap(window, inputs, Part::Raster)?;
+    let green = read_number_behind_gap(window, inputs, Part::Raster)?;
+    let blue = read_number_behind_gap(window, inputs, Part::Raster)?;
+    Ok(red + green + blue)
+}
+
+/// The brightness of a pixel of samples as numbers. One that is too large to be black may have been
+/// cut.
+fn read_plain_samples<I: Inputs>(
+    window: &mut Window,
+    inputs: &mut I,
+    channels: Channels,
+) -> Result<u32, Stop>
+    requires { I.is_opened inputs.old ≡ true }
+    ensures reads { Reads (IsCappedBrightness channels) (plain_samples channels) window.old
+        (I.files inputs.old) result window.new (I.files inputs.new) }
+    ensures leaves { Leaves I.Inputs result inputs.old inputs.new }
+{
+    match channels {
+        Channels::Gray => read_number_behind_gap(window, inputs, Part::Raster),
+        Channels::Color => read_plain_color(window, inputs),
+    }
+}
+
+/// One row of samples as numbers, painted in row y.
+fn read_plain_row<I: Inputs>(
+    window: &mut Window,
+    inputs: &mut I,
+    page: &mut Bitmap,
+    y: u32,
+    shading: &Shading,
+) -> Result<(), Stop>
+    requires opened { I.is_opened inputs.old ≡ true }
+    requires row { y < page.old.height }
+    requires range { IsInRange shading.now }
+    ensures reads { Reads (λ _ row. image_of page.new
+        ≡ with_row (image_of page.old) y (map (black_of shading.now) row))
+        (times (plain_samples shading.now.channels) page.old.width) window.old
+        (I.files inputs.old) result window.new (I.files inputs.new) }
+    ensures sides { SameSides page.old page.new }
+    ensures leaves { Leaves I.Inputs result inputs.old inputs.new }
+{
+    for x in 0..page.width() {
+        let brightness = read_plain_samples(window, inputs, shading.channels)?;
+        page.set(x, y, shading.black(brightness));
+    }
+    Ok(())
+}
+
+/// The rows of a plain raster of samples from the top, painted on the page.
+pub(crate) fn read_plain_sample_rows<I: Inputs>(
+    window: &mut Window,
+    inputs: &mut I,
+    page: &mut Bitmap,
+    shading: &Shading,
+) -> Result<(), Stop>
+    requires opened { I.is_opened inputs.old ≡ true }
+    requires range { IsInRange shading.now }
+    ensures reads { Reads (λ _ rows. image_of page.new
+        ≡ with_rows (image_of page.old) page.old.height (map (map (black_of shading.now)) rows))
+        (times (times (plain_samples shading.now.channels) page.old.width) page.old.height)
+        window.old (I.files inputs.old) result window.new (I.files inputs.new) }
+    ensures sides { SameSides page.old page.new }
+    ensures leaves { Leaves I.Inputs result inputs.old inputs.new }
+{
+    let mut y = page.height();
+    while y > 0 {
+        y -= 1;
+        read_plain_row(window, inputs, page, y, shading)?;
+    }
+    Ok(())
+}
+
+/// Whether each sample is two bytes.
+fn is_wide(white: u32) -> bool
+    ensures { result ≡ is_wide white }
+{
+    white > 255
+}
+
+/// The bytes of a row of samples.
+pub(crate) fn row_bytes(channels: Channels, width: u32, white: u32) -> usize
+    requires { width ≤ LONGEST_SIDE }
+    ensures { result ≡ sample_bytes white (samples_in channels * width) }
+{
+    let samples = (channels.samples() * width) as usize;
+    if is_wide(white) { 2 * samples } else { samples }
+}
+
+/// A sample of a row, where all are wide or none is.
+#[inline(always)]
+fn sample_at(row: &[u8], wide: bool, i: usize) -> u32
+    requires { i < length (samples wide row.now) }
+    ensures value { result ≡ get_or (samples wide row.now) i 0 }
+    ensures most { result ≤ GREATEST_MAXVAL }
+{
+    if wide {
+        256 * row[2 * i] as u32 + row[2 * i + 1] as u32
+    } else {
+        row[i] as u32
+    }
+}
+
+/// The brightness of the pixel in a column of a row.
+#[inline(always)]
+fn brightness_at(row: &[u8], channels: Channels, wide: bool, x: usize) -> u32
+    requires { samples_in channels * (x + 1) ≤ length (samples wide row.now) }
+    ensures { result ≡ brightness_at channels (samples wide row.now) x }
+{
+    match channels {
+        Channels::Gray => sample_at(row, wide, x),
+        Channels::Color => {
+            let red = sample_at(row, wide, 3 * x);
+            let green = sample_at(row, wide, 3 * x + 1);
+            let blue = sample_at(row, wide, 3 * x + 2);
+            red + green + blue
+        }
+    }
+}
+
+/// The word of so many pixels of a row, from one column on.
+fn word(row: &[u8], from: usize, count: usize, shading: &Shading) -> u64
+    requires few { count ≤ 64 }
+    requires column { from ≤ LONGEST_SIDE }
+    requires within { samples_in shading.now.channels * (from + count)
+        ≤ length (samples (is_wide shading.now.white) row.now) }
+    ensures { (k : ℕ) → k < count → is_one result k ≡ black_in shading.now row.now (from + k) }
+{
+    let wide = is_wide(shading.white);
+    let mut word = 0;
+    for i in 0..count {
+        let brightness = brightness_at(row, shading.channels, wide, from + i);
+        word = with_pixel(word, i, shading.black(brightness));
+    }
+    word
+}
+
+/// Puts a row of samples into row y, word by word.
+fn place_row(page: &mut Bitmap, y: u32, row: &[u8], shading: &Shading)
+    requires row { y < page.old.height }
+    requires whole { length row.now
+        ≡ sample_bytes shading.now.white (samples_in shading.now.channels * page.old.width) }
+    ensures sides { SameSides page.old page.new }
+    ensures pixels { image_of page.new ≡ with_row (image_of page.old) y
+        (map (black_of shading.now)
+        (grouped shading.now.channels (samples (is_wide shading.now.white) row.now))) }
+{
+    let width = page.width();
+    for at in 0..(width + 63) / 64 {
+        let from = 64 * at;
+        let count = (width - from).min(64);
+        page.put_word(y, at, word(row, from as usize, count as usize, shading));
+    }
+}
+
+/// The rows of a raw raster of samples from the top, painted on the page, with room for one of them.
+pub(crate) fn read_raw_sample_rows<I: Inputs>(
+    window: &mut Window,
+    inputs: &mut I,
+    page: &mut Bitmap,
+    shading: &Shading,
+    row: &mut [u8],
+) -> Result<(), Stop>
+    requires opened { I.is_opened inputs.old ≡ true }
+    requires whole { length row.old
+        ≡ sample_bytes shading.now.white (samples_in shading.now.channels * page.old.width) }
+    ensures reads { Reads (λ _ rows. image_of page.new
+        ≡ with_rows (image_of page.old) page.old.height (map (map (black_of shading.now)) rows))
+        (times (raw_samples_row shading.now.channels shading.now.white page.old.width)
+        page.old.height) window.old
+        (I.files inputs.old) result window.new (I.files inputs.new) }
+    ensures sides { SameSides page.old page.new }
+    ensures leaves { Leaves I.Inputs result inputs.old inputs.new }
+{
+    let mut y = page.height();
+    while y > 0 {
+        y -= 1;
+        read_block(window, inputs, row)?;
+        place_row(page, y, row, shading);
+    }
+    Ok(())
+}
