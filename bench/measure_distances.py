@@ -117,7 +117,7 @@ def large_pages():
         if name.endswith((".pbm", ".pgm")):
             with open(os.path.join(folder, name), "rb") as page:
                 yield name, page.read()
-    for words in [("make_scan.py", 620, 438), ("make_map.py", 200, 160, 60), ("make_map.py", 160, 120, 6), ("make_nested.py", "rings", 60),
+    for words in [("make_scan.py", 300, 200), ("make_map.py", 200, 160, 60), ("make_map.py", 160, 120, 6), ("make_nested.py", "rings", 60),
                   ("make_nested.py", "spiral", 60), ("make_page.py", "dither", 120, 90), ("make_page.py", "checkerboard", 40, 40),
                   ("make_corners.py", "stairs", 256), ("make_corners.py", "spiral", 128), ("make_corners.py", "squares", 128),
                   ("make_corners.py", "comb", 64), ("make_corners.py", "checkers", 32), ("make_drawing.py", "logo", 200),
@@ -240,17 +240,20 @@ class Lines:
                 self.add(part(a, b, k / count), part(a, b, (k + 1) / count))
 
     def add(self, a, b):
-        for i in range(math.floor(min(a[0], b[0]) / 2), math.floor(max(a[0], b[0]) / 2) + 1):
-            for j in range(math.floor(min(a[1], b[1]) / 2), math.floor(max(a[1], b[1]) / 2) + 1):
-                self.parts[i, j].append((a, b))
+        box = min(a[0], b[0]), max(a[0], b[0]), min(a[1], b[1]), max(a[1], b[1])
+        for i in range(math.floor(box[0] / 2), math.floor(box[1] / 2) + 1):
+            for j in range(math.floor(box[2] / 2), math.floor(box[3] / 2) + 1):
+                self.parts[i, j].append((a, b, box))
 
     def distance(self, p):
-        best, reach, i, j = math.inf, 0, math.floor(p[0] / 2), math.floor(p[1] / 2)
+        (x, y), best, reach = p, math.inf, 0
+        i, j = math.floor(x / 2), math.floor(y / 2)
         while best > 2 * (reach - 1):
             for u in range(i - reach, i + reach + 1):
                 for v in (range(j - reach, j + reach + 1) if abs(u - i) == reach else (j - reach, j + reach)):
-                    for a, b in self.parts.get((u, v), ()):
-                        best = min(best, between(p, a, b))
+                    for a, b, (left, right, low, high) in self.parts.get((u, v), ()):
+                        if left - x < best and x - right < best and low - y < best and y - high < best:
+                            best = min(best, between(p, a, b))
             reach += 1
         return best
 
@@ -367,7 +370,7 @@ def table(greatest):
 
 def main():
     program = sys.argv[1] if len(sys.argv) > 1 else os.path.join(HERE, "..", "potrace")
-    greatest, small = Greatest(), list(small_pages(420))
+    greatest, small = Greatest(), list(small_pages(210))
     for rows, policy in SHARP:
         measure(program, greatest, [rows], [plain(rows.split("/"))], policy)
     for policy in POLICIES:

@@ -12,3 +12,4 @@ pub mod Curves
 pub mod Tangents
 pub mod Touching
 pub mod Edges
+pub mod Between

@@ -14,7 +14,7 @@ use Rattle.pt_base.proofs.Terms.{same_value}
 use Rattle.pt_base.proofs.Terms.Term.{num, plus, less, times, opposite}
 use Rattle.corner_smooth.specs.Corner.{al_of, area_of, control_of, curve_of, grid_distance_of, is_corner, middle_of, part_of, piece_of, sharpness_by, sharpness_of, signed_area_of}
 use Rattle.curve_join.specs.Outline.{end_of, first_of, second_of, is_curve}
-use Rattle.outline_distance.specs.Distance.{LinePassesBy, eightfold, eightfold_middle}
+use Rattle.outline_distance.specs.Distance.{LinePassesBy, eightfold_middle, multiple}
 
 -- ---- how round a curve is, by its triangle's area and the distance of the vertex's neighbours
 
@@ -306,7 +306,7 @@ line_passes a b c d most some small =
 
 pub curve_passes : (alphamax al : ℕ) (before at after first second end : Point) → alphamax ≤ 1000000
     → piece_of alphamax before at after ≡ Curve first second end al
-    → LinePassesBy 4104 before after (eightfold_middle (middle_of before at) first second end) (eightfold at)
+    → LinePassesBy 4104 before after (eightfold_middle (middle_of before at) first second end) (multiple 8 at)
 curve_passes alphamax al before at after first second end h e =
     let is = is_that_curve alphamax al before at after first second end e in
     let sharpness = sharpness_of before at after in
@@ -314,8 +314,8 @@ curve_passes alphamax al before at after first second end h e =
     let distance = grid_distance_of before after in
     let round = is_round area distance (not_as_sharp alphamax area distance h is.0) in
     let P : Piece → Type 0 = λ piece.
-    LinePassesBy 4104 before after (eightfold_middle (middle_of before at) (first_of piece) (second_of piece) (end_of piece)) (eightfold at) in
+    LinePassesBy 4104 before after (eightfold_middle (middle_of before at) (first_of piece) (second_of piece) (end_of piece)) (multiple 8 at) in
     let roundness = al_of sharpness in
     subst P is.1
-    (line_passes before after (eightfold_middle (middle_of before at) (control_of roundness before at) (control_of roundness after at) (middle_of at after)) (eightfold at) 4104
+    (line_passes before after (eightfold_middle (middle_of before at) (control_of roundness before at) (control_of roundness after at) (middle_of at after)) (multiple 8 at) 4104
     round.apart (across_small roundness before at after round))

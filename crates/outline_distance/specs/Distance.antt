@@ -34,10 +34,15 @@ pub record LinePassesBy (most : ℕ) (a b c d : Point) : Type 0 where
   pub in_x : unsigned_abs (pos steps *ℤ (d.x -ℤ c.x) -ℤ along *ℤ (b.x -ℤ a.x)) ≤ steps * most
   pub in_y : unsigned_abs (pos steps *ℤ (d.y -ℤ c.y) -ℤ along *ℤ (b.y -ℤ a.y)) ≤ steps * most
 
--- eight times a place, and eight times the middle of a curve: its place at half its parameter
-abbrev pub eightfold : Point → Point
-eightfold p = record { x = pos 8 *ℤ p.x; y = pos 8 *ℤ p.y }
+-- so many times a place
+abbrev pub multiple : ℕ → Point → Point
+multiple n p = record { x = pos n *ℤ p.x; y = pos n *ℤ p.y }
 
+-- the place that divides the way from a to b as `after` to `before`, times both together
+abbrev pub divided : ℕ → ℕ → Point → Point → Point
+divided before after a b = record { x = pos before *ℤ a.x +ℤ pos after *ℤ b.x; y = pos before *ℤ a.y +ℤ pos after *ℤ b.y }
+
+-- eight times the middle of a curve: its place at half its parameter
 abbrev pub eightfold_middle : Point → Point → Point → Point → Point
 eightfold_middle start first second end = record {
   x = ((start.x +ℤ pos 3 *ℤ first.x) +ℤ pos 3 *ℤ second.x) +ℤ end.x;

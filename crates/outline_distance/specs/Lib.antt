@@ -4,6 +4,7 @@
 --   PassesBy: the straight way from a to b passes c that closely
 --   DividesBy: the place that divides the way from a to b as `after` to `before` is that close to c
 --   LinePassesBy: the whole line through c that runs as the way from a to b does passes d that closely
---   eightfold: eight times a place, and eight times the middle of a curve
---   eightfold_middle
+--   multiple: so many times a place
+--   divided: the place that divides the way from a to b as `after` to `before`, times both together
+--   eightfold_middle: eight times the middle of a curve: its place at half its parameter
 pub mod Distance

@@ -12,7 +12,7 @@ ghost use Rattle.curve_join.specs.Cubic.{touching_of};
 ghost use Rattle.curve_join.specs.Join.{MayJoin, cubic_at};
 ghost use Rattle.curve_join.specs.Outline.{Outline, vertex};
 ghost use Rattle.curve_join.specs.Vector.{way_of};
-ghost use Rattle.outline_distance.specs.Distance.{DividesBy, IsCloseTo, LinePassesBy, PassesBy, eightfold, eightfold_middle, point_place};
+ghost use Rattle.outline_distance.specs.Distance.{DividesBy, IsCloseTo, LinePassesBy, PassesBy, divided, eightfold_middle, multiple, point_place};
 
 /// Each vertex is at most half a pixel from its point of the path.
 pub fn vertices_are_close()
@@ -83,13 +83,32 @@ pub fn places_of_sides_are_close()
         × DividesBy 2048 before after (point_at vertices k) (point_at vertices (k + 1)) (point_place (point_at points i)) }
 {}
 
+/// Each place of the outline of corners is at most one and a half pixels from a place of an edge of the path, which
+/// its side stands for.
+pub fn places_of_sides_are_close_to_edges()
+    ensures { (points : List Point) (at : List ℕ) (vertices : List Point) (k before after : ℕ)
+        → IsClosedWalk points → IsPolygon points at → AreVertices points at vertices → k < length at → 1 ≤ before + after
+        → (i : ℕ) × (slice_index at k ≤ i) × (i < segment_end_of points at k) × (here : ℕ) × (there : ℕ) × (here + there ≡ before + after)
+        × IsCloseTo ((before + after) * 1536) (divided before after (point_at vertices k) (point_at vertices (k + 1)))
+        (divided here there (point_place (point_at points i)) (point_place (point_at points (i + 1)))) }
+{}
+
+/// Each place of an edge of the path is at most one and a half pixels from the side that stands for the edge.
+pub fn edges_pass_by_sides()
+    ensures { (points : List Point) (at : List ℕ) (vertices : List Point) (k i here there : ℕ)
+        → IsClosedWalk points → IsPolygon points at → AreVertices points at vertices
+        → k < length at → slice_index at k ≤ i → i < segment_end_of points at k → 1 ≤ here + there
+        → PassesBy ((here + there) * 1536) (multiple (here + there) (point_at vertices k)) (multiple (here + there) (point_at vertices (k + 1)))
+        (divided here there (point_place (point_at points i)) (point_place (point_at points (i + 1)))) }
+{}
+
 /// Where vertices as sharp as 1, or less sharp ones, are corners, the line through a curve's middle that runs as the
 /// way between the vertex's neighbours does passes the vertex within half a pixel and a unit. But for rounding it is
 /// the curve's tangent there. So a curve cuts off no more across that way, but may cut off any length along it.
 pub fn curves_pass_by_vertices()
     ensures { (alphamax al : ℕ) (before at after first second end : Point)
         → alphamax ≤ 1000000 → piece_of alphamax before at after ≡ Curve first second end al
-        → LinePassesBy (8 * 513) before after (eightfold_middle (middle_of before at) first second end) (eightfold at) }
+        → LinePassesBy (8 * 513) before after (eightfold_middle (middle_of before at) first second end) (multiple 8 at) }
 {}
 
 /// Where a joined curve goes along with a side between two of its vertices, it is no farther than the tolerance from
