@@ -7,7 +7,8 @@ A distance is the greater of the distances across and up, in pixels. For each of
 proved, the greatest one that was seen, and the page and the words where that was. The pages are those of examples/,
 some of each of this folder's scripts, thin lines that end free below a block, pages at which a bound is reached, and
 small pages of many kinds under each policy. All are traced with -t 0. Documents in units of 1/128 pixel have exact
-vertices, and in units of 1/1000 pixel curves nearly so; a curve is taken by 32 chords. It needs python3 alone.
+vertices. Curves are read in units of 1/1000 pixel and taken by 32 chords, so what is seen of them may be off by some
+thousandths. It takes some minutes, and needs python3 alone.
 """
 import collections
 import math

@@ -13,3 +13,4 @@ pub mod Tangents
 pub mod Touching
 pub mod Edges
 pub mod Between
+pub mod Unjoined

@@ -1,17 +1,21 @@
 //! What follows from the definitions alone.
-ghost use Rattle.std.specs.Prelude.{◌≡◌, ℕ, ◌+◌, ◌*◌, ◌<◌, ◌≤◌, ◌+ℤ◌, List, length, slice_index, slice_index_or, slice_range};
+ghost use Rattle.std.specs.Prelude.{◌≡◌, false, ℕ, ◌+◌, ◌*◌, ◌<◌, ◌≤◌, ◌+ℤ◌, List, length, slice_index, slice_index_or, slice_range};
 ghost use Rattle.pt_base.specs.ClosedWalk.{IsClosedWalk, point_at, origin};
 ghost use Rattle.pt_base.specs.declared.point.Point.{Point};
 ghost use Rattle.pt_base.specs.declared.piece.Piece.TheVariants.{Corner, Curve};
+ghost use Rattle.pt_base.specs.declared.piece.Piece.{Piece};
+ghost use Rattle.pt_base.specs.declared.settings.Settings.{Settings};
 ghost use Rattle.straight_paths.specs.Straight.{IsPossible, IsNear, offset_of};
 ghost use Rattle.polygon_optimal.specs.Polygon.{IsPolygon};
-ghost use Rattle.corner_smooth.specs.Corner.{control_of, middle_of, piece_of};
+ghost use Rattle.corner_smooth.specs.Corner.{control_of, middle_of, piece_of, pieces_of};
 ghost use Rattle.vertex_adjust.specs.Vertex.{AreVertices, segment_end_of};
 ghost use Rattle.curve_join.specs.Bends.{bends_of};
+ghost use Rattle.curve_join.specs.Choice.{IsBestJoin};
 ghost use Rattle.curve_join.specs.Cubic.{touching_of};
 ghost use Rattle.curve_join.specs.Join.{MayJoin, cubic_at};
-ghost use Rattle.curve_join.specs.Outline.{Outline, vertex};
+ghost use Rattle.curve_join.specs.Outline.{Outline, is_curve, piece_at, vertex};
 ghost use Rattle.curve_join.specs.Vector.{way_of};
+ghost use Rattle.page_trace.specs.Trace.{IsOutlineOf};
 ghost use Rattle.outline_distance.specs.Distance.{DividesBy, IsCloseTo, LinePassesBy, PassesBy, divided, eightfold_middle, multiple, point_place};
 
 /// Each vertex is at most half a pixel from its point of the path.
@@ -65,6 +69,19 @@ pub fn controls_lie_on_sides()
 /// Where no sharpness is asked for (`-a 0`), each piece is a corner: the two straight lines by way of its vertex.
 pub fn all_pieces_are_corners()
     ensures { (before at after : Point) → piece_of 0 before at after ≡ Corner at (middle_of at after) }
+{}
+
+/// Corners aren't joined: an outline without a curve is its own best join.
+pub fn corners_are_not_joined()
+    ensures { (tol : ℕ) (o : Outline) (pieces : List Piece)
+        → ((k : ℕ) → k < length o.pieces → is_curve (piece_at o.pieces k) ≡ false)
+        → IsBestJoin tol o pieces → pieces ≡ o.pieces }
+{}
+
+/// So where no sharpness is asked for, an outline is the corners at its vertices, whether curves are joined or not.
+pub fn outlines_are_corners()
+    ensures { (settings : Settings) (vertices : List Point) (pieces : List Piece)
+        → settings.alphamax ≡ 0 → IsOutlineOf settings vertices pieces → pieces ≡ pieces_of 0 vertices }
 {}
 
 /// The middle of two vertices isn't rounded, so the outline of corners is just the polygon of its vertices.
