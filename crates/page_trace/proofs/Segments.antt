@@ -30,10 +30,10 @@ get_or-last (x ∷ xs) n zero is = absurd (omega arith)
 get_or-last (x ∷ xs) n (suc k) is = get_or-last xs n k (omega arith)
 
 -- a walk has an index, and the first one is 0
-starts_at_zero : (n i : ℕ) (rest : List ℕ) (is_allowed : ℕ → ℕ → Type 0) → IsWalk n is_allowed (walk_from (i ∷ rest) n) → i ≡ 0
+pub starts_at_zero : (n i : ℕ) (rest : List ℕ) (is_allowed : ℕ → ℕ → Type 0) → IsWalk n is_allowed (walk_from (i ∷ rest) n) → i ≡ 0
 starts_at_zero n i rest is_allowed walk = let first = walk.first in cc
 
-starts_somewhere : (n : ℕ) (is_allowed : ℕ → ℕ → Type 0) → 0 < n → IsWalk n is_allowed (walk_from [] n) → ⊥
+pub starts_somewhere : (n : ℕ) (is_allowed : ℕ → ℕ → Type 0) → 0 < n → IsWalk n is_allowed (walk_from [] n) → ⊥
 starts_somewhere n is_allowed some walk = let first = walk.first in let none : n ≡ 0 = cc in absurd (omega arith)
 
 -- where a segment ends, as the walk has it
@@ -49,7 +49,7 @@ end_is points i rest k start within = elim (cases_lt (k + 1) (suc (length rest))
 ]
 
 -- segment number k is one that a polygon may have
-segment_at : (points : List Point) (at : List ℕ) (k : ℕ) → IsWalk (length points) (IsSegment points) (walk_from at (length points)) → k < length at
+pub segment_at : (points : List Point) (at : List ℕ) (k : ℕ) → IsWalk (length points) (IsSegment points) (walk_from at (length points)) → k < length at
     → IsSegment points (slice_index at k) (segment_end_of points at k)
 segment_at points [] k walk within = absurd (omega arith)
 segment_at points (i ∷ rest) k walk within =

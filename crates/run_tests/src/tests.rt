@@ -3,6 +3,7 @@
 mod cases;
 mod claims;
 mod cuts;
+mod distances;
 mod failing;
 mod files;
 mod formats;

@@ -1,0 +1,16 @@
+pub mod Levels
+pub mod Vertices
+pub mod Segments
+pub mod Ends
+pub mod Ways
+pub mod Moving
+pub mod Halves
+pub mod Middles
+pub mod Places
+pub mod Sides
+pub mod Curves
+pub mod Tangents
+pub mod Touching
+pub mod Edges
+pub mod Between
+pub mod Unjoined

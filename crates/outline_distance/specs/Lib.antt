@@ -1,0 +1,10 @@
+-- How far places are from one another: the greater of how far across and how far up.
+--   point_place: a point of a path, as a place
+--   IsCloseTo: no coordinate of one place is farther from the other's
+--   PassesBy: the straight way from a to b passes c that closely
+--   DividesBy: the place that divides the way from a to b as `after` to `before` is that close to c
+--   LinePassesBy: the whole line through c that runs as the way from a to b does passes d that closely
+--   multiple: so many times a place
+--   divided: the place that divides the way from a to b as `after` to `before`, times both together
+--   eightfold_middle: eight times the middle of a curve: its place at half its parameter
+pub mod Distance

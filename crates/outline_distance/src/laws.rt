@@ -1,0 +1,138 @@
+//! What follows from the definitions alone.
+ghost use Rattle.std.specs.Prelude.{◌≡◌, false, ℕ, ◌+◌, ◌*◌, ◌<◌, ◌≤◌, ◌+ℤ◌, List, length, slice_index, slice_index_or, slice_range};
+ghost use Rattle.pt_base.specs.ClosedWalk.{IsClosedWalk, point_at, origin};
+ghost use Rattle.pt_base.specs.declared.point.Point.{Point};
+ghost use Rattle.pt_base.specs.declared.piece.Piece.TheVariants.{Corner, Curve};
+ghost use Rattle.pt_base.specs.declared.piece.Piece.{Piece};
+ghost use Rattle.pt_base.specs.declared.settings.Settings.{Settings};
+ghost use Rattle.straight_paths.specs.Straight.{IsPossible, IsNear, offset_of};
+ghost use Rattle.polygon_optimal.specs.Polygon.{IsPolygon};
+ghost use Rattle.corner_smooth.specs.Corner.{control_of, middle_of, piece_of, pieces_of};
+ghost use Rattle.vertex_adjust.specs.Vertex.{AreVertices, segment_end_of};
+ghost use Rattle.curve_join.specs.Bends.{bends_of};
+ghost use Rattle.curve_join.specs.Choice.{IsBestJoin};
+ghost use Rattle.curve_join.specs.Cubic.{touching_of};
+ghost use Rattle.curve_join.specs.Join.{MayJoin, cubic_at};
+ghost use Rattle.curve_join.specs.Outline.{Outline, is_curve, piece_at, vertex};
+ghost use Rattle.curve_join.specs.Vector.{way_of};
+ghost use Rattle.page_trace.specs.Trace.{IsOutlineOf};
+ghost use Rattle.outline_distance.specs.Distance.{DividesBy, IsCloseTo, LinePassesBy, PassesBy, divided, eightfold_middle, multiple, point_place};
+
+/// Each vertex is at most half a pixel from its point of the path.
+pub fn vertices_are_close()
+    ensures { (points : List Point) (at : List ℕ) (vertices : List Point) (k : ℕ)
+        → AreVertices points at vertices → k < length at
+        → IsCloseTo 512 (point_place (point_at points (slice_index at k))) (slice_index_or vertices k origin) }
+{}
+
+/// A segment's half-line passes each point between its ends within a pixel.
+pub fn points_are_near_segments()
+    ensures { (points : List Point) (i j k : ℕ) → IsPossible points i j → i ≤ k → k ≤ j
+        → IsNear (offset_of (point_at points i) (point_at points k)) (offset_of (point_at points i) (point_at points j)) }
+{}
+
+/// The straight way between a segment's ends passes each point of the path between them within a pixel.
+pub fn segments_pass_by()
+    ensures { (points : List Point) (i j k : ℕ) → IsClosedWalk points → IsPossible points i j → i ≤ k → k ≤ j
+        → PassesBy 1024 (point_place (point_at points i)) (point_place (point_at points j)) (point_place (point_at points k)) }
+{}
+
+/// The straight way between two neighbouring vertices passes each point that its segment stands for within one and
+/// a half pixels.
+pub fn sides_pass_by()
+    ensures { (points : List Point) (at : List ℕ) (vertices : List Point) (k i : ℕ)
+        → IsClosedWalk points → IsPolygon points at → AreVertices points at vertices
+        → k < length at → slice_index at k ≤ i → i ≤ segment_end_of points at k
+        → PassesBy 1536 (point_at vertices k) (point_at vertices (k + 1)) (point_place (point_at points i)) }
+{}
+
+/// Halfway between two neighbouring vertices a point of the path is at most one and a half pixels away.
+pub fn joints_are_close()
+    ensures { (points : List Point) (at : List ℕ) (vertices : List Point) (k : ℕ)
+        → IsClosedWalk points → IsPolygon points at → AreVertices points at vertices → k < length at
+        → (i : ℕ) × (slice_index at k ≤ i) × (i ≤ segment_end_of points at k)
+        × IsCloseTo 1536 (middle_of (point_at vertices k) (point_at vertices (k + 1))) (point_place (point_at points i)) }
+{}
+
+/// Each point of a path is at most one and a half pixels from the outline of corners at its vertices.
+pub fn points_are_close_to_outlines()
+    ensures { (points : List Point) (at : List ℕ) (vertices : List Point) (i : ℕ)
+        → IsClosedWalk points → IsPolygon points at → AreVertices points at vertices → i < length points
+        → (k : ℕ) × (k < length vertices) × PassesBy 1536 (point_at vertices k) (point_at vertices (k + 1)) (point_place (point_at points i)) }
+{}
+
+/// Each control of a curve lies on the side between its vertex and the neighbour, but for rounding.
+pub fn controls_lie_on_sides()
+    ensures { (al : ℕ) (neighbour at : Point) → al ≤ 65536 → PassesBy 1 neighbour at (control_of al neighbour at) }
+{}
+
+/// Where no sharpness is asked for (`-a 0`), each piece is a corner: the two straight lines by way of its vertex.
+pub fn all_pieces_are_corners()
+    ensures { (before at after : Point) → piece_of 0 before at after ≡ Corner at (middle_of at after) }
+{}
+
+/// Corners aren't joined: an outline without a curve is its own best join.
+pub fn corners_are_not_joined()
+    ensures { (tol : ℕ) (o : Outline) (pieces : List Piece)
+        → ((k : ℕ) → k < length o.pieces → is_curve (piece_at o.pieces k) ≡ false)
+        → IsBestJoin tol o pieces → pieces ≡ o.pieces }
+{}
+
+/// So where no sharpness is asked for, an outline is the corners at its vertices, whether curves are joined or not.
+pub fn outlines_are_corners()
+    ensures { (settings : Settings) (vertices : List Point) (pieces : List Piece)
+        → settings.alphamax ≡ 0 → IsOutlineOf settings vertices pieces → pieces ≡ pieces_of 0 vertices }
+{}
+
+/// The middle of two vertices isn't rounded, so the outline of corners is just the polygon of its vertices.
+pub fn joints_are_halfway()
+    ensures { (points : List Point) (at : List ℕ) (vertices : List Point) (j k : ℕ)
+        → AreVertices points at vertices → j < length at → k < length at
+        → let a = slice_index_or vertices j origin in let b = slice_index_or vertices k origin in
+        (((middle_of a b).x +ℤ (middle_of a b).x ≡ a.x +ℤ b.x) × ((middle_of a b).y +ℤ (middle_of a b).y ≡ a.y +ℤ b.y)) }
+{}
+
+/// Each place of the outline of corners is at most two pixels from a point of the path, which its side stands for.
+pub fn places_of_sides_are_close()
+    ensures { (points : List Point) (at : List ℕ) (vertices : List Point) (k before after : ℕ)
+        → IsClosedWalk points → IsPolygon points at → AreVertices points at vertices → k < length at → 1 ≤ before + after
+        → (i : ℕ) × (slice_index at k ≤ i) × (i ≤ segment_end_of points at k)
+        × DividesBy 2048 before after (point_at vertices k) (point_at vertices (k + 1)) (point_place (point_at points i)) }
+{}
+
+/// Each place of the outline of corners is at most one and a half pixels from a place of an edge of the path, which
+/// its side stands for.
+pub fn places_of_sides_are_close_to_edges()
+    ensures { (points : List Point) (at : List ℕ) (vertices : List Point) (k before after : ℕ)
+        → IsClosedWalk points → IsPolygon points at → AreVertices points at vertices → k < length at → 1 ≤ before + after
+        → (i : ℕ) × (slice_index at k ≤ i) × (i < segment_end_of points at k) × (here : ℕ) × (there : ℕ) × (here + there ≡ before + after)
+        × IsCloseTo ((before + after) * 1536) (divided before after (point_at vertices k) (point_at vertices (k + 1)))
+        (divided here there (point_place (point_at points i)) (point_place (point_at points (i + 1)))) }
+{}
+
+/// Each place of an edge of the path is at most one and a half pixels from the side that stands for the edge.
+pub fn edges_pass_by_sides()
+    ensures { (points : List Point) (at : List ℕ) (vertices : List Point) (k i here there : ℕ)
+        → IsClosedWalk points → IsPolygon points at → AreVertices points at vertices
+        → k < length at → slice_index at k ≤ i → i < segment_end_of points at k → 1 ≤ here + there
+        → PassesBy ((here + there) * 1536) (multiple (here + there) (point_at vertices k)) (multiple (here + there) (point_at vertices (k + 1)))
+        (divided here there (point_place (point_at points i)) (point_place (point_at points (i + 1)))) }
+{}
+
+/// Where vertices as sharp as 1, or less sharp ones, are corners, the line through a curve's middle that runs as the
+/// way between the vertex's neighbours does passes the vertex within half a pixel and a unit. But for rounding it is
+/// the curve's tangent there. So a curve cuts off no more across that way, but may cut off any length along it.
+pub fn curves_pass_by_vertices()
+    ensures { (alphamax al : ℕ) (before at after first second end : Point)
+        → alphamax ≤ 1000000 → piece_of alphamax before at after ≡ Curve first second end al
+        → LinePassesBy (8 * 513) before after (eightfold_middle (middle_of before at) first second end) (multiple 8 at) }
+{}
+
+/// Where a joined curve goes along with a side between two of its vertices, it is no farther than the tolerance from
+/// the side, at a place between the side's ends.
+pub fn joined_curves_pass_by_sides()
+    ensures { (tol : ℕ) (o : Outline) (i j k : ℕ)
+        → j ≤ length o.pieces → MayJoin tol (slice_range (bends_of o) i j) → i ≤ k → k + 1 < j
+        → PassesBy tol (vertex o k) (vertex o (k + 1))
+        (touching_of (cubic_at (slice_range (bends_of o) i j)) (way_of (vertex o k) (vertex o (k + 1)))) }
+{}
