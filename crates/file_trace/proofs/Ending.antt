@@ -7,6 +7,7 @@ use Rattle.pt_base.specs.Files.{Contents, Files, Lacks, Opened, unread, unread_o
 use Rattle.pt_base.specs.declared.fault.OpenFault.{OpenFault}
 use Rattle.pt_base.specs.declared.fault.OpenFault.TheVariants as opening
 use Rattle.pt_base.specs.declared.settings.Settings.{Settings}
+use Rattle.bitmap_input.specs.Raw.{Raw}
 use Rattle.page_trace.specs.Document.{CanWrite}
 use Rattle.run_output.specs.Messages.{not_opened, out_of_memory, page_line, read_fault}
 use Rattle.run_output.specs.Names.{base_name}
@@ -15,14 +16,15 @@ use Rattle.run_output.specs.declared.status.Status.{Status}
 use Rattle.run_output.specs.declared.status.Status.TheVariants as status
 use Rattle.file_trace.specs.Held.{AreHeld, Held}
 use Rattle.file_trace.specs.Items.{AreItems, IsAbsent, Item, Nothing, told_contents}
-use Rattle.file_trace.specs.Outcome.{AreCarriedOut, HasEnded, HoldsBytes, IsOutcomeBehind, OpensUpTo, IsUnopened, IsUnread, Sinks, Source, opened_name}
+use Rattle.file_trace.specs.Items.Item.{Stop}
+use Rattle.file_trace.specs.Outcome.{AreCarriedOut, HasEnded, HoldsBytes, IsOutcomeBehind, OpensUpTo, IsStopped, IsUnopened, IsUnread, ReadsFileNear, ReadsNear, Sinks, Source, opened_name}
 use Rattle.file_trace.specs.Progress.{EndsWithFile, Halts, InputCount, Traces, TracesFile, docs, end_message, status_of}
 use Rattle.file_trace.specs.Unopened.{EndsUnopened}
 use Rattle.file_trace.specs.declared.pages.PagesEnd.{PagesEnd}
 use Rattle.file_trace.specs.declared.pages.PagesEnd.TheVariants as why
 use Rattle.file_trace.proofs.Carrying.{carried_on, ended_on, only_said}
 use Rattle.file_trace.proofs.Exists.{items_found}
-use Rattle.file_trace.proofs.Filing.{docs_alone, file_full, file_halts, file_refused, has_bytes, read_by_halting, read_by_tracing, HasBytes, HasRead}
+use Rattle.file_trace.proofs.Filing.{docs_alone, file_halts, full_items, has_bytes, read_by_halting, read_by_tracing, refused_items, HasBytes, HasRead}
 use Rattle.file_trace.proofs.Holding.{ended_behind}
 use Rattle.file_trace.proofs.Joining.{items_join}
 use Rattle.file_trace.proofs.Keeping.{GoesOn-behind, IsHalt, ended_more, holds_goes_on, memory_out}
@@ -91,6 +93,21 @@ left_of (Some files) start (Some now) name taken opened there contents named tol
       bytes = held ∙ ap (λ (bs : List ℕ). Some bs) split;
     }
 
+-- the same of how near it is read
+near_of : (told start now : Option Files) (name : List ℕ) (raws : List Raw) → start ≡ with_file told name → (Lacks told name → ⊥)
+    → told_contents now ≡ told_contents start → opened_name now ≡ opened_name start
+    → IfSome (unread start) (λ bytes. (left : List ℕ) × (unread now ≡ Some left) × ReadsNear bytes raws left)
+    → (rest : List ℕ) × IfSome now (λ files. files.opened ≡ Some (record { name = name; rest = rest })) × ReadsFileNear (told_contents told) name raws rest
+near_of None start None name raws opened there contents named near = ([], tt, tt)
+near_of None start (Some files) name raws opened there contents named near =
+    absurd (let e : Some files.contents ≡ None = contents ∙ ap told_contents opened in cc)
+near_of (Some files) start None name raws opened there contents named near =
+    absurd (let e : None ≡ Some files.contents = contents ∙ ap told_contents opened in cc)
+near_of (Some files) start (Some now) name raws opened there contents named near =
+    let (bytes, held, is) = has_bytes (Some files) start name opened there in
+    let (rest, left, few) = subst (λ (o : Option (List ℕ)). IfSome o (λ bs. (left : List ℕ) × (option_map unread_of now.opened ≡ Some left) × ReadsNear bs raws left)) is near in
+    (rest, opened_as now.opened name rest left (named ∙ ap opened_name opened ∙ name-opened files name bytes held), (bytes, held, few))
+
 -- a read failed behind pages of the file
 pub file_unread : (size : ℕ) (settings : Settings) (output : Option (List ℕ)) (name : List ℕ) (made : List (List ℕ)) (start : Option Files) (k : ℕ) (held held_mid : List Held) (source source_now : Source) (a b c : Sinks)
     → start ≡ with_file source.files name → (Lacks source.files name → ⊥) → source_now.openings ≡ next_count source.openings
@@ -134,9 +151,11 @@ unopened_by told name before now opening.Device absent device = inr (device refl
 pub outcome_of_halt : (s : Status) → IsHalt s → (first : List Item) (contents : Option Contents) (settings : Settings) (output : Option (List ℕ)) (names made : List (List ℕ)) (source source_now : Source) (a b : Sinks)
     → (items : List Item) × AreItems contents settings output Nothing names made items × HasEnded s (first ++ items) a b
     → IsOutcomeBehind s first contents settings output names made source source_now a b
-outcome_of_halt status.Done which first contents settings output names made source source_now a b h = h
+outcome_of_halt status.Done (inl is) first contents settings output names made source source_now a b h = absurd (let no : status.Done ≡ status.Unwritten = is in cc)
+outcome_of_halt status.Done (inr is) first contents settings output names made source source_now a b h = absurd (let no : status.Done ≡ status.OutOfMemory = is in cc)
 outcome_of_halt status.BadWords which first contents settings output names made source source_now a b h = h
-outcome_of_halt status.Refused which first contents settings output names made source source_now a b h = h
+outcome_of_halt status.Refused (inl is) first contents settings output names made source source_now a b h = absurd (let no : status.Refused ≡ status.Unwritten = is in cc)
+outcome_of_halt status.Refused (inr is) first contents settings output names made source source_now a b h = absurd (let no : status.Refused ≡ status.OutOfMemory = is in cc)
 outcome_of_halt status.Unwritten which first contents settings output names made source source_now a b h = h
 outcome_of_halt status.OutOfMemory which first contents settings output names made source source_now a b h = h
 outcome_of_halt status.Unread (inl is) first contents settings output names made source source_now a b h = absurd (let no : status.Unread ≡ status.Unwritten = is in cc)
@@ -232,6 +251,28 @@ module _ (size : ℕ) (settings : Settings) (can : CanWrite settings) (output : 
   has : HasBytes (told_contents source.files) name (unread start)
   has = has_bytes source.files start name opened there
 
+  -- with a page that is refused
+  stopped : (end : PagesEnd) (t : TracedTo end) (names : List (List ℕ)) (first : List Item)
+      → AreItems (told_contents source.files) settings output Nothing (name ∷ names) made (docs base made t.texts ++ Stop (end_message name end k) ∷ [])
+      → AreCarriedOut (first ++ docs base made t.texts) (end_message name end k ∷ []) a c → Ends status.Refused first names
+  stopped end t names first all done =
+      let (rest, here, near) = near_of source.files start source_now.files name t.raws opened there contents named t.near in
+      let few : length t.raws + length made ≤ most_pages = omega (arith, t.count, t.few) in
+      record {
+        name = name;
+        front = [];
+        raws = t.raws;
+        rest = rest;
+        before = docs base made t.texts;
+        message = end_message name end k;
+        reached = at_first name names source.openings source_now.openings one;
+        opened = here;
+        near = near;
+        items = docs_alone settings name base made t.raws t.texts t.traced few;
+        all = all;
+        done = done;
+      }
+
   -- behind all that was held, and its message is said
   ends_said : (end : PagesEnd) → (end ≡ why.Unread → Rose source.faults source_now.faults) → (t : TracedTo end) → status_of end ≢ status.Done → status_of end ≢ status.OutOfMemory
       → (names : List (List ℕ)) (first : List Item) → AreCarriedOut (first ++ docs base made t.texts) (end_message name end k ∷ []) a c → Ends (status_of end) first names
@@ -239,9 +280,9 @@ module _ (size : ℕ) (settings : Settings) (can : CanWrite settings) (output : 
   ends_said why.Trailing rose t going memory names first done = absurd (going refl)
   ends_said why.OutOfMemory rose t going memory names first done = absurd (memory refl)
   ends_said (why.Refused f) rose t going memory names first done =
-      file_refused (told_contents source.files) settings output name made size start source_now.files k held held_mid a b has f first names c t done
+      stopped (why.Refused f) t names first (refused_items (told_contents source.files) settings output name made size start source_now.files k held held_mid a b has f names t) done
   ends_said why.TooMany rose t going memory names first done =
-      file_full (told_contents source.files) settings output name made size start source_now.files k held held_mid a b has first names c t done
+      stopped why.TooMany t names first (full_items (told_contents source.files) settings output name made size start source_now.files k held held_mid a b has names t) done
   ends_said why.Unread rose t going memory names first done =
       inr (file_unread size settings output name made start k held held_mid source source_now a b c opened there one contents named (rose refl) t names first done)
 

@@ -175,6 +175,14 @@ BeginsWith later bytes [] rest = bytes ≡ rest
 BeginsWith later bytes (raw ∷ raws) rest =
     (used : ℕ) × (front later bytes ≡ Page raw used) × BeginsWith true (drop (next_begins bytes raw used) bytes) raws rest
 
+-- the first pages of the bytes are these, and `behind` is what follows those that they take: of it the last page may
+-- claim some
+abbrev pub LeavesBehind : Bool → List ℕ → List Raw → List ℕ → Type 0
+LeavesBehind later bytes [] behind = bytes ≡ behind
+LeavesBehind later bytes (raw ∷ []) behind = (used : ℕ) × (front later bytes ≡ Page raw used) × (behind ≡ drop used bytes)
+LeavesBehind later bytes (raw ∷ next ∷ raws) behind =
+    (used : ℕ) × (front later bytes ≡ Page raw used) × LeavesBehind true (drop (next_begins bytes raw used) bytes) (next ∷ raws) behind
+
 -- the first pages of the bytes are these, none of them is by the end of the bytes, and `rest` is what follows them
 abbrev pub BeginsSettled : Bool → List ℕ → List Raw → List ℕ → Type 0
 BeginsSettled later bytes [] rest = bytes ≡ rest
@@ -217,6 +225,36 @@ pub record IsUnread (first : List Item) (contents : Option Contents) (settings :
       (λ made items. ArePageItems settings name (base_name output settings.backend name) End Nothing raws 0 made items) front made before
   pub done : AreCarriedOut (first ++ before) (page_line name (length raws + 1) read_fault ∷ []) old new
 
+-- of these bytes, which begin with these pages, the `rest` ones are unread: no more than 65,536 were taken behind those
+-- that the pages take, or behind so many that it isn't settled yet what follows the pages
+abbrev pub ReadsNear : List ℕ → List Raw → List ℕ → Type 0
+ReadsNear bytes raws rest =
+    ((behind : List ℕ) × LeavesBehind false bytes raws behind × (length behind ≤ length rest + 65536))
+    ⊎ ((unsettled : List ℕ) × (behind : List ℕ) × (bytes ≡ unsettled ++ behind) × StopsReading unsettled raws × (length behind ≤ length rest + 65536))
+
+-- the same of the file of this name, where its bytes are told
+abbrev pub ReadsFileNear : Option Contents → List ℕ → List Raw → List ℕ → Type 0
+ReadsFileNear None name raws rest = Unit {0}
+ReadsFileNear (Some contents) name raws rest = (bytes : List ℕ) × (get contents name ≡ Some bytes) × ReadsNear bytes raws rest
+
+-- a page is refused: the first items, all items of the files in front of the opened one, and the documents of its pages
+-- in front of that page are carried out, and its message is the last one. No other file was opened, and this one is
+-- read no farther than that decides, but for 65,536 bytes.
+pub record IsStopped (first : List Item) (contents : Option Contents) (settings : Settings) (output : Option (List ℕ)) (names made : List (List ℕ)) (source source_now : Source) (old new : Sinks) : Type 0 where
+  pub name : List ℕ
+  pub front : List (List ℕ)
+  pub raws : List Raw
+  pub rest : List ℕ
+  pub before : List Item
+  pub message : List ℕ
+  pub reached : OpensUpTo names name front source.openings source_now.openings
+  pub opened : IfSome source_now.files (λ files. files.opened ≡ Some (record { name = name; rest = rest }))
+  pub near : ReadsFileNear contents name raws rest
+  pub items : AreItems contents settings output
+      (λ made items. ArePageItems settings name (base_name output settings.backend name) End Nothing raws 0 made items) front made before
+  pub all : AreItems contents settings output Nothing names made (before ++ Stop message ∷ [])
+  pub done : AreCarriedOut (first ++ before) (message ∷ []) old new
+
 -- what was done of these first items and those of the files of these names, after documents with these base
 -- names
 abbrev pub IsOutcomeBehind : Status → List Item → Option Contents → Settings → Option (List ℕ) → List (List ℕ) → List (List ℕ) → Source → Source → Sinks → Sinks → Type 0
@@ -224,10 +262,11 @@ IsOutcomeBehind status.Unread first contents settings output names made source s
     IsUnopened first contents settings output names made source source_now old new ⊎ IsUnread first contents settings output names made source source_now old new
 IsOutcomeBehind status.Done first contents settings output names made source source_now old new =
     (items : List Item) × AreItems contents settings output Nothing names made items × HasEnded status.Done (first ++ items) old new
+    × (source_now.openings ≡ min (source.openings + length names) last_count)
 IsOutcomeBehind status.BadWords first contents settings output names made source source_now old new =
     (items : List Item) × AreItems contents settings output Nothing names made items × HasEnded status.BadWords (first ++ items) old new
 IsOutcomeBehind status.Refused first contents settings output names made source source_now old new =
-    (items : List Item) × AreItems contents settings output Nothing names made items × HasEnded status.Refused (first ++ items) old new
+    IsStopped first contents settings output names made source source_now old new
 IsOutcomeBehind status.Unwritten first contents settings output names made source source_now old new =
     (items : List Item) × AreItems contents settings output Nothing names made items × HasEnded status.Unwritten (first ++ items) old new
 IsOutcomeBehind status.OutOfMemory first contents settings output names made source source_now old new =

@@ -73,12 +73,13 @@ Completes contents settings output names s read read_now written written_now =
 pub files_complete : (s : Status) (settings : Settings) → CanWrite settings → (output : Option (List ℕ)) (names : List (List ℕ)) (source now : Source) (a b : Sinks)
     → IsOutcome s (told_contents source.files) settings output names [] source now a b → OutputCount s a.outs_faults b.outs_faults b.is_open
     → Completes (told_contents source.files) settings output names s source.faults now.faults a.outs_faults b.outs_faults
-files_complete status.Done settings can output names source now a b (items, are, done) w =
+files_complete status.Done settings can output names source now a b (items, are, done, opens) w =
     (items, are, λ _ _. record { all = λ _. inl refl; refusal = λ r. absurd (never_refused items done.goes_on r); missing = λ m. absurd (never_missing items done.goes_on m) })
 files_complete status.BadWords settings can output names source now a b (items, are, ended) w = absurd ended
-files_complete status.Refused settings can output names source now a b (items, are, r) w =
-    let refusal : EndsRefused items = (r.before, r.message, r.split) in
-    (items, are, λ _ _. record { all = λ goes. absurd (never_refused items goes refusal); refusal = λ _. inl refl; missing = λ m. absurd (no_both items refusal m) })
+files_complete status.Refused settings can output names source now a b r w =
+    let items : List Item = r.before ++ Stop r.message ∷ [] in
+    let refusal : EndsRefused items = (r.before, r.message, refl) in
+    (items, r.all, λ _ _. record { all = λ goes. absurd (never_refused items goes refusal); refusal = λ _. inl refl; missing = λ m. absurd (no_both items refusal m) })
 files_complete status.Unwritten settings can output names source now a b (items, are, u) w = (items, are, λ _ no_write. absurd (no_write w))
 files_complete status.OutOfMemory settings can output names source now a b (items, are, o) w =
     (items, are, λ _ _. record { all = λ _. inr refl; refusal = λ _. inr refl; missing = λ _. inr refl })
@@ -162,11 +163,11 @@ not_document name (item ∷ other ∷ before) document text after e = cc
 
 first_absent : (s : Status) (settings : Settings) (output : Option (List ℕ)) (name : List ℕ) (names : List (List ℕ)) (source now : Source) (a b : Sinks) → IsAbsent (told_contents source.files) name
     → IsOutcome s (told_contents source.files) settings output (name ∷ names) [] source now a b → (s ≡ status.Unread) ⊎ (s ≡ status.OutOfMemory)
-first_absent status.Done settings output name names source now a b absent (items, are, done) =
+first_absent status.Done settings output name names source now a b absent (items, are, done, opens) =
     absurd (subst GoesOn (only_missing (told_contents source.files) settings output name names items absent are) done.goes_on)
 first_absent status.BadWords settings output name names source now a b absent (items, are, ended) = absurd ended
-first_absent status.Refused settings output name names source now a b absent (items, are, r) =
-    absurd (not_stop name r.before r.message (sym (only_missing (told_contents source.files) settings output name names items absent are) ∙ r.split))
+first_absent status.Refused settings output name names source now a b absent r =
+    absurd (not_stop name r.before r.message (sym (only_missing (told_contents source.files) settings output name names (r.before ++ Stop r.message ∷ []) absent r.all)))
 first_absent status.Unread settings output name names source now a b absent u = inl refl
 first_absent status.Unwritten settings output name names source now a b absent (items, are, u) =
     absurd (not_document name u.before u.name u.text u.after (sym (only_missing (told_contents source.files) settings output name names items absent are) ∙ u.split))
