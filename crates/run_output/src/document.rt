@@ -2,6 +2,7 @@
 ghost use Rattle.std.specs.Prelude.{◌≡◌, ◌≤◌, false, OnOk, OnErr};
 ghost use Rattle.pt_base.specs.Counts.{Rose};
 ghost use Rattle.pt_base.specs.Documents.{IsCutOff, with_whole};
+ghost use Rattle.pt_base.specs.Failures.{after_err, after_ok};
 
 use pt_base::fault::SinkFault;
 use pt_base::sink::Outputs;
@@ -16,6 +17,10 @@ pub fn write_document<O: Outputs>(outs: &mut O, name: &str, text: &[u8]) -> Resu
         ≡ with_whole (O.documents outs.old) name.now text.now) }
     ensures steady { OnOk result (O.faults outs.new ≡ O.faults outs.old) }
     ensures closed { OnOk result (O.is_ready outs.new ≡ false) }
+    ensures went { OnOk result (O.failures outs.new ≡ after_ok (O.failures outs.old)) }
+
+    // One call failed, and none came after it.
+    ensures failed { OnErr result (O.failures outs.new ≡ after_err (O.failures outs.old)) }
     ensures cut_off { OnErr result
         (IsCutOff (O.documents outs.old) (O.documents outs.new) name.now text.now) }
     ensures cause { OnErr result (Rose (O.faults outs.old) (O.faults outs.new)) }

@@ -1,7 +1,10 @@
 //! The lines that the program writes to standard error.
+//!
+//! Where a write fails, the rest of its line is given up: that call was the last one.
 ghost use Rattle.std.specs.Prelude.{◌≡◌, ◌≤◌, true, map};
 ghost use Rattle.std.specs.List.{concat};
 ghost use Rattle.pt_base.specs.Documents.{IsSaid};
+ghost use Rattle.pt_base.specs.Failures.{StopsAtFailure};
 ghost use Rattle.run_output.specs.Messages.{bad_words, not_opened, not_written, out_of_memory, page_line, trailing_line};
 
 use itoa::Buffer;
@@ -13,6 +16,7 @@ pub fn say_bad_words<E: Sink>(errs: &mut E)
     requires { E.is_ready errs.old ≡ true }
     ensures said { IsSaid (E.documents errs.old) (E.documents errs.new) (E.faults errs.old)
         (E.faults errs.new) bad_words }
+    ensures given_up { StopsAtFailure (E.failures errs.old) (E.failures errs.new) }
     ensures never_falls { E.faults errs.old ≤ E.faults errs.new }
     ensures stays_ready { E.is_ready errs.new ≡ true }
 {
@@ -24,6 +28,7 @@ pub fn say_out_of_memory<E: Sink>(errs: &mut E)
     requires { E.is_ready errs.old ≡ true }
     ensures said { IsSaid (E.documents errs.old) (E.documents errs.new) (E.faults errs.old)
         (E.faults errs.new) out_of_memory }
+    ensures given_up { StopsAtFailure (E.failures errs.old) (E.failures errs.new) }
     ensures never_falls { E.faults errs.old ≤ E.faults errs.new }
     ensures stays_ready { E.is_ready errs.new ≡ true }
 {
@@ -35,6 +40,7 @@ pub fn say_not_opened<E: Sink>(errs: &mut E, name: &str)
     requires { E.is_ready errs.old ≡ true }
     ensures said { IsSaid (E.documents errs.old) (E.documents errs.new) (E.faults errs.old)
         (E.faults errs.new) (not_opened name.now) }
+    ensures given_up { StopsAtFailure (E.failures errs.old) (E.failures errs.new) }
     ensures never_falls { E.faults errs.old ≤ E.faults errs.new }
     ensures stays_ready { E.is_ready errs.new ≡ true }
 {
@@ -49,6 +55,7 @@ pub fn say_not_written<E: Sink>(errs: &mut E, name: &str)
     requires { E.is_ready errs.old ≡ true }
     ensures said { IsSaid (E.documents errs.old) (E.documents errs.new) (E.faults errs.old)
         (E.faults errs.new) (not_written name.now) }
+    ensures given_up { StopsAtFailure (E.failures errs.old) (E.failures errs.new) }
     ensures never_falls { E.faults errs.old ≤ E.faults errs.new }
     ensures stays_ready { E.is_ready errs.new ≡ true }
 {
@@ -60,6 +67,7 @@ pub fn say_of_page<E: Sink>(errs: &mut E, name: &str, page: u64, text: &str)
     requires { E.is_ready errs.old ≡ true }
     ensures said { IsSaid (E.documents errs.old) (E.documents errs.new) (E.faults errs.old)
         (E.faults errs.new) (page_line name.now page text.now) }
+    ensures given_up { StopsAtFailure (E.failures errs.old) (E.failures errs.new) }
     ensures never_falls { E.faults errs.old ≤ E.faults errs.new }
     ensures stays_ready { E.is_ready errs.new ≡ true }
 {
@@ -84,6 +92,7 @@ pub fn say_trailing<E: Sink>(errs: &mut E, name: &str, pages: u64)
     requires { E.is_ready errs.old ≡ true }
     ensures said { IsSaid (E.documents errs.old) (E.documents errs.new) (E.faults errs.old)
         (E.faults errs.new) (trailing_line name.now pages) }
+    ensures given_up { StopsAtFailure (E.failures errs.old) (E.failures errs.new) }
     ensures never_falls { E.faults errs.old ≤ E.faults errs.new }
     ensures stays_ready { E.is_ready errs.new ≡ true }
 {
@@ -106,6 +115,7 @@ fn say<E: Sink>(errs: &mut E, pieces: &[&[u8]])
     requires { E.is_ready errs.old ≡ true }
     ensures said { IsSaid (E.documents errs.old) (E.documents errs.new) (E.faults errs.old)
         (E.faults errs.new) (concat (map (λ piece. piece.now) pieces.now)) }
+    ensures given_up { StopsAtFailure (E.failures errs.old) (E.failures errs.new) }
     ensures never_falls { E.faults errs.old ≤ E.faults errs.new }
     ensures stays_ready { E.is_ready errs.new ≡ true }
 {

@@ -7,6 +7,7 @@ loop-piece-preserved g c = record {
   ready = c.in-Ok.ensures.stays_ready;
   so_far = piece_said (Bor (List ℕ)) (λ piece. piece.now) _ _ _ c.args.pieces.now c.loop-piece.piece-index _ c.loop-piece-test.true
       c.loop-piece.invariant.so_far c.in-Ok.ensures.appended;
+  went = c.in-Ok.ensures.went ∙ c.loop-piece.invariant.went;
   steady = c.in-Ok.ensures.steady ∙ c.loop-piece.invariant.steady;
 }
 

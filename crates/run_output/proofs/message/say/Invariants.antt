@@ -10,5 +10,6 @@ invariant-loop-piece g l =
     record {
       ready : sink.is_ready l.errs ≡ true;
       so_far : sink.documents l.errs ≡ with_bytes (sink.documents l.fn.errs) (concat (map (λ piece. piece.now) (take l.piece-index l.pieces)));
+      went : (sink.failures l.errs).count ≡ (sink.failures l.fn.errs).count;
       steady : sink.faults l.errs ≡ sink.faults l.fn.errs;
     }
