@@ -2,7 +2,6 @@
 use Rattle.std.proofs.Common.{◌≡◌, ◌≢◌, ◌≤◌, ◌⊎◌, ℕ, ◌+◌, false, List, [], ◌∷◌, ◌++◌, length, Option, None, Some, IfSome, option_map, inl, inr, refl, sym, ◌∙◌, ap, subst, append-nil, append_assoc, arith}
 use Rattle.std.specs.FinMap.{get}
 use Rattle.pt_base.specs.Counts.{Rose, next_count}
-use Rattle.pt_base.specs.Documents.{IsSaid}
 use Rattle.pt_base.specs.Files.{Contents, Files, Lacks, Opened, unread, unread_of, with_file}
 use Rattle.pt_base.specs.declared.fault.OpenFault.{OpenFault}
 use Rattle.pt_base.specs.declared.fault.OpenFault.TheVariants as opening
@@ -17,7 +16,7 @@ use Rattle.run_output.specs.declared.status.Status.TheVariants as status
 use Rattle.file_trace.specs.Held.{AreHeld, Held}
 use Rattle.file_trace.specs.Items.{AreItems, IsAbsent, Item, Nothing, told_contents}
 use Rattle.file_trace.specs.Items.Item.{Stop}
-use Rattle.file_trace.specs.Outcome.{AreCarriedOut, HasEnded, HoldsBytes, IsOutcomeBehind, OpensUpTo, IsStopped, IsUnopened, IsUnread, ReadsFileNear, ReadsNear, Sinks, Source, opened_name}
+use Rattle.file_trace.specs.Outcome.{AreCarriedOut, HasEnded, HoldsBytes, IsMessage, IsOutcomeBehind, IsUnopened, IsUnread, OpensUpTo, ReadsFileNear, ReadsNear, Sinks, Source, opened_name}
 use Rattle.file_trace.specs.Progress.{EndsWithFile, Halts, InputCount, Traces, TracesFile, docs, end_message, status_of}
 use Rattle.file_trace.specs.Unopened.{EndsUnopened}
 use Rattle.file_trace.specs.declared.pages.PagesEnd.{PagesEnd}
@@ -51,12 +50,12 @@ file_unopened settings output name made source source_now a c one closed cause n
 
 -- all that was held is carried out, and then that is said
 pub unopened_said : (name : List ℕ) (items : List Item) (a b c : Sinks) → AreCarriedOut items [] a b
-    → c.outs ≡ b.outs → IsSaid b.errs c.errs b.errs_faults c.errs_faults (not_opened name) → b.errs_faults ≤ c.errs_faults → EndsUnopened name status.Unread items a c
-unopened_said name items a b c done same said most =
+    → c.outs ≡ b.outs → IsMessage (not_opened name) b.errs c.errs → EndsUnopened name status.Unread items a c
+unopened_said name items a b c done same one =
     inl (
       refl,
       subst (λ (l : List Item). AreCarriedOut l (not_opened name ∷ []) a c) (append-nil items)
-          (carried_on items [] (not_opened name ∷ []) a b c done (only_said (not_opened name) b c same said most)),
+          (carried_on items [] (not_opened name ∷ []) a b c done (only_said (not_opened name) b c same one)),
     )
 
 pub opened_as : (file : Option Opened) (name rest : List ℕ) → option_map unread_of file ≡ Some rest → option_map (λ (f : Opened). f.name) file ≡ Some name
@@ -182,18 +181,18 @@ unopened_ends settings can output name made held source source_now a c one close
 
 -- memory ran out before any of the first items was carried out, and of the files behind them
 pub ends_at_once : (contents : Option Contents) (settings : Settings) → CanWrite settings → (output : Option (List ℕ)) (names made : List (List ℕ)) (a b : Sinks)
-    → b.outs ≡ a.outs → IsSaid a.errs b.errs a.errs_faults b.errs_faults out_of_memory → a.errs_faults ≤ b.errs_faults → (first : List Item)
+    → b.outs ≡ a.outs → IsMessage out_of_memory a.errs b.errs → (first : List Item)
     → (items : List Item) × AreItems contents settings output Nothing names made items × HasEnded status.OutOfMemory (first ++ items) a b
-ends_at_once contents settings can output names made a b same said most first =
+ends_at_once contents settings can output names made a b same one first =
     let items = items_found contents settings can output names made in
-    (items.0, items.1, memory_out (first ++ items.0) a b same said most)
+    (items.0, items.1, memory_out (first ++ items.0) a b same one)
 
 -- memory ran out behind a file
 pub ends_behind : (size : ℕ) (contents : Option Contents) (settings : Settings) → CanWrite settings → (output : Option (List ℕ)) (name : List ℕ) (made made_now : List (List ℕ)) (held held_now : List Held) (a b c : Sinks)
     → TracesFile size contents settings output name made made_now held held_now a b
-    → c.outs ≡ b.outs → IsSaid b.errs c.errs b.errs_faults c.errs_faults out_of_memory → b.errs_faults ≤ c.errs_faults → (names : List (List ℕ)) (first : List Item) → AreHeld settings held first
+    → c.outs ≡ b.outs → IsMessage out_of_memory b.errs c.errs → (names : List (List ℕ)) (first : List Item) → AreHeld settings held first
     → (items : List Item) × AreItems contents settings output Nothing (name ∷ names) made items × HasEnded status.OutOfMemory (first ++ items) a c
-ends_behind size contents settings can output name made made_now held held_now a b c file same said most names first are_held =
+ends_behind size contents settings can output name made made_now held held_now a b c file same one names first are_held =
     let h = file.holds first are_held in
     let goes = GoesOn-behind first file.items (holds_goes_on size settings (first ++ file.items) held_now a b h) in
     let more = items_found contents settings can output names made_now in
@@ -201,7 +200,7 @@ ends_behind size contents settings can output name made made_now held held_now a
       file.items ++ more.0,
       are,
       subst (λ (l : List Item). HasEnded status.OutOfMemory l a c) (append_assoc first file.items more.0)
-          (ended_behind status.OutOfMemory size settings (first ++ file.items) more.0 held_now a b c h (λ left is. memory_out (left ++ more.0) b c same said most)),
+          (ended_behind status.OutOfMemory size settings (first ++ file.items) more.0 held_now a b c h (λ left is. memory_out (left ++ more.0) b c same one)),
     )
 
 -- the run ends so with the pages of a file, and this line is said
@@ -212,12 +211,12 @@ pub record IsStop (name : List ℕ) (end : PagesEnd) (k : ℕ) (s : Status) (lin
   pub same : line ≡ end_message name end k
 
 -- all that was held is carried out, and then the line of the end is said
-pub end_said : (name : List ℕ) (end : PagesEnd) (k : ℕ) (s : Status) (line : List ℕ) (items : List Item) (a b c : Sinks) → AreCarriedOut items [] a b → c.outs ≡ b.outs → IsSaid b.errs c.errs b.errs_faults c.errs_faults line → b.errs_faults ≤ c.errs_faults
+pub end_said : (name : List ℕ) (end : PagesEnd) (k : ℕ) (s : Status) (line : List ℕ) (items : List Item) (a b c : Sinks) → AreCarriedOut items [] a b → c.outs ≡ b.outs → IsMessage line b.errs c.errs
     → IsStop name end k s line → EndsWithFile name end k s items a c
-end_said name end k s line items a b c done outs said most stop =
+end_said name end k s line items a b c done outs one stop =
     let both : AreCarriedOut (items ++ []) (end_message name end k ∷ []) a c =
     carried_on items [] (end_message name end k ∷ []) a b c done
-    (only_said (end_message name end k) b c outs (subst (λ m. IsSaid b.errs c.errs b.errs_faults c.errs_faults m) stop.same said) most) in
+    (only_said (end_message name end k) b c outs (subst (λ m. IsMessage m b.errs c.errs) stop.same one)) in
     inl (stop.is, stop.going, stop.memory, subst (λ (l : List Item). AreCarriedOut l (end_message name end k ∷ []) a c) (append-nil items) both)
 
 -- how the inputs moved where the run ends within items: that isn't told

@@ -24,7 +24,7 @@ use Rattle.run_output.proofs.Naming.{length-made_with, made_with-in}
 use Rattle.file_trace.specs.Held.{AreHeld, Held, Holds}
 use Rattle.file_trace.specs.Items.{AreItems, ArePageItems, HoldsPages, Item, Nothing, Rest, told_contents, too_many}
 use Rattle.file_trace.specs.Items.Item.{Note, Stop}
-use Rattle.file_trace.specs.Outcome.{AreCarriedOut, BeginsWith, HasEnded, Sinks, is_later}
+use Rattle.file_trace.specs.Outcome.{BeginsWith, HasEnded, Sinks, is_later}
 use Rattle.file_trace.specs.Progress.{AreTraced, EndsWith, Halts, Traces, TracesFile, docs, end_message, end_notes, status_of}
 use Rattle.file_trace.specs.declared.pages.PagesEnd.{PagesEnd}
 use Rattle.file_trace.specs.declared.pages.PagesEnd.TheVariants as why

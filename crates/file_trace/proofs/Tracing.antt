@@ -160,7 +160,7 @@ near_end (Some all) reader after files now taken raws later (behind, rest, leave
             taken ++ t.needed.before,
             t.needed.block ++ left,
             split ∙ ap (λ l. taken ++ l) (same ∙ first_taken files t.more rest t.moves.told unread_is ∙ ap (λ m. m ++ left) t.needed.split ∙ append_assoc t.needed.before t.needed.block left)
-            ∙ sym (append_assoc taken t.needed.before (t.needed.block ++ left)),
+                ∙ sym (append_assoc taken t.needed.before (t.needed.block ++ left)),
             record {
               left = reader_ahead reader t.needed.before;
               pages = settled going t.needed.before;

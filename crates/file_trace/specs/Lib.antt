@@ -12,6 +12,8 @@
 --   doc_count: how many of the items are documents
 pub mod Items
 -- What a run has done, against the items that it was to write.
+--   Told: what a sink tells
+--   told_of
 --   Sinks: the outputs and the sink for messages
 --   sinks_of: what outputs and a sink for messages tell
 --   Source: the inputs
@@ -19,7 +21,7 @@ pub mod Items
 --   GoesOn: the run goes on after each of the items
 --   with_items: the documents of the items are added, whole and in order
 --   notes: the messages of the notes, in order
---   AreFronts: each part is a front of its message
+--   IsMessage: a message was said
 --   AreSaid: the messages were said
 --   AreCarriedOut: these items are carried out, and then these messages were said
 --   IsRefused: the last item is a page that is refused

@@ -49,7 +49,7 @@ pub returns-in_default : goal.returns-in_default
 returns-in_default g c = record {
   outcome = let output : Option (List ℕ) = option_map (λ s. s.now) c.args.output in
       ends_at_once (told_contents (g.I.Inputs.files c.args.inputs.now)) c.args.settings c.requires.offered.document output c.args.names.now [] _ _ refl
-      c.say_out_of_memory.ensures.said c.say_out_of_memory.ensures.never_falls [];
+      (record { said = c.say_out_of_memory.ensures.said; given_up = c.say_out_of_memory.ensures.given_up; never_falls = c.say_out_of_memory.ensures.never_falls }) [];
   opened = inl (refl, refl);
   one_pass = λ is. absurd (let no : status.OutOfMemory ≡ status.Unwritten = is in cc);
   input = tt;
