@@ -4,7 +4,6 @@ use Rattle.std.specs.Prelude.{string_bytes}
 use Rattle.std.specs.List.{AllZip}
 use Rattle.std.proofs.lemmas.List.{append-nil, drop_all, drop_more}
 use Rattle.bit_image.specs.Page.{Page as Pixels}
-use Rattle.pt_base.specs.Documents.{IsSaid}
 use Rattle.pt_base.specs.declared.settings.Settings.{Settings}
 use Rattle.page_trace.specs.Document.{IsDocument}
 use Rattle.page_trace.proofs.OneTrace.{one_document}
@@ -15,7 +14,7 @@ use Rattle.file_trace.specs.Held.{AreHeld, Held, pages_held}
 use Rattle.file_trace.specs.Held.Held.{Message, Page}
 use Rattle.file_trace.specs.Items.{Item}
 use Rattle.file_trace.specs.Items.Item.{Doc, Note}
-use Rattle.file_trace.specs.Outcome.{AreCarriedOut, IsUnwritten, Sinks}
+use Rattle.file_trace.specs.Outcome.{AreCarriedOut, IsMessage, IsUnwritten, Sinks, Told}
 use Rattle.file_trace.specs.declared.batch.Entry.{Entry as Given}
 use Rattle.file_trace.specs.declared.batch.Entry.TheVariants as entry
 use Rattle.file_trace.proofs.Carrying.{carried_on, ended_on, nothing_done, one_said}
@@ -128,6 +127,7 @@ page_cut entries texts i n a b c name here text within is e at w cut =
       split = ap (λ l. l ++ rest) cut.split ∙ append_assoc cut.before (Doc cut.name cut.text ∷ cut.after) rest;
       goes_on = cut.goes_on;
       cut_off = cut.cut_off;
+      failed = cut.failed;
       messages = cut.messages;
     } in
     subst (λ l. IsUnwritten l a c) (sym (w.split ∙ ap (λ l. w.before ++ l) next)) (ended_on status.Unwritten w.before (doc ∷ rest) a b c w.carried more)
@@ -135,16 +135,16 @@ page_cut entries texts i n a b c name here text within is e at w cut =
 -- the message at this place is said
 pub message_written : (entries : List Given) (texts : List (Vec ℕ Global)) (i n : ℕ) (a b c : Sinks) (name : _) (count : ℕ) (here : Given)
     → i < length entries → here ≡ get_or entries i here → here ≡ entry.Trailing name count → AreWritten entries texts i n a b
-    → c.outs ≡ b.outs → IsSaid b.errs c.errs b.errs_faults c.errs_faults (trailing_line (string_bytes name) count) → b.errs_faults ≤ c.errs_faults
+    → c.outs ≡ b.outs → IsMessage (trailing_line (string_bytes name) count) b.errs c.errs
     → AreWritten entries texts (i + 1) n a c
-message_written entries texts i n a b c name count here within is e w same said most =
+message_written entries texts i n a b c name count here within is e w same one =
     let note = Note (trailing_line (string_bytes name) count) in
     let from = entries_from entries i (entry.Trailing name count) here within is e in
     let counts = ap pages_among from in
     record {
       before = w.before ++ note ∷ [];
       split = item_more _ w.before _ _ note w.split (ap (λ (l : List Given). items_by l (drop n texts)) from);
-      carried = carried_on w.before (note ∷ []) [] a b c w.carried (record { goes_on = tt; documents = same; messages = one_said _ _ _ _ _ said most });
+      carried = carried_on w.before (note ∷ []) [] a b c w.carried (record { goes_on = tt; documents = ap (λ (t : Told). t.documents) same; went = ap (λ (t : Told). t.failures.count) same; messages = one_said _ _ _ one });
       left = omega (arith, w.left, counts);
     }
 

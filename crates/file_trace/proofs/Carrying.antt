@@ -1,17 +1,14 @@
 -- Items carried out one after another.
-use Rattle.std.proofs.Common.{◌≡◌, ◌≤◌, ◌⊎◌, ℕ, List, [], ◌∷◌, ◌++◌, length, take, Option, inl, inr, refl, sym, ◌∙◌, ap, subst, append_assoc, arith}
-use Rattle.std.specs.List.{concat}
-use Rattle.std.proofs.lemmas.List.{append-nil, take_all}
-use Rattle.std.proofs.lemmas.List.Folds.{concat-append}
-use Rattle.pt_base.specs.Counts.{Rose}
-use Rattle.pt_base.specs.Documents.{Documents, IsCutOff, IsSaid, with_bytes, with_whole}
-use Rattle.pt_base.proofs.Writing.{with_bytes-none, with_bytes-with_bytes}
+use Rattle.std.proofs.Common.{◌≡◌, true, ℕ, List, [], ◌∷◌, ◌++◌, Option, refl, sym, ◌∙◌, ap, subst, append_assoc}
+use Rattle.std.proofs.lemmas.List.{append-nil}
+use Rattle.pt_base.specs.Counts.{next_count}
+use Rattle.pt_base.specs.Documents.{Documents, IsCutOff, with_whole}
 use Rattle.run_output.specs.Messages.{not_written, out_of_memory}
 use Rattle.run_output.specs.declared.status.Status.{Status}
 use Rattle.run_output.specs.declared.status.Status.TheVariants as status
 use Rattle.file_trace.specs.Items.{Item}
 use Rattle.file_trace.specs.Items.Item.{Doc, Missing, Note, Stop}
-use Rattle.file_trace.specs.Outcome.{AreCarriedOut, AreFronts, AreSaid, GoesOn, HasEnded, IsUnwritten, Sinks, notes, with_items}
+use Rattle.file_trace.specs.Outcome.{AreCarriedOut, AreSaid, GoesOn, HasEnded, IsMessage, IsUnwritten, Sinks, Told, notes, with_items}
 
 pub GoesOn-append : (items more : List Item) → GoesOn items → GoesOn more → GoesOn (items ++ more)
 GoesOn-append [] more h k = k
@@ -34,29 +31,10 @@ notes-append (Note message ∷ items) more = ap (λ ms. message ∷ ms) (notes-a
 notes-append (Stop message ∷ items) more = notes-append items more
 notes-append (Missing name ∷ items) more = notes-append items more
 
-AreFronts-append : (parts messages more last : List (List ℕ)) → AreFronts parts messages → AreFronts more last → AreFronts (parts ++ more) (messages ++ last)
-AreFronts-append [] [] more last h k = k
-AreFronts-append (part ∷ parts) (message ∷ messages) more last h k = (h.0, AreFronts-append parts messages more last h.1 k)
-AreFronts-append [] (message ∷ messages) more last h k = absurd h
-AreFronts-append (part ∷ parts) [] more last h k = absurd h
-
 -- the messages, and then others
-pub said_on : (old mid new : Option Documents) (f g h : ℕ) (messages last : List (List ℕ)) → AreSaid old mid f g messages → AreSaid mid new g h last
-    → AreSaid old new f h (messages ++ last)
-said_on old mid new f g h messages last a b = record {
-  parts = a.parts ++ b.parts;
-  fronts = AreFronts-append a.parts messages b.parts last a.fronts b.fronts;
-  appended = b.appended ∙ ap (λ o. with_bytes o (concat b.parts)) a.appended ∙ with_bytes-with_bytes old (concat a.parts) (concat b.parts)
-      ∙ ap (with_bytes old) (sym (concat-append a.parts b.parts));
-  whole = both a.whole b.whole;
-  never_falls = omega (arith, a.never_falls, b.never_falls);
-} where
-  both : (a.parts ≡ messages) ⊎ Rose f g → (b.parts ≡ last) ⊎ Rose g h → (a.parts ++ b.parts ≡ messages ++ last) ⊎ Rose f h
-  both (inl e) (inl d) = inl (ap (λ ps. ps ++ b.parts) e ∙ ap (λ ps. messages ++ ps) d)
-  both (inl e) (inr (inl more)) = inr (inl (omega (arith, a.never_falls, more)))
-  both (inl e) (inr (inr full)) = inr (inr full)
-  both (inr (inl more)) d = inr (inl (omega (arith, b.never_falls, more)))
-  both (inr (inr full)) d = inr (inr (omega (arith, b.never_falls, full)))
+pub said_on : (old mid new : Told) (messages last : List (List ℕ)) → AreSaid old mid messages → AreSaid mid new last → AreSaid old new (messages ++ last)
+said_on old mid new [] last same behind = subst (λ t. AreSaid t new last) same behind
+said_on old mid new (message ∷ messages) last (next, one, said) behind = (next, one, said_on next mid new messages last said behind)
 
 notes_on : (items more : List Item) (last : List (List ℕ)) → (notes items ++ []) ++ (notes more ++ last) ≡ notes (items ++ more) ++ last
 notes_on items more last =
@@ -64,13 +42,12 @@ notes_on items more last =
     ∙ ap (λ ms. ms ++ last) (sym (notes-append items more))
 
 said_behind : (items more : List Item) (last : List (List ℕ)) (a b c : Sinks) → AreCarriedOut items [] a b
-    → AreSaid b.errs c.errs b.errs_faults c.errs_faults (notes more ++ last) → AreSaid a.errs c.errs a.errs_faults c.errs_faults (notes (items ++ more) ++ last)
+    → AreSaid b.errs c.errs (notes more ++ last) → AreSaid a.errs c.errs (notes (items ++ more) ++ last)
 said_behind items more last a b c done said =
-    subst (AreSaid a.errs c.errs a.errs_faults c.errs_faults) (notes_on items more last)
-    (said_on a.errs b.errs c.errs a.errs_faults b.errs_faults c.errs_faults (notes items ++ []) (notes more ++ last) done.messages said)
+    subst (AreSaid a.errs c.errs) (notes_on items more last) (said_on a.errs b.errs c.errs (notes items ++ []) (notes more ++ last) done.messages said)
 
-documents_on : (items more : List Item) (a b : Sinks) → AreCarriedOut items [] a b → with_items b.outs more ≡ with_items a.outs (items ++ more)
-documents_on items more a b done = ap (λ o. with_items o more) done.documents ∙ sym (with_items-append a.outs items more)
+documents_on : (items more : List Item) (a b : Sinks) → AreCarriedOut items [] a b → with_items b.outs.documents more ≡ with_items a.outs.documents (items ++ more)
+documents_on items more a b done = ap (λ o. with_items o more) done.documents ∙ sym (with_items-append a.outs.documents items more)
 
 -- items, and then others
 pub carried_on : (items more : List Item) (last : List (List ℕ)) (a b c : Sinks) → AreCarriedOut items [] a b → AreCarriedOut more last b c
@@ -78,6 +55,7 @@ pub carried_on : (items more : List Item) (last : List (List ℕ)) (a b c : Sink
 carried_on items more last a b c done next = record {
   goes_on = GoesOn-append items more done.goes_on next.goes_on;
   documents = next.documents ∙ documents_on items more a b done;
+  went = next.went ∙ done.went;
   messages = said_behind items more last a b c done next.messages;
 }
 
@@ -92,7 +70,8 @@ unwritten_on items more a b c done next = (
     after = next.after;
     split = ap (λ l. items ++ l) next.split ∙ sym (append_assoc items next.before (Doc next.name next.text ∷ next.after));
     goes_on = GoesOn-append items next.before done.goes_on next.goes_on;
-    cut_off = subst (λ o. IsCutOff o c.outs next.name next.text) (documents_on items next.before a b done) next.cut_off;
+    cut_off = subst (λ o. IsCutOff o c.outs.documents next.name next.text) (documents_on items next.before a b done) next.cut_off;
+    failed = next.failed ∙ ap (λ n. record { count = next_count n; is_last = true }) done.went;
     messages = said_behind items next.before (not_written next.name ∷ []) a b c done next.messages;
   },
   refl,
@@ -109,6 +88,7 @@ unwritten_as items others a b same u = (
     split = same ∙ u.split;
     goes_on = u.goes_on;
     cut_off = u.cut_off;
+    failed = u.failed;
     messages = u.messages;
   },
   refl,
@@ -125,6 +105,7 @@ unwritten_more items more a b u = (
     split = ap (λ l. l ++ more) u.split ∙ append_assoc u.before (Doc u.name u.text ∷ u.after) more;
     goes_on = u.goes_on;
     cut_off = u.cut_off;
+    failed = u.failed;
     messages = u.messages;
   },
   refl,
@@ -149,33 +130,19 @@ ended_on status.OutOfMemory items more a b c done next = record {
 ended_on status.BadWords items more a b c done next = next
 ended_on status.Unread items more a b c done next = next
 
--- nothing was said
-pub none_said : (told : Option Documents) (faults : ℕ) → AreSaid told told faults faults []
-none_said told faults = record { parts = []; fronts = tt; appended = sym (with_bytes-none told); whole = inl refl; never_falls = omega arith }
-
 -- one message was said
-pub one_said : (old new : Option Documents) (faults faults_now : ℕ) (message : List ℕ)
-    → IsSaid old new faults faults_now message → faults ≤ faults_now → AreSaid old new faults faults_now (message ∷ [])
-one_said old new faults faults_now message (inl e) most = record {
-  parts = message ∷ [];
-  fronts = ((length message, omega arith, sym (take_all (length message) message (omega arith))), tt);
-  appended = e ∙ ap (with_bytes old) (sym (append-nil message));
-  whole = inl refl;
-  never_falls = most;
-}
-one_said old new faults faults_now message (inr (rose, (n, few, e))) most = record {
-  parts = take n message ∷ [];
-  fronts = ((n, few, refl), tt);
-  appended = e ∙ ap (with_bytes old) (sym (append-nil (take n message)));
-  whole = inr rose;
-  never_falls = most;
-}
+pub one_said : (message : List ℕ) (old new : Told) → IsMessage message old new → AreSaid old new (message ∷ [])
+one_said message old new one = (new, one, refl)
 
 -- nothing was done
 pub nothing_done : (a : Sinks) → AreCarriedOut [] [] a a
-nothing_done a = record { goes_on = tt; documents = refl; messages = none_said a.errs a.errs_faults }
+nothing_done a = record { goes_on = tt; documents = refl; went = refl; messages = refl }
 
 -- nothing was written, and one message was said
-pub only_said : (message : List ℕ) (a b : Sinks) → b.outs ≡ a.outs → IsSaid a.errs b.errs a.errs_faults b.errs_faults message → a.errs_faults ≤ b.errs_faults
-    → AreCarriedOut [] (message ∷ []) a b
-only_said message a b same said most = record { goes_on = tt; documents = same; messages = one_said a.errs b.errs a.errs_faults b.errs_faults message said most }
+pub only_said : (message : List ℕ) (a b : Sinks) → b.outs ≡ a.outs → IsMessage message a.errs b.errs → AreCarriedOut [] (message ∷ []) a b
+only_said message a b same one = record {
+  goes_on = tt;
+  documents = ap (λ (t : Told). t.documents) same;
+  went = ap (λ (t : Told). t.failures.count) same;
+  messages = one_said message a.errs b.errs one;
+}

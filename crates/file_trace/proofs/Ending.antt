@@ -2,11 +2,11 @@
 use Rattle.std.proofs.Common.{◌≡◌, ◌≢◌, ◌≤◌, ◌⊎◌, ℕ, ◌+◌, false, List, [], ◌∷◌, ◌++◌, length, Option, None, Some, IfSome, option_map, inl, inr, refl, sym, ◌∙◌, ap, subst, append-nil, append_assoc, arith}
 use Rattle.std.specs.FinMap.{get}
 use Rattle.pt_base.specs.Counts.{Rose, next_count}
-use Rattle.pt_base.specs.Documents.{IsSaid}
 use Rattle.pt_base.specs.Files.{Contents, Files, Lacks, Opened, unread, unread_of, with_file}
 use Rattle.pt_base.specs.declared.fault.OpenFault.{OpenFault}
 use Rattle.pt_base.specs.declared.fault.OpenFault.TheVariants as opening
 use Rattle.pt_base.specs.declared.settings.Settings.{Settings}
+use Rattle.bitmap_input.specs.Raw.{Raw}
 use Rattle.page_trace.specs.Document.{CanWrite}
 use Rattle.run_output.specs.Messages.{not_opened, out_of_memory, page_line, read_fault}
 use Rattle.run_output.specs.Names.{base_name}
@@ -15,14 +15,15 @@ use Rattle.run_output.specs.declared.status.Status.{Status}
 use Rattle.run_output.specs.declared.status.Status.TheVariants as status
 use Rattle.file_trace.specs.Held.{AreHeld, Held}
 use Rattle.file_trace.specs.Items.{AreItems, IsAbsent, Item, Nothing, told_contents}
-use Rattle.file_trace.specs.Outcome.{AreCarriedOut, HasEnded, HoldsBytes, IsOutcomeBehind, OpensUpTo, IsUnopened, IsUnread, Sinks, Source, opened_name}
+use Rattle.file_trace.specs.Items.Item.{Stop}
+use Rattle.file_trace.specs.Outcome.{AreCarriedOut, HasEnded, HoldsBytes, IsMessage, IsOutcomeBehind, IsUnopened, IsUnread, OpensUpTo, ReadsFileNear, ReadsNear, Sinks, Source, opened_name}
 use Rattle.file_trace.specs.Progress.{EndsWithFile, Halts, InputCount, Traces, TracesFile, docs, end_message, status_of}
 use Rattle.file_trace.specs.Unopened.{EndsUnopened}
 use Rattle.file_trace.specs.declared.pages.PagesEnd.{PagesEnd}
 use Rattle.file_trace.specs.declared.pages.PagesEnd.TheVariants as why
 use Rattle.file_trace.proofs.Carrying.{carried_on, ended_on, only_said}
 use Rattle.file_trace.proofs.Exists.{items_found}
-use Rattle.file_trace.proofs.Filing.{docs_alone, file_full, file_halts, file_refused, has_bytes, read_by_halting, read_by_tracing, HasBytes, HasRead}
+use Rattle.file_trace.proofs.Filing.{docs_alone, file_halts, full_items, has_bytes, read_by_halting, read_by_tracing, refused_items, HasBytes, HasRead}
 use Rattle.file_trace.proofs.Holding.{ended_behind}
 use Rattle.file_trace.proofs.Joining.{items_join}
 use Rattle.file_trace.proofs.Keeping.{GoesOn-behind, IsHalt, ended_more, holds_goes_on, memory_out}
@@ -49,12 +50,12 @@ file_unopened settings output name made source source_now a c one closed cause n
 
 -- all that was held is carried out, and then that is said
 pub unopened_said : (name : List ℕ) (items : List Item) (a b c : Sinks) → AreCarriedOut items [] a b
-    → c.outs ≡ b.outs → IsSaid b.errs c.errs b.errs_faults c.errs_faults (not_opened name) → b.errs_faults ≤ c.errs_faults → EndsUnopened name status.Unread items a c
-unopened_said name items a b c done same said most =
+    → c.outs ≡ b.outs → IsMessage (not_opened name) b.errs c.errs → EndsUnopened name status.Unread items a c
+unopened_said name items a b c done same one =
     inl (
       refl,
       subst (λ (l : List Item). AreCarriedOut l (not_opened name ∷ []) a c) (append-nil items)
-          (carried_on items [] (not_opened name ∷ []) a b c done (only_said (not_opened name) b c same said most)),
+          (carried_on items [] (not_opened name ∷ []) a b c done (only_said (not_opened name) b c same one)),
     )
 
 pub opened_as : (file : Option Opened) (name rest : List ℕ) → option_map unread_of file ≡ Some rest → option_map (λ (f : Opened). f.name) file ≡ Some name
@@ -90,6 +91,21 @@ left_of (Some files) start (Some now) name taken opened there contents named tol
       opened = opened_as now.opened name rest left (named ∙ ap opened_name opened ∙ name-opened files name bytes held);
       bytes = held ∙ ap (λ (bs : List ℕ). Some bs) split;
     }
+
+-- the same of how near it is read
+near_of : (told start now : Option Files) (name : List ℕ) (raws : List Raw) → start ≡ with_file told name → (Lacks told name → ⊥)
+    → told_contents now ≡ told_contents start → opened_name now ≡ opened_name start
+    → IfSome (unread start) (λ bytes. (left : List ℕ) × (unread now ≡ Some left) × ReadsNear bytes raws left)
+    → (rest : List ℕ) × IfSome now (λ files. files.opened ≡ Some (record { name = name; rest = rest })) × ReadsFileNear (told_contents told) name raws rest
+near_of None start None name raws opened there contents named near = ([], tt, tt)
+near_of None start (Some files) name raws opened there contents named near =
+    absurd (let e : Some files.contents ≡ None = contents ∙ ap told_contents opened in cc)
+near_of (Some files) start None name raws opened there contents named near =
+    absurd (let e : None ≡ Some files.contents = contents ∙ ap told_contents opened in cc)
+near_of (Some files) start (Some now) name raws opened there contents named near =
+    let (bytes, held, is) = has_bytes (Some files) start name opened there in
+    let (rest, left, few) = subst (λ (o : Option (List ℕ)). IfSome o (λ bs. (left : List ℕ) × (option_map unread_of now.opened ≡ Some left) × ReadsNear bs raws left)) is near in
+    (rest, opened_as now.opened name rest left (named ∙ ap opened_name opened ∙ name-opened files name bytes held), (bytes, held, few))
 
 -- a read failed behind pages of the file
 pub file_unread : (size : ℕ) (settings : Settings) (output : Option (List ℕ)) (name : List ℕ) (made : List (List ℕ)) (start : Option Files) (k : ℕ) (held held_mid : List Held) (source source_now : Source) (a b c : Sinks)
@@ -134,9 +150,11 @@ unopened_by told name before now opening.Device absent device = inr (device refl
 pub outcome_of_halt : (s : Status) → IsHalt s → (first : List Item) (contents : Option Contents) (settings : Settings) (output : Option (List ℕ)) (names made : List (List ℕ)) (source source_now : Source) (a b : Sinks)
     → (items : List Item) × AreItems contents settings output Nothing names made items × HasEnded s (first ++ items) a b
     → IsOutcomeBehind s first contents settings output names made source source_now a b
-outcome_of_halt status.Done which first contents settings output names made source source_now a b h = h
+outcome_of_halt status.Done (inl is) first contents settings output names made source source_now a b h = absurd (let no : status.Done ≡ status.Unwritten = is in cc)
+outcome_of_halt status.Done (inr is) first contents settings output names made source source_now a b h = absurd (let no : status.Done ≡ status.OutOfMemory = is in cc)
 outcome_of_halt status.BadWords which first contents settings output names made source source_now a b h = h
-outcome_of_halt status.Refused which first contents settings output names made source source_now a b h = h
+outcome_of_halt status.Refused (inl is) first contents settings output names made source source_now a b h = absurd (let no : status.Refused ≡ status.Unwritten = is in cc)
+outcome_of_halt status.Refused (inr is) first contents settings output names made source source_now a b h = absurd (let no : status.Refused ≡ status.OutOfMemory = is in cc)
 outcome_of_halt status.Unwritten which first contents settings output names made source source_now a b h = h
 outcome_of_halt status.OutOfMemory which first contents settings output names made source source_now a b h = h
 outcome_of_halt status.Unread (inl is) first contents settings output names made source source_now a b h = absurd (let no : status.Unread ≡ status.Unwritten = is in cc)
@@ -163,18 +181,18 @@ unopened_ends settings can output name made held source source_now a c one close
 
 -- memory ran out before any of the first items was carried out, and of the files behind them
 pub ends_at_once : (contents : Option Contents) (settings : Settings) → CanWrite settings → (output : Option (List ℕ)) (names made : List (List ℕ)) (a b : Sinks)
-    → b.outs ≡ a.outs → IsSaid a.errs b.errs a.errs_faults b.errs_faults out_of_memory → a.errs_faults ≤ b.errs_faults → (first : List Item)
+    → b.outs ≡ a.outs → IsMessage out_of_memory a.errs b.errs → (first : List Item)
     → (items : List Item) × AreItems contents settings output Nothing names made items × HasEnded status.OutOfMemory (first ++ items) a b
-ends_at_once contents settings can output names made a b same said most first =
+ends_at_once contents settings can output names made a b same one first =
     let items = items_found contents settings can output names made in
-    (items.0, items.1, memory_out (first ++ items.0) a b same said most)
+    (items.0, items.1, memory_out (first ++ items.0) a b same one)
 
 -- memory ran out behind a file
 pub ends_behind : (size : ℕ) (contents : Option Contents) (settings : Settings) → CanWrite settings → (output : Option (List ℕ)) (name : List ℕ) (made made_now : List (List ℕ)) (held held_now : List Held) (a b c : Sinks)
     → TracesFile size contents settings output name made made_now held held_now a b
-    → c.outs ≡ b.outs → IsSaid b.errs c.errs b.errs_faults c.errs_faults out_of_memory → b.errs_faults ≤ c.errs_faults → (names : List (List ℕ)) (first : List Item) → AreHeld settings held first
+    → c.outs ≡ b.outs → IsMessage out_of_memory b.errs c.errs → (names : List (List ℕ)) (first : List Item) → AreHeld settings held first
     → (items : List Item) × AreItems contents settings output Nothing (name ∷ names) made items × HasEnded status.OutOfMemory (first ++ items) a c
-ends_behind size contents settings can output name made made_now held held_now a b c file same said most names first are_held =
+ends_behind size contents settings can output name made made_now held held_now a b c file same one names first are_held =
     let h = file.holds first are_held in
     let goes = GoesOn-behind first file.items (holds_goes_on size settings (first ++ file.items) held_now a b h) in
     let more = items_found contents settings can output names made_now in
@@ -182,7 +200,7 @@ ends_behind size contents settings can output name made made_now held held_now a
       file.items ++ more.0,
       are,
       subst (λ (l : List Item). HasEnded status.OutOfMemory l a c) (append_assoc first file.items more.0)
-          (ended_behind status.OutOfMemory size settings (first ++ file.items) more.0 held_now a b c h (λ left is. memory_out (left ++ more.0) b c same said most)),
+          (ended_behind status.OutOfMemory size settings (first ++ file.items) more.0 held_now a b c h (λ left is. memory_out (left ++ more.0) b c same one)),
     )
 
 -- the run ends so with the pages of a file, and this line is said
@@ -193,12 +211,12 @@ pub record IsStop (name : List ℕ) (end : PagesEnd) (k : ℕ) (s : Status) (lin
   pub same : line ≡ end_message name end k
 
 -- all that was held is carried out, and then the line of the end is said
-pub end_said : (name : List ℕ) (end : PagesEnd) (k : ℕ) (s : Status) (line : List ℕ) (items : List Item) (a b c : Sinks) → AreCarriedOut items [] a b → c.outs ≡ b.outs → IsSaid b.errs c.errs b.errs_faults c.errs_faults line → b.errs_faults ≤ c.errs_faults
+pub end_said : (name : List ℕ) (end : PagesEnd) (k : ℕ) (s : Status) (line : List ℕ) (items : List Item) (a b c : Sinks) → AreCarriedOut items [] a b → c.outs ≡ b.outs → IsMessage line b.errs c.errs
     → IsStop name end k s line → EndsWithFile name end k s items a c
-end_said name end k s line items a b c done outs said most stop =
+end_said name end k s line items a b c done outs one stop =
     let both : AreCarriedOut (items ++ []) (end_message name end k ∷ []) a c =
     carried_on items [] (end_message name end k ∷ []) a b c done
-    (only_said (end_message name end k) b c outs (subst (λ m. IsSaid b.errs c.errs b.errs_faults c.errs_faults m) stop.same said) most) in
+    (only_said (end_message name end k) b c outs (subst (λ m. IsMessage m b.errs c.errs) stop.same one)) in
     inl (stop.is, stop.going, stop.memory, subst (λ (l : List Item). AreCarriedOut l (end_message name end k ∷ []) a c) (append-nil items) both)
 
 -- how the inputs moved where the run ends within items: that isn't told
@@ -232,6 +250,28 @@ module _ (size : ℕ) (settings : Settings) (can : CanWrite settings) (output : 
   has : HasBytes (told_contents source.files) name (unread start)
   has = has_bytes source.files start name opened there
 
+  -- with a page that is refused
+  stopped : (end : PagesEnd) (t : TracedTo end) (names : List (List ℕ)) (first : List Item)
+      → AreItems (told_contents source.files) settings output Nothing (name ∷ names) made (docs base made t.texts ++ Stop (end_message name end k) ∷ [])
+      → AreCarriedOut (first ++ docs base made t.texts) (end_message name end k ∷ []) a c → Ends status.Refused first names
+  stopped end t names first all done =
+      let (rest, here, near) = near_of source.files start source_now.files name t.raws opened there contents named t.near in
+      let few : length t.raws + length made ≤ most_pages = omega (arith, t.count, t.few) in
+      record {
+        name = name;
+        front = [];
+        raws = t.raws;
+        rest = rest;
+        before = docs base made t.texts;
+        message = end_message name end k;
+        reached = at_first name names source.openings source_now.openings one;
+        opened = here;
+        near = near;
+        items = docs_alone settings name base made t.raws t.texts t.traced few;
+        all = all;
+        done = done;
+      }
+
   -- behind all that was held, and its message is said
   ends_said : (end : PagesEnd) → (end ≡ why.Unread → Rose source.faults source_now.faults) → (t : TracedTo end) → status_of end ≢ status.Done → status_of end ≢ status.OutOfMemory
       → (names : List (List ℕ)) (first : List Item) → AreCarriedOut (first ++ docs base made t.texts) (end_message name end k ∷ []) a c → Ends (status_of end) first names
@@ -239,9 +279,9 @@ module _ (size : ℕ) (settings : Settings) (can : CanWrite settings) (output : 
   ends_said why.Trailing rose t going memory names first done = absurd (going refl)
   ends_said why.OutOfMemory rose t going memory names first done = absurd (memory refl)
   ends_said (why.Refused f) rose t going memory names first done =
-      file_refused (told_contents source.files) settings output name made size start source_now.files k held held_mid a b has f first names c t done
+      stopped (why.Refused f) t names first (refused_items (told_contents source.files) settings output name made size start source_now.files k held held_mid a b has f names t) done
   ends_said why.TooMany rose t going memory names first done =
-      file_full (told_contents source.files) settings output name made size start source_now.files k held held_mid a b has first names c t done
+      stopped why.TooMany t names first (full_items (told_contents source.files) settings output name made size start source_now.files k held held_mid a b has names t) done
   ends_said why.Unread rose t going memory names first done =
       inr (file_unread size settings output name made start k held held_mid source source_now a b c opened there one contents named (rose refl) t names first done)
 

@@ -24,7 +24,7 @@ use Rattle.run_output.proofs.Naming.{length-made_with, made_with-in}
 use Rattle.file_trace.specs.Held.{AreHeld, Held, Holds}
 use Rattle.file_trace.specs.Items.{AreItems, ArePageItems, HoldsPages, Item, Nothing, Rest, told_contents, too_many}
 use Rattle.file_trace.specs.Items.Item.{Note, Stop}
-use Rattle.file_trace.specs.Outcome.{AreCarriedOut, BeginsWith, HasEnded, Sinks, is_later}
+use Rattle.file_trace.specs.Outcome.{BeginsWith, HasEnded, Sinks, is_later}
 use Rattle.file_trace.specs.Progress.{AreTraced, EndsWith, Halts, Traces, TracesFile, docs, end_message, end_notes, status_of}
 use Rattle.file_trace.specs.declared.pages.PagesEnd.{PagesEnd}
 use Rattle.file_trace.specs.declared.pages.PagesEnd.TheVariants as why
@@ -248,19 +248,6 @@ module _ (contents : Option Contents) (settings : Settings) (output : Option (Li
     abbrev AreRefused : List (List ℕ) → List (List ℕ) → List ℕ → Type 0
     AreRefused names texts message = AreItems contents settings output Nothing (name ∷ names) made (docs base made texts ++ Stop message ∷ [])
 
-    refused : (first : List Item) (names : List (List ℕ)) (texts : List (List ℕ)) (message : List ℕ) (c : Sinks) → AreCarriedOut (first ++ docs base made texts) (message ∷ []) a c
-        → AreRefused names texts message → EndsFile status.Refused first names a c
-    refused first names texts message c done are = (
-      docs base made texts ++ Stop message ∷ [],
-      are,
-      record {
-        before = first ++ docs base made texts;
-        message = message;
-        split = sym (append_assoc first (docs base made texts) (Stop message ∷ []));
-        done = done;
-      },
-    )
-
     pub refused_items : (f : InFault) (names : List (List ℕ)) (t : TracedTo (why.Refused f)) → AreRefused names t.texts (end_message name (why.Refused f) k)
     refused_items f names t =
         let (kind, cause, here) = t.ends in
@@ -269,10 +256,6 @@ module _ (contents : Option Contents) (settings : Settings) (output : Option (Li
         subst (AreRefused names t.texts) (sym same)
         (inr (listed (Behind names) (read_of (why.Refused f) t) k t.count [] (Refused kind) (Stop message ∷ []) (pages_end _ (Refused kind) t.rest here) refl))
 
-    pub file_refused : (f : InFault) (first : List Item) (names : List (List ℕ)) (c : Sinks) (t : TracedTo (why.Refused f))
-        → AreCarriedOut (first ++ docs base made t.texts) (end_message name (why.Refused f) k ∷ []) a c → EndsFile status.Refused first names a c
-    file_refused f first names c t done = refused first names t.texts (end_message name (why.Refused f) k) c done (refused_items f names t)
-
     pub full_items : (names : List (List ℕ)) (t : TracedTo why.TooMany) → AreRefused names t.texts (end_message name why.TooMany k)
     full_items names t =
         let (raw, used, here) = t.ends in
@@ -280,7 +263,3 @@ module _ (contents : Option Contents) (settings : Settings) (output : Option (Li
         let message = page_line name (k + 1) too_many in
         let full : most_pages ≤ length (made_with base k made) = omega (arith, t.full refl, length-made_with base k made) in
         inr (listed (Behind names) (read_of why.TooMany t) k t.count (raw ∷ page.raws) page.ending (Stop message ∷ []) page.pages (inr (full, refl)))
-
-    pub file_full : (first : List Item) (names : List (List ℕ)) (c : Sinks) (t : TracedTo why.TooMany)
-        → AreCarriedOut (first ++ docs base made t.texts) (end_message name why.TooMany k ∷ []) a c → EndsFile status.Refused first names a c
-    file_full first names c t done = refused first names t.texts (end_message name why.TooMany k) c done (full_items names t)

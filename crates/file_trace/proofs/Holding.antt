@@ -1,7 +1,6 @@
 -- What is held goes on: of the items read the first are carried out, and the others are held.
-use Rattle.std.proofs.Common.{◌≡◌, ◌≤◌, ℕ, suc, ◌+◌, ◌*◌, List, add-mul, one-mul, zero-mul, [], ◌∷◌, ◌++◌, refl, sym, ◌∙◌, ap, subst, append_assoc, arith}
+use Rattle.std.proofs.Common.{◌≡◌, ℕ, suc, ◌+◌, ◌*◌, List, add-mul, one-mul, zero-mul, [], ◌∷◌, ◌++◌, refl, sym, ◌∙◌, ap, subst, append_assoc, arith}
 use Rattle.std.proofs.lemmas.List.{append-nil}
-use Rattle.pt_base.specs.Documents.{IsSaid}
 use Rattle.bit_image.specs.Page.{Page as Pixels}
 use Rattle.page_trace.specs.Document.{IsDocument}
 use Rattle.pt_base.specs.declared.settings.Settings.{Settings}
@@ -11,7 +10,7 @@ use Rattle.file_trace.specs.Held.{AreHeld, Held, Holds, pages_held}
 use Rattle.file_trace.specs.Held.Held.{Message, Page}
 use Rattle.file_trace.specs.Items.{Item, doc_count}
 use Rattle.file_trace.specs.Items.Item.{Doc, Missing, Note, Stop}
-use Rattle.file_trace.specs.Outcome.{AreCarriedOut, HasEnded, IsOutOfMemory, Sinks}
+use Rattle.file_trace.specs.Outcome.{AreCarriedOut, HasEnded, IsMessage, IsOutOfMemory, Sinks}
 use Rattle.file_trace.proofs.Carrying.{carried_on, ended_on, nothing_done, only_said}
 
 -- the items of what is held, and of what is held behind it
@@ -73,9 +72,8 @@ all_carried size settings read held a b empty full done =
     record { done = read; left = []; split = sym (append-nil read); batches = 1; whole = full ∙ sym (one-mul size); carried = done; are_held = subst (λ h. AreHeld settings h []) (sym empty) refl }
 
 -- memory ran out, and nothing was carried out
-pub none_carried : (items : List Item) (a b : Sinks) → b.outs ≡ a.outs → IsSaid a.errs b.errs a.errs_faults b.errs_faults out_of_memory
-    → a.errs_faults ≤ b.errs_faults → IsOutOfMemory items a b
-none_carried items a b same said most = record { before = []; after = items; split = refl; done = only_said out_of_memory a b same said most }
+pub none_carried : (items : List Item) (a b : Sinks) → b.outs ≡ a.outs → IsMessage out_of_memory a.errs b.errs → IsOutOfMemory items a b
+none_carried items a b same one = record { before = []; after = items; split = refl; done = only_said out_of_memory a b same one }
 
 -- what was read, and then more
 pub split_on : (done left read more : List Item) → read ≡ done ++ left → read ++ more ≡ done ++ (left ++ more)

@@ -12,10 +12,11 @@ use Rattle.run_output.specs.declared.status.Status.{Status}
 use Rattle.run_output.specs.declared.status.Status.TheVariants as status
 use Rattle.file_trace.specs.Held.{AreHeld, Held, Holds}
 use Rattle.file_trace.specs.Items.{AreItems, ArePageItems, IsAbsent, Item, Nothing, Rest, doc_count}
+use Rattle.file_trace.specs.Items.Item.{Stop}
 use Rattle.file_trace.specs.OnePass.{IfReadsTo, IsOnePass, batch_end}
 use Rattle.file_trace.specs.Outcome.{AreCarriedOut, GoesOn, HasEnded, IsOutcomeBehind, OpensUpTo, Sinks, Source}
 use Rattle.file_trace.specs.Progress.{EndsWith}
-use Rattle.file_trace.proofs.Carrying.{carried_on, ended_on, unwritten_as, unwritten_on}
+use Rattle.file_trace.proofs.Carrying.{GoesOn-append, carried_on, ended_on, unwritten_as, unwritten_on}
 use Rattle.file_trace.proofs.Holding.{doc_count-append}
 use Rattle.file_trace.proofs.Keeping.{GoesOn-behind, holds_goes_on}
 use Rattle.file_trace.proofs.OnePass.{batch_end_behind}
@@ -65,6 +66,9 @@ items_join contents settings output F back mid after follow front made before go
 opened_on : (n k l m o : ℕ) → m ≡ min (l + n) last_count → o ≡ min (m + (k + 1)) last_count → o ≡ min (l + (n + k + 1)) last_count
 opened_on n k l m o e f = omega (arith, e, f)
 
+opened_behind : (n k l m o : ℕ) → m ≡ min (l + n) last_count → o ≡ min (m + k) last_count → o ≡ min (l + (n + k)) last_count
+opened_behind n k l m o e f = omega (arith, e, f)
+
 -- the outcome of files, behind what is held, is that of the files in front of them and theirs
 pub outcome_on : (s : Status) (size : ℕ) (contents : Option Contents) (settings : Settings) (output : Option (List ℕ)) (front back made mid : List (List ℕ)) (first before : List Item) (held : List Held)
     (start then now : Source) (a b c : Sinks) → AreItems contents settings output (EndsWith mid) front made before → Holds size settings (first ++ before) held a b
@@ -98,9 +102,25 @@ outcome_on s size contents settings output front back made mid first before held
   }
 
   by_status : (s : Status) → IsOutcomeBehind s h.left contents settings output back mid then now b c → IsOutcomeBehind s first contents settings output (front ++ back) made start now a c
-  by_status status.Done o = ended status.Done o
+  by_status status.Done (items, follow, end, opens) =
+      let joins = ended status.Done (items, follow, end) in
+      (joins.0, joins.1, joins.2, rw (length-append front back) (opened_behind (length front) (length back) start.openings then.openings now.openings openings opens))
   by_status status.BadWords o = ended status.BadWords o
-  by_status status.Refused o = ended status.Refused o
+  by_status status.Refused u = record {
+    name = u.name;
+    front = front ++ u.front;
+    raws = u.raws;
+    rest = u.rest;
+    before = before ++ u.before;
+    message = u.message;
+    reached = reached u.name u.front u.reached;
+    opened = u.opened;
+    near = u.near;
+    items = joined _ u.before u.front u.items;
+    all = subst (λ l. AreItems contents settings output Nothing (front ++ back) made l) (sym (append_assoc before u.before (Stop u.message ∷ [])))
+        (joined Nothing (u.before ++ Stop u.message ∷ []) back u.all);
+    done = carried u.before (u.message ∷ []) u.done;
+  }
   by_status status.Unwritten o = ended status.Unwritten o
   by_status status.OutOfMemory o = ended status.OutOfMemory o
   by_status status.Unread (inl u) = inl (record {
@@ -171,7 +191,7 @@ one_pass_on size some contents settings output front back made mid first before 
         front = front ++ u.front;
         bytes = u.bytes;
         raws = u.raws;
-        left = u.left;
+        behind = u.behind;
         rest = u.rest;
         before = before ++ u.before;
         reached = record {
@@ -185,5 +205,6 @@ one_pass_on size some contents settings output front back made mid first before 
         opened = u.opened;
         near = u.near;
         items = items_join (Some told) settings output _ u.front mid u.before u.items front made before goes are;
+        goes_on = GoesOn-append before u.before goes u.goes_on;
         count = counted u.before ∙ ap (λ n. h.batches * size + n) u.count;
       }

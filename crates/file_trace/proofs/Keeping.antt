@@ -1,6 +1,5 @@
 -- How a run goes on after what is held, or ends within it.
-use Rattle.std.proofs.Common.{◌≡◌, ◌≤◌, ◌⊎◌, ℕ, List, [], ◌∷◌, ◌++◌, inl, inr, refl, sym, ◌∙◌, ap, subst, append_assoc}
-use Rattle.pt_base.specs.Documents.{IsSaid}
+use Rattle.std.proofs.Common.{◌≡◌, ◌⊎◌, ℕ, List, [], ◌∷◌, ◌++◌, inl, inr, refl, sym, ◌∙◌, ap, subst, append_assoc}
 use Rattle.pt_base.specs.declared.settings.Settings.{Settings}
 use Rattle.run_output.specs.Messages.{out_of_memory}
 use Rattle.run_output.specs.declared.status.Status.{Status}
@@ -9,7 +8,7 @@ use Rattle.file_trace.specs.Held.{AreHeld, Held, Holds}
 use Rattle.file_trace.specs.Held.Held.{Message, Page}
 use Rattle.file_trace.specs.Items.{Item}
 use Rattle.file_trace.specs.Items.Item.{Doc, Missing, Note, Stop}
-use Rattle.file_trace.specs.Outcome.{GoesOn, HasEnded, Sinks}
+use Rattle.file_trace.specs.Outcome.{GoesOn, HasEnded, IsMessage, Sinks}
 use Rattle.file_trace.proofs.Carrying.{only_said, unwritten_more, GoesOn-append}
 
 -- the run goes on after what is held
@@ -32,9 +31,9 @@ GoesOn-behind (Stop message ∷ items) more goes = absurd goes
 GoesOn-behind (Missing name ∷ items) more goes = absurd goes
 
 -- memory ran out before any of the items was carried out
-pub memory_out : (items : List Item) (a b : Sinks) → b.outs ≡ a.outs → IsSaid a.errs b.errs a.errs_faults b.errs_faults out_of_memory → a.errs_faults ≤ b.errs_faults
+pub memory_out : (items : List Item) (a b : Sinks) → b.outs ≡ a.outs → IsMessage out_of_memory a.errs b.errs
     → HasEnded status.OutOfMemory items a b
-memory_out items a b same said most = record { before = []; after = items; split = refl; done = only_said out_of_memory a b same said most }
+memory_out items a b same one = record { before = []; after = items; split = refl; done = only_said out_of_memory a b same one }
 
 -- the run ends within items: a document isn't written, or memory runs out
 abbrev pub IsHalt : Status → Type 0

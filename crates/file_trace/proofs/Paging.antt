@@ -7,7 +7,7 @@ use Rattle.bitmap_input.specs.Front.Answer.{Page as Gives}
 use Rattle.bitmap_input.specs.FilePages.{FilePages, next_begins}
 use Rattle.bitmap_input.specs.FilePages.FilePages.{Next}
 use Rattle.page_trace.specs.Document.{IsDocument}
-use Rattle.file_trace.specs.Outcome.{BeginsSettled, BeginsWith, is_later}
+use Rattle.file_trace.specs.Outcome.{BeginsSettled, BeginsWith, LeavesBehind, is_later}
 use Rattle.file_trace.specs.Progress.{AreTraced, Settles}
 use Rattle.pt_base.specs.declared.settings.Settings.{Settings}
 
@@ -23,6 +23,14 @@ BeginsWith-more later bytes [] rest raw used b e =
     (used, rw b e, ap (λ bs. drop (next_begins bs raw used) bs) b)
 BeginsWith-more later bytes (r ∷ raws) rest raw used (n, f, b) e =
     (n, f, BeginsWith-more true _ raws rest raw used b (rw (is_later-true raws) e))
+
+-- the same of the bytes behind those that the pages take
+pub LeavesBehind-more : (later : Bool) (bytes : List ℕ) (raws : List Raw) (rest : List ℕ) (raw : Raw) (used : ℕ)
+    → BeginsWith later bytes raws rest → front (is_later later raws) rest ≡ Gives raw used
+    → LeavesBehind later bytes (raws ++ raw ∷ []) (drop used rest)
+LeavesBehind-more later bytes [] rest raw used b e = (used, rw b e, ap (λ bs. drop used bs) (sym b))
+LeavesBehind-more later bytes (r ∷ []) rest raw used (n, f, b) e = (n, f, LeavesBehind-more true _ [] rest raw used b e)
+LeavesBehind-more later bytes (r ∷ s ∷ raws) rest raw used (n, f, b) e = (n, f, LeavesBehind-more true _ (s ∷ raws) rest raw used b e)
 
 -- one page more that isn't by the end
 pub BeginsSettled-more : (later : Bool) (bytes : List ℕ) (raws : List Raw) (rest : List ℕ) (raw : Raw) (used : ℕ) (left : List ℕ)

@@ -11,7 +11,7 @@ use Rattle.file_trace.specs.Held.{AreHeld, Held, pages_held}
 use Rattle.file_trace.specs.Items.{IsAbsent, Item, doc_count, told_contents}
 use Rattle.file_trace.specs.Items.Item.{Missing, Stop}
 use Rattle.file_trace.specs.OnePass.{IfReadsTo, IsOnePass}
-use Rattle.file_trace.specs.Outcome.{BeginsWith, HasEnded, IsUnwritten, Sinks, Source, opened_name}
+use Rattle.file_trace.specs.Outcome.{GoesOn, HasEnded, IsUnwritten, LeavesBehind, Sinks, Source, opened_name}
 use Rattle.file_trace.specs.Progress.{EndsWithFile, Halts, IsInPart, Traces, docs, end_message, status_of}
 use Rattle.file_trace.specs.Unopened.{EndsUnopened}
 use Rattle.file_trace.specs.declared.pages.PagesEnd.{PagesEnd}
@@ -52,6 +52,11 @@ pass_unopened size some settings can output name made held source source_now a c
   | inr (which, ended) ↦
       pass_held size some settings can output name made held source source_now a c few cause names first are (subst (λ (v : Status). HasEnded v first a c) unwritten ended)
 ]
+
+-- the run goes on after documents
+docs_go_on : (base : List ℕ) (made texts : List (List ℕ)) → GoesOn (docs base made texts)
+docs_go_on base made [] = tt
+docs_go_on base made (text ∷ texts) = docs_go_on base (base ∷ made) texts
 
 -- the file was opened
 module _ (size : ℕ) (some : 0 < size) (settings : Settings) (can : CanWrite settings) (output : Option (List ℕ)) (name : List ℕ) (made : List (List ℕ)) (start : Option Files)
@@ -127,14 +132,14 @@ module _ (size : ℕ) (some : 0 < size) (settings : Settings) (can : CanWrite se
         reads None opened there = tt
         reads (Some files) opened there =
             let (bytes, held_is, is) = has_bytes (Some files) start name opened there in
-            let (left, rest, begins, unread_is, near) = subst (λ (o : Option (List ℕ)).
-            IfSome o (λ all. (left : List ℕ) × (rest : List ℕ) × BeginsWith false all t.raws left × (unread source_now.files ≡ Some rest) × (length left ≤ length rest + 65536))) is t.near in
+            let (behind, rest, begins, unread_is, near) = subst (λ (o : Option (List ℕ)).
+            IfSome o (λ all. (behind : List ℕ) × (rest : List ℕ) × LeavesBehind false all t.raws behind × (unread source_now.files ≡ Some rest) × (length behind ≤ length rest + 65536))) is t.near in
             record {
               name = name;
               front = [];
               bytes = bytes;
               raws = t.raws;
-              left = left;
+              behind = behind;
               rest = rest;
               before = docs base made t.texts;
               reached = at_first name names source.openings source_now.openings one;
@@ -144,5 +149,6 @@ module _ (size : ℕ) (some : 0 < size) (settings : Settings) (can : CanWrite se
               opened = opened_at source_now.files rest unread_is (named ∙ ap opened_name opened ∙ name-opened files name bytes held_is);
               near = near;
               items = docs_alone settings name base made t.raws t.texts t.traced t.few;
+              goes_on = docs_go_on base made t.texts;
               count = refl;
             }

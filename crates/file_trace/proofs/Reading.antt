@@ -1,7 +1,7 @@
 -- The reader's answers, as the run sees them.
-use Rattle.std.proofs.Common.{◌≡◌, ◌≤◌, ℕ, ◌+◌, ◌-◌, Bool, true, false, List, ◌∷◌, ◌++◌, length, take, drop, Option, None, Some, IfSome, option_map, refl, sym, ◌∙◌, ap, subst, append_assoc, arith}
+use Rattle.std.proofs.Common.{◌≡◌, ◌≤◌, ℕ, ◌+◌, ◌-◌, Bool, true, false, inr, List, [], ◌∷◌, ◌++◌, length, take, drop, Option, None, Some, IfSome, option_map, refl, sym, ◌∙◌, ap, subst, append-nil, append_assoc, length-append, arith}
 use Rattle.std.specs.FinMap.{get}
-use Rattle.std.proofs.lemmas.List.{drop-append-le, drop-drop, take-append-drop}
+use Rattle.std.proofs.lemmas.List.{drop-append-le, drop-drop, length-drop, take-append-drop}
 use Rattle.std.proofs.lemmas.List.Elements.{All-head}
 use Rattle.pt_base.specs.Files.{Files, Opened, taken_of, unread, unread_of, with_file, with_no_file, with_read}
 use Rattle.bit_image.specs.Page.{IsPage, Page as Pixels}
@@ -11,12 +11,13 @@ use Rattle.bitmap_input.specs.Cut.{Cut, is_by_end}
 use Rattle.bitmap_input.specs.Cut.Cut.{Takes, Stops}
 use Rattle.bitmap_input.specs.Cut.Kind.{UnknownFormat, BadHeader, ZeroSide, TooLarge, Truncated, BadRaster, BmpKind, BadOffset, TooLong}
 use Rattle.bitmap_input.specs.Cut.Ending.{Refused}
+use Rattle.bitmap_input.specs.Cut.{Ending}
 use Rattle.bitmap_input.specs.Front.{front, page_at}
 use Rattle.bitmap_input.specs.Front.Answer.{Page, Ends}
 use Rattle.bitmap_input.specs.FilePages.{FilePages, next_begins}
 use Rattle.bitmap_input.specs.FilePages.FilePages.{Next}
 use Rattle.bitmap_input.specs.Raw.{Raw, shown}
-use Rattle.bitmap_input.specs.Reading.{cause_of_fault}
+use Rattle.bitmap_input.specs.Reading.{AtEnd, cause_of_fault}
 use Rattle.bitmap_input.specs.Reader.{Reader, ahead as reader_ahead, is_later, GivesEnding, GivesPage, IfSays, MemoryFails, ReadFails, TellsPage}
 use Rattle.bitmap_input.proofs.Appending.{with_more}
 use Rattle.bitmap_input.proofs.FrontStays.{front_stays, page_stays}
@@ -26,7 +27,7 @@ use Rattle.bitmap_input.proofs.Sided.{pages_shown}
 use Rattle.pt_base.specs.declared.settings.Settings.{Settings}
 use Rattle.file_trace.specs.Items.{told_contents}
 use Rattle.file_trace.specs.Outcome.{opened_name}
-use Rattle.file_trace.specs.Progress.{EndsReading, ReadsPage, Settles, ahead, end_of_fault}
+use Rattle.file_trace.specs.Progress.{EndsReading, ReadsPage, Settles, TakesNeeded, ahead, end_of_fault}
 
 mapped : (o : Option (List ℕ)) (f : List ℕ → List ℕ) (P : List ℕ → Type 0) → IfSome o (λ rest. P (f rest)) → IfSome (option_map f o) P
 mapped None f P h = tt
@@ -99,10 +100,57 @@ settles_told settings old new before now page rest gives is raw used here going 
     subst (λ (r : Raw). Settles (is_later old) bytes r used (reader_ahead new tail)) same_raw
     (subst (λ (n : ℕ). Settles (is_later old) bytes gives.raw n (reader_ahead new tail)) same_used (settles settings old new before now page gives going tail))
 
+-- the page that was given stands in the whole rest of the file
+same_page : (settings : Settings) (old new : Reader) (before now : Option Files) (page : Pixels) (rest : List ℕ)
+    → (gives : GivesPage settings.level settings.invert old before page new now) → unread before ≡ Some rest → (new.ended ≡ true → AtEnd now)
+    → front (is_later old) (reader_ahead old rest) ≡ Page gives.raw gives.used
+same_page settings old new before now page rest gives is at_end = by_ended new.ended refl where
+  more : List ℕ
+  more = gives.answers.more
+
+  whole : rest ≡ more ++ drop (length more) rest
+  whole = first_taken before more rest gives.answers.moves.told is
+
+  by_ended : (e : Bool) → new.ended ≡ e → front (is_later old) (reader_ahead old rest) ≡ Page gives.raw gives.used
+  by_ended false going = ap (λ bs. front (is_later old) (reader_ahead old bs)) whole ∙ (settles settings old new before now page gives going (drop (length more) rest)).is
+  by_ended true ended =
+      let still : unread now ≡ Some (drop (length more) rest) = ap unread gives.answers.moves.files ∙ unread-with_read before (length more) rest is in
+      let none = subst (λ (o : Option (List ℕ)). IfSome o (λ r. r ≡ [])) still (at_end ended) in
+      ap (λ bs. front (is_later old) (reader_ahead old bs)) (whole ∙ ap (λ l. more ++ l) none ∙ append-nil more) ∙ gives.answers.is
+
+-- what is behind the used bytes is what is at hand and what is unread
+left_near : (skip used : ℕ) (bytes more left : List ℕ) → length (drop used (drop skip (bytes ++ more))) ≤ 65536
+    → length (drop used (drop skip (bytes ++ (more ++ left)))) ≤ length left + 65536
+left_near skip used bytes more left within =
+    let a = length-drop used (drop skip (bytes ++ more)) in
+    let b = length-drop skip (bytes ++ more) in
+    let c = length-append bytes more in
+    let d = length-drop used (drop skip (bytes ++ (more ++ left))) in
+    let e = length-drop skip (bytes ++ (more ++ left)) in
+    let f = length-append bytes (more ++ left) in
+    let g = length-append more left in omega (arith, within, a, b, c, d, e, f, g)
+
+-- little was taken behind the used bytes of a page that was given
+page_near : (settings : Settings) (old new : Reader) (before now : Option Files) (page : Pixels) (rest : List ℕ) (raw : Raw) (used : ℕ)
+    → (gives : GivesPage settings.level settings.invert old before page new now) → unread before ≡ Some rest → (new.ended ≡ true → AtEnd now) → length new.bytes ≤ 65536
+    → front (is_later old) (reader_ahead old rest) ≡ Page raw used
+    → length (drop used (reader_ahead old rest)) ≤ length (drop (length gives.answers.more) rest) + 65536
+page_near settings old new before now page rest raw used gives is at_end within here =
+    let more : List ℕ = gives.answers.more in
+    let left : List ℕ = drop (length more) rest in
+    let whole = first_taken before more rest gives.answers.moves.told is in
+    let same : Page gives.raw gives.used ≡ Page raw used = sym (same_page settings old new before now page rest gives is at_end) ∙ here in
+    let same_used : gives.used ≡ used = cc in
+    let few : length (drop gives.used (reader_ahead old more)) ≤ 65536 = subst (λ (l : List ℕ). length l ≤ 65536) gives.left within in
+    let P : List ℕ → Type 0 = λ l. length (drop used (reader_ahead old l)) ≤ length left + 65536 in
+    let Q : ℕ → Type 0 = λ n. length (drop n (reader_ahead old (more ++ left))) ≤ length left + 65536 in
+    subst P (sym whole) (subst Q same_used (left_near old.skip gives.used old.bytes more left few))
+
 pub reads_page : (settings : Settings) (old new : Reader) (before now : Option Files) (page : Pixels)
     → GivesPage settings.level settings.invert old before page new now
-    → IfSome (unread before) (λ rest. TellsPage settings.level settings.invert old rest page new now) → ReadsPage settings old before page new now
-reads_page settings old new before now page gives tells = by_told (unread before) refl tells where
+    → IfSome (unread before) (λ rest. TellsPage settings.level settings.invert old rest page new now)
+    → (new.ended ≡ true → AtEnd now) → length new.bytes ≤ 65536 → ReadsPage settings old before page new now
+reads_page settings old new before now page gives tells at_end within = by_told (unread before) refl tells where
   by_told : (o : Option (List ℕ)) → unread before ≡ o → IfSome o (λ rest. TellsPage settings.level settings.invert old rest page new now) → ReadsPage settings old before page new now
   by_told None is h = record {
     raw = gives.raw;
@@ -113,6 +161,8 @@ reads_page settings old new before now page gives tells = by_told (unread before
     told = subst (λ (o : Option (List ℕ)). IfSome (option_map (reader_ahead old) o)
         (λ bytes. (front (is_later old) bytes ≡ Page gives.raw gives.used) × (ahead new now ≡ Some (drop (next_begins bytes gives.raw gives.used) bytes)))) (sym is) tt;
     settled = settles settings old new before now page gives;
+    near = subst (λ (o : Option (List ℕ)). IfSome o
+        (λ rest. (left : List ℕ) × (unread now ≡ Some left) × (length (drop gives.used (reader_ahead old rest)) ≤ length left + 65536))) (sym is) tt;
     counted = gives.counted;
     going_on = gives.going_on;
   }
@@ -131,6 +181,9 @@ reads_page settings old new before now page gives tells = by_told (unread before
             (λ bytes. (front (is_later old) bytes ≡ Page h.raw h.used) × (ahead new now ≡ Some (drop (next_begins bytes h.raw h.used) bytes)))) (sym is)
             (h.is, ap (option_map (reader_ahead new)) still ∙ ap Some left);
         settled = settles_told settings old new before now page rest gives is h.raw h.used h.is;
+        near = subst (λ (o : Option (List ℕ)). IfSome o
+            (λ rest. (left : List ℕ) × (unread now ≡ Some left) × (length (drop h.used (reader_ahead old rest)) ≤ length left + 65536))) (sym is)
+            (drop (length gives.answers.more) rest, still, page_near settings old new before now page rest h.raw h.used gives is at_end within h.is);
         counted = gives.counted;
         going_on = gives.going_on;
       }
@@ -169,50 +222,44 @@ name-with_read (Some files) n = by_file files.opened where
   by_file None = refl
   by_file (Some file) = refl
 
-pub same_name : (before now : Option Files) (n : ℕ) → now ≡ with_read before n → opened_name now ≡ opened_name before
-same_name before now n e = ap opened_name e ∙ name-with_read before n
+pub name_taken : (old new : Reader) (before now : Option Files) → TakesNeeded old before new now → opened_name now ≡ opened_name before
+name_taken old new before now takes = ap opened_name takes.moves.files ∙ name-with_read before (length takes.more)
 
--- so does a page that isn't read
-pub fault_name : (f : InFault) (old new : Reader) (before now : Option Files)
+-- taken as far as that is needed: for a page
+pub takes_page : (settings : Settings) (old new : Reader) (before now : Option Files) (page : Pixels)
+    → GivesPage settings.level settings.invert old before page new now → TakesNeeded old before new now
+takes_page settings old new before now page gives = record { more = gives.answers.more; moves = gives.answers.moves; needed = gives.answers.needed }
+
+-- for an end
+pub takes_ending : (ending : Ending) (old new : Reader) (before now : Option Files) → GivesEnding old before ending new now → TakesNeeded old before new now
+takes_ending ending old new before now gives = record { more = gives.answers.more; moves = gives.answers.moves; needed = gives.answers.needed }
+
+-- and for a page that isn't read
+pub fault_takes : (f : InFault) (old new : Reader) (before now : Option Files)
     → IfSays (cause_of_fault f) (λ ending. GivesEnding old before ending new now)
-    → (f ≡ fault.ReadFault → ReadFails old before new now) → (f ≡ fault.NoMemory → MemoryFails old before new now)
-    → opened_name now ≡ opened_name before
-fault_name fault.ReadFault old new before now ends fails wants = same_name before now (length (fails refl).more) (fails refl).moves.files
-fault_name fault.NoMemory old new before now ends fails wants = same_name before now (length (wants refl).more) (wants refl).moves.files
-fault_name fault.UnknownFormat old new before now ends fails wants = same_name before now (length ends.answers.more) ends.answers.moves.files
-fault_name fault.BadHeader old new before now ends fails wants = same_name before now (length ends.answers.more) ends.answers.moves.files
-fault_name fault.ZeroSide old new before now ends fails wants = same_name before now (length ends.answers.more) ends.answers.moves.files
-fault_name fault.TooLarge old new before now ends fails wants = same_name before now (length ends.answers.more) ends.answers.moves.files
-fault_name fault.Truncated old new before now ends fails wants = same_name before now (length ends.answers.more) ends.answers.moves.files
-fault_name fault.BadRaster old new before now ends fails wants = same_name before now (length ends.answers.more) ends.answers.moves.files
-fault_name fault.BmpKind old new before now ends fails wants = same_name before now (length ends.answers.more) ends.answers.moves.files
-fault_name fault.BadOffset old new before now ends fails wants = same_name before now (length ends.answers.more) ends.answers.moves.files
-fault_name fault.TooLong old new before now ends fails wants = same_name before now (length ends.answers.more) ends.answers.moves.files
+    → (f ≡ fault.ReadFault → ReadFails old before new now) → (f ≡ fault.NoMemory → MemoryFails old before new now) → TakesNeeded old before new now
+fault_takes fault.ReadFault old new before now ends fails wants =
+    let r = fails refl in
+    record { more = r.more; moves = r.moves; needed = record { before = r.more; block = []; split = sym (append-nil r.more); within = omega arith; undecided = inr r.by_end } }
+fault_takes fault.NoMemory old new before now ends fails wants =
+    let m = wants refl in record { more = m.more; moves = m.moves; needed = m.needed }
+fault_takes fault.UnknownFormat old new before now ends fails wants = takes_ending (Refused UnknownFormat) old new before now ends
+fault_takes fault.BadHeader old new before now ends fails wants = takes_ending (Refused BadHeader) old new before now ends
+fault_takes fault.ZeroSide old new before now ends fails wants = takes_ending (Refused ZeroSide) old new before now ends
+fault_takes fault.TooLarge old new before now ends fails wants = takes_ending (Refused TooLarge) old new before now ends
+fault_takes fault.Truncated old new before now ends fails wants = takes_ending (Refused Truncated) old new before now ends
+fault_takes fault.BadRaster old new before now ends fails wants = takes_ending (Refused BadRaster) old new before now ends
+fault_takes fault.BmpKind old new before now ends fails wants = takes_ending (Refused BmpKind) old new before now ends
+fault_takes fault.BadOffset old new before now ends fails wants = takes_ending (Refused BadOffset) old new before now ends
+fault_takes fault.TooLong old new before now ends fails wants = takes_ending (Refused TooLong) old new before now ends
 
 -- taking bytes keeps what the files hold
 contents-with_read : (before : Option Files) (n : ℕ) → told_contents (with_read before n) ≡ told_contents before
 contents-with_read None n = refl
 contents-with_read (Some files) n = refl
 
-pub same_contents : (before now : Option Files) (n : ℕ) → now ≡ with_read before n → told_contents now ≡ told_contents before
-same_contents before now n e = ap told_contents e ∙ contents-with_read before n
-
--- and so does a page that isn't read
-pub fault_contents : (f : InFault) (old new : Reader) (before now : Option Files)
-    → IfSays (cause_of_fault f) (λ ending. GivesEnding old before ending new now)
-    → (f ≡ fault.ReadFault → ReadFails old before new now) → (f ≡ fault.NoMemory → MemoryFails old before new now)
-    → told_contents now ≡ told_contents before
-fault_contents fault.ReadFault old new before now ends fails wants = same_contents before now (length (fails refl).more) (fails refl).moves.files
-fault_contents fault.NoMemory old new before now ends fails wants = same_contents before now (length (wants refl).more) (wants refl).moves.files
-fault_contents fault.UnknownFormat old new before now ends fails wants = same_contents before now (length ends.answers.more) ends.answers.moves.files
-fault_contents fault.BadHeader old new before now ends fails wants = same_contents before now (length ends.answers.more) ends.answers.moves.files
-fault_contents fault.ZeroSide old new before now ends fails wants = same_contents before now (length ends.answers.more) ends.answers.moves.files
-fault_contents fault.TooLarge old new before now ends fails wants = same_contents before now (length ends.answers.more) ends.answers.moves.files
-fault_contents fault.Truncated old new before now ends fails wants = same_contents before now (length ends.answers.more) ends.answers.moves.files
-fault_contents fault.BadRaster old new before now ends fails wants = same_contents before now (length ends.answers.more) ends.answers.moves.files
-fault_contents fault.BmpKind old new before now ends fails wants = same_contents before now (length ends.answers.more) ends.answers.moves.files
-fault_contents fault.BadOffset old new before now ends fails wants = same_contents before now (length ends.answers.more) ends.answers.moves.files
-fault_contents fault.TooLong old new before now ends fails wants = same_contents before now (length ends.answers.more) ends.answers.moves.files
+pub contents_taken : (old new : Reader) (before now : Option Files) → TakesNeeded old before new now → told_contents now ≡ told_contents before
+contents_taken old new before now takes = ap told_contents takes.moves.files ∙ contents-with_read before (length takes.more)
 
 -- opening a file keeps it too
 contents-with_file : (before : Option Files) (name : List ℕ) → told_contents (with_file before name) ≡ told_contents before

@@ -51,14 +51,15 @@ all_items size contents settings output names made held a b all =
     (subst (λ (l : List Item). AreItems contents settings output Nothing (names ++ []) [] l) (append-nil all.items) are)
 
 -- all files are read, and what is held then is carried out
-pub all_done : (size : ℕ) (contents : Option Contents) (settings : Settings) (output : Option (List ℕ)) (names made : List (List ℕ)) (held : List Held) (a b c : Sinks) → AreDone size contents settings output names made held a b
-    → ((items : List Item) → AreHeld settings held items → AreCarriedOut items [] b c)
-    → (items : List Item) × AreItems contents settings output Nothing names [] items × HasEnded status.Done items a c
-all_done size contents settings output names made held a b c all carried =
+pub all_done : (size : ℕ) (contents : Option Contents) (settings : Settings) (output : Option (List ℕ)) (names made : List (List ℕ)) (held : List Held) (source now : Source) (a b c : Sinks) → AreDone size contents settings output names made held a b
+    → ((items : List Item) → AreHeld settings held items → AreCarriedOut items [] b c) → now.openings ≡ min (source.openings + length names) last_count
+    → IsOutcome status.Done contents settings output names [] source now a c
+all_done size contents settings output names made held source now a b c all carried opens =
     let h = all.holds in (
       all.items,
       all_items size contents settings output names made held a b all,
       subst (λ l. AreCarriedOut l [] a c) (sym h.split) (carried_on h.done h.left [] a b c h.carried (carried h.left h.are_held)),
+      opens,
     )
 
 -- or as far as the status says

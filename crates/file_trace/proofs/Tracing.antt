@@ -1,8 +1,8 @@
 -- One page more, and the end of the pages.
-use Rattle.std.proofs.Common.{◌≡◌, ◌≢◌, ◌≤◌, ◌<◌, ℕ, suc, ◌+◌, Bool, true, false, List, [], ◌∷◌, ◌++◌, length, drop, Option, None, Some, IfSome, option_map, refl, sym, ◌∙◌, ap, subst, append_assoc, length-append, arith}
+use Rattle.std.proofs.Common.{◌≡◌, ◌≢◌, ◌≤◌, ◌<◌, ◌⊎◌, inl, inr, ℕ, suc, ◌+◌, Bool, true, false, List, [], ◌∷◌, ◌++◌, length, drop, Option, None, Some, IfSome, option_map, refl, sym, ◌∙◌, ap, subst, append_assoc, length-append, arith}
 use Rattle.std.specs.Prelude.{nat_lt}
 use Rattle.std.proofs.lemmas.Bool.Decides.{nat_tests}
-use Rattle.std.proofs.lemmas.List.{append-nil, length-drop}
+use Rattle.std.proofs.lemmas.List.{append-nil}
 use Rattle.pt_base.specs.Files.{Files, unread}
 use Rattle.bit_image.specs.Page.{Page as Pixels}
 use Rattle.bitmap_input.specs.Cut.{is_by_end}
@@ -21,14 +21,14 @@ use Rattle.run_output.proofs.Naming.{made_with-in}
 use Rattle.file_trace.specs.Held.{AreHeld, Held, Holds, pages_held}
 use Rattle.file_trace.specs.Items.{Item}
 use Rattle.file_trace.specs.Items.Item.{Doc}
-use Rattle.file_trace.specs.Outcome.{BeginsSettled, BeginsWith, HasEnded, Sinks, is_later}
-use Rattle.file_trace.specs.Progress.{AreTraced, EndsBy, EndsReading, Halts, HasUnread, IsInBatch, ReadsPage, Settles, Traces, ahead, docs}
+use Rattle.file_trace.specs.Outcome.{BeginsSettled, BeginsWith, HasEnded, LeavesBehind, ReadsNear, Sinks, is_later}
+use Rattle.file_trace.specs.Progress.{AreTraced, EndsBy, EndsReading, Halts, HasUnread, IsInBatch, ReadsPage, Settles, TakesNeeded, Traces, ahead, docs}
 use Rattle.pt_base.specs.declared.settings.Settings.{Settings}
 use Rattle.file_trace.specs.declared.pages.PagesEnd.{PagesEnd}
 use Rattle.file_trace.specs.declared.pages.PagesEnd.TheVariants as why
 use Rattle.file_trace.proofs.Holding.{all_held, ended_behind, holds_on}
 use Rattle.file_trace.proofs.OnePass.{batch_halts}
-use Rattle.file_trace.proofs.Paging.{AreTraced-more, BeginsSettled-more, BeginsWith-more}
+use Rattle.file_trace.proofs.Paging.{AreTraced-more, BeginsSettled-more, BeginsWith-more, LeavesBehind-more}
 use Rattle.file_trace.proofs.Reading.{first_taken, unread-with_read}
 
 -- the first k pages were read; of what was held before and their documents, which have these texts, the first
@@ -42,6 +42,7 @@ pub record IsTraced (size : ℕ) (settings : Settings) (base : List ℕ) (made :
   pub begins : IfSome bytes (λ all. (left : List ℕ) × (ahead reader files ≡ Some left) × BeginsWith false all raws left)
   pub told : IfSome bytes (λ all. (rest : List ℕ) × (all ≡ taken ++ rest) × (unread files ≡ Some rest))
   pub settled : reader.ended ≡ false → (tail : List ℕ) → BeginsSettled false (taken ++ tail) raws (reader_ahead reader tail)
+  pub near : IfSome bytes (λ all. (behind : List ℕ) × (rest : List ℕ) × LeavesBehind false all raws behind × (unread files ≡ Some rest) × (length behind ≤ length rest + 65536))
   pub holds : (first : List Item) → AreHeld settings held first → Holds size settings (first ++ docs base made texts) held_now old new
   pub counted : reader.pages ≡ k
   pub going_on : reader.over ≡ false
@@ -58,6 +59,7 @@ none_traced size settings base made files held a = record {
   begins = at_first (unread files);
   told = all_left (unread files);
   settled = λ _ tail. refl;
+  near = all_near (unread files);
   holds = λ first are. rw (append-nil first) (all_held size settings held first a are);
   counted = refl;
   going_on = refl;
@@ -69,6 +71,10 @@ none_traced size settings base made files held a = record {
   all_left : (o : Option (List ℕ)) → IfSome o (λ all. (rest : List ℕ) × (all ≡ rest) × (o ≡ Some rest))
   all_left None = tt
   all_left (Some all) = (all, refl, refl)
+
+  all_near : (o : Option (List ℕ)) → IfSome o (λ all. (behind : List ℕ) × (rest : List ℕ) × (all ≡ behind) × (o ≡ Some rest) × (length behind ≤ length rest + 65536))
+  all_near None = tt
+  all_near (Some all) = (all, all, refl, refl, omega arith)
 
 -- a page came before exactly where one was traced
 later_is : (reader : Reader) (raws : List Raw) (k : ℕ) → reader.pages ≡ k → k ≡ length raws → reader_is_later reader ≡ is_later false raws
@@ -111,6 +117,66 @@ settled_more settings bytes old new before after page raws later settled p going
     subst (λ bs. BeginsSettled false bs (raws ++ p.raw ∷ []) (reader_ahead new tail)) (sym (append_assoc bytes p.more tail))
     (BeginsSettled-more false (bytes ++ (p.more ++ tail)) raws (reader_ahead old (p.more ++ tail)) p.raw p.used (reader_ahead new tail) (settled was (p.more ++ tail)) next)
 
+-- little is taken behind one page more
+near_more : (settings : Settings) (bytes : Option (List ℕ)) (old new : Reader) (before now : Option Files) (page : Pixels) (raws : List Raw) → reader_is_later old ≡ is_later false raws
+    → IfSome bytes (λ all. (left : List ℕ) × (ahead old before ≡ Some left) × BeginsWith false all raws left) → (p : ReadsPage settings old before page new now)
+    → IfSome bytes (λ all. (behind : List ℕ) × (rest : List ℕ) × LeavesBehind false all (raws ++ p.raw ∷ []) behind × (unread now ≡ Some rest) × (length behind ≤ length rest + 65536))
+near_more settings None old new before now page raws same begins p = tt
+near_more settings (Some all) old new before now page raws same (left, is, b) p = by_rest (unread before) refl where
+  by_rest : (o : Option (List ℕ)) → unread before ≡ o
+      → (behind : List ℕ) × (rest : List ℕ) × LeavesBehind false all (raws ++ p.raw ∷ []) behind × (unread now ≡ Some rest) × (length behind ≤ length rest + 65536)
+  by_rest None e = absurd (let no : None ≡ Some left = sym (ap (option_map (reader_ahead old)) e) ∙ is in cc)
+  by_rest (Some rest) e =
+      let there : Some (reader_ahead old rest) ≡ Some left = sym (ap (option_map (reader_ahead old)) e) ∙ is in
+      let at : reader_ahead old rest ≡ left = cc in
+      let here = (subst (λ (o : Option (List ℕ)). IfSome o (λ bs. (front (reader_is_later old) bs ≡ Page p.raw p.used) × (ahead new now ≡ Some (drop (next_begins bs p.raw p.used) bs)))) is p.told).0 in
+      let (unread_now, still, few) = subst (λ (o : Option (List ℕ)). IfSome o
+      (λ r. (left : List ℕ) × (unread now ≡ Some left) × (length (drop p.used (reader_ahead old r)) ≤ length left + 65536))) e p.near in
+      let P : List ℕ → Type 0 = λ l. length (drop p.used l) ≤ length unread_now + 65536 in
+      (drop p.used left, unread_now, LeavesBehind-more false all raws left p.raw p.used b (ap (λ l. front l left) (sym same) ∙ here), still, subst P at few)
+
+-- little is taken behind the pages, or behind what is needed to settle what follows them
+near_end : (bytes : Option (List ℕ)) (reader after : Reader) (files now : Option Files) (taken : List ℕ) (raws : List Raw) → reader_is_later reader ≡ is_later false raws
+    → IfSome bytes (λ all. (behind : List ℕ) × (rest : List ℕ) × LeavesBehind false all raws behind × (unread files ≡ Some rest) × (length behind ≤ length rest + 65536))
+    → IfSome bytes (λ all. (rest : List ℕ) × (all ≡ taken ++ rest) × (unread files ≡ Some rest))
+    → (reader.ended ≡ false → (tail : List ℕ) → BeginsSettled false (taken ++ tail) raws (reader_ahead reader tail)) → TakesNeeded reader files after now
+    → IfSome bytes (λ all. (left : List ℕ) × (unread now ≡ Some left) × ReadsNear all raws left)
+near_end None reader after files now taken raws later near told settled t = tt
+near_end (Some all) reader after files now taken raws later (behind, rest, leaves, unread_is, few) (same_rest, split, same_unread) settled t =
+    (left, ap unread t.moves.files ∙ unread-with_read files (length t.more) rest unread_is, by_ended reader.ended refl) where
+      left : List ℕ
+      left = drop (length t.more) rest
+
+      unmoved : t.more ≡ [] → ReadsNear all raws left
+      unmoved none =
+          let P : List ℕ → Type 0 = λ m. length behind ≤ length (drop (length m) rest) + 65536 in inl (behind, leaves, subst P (sym none) few)
+
+      farther : reader.ended ≡ false → is_by_end (page_at (reader_is_later reader) (reader_ahead reader t.needed.before)) ≡ true → ReadsNear all raws left
+      farther going by_end =
+          let both : Some same_rest ≡ Some rest = sym same_unread ∙ unread_is in
+          let same : same_rest ≡ rest = cc in
+          let block = length-append t.needed.block left in
+          inr (
+            taken ++ t.needed.before,
+            t.needed.block ++ left,
+            split ∙ ap (λ l. taken ++ l) (same ∙ first_taken files t.more rest t.moves.told unread_is ∙ ap (λ m. m ++ left) t.needed.split ∙ append_assoc t.needed.before t.needed.block left)
+                ∙ sym (append_assoc taken t.needed.before (t.needed.block ++ left)),
+            record {
+              left = reader_ahead reader t.needed.before;
+              pages = settled going t.needed.before;
+              by_end = ap (λ l. is_by_end (page_at l (reader_ahead reader t.needed.before))) (sym later) ∙ by_end;
+            },
+            omega (arith, block, t.needed.within),
+          )
+
+      by_needed : reader.ended ≡ false → (t.more ≡ []) ⊎ (is_by_end (page_at (reader_is_later reader) (reader_ahead reader t.needed.before)) ≡ true) → ReadsNear all raws left
+      by_needed going (inl none) = unmoved none
+      by_needed going (inr by_end) = farther going by_end
+
+      by_ended : (e : Bool) → reader.ended ≡ e → ReadsNear all raws left
+      by_ended true ended = unmoved (t.moves.stopped ended).0
+      by_ended false going = by_needed going t.needed.undecided
+
 -- the document of one text more
 docs-more : (base : List ℕ) (made : List (List ℕ)) (texts : List (List ℕ)) (text : List ℕ)
     → docs base made (texts ++ text ∷ []) ≡ docs base made texts ++ Doc (next_name base (made_with base (length texts) made)) text ∷ []
@@ -151,6 +217,7 @@ one_more size settings base made bytes old new before after held mid_held held_n
       begins = begins_more bytes (ahead old before) (ahead new after) t.raws p.raw p.used (reader_is_later old) later t.begins p.told;
       told = told_more bytes before after t.taken p.more old.ended new.ended p.moves t.told;
       settled = settled_more settings t.taken old new before after page t.raws later t.settled p;
+      near = near_more settings bytes old new before after page t.raws later t.begins p;
       holds = λ first are. subst (λ l. Holds size settings l held_now a c) (items_more base made first t.texts text k (t.count ∙ traced_length settings t.raws t.texts t.traced))
           (holds_on size settings (first ++ docs base made t.texts) (doc ∷ []) mid_held held_now a b c (t.holds first are) holds);
       counted = omega (arith, p.counted, t.counted);
@@ -168,30 +235,12 @@ no_less : (raws : List Raw) (raw : Raw) → raws ++ raw ∷ [] ≢ []
 no_less [] raw = λ e. cc
 no_less (first ∷ raws) raw = λ e. cc
 
--- what is ahead of the reader is little more than what is unread
-ahead_near : (reader : Reader) (rest left : List ℕ) → length reader.bytes ≤ 65536 → reader_ahead reader rest ≡ left → length left ≤ length rest + 65536
-ahead_near reader rest left within is =
-    let same : length left ≡ length (reader_ahead reader rest) = ap length (sym is) in
-    let dropped = length-drop reader.skip (reader.bytes ++ rest) in
-    let both = length-append reader.bytes rest in omega (arith, same, dropped, both, within)
-
-begins_near : (bytes : Option (List ℕ)) (raws : List Raw) (reader : Reader) (files : Option Files) → length reader.bytes ≤ 65536
-    → IfSome bytes (λ all. (left : List ℕ) × (ahead reader files ≡ Some left) × BeginsWith false all raws left)
-    → IfSome bytes (λ all. (left : List ℕ) × (rest : List ℕ) × BeginsWith false all raws left × (unread files ≡ Some rest) × (length left ≤ length rest + 65536))
-begins_near None raws reader files within begins = tt
-begins_near (Some all) raws reader files within (left, is, begins) = by_rest (unread files) refl is where
-  by_rest : (o : Option (List ℕ)) → unread files ≡ o → option_map (reader_ahead reader) o ≡ Some left
-      → (left : List ℕ) × (rest : List ℕ) × BeginsWith false all raws left × (unread files ≡ Some rest) × (length left ≤ length rest + 65536)
-  by_rest None same ahead_is = cc
-  by_rest (Some rest) same ahead_is =
-      let there : reader_ahead reader rest ≡ left = cc in (left, rest, begins, same, ahead_near reader rest left within there)
-
 -- one page more is read, and what was held with it couldn't be carried out
 pub halted : (s : Status) (size : ℕ) (settings : Settings) (base : List ℕ) (made : List (List ℕ)) (start : Option Files) (old new : Reader) (before after : Option Files) (held mid_held : List Held) (a b c : Sinks) (k : ℕ) (page : Pixels) (text : List ℕ)
     → IsTraced size settings base made (unread start) old before held mid_held a b k → ReadsPage settings old before page new after → IsDocument page settings text
     → ((left : List Item) → AreHeld settings mid_held left → HasEnded s (left ++ Doc (next_name base (made_with base k made)) text ∷ []) b c)
-    → k + length made < most_pages → length new.bytes ≤ 65536 → (s ≡ status.Unwritten → pages_held mid_held + 1 ≡ size) → Halts s size settings base made start after held a c
-halted s size settings base made start old new before after held mid_held a b c k page text t p is_text ended few within full =
+    → k + length made < most_pages → (s ≡ status.Unwritten → pages_held mid_held + 1 ≡ size) → Halts s size settings base made start after held a c
+halted s size settings base made start old new before after held mid_held a b c k page text t p is_text ended few full =
     let doc = Doc (next_name base (made_with base k made)) text in
     let later = later_is old t.raws k t.counted t.count in
     let begins = begins_more (unread start) (ahead old before) (ahead new after) t.raws p.raw p.used (reader_is_later old) later t.begins p.told in
@@ -202,7 +251,7 @@ halted s size settings base made start old new before after held mid_held a b c 
       traced = AreTraced-more settings t.raws t.texts p.raw text t.traced (subst (λ pixels. IsDocument pixels settings text) p.shows is_text);
       begins = just_begins (unread start) (ahead new after) (t.raws ++ p.raw ∷ []) begins;
       some = no_less t.raws p.raw;
-      near = begins_near (unread start) (t.raws ++ p.raw ∷ []) new after within begins;
+      near = near_more settings (unread start) old new before after page t.raws later t.begins p;
       in_batch = λ is first are. subst (λ l. IsInBatch size l a c) (items_more base made first t.texts text k (t.count ∙ traced_length settings t.raws t.texts t.traced))
           (batch_halts size settings (first ++ docs base made t.texts) (next_name base (made_with base k made)) text mid_held a b c (t.holds first are)
           (λ left held. subst (λ v. HasEnded v (left ++ doc ∷ []) b c) is (ended left held)) (full is));
@@ -228,10 +277,10 @@ unread_more size settings base made start reader after files now held held_now a
 -- no page more is read
 pub no_more : (size : ℕ) (settings : Settings) (base : List ℕ) (made : List (List ℕ)) (start : Option Files) (reader after : Reader) (files files_now : Option Files) (held held_now : List Held) (a b : Sinks) (k : ℕ) (end : PagesEnd)
     → IsTraced size settings base made (unread start) reader files held held_now a b k
-    → EndsBy (reader_is_later reader) (ahead reader files) end → (end ≡ why.Unread → ReadFails reader files after files_now)
+    → EndsBy (reader_is_later reader) (ahead reader files) end → (end ≡ why.Unread → ReadFails reader files after files_now) → TakesNeeded reader files after files_now
     → k + length made ≤ most_pages → (end ≡ why.TooMany → most_pages ≤ k + length made)
     → Traces size settings base made start files_now held held_now a b k end
-no_more size settings base made start reader after files files_now held held_now a b k end t ends fails few full = record {
+no_more size settings base made start reader after files files_now held held_now a b k end t ends fails takes few full = record {
   raws = t.raws;
   texts = t.texts;
   count = t.count;
@@ -242,6 +291,7 @@ no_more size settings base made start reader after files files_now held held_now
   ends = subst (λ l. EndsBy l (ahead reader files) end) (later_is reader t.raws k t.counted t.count) ends;
   full = full;
   unread = λ e. unread_more size settings base made start reader after files files_now held held_now a b k t (fails e);
+  near = near_end (unread start) reader after files files_now t.taken t.raws (later_is reader t.raws k t.counted t.count) t.near t.told t.settled takes;
   holds = t.holds;
 }
 

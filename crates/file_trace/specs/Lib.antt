@@ -12,6 +12,8 @@
 --   doc_count: how many of the items are documents
 pub mod Items
 -- What a run has done, against the items that it was to write.
+--   Told: what a sink tells
+--   told_of
 --   Sinks: the outputs and the sink for messages
 --   sinks_of: what outputs and a sink for messages tell
 --   Source: the inputs
@@ -19,7 +21,7 @@ pub mod Items
 --   GoesOn: the run goes on after each of the items
 --   with_items: the documents of the items are added, whole and in order
 --   notes: the messages of the notes, in order
---   AreFronts: each part is a front of its message
+--   IsMessage: a message was said
 --   AreSaid: the messages were said
 --   AreCarriedOut: these items are carried out, and then these messages were said
 --   IsRefused: the last item is a page that is refused
@@ -31,11 +33,15 @@ pub mod Items
 --   OpensFirst: nothing was opened; or the first of these files were
 --   IsUnopened: a file can't be opened
 --   BeginsWith: the first pages of the bytes are these, and `rest` is what follows them
+--   LeavesBehind: the first pages of the bytes are these, and this is what follows those that they take
 --   BeginsSettled: the first pages of the bytes are these, none of them by the end of the bytes
 --   is_later: a page came before, or one of these did
 --   StopsReading: a read failed behind these pages
 --   HoldsBytes: the bytes of a file are those that were taken and those still unread
 --   IsUnread: a read failed
+--   ReadsNear: the bytes are read at most 65,536 farther than these pages and what decides what follows them
+--   ReadsFileNear: the same of a file, where its bytes are told
+--   IsStopped: a page is refused
 --   IsOutcomeBehind: what was done of first items, and of those of files
 --   IsOutcome: what was done of the items of files
 pub mod Outcome
@@ -62,6 +68,7 @@ pub mod Entries
 --   ahead: the bytes that the reader has still to read pages from, where they are told
 --   Settles: this page stands there, not by the end of the bytes
 --   ReadsPage: the next page of what is ahead was read
+--   TakesNeeded: bytes were taken, as far as what stands ahead needs them
 --   EndsReading: no page was read for this reason
 --   EndsBy: no further page was read for this reason
 --   end_of_fault: why no further page is read, where the reader tells of a fault

@@ -8,30 +8,31 @@ use Rattle.bitmap_input.specs.Cut.Ending.{End}
 use Rattle.bitmap_input.specs.Raw.{Raw}
 use Rattle.run_output.specs.Names.{base_name}
 use Rattle.file_trace.specs.Items.{AreItems, ArePageItems, Item, Nothing, doc_count}
-use Rattle.file_trace.specs.Outcome.{BeginsWith, IsUnwritten, OpensUpTo, Sinks, Source}
+use Rattle.file_trace.specs.Outcome.{GoesOn, IsUnwritten, LeavesBehind, OpensUpTo, Sinks, Source}
 
 -- in batches of so many pages, how many pages there are up to the end of the batch behind k whole documents
 abbrev pub batch_end : ℕ → ℕ → ℕ
 batch_end size k = (k / size + 1) * size
 
 -- of the files of these names so many pages were read, behind these first items: the last one stands in the opened
--- file, and of that file at most 65,536 bytes behind what it takes or claims were taken
+-- file, and of that file at most 65,536 bytes behind what it takes were taken
 pub record ReadsTo (pages : ℕ) (first : List Item) (contents : Contents) (settings : Settings) (output : Option (List ℕ)) (names made : List (List ℕ)) (source source_now : Source) : Type 0 where
   pub name : List ℕ
   pub front : List (List ℕ)
   pub bytes : List ℕ
   pub raws : List Raw
-  pub left : List ℕ
+  pub behind : List ℕ
   pub rest : List ℕ
   pub before : List Item
   pub reached : OpensUpTo names name front source.openings source_now.openings
   pub held : get contents name ≡ Some bytes
   pub some : raws ≢ []
-  pub begins : BeginsWith false bytes raws left
+  pub begins : LeavesBehind false bytes raws behind
   pub opened : IfSome source_now.files (λ files. files.opened ≡ Some (record { name = name; rest = rest }))
-  pub near : length left ≤ length rest + 65536
+  pub near : length behind ≤ length rest + 65536
   pub items : AreItems (Some contents) settings output
       (λ made items. ArePageItems settings name (base_name output settings.backend name) End Nothing raws 0 made items) front made before
+  pub goes_on : GoesOn before
   pub count : doc_count (first ++ before) ≡ pages
 
 abbrev pub IfReadsTo : ℕ → List Item → Option Contents → Settings → Option (List ℕ) → List (List ℕ) → List (List ℕ) → Source → Source → Type 0

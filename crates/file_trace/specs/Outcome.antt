@@ -1,9 +1,9 @@
 -- What a run has done, against the items that it was to write.
-use Rattle.std.specs.Prelude.{◌≡◌, ℕ, ◌+◌, ◌≤◌, ◌⊎◌, Bool, true, false, List, [], ◌∷◌, ◌++◌, length, min, take, drop, Option, None, Some, IfSome, option_map}
-use Rattle.std.specs.List.{concat}
+use Rattle.std.specs.Prelude.{◌≡◌, ℕ, ◌+◌, ◌≤◌, ◌⊎◌, Bool, true, false, List, [], ◌∷◌, ◌++◌, length, min, drop, Option, None, Some, IfSome, option_map}
 use Rattle.std.specs.FinMap.{get}
 use Rattle.pt_base.specs.Counts.{Rose, last_count}
-use Rattle.pt_base.specs.Documents.{Documents, with_bytes, with_whole, IsCutOff}
+use Rattle.pt_base.specs.Documents.{Documents, with_whole, IsCutOff, IsSaid}
+use Rattle.pt_base.specs.Failures.{Failures, StopsAtFailure, after_err}
 use Rattle.pt_base.specs.Files.{Contents, Files}
 use Rattle.pt_base.specs.declared.inputs.Inputs.{Ghosts as InputGhosts}
 use Rattle.pt_base.specs.declared.settings.Settings.{Settings}
@@ -21,24 +21,26 @@ use Rattle.run_output.specs.declared.status.Status.TheVariants as status
 use Rattle.file_trace.specs.Items.{Item, AreItems, ArePageItems, IsAbsent, Nothing}
 use Rattle.file_trace.specs.Items.Item.{Doc, Note, Stop, Missing}
 
--- the outputs and the sink for messages: the documents that they tell, their counts of faults, and whether
--- a document is open
+-- what a sink tells: its documents, its count of faults, and what its calls answered
+pub record Told : Type 0 where
+  pub documents : Option Documents
+  pub faults : ℕ
+  pub failures : Failures
+
+abbrev pub told_of : {A : Type 0} → SinkGhosts A → A → Told
+told_of of_sink sink =
+    record { documents = of_sink.documents sink; faults = of_sink.faults sink; failures = of_sink.failures sink }
+
+-- the outputs, whether a document is open there, and the sink for messages
 pub record Sinks : Type 0 where
-  pub outs : Option Documents
-  pub outs_faults : ℕ
+  pub outs : Told
   pub is_open : Bool
-  pub errs : Option Documents
-  pub errs_faults : ℕ
+  pub errs : Told
 
 -- what outputs and a sink for messages tell
 abbrev pub sinks_of : {A B : Type 0} → SinkGhosts A → SinkGhosts B → A → B → Sinks
-sinks_of of_outs of_errs outs errs = record {
-  outs = of_outs.documents outs;
-  outs_faults = of_outs.faults outs;
-  is_open = of_outs.is_ready outs;
-  errs = of_errs.documents errs;
-  errs_faults = of_errs.faults errs;
-}
+sinks_of of_outs of_errs outs errs =
+    record { outs = told_of of_outs outs; is_open = of_outs.is_ready outs; errs = told_of of_errs errs }
 
 -- the inputs: the files that they tell, whether one is opened, how many openings there were, and their count
 -- of faults
@@ -81,27 +83,25 @@ notes (Note message ∷ items) = message ∷ notes items
 notes (Stop message ∷ items) = notes items
 notes (Missing name ∷ items) = notes items
 
--- each part is a front of its message
-abbrev pub AreFronts : List (List ℕ) → List (List ℕ) → Type 0
-AreFronts [] [] = Unit {0}
-AreFronts (part ∷ parts) (message ∷ messages) = ((n : ℕ) × (n ≤ length message) × (part ≡ take n message)) × AreFronts parts messages
-AreFronts [] (message ∷ messages) = ⊥
-AreFronts (part ∷ parts) [] = ⊥
+-- a message was said: it is whole, or the count of faults rose and a front of it stands there; and no call failed, or
+-- one did and it was the last, so that the rest of the message was given up
+pub record IsMessage (message : List ℕ) (old new : Told) : Type 0 where
+  pub said : IsSaid old.documents new.documents old.faults new.faults message
+  pub given_up : StopsAtFailure old.failures new.failures
+  pub never_falls : old.faults ≤ new.faults
 
--- the messages were said: a front of each stands there, one after another, and each is whole where the
--- count of faults didn't rise
-pub record AreSaid (old new : Option Documents) (faults faults_now : ℕ) (messages : List (List ℕ)) : Type 0 where
-  pub parts : List (List ℕ)
-  pub fronts : AreFronts parts messages
-  pub appended : new ≡ with_bytes old (concat parts)
-  pub whole : (parts ≡ messages) ⊎ Rose faults faults_now
-  pub never_falls : faults ≤ faults_now
+-- these messages were said, one after another
+abbrev pub AreSaid : Told → Told → List (List ℕ) → Type 0
+AreSaid old new [] = new ≡ old
+AreSaid old new (message ∷ messages) = (mid : Told) × IsMessage message old mid × AreSaid mid new messages
 
--- these items are carried out: their documents are added; and their notes were said, and then these messages
+-- these items are carried out: their documents are added, and no call of the outputs failed; and their notes were
+-- said, and then these messages
 pub record AreCarriedOut (items : List Item) (last : List (List ℕ)) (old new : Sinks) : Type 0 where
   pub goes_on : GoesOn items
-  pub documents : new.outs ≡ with_items old.outs items
-  pub messages : AreSaid old.errs new.errs old.errs_faults new.errs_faults (notes items ++ last)
+  pub documents : new.outs.documents ≡ with_items old.outs.documents items
+  pub went : new.outs.failures.count ≡ old.outs.failures.count
+  pub messages : AreSaid old.errs new.errs (notes items ++ last)
 
 -- the last item is a page that is refused: all before it are carried out, and its message is the last one
 pub record IsRefused (items : List Item) (old new : Sinks) : Type 0 where
@@ -110,7 +110,8 @@ pub record IsRefused (items : List Item) (old new : Sinks) : Type 0 where
   pub split : items ≡ before ++ Stop message ∷ []
   pub done : AreCarriedOut before (message ∷ []) old new
 
--- all items before a document are carried out, and that document is cut off; its fault is the last message
+-- all items before a document are carried out, and that document is cut off, by the one call of the outputs that
+-- failed, which was the last one; the document's fault is the last message
 pub record IsUnwritten (items : List Item) (old new : Sinks) : Type 0 where
   pub before : List Item
   pub name : List ℕ
@@ -118,8 +119,9 @@ pub record IsUnwritten (items : List Item) (old new : Sinks) : Type 0 where
   pub after : List Item
   pub split : items ≡ before ++ Doc name text ∷ after
   pub goes_on : GoesOn before
-  pub cut_off : IsCutOff (with_items old.outs before) new.outs name text
-  pub messages : AreSaid old.errs new.errs old.errs_faults new.errs_faults (notes before ++ not_written name ∷ [])
+  pub cut_off : IsCutOff (with_items old.outs.documents before) new.outs.documents name text
+  pub failed : new.outs.failures ≡ after_err old.outs.failures
+  pub messages : AreSaid old.errs new.errs (notes before ++ not_written name ∷ [])
 
 -- some first items are carried out, and then memory ran out
 pub record IsOutOfMemory (items : List Item) (old new : Sinks) : Type 0 where
@@ -175,6 +177,14 @@ BeginsWith later bytes [] rest = bytes ≡ rest
 BeginsWith later bytes (raw ∷ raws) rest =
     (used : ℕ) × (front later bytes ≡ Page raw used) × BeginsWith true (drop (next_begins bytes raw used) bytes) raws rest
 
+-- the first pages of the bytes are these, and `behind` is what follows those that they take: of it the last page may
+-- claim some
+abbrev pub LeavesBehind : Bool → List ℕ → List Raw → List ℕ → Type 0
+LeavesBehind later bytes [] behind = bytes ≡ behind
+LeavesBehind later bytes (raw ∷ []) behind = (used : ℕ) × (front later bytes ≡ Page raw used) × (behind ≡ drop used bytes)
+LeavesBehind later bytes (raw ∷ next ∷ raws) behind =
+    (used : ℕ) × (front later bytes ≡ Page raw used) × LeavesBehind true (drop (next_begins bytes raw used) bytes) (next ∷ raws) behind
+
 -- the first pages of the bytes are these, none of them is by the end of the bytes, and `rest` is what follows them
 abbrev pub BeginsSettled : Bool → List ℕ → List Raw → List ℕ → Type 0
 BeginsSettled later bytes [] rest = bytes ≡ rest
@@ -217,6 +227,36 @@ pub record IsUnread (first : List Item) (contents : Option Contents) (settings :
       (λ made items. ArePageItems settings name (base_name output settings.backend name) End Nothing raws 0 made items) front made before
   pub done : AreCarriedOut (first ++ before) (page_line name (length raws + 1) read_fault ∷ []) old new
 
+-- of these bytes, which begin with these pages, the `rest` ones are unread: no more than 65,536 were taken behind those
+-- that the pages take, or behind so many that it isn't settled yet what follows the pages
+abbrev pub ReadsNear : List ℕ → List Raw → List ℕ → Type 0
+ReadsNear bytes raws rest =
+    ((behind : List ℕ) × LeavesBehind false bytes raws behind × (length behind ≤ length rest + 65536))
+    ⊎ ((unsettled : List ℕ) × (behind : List ℕ) × (bytes ≡ unsettled ++ behind) × StopsReading unsettled raws × (length behind ≤ length rest + 65536))
+
+-- the same of the file of this name, where its bytes are told
+abbrev pub ReadsFileNear : Option Contents → List ℕ → List Raw → List ℕ → Type 0
+ReadsFileNear None name raws rest = Unit {0}
+ReadsFileNear (Some contents) name raws rest = (bytes : List ℕ) × (get contents name ≡ Some bytes) × ReadsNear bytes raws rest
+
+-- a page is refused: the first items, all items of the files in front of the opened one, and the documents of its pages
+-- in front of that page are carried out, and its message is the last one. No other file was opened, and this one is
+-- read no farther than that decides, but for 65,536 bytes.
+pub record IsStopped (first : List Item) (contents : Option Contents) (settings : Settings) (output : Option (List ℕ)) (names made : List (List ℕ)) (source source_now : Source) (old new : Sinks) : Type 0 where
+  pub name : List ℕ
+  pub front : List (List ℕ)
+  pub raws : List Raw
+  pub rest : List ℕ
+  pub before : List Item
+  pub message : List ℕ
+  pub reached : OpensUpTo names name front source.openings source_now.openings
+  pub opened : IfSome source_now.files (λ files. files.opened ≡ Some (record { name = name; rest = rest }))
+  pub near : ReadsFileNear contents name raws rest
+  pub items : AreItems contents settings output
+      (λ made items. ArePageItems settings name (base_name output settings.backend name) End Nothing raws 0 made items) front made before
+  pub all : AreItems contents settings output Nothing names made (before ++ Stop message ∷ [])
+  pub done : AreCarriedOut (first ++ before) (message ∷ []) old new
+
 -- what was done of these first items and those of the files of these names, after documents with these base
 -- names
 abbrev pub IsOutcomeBehind : Status → List Item → Option Contents → Settings → Option (List ℕ) → List (List ℕ) → List (List ℕ) → Source → Source → Sinks → Sinks → Type 0
@@ -224,14 +264,11 @@ IsOutcomeBehind status.Unread first contents settings output names made source s
     IsUnopened first contents settings output names made source source_now old new ⊎ IsUnread first contents settings output names made source source_now old new
 IsOutcomeBehind status.Done first contents settings output names made source source_now old new =
     (items : List Item) × AreItems contents settings output Nothing names made items × HasEnded status.Done (first ++ items) old new
-IsOutcomeBehind status.BadWords first contents settings output names made source source_now old new =
-    (items : List Item) × AreItems contents settings output Nothing names made items × HasEnded status.BadWords (first ++ items) old new
+    × (source_now.openings ≡ min (source.openings + length names) last_count)
 IsOutcomeBehind status.Refused first contents settings output names made source source_now old new =
-    (items : List Item) × AreItems contents settings output Nothing names made items × HasEnded status.Refused (first ++ items) old new
-IsOutcomeBehind status.Unwritten first contents settings output names made source source_now old new =
-    (items : List Item) × AreItems contents settings output Nothing names made items × HasEnded status.Unwritten (first ++ items) old new
-IsOutcomeBehind status.OutOfMemory first contents settings output names made source source_now old new =
-    (items : List Item) × AreItems contents settings output Nothing names made items × HasEnded status.OutOfMemory (first ++ items) old new
+    IsStopped first contents settings output names made source source_now old new
+IsOutcomeBehind s first contents settings output names made source source_now old new =
+    (items : List Item) × AreItems contents settings output Nothing names made items × HasEnded s (first ++ items) old new
 
 -- what was done of the items of the files of these names, after documents with these base names
 abbrev pub IsOutcome : Status → Option Contents → Settings → Option (List ℕ) → List (List ℕ) → List (List ℕ) → Source → Source → Sinks → Sinks → Type 0

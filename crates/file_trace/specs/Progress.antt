@@ -12,7 +12,7 @@ use Rattle.bitmap_input.specs.Raw.{Raw, shown}
 use Rattle.bitmap_input.specs.Front.{front, page_at}
 use Rattle.bitmap_input.specs.Front.Answer.{Page, Ends}
 use Rattle.bitmap_input.specs.FilePages.{next_begins}
-use Rattle.bitmap_input.specs.Reading.{Moves, cause_of_fault}
+use Rattle.bitmap_input.specs.Reading.{AreNeeded, Moves, cause_of_fault}
 use Rattle.bitmap_input.specs.Reading.Cause.{Says}
 use Rattle.bitmap_input.specs.Reader.{Reader, ahead as reader_ahead, is_later as reader_is_later}
 use Rattle.page_trace.specs.Document.{IsDocument}
@@ -24,7 +24,7 @@ use Rattle.run_output.specs.declared.status.Status.TheVariants as status
 use Rattle.file_trace.specs.Items.{AreItems, Item, Rest, doc_count, too_many}
 use Rattle.file_trace.specs.Items.Item.{Doc, Note}
 use Rattle.file_trace.specs.Held.{AreHeld, Held, Holds}
-use Rattle.file_trace.specs.Outcome.{AreCarriedOut, BeginsWith, HasEnded, IsUnwritten, Sinks, StopsReading, is_later}
+use Rattle.file_trace.specs.Outcome.{AreCarriedOut, BeginsWith, HasEnded, IsUnwritten, LeavesBehind, ReadsNear, Sinks, StopsReading, is_later}
 use Rattle.pt_base.specs.declared.settings.Settings.{Settings}
 use Rattle.file_trace.specs.declared.pages.PagesEnd.{PagesEnd}
 use Rattle.file_trace.specs.declared.pages.PagesEnd.TheVariants as why
@@ -62,8 +62,15 @@ pub record ReadsPage (settings : Settings) (old : Reader) (before : Option Files
   pub told : IfSome (ahead old before) (λ bytes. (front (reader_is_later old) bytes ≡ Page raw used)
       × (ahead new now ≡ Some (drop (next_begins bytes raw used) bytes)))
   pub settled : new.ended ≡ false → (tail : List ℕ) → Settles (reader_is_later old) (reader_ahead old (more ++ tail)) raw used (reader_ahead new tail)
+  pub near : IfSome (unread before) (λ rest. (left : List ℕ) × (unread now ≡ Some left) × (length (drop used (reader_ahead old rest)) ≤ length left + 65536))
   pub counted : new.pages ≡ old.pages + 1
   pub going_on : new.over ≡ false
+
+-- bytes were taken of the file, as far as what stands ahead needs them
+pub record TakesNeeded (old : Reader) (before : Option Files) (new : Reader) (now : Option Files) : Type 0 where
+  pub more : List ℕ
+  pub moves : Moves old.ended before new.ended now more
+  pub needed : AreNeeded (λ bytes. page_at (reader_is_later old) (reader_ahead old bytes)) more
 
 -- no page was read for this reason, where `later` says whether a page came before and `rest` is what is
 -- ahead: the pages end, or one is refused; or a read failed, or memory ran out
@@ -147,6 +154,7 @@ pub record Traces (size : ℕ) (settings : Settings) (base : List ℕ) (made : L
   pub begins : IfSome (unread before) (λ all. (left : List ℕ) × (rest ≡ Some left) × BeginsWith false all raws left)
   pub ends : EndsBy (is_later false raws) rest end
   pub full : end ≡ why.TooMany → most_pages ≤ k + length made
+  pub near : IfSome (unread before) (λ all. (left : List ℕ) × (unread now ≡ Some left) × ReadsNear all raws left)
   pub unread : end ≡ why.Unread → HasUnread raws before now
   pub holds : (first : List Item) → AreHeld settings held first → Holds size settings (first ++ docs base made texts) held_now old new
 
@@ -176,7 +184,7 @@ pub record Halts (s : Status) (size : ℕ) (settings : Settings) (base : List �
   pub ended : (first : List Item) → AreHeld settings held first → HasEnded s (first ++ docs base made texts) old new
   pub some : raws ≢ []
   pub in_batch : s ≡ status.Unwritten → (first : List Item) → AreHeld settings held first → IsInBatch size (first ++ docs base made texts) old new
-  pub near : IfSome (unread before) (λ all. (left : List ℕ) × (rest : List ℕ) × BeginsWith false all raws left × (unread now ≡ Some rest) × (length left ≤ length rest + 65536))
+  pub near : IfSome (unread before) (λ all. (behind : List ℕ) × (rest : List ℕ) × LeavesBehind false all raws behind × (unread now ≡ Some rest) × (length behind ≤ length rest + 65536))
 
 -- the note of a file of this name whose k pages end so
 abbrev pub end_notes : List ℕ → PagesEnd → ℕ → List Item

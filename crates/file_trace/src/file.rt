@@ -1,7 +1,6 @@
 //! A whole file: opened, its pages read and traced by batches, and how it ended said.
 ghost use Rattle.std.specs.Prelude.{◌≡◌, ◌+◌, ◌*◌, ◌++◌, ◌<◌, ◌≤◌, ◌∷◌, ◌⊎◌, List, ℕ, [], false, true, option_map, IfErr, OnErr, OnOk, IfSome};
 ghost use Rattle.pt_base.specs.Counts.{next_count};
-ghost use Rattle.pt_base.specs.Documents.{IsSaid};
 ghost use Rattle.page_trace.specs.Document.{CanWrite};
 ghost use Rattle.page_trace.specs.Offered.{IsOffered};
 ghost use Rattle.run_output.specs.Made.{most_pages};
@@ -12,7 +11,7 @@ ghost use Rattle.file_trace.specs.Held.{AreHeld, Holds, pages_held};
 ghost use Rattle.file_trace.specs.Held.Held.{Message};
 ghost use Rattle.file_trace.specs.Items.{Item, told_contents};
 ghost use Rattle.file_trace.specs.OnePass.{IsOnePass};
-ghost use Rattle.file_trace.specs.Outcome.{IsOutcomeBehind, opened_name, sinks_of, source_of};
+ghost use Rattle.file_trace.specs.Outcome.{IsMessage, IsOutcomeBehind, opened_name, sinks_of, source_of, told_of};
 ghost use Rattle.file_trace.specs.Progress.{EndsWithFile, InputCount, OutputCount, TracesFile, end_notes, status_of};
 ghost use Rattle.file_trace.specs.Unopened.{EndsUnopened};
 
@@ -233,9 +232,7 @@ fn hold_trailing<E: Sink>(
     ensures held { OnOk result ((errs.new ≡ errs.old)
         × (batch.new ≡ batch.old ++ Message (trailing_line name.now pages) ∷ [])) }
     ensures ends { IfErr result (λ status. (status ≡ Status.OutOfMemory)
-        × IsSaid (E.documents errs.old) (E.documents errs.new) (E.faults errs.old)
-        (E.faults errs.new) out_of_memory) }
-    ensures never_falls { E.faults errs.old ≤ E.faults errs.new }
+        × IsMessage out_of_memory (told_of E.Sink errs.old) (told_of E.Sink errs.new)) }
     ensures stays_ready { E.is_ready errs.new ≡ true }
 {
     let Ok(name) = String::from_str(alloc, name) else {

@@ -12,7 +12,7 @@ ghost use Rattle.file_trace.specs.Held.{AreHeld, Holds, pages_held};
 ghost use Rattle.file_trace.specs.Items.{Item, told_contents};
 ghost use Rattle.file_trace.specs.Items.Item.{Doc};
 ghost use Rattle.file_trace.specs.Outcome.{HasEnded, opened_name, sinks_of};
-ghost use Rattle.file_trace.specs.Progress.{EndsBy, EndsReading, Halts, InputCount, OutputCount, ReadsPage, Traces, ahead, end_of_fault, status_of};
+ghost use Rattle.file_trace.specs.Progress.{EndsBy, EndsReading, Halts, InputCount, OutputCount, ReadsPage, TakesNeeded, Traces, ahead, end_of_fault, status_of};
 ghost use Rattle.pt_base.specs.declared.settings.Settings.{Settings};
 ghost use Rattle.file_trace.specs.declared.pages.PagesEnd.{PagesEnd};
 
@@ -218,7 +218,7 @@ fn read_next<I: Inputs>(
         (λ page. ReadsPage settings reader.old (I.files inputs.old) page reader.new
         (I.files inputs.new)) }
     ensures page { IfOk result (λ page. IsPage page) }
-    ensures within { length reader.new.bytes ≤ 65536 }
+    ensures takes { TakesNeeded reader.old (I.files inputs.old) reader.new (I.files inputs.new) }
     ensures ends { IfErr result
         (EndsReading (reader_is_later reader.old) (ahead reader.old (I.files inputs.old))) }
     ensures read_fault { result ≡ Err PagesEnd.Unread
@@ -231,9 +231,6 @@ fn read_next<I: Inputs>(
     ensures still_at_end { reader.new.ended ≡ true → AtEnd (I.files inputs.new) }
     ensures stays_opened { I.is_opened inputs.new ≡ true }
     ensures same_openings { I.openings inputs.new ≡ I.openings inputs.old }
-    ensures same_name { opened_name (I.files inputs.new) ≡ opened_name (I.files inputs.old) }
-    ensures same_contents { told_contents (I.files inputs.new)
-        ≡ told_contents (I.files inputs.old) }
 {
     let level = Level::from_micro(settings.level);
     let next = reader.next(alloc, inputs, &level, settings.invert)?;
@@ -264,10 +261,8 @@ fn end_after_most<I: Inputs>(
         × Rose (I.faults inputs.old) (I.faults inputs.new) }
     ensures input { InputCount (status_of result) (I.faults inputs.old) (I.faults inputs.new) }
     ensures never_falls { I.faults inputs.old ≤ I.faults inputs.new }
+    ensures takes { TakesNeeded reader.old (I.files inputs.old) reader.new (I.files inputs.new) }
     ensures same_openings { I.openings inputs.new ≡ I.openings inputs.old }
-    ensures same_name { opened_name (I.files inputs.new) ≡ opened_name (I.files inputs.old) }
-    ensures same_contents { told_contents (I.files inputs.new)
-        ≡ told_contents (I.files inputs.old) }
 {
     match read_next(alloc, settings, reader, inputs) {
         Ok(_page) => PagesEnd::TooMany,

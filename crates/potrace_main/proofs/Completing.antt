@@ -19,7 +19,7 @@ use Rattle.file_trace.specs.Progress.{OutputCount}
 use Rattle.file_trace.proofs.Exists.{items_found}
 use Rattle.file_trace.proofs.Joining.{items_behind}
 use Rattle.page_demo.proofs.Found.{demo_found}
-use Rattle.potrace_main.specs.Run.{AreItemsOf, EndsMissing, EndsRefused, IsComplete, IsMissing, IsOutcomeOf, IsRun, names_of}
+use Rattle.potrace_main.specs.Run.{AreItemsOf, EndsMissing, EndsRefused, FailureCount, IsComplete, IsMissing, IsOutcomeOf, IsRun, names_of}
 use Rattle.potrace_main.specs.Usage.{help_text, version_text}
 
 -- a run doesn't go on after a refusal
@@ -71,14 +71,15 @@ Completes contents settings output names s read read_now written written_now =
     (items : List Item) × AreItems contents settings output Nothing names [] items × ((Rose read read_now → ⊥) → (Rose written written_now → ⊥) → IsComplete s items)
 
 pub files_complete : (s : Status) (settings : Settings) → CanWrite settings → (output : Option (List ℕ)) (names : List (List ℕ)) (source now : Source) (a b : Sinks)
-    → IsOutcome s (told_contents source.files) settings output names [] source now a b → OutputCount s a.outs_faults b.outs_faults b.is_open
-    → Completes (told_contents source.files) settings output names s source.faults now.faults a.outs_faults b.outs_faults
-files_complete status.Done settings can output names source now a b (items, are, done) w =
+    → IsOutcome s (told_contents source.files) settings output names [] source now a b → OutputCount s a.outs.faults b.outs.faults b.is_open
+    → Completes (told_contents source.files) settings output names s source.faults now.faults a.outs.faults b.outs.faults
+files_complete status.Done settings can output names source now a b (items, are, done, opens) w =
     (items, are, λ _ _. record { all = λ _. inl refl; refusal = λ r. absurd (never_refused items done.goes_on r); missing = λ m. absurd (never_missing items done.goes_on m) })
 files_complete status.BadWords settings can output names source now a b (items, are, ended) w = absurd ended
-files_complete status.Refused settings can output names source now a b (items, are, r) w =
-    let refusal : EndsRefused items = (r.before, r.message, r.split) in
-    (items, are, λ _ _. record { all = λ goes. absurd (never_refused items goes refusal); refusal = λ _. inl refl; missing = λ m. absurd (no_both items refusal m) })
+files_complete status.Refused settings can output names source now a b r w =
+    let items : List Item = r.before ++ Stop r.message ∷ [] in
+    let refusal : EndsRefused items = (r.before, r.message, refl) in
+    (items, r.all, λ _ _. record { all = λ goes. absurd (never_refused items goes refusal); refusal = λ _. inl refl; missing = λ m. absurd (no_both items refusal m) })
 files_complete status.Unwritten settings can output names source now a b (items, are, u) w = (items, are, λ _ no_write. absurd (no_write w))
 files_complete status.OutOfMemory settings can output names source now a b (items, are, o) w =
     (items, are, λ _ _. record { all = λ _. inr refl; refusal = λ _. inr refl; missing = λ _. inr refl })
@@ -87,7 +88,7 @@ files_complete status.Unread settings can output names source now a b (inr u) w 
     (items.0, items.1, λ no_read _. absurd (no_read u.rose))
 files_complete status.Unread settings can output names source now a b (inl u) w = by_cause u.cause where
   by_cause : IsAbsent (told_contents source.files) u.name ⊎ Rose source.faults now.faults
-      → Completes (told_contents source.files) settings output names status.Unread source.faults now.faults a.outs_faults b.outs_faults
+      → Completes (told_contents source.files) settings output names status.Unread source.faults now.faults a.outs.faults b.outs.faults
   by_cause (inr rose) =
       let items = items_found (told_contents source.files) settings can output names [] in
       (items.0, items.1, λ no_read _. absurd (no_read rose))
@@ -117,7 +118,7 @@ text_complete status.Unwritten text written written_now ready a b u w no_write =
 text_complete status.OutOfMemory text written written_now ready a b o w no_write = record { all = λ _. inr refl; refusal = λ _. inr refl; missing = λ _. inr refl }
 
 pub run_complete : (ask : Ask) (s : Status) (source now : Source) (a b : Sinks) → CanBeDone ask → IsRun ask s source now a b
-    → (items : List Item) × AreItemsOf ask (told_contents source.files) items × ((Rose source.faults now.faults → ⊥) → (Rose a.outs_faults b.outs_faults → ⊥) → IsComplete s items)
+    → (items : List Item) × AreItemsOf ask (told_contents source.files) items × ((Rose source.faults now.faults → ⊥) → (Rose a.outs.faults b.outs.faults → ⊥) → IsComplete s items)
 run_complete asks.Help s source now a b can ran = (_, refl, λ _ no_write. text_complete s help_text _ _ _ a b ran.outcome ran.output no_write)
 run_complete asks.Version s source now a b can ran = (_, refl, λ _ no_write. text_complete s version_text _ _ _ a b ran.outcome ran.output no_write)
 run_complete (asks.Demo pages workers settings) s source now a b can ran =
@@ -162,11 +163,11 @@ not_document name (item ∷ other ∷ before) document text after e = cc
 
 first_absent : (s : Status) (settings : Settings) (output : Option (List ℕ)) (name : List ℕ) (names : List (List ℕ)) (source now : Source) (a b : Sinks) → IsAbsent (told_contents source.files) name
     → IsOutcome s (told_contents source.files) settings output (name ∷ names) [] source now a b → (s ≡ status.Unread) ⊎ (s ≡ status.OutOfMemory)
-first_absent status.Done settings output name names source now a b absent (items, are, done) =
+first_absent status.Done settings output name names source now a b absent (items, are, done, opens) =
     absurd (subst GoesOn (only_missing (told_contents source.files) settings output name names items absent are) done.goes_on)
 first_absent status.BadWords settings output name names source now a b absent (items, are, ended) = absurd ended
-first_absent status.Refused settings output name names source now a b absent (items, are, r) =
-    absurd (not_stop name r.before r.message (sym (only_missing (told_contents source.files) settings output name names items absent are) ∙ r.split))
+first_absent status.Refused settings output name names source now a b absent r =
+    absurd (not_stop name r.before r.message (sym (only_missing (told_contents source.files) settings output name names (r.before ++ Stop r.message ∷ []) absent r.all)))
 first_absent status.Unread settings output name names source now a b absent u = inl refl
 first_absent status.Unwritten settings output name names source now a b absent (items, are, u) =
     absurd (not_document name u.before u.name u.text u.after (sym (only_missing (told_contents source.files) settings output name names items absent are) ∙ u.split))
@@ -189,6 +190,31 @@ out_at_once (asks.Demo pages workers settings) source a b can done =
 out_at_once (asks.Files names output workers settings) source a b can done =
     let items = items_found (told_contents source.files) settings can.0.document output names [] in
     (items.0, items.1, record { before = []; after = items.0; split = refl; done = done })
+
+-- what the calls of the outputs answered, by the outcome
+ended_failed : (s : Status) (items : List Item) (a b : Sinks) → HasEnded s items a b → FailureCount s a.outs.failures b.outs.failures
+ended_failed status.Done items a b done = done.went
+ended_failed status.BadWords items a b ended = absurd ended
+ended_failed status.Refused items a b r = r.done.went
+ended_failed status.Unread items a b ended = absurd ended
+ended_failed status.Unwritten items a b u = u.failed
+ended_failed status.OutOfMemory items a b o = o.done.went
+
+files_failed : (s : Status) (settings : Settings) (output : Option (List ℕ)) (names : List (List ℕ)) (source now : Source) (a b : Sinks)
+    → IsOutcome s (told_contents source.files) settings output names [] source now a b → FailureCount s a.outs.failures b.outs.failures
+files_failed status.Done settings output names source now a b (items, are, done, opens) = done.went
+files_failed status.BadWords settings output names source now a b (items, are, ended) = absurd ended
+files_failed status.Refused settings output names source now a b r = r.done.went
+files_failed status.Unread settings output names source now a b (inl u) = u.done.went
+files_failed status.Unread settings output names source now a b (inr u) = u.done.went
+files_failed status.Unwritten settings output names source now a b (items, are, u) = u.failed
+files_failed status.OutOfMemory settings output names source now a b (items, are, o) = o.done.went
+
+pub run_failed : (ask : Ask) (s : Status) (source now : Source) (a b : Sinks) → IsOutcomeOf ask s source now a b → FailureCount s a.outs.failures b.outs.failures
+run_failed asks.Help s source now a b ended = ended_failed s (Doc dash help_text ∷ []) a b ended
+run_failed asks.Version s source now a b ended = ended_failed s (Doc dash version_text ∷ []) a b ended
+run_failed (asks.Demo pages workers settings) s source now a b (text, is, ended) = ended_failed s (Doc dash text ∷ []) a b ended
+run_failed (asks.Files names output workers settings) s source now a b outcome = files_failed s settings output names source now a b outcome
 
 -- Statuses and their codes.
 

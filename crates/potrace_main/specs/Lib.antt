@@ -9,6 +9,7 @@ pub mod Usage
 --   names_of: the files that a run may open
 --   IsMissing: one of these files isn't there
 --   RefusesWords: words were refused
+--   FailureCount: what the calls of the outputs answered
 --   EndsRefused: the last of the items is a refusal
 --   EndsMissing: the last of the items is a file that isn't there
 --   IsComplete: what the status is where no device failed

@@ -1,5 +1,6 @@
 -- What the top call promises.
 use Rattle.std.specs.Prelude.{◌≡◌, ℕ, ◌*◌, ◌⊎◌, List, [], ◌∷◌, ◌++◌, Option}
+use Rattle.pt_base.specs.Failures.{Failures, after_err}
 use Rattle.pt_base.specs.Files.{Contents}
 use Rattle.run_output.specs.Messages.{bad_words, out_of_memory}
 use Rattle.run_output.specs.Names.{dash}
@@ -54,6 +55,12 @@ RefusesWords status.Refused old new = ⊥
 RefusesWords status.Unread old new = ⊥
 RefusesWords status.Unwritten old new = ⊥
 
+-- what the calls of the outputs answered: where a document couldn't be written one failed, and it was the last one;
+-- else none did
+abbrev pub FailureCount : Status → Failures → Failures → Type 0
+FailureCount status.Unwritten old new = new ≡ after_err old
+FailureCount s old new = new.count ≡ old.count
+
 -- the last of the items is a refusal
 abbrev pub EndsRefused : List Item → Type 0
 EndsRefused items = (before : List Item) × (message : List ℕ) × (items ≡ before ++ Stop message ∷ [])
@@ -83,5 +90,5 @@ pub record IsRun (ask : Ask) (s : Status) (source source_now : Source) (old new 
   pub outcome : IsOutcomeOf ask s source source_now old new
   pub opened : OpensFirst (names_of ask) source source_now
   pub input : InputCount s source.faults source_now.faults
-  pub output : OutputCount s old.outs_faults new.outs_faults new.is_open
+  pub output : OutputCount s old.outs.faults new.outs.faults new.is_open
   pub one_pass : s ≡ status.Unwritten → IsOnePassOf ask source source_now old new

@@ -13,7 +13,7 @@ ghost use Rattle.file_trace.specs.Items.{IsAbsent, Item, told_contents};
 ghost use Rattle.file_trace.specs.Items.Item.{Doc};
 ghost use Rattle.file_trace.specs.Outcome.{HasEnded, OpensFirst, sinks_of, source_of};
 ghost use Rattle.file_trace.specs.Progress.{InputCount, OutputCount};
-ghost use Rattle.potrace_main.specs.Run.{AreItemsOf, IsCodeOf, IsComplete, IsMissing, IsOnePassOf, IsOutcomeOf, IsRun, RefusesWords, names_of};
+ghost use Rattle.potrace_main.specs.Run.{AreItemsOf, FailureCount, IsCodeOf, IsComplete, IsMissing, IsOnePassOf, IsOutcomeOf, IsRun, RefusesWords, names_of};
 
 use crate::usage::{help_text, version_text};
 use command_asks::ask::{Ask, WordFault};
@@ -95,6 +95,11 @@ pub fn run<R: Threads + Sync, I: Inputs, O: Outputs, E: Sink, G: Gate + Sync>(
     ensures unwritten_always { O.faults outs.old < O.faults outs.new
         → result ≡ code_of Status.Unwritten }
 
+    // After a fault of the outputs nothing more is written: one call failed, and it was the last one. At each other
+    // status none failed.
+    ensures failed { IsCodeOf result
+        (λ status. FailureCount status (O.failures outs.old) (O.failures outs.new)) }
+
     // No document stays open but for a fault of the outputs.
     ensures closed { result ≢ code_of Status.Unwritten → O.is_ready outs.new ≡ false }
 {
@@ -123,6 +128,7 @@ fn answer<R: Threads + Sync, I: Inputs, O: Outputs, E: Sink, G: Gate + Sync>(
     ensures input { InputCount result (I.faults inputs.old) (I.faults inputs.new) }
     ensures output { OutputCount result (O.faults outs.old) (O.faults outs.new)
         (O.is_ready outs.new) }
+    ensures failed { FailureCount result (O.failures outs.old) (O.failures outs.new) }
 {
     match settings_of(alloc, words) {
         Ok(ask) => carry_out(rt, alloc, ask, inputs, outs, errs, gate),

@@ -36,7 +36,7 @@ loop-entry-preserved g c = elim c.match-entry.branch [
       rw (w.outs-is, w.errs-is, w.done-is) (record {
         written = message_written c.args.entries.now c.args.texts.now c.loop-entry.entry-index c.loop-entry.done _ _ _ w.in-Trailing.name w.in-Trailing.pages c.entry-item.result
             c.loop-entry-test.true c.entry-item.is w.in-Trailing.is c.loop-entry.invariant.written refl
-            (rw (w.deref-in-Trailing.ensures, w.from.ensures) at w.say_trailing.ensures.said) w.say_trailing.ensures.never_falls;
+            (record { said = rw (w.deref-in-Trailing.ensures, w.from.ensures) at w.say_trailing.ensures.said; given_up = w.say_trailing.ensures.given_up; never_falls = w.say_trailing.ensures.never_falls });
         steady = c.loop-entry.invariant.steady;
         closed = c.loop-entry.invariant.closed;
         ready = w.say_trailing.ensures.stays_ready;

@@ -5,7 +5,7 @@ use Rattle.file_trace.proofs.file.end_unopened.Goals as goal
 -- all that was held is carried out
 pub returns-in-Ok : goal.returns-in-Ok
 returns-in-Ok g c = record {
-  ends = λ first are. unopened_said c.args.name.now first _ _ _ (c.in-Ok.ensures.done first are) refl c.say_not_opened.ensures.said c.say_not_opened.ensures.never_falls;
+  ends = λ first are. unopened_said c.args.name.now first _ _ _ (c.in-Ok.ensures.done first are) refl (record { said = c.say_not_opened.ensures.said; given_up = c.say_not_opened.ensures.given_up; never_falls = c.say_not_opened.ensures.never_falls });
   status = inl refl;
   output = c.in-Ok.ensures.steady_output;
   outputs_never_fall = c.carry_out.ensures.outputs_never_fall;

@@ -39,7 +39,7 @@ returns-in-Trailing g c = record {
       rw (c.in-Trailing.is, h.0, h.1) (all_held _ c.args.settings _ _ _ (AreHeld-note c.args.settings c.args.batch.now (trailing_line c.args.name.now c.args.traced.pages) first are))) c.hold_trailing.ensures.held;
   ends =
       IfErr-weaker c.hold_trailing.result _ _ (λ status h. λ first are.
-      inr (inr h.0, rw h.0 (memory_out first _ _ refl h.1 c.hold_trailing.ensures.never_falls))) c.hold_trailing.ensures.ends;
+      inr (inr h.0, rw h.0 (memory_out first _ _ refl h.1))) c.hold_trailing.ensures.ends;
   status = IfErr-weaker c.hold_trailing.result _ _ (λ status h. inr (inr h.0)) c.hold_trailing.ensures.ends;
   unwritten = IfErr-weaker c.hold_trailing.result _ _ (λ status h is. absurd (let no : variant.OutOfMemory ≡ variant.Unwritten = sym h.0 ∙ is in cc)) c.hold_trailing.ensures.ends;
   still_not_full =
@@ -56,7 +56,7 @@ pub returns-in-OutOfMemory : goal.returns-in-OutOfMemory
 returns-in-OutOfMemory g c = record {
   goes_on = tt;
   held = tt;
-  ends = λ first are. inr (inr refl, memory_out first _ _ refl c.say_out_of_memory.ensures.said c.say_out_of_memory.ensures.never_falls);
+  ends = λ first are. inr (inr refl, memory_out first _ _ refl (record { said = c.say_out_of_memory.ensures.said; given_up = c.say_out_of_memory.ensures.given_up; never_falls = c.say_out_of_memory.ensures.never_falls }));
   status = inr (inr refl);
   unwritten = λ is. absurd (let no : variant.OutOfMemory ≡ variant.Unwritten = is in cc);
   still_not_full = tt;
@@ -69,7 +69,7 @@ returns-in-OutOfMemory g c = record {
 -- all that was held is carried out, and the end is said
 pub returns-in-Ok-clause-ends : goal.returns-in-Ok-clause-ends
 returns-in-Ok-clause-ends g c = λ first are.
-    end_said c.args.name.now c.args.traced.end c.args.traced.pages _ _ first _ _ _ (c.in-Ok.ensures.done first are) refl c.say_of_page.ensures.said c.say_of_page.ensures.never_falls
+    end_said c.args.name.now c.args.traced.end c.args.traced.pages _ _ first _ _ _ (c.in-Ok.ensures.done first are) refl (record { said = c.say_of_page.ensures.said; given_up = c.say_of_page.ensures.given_up; never_falls = c.say_of_page.ensures.never_falls })
     (elim c.match-traced.branch [
       | in-Refused w ↦ record {
         is = rw (w.status-is, w.in-Refused.is) refl;

@@ -39,7 +39,7 @@ pub returns-in_default-clause-ends : goal.returns-in_default-clause-ends
 returns-in_default-clause-ends g c = λ names first are.
     let output : Option (List ℕ) = option_map (λ s. s.now) c.args.output in
     ends_at_once (told_contents (g.I.Inputs.files c.args.inputs.now)) c.args.settings c.requires.offered.document output
-    (c.args.name.now ∷ names) c.args.made.now _ _ refl c.say_out_of_memory.ensures.said c.say_out_of_memory.ensures.never_falls first
+    (c.args.name.now ∷ names) c.args.made.now _ _ refl (record { said = c.say_out_of_memory.ensures.said; given_up = c.say_out_of_memory.ensures.given_up; never_falls = c.say_out_of_memory.ensures.never_falls }) first
 
 -- the run ends within the file's pages
 pub returns-in-Err-trace_pages-clause-ends : goal.returns-in-Err-trace_pages-clause-ends
@@ -94,7 +94,7 @@ returns-in-Err-add-clause-ends g c = λ names first are.
     (file_goes_on (told_contents (g.I.Inputs.files c.args.inputs.now)) c.args.settings output c.args.name.now c.args.made.now _ (g.I.Inputs.files c.open.new.self)
     (g.I.Inputs.files c.trace_pages.new.inputs) c.in-Ok-trace_pages.traced.pages c.args.batch.now c.trace_pages.new.batch _ _ has c.in-Ok-trace_pages.traced.end traced c.finish.new.batch _
     c.in-Ok-finish.ensures.held c.in-Ok-finish.ensures.goes_on)
-    refl c.say_out_of_memory-in-Err-add.ensures.said c.say_out_of_memory-in-Err-add.ensures.never_falls names first are
+    refl (record { said = c.say_out_of_memory-in-Err-add.ensures.said; given_up = c.say_out_of_memory-in-Err-add.ensures.given_up; never_falls = c.say_out_of_memory-in-Err-add.ensures.never_falls }) names first are
 
 -- the opened file has its name
 pub returns-in-Err-finish-clause-name : goal.returns-in-Err-finish-clause-name

@@ -1,4 +1,4 @@
-use Rattle.std.proofs.Common.{◌≡◌, ◌∙◌, ◌*◌, [], ℕ, List, Option, inl, option_map, refl, arith}
+use Rattle.std.proofs.Common.{◌≡◌, ◌∙◌, ◌*◌, [], ℕ, List, Option, length, inl, option_map, refl, arith}
 use Rattle.std.proofs.lemmas.List.{take_all}
 use Rattle.run_output.specs.declared.status.Status.TheVariants as status
 use Rattle.file_trace.specs.Items.{told_contents}
@@ -14,6 +14,7 @@ loop-name-init g c =
     let output : Option (List ℕ) = option_map (λ s. s.now) c.args.output in
     record {
       done = rw (c.new-made.ensures, c.new-batch.ensures) (none_done _ (told_contents (g.I.Inputs.files c.args.inputs.now)) c.args.settings output _);
+      within = omega arith;
       openings = (let most = g.met.I.Inputs.openings_counted c.args.inputs.now in omega (arith, most));
       opened = inl (refl, refl);
       contents = refl;
@@ -31,6 +32,7 @@ loop-name-preserved g c =
     let named = rw c.as_str.ensures at c.trace_file-traced.ensures.name in
     record {
       done = one_done _ _ _ _ _ c.loop-name.name-index c.name-item.result _ _ _ _ _ _ _ c.loop-name-test.true c.name-item.is c.loop-name.invariant.done file;
+      within = omega (arith, c.loop-name-test.true);
       openings = openings_more _ c.loop-name.name-index _ _ c.loop-name.invariant.openings c.trace_file-traced.ensures.one_more;
       opened = opens_to c.args.names.now c.loop-name.name-index c.name-item.result
           (source_of g.I.Inputs c.args.inputs.now) (source_of g.I.Inputs c.loop-name.inputs) (source_of g.I.Inputs c.trace_file-traced.new.inputs) c.loop-name-test.true c.name-item.is c.loop-name.invariant.openings c.trace_file-traced.ensures.one_more named;
@@ -47,7 +49,7 @@ pub returns-in_default : goal.returns-in_default
 returns-in_default g c = record {
   outcome = let output : Option (List ℕ) = option_map (λ s. s.now) c.args.output in
       ends_at_once (told_contents (g.I.Inputs.files c.args.inputs.now)) c.args.settings c.requires.offered.document output c.args.names.now [] _ _ refl
-      c.say_out_of_memory.ensures.said c.say_out_of_memory.ensures.never_falls [];
+      (record { said = c.say_out_of_memory.ensures.said; given_up = c.say_out_of_memory.ensures.given_up; never_falls = c.say_out_of_memory.ensures.never_falls }) [];
   opened = inl (refl, refl);
   one_pass = λ is. absurd (let no : status.OutOfMemory ≡ status.Unwritten = is in cc);
   input = tt;
@@ -74,7 +76,9 @@ returns-in-Err g c = record {
 -- all files are done, and what is held then is carried out
 pub returns-in-Ok-carry_out : goal.returns-in-Ok-carry_out
 returns-in-Ok-carry_out g c = record {
-  outcome = all_done _ _ _ _ _ _ _ _ _ _ (rw (take_all c.loop-name.name-index c.args.names.now c.loop-name-test.false) at c.loop-name.invariant.done) c.in-Ok-carry_out.ensures.done;
+  outcome = let all : c.loop-name.name-index ≡ length c.args.names.now = omega (arith, c.loop-name.invariant.within, c.loop-name-test.false) in
+      all_done _ _ _ _ _ _ _ (source_of g.I.Inputs c.args.inputs.now) (source_of g.I.Inputs c.loop-name.inputs) _ _ _ (rw (take_all c.loop-name.name-index c.args.names.now c.loop-name-test.false) at c.loop-name.invariant.done) c.in-Ok-carry_out.ensures.done
+      (rw all at c.loop-name.invariant.openings);
   opened = c.loop-name.invariant.opened;
   one_pass = λ is. absurd (let no : status.Done ≡ status.Unwritten = is in cc);
   input = c.loop-name.invariant.input;

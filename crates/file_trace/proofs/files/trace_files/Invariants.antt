@@ -1,4 +1,4 @@
-use Rattle.std.proofs.Common.{◌≡◌, ◌<◌, ◌+◌, ◌*◌, min, take, false, true, option_map}
+use Rattle.std.proofs.Common.{◌≡◌, ◌<◌, ◌≤◌, ◌+◌, ◌*◌, length, min, take, false, true, option_map}
 use Rattle.pt_base.specs.Counts.{last_count}
 use Rattle.file_trace.specs.Held.{pages_held}
 use Rattle.file_trace.specs.Items.{told_contents}
@@ -15,6 +15,7 @@ invariant-loop-name g l =
     record {
       done : AreDone (2 * l.workers) (told_contents (inputs.files l.fn.inputs)) l.settings (option_map (λ s. s.now) l.output) (take l.name-index l.names) l.made l.batch
           (sinks_of outs errs l.fn.outs l.fn.errs) (sinks_of outs errs l.outs l.errs);
+      within : l.name-index ≤ length l.names;
       not_full : pages_held l.batch < 2 * l.workers;
       openings : inputs.openings l.inputs ≡ min (inputs.openings l.fn.inputs + l.name-index) last_count;
       opened : OpensFirst l.names (source_of inputs l.fn.inputs) (source_of inputs l.inputs);

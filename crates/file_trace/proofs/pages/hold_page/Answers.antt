@@ -4,15 +4,16 @@ use Rattle.file_trace.specs.Held.{Held, pages_held}
 use Rattle.file_trace.specs.Held.Held.{Page}
 use Rattle.std.proofs.lemmas.Result.{IfErr-weaker}
 use Rattle.file_trace.proofs.Holding.{all_carried, all_held, doc_count-held, none_carried, page_held, pages_held-more}
+use Rattle.file_trace.specs.Outcome.{told_of}
 use Rattle.file_trace.proofs.pages.hold_page.Goals as goal
 
 pub returns-in_default-clause-ends : goal.returns-in_default-clause-ends
 returns-in_default-clause-ends g c = λ first are text is.
-    none_carried _ _ _ (λ i. g.O.Sink.documents c.args.outs.now) c.say_out_of_memory.ensures.said c.say_out_of_memory.ensures.never_falls
+    none_carried _ _ _ (λ i. told_of g.O.Sink c.args.outs.now) (record { said = c.say_out_of_memory.ensures.said; given_up = c.say_out_of_memory.ensures.given_up; never_falls = c.say_out_of_memory.ensures.never_falls })
 
 pub returns-in_default-push-clause-ends : goal.returns-in_default-push-clause-ends
 returns-in_default-push-clause-ends g c = λ first are text is.
-    none_carried _ _ _ (λ i. g.O.Sink.documents c.args.outs.now) c.say_out_of_memory-in_default-push.ensures.said c.say_out_of_memory-in_default-push.ensures.never_falls
+    none_carried _ _ _ (λ i. told_of g.O.Sink c.args.outs.now) (record { said = c.say_out_of_memory-in_default-push.ensures.said; given_up = c.say_out_of_memory-in_default-push.ensures.given_up; never_falls = c.say_out_of_memory-in_default-push.ensures.never_falls })
 
 pub returns-then-count-workers-clause-held : goal.returns-then-count-workers-clause-held
 returns-then-count-workers-clause-held g c =

@@ -2,6 +2,7 @@ use Rattle.std.proofs.Common.{◌≡◌, ◌∙◌, Err, true, false, ap, refl, 
 use Rattle.page_trace.proofs.Exists.{document_found}
 use Rattle.run_output.proofs.Naming.{next_name-made_with}
 use Rattle.file_trace.proofs.Counting.{input_from, output_from, rises_from, rose_from, stands}
+use Rattle.file_trace.proofs.Reading.{contents_taken, name_taken}
 use Rattle.file_trace.proofs.Tracing.{ends_by, halted, no_more, none_traced, one_more}
 use Rattle.file_trace.specs.Progress.{status_of}
 use Rattle.file_trace.proofs.pages.trace_pages.Goals as goal
@@ -36,8 +37,8 @@ loop-pages-preserved g c =
       closed = c.in-Ok-hold_page.ensures.steady_output.1;
       ready = c.in-Ok-hold_page.ensures.stays_ready;
       openings = c.in-Ok.ensures.same_openings ∙ c.loop-pages.invariant.openings;
-      name = c.in-Ok.ensures.same_name ∙ c.loop-pages.invariant.name;
-      contents = c.in-Ok.ensures.same_contents ∙ c.loop-pages.invariant.contents;
+      name = name_taken _ _ _ _ c.read_next.ensures.takes ∙ c.loop-pages.invariant.name;
+      contents = contents_taken _ _ _ _ c.read_next.ensures.takes ∙ c.loop-pages.invariant.contents;
       input = c.in-Ok.ensures.steady ∙ c.loop-pages.invariant.input;
       output = c.in-Ok-hold_page.ensures.steady_output.0 ∙ c.loop-pages.invariant.output;
     }
@@ -47,7 +48,7 @@ pub returns-in-Err-hold_page-clause-ends : goal.returns-in-Err-hold_page-clause-
 returns-in-Err-hold_page-clause-ends g c = let named = next_name-made_with c.args.base.now c.count-first.result c.loop-pages.pages c.args.made.now c.count-first.ensures.value in
     let document = document_found c.args.settings.backend c.in-Ok.page c.args.settings c.in-Ok.ensures.page c.requires.offered.document in
     halted _ _ _ _ _ _ _ _ _ _ _ _ _ _ _ _ _ _ c.loop-pages.invariant.traced c.in-Ok.ensures.reads document.1
-    (λ left are. rw named (c.in-Err-hold_page.ensures.ends left are document.0 document.1)) (omega arith) c.in-Ok.ensures.within c.in-Err-hold_page.ensures.full
+    (λ left are. rw named (c.in-Err-hold_page.ensures.ends left are document.0 document.1)) (omega arith) c.in-Err-hold_page.ensures.full
 
 pub returns-in-Err-hold_page-clause-status : goal.returns-in-Err-hold_page-clause-status
 returns-in-Err-hold_page-clause-status g c = c.in-Err-hold_page.ensures.status
@@ -68,10 +69,10 @@ pub returns-in-Err-hold_page-clause-same_openings : goal.returns-in-Err-hold_pag
 returns-in-Err-hold_page-clause-same_openings g c = c.in-Ok.ensures.same_openings ∙ c.loop-pages.invariant.openings
 
 pub returns-in-Err-hold_page-clause-same_name : goal.returns-in-Err-hold_page-clause-same_name
-returns-in-Err-hold_page-clause-same_name g c = c.in-Ok.ensures.same_name ∙ c.loop-pages.invariant.name
+returns-in-Err-hold_page-clause-same_name g c = name_taken _ _ _ _ c.read_next.ensures.takes ∙ c.loop-pages.invariant.name
 
 pub returns-in-Err-hold_page-clause-same_contents : goal.returns-in-Err-hold_page-clause-same_contents
-returns-in-Err-hold_page-clause-same_contents g c = c.in-Ok.ensures.same_contents ∙ c.loop-pages.invariant.contents
+returns-in-Err-hold_page-clause-same_contents g c = contents_taken _ _ _ _ c.read_next.ensures.takes ∙ c.loop-pages.invariant.contents
 
 pub returns-in-Err-hold_page-clause-stays_ready : goal.returns-in-Err-hold_page-clause-stays_ready
 returns-in-Err-hold_page-clause-stays_ready g c = c.in-Err-hold_page.ensures.stays_ready
@@ -81,7 +82,7 @@ pub returns-in-Err : goal.returns-in-Err
 returns-in-Err g c = record {
   traced = let ends = ends_by _ _ c.in-Err.end c.in-Err.ensures.ends in
       no_more _ _ _ _ _ _ _ _ _ _ _ _ _ _ _ c.loop-pages.invariant.traced ends.0 (λ e. (c.in-Err.ensures.read_fault (ap Err e)).0)
-      (omega arith) (λ e. absurd (ends.1 e));
+      c.read_next.ensures.takes (omega arith) (λ e. absurd (ends.1 e));
   ends = tt;
   status = tt;
   still_not_full = c.loop-pages.invariant.not_full;
@@ -93,8 +94,8 @@ returns-in-Err g c = record {
   inputs_never_fall = rises_from _ _ _ c.loop-pages.invariant.input c.in-Err.ensures.never_falls;
   outputs_never_fall = stands _ _ c.loop-pages.invariant.output;
   same_openings = c.in-Err.ensures.same_openings ∙ c.loop-pages.invariant.openings;
-  same_name = c.in-Err.ensures.same_name ∙ c.loop-pages.invariant.name;
-  same_contents = c.in-Err.ensures.same_contents ∙ c.loop-pages.invariant.contents;
+  same_name = name_taken _ _ _ _ c.read_next.ensures.takes ∙ c.loop-pages.invariant.name;
+  same_contents = contents_taken _ _ _ _ c.read_next.ensures.takes ∙ c.loop-pages.invariant.contents;
   stays_ready = c.loop-pages.invariant.ready;
 }
 
@@ -102,7 +103,7 @@ returns-in-Err g c = record {
 pub returns : goal.returns
 returns g c = record {
   traced = no_more _ _ _ _ _ _ _ _ _ _ _ _ _ _ _ c.loop-pages.invariant.traced c.end_after_most-end.ensures.ends (λ e. (c.end_after_most-end.ensures.read_fault e).0)
-      (omega arith) (λ _. omega arith);
+      c.end_after_most-end.ensures.takes (omega arith) (λ _. omega arith);
   ends = tt;
   status = tt;
   still_not_full = c.loop-pages.invariant.not_full;
@@ -114,7 +115,7 @@ returns g c = record {
   inputs_never_fall = rises_from _ _ _ c.loop-pages.invariant.input c.end_after_most-end.ensures.never_falls;
   outputs_never_fall = stands _ _ c.loop-pages.invariant.output;
   same_openings = c.end_after_most-end.ensures.same_openings ∙ c.loop-pages.invariant.openings;
-  same_name = c.end_after_most-end.ensures.same_name ∙ c.loop-pages.invariant.name;
-  same_contents = c.end_after_most-end.ensures.same_contents ∙ c.loop-pages.invariant.contents;
+  same_name = name_taken _ _ _ _ c.end_after_most-end.ensures.takes ∙ c.loop-pages.invariant.name;
+  same_contents = contents_taken _ _ _ _ c.end_after_most-end.ensures.takes ∙ c.loop-pages.invariant.contents;
   stays_ready = c.loop-pages.invariant.ready;
 }

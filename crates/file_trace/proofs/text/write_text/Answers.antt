@@ -13,5 +13,6 @@ returns-in-Err-clause-ended g c = record {
   split = refl;
   goes_on = tt;
   cut_off = c.in-Err.ensures.cut_off;
-  messages = one_said _ _ _ _ _ c.say_not_written.ensures.said c.say_not_written.ensures.never_falls;
+  failed = c.in-Err.ensures.failed;
+  messages = one_said _ _ _ (record { said = c.say_not_written.ensures.said; given_up = c.say_not_written.ensures.given_up; never_falls = c.say_not_written.ensures.never_falls });
 }

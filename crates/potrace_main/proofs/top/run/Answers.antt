@@ -45,5 +45,8 @@ returns-clause-unwritten g c = λ is. written_rose c.answer.result _ _ _ c.answe
 pub returns-clause-unwritten_always : goal.returns-clause-unwritten_always
 returns-clause-unwritten_always g c = λ less. c.code.ensures ∙ ap code_of (rose_unwritten c.answer.result _ _ _ c.answer.ensures.output less)
 
+pub returns-clause-failed : goal.returns-clause-failed
+returns-clause-failed g c = (c.answer.result, c.code.ensures, c.answer.ensures.failed)
+
 pub returns-clause-closed : goal.returns-clause-closed
 returns-clause-closed g c = λ other. closed_else c.answer.result _ _ _ c.answer.ensures.output (λ is. other (c.code.ensures ∙ ap code_of is))

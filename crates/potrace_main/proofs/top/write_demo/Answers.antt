@@ -9,4 +9,4 @@ use Rattle.potrace_main.proofs.top.write_demo.Goals as goal
 pub returns-in-Err-clause-ended : goal.returns-in-Err-clause-ended
 returns-in-Err-clause-ended g c =
     let (text, is) = demo_found c.args.pages c.args.settings c.requires.offered.document in
-    (text, is, memory_out (Doc dash text ∷ []) _ _ refl c.say_out_of_memory.ensures.said c.say_out_of_memory.ensures.never_falls)
+    (text, is, memory_out (Doc dash text ∷ []) _ _ refl (record { said = c.say_out_of_memory.ensures.said; given_up = c.say_out_of_memory.ensures.given_up; never_falls = c.say_out_of_memory.ensures.never_falls }))

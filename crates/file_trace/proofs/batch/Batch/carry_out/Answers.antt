@@ -17,7 +17,7 @@ returns-in_default-clause-ends g c = λ items held. record {
   before = [];
   after = items;
   split = refl;
-  done = only_said _ _ _ refl c.say_out_of_memory.ensures.said c.say_out_of_memory.ensures.never_falls;
+  done = only_said _ _ _ refl (record { said = c.say_out_of_memory.ensures.said; given_up = c.say_out_of_memory.ensures.given_up; never_falls = c.say_out_of_memory.ensures.never_falls });
 }
 
 -- there is a text for each page
