@@ -1,0 +1,5 @@
+pub mod Batching
+pub mod Bound
+pub mod Carrying
+pub mod Holding
+pub mod Waiting

@@ -1,0 +1,32 @@
+//! What follows from the definitions alone.
+ghost use Rattle.std.specs.Prelude.{◌≡◌, ◌++◌, ◌∷◌, ℕ, List, Option, length};
+ghost use Rattle.bit_image.specs.Page.{Page};
+ghost use Rattle.pt_base.specs.Documents.{Documents, with_open, with_whole};
+ghost use Rattle.run_output.specs.Parts.{file_text, pages_text, prolog_text};
+ghost use Rattle.run_output.specs.declared.part.Binding.{Binding};
+ghost use Rattle.page_batches.specs.Held.{AreHeld, Held};
+ghost use Rattle.page_batches.specs.Items.{Item, end_items, page_items, with_items};
+
+use page_workers::job::PageJob;
+use run_output::part::Binding;
+
+/// Where the pages of a file are one document, its first pages leave that open behind them.
+pub fn first_pages_stay_open()
+    ensures { (told : Option Documents) (name text : List ℕ) (texts : List (List ℕ))
+        → with_items told (page_items Binding.Together name 0 (text ∷ texts))
+        ≡ with_open told name (prolog_text ++ pages_text 0 (text ∷ texts)) }
+{}
+
+/// And all its items are one whole document.
+pub fn all_pages_are_one_document()
+    ensures { (told : Option Documents) (name text : List ℕ) (texts messages : List (List ℕ))
+        → with_items told (page_items Binding.Together name 0 (text ∷ texts)
+        ++ end_items Binding.Together name (length (text ∷ texts)) messages)
+        ≡ with_whole told name (file_text (text ∷ texts)) }
+{}
+
+/// What is held has one list of items: it follows from the pages alone.
+pub fn held_items_are_one<J: PageJob>(job: &J)
+    ensures { (b : Binding) (held : List Held) (items others : List Item)
+        → AreHeld b (J.belongs job.now) held items → AreHeld b (J.belongs job.now) held others → items ≡ others }
+{}
