@@ -1,9 +1,9 @@
 -- The parts of one document, put together.
-use Rattle.std.proofs.Common.{◌≡◌, ℕ, zero, suc, ◌+◌, Option, None, Some, List, [], ◌∷◌, ◌++◌, length, refl, sym, ◌∙◌, ap, append_assoc}
+use Rattle.std.proofs.Common.{◌≡◌, inl, inr, ℕ, zero, suc, ◌+◌, Option, None, Some, List, [], ◌∷◌, ◌++◌, length, take, refl, sym, ◌∙◌, ap, append_assoc}
 use Rattle.std.specs.List.{concat}
 use Rattle.std.proofs.lemmas.List.{append-nil}
-use Rattle.pt_base.specs.Documents.{Document, Documents, with_open, with_whole}
-use Rattle.run_output.specs.Parts.{end_part, file_text, prolog_text, page_pieces, pages_text, trailer_text}
+use Rattle.pt_base.specs.Documents.{Document, Documents, IsCutOff, with_bytes, with_open, with_whole}
+use Rattle.run_output.specs.Parts.{IsCutIn, end_part, file_text, page_pieces, pages_text, prolog_text, trailer_text, whole, with_part}
 use Rattle.run_output.specs.declared.part.Binding.TheVariants.{Together}
 use Rattle.page_batches.specs.Items.{end_items, page_items, with_items}
 use Rattle.page_batches.specs.Items.Item.{Write}
@@ -40,3 +40,16 @@ whole_file told name text texts messages =
           → with_items (with_open told name bytes) (Write (end_part name (length (text ∷ texts)) messages) ∷ []) ≡ with_whole told name (bytes ++ trailer_text (length (text ∷ texts)))
       ended_as None bytes = refl
       ended_as (Some ds) bytes = refl
+
+-- a whole document is one part
+pub whole_added : (told : Option Documents) (name text : List ℕ) → with_part told (whole name text) ≡ with_whole told name text
+whole_added None name text = refl
+whole_added (Some ds) name text = refl
+
+opened_with : (told : Option Documents) (name bytes : List ℕ) → with_bytes (with_open told name []) bytes ≡ with_open told name bytes
+opened_with None name bytes = refl
+opened_with (Some ds) name bytes = refl
+
+pub whole_cut_off : (told now : Option Documents) (name text : List ℕ) → IsCutIn (whole name text) told now → IsCutOff told now name text
+whole_cut_off told now name text (inl same) = inl same
+whole_cut_off told now name text (inr (n, most, is)) = inr (n, most, is ∙ opened_with told name (take n text))

@@ -1,8 +1,8 @@
 //! What follows from the definitions alone.
 ghost use Rattle.std.specs.Prelude.{◌≡◌, ◌++◌, ◌∷◌, ℕ, List, Option, length};
 ghost use Rattle.bit_image.specs.Page.{Page};
-ghost use Rattle.pt_base.specs.Documents.{Documents, with_open, with_whole};
-ghost use Rattle.run_output.specs.Parts.{file_text, pages_text, prolog_text};
+ghost use Rattle.pt_base.specs.Documents.{Documents, IsCutOff, with_open, with_whole};
+ghost use Rattle.run_output.specs.Parts.{IsCutIn, file_text, pages_text, prolog_text, whole, with_part};
 ghost use Rattle.run_output.specs.declared.part.Binding.{Binding};
 ghost use Rattle.page_batches.specs.Held.{AreHeld, Held};
 ghost use Rattle.page_batches.specs.Items.{Item, end_items, page_items, with_items};
@@ -29,4 +29,12 @@ pub fn all_pages_are_one_document()
 pub fn held_items_are_one<J: PageJob>(job: &J)
     ensures { (b : Binding) (held : List Held) (items others : List Item)
         → AreHeld b (J.belongs job.now) held items → AreHeld b (J.belongs job.now) held others → items ≡ others }
+{}
+
+/// A whole document is one part: where it is written it is added whole, and where it is cut off, so is its text.
+pub fn whole_documents_are_parts()
+    ensures added { (told : Option Documents) (name text : List ℕ)
+        → with_part told (whole name text) ≡ with_whole told name text }
+    ensures cut_off { (told now : Option Documents) (name text : List ℕ)
+        → IsCutIn (whole name text) told now → IsCutOff told now name text }
 {}
