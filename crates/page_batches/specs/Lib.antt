@@ -16,6 +16,7 @@ pub mod Items
 --   sinks_of: what they tell
 --   IsMessage: a message was said
 --   AreSaid: the messages were said, one after another
+--   AreFronts: each of these texts is a front of its message
 --   AreCarriedOut: the items are carried out, and their messages were said
 --   IsRefused: the last item is a page that is refused
 --   IsUnwritten: a part is cut off

@@ -1,5 +1,5 @@
 -- What a run has done, against the items that it was to do.
-use Rattle.std.specs.Prelude.{◌≡◌, ℕ, ◌≤◌, ◌⊎◌, Bool, List, [], ◌∷◌, ◌++◌, Option, Result, Ok, Err}
+use Rattle.std.specs.Prelude.{◌≡◌, ℕ, ◌≤◌, ◌⊎◌, Bool, List, [], ◌∷◌, ◌++◌, length, take, Option, Result, Ok, Err}
 use Rattle.pt_base.specs.Counts.{Rose}
 use Rattle.pt_base.specs.Documents.{Documents, IsSaid}
 use Rattle.pt_base.specs.Failures.{Failures, StopsAtFailure, after_err}
@@ -43,6 +43,13 @@ pub record IsMessage (message : List ℕ) (old new : Told) : Type 0 where
 abbrev pub AreSaid : Told → Told → List (List ℕ) → Type 0
 AreSaid old new [] = new ≡ old
 AreSaid old new (message ∷ messages) = (mid : Told) × IsMessage message old mid × AreSaid mid new messages
+
+-- each of these texts is a front of its message
+abbrev pub AreFronts : List (List ℕ) → List (List ℕ) → Type 0
+AreFronts [] [] = Unit {0}
+AreFronts (text ∷ texts) (message ∷ messages) = ((n : ℕ) × (n ≤ length message) × (text ≡ take n message)) × AreFronts texts messages
+AreFronts [] (message ∷ messages) = ⊥
+AreFronts (text ∷ texts) [] = ⊥
 
 -- these items are carried out: their parts are written, and no call of the outputs failed; and their messages were
 -- said, and then these
