@@ -1,0 +1,57 @@
+use Rattle.std.proofs.Common.{◌∙◌, length, ap, refl, arith}
+use Rattle.std.proofs.lemmas.Slice.Zip.{AllZip-long}
+use Rattle.page_batches.specs.Held.{is_open_held}
+use Rattle.page_batches.proofs.Batching.{items_are_held, open_by, pages_held-held_by, turn_by}
+use Rattle.page_batches.proofs.Carrying.{memory_out}
+use Rattle.page_batches.proofs.batch.Batch.carry_out.Goals as goal
+
+-- the pages that are held are those of the batch
+pub trace_all-requires-clause-pages : goal.trace_all-requires-clause-pages
+trace_all-requires-clause-pages g c κs within =
+    let all = pages_held-held_by c.self.inside.entries.items c.self.inside.pages.items c.self.invariant in
+    let few = rw (← c.self.view_is) at c.requires.few in
+    rw (c.as_slice-pages.ensures.value) (omega (arith, all, few))
+
+-- no page is traced
+pub returns-in_default-clause-ended : goal.returns-in_default-clause-ended
+returns-in_default-clause-ended g c = λ items held. memory_out _ _ _ (record { outs = refl; opened = refl })
+    (record { said = c.say_out_of_memory.ensures.said; given_up = c.say_out_of_memory.ensures.given_up; never_falls = c.say_out_of_memory.ensures.never_falls })
+
+-- there is a text for each page
+pub write_entries-written-requires-clause-texts : goal.write_entries-written-requires-clause-texts
+write_entries-written-requires-clause-texts g c =
+    let zipped = AllZip-long _ c.as_slice-pages.result.now c.in-Ok.texts.items c.in-Ok.ensures.texts in
+    rw (c.deref.ensures.value, c.deref-2.ensures.value) (zipped ∙ ap length c.as_slice-pages.ensures.value ∙ c.self.invariant)
+
+-- the entries are in turn
+pub write_entries-written-requires-clause-turn : goal.write_entries-written-requires-clause-turn
+write_entries-written-requires-clause-turn g c =
+    rw (c.deref.ensures.value) (turn_by c.args.plan.now.binding _ c.self.inside.entries.items c.self.inside.pages.items c.self.invariant
+    (rw (← c.self.view_is) at c.requires.turn))
+
+-- the items of what was held are those that were written
+pub returns-in-Ok-written-clause-ended : goal.returns-in-Ok-written-clause-ended
+returns-in-Ok-written-clause-ended g c = λ items held.
+    let are = items_are_held c.args.plan.now.binding (g.J.PageJob.belongs c.args.plan.now.job.now) c.self.inside.entries.items c.self.inside.pages.items
+    c.in-Ok.texts.items (rw (c.as_slice-pages.ensures.value) at c.in-Ok.ensures.texts) c.self.invariant in
+    let same = c.held_items_are_one.ensures c.args.plan.now.binding _ items _ (rw (← c.self.view_is) at held) are in
+    rw same (rw (c.deref.ensures.value, c.deref-2.ensures.value) at c.in-Ok-written.ensures.done)
+
+-- a document is open as it has to be behind them
+pub returns-in-Ok-written-clause-left : goal.returns-in-Ok-written-clause-left
+returns-in-Ok-written-clause-left g c =
+    let zipped = AllZip-long _ c.as_slice-pages.result.now c.in-Ok.texts.items c.in-Ok.ensures.texts in
+    let long = zipped ∙ ap length c.as_slice-pages.ensures.value ∙ c.self.invariant in
+    let opened = (rw (c.deref.ensures.value, c.deref-2.ensures.value) at c.in-Ok-written.ensures.done).opened in (
+      rw c.clear-2.ensures.items refl,
+      opened ∙ open_by c.args.plan.now.binding _ c.self.inside.entries.items c.self.inside.pages.items c.in-Ok.texts.items c.self.invariant long
+          ∙ ap (is_open_held c.args.plan.now.binding (g.O.Sink.is_ready c.args.desk.now.outs.now)) c.self.view_is,
+    )
+
+-- a part of them is cut off
+pub returns-clause-ended : goal.returns-clause-ended
+returns-clause-ended g c = λ items held.
+    let are = items_are_held c.args.plan.now.binding (g.J.PageJob.belongs c.args.plan.now.job.now) c.self.inside.entries.items c.self.inside.pages.items
+    c.in-Ok.texts.items (rw (c.as_slice-pages.ensures.value) at c.in-Ok.ensures.texts) c.self.invariant in
+    let same = c.held_items_are_one.ensures c.args.plan.now.binding _ items _ (rw (← c.self.view_is) at held) are in
+    rw same (rw (c.deref.ensures.value, c.deref-2.ensures.value) at c.in-Err.ensures.ends)

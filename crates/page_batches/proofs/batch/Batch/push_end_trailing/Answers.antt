@@ -1,0 +1,16 @@
+use Rattle.std.proofs.Common.{◌∙◌, [], ◌∷◌, ◌++◌, ap, arith}
+use Rattle.std.specs.Prelude.{string_bytes}
+use Rattle.run_output.specs.Messages.{trailing_line}
+use Rattle.page_batches.specs.Held.Held.{End}
+use Rattle.page_batches.proofs.Batching.{held_by-behind, pages_among-append}
+use Rattle.page_batches.proofs.batch.Batch.push_end_trailing.Goals as goal
+
+-- one entry more is of no page
+pub invariant_of-self-2 : goal.invariant_of-self-2
+invariant_of-self-2 c = rw (c.in_ok-push.ensures.items, pages_among-append) (omega (arith, c.self.invariant))
+
+-- the end is held behind the others
+pub returns-clause-held : goal.returns-clause-held
+returns-clause-held c = rw c.in_ok-push.ensures.items
+    (held_by-behind c.self.inside.entries.items _ c.self.inside.pages.items c.self.invariant
+    ∙ ap (λ held. held ++ End (string_bytes c.args.name) c.args.pages (trailing_line (string_bytes c.args.file) c.args.pages ∷ []) ∷ []) c.self.view_is)

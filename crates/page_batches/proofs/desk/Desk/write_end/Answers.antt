@@ -1,0 +1,18 @@
+use Rattle.std.proofs.Common.{[], refl}
+use Rattle.run_output.specs.Parts.{end_part}
+use Rattle.page_batches.proofs.Carrying.{one_said}
+use Rattle.page_batches.proofs.desk.Desk.write_end.Goals as goal
+
+-- the part is cut off, and what comes with it isn't said
+pub returns-in-Err-clause-ends : goal.returns-in-Err-clause-ends
+returns-in-Err-clause-ends g c = λ notes. record {
+  before = [];
+  part = end_part c.args.name.now c.args.pages notes;
+  after = [];
+  split = refl;
+  goes_on = tt;
+  cut_off = c.in-Err.ensures.cut_off;
+  rose = c.in-Err.ensures.cause;
+  failed = c.in-Err.ensures.failed;
+  messages = one_said _ _ _ (record { said = c.say_not_written.ensures.said; given_up = c.say_not_written.ensures.given_up; never_falls = c.say_not_written.ensures.never_falls });
+}

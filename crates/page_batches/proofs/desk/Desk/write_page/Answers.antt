@@ -1,0 +1,20 @@
+use Rattle.std.proofs.Common.{[], refl}
+use Rattle.run_output.specs.Parts.{page_part}
+use Rattle.page_batches.proofs.Batching.{name_of_page}
+use Rattle.page_batches.proofs.Carrying.{one_said}
+use Rattle.page_batches.proofs.desk.Desk.write_page.Goals as goal
+
+-- the part is cut off
+pub returns-in-Err-clause-ends : goal.returns-in-Err-clause-ends
+returns-in-Err-clause-ends g c = record {
+  before = [];
+  part = page_part c.args.binding c.args.name.now c.args.before c.args.text.now;
+  after = [];
+  split = refl;
+  goes_on = tt;
+  cut_off = c.in-Err.ensures.cut_off;
+  rose = c.in-Err.ensures.cause;
+  failed = c.in-Err.ensures.failed;
+  messages = rw (name_of_page c.args.binding c.args.name.now c.args.before c.args.text.now)
+      (one_said _ _ _ (record { said = c.say_not_written.ensures.said; given_up = c.say_not_written.ensures.given_up; never_falls = c.say_not_written.ensures.never_falls }));
+}

@@ -1,0 +1,107 @@
+-- What a run has done, against the items that it was to do.
+use Rattle.std.specs.Prelude.{◌≡◌, ℕ, ◌≤◌, ◌⊎◌, Bool, List, [], ◌∷◌, ◌++◌, length, take, Option, Result, Ok, Err}
+use Rattle.pt_base.specs.Counts.{Rose}
+use Rattle.pt_base.specs.Documents.{Documents, IsSaid}
+use Rattle.pt_base.specs.Failures.{Failures, StopsAtFailure, after_err}
+use Rattle.pt_base.specs.declared.sink.Sink.{Ghosts as SinkGhosts}
+use Rattle.run_output.specs.Messages.{not_written, out_of_memory}
+use Rattle.run_output.specs.Parts.{IsCutIn, Part}
+use Rattle.run_output.specs.declared.status.Status.{Status}
+use Rattle.run_output.specs.declared.status.Status.TheVariants as status
+use Rattle.page_batches.specs.Items.{GoesOn, Item, is_open_behind, notes, with_items}
+use Rattle.page_batches.specs.Items.Item.{Stop, Write}
+
+-- what a sink tells: its documents, its count of faults, and what its calls answered
+pub record Told : Type 0 where
+  pub documents : Option Documents
+  pub faults : ℕ
+  pub failures : Failures
+
+abbrev pub told_of : {A : Type 0} → SinkGhosts A → A → Told
+told_of of_sink sink =
+    record { documents = of_sink.documents sink; faults = of_sink.faults sink; failures = of_sink.failures sink }
+
+-- the outputs, whether a document is open there, and the sink for messages
+pub record Sinks : Type 0 where
+  pub outs : Told
+  pub is_open : Bool
+  pub errs : Told
+
+-- what outputs and a sink for messages tell
+abbrev pub sinks_of : {A B : Type 0} → SinkGhosts A → SinkGhosts B → A → B → Sinks
+sinks_of of_outs of_errs outs errs =
+    record { outs = told_of of_outs outs; is_open = of_outs.is_ready outs; errs = told_of of_errs errs }
+
+-- a message was said: it is whole, or the count of faults rose and a front of it stands there; and no call failed, or
+-- one did and it was the last, so that the rest of the message was given up
+pub record IsMessage (message : List ℕ) (old new : Told) : Type 0 where
+  pub said : IsSaid old.documents new.documents old.faults new.faults message
+  pub given_up : StopsAtFailure old.failures new.failures
+  pub never_falls : old.faults ≤ new.faults
+
+-- these messages were said, one after another
+abbrev pub AreSaid : Told → Told → List (List ℕ) → Type 0
+AreSaid old new [] = new ≡ old
+AreSaid old new (message ∷ messages) = (mid : Told) × IsMessage message old mid × AreSaid mid new messages
+
+-- each of these texts is a front of its message
+abbrev pub AreFronts : List (List ℕ) → List (List ℕ) → Type 0
+AreFronts [] [] = Unit {0}
+AreFronts (text ∷ texts) (message ∷ messages) = ((n : ℕ) × (n ≤ length message) × (text ≡ take n message)) × AreFronts texts messages
+AreFronts [] (message ∷ messages) = ⊥
+AreFronts (text ∷ texts) [] = ⊥
+
+-- these items are carried out: their parts are written, and no call of the outputs failed; and their messages were
+-- said, and then these
+pub record AreCarriedOut (items : List Item) (last : List (List ℕ)) (old new : Sinks) : Type 0 where
+  pub goes_on : GoesOn items
+  pub documents : new.outs.documents ≡ with_items old.outs.documents items
+  pub steady : new.outs.faults ≡ old.outs.faults
+  pub went : new.outs.failures.count ≡ old.outs.failures.count
+  pub opened : new.is_open ≡ is_open_behind old.is_open items
+  pub messages : AreSaid old.errs new.errs (notes items ++ last)
+
+-- the last item is a page that is refused: all before it are carried out, and its message is the last one
+pub record IsRefused (items : List Item) (old new : Sinks) : Type 0 where
+  pub before : List Item
+  pub message : List ℕ
+  pub split : items ≡ before ++ Stop message ∷ []
+  pub done : AreCarriedOut before (message ∷ []) old new
+
+-- all items before a part are carried out, and that part is cut off, by the one call of the outputs that failed,
+-- which was the last one; the fault of the part's document is the last message
+pub record IsUnwritten (items : List Item) (old new : Sinks) : Type 0 where
+  pub before : List Item
+  pub part : Part
+  pub after : List Item
+  pub split : items ≡ before ++ Write part ∷ after
+  pub goes_on : GoesOn before
+  pub cut_off : IsCutIn part (with_items old.outs.documents before) new.outs.documents
+  pub rose : Rose old.outs.faults new.outs.faults
+  pub failed : new.outs.failures ≡ after_err old.outs.failures
+  pub messages : AreSaid old.errs new.errs (notes before ++ not_written part.name ∷ [])
+
+-- some first items are carried out, and then memory ran out
+pub record IsOutOfMemory (items : List Item) (old new : Sinks) : Type 0 where
+  pub before : List Item
+  pub after : List Item
+  pub split : items ≡ before ++ after
+  pub done : AreCarriedOut before (out_of_memory ∷ []) old new
+
+-- the items are carried out as far as the status says
+abbrev pub HasEnded : Status → List Item → Sinks → Sinks → Type 0
+HasEnded status.Done items old new = AreCarriedOut items [] old new
+HasEnded status.Refused items old new = IsRefused items old new
+HasEnded status.Unwritten items old new = IsUnwritten items old new
+HasEnded status.OutOfMemory items old new = IsOutOfMemory items old new
+HasEnded status.BadWords items old new = ⊥
+HasEnded status.Unread items old new = ⊥
+
+-- how a call ended that answers how the run ends, where it does
+abbrev pub ended_with : Result Unit Status → Status
+ended_with (Ok done) = status.Done
+ended_with (Err s) = s
+
+-- the run ends within items: a part isn't written, or memory runs out
+abbrev pub IsHalt : Status → Type 0
+IsHalt s = (s ≡ status.Unwritten) ⊎ (s ≡ status.OutOfMemory)
