@@ -7,7 +7,7 @@ use Rattle.run_output.specs.declared.part.Binding.{Binding}
 use Rattle.run_output.specs.declared.part.Binding.TheVariants.{Apart, Together}
 use Rattle.run_output.specs.declared.status.Status.{Status}
 use Rattle.run_output.specs.declared.status.Status.TheVariants as status
-use Rattle.page_batches.specs.Held.{AreHeld, AreInTurn, Held, Holds, IsHeld, LeavesBatch, Waits, end_held, is_open_held, pages_held}
+use Rattle.page_batches.specs.Held.{AreHeld, AreInTurn, Held, Holds, EndsHolding, LeavesBatch, Waits, end_held, is_open_held, pages_held}
 use Rattle.page_batches.specs.Held.Held.{End, Message, Page}
 use Rattle.page_batches.specs.Items.{GoesOn, Item, end_items, page_count, pages_in}
 use Rattle.page_batches.specs.Items.Item.{Missing, Note, Stop, Write}
@@ -180,7 +180,7 @@ holds_goes_on b size belongs read held x y h =
 
 -- a full batch was carried out, or the run ends within it
 pub held_or_ended : (r : Result Unit Status) (b : Binding) (size : ℕ) (belongs : Belongs) (read : List Item) (is_open is_open_now : Bool) (held held_now : List Held) (x y : Sinks)
-    → HasEnded (ended_with r) read x y → LeavesBatch r b is_open is_open_now held held_now → page_count read ≡ size → IsHeld r b size belongs read held_now x y
+    → HasEnded (ended_with r) read x y → LeavesBatch r b is_open is_open_now held held_now → page_count read ≡ size → EndsHolding r b size belongs read held_now x y
 held_or_ended (Ok done) b size belongs read is_open is_open_now held held_now x y ended left full = all_carried b size belongs read held_now x y left.0 full ended
 held_or_ended (Err status.Unwritten) b size belongs read is_open is_open_now held held_now x y ended left full = ended
 held_or_ended (Err status.OutOfMemory) b size belongs read is_open is_open_now held held_now x y ended left full = ended

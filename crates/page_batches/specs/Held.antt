@@ -79,14 +79,14 @@ pub record Holds (b : Binding) (size : ℕ) (belongs : Pixels → List ℕ → T
 
 -- how a call ended that was to hold items behind those that were read: they are carried out or held; or the run ends
 -- within them, since a part isn't written, or memory runs out
-abbrev pub IsHeld : Result Unit Status → Binding → ℕ → (Pixels → List ℕ → Type 0) → List Item → List Held → Sinks → Sinks → Type 0
-IsHeld (Ok done) b size belongs read held old new = Holds b size belongs read held old new
-IsHeld (Err status.Unwritten) b size belongs read held old new = HasEnded status.Unwritten read old new
-IsHeld (Err status.OutOfMemory) b size belongs read held old new = HasEnded status.OutOfMemory read old new
-IsHeld (Err status.Done) b size belongs read held old new = ⊥
-IsHeld (Err status.BadWords) b size belongs read held old new = ⊥
-IsHeld (Err status.Refused) b size belongs read held old new = ⊥
-IsHeld (Err status.Unread) b size belongs read held old new = ⊥
+abbrev pub EndsHolding : Result Unit Status → Binding → ℕ → (Pixels → List ℕ → Type 0) → List Item → List Held → Sinks → Sinks → Type 0
+EndsHolding (Ok done) b size belongs read held old new = Holds b size belongs read held old new
+EndsHolding (Err status.Unwritten) b size belongs read held old new = HasEnded status.Unwritten read old new
+EndsHolding (Err status.OutOfMemory) b size belongs read held old new = HasEnded status.OutOfMemory read old new
+EndsHolding (Err status.Done) b size belongs read held old new = ⊥
+EndsHolding (Err status.BadWords) b size belongs read held old new = ⊥
+EndsHolding (Err status.Refused) b size belongs read held old new = ⊥
+EndsHolding (Err status.Unread) b size belongs read held old new = ⊥
 
 -- how a call ended that was to carry out what was held, where a document is open, or not: nothing is held, and one is
 -- open as it has to be then; or a part wasn't written, and nothing is held; or memory ran out, and all is as it was

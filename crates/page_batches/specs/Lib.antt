@@ -35,7 +35,7 @@ pub mod Outcome
 --   Waits: what is held is to be carried out, and so many pages of a file came last
 --   AreHeld: these are the items of what is held
 --   Holds: of the items that were read the first are carried out, and the others are held
---   IsHeld: how a call ended that was to hold items behind those that were read
+--   EndsHolding: how a call ended that was to hold items behind those that were read
 --   LeavesBatch: how a call ended that was to carry out what was held
 pub mod Held
 -- The entries of a batch.

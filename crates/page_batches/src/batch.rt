@@ -5,7 +5,7 @@ ghost use Rattle.run_output.specs.Parts.{page_part};
 ghost use Rattle.run_output.specs.declared.status.Status.{Status};
 ghost use Rattle.page_batches.specs.Desks.{Keeps, sinks_at};
 ghost use Rattle.page_batches.specs.Entries.{AreInOrder, items_by, pages_among};
-ghost use Rattle.page_batches.specs.Held.{AreHeld, AreInTurn, IsHeld, LeavesBatch, Waits, end_held, end_notes, pages_held};
+ghost use Rattle.page_batches.specs.Held.{AreHeld, AreInTurn, EndsHolding, LeavesBatch, Waits, end_held, end_notes, pages_held};
 ghost use Rattle.page_batches.specs.Held.Held.{End, Message, Page};
 ghost use Rattle.page_batches.specs.Items.{Item};
 ghost use Rattle.page_batches.specs.Items.Item.{Write};
@@ -179,7 +179,7 @@ impl Batch {
         // Whichever items are those of what was held, the page's part comes behind them.
         ensures held { (first : List Item) → AreHeld plan.now.binding (J.belongs plan.now.job.now) self.old first
             → (text : List ℕ) → J.belongs plan.now.job.now page text
-            → IsHeld result plan.now.binding (2 * plan.now.workers) (J.belongs plan.now.job.now)
+            → EndsHolding result plan.now.binding (2 * plan.now.workers) (J.belongs plan.now.job.now)
             (first ++ Write (page_part plan.now.binding (string_bytes name) before text) ∷ []) self.new
             (sinks_at O.Sink E.Sink desk.old) (sinks_at O.Sink E.Sink desk.new) }
         ensures halts { IfErr result IsHalt }
