@@ -6,9 +6,11 @@ use Rattle.pt_base.specs.Files.{Contents, Files, Lacks, Opened, unread, unread_o
 use Rattle.pt_base.specs.declared.fault.OpenFault.{OpenFault}
 use Rattle.pt_base.specs.declared.fault.OpenFault.TheVariants as opening
 use Rattle.pt_base.specs.declared.settings.Settings.{Settings}
+use Rattle.bitmap_input.specs.FaultText.{cause_text}
 use Rattle.bitmap_input.specs.Raw.{Raw}
+use Rattle.bitmap_input.specs.Reading.Cause.{Device}
 use Rattle.page_trace.specs.Document.{CanWrite}
-use Rattle.run_output.specs.Messages.{not_opened, out_of_memory, page_line, read_fault}
+use Rattle.run_output.specs.Messages.{not_opened, out_of_memory, page_line}
 use Rattle.run_output.specs.Names.{base_name}
 use Rattle.run_output.specs.Made.{most_pages}
 use Rattle.run_output.specs.declared.status.Status.{Status}
@@ -132,7 +134,7 @@ file_unread size settings output name made start k held held_mid source source_n
       rose = rose;
       stops = u.stops;
       items = docs_alone settings name base made t.raws t.texts t.traced few;
-      done = subst (λ (n : ℕ). AreCarriedOut (first ++ docs base made t.texts) (page_line name (n + 1) read_fault ∷ []) a c) t.count done;
+      done = subst (λ (n : ℕ). AreCarriedOut (first ++ docs base made t.texts) (page_line name (n + 1) (cause_text Device) ∷ []) a c) t.count done;
     }
 
 -- what isn't there is absent

@@ -5,8 +5,10 @@ use Rattle.pt_base.specs.Files.{Contents}
 use Rattle.pt_base.specs.declared.settings.Settings.{Settings}
 use Rattle.bitmap_input.specs.Cut.{Ending}
 use Rattle.bitmap_input.specs.Cut.Ending.{End, Trailing, Refused}
+use Rattle.bitmap_input.specs.FaultText.{cause_text}
 use Rattle.bitmap_input.specs.Raw.{Raw}
-use Rattle.run_output.specs.Messages.{not_opened, page_line, read_fault}
+use Rattle.bitmap_input.specs.Reading.Cause.{Device}
+use Rattle.run_output.specs.Messages.{not_opened, page_line}
 use Rattle.run_output.specs.Names.{base_name}
 use Rattle.run_output.specs.declared.status.Status.{Status}
 use Rattle.run_output.specs.declared.status.Status.TheVariants as status
@@ -146,7 +148,7 @@ outcome_on s size contents settings output front back made mid first before held
     rose = subst (λ n. Rose n now.faults) faults u.rose;
     stops = u.stops;
     items = joined _ u.before u.front u.items;
-    done = carried u.before (page_line u.name (length u.raws + 1) read_fault ∷ []) u.done;
+    done = carried u.before (page_line u.name (length u.raws + 1) (cause_text Device) ∷ []) u.done;
   })
 
 -- the same of how far a run has read

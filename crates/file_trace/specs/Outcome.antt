@@ -10,12 +10,14 @@ use Rattle.pt_base.specs.declared.settings.Settings.{Settings}
 use Rattle.pt_base.specs.declared.sink.Sink.{Ghosts as SinkGhosts}
 use Rattle.bitmap_input.specs.Cut.{is_by_end}
 use Rattle.bitmap_input.specs.Cut.Ending.{End}
+use Rattle.bitmap_input.specs.FaultText.{cause_text}
 use Rattle.bitmap_input.specs.Raw.{Raw}
+use Rattle.bitmap_input.specs.Reading.Cause.{Device}
 use Rattle.bitmap_input.specs.Front.{front, page_at}
 use Rattle.bitmap_input.specs.Front.Answer.{Page}
 use Rattle.bitmap_input.specs.FilePages.{next_begins}
 use Rattle.run_output.specs.Names.{base_name}
-use Rattle.run_output.specs.Messages.{not_opened, not_written, out_of_memory, page_line, read_fault}
+use Rattle.run_output.specs.Messages.{not_opened, not_written, out_of_memory, page_line}
 use Rattle.run_output.specs.declared.status.Status.{Status}
 use Rattle.run_output.specs.declared.status.Status.TheVariants as status
 use Rattle.file_trace.specs.Items.{Item, AreItems, ArePageItems, IsAbsent, Nothing}
@@ -225,7 +227,7 @@ pub record IsUnread (first : List Item) (contents : Option Contents) (settings :
   pub stops : StopsReading taken raws
   pub items : AreItems contents settings output
       (λ made items. ArePageItems settings name (base_name output settings.backend name) End Nothing raws 0 made items) front made before
-  pub done : AreCarriedOut (first ++ before) (page_line name (length raws + 1) read_fault ∷ []) old new
+  pub done : AreCarriedOut (first ++ before) (page_line name (length raws + 1) (cause_text Device) ∷ []) old new
 
 -- of these bytes, which begin with these pages, the `rest` ones are unread: no more than 65,536 were taken behind those
 -- that the pages take, or behind so many that it isn't settled yet what follows the pages

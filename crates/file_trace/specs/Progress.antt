@@ -7,16 +7,16 @@ use Rattle.bitmap_input.specs.declared.fault.InFault.{InFault}
 use Rattle.bitmap_input.specs.declared.fault.InFault.TheVariants as fault
 use Rattle.bitmap_input.specs.Cut.{Kind, is_by_end}
 use Rattle.bitmap_input.specs.Cut.Ending.{End, Trailing, Refused}
-use Rattle.bitmap_input.specs.FaultText.{fault_text}
+use Rattle.bitmap_input.specs.FaultText.{cause_text, fault_text}
 use Rattle.bitmap_input.specs.Raw.{Raw, shown}
 use Rattle.bitmap_input.specs.Front.{front, page_at}
 use Rattle.bitmap_input.specs.Front.Answer.{Page, Ends}
 use Rattle.bitmap_input.specs.FilePages.{next_begins}
 use Rattle.bitmap_input.specs.Reading.{AreNeeded, Moves, cause_of_fault}
-use Rattle.bitmap_input.specs.Reading.Cause.{Says}
+use Rattle.bitmap_input.specs.Reading.Cause.{Device, Says}
 use Rattle.bitmap_input.specs.Reader.{Reader, ahead as reader_ahead, is_later as reader_is_later}
 use Rattle.page_trace.specs.Document.{IsDocument}
-use Rattle.run_output.specs.Messages.{out_of_memory, page_line, read_fault, trailing_line}
+use Rattle.run_output.specs.Messages.{out_of_memory, page_line, trailing_line}
 use Rattle.run_output.specs.Names.{next_name}
 use Rattle.run_output.specs.Made.{most_pages}
 use Rattle.run_output.specs.declared.status.Status.{Status}
@@ -199,7 +199,7 @@ end_notes name why.OutOfMemory k = []
 abbrev pub end_message : List ℕ → PagesEnd → ℕ → List ℕ
 end_message name (why.Refused fault) k = page_line name (k + 1) (fault_text fault)
 end_message name why.TooMany k = page_line name (k + 1) too_many
-end_message name why.Unread k = page_line name (k + 1) read_fault
+end_message name why.Unread k = page_line name (k + 1) (cause_text Device)
 end_message name why.OutOfMemory k = out_of_memory
 end_message name why.End k = []
 end_message name why.Trailing k = []

@@ -17,6 +17,7 @@ ghost use Rattle.file_trace.specs.Unopened.{EndsUnopened};
 
 use crate::batch::Batch;
 use crate::pages::{PagesEnd, Traced, trace_pages};
+use bitmap_input::fault::InFault;
 use bitmap_input::reader::PageReader;
 use pt_base::gate::Gate;
 use pt_base::inputs::Inputs;
@@ -209,7 +210,7 @@ fn finish<R: Threads + Sync, O: Outputs, E: Sink, G: Gate + Sync>(
         }
         PagesEnd::Refused(fault) => (Status::Refused, fault.text()),
         PagesEnd::TooMany => (Status::Refused, "too many pages"),
-        PagesEnd::Unread => (Status::Unread, "read fault"),
+        PagesEnd::Unread => (Status::Unread, InFault::ReadFault.text()),
     };
     match batch.carry_out(rt, alloc, settings, workers, outs, errs, gate) {
         Ok(()) => {

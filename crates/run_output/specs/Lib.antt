@@ -21,7 +21,6 @@ pub mod Names
 --   not_opened: a file couldn't be opened
 --   not_written: a document couldn't be written
 --   trailing_line: the bytes after so many pages of a file begin no page
---   read_fault: a read failed
 pub mod Messages
 -- The documents that were made, file by file.
 --   most_pages: how many pages a run accepts

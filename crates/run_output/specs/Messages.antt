@@ -25,7 +25,3 @@ not_written name = concat (codes "potrace: " ∷ name ∷ codes ": write fault\n
 -- the bytes after so many pages of a file begin no page
 abbrev pub trailing_line : List ℕ → ℕ → List ℕ
 trailing_line name pages = concat (codes "potrace: " ∷ name ∷ codes ": trailing bytes after page " ∷ decimal pages ∷ codes "\n" ∷ [])
-
--- a read failed
-abbrev pub read_fault : List ℕ
-read_fault = codes "read fault"

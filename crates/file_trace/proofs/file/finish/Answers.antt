@@ -87,7 +87,7 @@ returns-in-Ok-clause-ends g c = λ first are.
         is = rw (w.status-is, w.in-Unread.is) refl;
         going = rw w.status-is (λ e. cc);
         memory = rw w.status-is (λ e. cc);
-        same = rw (w.status-is, w.in-Unread.is, c.from.ensures) refl;
+        same = rw (w.status-is, w.in-Unread.is, c.from.ensures, w.text-in-Unread.ensures) refl;
       }
     ])
 
