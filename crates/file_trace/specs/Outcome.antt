@@ -153,8 +153,8 @@ abbrev pub opened_name : Option Files → Option (List ℕ)
 opened_name None = None
 opened_name (Some files) = option_map (λ file. file.name) files.opened
 
--- nothing was opened; or the first of these files were, each once and in order, and the opened file is the
--- last one of them
+-- nothing was opened; or there were as many openings as there are files up to some file of the list, and that
+-- file is the opened one, where that is told
 abbrev pub OpensFirst : List (List ℕ) → Source → Source → Type 0
 OpensFirst names source source_now =
     ((source_now.openings ≡ source.openings) × (source_now.files ≡ source.files))

@@ -34,8 +34,9 @@ use std::thread::Threads;
 /// Does all that the words ask for, and answers the exit status.
 ///
 /// The files are taken in order: each is opened once, its pages are read one after another, in batches of twice as
-/// many as there are workers, and each page's document is written under its name. What is written and said is the
-/// same for every number of workers. After a fault of the outputs nothing more is written to them.
+/// many as there are workers, and each page's document is written under its name. Where no device fails and memory
+/// suffices, what is written and said is the same for every number of workers. After a fault of the outputs nothing
+/// more is written to them.
 pub fn run<R: Threads + Sync, I: Inputs, O: Outputs, E: Sink, G: Gate + Sync>(
     rt: &R,
     alloc: Global,
@@ -70,7 +71,8 @@ pub fn run<R: Threads + Sync, I: Inputs, O: Outputs, E: Sink, G: Gate + Sync>(
         → (inputs.new ≡ inputs.old) × IsCodeOf result (λ status. RefusesWords status
         (sinks_of O.Sink E.Sink outs.old errs.old) (sinks_of O.Sink E.Sink outs.new errs.new)) }
 
-    // The first files of the words are opened, each once and in order, and no other.
+    // There are as many openings as files up to some file of the words, and that file is the opened one, where
+    // that is told.
     ensures opened { (ask : Ask) → IsAsked (map string_bytes words.now) ask → OpensFirst (names_of ask)
         (source_of I.Inputs inputs.old) (source_of I.Inputs inputs.new) }
 
