@@ -35,7 +35,8 @@ const NOT_STRAIGHT_POLYGON: &str = "polygons 4 5 1\n\
 /// # . . . . . #
 /// # . . # # . #
 /// ```
-const FAR_SIDE: &[u8] = b"P1 7 11 1101000 1000111 1101101 1110001 0011101 1100100 1000100 1011000 0011011 1000001 1001101\n";
+const FAR_SIDE: &[u8] =
+    b"P1 7 11 1101000 1000111 1101101 1110001 0011101 1100100 1000100 1011000 0011011 1000001 1001101\n";
 
 const FAR_SIDE_POLYGONS: &str = "polygons 7 11 4\n\
 + 30 66 19 3749: 0 4 6 9 12 18 20 24 26 30 33 35 39 44 48 53 57 60 64\n\
@@ -63,7 +64,8 @@ l28 -83 l-128 0 l-128 0 l32 96 l32 96 l-128 0 z M772 384 l-124 0 l74 -192 l74 -1
 /// # # # # # #   (four of these)
 /// . . . . . #   (six of these)
 /// ```
-const SHORT_LINE: &[u8] = b"P1 6 10 111111 111111 111111 111111 000001 000001 000001 000001 000001 000001\n";
+const SHORT_LINE: &[u8] =
+    b"P1 6 10 111111 111111 111111 111111 000001 000001 000001 000001 000001 000001\n";
 
 /// Of the curve at its end the lowest place that is drawn is at 1.451: so much of the line is lost.
 const SHORT_LINE_CURVES: &str = "{\"type\":\"FeatureCollection\",\"features\":[\n\
@@ -84,7 +86,8 @@ const SHORT_LINE_CORNERS: &str = "{\"type\":\"FeatureCollection\",\"features\":[
 ]}\n";
 
 /// Twenty rows below twelve.
-const LONG_LINE: &[u8] = b"P1 6 32 111111 111111 111111 111111 111111 111111 111111 111111 111111 111111 111111 111111 000001 000001 000001 000001 000001 000001 000001 000001 000001 000001 000001 000001 000001 000001 000001 000001 000001 000001 000001 000001\n";
+const LONG_LINE: &[u8] =
+    b"P1 6 32 111111 111111 111111 111111 111111 111111 111111 111111 111111 111111 111111 111111 000001 000001 000001 000001 000001 000001 000001 000001 000001 000001 000001 000001 000001 000001 000001 000001 000001 000001 000001 000001\n";
 
 /// Of the curve at its end the lowest place that is drawn is at 5.123: so much of the line is lost.
 const LONG_LINE_CURVES: &str = "{\"type\":\"FeatureCollection\",\"features\":[\n\
