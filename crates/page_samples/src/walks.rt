@@ -22,6 +22,29 @@ pub fn round(alloc: Global, width: i32, height: i32) -> Result<Vec<Point>, NoMem
     Ok(points)
 }
 
+/// A walk whose longest straight part has as many steps as one can have within a square: stairs, with a step
+/// before them and one behind.
+///
+/// From (0, 1) it goes south, and then east and north in turn up to a step below the upper side; then north, east,
+/// and back by way of (`side`, 1).
+pub fn hooked_stairs(alloc: Global, side: i32) -> Result<Vec<Point>, NoMemory> {
+    let last = side.wrapping_sub(1);
+    let mut points = vec![in alloc; Point { x: 0, y: 1 }]?;
+    for step in 0..last {
+        points.push(Point { x: step, y: step })?;
+        points.push(Point {
+            x: step.wrapping_add(1),
+            y: step,
+        })?;
+    }
+    points.push(Point { x: last, y: last })?;
+    points.push(Point { x: last, y: side })?;
+    put_side(&mut points, Point { x: side, y: side }, (0, -1), last)?;
+    put_side(&mut points, Point { x: side, y: 1 }, (-1, 0), last)?;
+    points.push(Point { x: 1, y: 1 })?;
+    Ok(points)
+}
+
 /// Appends so many points on a straight way.
 fn put_side(
     points: &mut Vec<Point>,
@@ -36,6 +59,22 @@ fn put_side(
         at.y = at.y.wrapping_add(step.1);
     }
     Ok(())
+}
+
+/// The path round a triangle: from the lower left corner of a square up stairs of one step east and one north each,
+/// and back along its upper and its left side.
+pub fn triangle(alloc: Global, side: i32) -> Result<Vec<Point>, NoMemory> {
+    let mut points = Vec::new(alloc);
+    for step in 0..side {
+        points.push(Point { x: step, y: step })?;
+        points.push(Point {
+            x: step.wrapping_add(1),
+            y: step,
+        })?;
+    }
+    put_side(&mut points, Point { x: side, y: side }, (-1, 0), side)?;
+    put_side(&mut points, Point { x: 0, y: side }, (0, -1), side)?;
+    Ok(points)
 }
 
 /// Draws the walk whose steps are the code's digits to base 4; whether it is closed.
@@ -53,50 +92,4 @@ pub fn draw(code: u32, points: &mut [Point]) -> bool {
         rest /= 4;
     }
     x == 100 && y == 100
-}
-
-/// Steps of one pixel, to the right and upwards, and how often they are taken in turn.
-pub type Leg = (&'static [(i32, i32)], u32);
-
-/// The walk that goes from a place by these legs, to the last point before it is closed.
-pub fn walked(alloc: Global, start: (i32, i32), legs: &[Leg]) -> Result<Vec<Point>, NoMemory> {
-    let mut points = Vec::new(alloc);
-    let mut at = Point {
-        x: start.0,
-        y: start.1,
-    };
-    points.push(at)?;
-    for (steps, times) in legs {
-        at = put_leg(&mut points, at, steps, *times)?;
-    }
-    Ok(points)
-}
-
-/// Appends the points of a leg; its last one.
-fn put_leg(
-    points: &mut Vec<Point>,
-    from: Point,
-    steps: &[(i32, i32)],
-    times: u32,
-) -> Result<Point, NoMemory> {
-    let mut at = from;
-    for _ in 0..times {
-        at = put_steps(points, at, steps)?;
-    }
-    Ok(at)
-}
-
-/// Appends the points of some steps; the last one.
-fn put_steps(
-    points: &mut Vec<Point>,
-    from: Point,
-    steps: &[(i32, i32)],
-) -> Result<Point, NoMemory> {
-    let mut at = from;
-    for (right, up) in steps {
-        at.x = at.x.wrapping_add(*right);
-        at.y = at.y.wrapping_add(*up);
-        points.push(at)?;
-    }
-    Ok(at)
 }

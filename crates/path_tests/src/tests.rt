@@ -3,8 +3,9 @@
 mod beside_plain;
 mod best;
 mod chain;
+mod greatest;
 mod least;
-mod long_segments;
+mod longest;
 mod paths;
 mod plain;
 mod plain_best;

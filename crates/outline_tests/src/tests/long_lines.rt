@@ -1,52 +1,37 @@
 //! Lines of the longest segments, that another program worked out in whole numbers without bounds.
 
 use super::segments::segment_sums;
-use page_samples::walks::{Leg, walked};
+use page_samples::walks::{hooked_stairs, round, triangle};
 use prefix_moments::moments::Moments;
 use prefix_moments::sums::Sums;
 use pt_base::closed_walk::is_closed_walk;
+use pt_base::fault::NoMemory;
 use pt_base::limits::MOST_STEPS;
+use pt_base::point::Point;
 use std::alloc::Global;
 use std::test::Fail;
 use vertex_adjust::line::{Line, line_of};
 
-/// Where a walk begins, and its legs.
-type Walk = ((i32, i32), &'static [Leg]);
+/// A walk as long as the greatest page has room for.
+#[derive(Clone, Copy)]
+enum Walk {
+    /// Round a row of pixels.
+    Bar,
+    /// Up stairs, and back along two sides.
+    Stairs,
+    /// Up stairs with a step before them and one behind.
+    Hooked,
+}
 
-/// Round a row of black pixels, as long as a page may be wide.
-const BAR: Walk = (
-    (0, 1),
-    &[
-        (&[(0, -1)], 1),
-        (&[(1, 0)], 32767),
-        (&[(0, 1)], 1),
-        (&[(-1, 0)], 32766),
-    ],
-);
+fn points_of(alloc: Global, walk: Walk) -> Result<Vec<Point>, NoMemory> {
+    match walk {
+        Walk::Bar => round(alloc, 32767, 1),
+        Walk::Stairs => triangle(alloc, 32767),
+        Walk::Hooked => hooked_stairs(alloc, 32767),
+    }
+}
 
-/// Up the stairs from the lower left corner of the greatest page, and back along two of its sides.
-const STAIRS: Walk = (
-    (0, 0),
-    &[
-        (&[(1, 0), (0, 1)], 32767),
-        (&[(-1, 0)], 32767),
-        (&[(0, -1)], 32766),
-    ],
-);
-
-/// Up stairs with a hook at either end: one step down before them, and at their end one up and one to the right.
-const HOOKED: Walk = (
-    (0, 1),
-    &[
-        (&[(0, -1)], 1),
-        (&[(1, 0), (0, 1)], 32766),
-        (&[(0, 1), (1, 0)], 1),
-        (&[(0, -1)], 32766),
-        (&[(-1, 0)], 32766),
-    ],
-);
-
-/// The number of points, the sums of their offsets to the right and upwards, and of their squares and products.
+/// The number of points, and the sums of their offsets, of the offsets' squares and of their products.
 type Numbers = (u32, i64, i64, i64, i64, i64);
 
 /// What is found of a segment: its sums, its penalty, and its line's normal and centre.
@@ -55,7 +40,7 @@ type Found = (Numbers, u64, (i64, i64), (i64, i64));
 /// A walk, a segment, and what is found of it.
 const LONG: [(Walk, u32, u32, Found); 5] = [
     (
-        BAR,
+        Walk::Bar,
         1,
         32768,
         (
@@ -66,7 +51,7 @@ const LONG: [(Walk, u32, u32, Found); 5] = [
         ),
     ),
     (
-        STAIRS,
+        Walk::Stairs,
         0,
         65534,
         (
@@ -83,9 +68,9 @@ const LONG: [(Walk, u32, u32, Found); 5] = [
             (16776959, 16776448),
         ),
     ),
-    // The last steps at which the covariances are doubled once, and the first at which they stay as they are.
+    // The most steps at which the variances are within 2^58, and one more.
     (
-        STAIRS,
+        Walk::Stairs,
         0,
         60987,
         (
@@ -103,7 +88,7 @@ const LONG: [(Walk, u32, u32, Found); 5] = [
         ),
     ),
     (
-        STAIRS,
+        Walk::Stairs,
         0,
         60988,
         (
@@ -121,7 +106,7 @@ const LONG: [(Walk, u32, u32, Found); 5] = [
         ),
     ),
     (
-        HOOKED,
+        Walk::Hooked,
         1,
         65535,
         (
@@ -150,7 +135,7 @@ fn lines_of_the_longest_segments(rt: HostRuntime) -> Result<(), Fail> {
 }
 
 fn found_along(alloc: Global, walk: Walk, i: u32, j: u32) -> Result<Option<Found>, Fail> {
-    let points = walked(alloc, walk.0, walk.1)?;
+    let points = points_of(alloc, walk)?;
     let (start, end) = (i as usize, j as usize);
     if !is_closed_walk(&points) || points.len() <= start || end <= start {
         return Ok(None);
@@ -160,11 +145,20 @@ fn found_along(alloc: Global, walk: Walk, i: u32, j: u32) -> Result<Option<Found
     }
     let moments = Moments::of(alloc, &points)?;
     let sums = segment_sums(&points, &moments, i, j);
-    let Line { nx, ny, cx, cy } = line_of(&sums, points[start]);
+    let line = line_of(&sums, points[start]);
     let penalty = moments.penalty(i, j);
-    Ok(Some((numbers_of(&sums), penalty, (nx, ny), (cx, cy))))
+    Ok(Some((
+        numbers_of(&sums),
+        penalty,
+        normal_of(line),
+        (line.cx, line.cy),
+    )))
 }
 
 fn numbers_of(sums: &Sums) -> Numbers {
     (sums.count, sums.x, sums.y, sums.xx, sums.xy, sums.yy)
+}
+
+fn normal_of(line: Line) -> (i64, i64) {
+    (line.nx, line.ny)
 }

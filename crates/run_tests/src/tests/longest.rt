@@ -83,11 +83,12 @@ const BARS: [(&str, &str); 2] = [
 #[test]
 fn the_longest_bar(rt: HostRuntime) -> Result<(), Fail> {
     let input = black(rt.alloc(), 32767, 1, (9999, 0))?;
-    for (words, text) in BARS {
+    for (words, document) in BARS {
+        let text = String::from_str(rt.alloc(), document)?;
         Case {
-            words,
+            words: &format!(in rt.alloc(); "{words}")?,
             input: &input,
-            documents: &[("-", text)],
+            documents: &[("-", &text)],
             ..PLAIN
         }
         .check(&rt, rt.alloc())?;

@@ -1,0 +1,50 @@
+//! Penalties and polygons with the longest segments, that another program worked out.
+ghost use Rattle.std.specs.Prelude.{◌≡◌};
+
+use page_samples::walks::{round, triangle};
+use polygon_optimal::optimal::polygon;
+use prefix_moments::moments::Moments;
+use pt_base::closed_walk::is_closed_walk;
+use pt_base::limits::MOST_STEPS;
+use pt_base::point::Point;
+use std::alloc::Global;
+use std::test::Fail;
+
+/// How many steps the longest segment has: up stairs, all the way through the greatest page.
+const STEPS: u32 = 65534;
+
+/// A limit, and the penalty of that segment where it is below.
+const LIMITS: [(u64, Option<u64>); 3] = [
+    (1 << 56, Some(5931415)),
+    (5931415, None),
+    (5931416, Some(5931415)),
+];
+
+#[test]
+fn penalties_below_limits(rt: HostRuntime) -> Result<(), Fail> {
+    let points = triangle(rt.alloc(), 32767)?;
+    for (limit, wanted) in LIMITS {
+        let found = below(rt.alloc(), &points, limit)?;
+        assert_eq!(rt; found, Some(wanted), "below {limit}");
+    }
+    Ok(())
+}
+
+/// The penalty of the stairs, if it is below the limit; nothing of points that have no such stairs.
+fn below(alloc: Global, points: &[Point], limit: u64) -> Result<Option<Option<u64>>, Fail> {
+    if !is_closed_walk(points) || points.len() < STEPS as usize || MOST_STEPS < STEPS {
+        return Ok(None);
+    }
+    let moments = Moments::of(alloc, points)?;
+    Ok(Some(moments.penalty_below(0, STEPS, limit.min(1 << 56))))
+}
+
+#[test]
+fn the_polygon_of_the_longest_bar(rt: HostRuntime) -> Result<(), Fail> {
+    let points = round(rt.alloc(), 32767, 1)?;
+    assert!(rt; is_closed_walk(&points));
+    let found = polygon(rt.alloc(), &points)?;
+    let vertices = [0, 206, 32769];
+    assert_eq!(rt; (found.at.as_slice(), found.cost), (&vertices[..], 4842942));
+    Ok(())
+}
