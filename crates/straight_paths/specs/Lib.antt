@@ -34,16 +34,7 @@ pub mod Cones
 --   IsNextCorner: d is the least number of steps, at least one, from point i to a corner
 --   AreNextCorners: for each point, the number of steps to the next corner
 --   IsRun: the path goes straight on for r steps from its point number s
---   IsRegular: each of the path's first r steps is taken again q steps later
---   IsOrdered: on the way from the first number up or down to the third
---   IsOnWay: so it is from the first point by the second one to the third, in both coordinates
---   IsStaircase: the path's first `count` steps never go back along a row or a column
 pub mod Corners
--- How one coordinate goes along a path.
---   Rises: in the first `count` steps it never goes back by more than 1 on its way up
---   Falls: nor on its way down
---   IsCourse
-pub mod Courses
 -- What is straight from an index on, within two laps of a closed path.
 --   limit_of: the most steps that matter
 --   last_of: the last index of the two laps that matters
@@ -57,10 +48,6 @@ pub mod Courses
 --   IsAhead
 --   IsTail: of the subpaths from `at`, up to the limit and the last index that was looked at
 --   IsSettled: what stands beyond that index changes nothing
---   AreKnown: for each point, a number of steps from there for which the cones hold
---   AreSeen: from each index that isn't below the first one and is below the second
---   IsSweep
---   IsOneWay: one of east and west isn't taken before the end, and one of north and south
 pub mod Tails
 -- Cones in one quarter of the plane, and how far a scan has come.
 --   IsSign: 1 or -1
@@ -71,3 +58,19 @@ pub mod Tails
 --   IsWedge: a cone between two borders in a quarter
 --   IsScan: the cones hold for the first steps of a path, and this cone is what is left of them
 pub mod Wedges
+-- Strips of the plane that are as broad as a line drawn in pixels.
+--   IsFromTo: the number is from the one up to the other
+--   IsStrip: the strip's way is short and goes into its quarter, and the point from which it is seen lies in it
+--   IsOnward: no number comes that is more than 1 below an earlier one
+--   across_at: how far the path's point number k is from its start, across the way
+--   right_at: and to the right in a quarter
+--   up_at: and up
+--   StaysIn: the path's first steps stay in the strip, and never go back by more than 1
+--   AreFromTo: each of the first numbers is from the one up to the other
+--   IsSmallExtent: numbers that a path of some ten thousand pixels may have
+--   IsExtent: how far the path's first steps go to each side
+--   TakesIn: the extent takes in what the other one does, and a further place
+pub mod Strips
+-- What is straight from an index on, and a strip that holds it.
+--   IsSweep
+pub mod Sweeps

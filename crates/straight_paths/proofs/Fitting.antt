@@ -1,0 +1,56 @@
+-- The strip that takes in an extent.
+use Rattle.std.proofs.Common.{◌≡◌, ℕ, ℤ, pos, ◌-ℤ◌, ◌*ℤ◌, ◌≤ℤ◌, ◌<ℤ◌, arith}
+use Rattle.std.proofs.lemmas.Int.{ints}
+use Rattle.pt_base.specs.declared.point.Point.{Point}
+use Rattle.straight_paths.specs.Cones.{IsShort}
+use Rattle.straight_paths.specs.Strips.{IsExtent, IsSmallExtent, IsStrip, StaysIn}
+use Rattle.straight_paths.specs.Wedges.{IsQuarter, far_of}
+use Rattle.straight_paths.specs.declared.offset.Offset.{Offset}
+use Rattle.straight_paths.specs.declared.quarter.Quarter.{Quarter}
+use Rattle.straight_paths.specs.declared.strip.Extent.{Extent}
+use Rattle.straight_paths.specs.declared.strip.Strip.{Strip}
+
+-- along the way, with so much room to the right of the extent
+abbrev pub strip_by : Quarter → Offset → Extent → ℤ → ℤ → Strip
+strip_by quarter way extent breadth room = record {
+  quarter = quarter;
+  way = way;
+  breadth = breadth;
+  at = room -ℤ extent.across.least;
+  back = record { x = pos 0 -ℤ extent.right.least; y = pos 0 -ℤ extent.up.least };
+}
+
+module _ (quarter : Quarter) (way : Offset) (extent : Extent) (breadth room : ℤ) (small : IsSmallExtent extent)
+    (some : pos 0 ≤ℤ room) (rest : room ≤ℤ (breadth -ℤ (extent.across.greatest -ℤ extent.across.least))) where
+  pub is_strip : IsQuarter quarter → IsShort 65535 way → pos 0 ≤ℤ (quarter.right *ℤ way.x) → pos 0 ≤ℤ (quarter.up *ℤ way.y)
+      → breadth ≡ far_of quarter way → pos 0 <ℤ breadth → IsStrip (strip_by quarter way extent breadth room)
+  is_strip is_quarter short right up is goes =
+      let least = small.across.least.most in
+      let greatest = small.across.greatest.least in
+      let x_least = small.right.least.least in
+      let x_most = small.right.least.most in
+      let y_least = small.up.least.least in
+      let y_most = small.up.least.most in
+      record {
+        quarter = is_quarter;
+        short = short;
+        right = right;
+        up = up;
+        breadth = is;
+        some = goes;
+        at = record { least = omega (arith, ints); most = omega (arith, ints) };
+        back_x = record { least = omega (arith, ints); most = omega (arith, ints) };
+        back_y = record { least = omega (arith, ints); most = omega (arith, ints) };
+      }
+
+  pub stays_in : (path : ℕ → Point) (count : ℕ) → IsExtent quarter way path count extent → StaysIn (strip_by quarter way extent breadth room) path count
+  stays_in path count is = record {
+    inside = λ k h.
+        let least = (is.across k h).least in
+        let most = (is.across k h).most in
+        record { least = omega (arith, ints); most = omega (arith, ints) };
+    right = is.on_right;
+    up = is.on_up;
+    back_x = λ k h. let least = (is.right k h).least in omega (arith, ints);
+    back_y = λ k h. let least = (is.up k h).least in omega (arith, ints);
+  }

@@ -1,0 +1,123 @@
+-- A strip that is seen from one step earlier.
+use Rattle.std.proofs.Common.{◌≡◌, ℕ, zero, suc, ◌≤◌, ℤ, pos, neg_ℤ, ◌+ℤ◌, ◌-ℤ◌, ◌*ℤ◌, ◌≤ℤ◌, subst, arith}
+use Rattle.std.proofs.lemmas.Int.{ints}
+use Rattle.pt_base.specs.declared.point.Point.{Point}
+use Rattle.pt_base.proofs.Terms.{same_value}
+use Rattle.pt_base.proofs.Terms.Term.{num, plus, less, times}
+use Rattle.straight_paths.specs.Corners.{step_from}
+use Rattle.straight_paths.specs.Cones.{cross_of}
+use Rattle.straight_paths.specs.Strips.{IsFromTo, IsOnward, IsStrip, StaysIn, across_at, right_at, up_at}
+use Rattle.straight_paths.specs.declared.offset.Offset.{Offset}
+use Rattle.straight_paths.specs.declared.strip.Strip.{Strip}
+use Rattle.straight_paths.proofs.Pieces.{rest_of}
+
+-- the strip as it is seen from there
+abbrev pub seen_from : Strip → ℤ → ℤ → ℤ → Strip
+seen_from strip at x y = record {
+  quarter = strip.quarter;
+  way = strip.way;
+  breadth = strip.breadth;
+  at = at;
+  back = record { x = x; y = y };
+}
+
+-- how far the points of a path are from its start, by how far they are from its next point
+cross_part : (wx wy x y ox oy nx ny : ℤ)
+    → wx *ℤ (y -ℤ oy) -ℤ wy *ℤ (x -ℤ ox) ≡ (wx *ℤ (y -ℤ ny) -ℤ wy *ℤ (x -ℤ nx)) +ℤ (wx *ℤ (ny -ℤ oy) -ℤ wy *ℤ (nx -ℤ ox))
+cross_part wx wy x y ox oy nx ny = same_value
+    (less (times (num wx) (less (num y) (num oy))) (times (num wy) (less (num x) (num ox))))
+    (plus (less (times (num wx) (less (num y) (num ny))) (times (num wy) (less (num x) (num nx))))
+    (less (times (num wx) (less (num ny) (num oy))) (times (num wy) (less (num nx) (num ox)))))
+    (omega arith)
+
+part_by : (q x o n : ℤ) → q *ℤ (x -ℤ o) ≡ q *ℤ (x -ℤ n) +ℤ q *ℤ (n -ℤ o)
+part_by q x o n = same_value
+    (times (num q) (less (num x) (num o)))
+    (plus (times (num q) (less (num x) (num n))) (times (num q) (less (num n) (num o))))
+    (omega arith)
+
+cross_start : (wx wy x y : ℤ) → wx *ℤ (y -ℤ y) -ℤ wy *ℤ (x -ℤ x) ≡ pos 0
+cross_start wx wy x y = same_value
+    (less (times (num wx) (less (num y) (num y))) (times (num wy) (less (num x) (num x)))) (num (pos 0)) (omega arith)
+
+pub part_start : (q x : ℤ) → q *ℤ (x -ℤ x) ≡ pos 0
+part_start q x = same_value (times (num q) (less (num x) (num x))) (num (pos 0)) (omega arith)
+
+-- a number that is counted from the path's start, and from its next point
+module _ (f g : ℕ → ℤ) (c : ℤ) (start : f 0 ≡ pos 0) (later : (k : ℕ) → f (suc k) ≡ g k +ℤ c) (count : ℕ) where
+  pub onward_before : (back : ℤ) → IsOnward g count → ((k : ℕ) → k ≤ count → neg_ℤ back ≤ℤ g k) → (back -ℤ c) ≤ℤ pos 1 → IsOnward f (suc count)
+  onward_before back old behind small zero zero a b = omega (arith, ints)
+  onward_before back old behind small zero (suc k) a b =
+      let e = later k in
+      let h = behind k (omega arith) in
+      omega (arith, ints)
+  onward_before back old behind small (suc j) zero a b = absurd (omega arith)
+  onward_before back old behind small (suc j) (suc k) a b =
+      let e = later j in
+      let d = later k in
+      let h = old j k (omega arith) (omega arith) in
+      omega (arith, ints)
+
+  pub back_before : (back new : ℤ) → ((k : ℕ) → k ≤ count → neg_ℤ back ≤ℤ g k) → pos 0 ≤ℤ new → (back -ℤ c) ≤ℤ new
+      → (k : ℕ) → k ≤ suc count → neg_ℤ new ≤ℤ f k
+  back_before back new behind some more zero h = omega (arith, ints)
+  back_before back new behind some more (suc k) h =
+      let e = later k in
+      let d = behind k (omega arith) in
+      omega (arith, ints)
+
+  pub inside_before : (at new breadth : ℤ) → ((k : ℕ) → k ≤ count → IsFromTo (pos 0) breadth (at +ℤ g k)) → new ≡ at -ℤ c
+      → IsFromTo (pos 0) breadth new → (k : ℕ) → k ≤ suc count → IsFromTo (pos 0) breadth (new +ℤ f k)
+  inside_before at new breadth old is here zero h =
+      let least = here.least in
+      let most = here.most in
+      record { least = omega (arith, ints); most = omega (arith, ints) }
+  inside_before at new breadth old is here (suc k) h =
+      let e = later k in
+      let least = (old k (omega arith)).least in
+      let most = (old k (omega arith)).most in
+      record { least = omega (arith, ints); most = omega (arith, ints) }
+
+pub stays_before : (strip : Strip) (at x y : ℤ) (step : Offset) (path : ℕ → Point) (count : ℕ) → step ≡ step_from path 0
+    → at ≡ strip.at -ℤ cross_of strip.way step → IsFromTo (pos 0) strip.breadth at
+    → pos 0 ≤ℤ x → (strip.back.x -ℤ strip.quarter.right *ℤ step.x) ≤ℤ x → x ≤ℤ pos 1
+    → pos 0 ≤ℤ y → (strip.back.y -ℤ strip.quarter.up *ℤ step.y) ≤ℤ y → y ≤ℤ pos 1
+    → StaysIn strip (rest_of path) count → StaysIn (seen_from strip at x y) path (suc count)
+stays_before strip at x y step path count is at_is here x_some x_more x_most y_some y_more y_most stays =
+    let q = strip.quarter in
+    let w = strip.way in
+    let p = path 0 in
+    let n = path 1 in
+    let c : ℤ = cross_of w (step_from path 0) in
+    let cx : ℤ = q.right *ℤ (step_from path 0).x in
+    let cy : ℤ = q.up *ℤ (step_from path 0).y in
+    let at_by : at ≡ strip.at -ℤ c = subst (λ (o : Offset). at ≡ strip.at -ℤ cross_of w o) is at_is in
+    let x_by : (strip.back.x -ℤ cx) ≤ℤ x = subst (λ (o : Offset). (strip.back.x -ℤ q.right *ℤ o.x) ≤ℤ x) is x_more in
+    let y_by : (strip.back.y -ℤ cy) ≤ℤ y = subst (λ (o : Offset). (strip.back.y -ℤ q.up *ℤ o.y) ≤ℤ y) is y_more in
+    let across_start : across_at w path 0 ≡ pos 0 = cross_start w.x w.y p.x p.y in
+    let right_start : right_at q path 0 ≡ pos 0 = part_start q.right p.x in
+    let up_start : up_at q path 0 ≡ pos 0 = part_start q.up p.y in
+    let across_later = λ (k : ℕ). cross_part w.x w.y (path (suc k)).x (path (suc k)).y p.x p.y n.x n.y in
+    let right_later = λ (k : ℕ). part_by q.right (path (suc k)).x p.x n.x in
+    let up_later = λ (k : ℕ). part_by q.up (path (suc k)).y p.y n.y in
+    record {
+      inside = inside_before (across_at w path) (across_at w (rest_of path)) c across_start across_later count strip.at at strip.breadth stays.inside at_by here;
+      right = onward_before (right_at q path) (right_at q (rest_of path)) cx right_start right_later count strip.back.x stays.right stays.back_x (omega (arith, ints));
+      up = onward_before (up_at q path) (up_at q (rest_of path)) cy up_start up_later count strip.back.y stays.up stays.back_y (omega (arith, ints));
+      back_x = back_before (right_at q path) (right_at q (rest_of path)) cx right_start right_later count strip.back.x x stays.back_x x_some x_by;
+      back_y = back_before (up_at q path) (up_at q (rest_of path)) cy up_start up_later count strip.back.y y stays.back_y y_some y_by;
+    }
+
+pub strip_before : (strip : Strip) (at x y : ℤ) → IsStrip strip → IsFromTo (pos 0) strip.breadth at → IsFromTo (pos 0) (pos 1) x → IsFromTo (pos 0) (pos 1) y
+    → IsStrip (seen_from strip at x y)
+strip_before strip at x y is here in_x in_y = record {
+  quarter = is.quarter;
+  short = is.short;
+  right = is.right;
+  up = is.up;
+  breadth = is.breadth;
+  some = is.some;
+  at = here;
+  back_x = in_x;
+  back_y = in_y;
+}

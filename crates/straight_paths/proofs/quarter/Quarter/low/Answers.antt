@@ -1,0 +1,32 @@
+use Rattle.std.proofs.Common.{◌≡◌, ◌-ℤ◌, subst, sym, ◌∙◌}
+use Rattle.straight_paths.specs.Cones.{cross_of, IsShort}
+use Rattle.straight_paths.specs.Wedges.{far_of}
+use Rattle.straight_paths.specs.declared.offset.Offset.{Offset}
+use Rattle.straight_paths.proofs.Bounds.{same_offset, low_short}
+use Rattle.straight_paths.proofs.Quarters.{added_sign, less_sign, sign_small, low_in, turned_low, far_low}
+use Rattle.straight_paths.proofs.quarter.Quarter.low.Goals as goal
+
+pub returns-clause-value : goal.returns-clause-value
+returns-clause-value c =
+    let q = c.requires.quarter in
+    let s = c.requires.short in
+    same_offset _ _ _ _ (added_sign c.args.way.x c.args.self.up s.x (sign_small _ q.up)) (less_sign c.args.way.y c.args.self.right s.y (sign_small _ q.right))
+    ∙ sym (low_in c.args.self c.args.way q c.requires.inside)
+
+pub returns-clause-turned : goal.returns-clause-turned
+returns-clause-turned c =
+    let e = returns-clause-value c ∙ low_in c.args.self c.args.way c.requires.quarter c.requires.inside in
+    λ border.
+    let P : Offset → Type 0 = λ o. cross_of border o ≡ cross_of border c.args.way -ℤ far_of c.args.self border in
+    subst P (sym e) (turned_low c.args.self border c.args.way)
+
+pub returns-clause-far : goal.returns-clause-far
+returns-clause-far c =
+    let e = returns-clause-value c ∙ low_in c.args.self c.args.way c.requires.quarter c.requires.inside in
+    let P : Offset → Type 0 = λ o. far_of c.args.self o ≡ far_of c.args.self c.args.way in
+    subst P (sym e) (far_low c.args.self c.args.way)
+
+pub returns-clause-short : goal.returns-clause-short
+returns-clause-short c =
+    let P : Offset → Type 0 = IsShort 65536 in
+    subst P (sym (returns-clause-value c)) (low_short c.args.way c.requires.short)

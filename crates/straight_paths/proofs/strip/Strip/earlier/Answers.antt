@@ -1,0 +1,130 @@
+use Rattle.std.proofs.Common.{◌≡◌, ℕ, suc, false, ◌+◌, ◌≤◌, ℤ, pos, ◌-ℤ◌, ◌*ℤ◌, ◌≤ℤ◌, unsigned_abs, FitsSigned, w64, to_z, of_z, inl, inr, ap, sym, subst, arith}
+use Rattle.std.proofs.lemmas.Int.{ints, to_z-of_z}
+use Rattle.std.specs.Int.Signed.{lt_z}
+use Rattle.pt_base.proofs.Sizes.{product_most}
+use Rattle.straight_paths.specs.Cones.{IsShort, cross_of}
+use Rattle.straight_paths.specs.Strips.{IsFromTo, IsStrip}
+use Rattle.straight_paths.specs.Wedges.{IsSign}
+use Rattle.straight_paths.specs.declared.offset.Offset.{Offset}
+use Rattle.straight_paths.specs.declared.strip.Strip.{Strip}
+use Rattle.straight_paths.proofs.Stepping.{stays_before, strip_before}
+use Rattle.straight_paths.proofs.strip.Strip.earlier.Goals as goal
+
+-- a number times a sign, or times one that is at most 1
+sign_most : (s z : ℤ) (n : ℕ) → IsSign s → unsigned_abs z ≤ n → unsigned_abs (s *ℤ z) ≤ n
+sign_most s z n sign h = elim sign [
+  | inl e ↦ let P : ℤ → Type 0 = λ u. unsigned_abs (u *ℤ z) ≤ n in subst P (sym e) (omega (arith, ints))
+  | inr e ↦ let P : ℤ → Type 0 = λ u. unsigned_abs (u *ℤ z) ≤ n in subst P (sym e) (omega (arith, ints))
+]
+
+breadth_most : (strip : Strip) → IsStrip strip → strip.breadth ≤ℤ pos 131070
+breadth_most strip is =
+    let e = is.breadth in
+    let x = sign_most strip.quarter.right strip.way.x 65535 is.quarter.right is.short.x in
+    let y = sign_most strip.quarter.up strip.way.y 65535 is.quarter.up is.short.y in
+    omega (arith, ints)
+
+cross_most : (way step : Offset) (z : ℤ) → IsShort 65535 way → IsShort 1 step → z ≡ cross_of way step → unsigned_abs z ≤ 131070
+cross_most way step z short unit is =
+    let p = product_most way.x step.y 65535 1 short.x unit.y in
+    let q = product_most way.y step.x 65535 1 short.y unit.x in
+    omega (arith, ints)
+
+pub overflow_sub-at : goal.overflow_sub-at
+overflow_sub-at c =
+    let strip = c.requires.strip in
+    let least = strip.at.least in
+    let most = strip.at.most in
+    let breadth = breadth_most c.args.self strip in
+    let cross = cross_most c.args.self.way c.args.step c.cross.result strip.short c.requires.step c.cross.ensures in
+    omega (arith, ints)
+
+-- one step in the quarter
+onward_most : (s z r : ℤ) → IsSign s → unsigned_abs z ≤ 1 → r ≡ s *ℤ z → unsigned_abs r ≤ 1
+onward_most s z r sign small is = let P : ℤ → Type 0 = λ u. unsigned_abs u ≤ 1 in subst P (sym is) (sign_most s z 1 sign small)
+
+pub overflow_sub-self : goal.overflow_sub-self
+overflow_sub-self c =
+    let strip = c.requires.strip in
+    let least = strip.back_x.least in
+    let most = strip.back_x.most in
+    let onward = onward_most _ _ c.turned-onward.result.x strip.quarter.right c.requires.step.x c.turned-onward.ensures.x in
+    omega (arith, ints)
+
+pub overflow_sub-self-2 : goal.overflow_sub-self-2
+overflow_sub-self-2 c =
+    let strip = c.requires.strip in
+    let least = strip.back_y.least in
+    let most = strip.back_y.most in
+    let onward = onward_most _ _ c.turned-onward.result.y strip.quarter.up c.requires.step.y c.turned-onward.ensures.y in
+    omega (arith, ints)
+
+-- what the tests tell, in whole numbers
+at_tested : (at cross breadth : ℤ) → IsFromTo (pos 0) breadth at → breadth ≤ℤ pos 131070 → unsigned_abs cross ≤ 131070
+    → lt_z (to_z w64 (of_z w64 (to_z w64 (of_z w64 at) -ℤ to_z w64 (of_z w64 cross)))) (pos 0) ≡ false
+    → lt_z (to_z w64 (of_z w64 breadth)) (to_z w64 (of_z w64 (to_z w64 (of_z w64 at) -ℤ to_z w64 (of_z w64 cross)))) ≡ false
+    → IsFromTo (pos 0) breadth (at -ℤ cross)
+at_tested at cross breadth here most small above below =
+    let least = here.least in
+    let greatest = here.most in
+    record { least = omega (arith, ints); most = omega (arith, ints) }
+
+back_tested : (b o r : ℤ) → IsFromTo (pos 0) (pos 1) b → unsigned_abs o ≤ 1 → FitsSigned w64 r → pos 0 ≤ℤ r
+    → to_z w64 (of_z w64 (to_z w64 (of_z w64 b) -ℤ to_z w64 (of_z w64 o))) ≤ℤ r → lt_z (pos 1) (to_z w64 (of_z w64 r)) ≡ false
+    → ((b -ℤ o) ≤ℤ r) × IsFromTo (pos 0) (pos 1) r
+back_tested b o r behind small fits some more most =
+    let least = behind.least in
+    let greatest = behind.most in
+    (omega (arith, ints), record { least = omega (arith, ints); most = omega (arith, ints) })
+
+pub returns-clause-strip : goal.returns-clause-strip
+returns-clause-strip c =
+    let strip = c.requires.strip in
+    let least = strip.at.least in
+    let most = strip.at.most in
+    let some = strip.some in
+    let breadth = breadth_most c.args.self strip in
+    let cross = cross_most c.args.self.way c.args.step c.cross.result strip.short c.requires.step c.cross.ensures in
+    let onward_x = onward_most _ _ c.turned-onward.result.x strip.quarter.right c.requires.step.x c.turned-onward.ensures.x in
+    let onward_y = onward_most _ _ c.turned-onward.result.y strip.quarter.up c.requires.step.y c.turned-onward.ensures.y in
+    let f1 : FitsSigned w64 c.args.self.breadth = omega (arith, ints) in
+    let f2 : FitsSigned w64 c.args.self.at = omega (arith, ints) in
+    let f3 : FitsSigned w64 c.cross.result = omega (arith, ints) in
+    let f4 : FitsSigned w64 (c.args.self.at -ℤ c.cross.result) = omega (arith, ints) in
+    let f5 : FitsSigned w64 c.greater-back_x.result = omega (arith, ints) in
+    let f6 : FitsSigned w64 c.greater-back_y.result = omega (arith, ints) in
+    let here = at_tested c.args.self.at c.cross.result c.args.self.breadth strip.at breadth cross c.if-at-lt0.false c.if-self-at.false in
+    let back_x = back_tested c.args.self.back.x c.turned-onward.result.x c.greater-back_x.result strip.back_x onward_x f5
+    c.greater-back_x.ensures.first c.greater-back_x.ensures.second c.if-back_x-gt1.false in
+    let back_y = back_tested c.args.self.back.y c.turned-onward.result.y c.greater-back_y.result strip.back_y onward_y f6
+    c.greater-back_y.ensures.first c.greater-back_y.ensures.second c.if-back_y-gt1.false in
+    simp to_z-of_z (strip_before c.args.self (c.args.self.at -ℤ c.cross.result) c.greater-back_x.result c.greater-back_y.result strip here back_x.1 back_y.1)
+
+pub returns-clause-stays : goal.returns-clause-stays
+returns-clause-stays c = λ path count is stays.
+    let strip = c.requires.strip in
+    let least = strip.at.least in
+    let most = strip.at.most in
+    let some = strip.some in
+    let breadth = breadth_most c.args.self strip in
+    let cross = cross_most c.args.self.way c.args.step c.cross.result strip.short c.requires.step c.cross.ensures in
+    let onward_x = onward_most _ _ c.turned-onward.result.x strip.quarter.right c.requires.step.x c.turned-onward.ensures.x in
+    let onward_y = onward_most _ _ c.turned-onward.result.y strip.quarter.up c.requires.step.y c.turned-onward.ensures.y in
+    let f1 : FitsSigned w64 c.args.self.breadth = omega (arith, ints) in
+    let f2 : FitsSigned w64 c.args.self.at = omega (arith, ints) in
+    let f3 : FitsSigned w64 c.cross.result = omega (arith, ints) in
+    let f4 : FitsSigned w64 (c.args.self.at -ℤ c.cross.result) = omega (arith, ints) in
+    let f5 : FitsSigned w64 c.greater-back_x.result = omega (arith, ints) in
+    let f6 : FitsSigned w64 c.greater-back_y.result = omega (arith, ints) in
+    let here = at_tested c.args.self.at c.cross.result c.args.self.breadth strip.at breadth cross c.if-at-lt0.false c.if-self-at.false in
+    let back_x = back_tested c.args.self.back.x c.turned-onward.result.x c.greater-back_x.result strip.back_x onward_x f5
+    c.greater-back_x.ensures.first c.greater-back_x.ensures.second c.if-back_x-gt1.false in
+    let back_y = back_tested c.args.self.back.y c.turned-onward.result.y c.greater-back_y.result strip.back_y onward_y f6
+    c.greater-back_y.ensures.first c.greater-back_y.ensures.second c.if-back_y-gt1.false in
+    let at_is : (c.args.self.at -ℤ c.cross.result) ≡ c.args.self.at -ℤ cross_of c.args.self.way c.args.step =
+    ap (λ z. c.args.self.at -ℤ z) c.cross.ensures in
+    let x_more = subst (λ (z : ℤ). (c.args.self.back.x -ℤ z) ≤ℤ c.greater-back_x.result) c.turned-onward.ensures.x back_x.0 in
+    let y_more = subst (λ (z : ℤ). (c.args.self.back.y -ℤ z) ≤ℤ c.greater-back_y.result) c.turned-onward.ensures.y back_y.0 in
+    let e : count + 1 ≡ suc count = omega arith in
+    rw e (simp to_z-of_z (stays_before c.args.self (c.args.self.at -ℤ c.cross.result) c.greater-back_x.result c.greater-back_y.result c.args.step path count is
+    at_is here back_x.1.least x_more back_x.1.most back_y.1.least y_more back_y.1.most stays))

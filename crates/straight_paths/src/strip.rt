@@ -1,0 +1,306 @@
+//! Strips of the plane that hold what is straight from a point on.
+//
+// A path that goes back by 1 at most and stays in such a strip is clear: of three of its points the middle one is
+// near the half-line from the first to the last. A strip that holds what is straight from a point on mostly holds
+// the point before as well, so one sum tells that nothing ends sooner there.
+ghost use Rattle.std.specs.Prelude.{◌≡◌, ◌⊎◌, ◌+◌, ◌^◌, ◌<◌, ◌≤◌, ◌+ℤ◌, ◌*ℤ◌, neg_ℤ, ◌≤ℤ◌, ℕ, ℤ, suc, pos, length, IfSome};
+ghost use Rattle.pt_base.specs.declared.point.Point.{Point};
+ghost use Rattle.straight_paths.specs.Cones.{IsShort};
+ghost use Rattle.straight_paths.specs.Corners.{step_from};
+ghost use Rattle.straight_paths.specs.Straight.{path_from};
+ghost use Rattle.straight_paths.specs.Strips.{IsExtent, IsFromTo, IsSmallExtent, IsSpan, IsStrip, StaysIn, TakesIn, no_span};
+ghost use Rattle.straight_paths.specs.Wedges.{IsQuarter};
+ghost use Rattle.straight_paths.specs.declared.offset.Offset.{Offset};
+ghost use Rattle.straight_paths.specs.declared.quarter.Quarter.{Quarter};
+
+use crate::offset::Offset;
+use crate::quarter::Quarter;
+use crate::track::Track;
+
+/// A subpath of fewer steps gets the strip along its chord alone.
+const SHORT: usize = 8;
+
+/// A strip, as it is seen from a point of the path in it. A place lies in it where the cross product of the strip's
+/// way with the way to the place is from `-at` to `breadth - at`.
+#[derive(Clone, Copy)]
+pub(crate) struct Strip {
+    /// The quarter into which its way goes.
+    pub quarter: Quarter,
+    pub way: Offset,
+    /// What the way goes along rows and columns together.
+    pub breadth: i64,
+    /// How far the point is from the border on its right.
+    pub at: i64,
+    /// How far later points are behind this one at most, along rows and along columns: 0 or 1.
+    pub back: Offset,
+}
+
+/// The least and the greatest of some numbers, 0 among them.
+#[derive(Clone, Copy)]
+pub(crate) struct Span {
+    pub least: i64,
+    pub greatest: i64,
+}
+
+/// How far a path goes to each side, seen from its start: across a way, and to the right and up in a quarter.
+#[derive(Clone, Copy)]
+pub(crate) struct Extent {
+    pub across: Span,
+    pub right: Span,
+    pub up: Span,
+}
+
+impl Strip {
+    /// The same seen from one step earlier, if that point lies in it and later ones are behind it by 1 at most.
+    pub(crate) fn earlier(self, step: Offset) -> Option<Strip>
+        requires strip { IsStrip self }
+        requires step { IsShort 1 step }
+        ensures strip { IfSome result IsStrip }
+        ensures stays { IfSome result (λ strip. (path : ℕ → Point) (count : ℕ) → step ≡ step_from path 0
+            → StaysIn self (λ k. path (suc k)) count → StaysIn strip path (count + 1)) }
+    {
+        let at = self.at - self.way.cross(step);
+        if at < 0 {
+            return None;
+        }
+        if self.breadth < at {
+            return None;
+        }
+        let onward = self.quarter.turned(step);
+        let back_x = greater(0, self.back.x - onward.x);
+        if 1 < back_x {
+            return None;
+        }
+        let back_y = greater(0, self.back.y - onward.y);
+        if 1 < back_y {
+            return None;
+        }
+        Some(Strip {
+            quarter: self.quarter,
+            way: self.way,
+            breadth: self.breadth,
+            at,
+            back: Offset {
+                x: back_x,
+                y: back_y,
+            },
+        })
+    }
+}
+
+impl Span {
+    /// Of 0 alone.
+    fn at_zero() -> Span
+        ensures { result ≡ no_span }
+    {
+        Span {
+            least: 0,
+            greatest: 0,
+        }
+    }
+
+    /// The same with a further number.
+    fn with(self, number: i64) -> Span
+        requires { self.least ≤ℤ self.greatest }
+        ensures takes_in { TakesIn self number result }
+        ensures within { (low high : ℤ) → IsSpan low high self → IsFromTo low high number → IsSpan low high result }
+    {
+        if number < self.least {
+            return Span {
+                least: number,
+                greatest: self.greatest,
+            };
+        }
+        if self.greatest < number {
+            return Span {
+                least: self.least,
+                greatest: number,
+            };
+        }
+        self
+    }
+}
+
+impl Extent {
+    /// Of a path's start alone.
+    fn at_start() -> Extent
+        ensures { (quarter : Quarter) (way : Offset) (path : ℕ → Point) → IsExtent quarter way path 0 result }
+    {
+        Extent {
+            across: Span::at_zero(),
+            right: Span::at_zero(),
+            up: Span::at_zero(),
+        }
+    }
+
+    /// The same with a further place, which is so far across the way and onward in the quarter, if that isn't more
+    /// than 1 behind the others.
+    fn with(self, across: i64, onward: Offset) -> Option<Extent>
+        requires small { IsSmallExtent self }
+        requires across { IsFromTo (neg_ℤ (pos (2 ^ 34))) (pos (2 ^ 34)) across }
+        requires onward { IsShort 65536 onward }
+        ensures small { IfSome result IsSmallExtent }
+        ensures across { IfSome result (λ extent. TakesIn self.across across extent.across) }
+        ensures right { IfSome result (λ extent. TakesIn self.right onward.x extent.right) }
+        ensures up { IfSome result (λ extent. TakesIn self.up onward.y extent.up) }
+        ensures on_right { IfSome result (λ _. self.right.greatest ≤ℤ (onward.x +ℤ pos 1)) }
+        ensures on_up { IfSome result (λ _. self.up.greatest ≤ℤ (onward.y +ℤ pos 1)) }
+    {
+        if onward.x + 1 < self.right.greatest {
+            return None;
+        }
+        if onward.y + 1 < self.up.greatest {
+            return None;
+        }
+        Some(Extent {
+            across: self.across.with(across),
+            right: self.right.with(onward.x),
+            up: self.up.with(onward.y),
+        })
+    }
+
+    /// The strip along the way that takes in all of it, with as much room on the one side as on the other, if there
+    /// is one.
+    fn strip(self, quarter: Quarter, way: Offset) -> Option<Strip>
+        requires small { IsSmallExtent self }
+        requires quarter { IsQuarter quarter }
+        requires right { pos 0 ≤ℤ (quarter.right *ℤ way.x) }
+        requires up { pos 0 ≤ℤ (quarter.up *ℤ way.y) }
+        requires short { IsShort 65535 way }
+        ensures strip { IfSome result IsStrip }
+        ensures stays { IfSome result (λ strip. (path : ℕ → Point) (count : ℕ)
+            → IsExtent quarter way path count self → StaysIn strip path count) }
+    {
+        let breadth = quarter.far(way);
+        if breadth < 1 {
+            return None;
+        }
+        let room = breadth - (self.across.greatest - self.across.least);
+        if room < 0 {
+            return None;
+        }
+        Some(Strip {
+            quarter,
+            way,
+            breadth,
+            at: half(room) - self.across.least,
+            back: Offset {
+                x: -self.right.least,
+                y: -self.up.least,
+            },
+        })
+    }
+}
+
+/// Half of a number, rounded down.
+fn half(number: i64) -> i64
+    requires { pos 0 ≤ℤ number }
+    ensures some { pos 0 ≤ℤ result }
+    ensures most { result ≤ℤ number }
+{
+    number / 2
+}
+
+/// The greater of two numbers.
+fn greater(a: i64, b: i64) -> i64
+    ensures first { a ≤ℤ result }
+    ensures second { b ≤ℤ result }
+    ensures one { (result ≡ a) ⊎ (result ≡ b) }
+{
+    if a < b { b } else { a }
+}
+
+/// A strip in which the path from this point stays for so many steps, if one of those that are tried is one: that
+/// along the chord, and along the ways farthest to the left and to the right.
+pub(crate) fn strip_from(track: &Track, first: usize, steps: usize) -> Option<Strip>
+    requires first { first < length track.now }
+    requires steps { steps < length track.now }
+    ensures strip { IfSome result IsStrip }
+    ensures stays { IfSome result (λ strip. StaysIn strip (path_from track.now first) steps) }
+{
+    let chord = track.way(first, steps);
+    if steps < SHORT {
+        return strip_along(track, first, steps, chord);
+    }
+    if let Some(strip) = strip_along(track, first, steps, levelled(chord)) {
+        return Some(strip);
+    }
+    if let Some(strip) = strip_along(track, first, steps, leftmost(track, first, steps)) {
+        return Some(strip);
+    }
+    strip_along(track, first, steps, rightmost(track, first, steps))
+}
+
+/// The way along a row or a column where this one is within 1 of it; else the way itself.
+fn levelled(way: Offset) -> Offset
+    requires { IsShort 65535 way }
+    ensures { IsShort 65535 result }
+{
+    if -1 <= way.y && way.y <= 1 {
+        return Offset { x: way.x, y: 0 };
+    }
+    if -1 <= way.x && way.x <= 1 {
+        return Offset { x: 0, y: way.y };
+    }
+    way
+}
+
+/// Of the ways from this point to the next corners, and to the last point of so many steps, the one farthest to the
+/// left.
+fn leftmost(track: &Track, first: usize, most: usize) -> Offset
+    requires first { first < length track.now }
+    requires most { most < length track.now }
+    ensures { IsShort 65535 result }
+{
+    let mut steps = 0;
+    let mut outer = track.way(first, most);
+    while steps < most {
+        steps = track.run_end(first, steps, most);
+        let way = track.way(first, steps);
+        if 0 < outer.cross(way) {
+            outer = way;
+        }
+    }
+    outer
+}
+
+/// The same, farthest to the right.
+fn rightmost(track: &Track, first: usize, most: usize) -> Offset
+    requires first { first < length track.now }
+    requires most { most < length track.now }
+    ensures { IsShort 65535 result }
+{
+    let mut steps = 0;
+    let mut outer = track.way(first, most);
+    while steps < most {
+        steps = track.run_end(first, steps, most);
+        let way = track.way(first, steps);
+        if outer.cross(way) < 0 {
+            outer = way;
+        }
+    }
+    outer
+}
+
+/// The strip along a way in which the path from this point stays for so many steps, if it does.
+fn strip_along(track: &Track, first: usize, most: usize, way: Offset) -> Option<Strip>
+    requires first { first < length track.now }
+    requires most { most < length track.now }
+    requires short { IsShort 65535 way }
+    ensures strip { IfSome result IsStrip }
+    ensures stays { IfSome result (λ strip. StaysIn strip (path_from track.now first) most) }
+{
+    let quarter = Quarter::of(way);
+    let mut extent = Extent::at_start();
+    let mut steps = 0;
+    while steps < most {
+        let next = track.run_end(first, steps, most);
+        let place = track.way(first, next);
+        let Some(farther) = extent.with(way.cross(place), quarter.turned(place)) else {
+            return None;
+        };
+        extent = farther;
+        steps = next;
+    }
+    extent.strip(quarter, way)
+}
