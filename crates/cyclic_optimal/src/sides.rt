@@ -1,0 +1,79 @@
+//! The possible segments of a path, counted on past its end, and what they count.
+ghost use Rattle.std.specs.Prelude.{◌≡◌, ◌+◌, ◌*◌, ◌<◌, ◌≤◌, ◌^◌, length, IfNone, IfOk, IfSome};
+ghost use Rattle.pt_base.specs.ClosedWalk.{IsClosedWalk};
+ghost use Rattle.pt_base.specs.OnPage.{AreOnPage};
+ghost use Rattle.straight_paths.specs.Straight.{IsPossible};
+ghost use Rattle.cyclic_optimal.specs.Fronts.{IsLongest, worth_of};
+
+use prefix_moments::moments::Moments;
+use pt_base::fault::NoMemory;
+use pt_base::point::Point;
+use std::alloc::Global;
+use straight_paths::reach::Reach;
+
+/// The possible segments of a closed walk, and their penalties.
+#[derive(Drop)]
+pub(crate) struct Sides {
+    moments: Moments,
+    reach: Reach,
+    pub(crate) size: usize,
+    ghost some: { 1 ≤ length moments },
+    ghost few: { length moments ≤ 2 ^ 31 },
+    ghost on_page: { AreOnPage moments },
+    ghost one_path: { reach ≡ moments },
+    ghost points: { size ≡ length moments },
+}
+
+impl Sides {
+    /// Measures a closed walk on a page.
+    pub(crate) fn of(alloc: Global, points: &[Point]) -> Result<Sides, NoMemory>
+        requires closed { IsClosedWalk points.now }
+        requires on_page { AreOnPage points.now }
+        ensures { IfOk result (λ sides. sides.moments ≡ points.now) }
+    {
+        let moments = Moments::of(alloc, points)?;
+        let reach = Reach::of(alloc, points)?;
+        Ok(Sides {
+            moments,
+            reach,
+            size: points.len(),
+        })
+    }
+
+    /// Where the longest segment from point `i` leads, in the first lap or in the second.
+    pub(crate) fn last(&self, i: usize) -> usize
+        requires { i < 2 * length self.now.moments }
+        ensures { IsLongest self.now.moments i result }
+    {
+        if i < self.size {
+            i + self.reach.far(i as u32) as usize
+        } else {
+            i + self.reach.far((i - self.size) as u32) as usize
+        }
+    }
+
+    /// What the segment from point `i` to point `j` counts; or nothing, where its penalty alone reaches a limit.
+    //
+    // The penalty is compared before it is worked out, so no root is taken of one that is too high.
+    pub(crate) fn worth_below(&self, i: usize, j: usize, limit: u128) -> Option<u128>
+        requires start { i < 2 * length self.now.moments }
+        requires possible { IsPossible self.now.moments i j }
+        ensures some { IfSome result (λ worth. worth ≡ worth_of self.now.moments i j) }
+        ensures most { IfSome result (λ worth. worth < 2 ^ 89) }
+        ensures none { IfNone result (limit ≤ worth_of self.now.moments i j) }
+    {
+        let most = (limit / (1 << 32)).min((1 << 56) - 1) as u64 + 1;
+        if i < self.size {
+            let Some(penalty) = self.moments.penalty_below(i as u32, j as u32, most) else {
+                return None;
+            };
+            Some(u128::from(penalty) * (1 << 32) + j.saturating_sub(self.size) as u128)
+        } else {
+            let (from, to) = ((i - self.size) as u32, (j - self.size) as u32);
+            let Some(penalty) = self.moments.penalty_below(from, to, most) else {
+                return None;
+            };
+            Some(u128::from(penalty) * (1 << 32))
+        }
+    }
+}
