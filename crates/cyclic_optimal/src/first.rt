@@ -11,6 +11,7 @@ ghost use Rattle.cyclic_optimal.specs.Fronts.{IsBestAmong, IsBestFrom};
 
 use crate::fronts::{best_by, tops};
 use crate::sides::Sides;
+use prefix_moments::moments::Moments;
 use pt_base::fault::NoMemory;
 use pt_base::point::Point;
 use std::alloc::Global;
@@ -24,13 +25,18 @@ pub(crate) struct Best {
 }
 
 /// The first vertex of the least cyclic polygon.
-pub(crate) fn first_vertex(alloc: Global, points: &[Point]) -> Result<u32, NoMemory>
+pub(crate) fn first_vertex(
+    alloc: Global,
+    points: &[Point],
+    moments: &Moments,
+) -> Result<u32, NoMemory>
     requires closed { IsClosedWalk points.now }
     requires on_page { AreOnPage points.now }
+    requires moments { moments.now ≡ points.now }
     ensures first { IfOk result (IsFirstVertex points.now) }
     ensures point { IfOk result (λ first. first < length points.now) }
 {
-    let sides = Sides::of(alloc, points)?;
+    let sides = Sides::of(alloc, points, moments)?;
     let before = narrowest(&sides);
     let best = best_among(alloc, &sides, before + 1, sides.last(before) + 1)?;
     Ok((best.worth % (1 << 32)) as u32)
@@ -38,8 +44,8 @@ pub(crate) fn first_vertex(alloc: Global, points: &[Point]) -> Result<u32, NoMem
 
 /// A point from which no segment leads past the path's end, and of these one whose longest segment is shortest.
 fn narrowest(sides: &Sides) -> usize
-    ensures point { result < length sides.now.moments }
-    ensures within { (j : ℕ) → IsPossible sides.now.moments result j → j < length sides.now.moments }
+    ensures point { result < length sides.now.moments.now }
+    ensures within { (j : ℕ) → IsPossible sides.now.moments.now result j → j < length sides.now.moments.now }
 {
     let mut narrowest = 0;
     let mut width = sides.last(0);
@@ -56,8 +62,8 @@ fn narrowest(sides: &Sides) -> usize
 /// The best way once round from one of the points from `low` to before `high`.
 fn best_among(alloc: Global, sides: &Sides, low: usize, high: usize) -> Result<Best, NoMemory>
     requires some { low < high }
-    requires within { high ≤ length sides.now.moments }
-    ensures { IfOk result (IsBestAmong sides.now.moments low high) }
+    requires within { high ≤ length sides.now.moments.now }
+    ensures { IfOk result (IsBestAmong sides.now.moments.now low high) }
 {
     let ways = tops(alloc, sides, low)?;
     let mut best = best_by(alloc, sides, low, &ways)?;

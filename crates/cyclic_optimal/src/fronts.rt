@@ -33,12 +33,12 @@ struct Front {
 
 /// The farthest points from `start` after no segment, after one, and so on to the same point a lap on.
 pub(crate) fn tops(alloc: Global, sides: &Sides, start: usize) -> Result<Vec<usize>, NoMemory>
-    requires { start < length sides.now.moments }
+    requires { start < length sides.now.moments.now }
     ensures some { IfOk result (λ tops. 1 ≤ length tops.items) }
-    ensures tops { IfOk result (λ tops. AreTops sides.now.moments start
-        (start + length sides.now.moments) (length tops.items - 1) tops.items) }
-    ensures fewest { IfOk result (λ tops. IsFewestFrom (start + length sides.now.moments)
-        (IsPossible sides.now.moments) start (length tops.items - 1)) }
+    ensures tops { IfOk result (λ tops. AreTops sides.now.moments.now start
+        (start + length sides.now.moments.now) (length tops.items - 1) tops.items) }
+    ensures fewest { IfOk result (λ tops. IsFewestFrom (start + length sides.now.moments.now)
+        (IsPossible sides.now.moments.now) start (length tops.items - 1)) }
 {
     let end = start + sides.size;
     let mut tops = Vec::new(alloc);
@@ -60,13 +60,13 @@ pub(crate) fn best_by(
     start: usize,
     tops: &[usize],
 ) -> Result<Best, NoMemory>
-    requires start { start < length sides.now.moments }
+    requires start { start < length sides.now.moments.now }
     requires some { 1 ≤ length tops.now }
-    requires tops { AreTops sides.now.moments start (start + length sides.now.moments)
+    requires tops { AreTops sides.now.moments.now start (start + length sides.now.moments.now)
         (length tops.now - 1) tops.now }
-    requires fewest { IsFewestFrom (start + length sides.now.moments)
-        (IsPossible sides.now.moments) start (length tops.now - 1) }
-    ensures { IfOk result (IsBestFrom sides.now.moments start) }
+    requires fewest { IsFewestFrom (start + length sides.now.moments.now)
+        (IsPossible sides.now.moments.now) start (length tops.now - 1) }
+    ensures { IfOk result (IsBestFrom sides.now.moments.now start) }
 {
     let count = tops.len() - 1;
     let end = start + sides.size;
@@ -87,14 +87,14 @@ pub(crate) fn best_by(
 
 /// The front before this one, up to `top`.
 fn earlier(alloc: Global, sides: &Sides, top: usize, later: &Front) -> Result<Front, NoMemory>
-    requires top { top < 2 * length sides.now.moments }
+    requires top { top < 2 * length sides.now.moments.now }
     requires end { later.now.end < 2 ^ 33 }
     requires left { later.now.left < 2 ^ 31 }
     requires few { later.now.low + length later.now.least.items ≤ 2 ^ 33 }
-    requires front { IsFrontOf sides.now.moments later.now }
-    requires reached { (i j : ℕ) → i ≤ top → IsPossible sides.now.moments i j → j ≤ later.now.end
+    requires front { IsFrontOf sides.now.moments.now later.now }
+    requires reached { (i j : ℕ) → i ≤ top → IsPossible sides.now.moments.now i j → j ≤ later.now.end
         → j < later.now.low + length later.now.least.items }
-    ensures front { IfOk result (IsFrontOf sides.now.moments) }
+    ensures front { IfOk result (IsFrontOf sides.now.moments.now) }
     ensures end { IfOk result (λ front. front.end ≡ later.now.end) }
     ensures left { IfOk result (λ front. front.left ≡ later.now.left + 1) }
     ensures top { IfOk result (λ front. front.low + length front.least.items ≡ top + 1) }
@@ -114,9 +114,9 @@ fn earlier(alloc: Global, sides: &Sides, top: usize, later: &Front) -> Result<Fr
 
 /// The first point, or the one after `top`, from which on segments lead to `goal` and beyond.
 fn lowest(sides: &Sides, top: usize, goal: usize) -> usize
-    requires top { top < 2 * length sides.now.moments }
+    requires top { top < 2 * length sides.now.moments.now }
     ensures most { result ≤ top + 1 }
-    ensures short { (i j : ℕ) → i < result → IsPossible sides.now.moments i j → j < goal }
+    ensures short { (i j : ℕ) → i < result → IsPossible sides.now.moments.now i j → j < goal }
 {
     let mut low = top + 1;
     while low > 0 && sides.last(low - 1) >= goal {
@@ -127,14 +127,14 @@ fn lowest(sides: &Sides, top: usize, goal: usize) -> usize
 
 /// What the least way from this point counts, by a segment to the next front.
 fn cheapest(sides: &Sides, i: usize, later: &Front) -> u128
-    requires point { i < 2 * length sides.now.moments }
+    requires point { i < 2 * length sides.now.moments.now }
     requires end { later.now.end < 2 ^ 33 }
     requires left { later.now.left < 2 ^ 31 }
     requires few { later.now.low + length later.now.least.items ≤ 2 ^ 33 }
-    requires front { IsFrontOf sides.now.moments later.now }
-    requires reached { (j : ℕ) → IsPossible sides.now.moments i j → j ≤ later.now.end
+    requires front { IsFrontOf sides.now.moments.now later.now }
+    requires reached { (j : ℕ) → IsPossible sides.now.moments.now i j → j ≤ later.now.end
         → j < later.now.low + length later.now.least.items }
-    ensures { IsLeastBy sides.now.moments later.now.end (later.now.left + 1) i result }
+    ensures { IsLeastBy sides.now.moments.now later.now.end (later.now.left + 1) i result }
 {
     let begin = later.low.max(i + 1);
     let beyond = (sides.last(i) + 1).min(later.low + later.least.len());
@@ -148,12 +148,12 @@ fn cheapest(sides: &Sides, i: usize, later: &Front) -> u128
 /// What the way by the segment from point `i` to point `j` counts, where the rest counts so much; or `best`, where
 /// that is no more.
 fn lower(sides: &Sides, i: usize, j: usize, rest: u128, best: u128) -> u128
-    requires point { i < 2 * length sides.now.moments }
-    requires possible { IsPossible sides.now.moments i j }
+    requires point { i < 2 * length sides.now.moments.now }
+    requires possible { IsPossible sides.now.moments.now i j }
     requires most { rest < best → rest ≤ 2 ^ 120 }
-    ensures lower { worth_of sides.now.moments i j + rest < best
-        → result ≡ worth_of sides.now.moments i j + rest }
-    ensures same { best ≤ worth_of sides.now.moments i j + rest → result ≡ best }
+    ensures lower { worth_of sides.now.moments.now i j + rest < best
+        → result ≡ worth_of sides.now.moments.now i j + rest }
+    ensures same { best ≤ worth_of sides.now.moments.now i j + rest → result ≡ best }
 {
     if best <= rest {
         return best;

@@ -13,25 +13,29 @@ use straight_paths::reach::Reach;
 
 /// The possible segments of a closed walk, and their penalties.
 #[derive(Drop)]
-pub(crate) struct Sides {
-    moments: Moments,
+pub(crate) struct Sides<'a> {
+    pub(crate) moments: &'a Moments,
     reach: Reach,
     pub(crate) size: usize,
-    ghost some: { 1 ≤ length moments },
-    ghost few: { length moments ≤ 2 ^ 31 },
-    ghost on_page: { AreOnPage moments },
-    ghost one_path: { reach ≡ moments },
-    ghost points: { size ≡ length moments },
+    ghost some: { 1 ≤ length moments.now },
+    ghost few: { length moments.now ≤ 2 ^ 31 },
+    ghost on_page: { AreOnPage moments.now },
+    ghost one_path: { reach ≡ moments.now },
+    ghost points: { size ≡ length moments.now },
 }
 
-impl Sides {
-    /// Measures a closed walk on a page.
-    pub(crate) fn of(alloc: Global, points: &[Point]) -> Result<Sides, NoMemory>
+impl<'a> Sides<'a> {
+    /// Measures a closed walk on a page, by the sums that are made of it.
+    pub(crate) fn of(
+        alloc: Global,
+        points: &[Point],
+        moments: &'a Moments,
+    ) -> Result<Sides<'a>, NoMemory>
         requires closed { IsClosedWalk points.now }
         requires on_page { AreOnPage points.now }
-        ensures { IfOk result (λ sides. sides.moments ≡ points.now) }
+        requires moments { moments.now ≡ points.now }
+        ensures { IfOk result (λ sides. sides.moments.now ≡ points.now) }
     {
-        let moments = Moments::of(alloc, points)?;
         let reach = Reach::of(alloc, points)?;
         Ok(Sides {
             moments,
@@ -42,8 +46,8 @@ impl Sides {
 
     /// Where the longest segment from point `i` leads, in the first lap or in the second.
     pub(crate) fn last(&self, i: usize) -> usize
-        requires { i < 2 * length self.now.moments }
-        ensures { IsLongest self.now.moments i result }
+        requires { i < 2 * length self.now.moments.now }
+        ensures { IsLongest self.now.moments.now i result }
     {
         if i < self.size {
             i + self.reach.far(i as u32) as usize
@@ -56,11 +60,11 @@ impl Sides {
     //
     // The penalty is compared before it is worked out, so no root is taken of one that is too high.
     pub(crate) fn worth_below(&self, i: usize, j: usize, limit: u128) -> Option<u128>
-        requires start { i < 2 * length self.now.moments }
-        requires possible { IsPossible self.now.moments i j }
-        ensures some { IfSome result (λ worth. worth ≡ worth_of self.now.moments i j) }
+        requires start { i < 2 * length self.now.moments.now }
+        requires possible { IsPossible self.now.moments.now i j }
+        ensures some { IfSome result (λ worth. worth ≡ worth_of self.now.moments.now i j) }
         ensures most { IfSome result (λ worth. worth < 2 ^ 89) }
-        ensures none { IfNone result (limit ≤ worth_of self.now.moments i j) }
+        ensures none { IfNone result (limit ≤ worth_of self.now.moments.now i j) }
     {
         let most = (limit / (1 << 32)).min((1 << 56) - 1) as u64 + 1;
         if i < self.size {

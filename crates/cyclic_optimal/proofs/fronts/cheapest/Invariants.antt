@@ -5,6 +5,6 @@ use Rattle.cyclic_optimal.proofs.fronts.cheapest.Given as goal
 
 abbrev pub invariant-loop-j : goal.invariant-loop-j
 invariant-loop-j l = record {
-  least : IsLeastVia l.sides.moments l.later.end l.later.left l.i l.j l.cheapest;
+  least : IsLeastVia l.sides.moments.now l.later.end l.later.left l.i l.j l.cheapest;
   most : l.cheapest ≤ NONE;
 }
