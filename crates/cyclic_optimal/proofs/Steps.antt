@@ -1,14 +1,11 @@
 -- What possible segments reach, and ways over the farthest points.
 use Rattle.std.proofs.Common.{◌≡◌, ℕ, zero, suc, ◌+◌, ◌-◌, ◌<◌, ◌≤◌, List, [], ◌∷◌, ◌++◌, length, length-append, refl, ap, sym, ◌∙◌, subst, inl, inr, arith}
-use Rattle.std.proofs.Math.Path.{fun_ext}
 use Rattle.std.proofs.Math.ListN.{get_or-append}
 use Rattle.std.proofs.Math.Seq.{get_or-append_seam}
 use Rattle.std.proofs.lemmas.Bool.{cases_lt}
 use Rattle.std.specs.Prelude.{slice_index}
 use Rattle.pt_base.specs.declared.point.Point.{Point}
-use Rattle.pt_base.specs.ClosedWalk.{point_at}
-use Rattle.straight_paths.specs.Straight.{IsPossible, IsStraight, path_from}
-use Rattle.straight_paths.proofs.Pieces.{rest_of, without_first}
+use Rattle.straight_paths.specs.Straight.{IsPossible}
 use Rattle.straight_paths.proofs.Far.{shorter_possible}
 use Rattle.polygon_optimal.proofs.Rising.{later_possible}
 use Rattle.least_walk.specs.Suffix.{GoesOn, IsFewestFrom}

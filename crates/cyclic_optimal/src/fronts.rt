@@ -80,7 +80,7 @@ pub(crate) fn best_by(
         front = earlier(alloc, sides, tops[c], &front)?;
     }
     Ok(Best {
-        count: count as u32,
+        count,
         worth: front.least[start - front.low],
     })
 }

@@ -13,7 +13,7 @@ use Rattle.least_walk.proofs.Going.{goes_below}
 use Rattle.polygon_optimal.specs.Polygon.{penalty_of}
 use Rattle.cyclic_optimal.specs.Cyclic.{IsCyclicPolygon, round_penalty}
 use Rattle.cyclic_optimal.specs.First.{IsFirstVertex}
-use Rattle.cyclic_optimal.specs.Fronts.{IsBestAmong, IsBestFrom, worth_of}
+use Rattle.cyclic_optimal.specs.Fronts.{IsBestAmong, worth_of}
 use Rattle.cyclic_optimal.specs.declared.first.Best.{Best}
 use Rattle.cyclic_optimal.proofs.Ways.{on_by, goes_to_last, goes_moved, goes_anew, cost_anew}
 use Rattle.cyclic_optimal.proofs.Rounds.{Crosses, FromRound, crossing, from_round, round_of, may_lap, may_back, pen_lap}
@@ -216,109 +216,3 @@ module _ (points : List Point) where
 
     pub first_below : best.worth % 2 ^ 32 < length points
     first_below = omega (arith, first_is, first_small)
-
-  -- the best of more starts
-  module _ (low s : ℕ) (best : Best) (above : low ≤ s) where
-    pub among_one : (next : Best) → low ≡ s → IsBestFrom points s next → IsBestAmong points low (s + 1) next
-    among_one next here from = record {
-      start = s;
-      above = above;
-      under = omega arith;
-      way = from.way;
-      goes = from.goes;
-      count = from.count;
-      worth = from.worth;
-      fewest = λ t r a b goes.
-          (let is : t ≡ s = omega arith in
-          from.fewest r (subst (λ m. GoesOn (m + length points) (IsPossible points) m r) is goes));
-      least = λ t r a b goes counted.
-          (let is : t ≡ s = omega arith in
-          let less = from.least r (subst (λ m. GoesOn (m + length points) (IsPossible points) m r) is goes) counted in
-          omega (arith, ap (λ m. total_cost (worth_of points) (m ∷ r)) is));
-    }
-
-    module _ (among : IsBestAmong points low s best) where
-      -- one from which there are more segments, or as many that count no less
-      pub among_kept : ((r : List ℕ) → GoesOn (s + length points) (IsPossible points) s r → best.count ≤ length r)
-          → ((r : List ℕ) → GoesOn (s + length points) (IsPossible points) s r → length r ≡ best.count
-          → best.worth ≤ total_cost (worth_of points) (s ∷ r))
-          → IsBestAmong points low (s + 1) best
-      among_kept more dearer = record {
-        start = among.start;
-        above = among.above;
-        under = omega (arith, among.under);
-        way = among.way;
-        goes = among.goes;
-        count = among.count;
-        worth = among.worth;
-        fewest = λ t r a b goes. elim (cases_lt t s) [
-          | inl earlier ↦ among.fewest t r a earlier goes
-          | inr late ↦
-              let is : t ≡ s = omega arith in
-              more r (subst (λ m. GoesOn (m + length points) (IsPossible points) m r) is goes)
-        ];
-        least = λ t r a b goes counted. elim (cases_lt t s) [
-          | inl earlier ↦ among.least t r a earlier goes counted
-          | inr late ↦
-              let is : t ≡ s = omega arith in
-              let less = dearer r (subst (λ m. GoesOn (m + length points) (IsPossible points) m r) is goes) counted in
-              omega (arith, ap (λ m. total_cost (worth_of points) (m ∷ r)) is)
-        ];
-      }
-
-      -- one that is better
-      among_taken : (next : Best) → IsBestFrom points s next
-          → ((t : ℕ) (r : List ℕ) → low ≤ t → t < s → GoesOn (t + length points) (IsPossible points) t r → next.count ≤ length r)
-          → ((t : ℕ) (r : List ℕ) → low ≤ t → t < s → GoesOn (t + length points) (IsPossible points) t r → length r ≡ next.count
-          → next.worth ≤ total_cost (worth_of points) (t ∷ r))
-          → IsBestAmong points low (s + 1) next
-      among_taken next from more dearer = record {
-        start = s;
-        above = above;
-        under = omega arith;
-        way = from.way;
-        goes = from.goes;
-        count = from.count;
-        worth = from.worth;
-        fewest = λ t r a b goes. elim (cases_lt t s) [
-          | inl earlier ↦ more t r a earlier goes
-          | inr late ↦
-              let is : t ≡ s = omega arith in
-              from.fewest r (subst (λ m. GoesOn (m + length points) (IsPossible points) m r) is goes)
-        ];
-        least = λ t r a b goes counted. elim (cases_lt t s) [
-          | inl earlier ↦ dearer t r a earlier goes counted
-          | inr late ↦
-              let is : t ≡ s = omega arith in
-              let less = from.least r (subst (λ m. GoesOn (m + length points) (IsPossible points) m r) is goes) counted in
-              omega (arith, ap (λ m. total_cost (worth_of points) (m ∷ r)) is)
-        ];
-      }
-
-      pub among_better : (next chosen : Best) → IsBestFrom points s next
-          → (next.count < best.count → chosen ≡ next)
-          → (best.count < next.count → chosen ≡ best)
-          → (next.count ≡ best.count → next.worth < best.worth → chosen ≡ next)
-          → (next.count ≡ best.count → best.worth ≤ next.worth → chosen ≡ best)
-          → IsBestAmong points low (s + 1) chosen
-      among_better next chosen from fewer more lower kept =
-          elim (cases_lt next.count best.count) [
-            | inl few ↦ subst (IsBestAmong points low (s + 1)) (sym (fewer few))
-                (among_taken next from (λ t r a b goes. let least = among.fewest t r a b goes in omega arith)
-                (λ t r a b goes counted. let least = among.fewest t r a b goes in absurd (omega arith)))
-            | inr not_fewer ↦ elim (cases_lt best.count next.count) [
-              | inl many ↦ subst (IsBestAmong points low (s + 1)) (sym (more many))
-                  (among_kept (λ r goes. let least = from.fewest r goes in omega arith)
-                  (λ r goes counted. let least = from.fewest r goes in absurd (omega arith)))
-              | inr not_more ↦
-                  let tied : next.count ≡ best.count = omega arith in
-                  elim (cases_lt next.worth best.worth) [
-                    | inl cheap ↦ subst (IsBestAmong points low (s + 1)) (sym (lower tied cheap))
-                        (among_taken next from (λ t r a b goes. let least = among.fewest t r a b goes in omega arith)
-                        (λ t r a b goes counted. let least = among.least t r a b goes (omega arith) in omega arith))
-                    | inr dear ↦ subst (IsBestAmong points low (s + 1)) (sym (kept tied dear))
-                        (among_kept (λ r goes. let least = from.fewest r goes in omega arith)
-                        (λ r goes counted. let least = from.least r goes (omega arith) in omega arith))
-                  ]
-            ]
-          ]
