@@ -119,9 +119,10 @@ round_end_is points i rest k within = elim (cases_lt (k + 1) (suc (length rest))
       rw test (get_or-last rest (i + length points) k (omega arith) ∙ omega arith)
 ]
 
-round_segment_at : (points : List Point) (i : ℕ) (rest : List ℕ) (k : ℕ) → IsCyclicPolygon points (i ∷ rest) → k < suc (length rest)
-    → IsPossible points (slice_index (i ∷ rest) k) (segment_end_of points (i ∷ rest) k)
-round_segment_at points i rest k polygon within =
+pub round_segment_at : (points : List Point) (at : List ℕ) (k : ℕ) → IsCyclicPolygon points at → k < length at
+    → IsPossible points (slice_index at k) (segment_end_of points at k)
+round_segment_at points [] k polygon within = absurd (omega arith)
+round_segment_at points (i ∷ rest) k polygon within =
     let d : Step = record { from = 0; to = 0 } in
     let n : ℕ = i + length points in
     let count : length (steps_from i (rest ++ n ∷ [])) ≡ suc (length rest)
@@ -135,7 +136,7 @@ pub is_round_polygon : (points : List Point) (at : List ℕ) → IsCyclicPolygon
 is_round_polygon points [] polygon = absurd (omega (arith, polygon.some))
 is_round_polygon points (i ∷ rest) polygon = record {
   some = omega arith;
-  segments = λ k within. run k within (round_segment_at points i rest k polygon within);
+  segments = λ k within. run k within (round_segment_at points (i ∷ rest) k polygon within);
 } where
   run : (k : ℕ) → k < suc (length rest) → IsPossible points (slice_index (i ∷ rest) k) (segment_end_of points (i ∷ rest) k) → IsSegmentOf points (i ∷ rest) k
   run k within possible = record {
