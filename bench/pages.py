@@ -13,6 +13,7 @@ usage: pages.py KIND [NUMBER ..]
     stairs [SIDE]                   what lies under a line: SIDE pixels wide, a quarter of it high
     spiral, squares [SIDE [WALL]]   one path, or a nest of rings, between walls of WALL pixels, eight unless it is said
     comb [SIDE]                     teeth of eight pixels
+    disc RADIUS                     a disc
     white, checkerboard, dither WIDTH HEIGHT   hard on the search for paths: nothing, single pixels, two waves of gray
     bar, dust WIDTH HEIGHT          one black bar across, a third as high as the page; one pixel in 1,024 black by chance
     tiles PAGE WIDTH HEIGHT         a page of this module's, whose width goes into bytes, side by side until it fills a larger one
@@ -339,6 +340,18 @@ def bar(width, height):
     return width, height, (rows[height // 3 <= y < height - height // 3] for y in range(height))
 
 
+def disc_row(radius, y):
+    middle = radius + 0.5
+    half = math.sqrt(max(0, radius ** 2 - (y - middle) ** 2))
+    left, right = math.ceil(middle - half), math.floor(middle + half)
+    return bytearray(left) + bytearray(b"\1") * (right + 1 - left) + bytearray(2 * radius + 1 - right)
+
+
+def disc(radius):
+    side = 2 * radius + 2
+    return side, side, (disc_row(radius, y) for y in range(side))
+
+
 # Pages whose rows are bytes already.
 
 def dust_rows(width, height):
@@ -374,7 +387,7 @@ def tiles(page, width, height):
 KINDS = {
     "scan": scan, "map": land, "text": text, "logo": logo, "engraving": engraving, "photo": photo, "board": board,
     "stairs": stairs, "spiral": spiral, "squares": squares, "comb": comb,
-    "white": white, "checkerboard": checkerboard, "dither": dither, "bar": bar, "dust": dust, "tiles": tiles,
+    "white": white, "checkerboard": checkerboard, "dither": dither, "bar": bar, "disc": disc, "dust": dust, "tiles": tiles,
 }
 
 

@@ -43,8 +43,8 @@ _potrace() {
   fi
 
   if [[ $word == -* ]]; then
-    local names="--backend --svg --eps --output --turnpolicy --turdsize --alphamax --longcurve --opttolerance --unit
-      --blacklevel --invert --cleartext --flat --workers --demo --help --version
+    local names="--backend --svg --eps --output --turnpolicy --turdsize --alphamax --longcurve --opttolerance --cyclic
+      --unit --blacklevel --invert --cleartext --flat --workers --demo --help --version
       -b -s -e -o -z -t -a -n -O -u -k -i -c -h -v"
     mapfile -t COMPREPLY < <(compgen -W "$names" -- "$word")
     return

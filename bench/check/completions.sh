@@ -40,6 +40,7 @@ CASES = [
     ("potrace --workers ", "1 4 64", "128"),
     ("potrace --demo ", "1 8 64", "gray.PGM"),
     ("potrace --l", "--longcurve", "--level"),
+    ("potrace --c", "--cleartext --cyclic", "--curve"),
     ("potrace --", "--svg --eps --output --opttolerance --workers --demo --flat --help", "--turd "),
     ("potrace -s g", "gray.PGM", "notes.txt"),
     ("potrace ", "scan.pbm gray.PGM color.ppm photo.bmp sub", "notes.txt drawing.svg"),

@@ -62,6 +62,7 @@ pub record GivesSettings (given : Given) (settings : Settings) : Type 0 where
   pub backend : NamesBackend given.backend given.svg given.eps settings.backend
   pub policy : NamesPolicy given.turnpolicy settings.policy
   pub turd : IsWholeOr given.turdsize 2 0 1000000000 settings.turd
+  pub cyclic : settings.cyclic ≡ given.cyclic
   pub alphamax : IsMicroOr given.alphamax 1000000 1000000000 settings.alphamax
   pub long_curve : settings.long_curve ≡ given.longcurve
   pub tolerance : IsMicroOr given.opttolerance 200000 1000000000 settings.tolerance

@@ -60,6 +60,7 @@ pub fn settings_given(given: &Given) -> Option<Settings>
         backend,
         policy,
         turd,
+        cyclic: given.cyclic,
         alphamax,
         long_curve: given.longcurve,
         tolerance,

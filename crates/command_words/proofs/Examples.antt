@@ -13,6 +13,7 @@ nothing = record {
   output = None;
   turnpolicy = None;
   turdsize = None;
+  cyclic = false;
   alphamax = None;
   longcurve = false;
   opttolerance = None;

@@ -1,5 +1,5 @@
 -- The command as `clap` reads it: options that stand at most once, and any number of file names
--- (the potrace manual page; `--flat` too).
+-- (the potrace manual page; `--cyclic` and `--flat` too).
 use Rattle.std.specs.Prelude.{ℕ, true, List, [], ◌∷◌, Option, None, Some, codes}
 use Rattle.clap.specs.Walk.{Row, Rule}
 use Rattle.clap.specs.Simple.{App, matches_of, new_app, new_rule, with_rule}
@@ -42,9 +42,9 @@ abbrev pub options : List Rule
 options =
     -- what is written, and to where: -b, -s, -e and -o
     option 98 (codes "backend") ∷ flag 115 (codes "svg") ∷ flag 101 (codes "eps") ∷ option 111 (codes "output")
-    -- how outlines run: -z, -t, -a, -n and -O
+    -- how outlines run: -z, -t, -a, -n, -O and --cyclic
     ∷ option 122 (codes "turnpolicy") ∷ option 116 (codes "turdsize") ∷ option 97 (codes "alphamax") ∷ flag 110 (codes "longcurve")
-    ∷ option 79 (codes "opttolerance")
+    ∷ option 79 (codes "opttolerance") ∷ long_flag (codes "cyclic")
     -- how pages are read and shown: -u, -k, -i, -c and --flat
     ∷ option 117 (codes "unit") ∷ option 107 (codes "blacklevel") ∷ flag 105 (codes "invert") ∷ flag 99 (codes "cleartext")
     ∷ long_flag (codes "flat")

@@ -12,6 +12,7 @@ pub record Given : Type 0 where
   pub output : Option (List ℕ)
   pub turnpolicy : Option (List ℕ)
   pub turdsize : Option (List ℕ)
+  pub cyclic : Bool
   pub alphamax : Option (List ℕ)
   pub longcurve : Bool
   pub opttolerance : Option (List ℕ)
@@ -37,6 +38,7 @@ given_of rows = record {
   output = first_of (codes "output") rows;
   turnpolicy = first_of (codes "turnpolicy") rows;
   turdsize = first_of (codes "turdsize") rows;
+  cyclic = is_set (codes "cyclic") rows;
   alphamax = first_of (codes "alphamax") rows;
   longcurve = is_set (codes "longcurve") rows;
   opttolerance = first_of (codes "opttolerance") rows;

@@ -23,6 +23,7 @@ const OPTIONS: &[OptionRow<'static>] = &[
     OptionRow(Some('a'), "alphamax", ArgAction::Set),
     OptionRow(Some('n'), "longcurve", ArgAction::SetTrue),
     OptionRow(Some('O'), "opttolerance", ArgAction::Set),
+    OptionRow(None, "cyclic", ArgAction::SetTrue),
     // How pages are read and shown.
     OptionRow(Some('u'), "unit", ArgAction::Set),
     OptionRow(Some('k'), "blacklevel", ArgAction::Set),

@@ -19,6 +19,7 @@ pub struct Given<'w> {
     pub output: Option<&'w str>,
     pub turnpolicy: Option<&'w str>,
     pub turdsize: Option<&'w str>,
+    pub cyclic: bool,
     pub alphamax: Option<&'w str>,
     pub longcurve: bool,
     pub opttolerance: Option<&'w str>,
@@ -45,6 +46,7 @@ impl<'w> Model for Given<'w> {
       output = option_map (λ s. s.now) g.output;
       turnpolicy = option_map (λ s. s.now) g.turnpolicy;
       turdsize = option_map (λ s. s.now) g.turdsize;
+      cyclic = g.cyclic;
       alphamax = option_map (λ s. s.now) g.alphamax;
       longcurve = g.longcurve;
       opttolerance = option_map (λ s. s.now) g.opttolerance;
@@ -71,6 +73,7 @@ pub fn given_of<'w>(alloc: Global, matches: &ArgMatches<'w>) -> Result<Given<'w>
         output: value_of(matches, "output"),
         turnpolicy: value_of(matches, "turnpolicy"),
         turdsize: value_of(matches, "turdsize"),
+        cyclic: is_set(matches, "cyclic"),
         alphamax: value_of(matches, "alphamax"),
         longcurve: is_set(matches, "longcurve"),
         opttolerance: value_of(matches, "opttolerance"),

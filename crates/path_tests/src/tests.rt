@@ -3,6 +3,7 @@
 mod beside_plain;
 mod best;
 mod chain;
+mod cyclic;
 mod greatest;
 mod least;
 mod longest;

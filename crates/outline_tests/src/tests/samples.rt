@@ -144,6 +144,7 @@ pub(super) fn settings(flat: bool) -> Settings
         backend: Backend::Svg,
         policy: Policy::Left,
         turd: 0,
+        cyclic: false,
         alphamax: 1_000_000,
         long_curve: true,
         tolerance: 200_000,

@@ -35,6 +35,13 @@ const ROW: &[u8] = b"P1 40 1 1111111111111111111111111111111111111111";
 
 const ROW_POLYGON: &str = "polygons 40 1 1\n+ 40 82 3 5846: 0 21 42\n";
 
+/// Twelve pixels round a middle.
+const TWELVE: &[u8] = b"P1 4 4 0110 1111 1111 0110\n";
+
+const TWELVE_ROUND: &str = "polygons 4 4 1\n+ 12 16 4 1292: 3 7 11 15\n";
+
+const TWELVE_POLYGON: &str = "polygons 4 4 1\n+ 12 16 5 1008: 0 3 7 11 14\n";
+
 const TARGET: &[u8] = b"P1 5 5 11111 10001 10101 10001 11111\n";
 
 const TARGET_POLYGONS: &str = "polygons 5 5 3\n\
@@ -78,6 +85,11 @@ const DOT_SVG: &str = square_svg!(
 );
 
 const EMPTY_SVG: &str = square_svg!(1, "");
+
+const TWELVE_SVG: &str = square_svg!(
+    4,
+    "<path fill-rule=\"evenodd\" d=\"M8 32 l-12 -12 l12 -12 l12 -12 l12 12 l12 12 l-12 12 l-12 12 l-12 -12 z\"/>\n"
+);
 
 const PAGES: &[Page] = &[
     // Speckles.
@@ -225,6 +237,22 @@ const PAGES: &[Page] = &[
     ),
     // A segment from point 0 may lead to point 40, but only from point 42 on may one lead to the end.
     ("-b polygons -z minority -t 2", ROW, &[("-", ROW_POLYGON)]),
+    // Polygons over all starting points: none of four segments goes through the first one. The lists 0 2 4 and
+    // 1 3 5 tie.
+    ("-b polygons --cyclic", TWELVE, &[("-", TWELVE_ROUND)]),
+    ("-b polygons", TWELVE, &[("-", TWELVE_POLYGON)]),
+    (
+        "-b polygons --cyclic -t 1",
+        b"P1 2 1 11",
+        &[("-", PAIR_POLYGON)],
+    ),
+    (
+        "-b polygons --cyclic -t 0",
+        b"P1 1 1 1\n",
+        &[("-", PIXEL_POLYGON)],
+    ),
+    // Lines of slope 1 through the middles of the corners: they meet 0.4 pixels outside of the path.
+    ("-b svg --cyclic -a 0", TWELVE, &[("-", TWELVE_SVG)]),
     (
         "-b polygons -z left -t 0",
         TARGET,

@@ -14,6 +14,7 @@ const DEFAULTS: Settings = Settings {
     backend: Backend::Eps,
     policy: Policy::Minority,
     turd: 2,
+    cyclic: false,
     alphamax: 1_000_000,
     long_curve: false,
     tolerance: 200_000,
@@ -148,6 +149,9 @@ const LINES: &[(&str, &str)] = &[
     ("-c -c", "Bad"),
     ("--flat", "flat -"),
     ("--flat=true", "Bad"),
+    ("--cyclic a", "cyclic a"),
+    ("--cyclic=1", "Bad"),
+    ("--cyclic --cyclic", "Bad"),
     ("--fla", "Bad"),
     ("-sni a", "Svg n i a"),
     ("-nit5 a", "t5 n i a"),
@@ -326,6 +330,7 @@ fn put_flags(text: &mut String, settings: &Settings) -> Result<(), Fail> {
         ("n ", settings.long_curve),
         ("i ", settings.invert),
         ("flat ", settings.flat),
+        ("cyclic ", settings.cyclic),
     ] {
         if set {
             text.push_str(name)?;

@@ -5,4 +5,4 @@ use Rattle.page_trace.proofs.document.document.Goals as goal
 pub polygons-requires : goal.polygons-requires
 polygons-requires c =
     let trace = c.in_ok-trace-in-Polygons.trace in
-    AllZip-long IsPolygonOf trace.paths trace.polygons c.in_ok-trace-in-Polygons.ensures.polygons.polygons
+    AllZip-long (IsPolygonOf c.args.settings.now) trace.paths trace.polygons c.in_ok-trace-in-Polygons.ensures.polygons.polygons
