@@ -1,19 +1,19 @@
 -- The polygon of a certificate is the best one.
-use Rattle.std.proofs.Common.{◌≡◌, ℕ, suc, ◌+◌, ◌<◌, ◌≤◌, List, [], ◌∷◌, ◌++◌, length, length-append, refl, ap, sym, subst, ◌∙◌, inl, inr, arith}
-use Rattle.std.proofs.lemmas.Bool.{cases_eq, cases_lt}
-use Rattle.std.specs.List.{slice_get, All}
+use Rattle.std.proofs.Common.{◌≡◌, ℕ, ◌+◌, ◌<◌, ◌≤◌, List, [], ◌∷◌, ◌++◌, length, length-append, refl, ap, sym, subst, ◌∙◌, inl, inr, arith}
+use Rattle.std.proofs.lemmas.Bool.{cases_eq}
+use Rattle.std.specs.List.{All}
 use Rattle.std.specs.Ordering.{nat_cmp}
 use Rattle.std.specs.Cmp.Lexicographic.{slice_cmp}
 use Rattle.std.specs.declared.cmp.Ordering.TheVariants.{Less, Greater}
 use Rattle.std.proofs.lemmas.List.Elements.{All-head, All-tail}
-use Rattle.least_walk.specs.LeastWalk.{Step, steps_of, steps_from, step_count, total_cost, walk_from, IsBefore, IsLeast}
+use Rattle.least_walk.specs.LeastWalk.{Step, steps_from, total_cost, walk_from, IsBefore, IsLeast}
 use Rattle.least_walk.specs.LeastWalk.IsBefore.{by_steps, by_cost, by_list}
 use Rattle.least_walk.specs.Suffix.{GoesOn, IsLeastFrom}
 use Rattle.least_walk.proofs.Before.{slice_cmp-cons, nat_cmp_above}
 use Rattle.least_walk.proofs.Going.{length-steps_from, total_cost-cons}
 use Rattle.least_walk.proofs.Walks.{least_from_goes}
 use Rattle.outline_check.specs.declared.label.Label.{Label}
-use Rattle.outline_check.specs.Labels.{no_label, label_at, label_by, IsUpTo, LeadsTo, IsRight, AreRight, LeadsFirst}
+use Rattle.outline_check.specs.Labels.{no_label, label_at, label_by, IsUpTo, LeadsTo, AreRight, LeadsFirst}
 use Rattle.outline_check.specs.Labels.IsUpTo.{fewer, as_few}
 use Rattle.outline_check.specs.Leading.{LeadFirst}
 use Rattle.outline_check.proofs.Right.{label_same, up_to_both, up_to_trans}

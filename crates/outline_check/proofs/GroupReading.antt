@@ -1,13 +1,13 @@
 -- The three lines of a path with its certificate.
-use Rattle.std.proofs.Common.{◌≡◌, ℕ, ◌+◌, ◌<◌, ◌≤◌, ◌^◌, List, [], ◌∷◌, ◌++◌, length, refl, ap, sym, ◌∙◌, subst, append_assoc, codes, flat_map, arith}
+use Rattle.std.proofs.Common.{◌≡◌, ℕ, ◌<◌, ◌^◌, List, [], ◌∷◌, ◌++◌, refl, ap, sym, ◌∙◌, append_assoc, codes, flat_map}
 use Rattle.pt_base.specs.PointsText.{point_text}
 use Rattle.pt_base.specs.PolygonsText.{index_text}
 use Rattle.pt_base.specs.declared.point.Point.{Point}
 use Rattle.outline_check.specs.declared.label.Label.{Label}
 use Rattle.outline_check.specs.Groups.{IsGroup}
-use Rattle.outline_check.specs.LineTexts.{IsEntryLine, IsSomeLine}
+use Rattle.outline_check.specs.LineTexts.{IsSomeLine}
 use Rattle.outline_check.specs.ProofsText.{Certified, certified_text, label_text}
-use Rattle.outline_check.specs.Texts.{IsInPage, IsIndex, IsShortLabel, AreInRanges}
+use Rattle.outline_check.specs.Texts.{IsInPage, IsIndex, IsShortLabel}
 use Rattle.outline_check.proofs.LineReading.{one_some_line}
 use Rattle.outline_check.proofs.PairReading.{points_are_entries, indices_are_entries, labels_are_entries}
 

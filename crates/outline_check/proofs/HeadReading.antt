@@ -1,7 +1,6 @@
 -- The first line of a certificates' text.
-use Rattle.std.proofs.Common.{◌≡◌, ℕ, ◌+◌, ◌-◌, ◌<◌, ◌≤◌, ◌^◌, List, [], ◌∷◌, ◌++◌, length, refl, ap, sym, ◌∙◌, subst, codes, flat_map, arith}
+use Rattle.std.proofs.Common.{◌≡◌, ℕ, ◌-◌, ◌^◌, List, ◌++◌, length, refl, sym, ◌∙◌, codes, flat_map, arith}
 use Rattle.std.specs.Prelude.{decimal}
-use Rattle.pt_base.specs.Whole.{IsDigit}
 use Rattle.pt_base.specs.declared.limits.TheConstants.{LONGEST_SIDE}
 use Rattle.list_reader.specs.Numbers.{IsNumeral}
 use Rattle.list_reader.proofs.Runs.{one_number}

@@ -1,5 +1,5 @@
 -- Paths that are read and judged one after another.
-use Rattle.std.proofs.Common.{◌≡◌, ℕ, ◌+◌, ◌<◌, ◌≤◌, ◌^◌, ◌%◌, List, [], ◌∷◌, ◌++◌, length, length-append, take, get_or, refl, ap, sym, ◌∙◌, subst, append_assoc, flat_map, Option, Some, None, codes, arith}
+use Rattle.std.proofs.Common.{◌≡◌, ℕ, ◌+◌, ◌<◌, ◌≤◌, ◌^◌, ◌%◌, List, [], ◌∷◌, ◌++◌, length, length-append, take, get_or, refl, ap, sym, ◌∙◌, subst, append_assoc, flat_map, Option, None, codes, arith}
 use Rattle.std.proofs.lemmas.Grind.{flat_map-append}
 use Rattle.std.proofs.lemmas.Int.{ints}
 use Rattle.std.proofs.lemmas.List.{append-nil, take-append-le}
@@ -8,13 +8,13 @@ use Rattle.std.proofs.Math.ListN.{get_or-append}
 use Rattle.std.proofs.Math.Seq.{get_or-append_seam, take-append_seam}
 use Rattle.std.specs.List.{All}
 use Rattle.std.specs.Prelude.{decimal}
-use Rattle.pt_base.specs.OnPage.{AreOnPage, IsOnPage}
+use Rattle.pt_base.specs.OnPage.{AreOnPage}
 use Rattle.pt_base.specs.ClosedWalk.{origin}
 use Rattle.pt_base.specs.declared.limits.TheConstants.{LONGEST_SIDE}
 use Rattle.outline_check.specs.Groups.{IsGroup}
 use Rattle.outline_check.specs.Heads.{IsHead}
-use Rattle.outline_check.specs.ProofsText.{Certified, certified_text, proofs_text}
-use Rattle.outline_check.specs.Texts.{AreInRanges, IsInPage, IsProofs}
+use Rattle.outline_check.specs.ProofsText.{Certified, certified_text}
+use Rattle.outline_check.specs.Texts.{AreInRanges, IsProofs}
 use Rattle.outline_check.specs.Verdicts.{IsGood, IsFirstBad, IsJudged, no_certified}
 use Rattle.outline_check.proofs.GroupReading.{one_group}
 use Rattle.outline_check.proofs.HeadReading.{head_of, one_head}

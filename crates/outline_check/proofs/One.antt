@@ -1,5 +1,5 @@
 -- There are right labels, and only one list of them.
-use Rattle.std.proofs.Common.{◌≡◌, ℕ, zero, suc, ◌+◌, ◌-◌, ◌<◌, ◌≤◌, ◌⊎◌, List, [], ◌∷◌, ◌++◌, length, refl, ap, sym, subst, ◌∙◌, inl, inr, set, get_or, get_or-set_same, arith}
+use Rattle.std.proofs.Common.{◌≡◌, ℕ, zero, suc, ◌+◌, ◌<◌, ◌≤◌, ◌⊎◌, List, length, refl, ap, sym, subst, ◌∙◌, inl, inr, set, get_or-set_same, arith}
 use Rattle.std.proofs.lemmas.Bool.{cases_eq, cases_lt, cases_order}
 use Rattle.std.proofs.lemmas.List.{get_or-set_other, length-set}
 use Rattle.outline_check.specs.declared.label.Label.{Label}
@@ -53,31 +53,40 @@ module _ (size : ℕ) (is_allowed : ℕ → ℕ → Type 0) (cost : ℕ → ℕ 
         let there = label_by cost labels i to in
         elim (decided i to) [
           | inl allowed ↦ elim (up_to_cases label there) [
-            | inl kept ↦ (label, record {
+            | inl kept ↦ (
+              label,
+              record {
+                next = so_far.next;
+                leads = so_far.leads;
+                least = λ j inside may. elim (cases_eq j to) [
+                  | inl same ↦ subst (λ n. IsUpTo label (label_by cost labels i n)) (sym same) kept
+                  | inr other ↦ so_far.least j (omega arith) may
+                ];
+              },
+            )
+            | inr taken ↦ (
+              there,
+              record {
+                next = to;
+                leads = record { allowed = allowed; by_step = refl };
+                least = λ j inside may. elim (cases_eq j to) [
+                  | inl same ↦ subst (λ n. IsUpTo there (label_by cost labels i n)) (sym same) (up_to_itself there)
+                  | inr other ↦ up_to_trans there label (label_by cost labels i j) taken (so_far.least j (omega arith) may)
+                ];
+              },
+            )
+          ]
+          | inr refused ↦ (
+            label,
+            record {
               next = so_far.next;
               leads = so_far.leads;
               least = λ j inside may. elim (cases_eq j to) [
-                | inl same ↦ subst (λ n. IsUpTo label (label_by cost labels i n)) (sym same) kept
+                | inl same ↦ absurd (refused (subst (is_allowed i) same may))
                 | inr other ↦ so_far.least j (omega arith) may
               ];
-            })
-            | inr taken ↦ (there, record {
-              next = to;
-              leads = record { allowed = allowed; by_step = refl };
-              least = λ j inside may. elim (cases_eq j to) [
-                | inl same ↦ subst (λ n. IsUpTo there (label_by cost labels i n)) (sym same) (up_to_itself there)
-                | inr other ↦ up_to_trans there label (label_by cost labels i j) taken (so_far.least j (omega arith) may)
-              ];
-            })
-          ]
-          | inr refused ↦ (label, record {
-            next = so_far.next;
-            leads = so_far.leads;
-            least = λ j inside may. elim (cases_eq j to) [
-              | inl same ↦ absurd (refused (subst (is_allowed i) same may))
-              | inr other ↦ so_far.least j (omega arith) may
-            ];
-          })
+            },
+          )
         ]
 
     right_below : (n : ℕ) → (label : Label) × IsRightBelow labels i (suc (suc i) + n) label
@@ -100,12 +109,14 @@ module _ (size : ℕ) (is_allowed : ℕ → ℕ → Type 0) (cost : ℕ → ℕ 
 
     right_here : (label : Label) × IsRight is_allowed cost labels i label
     right_here =
-        let found = right_below size in
-        (found.0, record {
-          next = found.1.next;
-          leads = found.1.leads;
-          least = λ j may. (let up = goes_up i j may in found.1.least j (omega arith) may);
-        })
+        let found = right_below size in (
+          found.0,
+          record {
+            next = found.1.next;
+            leads = found.1.leads;
+            least = λ j may. (let up = goes_up i j may in found.1.least j (omega arith) may);
+          },
+        )
 
   -- right labels from an index on
   record AreRightFrom (low : ℕ) (labels : List Label) : Type 0 where
@@ -119,35 +130,42 @@ module _ (size : ℕ) (is_allowed : ℕ → ℕ → Type 0) (cost : ℕ → ℕ 
         let found = right_here decided step labels i below in
         let more = set labels i found.0 in
         let room : i < length labels = omega (arith, from.places) in
-        let same : (k : ℕ) → ¬ (k ≡ i) → label_at more k ≡ label_at labels k = λ k other. get_or-set_other labels i k found.0 no_label other in
-        (more, record {
-          places = omega (arith, length-set labels i found.0, from.places);
-          last = same size (λ end. let no : ⊥ = omega arith in no) ∙ from.last;
-          each = λ k above inside. elim (cases_eq k i) [
-            | inl here ↦ subst (λ n. IsRight is_allowed cost more n (label_at more n)) (sym here)
-                (subst (IsRight is_allowed cost more i) (sym (get_or-set_same labels i found.0 no_label room))
-                (right_same is_allowed cost labels more i (λ j may. let up = goes_up i j may in same j (λ e. let no : ⊥ = omega arith in no)) found.0 found.1))
-            | inr later ↦ subst (IsRight is_allowed cost more k) (sym (same k later))
-                (right_same is_allowed cost labels more k (λ j may. let up = goes_up k j may in same j (λ e. let no : ⊥ = omega arith in no)) (label_at labels k) (from.each k (omega arith) inside))
-          ];
-        })
+        let same : (k : ℕ) → ¬ (k ≡ i) → label_at more k ≡ label_at labels k = λ k other. get_or-set_other labels i k found.0 no_label other in (
+          more,
+          record {
+            places = omega (arith, length-set labels i found.0, from.places);
+            last = same size (λ end. let no : ⊥ = omega arith in no) ∙ from.last;
+            each = λ k above inside. elim (cases_eq k i) [
+              | inl here ↦ subst (λ n. IsRight is_allowed cost more n (label_at more n)) (sym here)
+                  (subst (IsRight is_allowed cost more i) (sym (get_or-set_same labels i found.0 no_label room))
+                  (right_same is_allowed cost labels more i (λ j may. let up = goes_up i j may in same j (λ e. let no : ⊥ = omega arith in no)) found.0 found.1))
+              | inr later ↦ subst (IsRight is_allowed cost more k) (sym (same k later))
+                  (right_same is_allowed cost labels more k (λ j may. let up = goes_up k j may in same j (λ e. let no : ⊥ = omega arith in no)) (label_at labels k) (from.each k (omega arith) inside))
+            ];
+          },
+        )
 
     right_from : (labels : List Label) → length labels ≡ size + 1 → label_at labels size ≡ no_label
         → (fuel i : ℕ) → i + fuel ≡ size → (more : List Label) × AreRightFrom i more
-    right_from labels places last zero i at = (labels, record {
-      places = places;
-      last = last;
-      each = λ k above inside. absurd (omega arith);
-    })
+    right_from labels places last zero i at = (
+      labels,
+      record {
+        places = places;
+        last = last;
+        each = λ k above inside. absurd (omega arith);
+      },
+    )
     right_from labels places last (suc fuel) i at =
         let later = right_from labels places last fuel (suc i) (omega arith) in
         earlier i later.0 (omega arith) later.1
 
     pub right_found : (labels : List Label) → length labels ≡ size + 1 → label_at labels size ≡ no_label → (more : List Label) × AreRight size is_allowed cost more
     right_found labels places last =
-        let found = right_from labels places last size 0 (omega arith) in
-        (found.0, record {
-          places = found.1.places;
-          last = found.1.last;
-          each = λ i below. found.1.each i (omega arith) below;
-        })
+        let found = right_from labels places last size 0 (omega arith) in (
+          found.0,
+          record {
+            places = found.1.places;
+            last = found.1.last;
+            each = λ i below. found.1.each i (omega arith) below;
+          },
+        )

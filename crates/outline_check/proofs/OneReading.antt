@@ -1,13 +1,12 @@
 -- A text is the certificates' text of one page at most.
-use Rattle.std.proofs.Common.{◌≡◌, ℕ, ◌+◌, ◌<◌, ◌≤◌, ◌^◌, List, [], ◌∷◌, ◌++◌, length, refl, ap, sym, ◌∙◌, subst, append_assoc, flat_map, arith}
+use Rattle.std.proofs.Common.{◌≡◌, ℕ, ◌<◌, ◌^◌, List, [], ◌∷◌, ◌++◌, length, refl, sym, ◌∙◌, subst, append_assoc, flat_map, arith}
 use Rattle.std.proofs.lemmas.List.{append-nil}
 use Rattle.std.proofs.lemmas.List.Elements.{All-head, All-tail}
 use Rattle.std.specs.List.{All}
 use Rattle.polygon_optimal.specs.Polygon.{IsSegment, IsBestPolygon, penalty_of}
-use Rattle.outline_check.specs.Groups.{IsGroup}
 use Rattle.outline_check.specs.ProofsText.{Certified, certified_text}
 use Rattle.outline_check.specs.Texts.{AreInRanges, IsProofs}
-use Rattle.outline_check.specs.Verdicts.{IsGood, IsVerdict}
+use Rattle.outline_check.specs.Verdicts.{IsVerdict}
 use Rattle.outline_check.specs.declared.verdict.Verdict.TheVariants.{Right}
 use Rattle.outline_check.proofs.Best.{best}
 use Rattle.outline_check.proofs.Exists.{segment_goes_up}
@@ -47,5 +46,5 @@ pub best_polygons : (text : List ℕ) (n w h : ℕ) (paths : List Certified) →
 best_polygons text n w h paths (x, y, others, proofs, good, len) is =
     let same = (one_reading text w h x y paths others is proofs).2 in
     subst (All (λ (c : Certified). IsBestPolygon c.points c.at)) (sym same) (λ k d below.
-        let certificate = (good k d below).certificate in
-        (best _ (IsSegment _) (penalty_of _) (segment_goes_up _) _ certificate.right _ certificate.leads).0)
+    let certificate = (good k d below).certificate in
+    (best _ (IsSegment _) (penalty_of _) (segment_goes_up _) _ certificate.right _ certificate.leads).0)

@@ -1,5 +1,5 @@
 -- Two numbers behind a space.
-use Rattle.std.proofs.Common.{◌≡◌, ℕ, ℤ, pos, negsuc, suc, ◌+◌, ◌-◌, ◌<◌, ◌≤◌, ◌^◌, ◌≤ℤ◌, List, [], ◌∷◌, ◌++◌, length, drop, get_or, refl, ap, sym, ◌∙◌, subst, append_assoc, codes, arith}
+use Rattle.std.proofs.Common.{◌≡◌, ℕ, ℤ, pos, negsuc, ◌-◌, ◌<◌, ◌^◌, ◌≤ℤ◌, List, ◌∷◌, ◌++◌, refl, ap, sym, ◌∙◌, append_assoc, codes, arith}
 use Rattle.std.proofs.lemmas.Int.{ints}
 use Rattle.std.specs.Prelude.{decimal}
 use Rattle.std.specs.Fmt.{signed_decimal}
@@ -7,7 +7,7 @@ use Rattle.pt_base.specs.PointsText.{point_text}
 use Rattle.pt_base.specs.PolygonsText.{index_text}
 use Rattle.pt_base.specs.Whole.{IsDigit}
 use Rattle.pt_base.specs.declared.point.Point.{Point}
-use Rattle.list_reader.specs.Numbers.{EndsDigits, IsNumeral}
+use Rattle.list_reader.specs.Numbers.{IsNumeral}
 use Rattle.list_reader.proofs.Runs.{one_number}
 use Rattle.outline_check.specs.declared.label.Label.{Label}
 use Rattle.outline_check.specs.Entries.{IsEntry, IsPair}
@@ -90,13 +90,17 @@ pair_of_point width height bytes p rest entry =
     let (b, y) = natural p.y inside.bottom in
     let F : ℤ → Point = λ z. record { x = z; y = p.y } in
     let G : ℤ → Point = λ z. record { x = pos a; y = z } in
-    let same : p ≡ record { x = pos a; y = pos b } = ap F x ∙ ap G y in
-    (a, b, same, record {
-      is = entry.is ∙ ap (λ q. point_text q ++ rest) same ∙ point_bytes a b rest;
-      first_few = (let h = inside.right in omega (arith, ints));
-      second_few = (let h = inside.top in omega (arith, ints));
-      ends = entry.ends;
-    })
+    let same : p ≡ record { x = pos a; y = pos b } = ap F x ∙ ap G y in (
+      a,
+      b,
+      same,
+      record {
+        is = entry.is ∙ ap (λ q. point_text q ++ rest) same ∙ point_bytes a b rest;
+        first_few = (let h = inside.right in omega (arith, ints));
+        second_few = (let h = inside.top in omega (arith, ints));
+        ends = entry.ends;
+      },
+    )
 
 -- so is a label
 pub label_of_pair : (bytes : List ℕ) (l : Label) (rest : List ℕ) → IsPair 58 (2 ^ 32 - 1) (2 ^ 64 - 1) bytes l.count l.cost rest

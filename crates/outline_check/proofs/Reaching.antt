@@ -1,16 +1,7 @@
 -- Right labels and first steps, where the allowed steps are said in another way.
-use Rattle.std.proofs.Common.{◌≡◌, ℕ, ◌+◌, ◌<◌, ◌≤◌, List, length, ◌↔◌, subst, sym, ◌∙◌, arith}
-use Rattle.std.proofs.lemmas.List.{get_or_past}
-use Rattle.std.specs.List.{All}
-use Rattle.std.specs.Prelude.{slice_index}
-use Rattle.std.proofs.Math.Decide.{dec_lt}
-use Rattle.pt_base.specs.declared.point.Point.{Point}
-use Rattle.straight_paths.proofs.Far.{shorter_possible}
-use Rattle.least_walk.specs.LeastWalk.{steps_of, walk_from}
-use Rattle.polygon_optimal.specs.Polygon.{IsSegment, penalty_of}
-use Rattle.polygon_optimal.specs.Lasts.{HasLasts, IsUpToLast}
+use Rattle.std.proofs.Common.{ℕ, List, arith}
 use Rattle.outline_check.specs.declared.label.Label.{Label}
-use Rattle.outline_check.specs.Labels.{LeadsTo, IsRight, AreRight, LeadsFirst, label_at}
+use Rattle.outline_check.specs.Labels.{LeadsTo, AreRight, LeadsFirst, label_at}
 use Rattle.outline_check.specs.Leading.{LeadFirst}
 use Rattle.outline_check.specs.Known.{AreRightDownTo}
 

@@ -1,7 +1,6 @@
 -- How small the right labels of a closed walk are.
-use Rattle.std.proofs.Common.{◌≡◌, ℕ, zero, suc, ◌+◌, ◌-◌, ◌*◌, ◌<◌, ◌≤◌, ◌^◌, List, length, ap, ◌∙◌, inl, inr, arith}
+use Rattle.std.proofs.Common.{◌≡◌, ℕ, zero, suc, ◌+◌, ◌*◌, ◌<◌, ◌≤◌, List, length, ap, ◌∙◌, inl, inr, arith}
 use Rattle.std.proofs.lemmas.Bool.{cases_eq}
-use Rattle.std.specs.List.{All}
 use Rattle.pt_base.specs.ClosedWalk.{IsClosedWalk}
 use Rattle.pt_base.specs.declared.point.Point.{Point}
 use Rattle.polygon_optimal.specs.OnePenalty.{penalty_is}
@@ -9,7 +8,7 @@ use Rattle.polygon_optimal.specs.Polygon.{penalty_of}
 use Rattle.polygon_optimal.proofs.Small.{possible_most}
 use Rattle.outline_check.specs.declared.label.Label.{Label}
 use Rattle.outline_check.specs.Certificate.{AreRightLabels}
-use Rattle.outline_check.specs.Labels.{no_label, label_at}
+use Rattle.outline_check.specs.Labels.{label_at}
 use Rattle.outline_check.specs.Texts.{IsShortLabel}
 
 -- from index k on no more segments are left than steps, and for each step no more than a pixel

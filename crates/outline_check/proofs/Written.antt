@@ -1,5 +1,5 @@
 -- The text that is written of a trace: there is one, and it is right where the polygons are best.
-use Rattle.std.proofs.Common.{◌≡◌, ℕ, ◌+◌, ◌<◌, ◌≤◌, ◌^◌, List, [], ◌∷◌, length, get_or, refl, ap, sym, ◌∙◌, subst, arith}
+use Rattle.std.proofs.Common.{◌≡◌, ℕ, ◌<◌, ◌≤◌, ◌^◌, List, [], ◌∷◌, length, refl, ap, sym, ◌∙◌, subst, arith}
 use Rattle.std.proofs.lemmas.List.{get_or_default}
 use Rattle.std.proofs.lemmas.List.Elements.{All-nil, All-cons, All-head, All-tail}
 use Rattle.std.specs.List.{All, AllZip}
@@ -14,10 +14,10 @@ use Rattle.polygon_optimal.proofs.Vertices.{some_vertices, vertices_below}
 use Rattle.outline_check.specs.declared.label.Label.{Label}
 use Rattle.outline_check.specs.declared.verdict.Verdict.TheVariants.{Right}
 use Rattle.outline_check.specs.Certificate.{AreRightLabels}
-use Rattle.outline_check.specs.Labels.{no_label, label_at}
+use Rattle.outline_check.specs.Labels.{no_label}
 use Rattle.outline_check.specs.Printed.{AreCertified, IsPrinted}
 use Rattle.outline_check.specs.ProofsText.{Certified, proofs_text}
-use Rattle.outline_check.specs.Texts.{AreInRanges, IsInPage, IsIndex, IsShortLabel}
+use Rattle.outline_check.specs.Texts.{AreInRanges, IsInPage, IsShortLabel}
 use Rattle.outline_check.specs.Verdicts.{IsGood, IsVerdict}
 use Rattle.outline_check.proofs.Exists.{certificate_found, labels_found, one_list}
 use Rattle.outline_check.proofs.Short.{short}

@@ -1,5 +1,5 @@
 -- The text that a page's certificates are written as.
-use Rattle.std.specs.Prelude.{◌≡◌, ℕ, ◌<◌, List, [], ◌∷◌, ◌++◌, codes, decimal}
+use Rattle.std.specs.Prelude.{◌≡◌, ℕ, List, [], ◌∷◌, ◌++◌, codes, decimal}
 use Rattle.pt_base.specs.declared.point.Point.{Point}
 use Rattle.pt_base.specs.declared.trace.Trace.{Trace}
 use Rattle.pt_base.specs.declared.path.Path.{Path}

@@ -2,8 +2,6 @@
 ghost use Rattle.std.specs.Prelude.{◌≡◌, ℕ, ◌++◌, List, All, codes, decimal, flat_map, length, slice_index_or, IfOk, OnOk};
 ghost use Rattle.pt_base.specs.ClosedWalk.{IsClosedWalk};
 ghost use Rattle.pt_base.specs.OnPage.{AreOnPage};
-ghost use Rattle.pt_base.specs.PointsText.{point_text};
-ghost use Rattle.pt_base.specs.PolygonsText.{index_text};
 ghost use Rattle.outline_check.specs.Certificate.{AreRightLabels};
 ghost use Rattle.outline_check.specs.Printed.{IsPrinted, IsPrintedPath, proofs_head};
 ghost use Rattle.outline_check.specs.ProofsText.{label_text};
@@ -12,6 +10,7 @@ use crate::label::Label;
 use crate::labels::labels;
 use pt_base::digits::put_number;
 use pt_base::fault::NoMemory;
+use pt_base::list_text::{put_indices, put_points, put_sides, put_spaced};
 use pt_base::point::Point;
 use pt_base::trace::Trace;
 use std::alloc::Global;
@@ -28,7 +27,12 @@ pub fn proofs(alloc: Global, trace: &Trace) -> Result<Vec<u8>, NoMemory>
     let mut out = Vec::new(alloc);
     put_head(&mut out, trace.width, trace.height, paths.len())?;
     for k in 0..paths.len() {
-        put_path(alloc, &mut out, paths[k].points.as_slice(), polygons[k].at.as_slice())?;
+        put_path(
+            alloc,
+            &mut out,
+            paths[k].points.as_slice(),
+            polygons[k].at.as_slice(),
+        )?;
     }
     Ok(out)
 }
@@ -38,12 +42,7 @@ fn put_head(out: &mut Vec<u8>, width: u32, height: u32, count: usize) -> Result<
     ensures { OnOk result (out.new.items ≡ out.old.items ++ proofs_head width height count) }
 {
     out.extend_from_slice(b"proofs ")?;
-    put_number(out, width)?;
-    out.extend_from_slice(b" ")?;
-    put_number(out, height)?;
-    out.extend_from_slice(b" ")?;
-    put_number(out, count)?;
-    out.extend_from_slice(b"\n")?;
+    put_sides(out, width, height, count)?;
     Ok(())
 }
 
@@ -64,38 +63,6 @@ fn put_path(alloc: Global, out: &mut Vec<u8>, points: &[Point], at: &[u32]) -> R
     Ok(())
 }
 
-/// Appends the points, a space before each.
-fn put_points(out: &mut Vec<u8>, points: &[Point]) -> Result<(), NoMemory>
-    ensures { OnOk result (out.new.items ≡ out.old.items ++ flat_map point_text points.now) }
-{
-    for point in points {
-        put_point(out, *point)?;
-    }
-    Ok(())
-}
-
-/// Appends a space and a point.
-fn put_point(out: &mut Vec<u8>, point: Point) -> Result<(), NoMemory>
-    ensures { OnOk result (out.new.items ≡ out.old.items ++ point_text point) }
-{
-    out.extend_from_slice(b" ")?;
-    put_number(out, point.x)?;
-    out.extend_from_slice(b",")?;
-    put_number(out, point.y)?;
-    Ok(())
-}
-
-/// Appends the indices, a space before each.
-fn put_indices(out: &mut Vec<u8>, at: &[u32]) -> Result<(), NoMemory>
-    ensures { OnOk result (out.new.items ≡ out.old.items ++ flat_map index_text at.now) }
-{
-    for index in at {
-        out.extend_from_slice(b" ")?;
-        put_number(out, *index)?;
-    }
-    Ok(())
-}
-
 /// Appends the labels, a space before each.
 fn put_labels(out: &mut Vec<u8>, labels: &[Label]) -> Result<(), NoMemory>
     ensures { OnOk result (out.new.items ≡ out.old.items ++ flat_map label_text labels.now) }
@@ -110,8 +77,7 @@ fn put_labels(out: &mut Vec<u8>, labels: &[Label]) -> Result<(), NoMemory>
 fn put_label(out: &mut Vec<u8>, label: Label) -> Result<(), NoMemory>
     ensures { OnOk result (out.new.items ≡ out.old.items ++ label_text label) }
 {
-    out.extend_from_slice(b" ")?;
-    put_number(out, label.count)?;
+    put_spaced(out, label.count)?;
     out.extend_from_slice(b":")?;
     put_number(out, label.cost)?;
     Ok(())

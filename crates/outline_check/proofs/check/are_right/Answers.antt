@@ -1,4 +1,4 @@
-use Rattle.std.proofs.Common.{◌≡◌, ℕ, false, not, eqb, ◌&&◌, ◌+◌, ◌-◌, ◌<◌, ◌≤◌, length, refl, sym, ◌∙◌, subst, arith}
+use Rattle.std.proofs.Common.{◌≡◌, ℕ, false, not, eqb, ◌&&◌, ◌+◌, ◌-◌, ◌<◌, length, refl, sym, ◌∙◌, subst, arith}
 use Rattle.std.proofs.lemmas.Bool.Decides.{nat_tests}
 use Rattle.polygon_optimal.specs.Lasts.{IsUpToLast}
 use Rattle.polygon_optimal.specs.OnePenalty.{penalty_most}

@@ -1,4 +1,4 @@
-use Rattle.std.proofs.Common.{◌≡◌, ℕ, List, length, ◌↔◌, Bool, IsTrue, false, sym, subst, arith}
+use Rattle.std.proofs.Common.{List, length, IsTrue, sym, subst}
 use Rattle.pt_base.specs.declared.point.Point.{Point}
 use Rattle.polygon_optimal.specs.Lasts.{IsUpToLast}
 use Rattle.polygon_optimal.specs.Polygon.{IsSegment, penalty_of}
