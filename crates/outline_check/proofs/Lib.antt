@@ -14,3 +14,4 @@ pub mod OneReading
 pub mod Printing
 pub mod Short
 pub mod Written
+pub mod OneVerdict

@@ -13,6 +13,7 @@ ghost use Rattle.outline_check.specs.Printed.{IsPrinted};
 ghost use Rattle.outline_check.specs.ProofsText.{Certified};
 ghost use Rattle.outline_check.specs.Texts.{IsInPage, IsProofs};
 ghost use Rattle.outline_check.specs.Verdicts.{IsVerdict};
+ghost use Rattle.outline_check.specs.declared.verdict.Verdict.{Verdict};
 ghost use Rattle.outline_check.specs.declared.verdict.Verdict.TheVariants.{Right};
 
 /// The polygon of a certificate is the best one, and the first label tells its segments and their
@@ -60,6 +61,12 @@ pub fn right_texts_have_best_polygons()
     ensures { (text : List ℕ) (n width height : ℕ) (paths : List Certified)
         → IsVerdict text (Right n) → IsProofs text width height paths
         → All (λ c. IsBestPolygon c.points c.at) paths }
+{}
+
+/// A text has one verdict at most.
+pub fn verdicts_are_one()
+    ensures { (text : List ℕ) (verdict other : Verdict)
+        → IsVerdict text verdict → IsVerdict text other → verdict ≡ other }
 {}
 
 /// A trace has one text of certificates at most.

@@ -19,7 +19,8 @@ use std::alloc::Global;
 /// with its points, the indices of its polygon's vertices among them, and its right labels.
 pub fn proofs(alloc: Global, trace: &Trace) -> Result<Vec<u8>, NoMemory>
     requires polygons { length trace.now.polygons ≡ length trace.now.paths }
-    requires closed { All (λ path. IsClosedWalk path.points × AreOnPage path.points) trace.now.paths }
+    requires closed { All (λ path. IsClosedWalk path.points) trace.now.paths }
+    requires on_page { All (λ path. AreOnPage path.points) trace.now.paths }
     ensures { IfOk result (λ text. IsPrinted trace.now text.items) }
 {
     let paths = trace.paths.as_slice();

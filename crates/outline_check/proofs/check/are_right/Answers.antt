@@ -26,7 +26,7 @@ loop-from-preserved c =
     record {
       known = known_more size lasts s.onwards s.rising (penalty_of s.moments) (λ i j below up. penalty_most s.moments s.on_page i j)
           labels labels i below known c.label_from-onward.result.label c.label_from-onward.ensures known.places
-          (same_label (label_at labels i) c.label_from-onward.result.label (sym c.if-ne-2.false ∙ c.ne-in-loop-from.ensures))
+          (same_label (label_at labels i) c.label_from-onward.result.label (sym c.if-ne.false ∙ c.ne.ensures))
           (λ k above within. refl);
       begin = λ inside. c.begin_from-begin.ensures;
     }
