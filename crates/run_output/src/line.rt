@@ -20,10 +20,7 @@ pub fn say_line<E: Sink>(errs: &mut E, program: &str, text: &str)
     ensures never_falls { E.faults errs.old ≤ E.faults errs.new }
     ensures stays_ready { E.is_ready errs.new ≡ true }
 {
-    say(
-        errs,
-        &[program.as_bytes(), b": ", text.as_bytes(), b"\n"],
-    )
+    say(errs, &[program.as_bytes(), b": ", text.as_bytes(), b"\n"])
 }
 
 /// Says something of a file as a program.

@@ -85,16 +85,13 @@ HasDone makes program ending.OutOfMemory source source_now old new =
 -- all that a run does that is given so many words and ends so
 pub record IsProgramRun (makes : List ℕ → Ending → List ℕ → Type 0) (program : List ℕ) (words : ℕ) (end : Ending) (source source_now : Source) (old new : Sinks) : Type 0 where
   pub outcome : HasDone makes program end source source_now old new
-
   -- words are refused, exactly
   pub bad_words : end ≡ ending.BadWords → 0 < words
   pub refused : 0 < words → end ≡ ending.BadWords
-
   -- where standard input is told and isn't there, it is unread; and where it is there and no device failed, the run ends
   -- with its reply, or memory ran out
   pub missing : words ≡ 0 → Lacks source.files dash → end ≡ ending.Unread
   pub complete : words ≡ 0 → (bytes text : List ℕ) (well : Ending) → TellsInput source.files bytes → IsReply makes bytes well text
       → (Rose source.faults source_now.faults → ⊥) → (Rose old.outs.faults new.outs.faults → ⊥) → (end ≡ well) ⊎ (end ≡ ending.OutOfMemory)
-
   -- a fault of the outputs is told
   pub unwritten : old.outs.faults < new.outs.faults → end ≡ ending.Unwritten

@@ -1,11 +1,12 @@
 //! Standard input, read to its end.
-ghost use Rattle.std.specs.Prelude.{◌≡◌, ℕ, ◌+◌, ◌<◌, ◌≤◌, ◌⊎◌, true, List, length, IfOk, IfErr, IfNone, OnOk, OnErr, IsErrOf};
+ghost use Rattle.std.specs.Prelude.{◌≡◌, ℕ, ◌+◌, ◌<◌, ◌≤◌, ◌⊎◌, true, [], List, Option, length, IfOk, IfErr, IfNone, OnOk, OnErr, IsErrOf};
 ghost use Rattle.pt_base.specs.Counts.{next_count, Rose};
 ghost use Rattle.pt_base.specs.Files.{Files, Lacks};
 ghost use Rattle.run_output.specs.Names.{dash};
 ghost use Rattle.small_program.specs.Input.{HasInput, HasTaken};
-ghost use Rattle.small_program.specs.declared.input.InputStop.TheVariants.{OutOfMemory, TooLong, Unread};
+ghost use Rattle.small_program.specs.declared.input.InputStop.TheVariants.{TooLong, Unread};
 
+use pt_base::fault::NoMemory;
 use pt_base::inputs::Inputs;
 use std::alloc::Global;
 
@@ -46,10 +47,10 @@ pub fn read_all<I: Inputs>(alloc: Global, inputs: &mut I) -> Result<Vec<u8>, Inp
         (stop ≡ Unread) ⊎ (I.faults inputs.new ≡ I.faults inputs.old)) }
     ensures one_opening { I.openings inputs.new ≡ next_count (I.openings inputs.old) }
 {
-    if inputs.open("-").is_err() {
-        return Err(InputStop::Unread);
+    match inputs.open("-") {
+        Ok(()) => read_on(alloc, inputs),
+        Err(_) => Err(InputStop::Unread),
     }
-    read_on(alloc, inputs)
 }
 
 /// Reads the opened file to its end, or up to one byte more than a program takes.
@@ -68,17 +69,27 @@ fn read_on<I: Inputs>(alloc: Global, inputs: &mut I) -> Result<Vec<u8>, InputSto
         (stop ≡ Unread) ⊎ (I.faults inputs.new ≡ I.faults inputs.old)) }
     ensures same_openings { I.openings inputs.new ≡ I.openings inputs.old }
 {
-    let Ok(mut buffer) = vec![in alloc; 0u8; PIECE] else {
+    let Ok(mut buffer) = room(alloc) else {
         return Err(InputStop::OutOfMemory);
     };
     let mut bytes = Vec::new(alloc);
     'pieces: while bytes.len() <= MOST_BYTES {
-        let n = read_piece(inputs, &mut buffer, &mut bytes)?;
+        let n = match read_piece(inputs, &mut buffer, &mut bytes) {
+            Ok(n) => n,
+            Err(stop) => return Err(stop),
+        };
         if n == 0 {
             return Ok(bytes);
         }
     }
     Err(InputStop::TooLong)
+}
+
+/// Room for what is read at once.
+fn room(alloc: Global) -> Result<Vec<u8>, NoMemory>
+    ensures { IfOk result (λ buffer. 0 < length buffer.items) }
+{
+    Ok(vec![in alloc; 0u8; PIECE]?)
 }
 
 /// Reads a piece of the opened file and appends it, and answers how many bytes it has: none at the end.
@@ -98,8 +109,9 @@ fn read_piece<I: Inputs>(
         → HasTaken start (I.files inputs.old) bytes.old.items → HasInput start bytes.new.items) }
     ensures steady { OnOk result (I.faults inputs.new ≡ I.faults inputs.old) }
     ensures cause { IsErrOf result Unread → Rose (I.faults inputs.old) (I.faults inputs.new) }
+    ensures never_too_long { IsErrOf result TooLong → ⊥ }
     ensures steady_stop { IfErr result (λ stop.
-        (stop ≡ Unread) ⊎ ((stop ≡ OutOfMemory) × (I.faults inputs.new ≡ I.faults inputs.old))) }
+        (stop ≡ Unread) ⊎ (I.faults inputs.new ≡ I.faults inputs.old)) }
     ensures stays_opened { I.is_opened inputs.new ≡ true }
     ensures same_openings { I.openings inputs.new ≡ I.openings inputs.old }
 {

@@ -3,10 +3,11 @@ ghost use Rattle.std.specs.Prelude.{◌≡◌, ◌⊎◌, true, IfErr};
 ghost use Rattle.small_program.specs.declared.ending.Ending.TheVariants.{BadWords, OutOfMemory};
 
 use crate::ending::Ending;
+use pt_base::fault::NoMemory;
 use pt_base::sink::Sink;
 use run_output::line::say_line;
 use std::alloc::Global;
-use std::env::{self, Env};
+use std::env::{self, Args, Env};
 use std::io::ErrorKind;
 
 /// The words behind the program's own name. One that isn't UTF-8 is a word too, and so it is refused at once.
@@ -29,12 +30,20 @@ pub fn words_of<R: Env + Alloc<A = Global>, E: Sink>(
             return Err(Ending::BadWords);
         }
     };
-    let mut words = Vec::new(rt.alloc());
-    for word in args.skip(1) {
-        if words.push(word).is_err() {
+    match behind_name(rt.alloc(), args) {
+        Ok(words) => Ok(words),
+        Err(_) => {
             say_line(errs, program, "out of memory");
-            return Err(Ending::OutOfMemory);
+            Err(Ending::OutOfMemory)
         }
+    }
+}
+
+/// All but the first.
+fn behind_name(alloc: Global, args: Args) -> Result<Vec<String>, NoMemory> {
+    let mut words = Vec::new(alloc);
+    for word in args.skip(1) {
+        words.push(word)?;
     }
     Ok(words)
 }
