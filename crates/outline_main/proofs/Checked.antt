@@ -1,5 +1,5 @@
 -- What status 0 says of the text.
-use Rattle.std.proofs.Common.{◌≡◌, ℕ, ◌<◌, ◌≤◌, List, length, inl, inr, sym, subst, codes, arith}
+use Rattle.std.proofs.Common.{◌≡◌, ℕ, List, inl, inr, sym, subst, arith}
 use Rattle.std.specs.List.{All}
 use Rattle.outline_check.specs.ProofsText.{Certified}
 use Rattle.outline_check.specs.Texts.{IsProofs}

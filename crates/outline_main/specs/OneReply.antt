@@ -1,6 +1,5 @@
 -- A text has one reply.
 use Rattle.std.proofs.Common.{◌≡◌, ℕ, List, refl, ap, sym, ◌∙◌, subst, codes}
-use Rattle.outline_check.specs.declared.verdict.Verdict.{Verdict}
 use Rattle.outline_check.specs.declared.verdict.Verdict.TheVariants.{Right, Wrong, BadProofs}
 use Rattle.outline_check.proofs.OneVerdict.{one_verdict}
 use Rattle.small_program.specs.declared.ending.Ending.{Ending}

@@ -21,21 +21,65 @@ const TWO_RIGHT: &str = "at 0 2 4\nlabels 3:294 3:0 2:147 2:0 1:0 1:0 0:0\n";
 const VERDICTS: &[(&str, &str, Verdict)] = &[
     (ONE, ONE_RIGHT, Verdict::Right(1)),
     (TWO, TWO_RIGHT, Verdict::Right(1)),
-    ("proofs 32767 32767 1\npath 0,1 0,0 1,0 1,1\n", ONE_RIGHT, Verdict::Right(1)),
+    (
+        "proofs 32767 32767 1\npath 0,1 0,0 1,0 1,1\n",
+        ONE_RIGHT,
+        Verdict::Right(1),
+    ),
     ("proofs 1 1 0\n", "", Verdict::Right(0)),
     // A label, a vertex or a point too many, too few, or another one.
-    (ONE, "at 0 1 2 3\nlabels 4:0 3:0 2:1 1:0 0:0\n", Verdict::Wrong(1)),
-    (ONE, "at 0 1 2 3\nlabels 4:0 3:0 2:0 1:0\n", Verdict::Wrong(1)),
-    (ONE, "at 0 1 2 3\nlabels 4:0 3:0 2:0 1:0 0:0 0:0\n", Verdict::Wrong(1)),
+    (
+        ONE,
+        "at 0 1 2 3\nlabels 4:0 3:0 2:1 1:0 0:0\n",
+        Verdict::Wrong(1),
+    ),
+    (
+        ONE,
+        "at 0 1 2 3\nlabels 4:0 3:0 2:0 1:0\n",
+        Verdict::Wrong(1),
+    ),
+    (
+        ONE,
+        "at 0 1 2 3\nlabels 4:0 3:0 2:0 1:0 0:0 0:0\n",
+        Verdict::Wrong(1),
+    ),
     (ONE, "at 0\nlabels 4:0 3:0 2:0 1:0 0:0\n", Verdict::Wrong(1)),
-    (ONE, "at 1 2 3\nlabels 4:0 3:0 2:0 1:0 0:0\n", Verdict::Wrong(1)),
-    (ONE, "at 0 1 2 3 4\nlabels 4:0 3:0 2:0 1:0 0:0\n", Verdict::Wrong(1)),
-    (TWO, "at 0 1 3 4\nlabels 3:294 3:0 2:147 2:0 1:0 1:0 0:0\n", Verdict::Wrong(1)),
+    (
+        ONE,
+        "at 1 2 3\nlabels 4:0 3:0 2:0 1:0 0:0\n",
+        Verdict::Wrong(1),
+    ),
+    (
+        ONE,
+        "at 0 1 2 3 4\nlabels 4:0 3:0 2:0 1:0 0:0\n",
+        Verdict::Wrong(1),
+    ),
+    (
+        TWO,
+        "at 0 1 3 4\nlabels 3:294 3:0 2:147 2:0 1:0 1:0 0:0\n",
+        Verdict::Wrong(1),
+    ),
     // A polygon as good, of a higher list; and labels of the lower one that are no least ones.
-    (TWO, "at 0 3 5\nlabels 3:294 3:0 2:147 2:0 1:0 1:0 0:0\n", Verdict::Wrong(1)),
-    (TWO, "at 0 2 4\nlabels 3:294 3:294 2:147 2:0 1:0 1:0 0:0\n", Verdict::Wrong(1)),
-    ("proofs 1 1 1\npath 0,1 0,0 1,0\n", "at 0 1 2\nlabels 3:0 2:0 1:0 0:0\n", Verdict::Wrong(1)),
-    ("proofs 1 1 1\npath 0,1\n", "at 0\nlabels 0:0\n", Verdict::Wrong(1)),
+    (
+        TWO,
+        "at 0 3 5\nlabels 3:294 3:0 2:147 2:0 1:0 1:0 0:0\n",
+        Verdict::Wrong(1),
+    ),
+    (
+        TWO,
+        "at 0 2 4\nlabels 3:294 3:294 2:147 2:0 1:0 1:0 0:0\n",
+        Verdict::Wrong(1),
+    ),
+    (
+        "proofs 1 1 1\npath 0,1 0,0 1,0\n",
+        "at 0 1 2\nlabels 3:0 2:0 1:0 0:0\n",
+        Verdict::Wrong(1),
+    ),
+    (
+        "proofs 1 1 1\npath 0,1\n",
+        "at 0\nlabels 0:0\n",
+        Verdict::Wrong(1),
+    ),
     // No text of certificates.
     ("", "", Verdict::BadProofs),
     ("proofs 1 1 0", "", Verdict::BadProofs),
@@ -46,21 +90,61 @@ const VERDICTS: &[(&str, &str, Verdict)] = &[
     ("proofs 0 1 0\n", "", Verdict::BadProofs),
     ("proofs 1 32768 0\n", "", Verdict::BadProofs),
     ("proofs 1 1 4294967296\n", "", Verdict::BadProofs),
-    ("proofs 1 1 2\npath 0,1 0,0 1,0 1,1\n", ONE_RIGHT, Verdict::BadProofs),
-    ("proofs 1 1 0\npath 0,1 0,0 1,0 1,1\n", ONE_RIGHT, Verdict::BadProofs),
-    ("proofs 1 1 1\npath 0,1 0,0 2,0 1,1\n", ONE_RIGHT, Verdict::BadProofs),
-    ("proofs 1 1 1\npath 0,1 0,0 1,-0 1,1\n", ONE_RIGHT, Verdict::BadProofs),
+    (
+        "proofs 1 1 2\npath 0,1 0,0 1,0 1,1\n",
+        ONE_RIGHT,
+        Verdict::BadProofs,
+    ),
+    (
+        "proofs 1 1 0\npath 0,1 0,0 1,0 1,1\n",
+        ONE_RIGHT,
+        Verdict::BadProofs,
+    ),
+    (
+        "proofs 1 1 1\npath 0,1 0,0 2,0 1,1\n",
+        ONE_RIGHT,
+        Verdict::BadProofs,
+    ),
+    (
+        "proofs 1 1 1\npath 0,1 0,0 1,-0 1,1\n",
+        ONE_RIGHT,
+        Verdict::BadProofs,
+    ),
     ("proofs 1 1 1\npath\n", ONE_RIGHT, Verdict::BadProofs),
     (ONE, "at\nlabels 4:0 3:0 2:0 1:0 0:0\n", Verdict::BadProofs),
     (ONE, "at 0 1 2 3\nlabels\n", Verdict::BadProofs),
-    (ONE, "at 0 1 2 3 \nlabels 4:0 3:0 2:0 1:0 0:0\n", Verdict::BadProofs),
-    (ONE, "at 0 1 2 3\nlabels 4:0 3:0 2:0 1:0 0:0", Verdict::BadProofs),
-    (ONE, "at 0 1 2 3\nlabels 4:0 3:0 2:0 1:0 0\n", Verdict::BadProofs),
-    (ONE, "at 0 1 2 3\nlabels 4:0 3:0 2:0 1:0 00:0\n", Verdict::BadProofs),
+    (
+        ONE,
+        "at 0 1 2 3 \nlabels 4:0 3:0 2:0 1:0 0:0\n",
+        Verdict::BadProofs,
+    ),
+    (
+        ONE,
+        "at 0 1 2 3\nlabels 4:0 3:0 2:0 1:0 0:0",
+        Verdict::BadProofs,
+    ),
+    (
+        ONE,
+        "at 0 1 2 3\nlabels 4:0 3:0 2:0 1:0 0\n",
+        Verdict::BadProofs,
+    ),
+    (
+        ONE,
+        "at 0 1 2 3\nlabels 4:0 3:0 2:0 1:0 00:0\n",
+        Verdict::BadProofs,
+    ),
     (ONE, "at 0 1 2 4294967296\nlabels 0:0\n", Verdict::BadProofs),
-    (ONE, "at 0 1 2 4294967295\nlabels 4294967295:18446744073709551615\n", Verdict::Wrong(1)),
+    (
+        ONE,
+        "at 0 1 2 4294967295\nlabels 4294967295:18446744073709551615\n",
+        Verdict::Wrong(1),
+    ),
     (ONE, "at 0 1 2 3\nlabels 4294967296:0\n", Verdict::BadProofs),
-    (ONE, "at 0 1 2 3\nlabels 4:0 3:0 2:0 1:0 0:18446744073709551616\n", Verdict::BadProofs),
+    (
+        ONE,
+        "at 0 1 2 3\nlabels 4:0 3:0 2:0 1:0 0:18446744073709551616\n",
+        Verdict::BadProofs,
+    ),
 ];
 
 #[test]
@@ -90,12 +174,38 @@ fn first_of_several_wrong_paths(rt: HostRuntime) -> Result<(), Fail> {
 
 /// The certificate of two pixels in a row: its numbers, each with what stands before it.
 const NUMBERS: &[(&str, u64)] = &[
-    ("proofs ", 2), (" ", 1), (" ", 1),
-    ("\npath ", 0), (",", 1), (" ", 0), (",", 0), (" ", 1), (",", 0), (" ", 2), (",", 0), (" ", 2),
-    (",", 1), (" ", 1), (",", 1),
-    ("\nat ", 0), (" ", 2), (" ", 4),
-    ("\nlabels ", 3), (":", 294), (" ", 3), (":", 0), (" ", 2), (":", 147), (" ", 2), (":", 0),
-    (" ", 1), (":", 0), (" ", 1), (":", 0), (" ", 0), (":", 0),
+    ("proofs ", 2),
+    (" ", 1),
+    (" ", 1),
+    ("\npath ", 0),
+    (",", 1),
+    (" ", 0),
+    (",", 0),
+    (" ", 1),
+    (",", 0),
+    (" ", 2),
+    (",", 0),
+    (" ", 2),
+    (",", 1),
+    (" ", 1),
+    (",", 1),
+    ("\nat ", 0),
+    (" ", 2),
+    (" ", 4),
+    ("\nlabels ", 3),
+    (":", 294),
+    (" ", 3),
+    (":", 0),
+    (" ", 2),
+    (":", 147),
+    (" ", 2),
+    (":", 0),
+    (" ", 1),
+    (":", 0),
+    (" ", 1),
+    (":", 0),
+    (" ", 0),
+    (":", 0),
 ];
 
 /// The same text with other numbers: each is one greater, one less, or twice as great and one more.
@@ -105,7 +215,10 @@ fn each_number_changed(rt: HostRuntime) -> Result<(), Fail> {
         for other in others(place, *number) {
             let text = text_with(rt.alloc(), place, other)?;
             let verdict = check_proofs(rt.alloc(), &text)?;
-            assert!(rt; (verdict == Verdict::Right(1)) == (other == *number), "{place}: {other}");
+            assert!(rt;
+                (verdict == Verdict::Right(1)) == (other == *number),
+                "{place}: {other}"
+            );
         }
     }
     Ok(())
@@ -118,7 +231,11 @@ fn others(place: usize, number: u64) -> [u64; 3] {
     if place < 2 {
         [less, less, less]
     } else {
-        [less, number.wrapping_add(1), number.wrapping_mul(2).wrapping_add(1)]
+        [
+            less,
+            number.wrapping_add(1),
+            number.wrapping_mul(2).wrapping_add(1),
+        ]
     }
 }
 
