@@ -4,5 +4,5 @@
 //! believes it needs to trust neither the program that traced the page nor the machine on which it ran.
 #![tactic(auto)]
 
+pub mod program;
 pub mod task;
-pub mod top;

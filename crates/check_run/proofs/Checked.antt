@@ -15,7 +15,7 @@ use Rattle.small_program.specs.Reply.{IsReply}
 use Rattle.small_program.specs.declared.ending.Ending.{Ending}
 use Rattle.small_program.specs.declared.ending.Ending.TheVariants as ending
 use Rattle.small_program.proofs.Taking.{one_input}
-use Rattle.outline_main.specs.Verdict.{IsCheckReply}
+use Rattle.check_run.specs.Verdict.{IsCheckReply}
 
 module _ (source source_now : Source) (text : List ℕ) (width height : ℕ) (paths : List Certified) (tells : TellsInput source.files text)
     (reads : IsProofs text width height paths) where

@@ -1,6 +1,6 @@
 //! What the program makes of its input.
 ghost use Rattle.std.specs.Prelude.{◌≡◌, ◌++◌, codes, decimal, string_bytes, IfOk};
-ghost use Rattle.outline_main.specs.Verdict.{verdict_line};
+ghost use Rattle.check_run.specs.Verdict.{verdict_line};
 
 use outline_check::judge::check_proofs;
 use outline_check::verdict::Verdict;
@@ -14,8 +14,8 @@ use std::alloc::Global;
 pub struct Checking;
 
 impl Task for Checking {
-    ghost use Rattle.outline_main.specs.Verdict.{IsCheckReply};
-    ghost use Rattle.outline_main.specs.OneReply.{one_ending, one_line};
+    ghost use Rattle.check_run.specs.Verdict.{IsCheckReply};
+    ghost use Rattle.check_run.specs.OneReply.{one_ending, one_line};
 
     ghost makes = { λ task bytes ending text. IsCheckReply bytes ending text };
 

@@ -1,7 +1,7 @@
-//! outline_check: says whether certificates are right. All that it does is one call, `check_run` of `outline_main`.
+//! outline_check: says whether certificates are right. All that it does is one call, `check_run` of `check_run`.
 #![tactic(auto)]
 
-use outline_main::top::check_run;
+use check_run::program::check_run;
 use pt_base::err_sink::ErrSink;
 use pt_base::file_inputs::FileInputs;
 use pt_base::file_outputs::FileOutputs;

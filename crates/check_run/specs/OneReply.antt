@@ -4,7 +4,7 @@ use Rattle.outline_check.specs.declared.verdict.Verdict.TheVariants.{Right, Wron
 use Rattle.outline_check.proofs.OneVerdict.{one_verdict}
 use Rattle.small_program.specs.declared.ending.Ending.{Ending}
 use Rattle.small_program.specs.declared.ending.Ending.TheVariants as ending
-use Rattle.outline_main.specs.Verdict.{IsCheckReply, verdict_line}
+use Rattle.check_run.specs.Verdict.{IsCheckReply, verdict_line}
 
 pub one_ending : (bytes a b : List ℕ) (this that : Ending) → IsCheckReply bytes this a → IsCheckReply bytes that b → this ≡ that
 one_ending bytes a b ending.Done ending.Done x y = refl

@@ -2,7 +2,7 @@
 ghost use Rattle.std.specs.Prelude.{◌≡◌, ℕ, List, All, codes, false, length, true};
 ghost use Rattle.outline_check.specs.ProofsText.{Certified};
 ghost use Rattle.outline_check.specs.Texts.{IsProofs};
-ghost use Rattle.outline_main.specs.Verdict.{IsCheckReply};
+ghost use Rattle.check_run.specs.Verdict.{IsCheckReply};
 ghost use Rattle.polygon_optimal.specs.Polygon.{IsBestPolygon};
 ghost use Rattle.run_output.specs.Told.{sinks_of, source_of};
 ghost use Rattle.small_program.specs.Ending.{exit_code};

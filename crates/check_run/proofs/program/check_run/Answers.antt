@@ -1,7 +1,7 @@
 use Rattle.std.proofs.Common.{sym, ◌∙◌, codes}
 use Rattle.run_output.specs.Told.{sinks_of, source_of}
-use Rattle.outline_main.proofs.Checked.{best_where_done}
-use Rattle.outline_main.proofs.top.check_run.Goals as goal
+use Rattle.check_run.proofs.Checked.{best_where_done}
+use Rattle.check_run.proofs.program.check_run.Goals as goal
 
 pub returns-clause-best : goal.returns-clause-best
 returns-clause-best g c = λ zero text width height paths tells reads.
