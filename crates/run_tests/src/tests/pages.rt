@@ -79,7 +79,7 @@ const DOT_SVG: &str = square_svg!(
 
 const EMPTY_SVG: &str = square_svg!(1, "");
 
-const PAGES: &[Page] = &[
+pub const PAGES: &[Page] = &[
     // Speckles.
     (LEFT, b"P1 1 1 1\n", &[("-", PIXEL)]),
     (LEFT, b"P1 1 1 0", &[("-", WHITE)]),
