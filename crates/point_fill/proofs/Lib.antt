@@ -1,0 +1,11 @@
+pub mod Numbers
+pub mod Spelling
+pub mod Traced
+pub mod Shown
+pub mod Placing
+pub mod Looping
+pub mod Marking
+pub mod Sweeping
+pub mod Pathing
+pub mod Whole
+mod Examples
