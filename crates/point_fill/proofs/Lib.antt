@@ -8,4 +8,5 @@ pub mod Marking
 pub mod Sweeping
 pub mod Pathing
 pub mod Whole
+pub mod Replying
 mod Examples

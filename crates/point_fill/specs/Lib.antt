@@ -25,3 +25,8 @@ pub mod Reading
 --   swept: the pixels that have an odd number of marks from the left end of their row up to themselves
 --   AreMarked: once the marks are swept, these pixels of the page are inverted
 pub mod Swept
+-- What the program makes of its input.
+--   fill_text: why a text can't be filled, in words
+--   IsFillReply: the page that a text fills, as raw PBM, or that it is refused
+--   filler: the program's name
+pub mod Reply
