@@ -1,10 +1,18 @@
 //! All that the program does.
-ghost use Rattle.std.specs.Prelude.{◌≡◌, ℕ, false, length, true};
+ghost use Rattle.std.specs.Prelude.{◌≡◌, ◌≤◌, List, false, length, true};
+ghost use Rattle.pt_base.specs.PointsText.{points_text};
+ghost use Rattle.pt_base.specs.declared.path.Path.{Path};
+ghost use Rattle.pt_base.specs.declared.policy.Policy.{Policy};
+ghost use Rattle.bit_image.specs.Page.{IsPage, Page};
+ghost use Rattle.path_decompose.specs.Decomposition.{IsDecomposition, kept};
 ghost use Rattle.run_output.specs.Told.{sinks_of, source_of};
 ghost use Rattle.small_program.specs.Ending.{exit_code};
+ghost use Rattle.small_program.specs.Input.{TellsInput};
 ghost use Rattle.small_program.specs.Outcome.{IsProgramRun};
 ghost use Rattle.small_program.specs.declared.ending.Ending.{Ending};
+ghost use Rattle.small_program.specs.declared.input.TheConstants.{MOST_BYTES};
 ghost use Rattle.point_fill.specs.Reply.{IsFillReply, filler};
+ghost use Rattle.fill_run.specs.Round.{GivesBack};
 
 use bit_image::pbm::pbm;
 use point_fill::fault::FillFault;
@@ -57,8 +65,17 @@ pub fn fill_run<I: Inputs, O: Outputs, E: Sink>(
 ) -> u8
     requires closed { O.is_ready outs.old ≡ false }
     requires ready { E.is_ready errs.old ≡ true }
-    ensures { (end : Ending) × (result ≡ exit_code end)
+    ensures ran { (end : Ending) × (result ≡ exit_code end)
         × IsProgramRun IsFillReply filler (length words.now) end
+        (source_of I.Inputs inputs.old) (source_of I.Inputs inputs.new)
+        (sinks_of O.Sink E.Sink outs.old errs.old) (sinks_of O.Sink E.Sink outs.new errs.new) }
+
+    // The points text of a page's paths, under any policy and with no speckle left out, gives the page back.
+    ensures gives_back { (page : Page) (policy : Policy) (all : List Path) → IsPage page
+        → IsDecomposition page policy all → length words.now ≡ 0
+        → TellsInput (I.files inputs.old) (points_text page.width page.height (kept 0 all))
+        → length (points_text page.width page.height (kept 0 all)) ≤ MOST_BYTES
+        → (end : Ending) × (result ≡ exit_code end) × GivesBack page end
         (source_of I.Inputs inputs.old) (source_of I.Inputs inputs.new)
         (sinks_of O.Sink E.Sink outs.old errs.old) (sinks_of O.Sink E.Sink outs.new errs.new) }
 {
