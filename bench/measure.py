@@ -31,6 +31,12 @@ def built(program=None):
     return os.path.abspath(program)
 
 
+def built_filler():
+    """Ours that fills points, which is built first where that is due."""
+    subprocess.run([f"{TOP}/launch", "--build", "point_fill"], check=True)
+    return f"{TOP}/crates/point_fill_main/out/point_fill_main"
+
+
 def timed(words, page=os.devnull, document=os.devnull):
     """What one run takes, from a page to a document."""
     with open(page, "rb") as source, open(document, "wb") as sink:

@@ -1,5 +1,7 @@
 //! The words that a program was started with.
-ghost use Rattle.std.specs.Prelude.{◌≡◌, ◌⊎◌, true, IfErr};
+ghost use Rattle.std.specs.Prelude.{◌≡◌, ◌⊎◌, true, codes, IfErr, OnOk};
+ghost use Rattle.run_output.specs.Messages.{program_line};
+ghost use Rattle.run_output.specs.Told.{IsMessage, told_of};
 ghost use Rattle.small_program.specs.declared.ending.Ending.TheVariants.{BadWords, OutOfMemory};
 
 use crate::ending::Ending;
@@ -17,7 +19,12 @@ pub fn words_of<R: Env + Alloc<A = Global>, E: Sink>(
     errs: &mut E,
 ) -> Result<Vec<String>, Ending>
     requires { E.is_ready errs.old ≡ true }
-    ensures { IfErr result (λ end. (end ≡ BadWords) ⊎ (end ≡ OutOfMemory)) }
+    ensures silent { OnOk result (told_of E.Sink errs.new ≡ told_of E.Sink errs.old) }
+    ensures says { IfErr result (λ end. ((end ≡ BadWords) × IsMessage
+        (program_line program.now (codes "bad arguments")) (told_of E.Sink errs.old) (told_of E.Sink errs.new))
+        ⊎ ((end ≡ OutOfMemory) × IsMessage
+        (program_line program.now (codes "out of memory")) (told_of E.Sink errs.old) (told_of E.Sink errs.new))) }
+    ensures stays_ready { E.is_ready errs.new ≡ true }
 {
     let args = match env::args(rt) {
         Ok(args) => args,
