@@ -31,10 +31,14 @@ def built(program=None):
     return os.path.abspath(program)
 
 
-def built_filler():
-    """Ours that fills points, which is built first where that is due."""
-    subprocess.run([f"{TOP}/launch", "--build", "point_fill"], check=True)
-    return f"{TOP}/crates/point_fill_main/out/point_fill_main"
+def built_other(name, program=None):
+    """The program that is given, or ours of this name, which is built first where that is due."""
+    if not program:
+        subprocess.run([f"{TOP}/launch", "--build", name], check=True)
+        with open(f"{TOP}/programs.txt", encoding="utf-8") as file:
+            crate = next(line.split()[1] for line in file if line.startswith(f"{name}:"))
+        program = f"{TOP}/crates/{crate}/out/{crate}"
+    return os.path.abspath(program)
 
 
 def timed(words, page=os.devnull, document=os.devnull):
