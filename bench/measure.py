@@ -31,6 +31,16 @@ def built(program=None):
     return os.path.abspath(program)
 
 
+def built_other(name, program=None):
+    """The program that is given, or ours of this name, which is built first where that is due."""
+    if not program:
+        subprocess.run([f"{TOP}/launch", "--build", name], check=True)
+        with open(f"{TOP}/programs.txt", encoding="utf-8") as file:
+            crate = next(line.split()[1] for line in file if line.startswith(f"{name}:"))
+        program = f"{TOP}/crates/{crate}/out/{crate}"
+    return os.path.abspath(program)
+
+
 def timed(words, page=os.devnull, document=os.devnull):
     """What one run takes, from a page to a document."""
     with open(page, "rb") as source, open(document, "wb") as sink:

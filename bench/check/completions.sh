@@ -30,8 +30,8 @@ FOLDER = sys.argv[1]
 
 # A line, what has to be offered for its last word, and what must not be.
 CASES = [
-    ("potrace -b ", "svg eps dxf geojson points polygons", "pdf --svg"),
-    ("potrace -b p", "points polygons", "svg"),
+    ("potrace -b ", "svg eps dxf geojson points polygons proofs", "pdf --svg"),
+    ("potrace -b p", "points polygons proofs", "svg"),
     ("potrace --backend=g", "geojson", "points"),
     ("potrace -z m", "minority majority", "black"),
     ("potrace --turnpolicy ", "black white left right minority majority", "random"),

@@ -1,11 +1,12 @@
 #!/usr/bin/env python3
-"""Runs the built program where devices fail, memory is short and input never ends.
+"""Runs the built programs where devices fail, memory is short and input never ends.
 
-usage: trouble.py PROGRAM
+usage: trouble.py POTRACE [NAME=PROGRAM ..]
 
-Each line says what came: the status, the message and how many bytes of documents. A case fails where none of the
-answers that docs/FORMATS.md allows there came, and the status is then 1. It needs python3, and two processors or more
-for the workers' case. As root it tries the folder that may not be written in as the user 65534.
+NAME is another program, `point_fill` or `outline_check`, and PROGRAM where it stands. Each line says what came: the status, the message and how many bytes of documents. A case fails where none of the
+answers that docs/FORMATS.md allows there came, and the status is then 1. It needs python3, two processors or more
+for the workers' case, and 4 GB of memory for the longest texts. As root it tries the folder that may not be written in as
+the user 65534.
 """
 import collections
 import os
@@ -241,20 +242,89 @@ def workers(it):
     it.expect("1,000 pages, 64 workers and 2 processors", it.run([*POLYGONS, "--workers", "64"], pages, preexec_fn=few), (0, texts, b""))
 
 
+# A program that reads all of standard input: a text and its document, what is said of a text that is none, and texts that
+# are none.
+Small = collections.namedtuple("Small", "text document bad hostile")
+
+DIAGONAL = b"points 2 2 2\n+ 1 0,2 0,1 1,1 1,2\n+ 1 1,1 1,0 2,0 2,1\n"
+CERTIFIED = b"proofs 1 1 1\npath 0,1 0,0 1,0 1,1\nat 0 1 2 3\nlabels 4:0 3:0 2:0 1:0 0:0\n"
+SMALL = {
+    "point_fill": Small(DIAGONAL, b"P4\n2 2\n\x80\x40", b"bad points", (
+        b"points " + b"9" * 1000000 + b" 1 0\n",
+        b"points " + b"0" * 1000000 + b"1 1 0\n",
+        b"points 1 1 1\n+ " + b"9" * 1000000 + b" 0,1 0,0 1,0 1,1\n",
+        b"points 32767 32767 4294967295\n",
+        b"points 32767 32767 1\n+ 1" + b" 0,0 0,1" * 1000000,
+        DIAGONAL.replace(b"\n", b"\r\n"),
+    )),
+    "outline_check": Small(CERTIFIED, b"right 1\n", b"bad proofs", (
+        b"proofs " + b"9" * 1000000 + b" 1 0\n",
+        b"proofs " + b"0" * 1000000 + b"1 1 0\n",
+        b"proofs 1 1 1\npath " + b"9" * 1000000 + b",1 0,0 1,0 1,1\n",
+        CERTIFIED.replace(b"0:0", b"0:" + b"9" * 1000000),
+        CERTIFIED.replace(b"at 0", b"at " + b"0" * 1000000),
+        b"proofs 32767 32767 4294967295\n",
+        b"proofs 32767 32767 1\npath" + b" 0,0 0,1" * 1000000,
+        b"proofs 32767 32767 1\npath 0,0\nat 0\nlabels" + b" 4294967295:18446744073709551615" * 1000000,
+        CERTIFIED.replace(b"\n", b"\r\n"),
+        CERTIFIED.replace(b" 1:0", b"  1:0"),
+    )),
+}
+
+
+def small(it, name):
+    """A program that reads all of standard input."""
+    text, document, bad, hostile = SMALL[name]
+    said = lambda what: b"%s: %s\n" % (name.encode(), what)
+    refused, long = (2, b"", said(b"-: " + bad)), (2, b"", said(b"-: text too long"))
+    it.expect(f"{name}: a text", it.run([], text), (0, document, b""))
+    for words in (["-h"], [""], [b"\xff\xfe"], ["a" * 5000]):
+        it.expect(f"{name}: a word", it.run(words, text), (1, b"", said(b"bad arguments")))
+    cut = [it.run([], text[:at]) for at in range(len(text))]
+    it.expect(f"{name}: the text cut anywhere", max(cut), refused)
+    it.expect(f"{name}: and anywhere else", min(cut), refused)
+    for at, it_is in enumerate(hostile):
+        it.expect(f"{name}: hostile text {at}", it.run([], it_is), refused)
+    it.expect(f"{name}: 2^30 bytes", it.run([], text + b" " * (2 ** 30 - len(text))), refused)
+    it.expect(f"{name}: one byte more", it.run([], text + b" " * (2 ** 30 + 1 - len(text))), long)
+    with open("/dev/zero", "rb") as zero:
+        it.expect(f"{name}: zeros without end", it.run([], stdin=zero), long)
+    bound = lambda: resource.setrlimit(resource.RLIMIT_AS, (256 << 20, 256 << 20))
+    with open("/dev/zero", "rb") as zero:
+        it.expect(f"{name}: the same in 256 MB", it.run([], stdin=zero, preexec_fn=bound), (5, b"", said(b"out of memory")))
+    unread, unwritten = (3, b"", said(b"-: read fault")), (4, b"", said(b"-: write fault"))
+    it.expect(f"{name}: nothing", it.run([], b""), refused)
+    place = os.open(it.folder, os.O_RDONLY)
+    it.expect(f"{name}: a folder for standard input", it.run([], stdin=place), unread)
+    os.close(place)
+    it.expect(f"{name}: no standard input", it.run([], stdin=subprocess.DEVNULL, preexec_fn=lambda: os.close(0)), unread)
+    with open("/dev/full", "wb") as full:
+        it.expect(f"{name}: a full standard output", it.run([], text, stdout=full), unwritten)
+        it.expect(f"{name}: a full standard error", it.run(["-q"], stderr=full), (1, b"", b""))
+    ends = os.pipe()
+    os.close(ends[0])
+    it.expect(f"{name}: a closed pipe", it.run([], text, stdout=ends[1]), unwritten)
+    os.close(ends[1])
+
+
 def main():
-    if len(sys.argv) != 2:
+    programs = dict(word.split("=", 1) for word in sys.argv[2:] if "=" in word)
+    if len(sys.argv) < 2 or len(programs) != len(sys.argv) - 2 or not {*programs} <= {*SMALL}:
         sys.exit(__doc__)
-    if not os.access(sys.argv[1], os.X_OK):
-        sys.exit(f"trouble: {sys.argv[1]} is no program")
-    with tempfile.TemporaryDirectory() as folder:
-        os.chmod(folder, 0o755)
-        program = os.path.join(folder, "potrace")
-        shutil.copy(sys.argv[1], program)
-        it = Trouble(program, folder)
-        for part in (outputs, inputs, endless, memory, workers):
-            part(it)
-    print(f"{it.failed} failed")
-    sys.exit(it.failed > 0)
+    failed = 0
+    for name, path in {"potrace": sys.argv[1], **programs}.items():
+        if not os.access(path, os.X_OK):
+            sys.exit(f"trouble: {path} is no program")
+        with tempfile.TemporaryDirectory() as folder:
+            os.chmod(folder, 0o755)
+            program = os.path.join(folder, name)
+            shutil.copy(path, program)
+            it = Trouble(program, folder)
+            for part in (outputs, inputs, endless, memory, workers) if name == "potrace" else (lambda it: small(it, name),):
+                part(it)
+            failed += it.failed
+    print(f"{failed} failed")
+    sys.exit(failed > 0)
 
 
 if __name__ == "__main__":

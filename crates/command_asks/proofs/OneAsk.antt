@@ -4,7 +4,7 @@ use Rattle.pt_base.proofs.Decimals.{one_micro}
 use Rattle.pt_base.specs.declared.policy.Policy.{Policy}
 use Rattle.pt_base.specs.declared.policy.Policy.TheVariants.{Left, Right, Black, White, Majority, Minority}
 use Rattle.pt_base.specs.declared.settings.Backend.{Backend}
-use Rattle.pt_base.specs.declared.settings.Backend.TheVariants.{Eps, Svg, Dxf, GeoJson, Points, Polygons}
+use Rattle.pt_base.specs.declared.settings.Backend.TheVariants.{Eps, Svg, Dxf, GeoJson, Points, Polygons, Proofs}
 use Rattle.pt_base.specs.declared.settings.Settings.{Settings}
 use Rattle.command_words.specs.Given.{Given}
 use Rattle.command_words.specs.Parsed.{parsed}
@@ -34,6 +34,7 @@ same_backend Dxf Dxf e = refl
 same_backend GeoJson GeoJson e = refl
 same_backend Points Points e = refl
 same_backend Polygons Polygons e = refl
+same_backend Proofs Proofs e = refl
 same_backend p q e = absurd (let same : sum (backend_word p) ≡ sum (backend_word q) = ap sum e in omega (arith, same))
 
 one_policy : (name : Option (List ℕ)) (p q : Policy) → NamesPolicy name p → NamesPolicy name q → p ≡ q

@@ -1,8 +1,8 @@
 -- What words ask for can be done.
-use Rattle.std.proofs.Common.{◌≡◌, ◌≢◌, ◌≤◌, ℕ, Bool, true, false, List, [], ◌∷◌, Option, Some, None, All, sym, ap, subst, codes, length, arith}
+use Rattle.std.proofs.Common.{◌≡◌, ◌≢◌, ◌≤◌, ℕ, Bool, true, false, List, [], ◌∷◌, Option, Some, None, All, sym, ap, subst, codes, length, refl, arith}
 use Rattle.std.proofs.lemmas.List.Elements.{All-cons, All-nil}
 use Rattle.pt_base.specs.declared.settings.Backend.{Backend}
-use Rattle.pt_base.specs.declared.settings.Backend.TheVariants.{Eps, Svg, Dxf, GeoJson, Points, Polygons}
+use Rattle.pt_base.specs.declared.settings.Backend.TheVariants.{Eps, Svg, Dxf, GeoJson, Points, Polygons, Proofs}
 use Rattle.pt_base.specs.declared.settings.Settings.{Settings}
 use Rattle.page_trace.specs.Document.{CanDraw, CanTrace, CanWriteUnder}
 use Rattle.page_trace.specs.Offered.{IsOffered}
@@ -13,7 +13,7 @@ use Rattle.command_words.specs.declared.parsed.Parsed.TheVariants as words
 use Rattle.run_output.specs.Names.{dash}
 use Rattle.command_asks.specs.declared.ask.Ask.{Ask}
 use Rattle.command_asks.specs.declared.ask.Ask.TheVariants.{Help, Version, Demo, Files}
-use Rattle.command_asks.specs.Asked.{Asks, AsksDemo, AsksFiles, AsksOf, CanBeDone, GivesSettings, IsAsked, IsMicroOr, IsWholeOf, IsWholeOr, inputs_of}
+use Rattle.command_asks.specs.Asked.{Asks, AsksDemo, AsksFiles, AsksOf, CanBeDone, CertifiesFirst, GivesSettings, IsAsked, IsMicroOr, IsWholeOf, IsWholeOr, inputs_of}
 
 -- a number is in its range where its default is
 whole_within : (text : Option (List ℕ)) (default least most n : ℕ) → least ≤ default → default ≤ most → IsWholeOr text default least most n
@@ -30,13 +30,14 @@ micro_within None default most n to is = rw is to
 micro_within (Some text) default most n to is = is.1
 
 -- what can be drawn can be written by each backend
-can_write : (backend : Backend) (settings : Settings) → CanDraw settings → CanWriteUnder backend settings
-can_write Points settings can = tt
-can_write Polygons settings can = tt
-can_write Svg settings can = can
-can_write Eps settings can = can
-can_write Dxf settings can = can.traced
-can_write GeoJson settings can = can.traced
+can_write : (backend : Backend) (settings : Settings) → CertifiesFirst backend settings.cyclic → CanDraw settings → CanWriteUnder backend settings
+can_write Points settings first can = tt
+can_write Polygons settings first can = tt
+can_write Proofs settings first can = first refl
+can_write Svg settings first can = can
+can_write Eps settings first can = can
+can_write Dxf settings first can = can.traced
+can_write GeoJson settings first can = can.traced
 
 traced : (g : Given) (settings : Settings) → GivesSettings g settings → CanTrace settings
 traced g settings gives = record {
@@ -49,7 +50,7 @@ offered g settings gives =
     let unit = whole_within g.unit 10 1 1000 settings.unit (omega arith) (omega arith) gives.unit in
     let drawn : CanDraw settings = record { traced = traced g settings gives; some = unit.0; most = unit.1 } in
     record {
-      document = can_write settings.backend settings drawn;
+      document = can_write settings.backend settings gives.certified drawn;
       level = micro_within g.blacklevel 500000 1000000 settings.level (omega arith) gives.level;
     }
 

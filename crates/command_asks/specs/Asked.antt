@@ -6,7 +6,7 @@ use Rattle.pt_base.specs.Whole.{IsWhole}
 use Rattle.pt_base.specs.declared.policy.Policy.{Policy}
 use Rattle.pt_base.specs.declared.policy.Policy.TheVariants.{Left, Right, Black, White, Majority, Minority}
 use Rattle.pt_base.specs.declared.settings.Backend.{Backend}
-use Rattle.pt_base.specs.declared.settings.Backend.TheVariants.{Eps, Svg}
+use Rattle.pt_base.specs.declared.settings.Backend.TheVariants.{Eps, Svg, Proofs}
 use Rattle.pt_base.specs.declared.settings.Settings.{Settings}
 use Rattle.page_trace.specs.Document.{CanTrace, backend_word}
 use Rattle.page_trace.specs.Offered.{IsOffered}
@@ -57,12 +57,17 @@ abbrev pub IsMicroOr : Option (List ℕ) → ℕ → ℕ → ℕ → Type 0
 IsMicroOr None default most n = n ≡ default
 IsMicroOr (Some text) default most n = IsMicro text n × (n ≤ most)
 
+-- certificates are of polygons through their paths' first points alone
+abbrev pub CertifiesFirst : Backend → Bool → Type 0
+CertifiesFirst backend cyclic = backend ≡ Proofs → cyclic ≡ false
+
 -- the options give these settings; behind a value stand its default, then its least and its greatest
 pub record GivesSettings (given : Given) (settings : Settings) : Type 0 where
   pub backend : NamesBackend given.backend given.svg given.eps settings.backend
   pub policy : NamesPolicy given.turnpolicy settings.policy
   pub turd : IsWholeOr given.turdsize 2 0 1000000000 settings.turd
   pub cyclic : settings.cyclic ≡ given.cyclic
+  pub certified : CertifiesFirst settings.backend settings.cyclic
   pub alphamax : IsMicroOr given.alphamax 1000000 1000000000 settings.alphamax
   pub long_curve : settings.long_curve ≡ given.longcurve
   pub tolerance : IsMicroOr given.opttolerance 200000 1000000000 settings.tolerance

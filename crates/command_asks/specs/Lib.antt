@@ -5,6 +5,7 @@
 --   IsWholeOr: n is the default where there is no value; else the value is the whole number n, in a range
 --   IsWholeOf: there is a value, and it is the whole number n, in a range
 --   IsMicroOr: n is the default where there is no value; else the value is a decimal number of n millionths
+--   CertifiesFirst: certificates are of polygons through their paths' first points alone
 --   GivesSettings: the options give these settings
 --   AreProper: no file name is empty, and standard input is named at most once
 --   inputs_of: the files to be read

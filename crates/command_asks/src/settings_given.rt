@@ -44,12 +44,16 @@ const DEFAULT_LEVEL: u32 = 500_000;
 /// The greatest black level, in millionths.
 const GREATEST_LEVEL: u32 = 1_000_000;
 
-/// The settings that the options give, if each value is in its range and at most one backend is named.
+/// The settings that the options give, if each value is in its range, at most one backend is named, and no
+/// certificate is asked for of a polygon through any point.
 pub fn settings_given(given: &Given) -> Option<Settings>
     ensures given { IfSome result (GivesSettings given.now) }
     ensures refused { IfNone result ((settings : Settings) → GivesSettings given.now settings → ⊥) }
 {
     let backend = backend_given(given.backend, given.svg, given.eps)?;
+    if backend == Backend::Proofs && given.cyclic {
+        return None;
+    }
     let policy = policy_given(given.turnpolicy)?;
     let turd = whole_or(given.turdsize, DEFAULT_SPECKLE, 0, GREATEST_SPECKLE)?;
     let alphamax = micro_or(given.alphamax, DEFAULT_ALPHAMAX, GREATEST_ALPHAMAX)?;

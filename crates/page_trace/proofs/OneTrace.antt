@@ -6,7 +6,7 @@ use Rattle.pt_base.specs.PolygonsText.{polygons_text}
 use Rattle.pt_base.specs.declared.path.Path.{Path}
 use Rattle.pt_base.specs.declared.polygon.Polygon.{Polygon}
 use Rattle.pt_base.specs.declared.settings.Backend.{Backend}
-use Rattle.pt_base.specs.declared.settings.Backend.TheVariants.{Eps, Svg, Dxf, GeoJson, Points, Polygons}
+use Rattle.pt_base.specs.declared.settings.Backend.TheVariants.{Eps, Svg, Dxf, GeoJson, Points, Polygons, Proofs}
 use Rattle.pt_base.specs.declared.settings.Settings.{Settings}
 use Rattle.pt_base.specs.declared.trace.Trace.{Trace}
 use Rattle.bit_image.specs.Page.{Page, image_of}
@@ -27,8 +27,10 @@ use Rattle.eps_backend.specs.EpsText.{eps_text}
 use Rattle.dxf_geojson.specs.DxfText.{dxf_text}
 use Rattle.dxf_geojson.specs.GeoJsonText.{geojson_text}
 use Rattle.path_tree.specs.Groups.{groups_of}
+use Rattle.outline_check.specs.Printed.{IsPrinted}
+use Rattle.outline_check.proofs.Written.{one_text}
 use Rattle.page_trace.specs.Trace.{ArePaths, AreVerticesOf, HasPolygons, IsOutlineOf, IsOutlineWith, IsPolygonOf, IsPolygonWith, IsTrace, tolerance_of}
-use Rattle.page_trace.specs.Document.{IsDocumentUnder, text_under}
+use Rattle.page_trace.specs.Document.{IsDocumentUnder, IsTextUnder}
 
 pub one_list_of_paths : (page : Page) (settings : Settings) (paths others : List Path) → ArePaths page settings paths → ArePaths page settings others → paths ≡ others
 one_list_of_paths page settings paths others these those =
@@ -119,29 +121,46 @@ one_trace page settings trace other this that =
     (one_list_of_outlines settings other.vertices trace.outlines other.outlines
     (subst (λ lists. AllZip (IsOutlineOf settings) lists trace.outlines) vertices this.outlines) that.outlines) (this.groups ∙ ap groups_of paths ∙ sym that.groups)
 
--- the polygons text shows no more than the sides, the paths and the polygons
-same_polygons_text : (page : Page) (settings : Settings) (trace other : Trace) → HasPolygons page settings trace → HasPolygons page settings other
-    → polygons_text trace ≡ polygons_text other
-same_polygons_text page settings trace other this that =
+-- what is shown is no more than the sides, the paths and the polygons
+abbrev up_to_polygons : Trace → Trace → Trace
+up_to_polygons trace other = record other { vertices = trace.vertices; outlines = trace.outlines; groups = trace.groups }
+
+same_up_to_polygons : (page : Page) (settings : Settings) (trace other : Trace) → HasPolygons page settings trace → HasPolygons page settings other
+    → trace ≡ up_to_polygons trace other
+same_up_to_polygons page settings trace other this that =
     let width = this.width ∙ sym that.width in
     let height = this.height ∙ sym that.height in
     let paths = same_paths page settings trace other this that in
     let polygons = same_polygons page settings trace other this that in
-    ap polygons_text
-    (ap (λ v. record trace { width = v }) width
+    ap (λ v. record trace { width = v }) width
     ∙ ap (λ v. record trace { width = other.width; height = v }) height
     ∙ ap (λ v. record trace { width = other.width; height = other.height; paths = v }) paths
-    ∙ ap (λ v. record trace { width = other.width; height = other.height; paths = other.paths; polygons = v }) polygons)
+    ∙ ap (λ v. record trace { width = other.width; height = other.height; paths = other.paths; polygons = v }) polygons
+
+-- by the polygons text
+same_polygons_text : (page : Page) (settings : Settings) (trace other : Trace) → HasPolygons page settings trace → HasPolygons page settings other
+    → polygons_text trace ≡ polygons_text other
+same_polygons_text page settings trace other this that = ap polygons_text (same_up_to_polygons page settings trace other this that)
+
+-- and by that of certificates
+printed_of : (trace other : Trace) (text : List ℕ) → IsPrinted (up_to_polygons trace other) text → IsPrinted other text
+printed_of trace other text printed = record { paths = printed.paths; certified = printed.certified; is = printed.is }
+
+same_printed : (page : Page) (settings : Settings) (trace other : Trace) (text : List ℕ) → HasPolygons page settings trace → HasPolygons page settings other
+    → IsPrinted trace text → IsPrinted other text
+same_printed page settings trace other text this that printed =
+    printed_of trace other text (subst (λ (t : Trace). IsPrinted t text) (same_up_to_polygons page settings trace other this that) printed)
 
 -- a document is the text of the trace
 pub text_is : (backend : Backend) (page : Page) (settings : Settings) (trace : Trace) (text : List ℕ) → IsTrace page settings trace
-    → IsDocumentUnder backend page settings text → text ≡ text_under settings backend trace
+    → IsDocumentUnder backend page settings text → IsTextUnder backend settings trace text
 text_is Points page settings trace text is document =
     document.2
     ∙ ap (points_text page.width page.height) (one_list_of_paths page settings document.0 trace.paths document.1 is.polygons.paths)
     ∙ ap (λ v. points_text v page.height trace.paths) (sym is.polygons.width)
     ∙ ap (λ v. points_text trace.width v trace.paths) (sym is.polygons.height)
 text_is Polygons page settings trace text is document = document.2 ∙ same_polygons_text page settings document.0 trace document.1 is.polygons
+text_is Proofs page settings trace text is document = same_printed page settings document.0 trace text document.1 is.polygons document.2
 text_is Svg page settings trace text is document =
     document.2 ∙ ap (svg_text settings.unit settings.flat) (one_trace page settings document.0 trace document.1 is)
 text_is Eps page settings trace text is document =
@@ -155,6 +174,8 @@ pub one_document : (backend : Backend) (page : Page) (settings : Settings) (text
 one_document Points page settings text other this that =
     this.2 ∙ ap (points_text page.width page.height) (one_list_of_paths page settings this.0 that.0 this.1 that.1) ∙ sym that.2
 one_document Polygons page settings text other this that = this.2 ∙ same_polygons_text page settings this.0 that.0 this.1 that.1 ∙ sym that.2
+one_document Proofs page settings text other this that =
+    one_text that.0 text other (same_printed page settings this.0 that.0 text this.1 that.1 this.2) that.2
 one_document Svg page settings text other this that =
     this.2 ∙ ap (svg_text settings.unit settings.flat) (one_trace page settings this.0 that.0 this.1 that.1) ∙ sym that.2
 one_document Eps page settings text other this that =

@@ -1,10 +1,10 @@
 -- The document of a page: all that is said of a backend stands here, but the suffix of its documents' names.
-use Rattle.std.specs.Prelude.{◌≡◌, ℕ, ◌≤◌, List, codes}
+use Rattle.std.specs.Prelude.{◌≡◌, ℕ, ◌≤◌, false, List, codes}
 use Rattle.pt_base.specs.PointsText.{points_text}
 use Rattle.pt_base.specs.PolygonsText.{polygons_text}
 use Rattle.pt_base.specs.declared.path.Path.{Path}
 use Rattle.pt_base.specs.declared.settings.Backend.{Backend}
-use Rattle.pt_base.specs.declared.settings.Backend.TheVariants.{Eps, Svg, Dxf, GeoJson, Points, Polygons}
+use Rattle.pt_base.specs.declared.settings.Backend.TheVariants.{Eps, Svg, Dxf, GeoJson, Points, Polygons, Proofs}
 use Rattle.pt_base.specs.declared.settings.Settings.{Settings}
 use Rattle.pt_base.specs.declared.trace.Trace.{Trace}
 use Rattle.bit_image.specs.Page.{Page}
@@ -12,6 +12,7 @@ use Rattle.svg_backend.specs.SvgText.{svg_text}
 use Rattle.eps_backend.specs.EpsText.{eps_text}
 use Rattle.dxf_geojson.specs.DxfText.{dxf_text}
 use Rattle.dxf_geojson.specs.GeoJsonText.{geojson_text}
+use Rattle.outline_check.specs.Printed.{IsPrinted}
 use Rattle.page_trace.specs.Trace.{ArePaths, HasPolygons, IsTrace}
 
 -- the word of a backend
@@ -22,19 +23,21 @@ backend_word Dxf = codes "dxf"
 backend_word GeoJson = codes "geojson"
 backend_word Points = codes "points"
 backend_word Polygons = codes "polygons"
+backend_word Proofs = codes "proofs"
 
--- the text of a trace under a backend
-abbrev pub text_under : Settings → Backend → Trace → List ℕ
-text_under settings Points trace = points_text trace.width trace.height trace.paths
-text_under settings Polygons trace = polygons_text trace
-text_under settings Svg trace = svg_text settings.unit settings.flat trace
-text_under settings Eps trace = eps_text settings.unit trace
-text_under settings Dxf trace = dxf_text trace
-text_under settings GeoJson trace = geojson_text trace
+-- the text is that of a trace under a backend; certificates tell what no trace has, but they are one
+abbrev pub IsTextUnder : Backend → Settings → Trace → List ℕ → Type 0
+IsTextUnder Points settings trace text = text ≡ points_text trace.width trace.height trace.paths
+IsTextUnder Polygons settings trace text = text ≡ polygons_text trace
+IsTextUnder Proofs settings trace text = IsPrinted trace text
+IsTextUnder Svg settings trace text = text ≡ svg_text settings.unit settings.flat trace
+IsTextUnder Eps settings trace text = text ≡ eps_text settings.unit trace
+IsTextUnder Dxf settings trace text = text ≡ dxf_text trace
+IsTextUnder GeoJson settings trace text = text ≡ geojson_text trace
 
--- the text of a trace
-abbrev pub text_of : Settings → Trace → List ℕ
-text_of settings trace = text_under settings settings.backend trace
+-- the text is that of a trace
+abbrev pub IsTextOf : Settings → Trace → List ℕ → Type 0
+IsTextOf settings trace text = IsTextUnder settings.backend settings trace text
 
 -- the text is the page's under a backend: it shows as much of the page's trace as the backend does
 abbrev pub IsDocumentUnder : Backend → Page → Settings → List ℕ → Type 0
@@ -42,6 +45,8 @@ IsDocumentUnder Points page settings text =
     (paths : List Path) × ArePaths page settings paths × (text ≡ points_text page.width page.height paths)
 IsDocumentUnder Polygons page settings text =
     (trace : Trace) × HasPolygons page settings trace × (text ≡ polygons_text trace)
+IsDocumentUnder Proofs page settings text =
+    (trace : Trace) × HasPolygons page settings trace × IsPrinted trace text
 IsDocumentUnder Svg page settings text =
     (trace : Trace) × IsTrace page settings trace × (text ≡ svg_text settings.unit settings.flat trace)
 IsDocumentUnder Eps page settings text =
@@ -66,10 +71,11 @@ pub record CanDraw (settings : Settings) : Type 0 where
   pub some : 1 ≤ settings.unit
   pub most : settings.unit ≤ 1000
 
--- what a document needs of the settings, under a backend
+-- what a document needs of the settings, under a backend: a certificate is of a polygon through its path's first point
 abbrev pub CanWriteUnder : Backend → Settings → Type 0
 CanWriteUnder Points settings = Unit {0}
 CanWriteUnder Polygons settings = Unit {0}
+CanWriteUnder Proofs settings = settings.cyclic ≡ false
 CanWriteUnder Svg settings = CanDraw settings
 CanWriteUnder Eps settings = CanDraw settings
 CanWriteUnder Dxf settings = CanTrace settings

@@ -13,8 +13,8 @@
 pub mod Trace
 -- The document of a page: all that is said of a backend stands here, but the suffix of its documents' names.
 --   backend_word: the word of a backend
---   text_under: the text of a trace under a backend
---   text_of: the text of a trace
+--   IsTextUnder: the text is that of a trace under a backend
+--   IsTextOf: the text is that of a trace
 --   IsDocumentUnder: the text is the page's under a backend
 --   IsDocument: the text is the page's document
 --   CanTrace: what a whole trace needs of the settings

@@ -9,6 +9,7 @@ use bit_image::bitmap::Bitmap;
 use dxf_geojson::drawing::dxf;
 use dxf_geojson::features::geojson;
 use eps_backend::eps_text::eps;
+use outline_check::text::proofs;
 use pt_base::fault::NoMemory;
 use pt_base::list_text::{points, polygons};
 use pt_base::settings::{Backend, Settings};
@@ -27,14 +28,15 @@ pub fn backend_of(word: &str) -> Option<Backend>
         "geojson" => Some(Backend::GeoJson),
         "points" => Some(Backend::Points),
         "polygons" => Some(Backend::Polygons),
+        "proofs" => Some(Backend::Proofs),
         _ => None,
     }
 }
 
 /// The text of a page under the settings' backend.
 ///
-/// What the text doesn't show isn't made: under `Points` no polygon is looked for, and under `Polygons`
-/// no vertex is moved.
+/// What the text doesn't show isn't made: under `Points` no polygon is looked for, and under `Polygons` and
+/// `Proofs` no vertex is moved.
 pub fn document(alloc: Global, page: &Bitmap, settings: &Settings) -> Result<Vec<u8>, NoMemory>
     requires { CanWrite settings.now }
     ensures { IfOk result (λ text. IsDocument page.now settings.now text.items) }
@@ -47,6 +49,10 @@ pub fn document(alloc: Global, page: &Bitmap, settings: &Settings) -> Result<Vec
         Backend::Polygons => {
             let trace = polygons_alone(alloc, page, settings)?;
             polygons(alloc, &trace)
+        }
+        Backend::Proofs => {
+            let trace = polygons_alone(alloc, page, settings)?;
+            proofs(alloc, &trace)
         }
         Backend::Svg => {
             let trace = trace(alloc, page, settings)?;

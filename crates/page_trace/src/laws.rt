@@ -3,7 +3,7 @@ ghost use Rattle.std.specs.Prelude.{◌≡◌, ℕ, List};
 ghost use Rattle.pt_base.specs.declared.settings.Settings.{Settings};
 ghost use Rattle.pt_base.specs.declared.trace.Trace.{Trace};
 ghost use Rattle.bit_image.specs.Page.{Page, IsPage};
-ghost use Rattle.page_trace.specs.Document.{CanWrite, IsDocument, text_of};
+ghost use Rattle.page_trace.specs.Document.{CanWrite, IsDocument, IsTextOf};
 ghost use Rattle.page_trace.specs.Trace.{IsTrace};
 
 /// A page has at most one trace under some settings.
@@ -16,7 +16,7 @@ pub fn traces_are_one()
 pub fn documents_are_texts_of_traces()
     ensures { (page : Page) (settings : Settings) (trace : Trace) (text : List ℕ)
         → IsTrace page settings trace → IsDocument page settings text
-        → text ≡ text_of settings trace }
+        → IsTextOf settings trace text }
 {}
 
 /// A page has at most one document under some settings.

@@ -2,6 +2,7 @@
 
 mod beside_plain;
 mod best;
+mod certificates;
 mod chain;
 mod cyclic;
 mod greatest;

@@ -48,7 +48,7 @@ leads_on points lasts has i below =
     record { beyond = longest.possible.rises; within = longest.ends; short = longest.possible.short }
 
 -- what goes no farther than the longest segment is a segment
-segment_up_to : (points : List Point) (lasts : List ℕ) → HasLasts points lasts → (i j : ℕ) → IsUpToLast lasts i j → IsSegment points i j
+pub segment_up_to : (points : List Point) (lasts : List ℕ) → HasLasts points lasts → (i j : ℕ) → IsUpToLast lasts i j → IsSegment points i j
 segment_up_to points lasts has i j up =
     elim (dec_lt i (length points)) [
       | yes below ↦ (let longest = has.each i below in
@@ -62,7 +62,7 @@ segment_up_to points lasts has i j up =
     ]
 
 -- and no segment goes farther
-up_to_segment : (points : List Point) (lasts : List ℕ) → HasLasts points lasts → (i j : ℕ) → IsSegment points i j → IsUpToLast lasts i j
+pub up_to_segment : (points : List Point) (lasts : List ℕ) → HasLasts points lasts → (i j : ℕ) → IsSegment points i j → IsUpToLast lasts i j
 up_to_segment points lasts has i j segment =
     let rises = segment.possible.rises in
     let ends = segment.ends in

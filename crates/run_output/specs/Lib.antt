@@ -14,8 +14,12 @@
 --   next_name: the next document with a base name
 --   made_with: the base names after n more documents with this one
 pub mod Names
--- The lines that the program writes to standard error.
---   bad_words: the words aren't the program's
+-- The lines that a program writes to standard error, and those of `potrace`.
+--   program_line: a line of a program
+--   file_line: its line about a file
+--   file_page_line: its line about a page of a file, counted from 1
+--   tracer: the tracer's name
+--   bad_words: the words aren't the tracer's
 --   out_of_memory: memory ran out
 --   page_line: a line about a page of a file, counted from 1
 --   not_opened: a file couldn't be opened
@@ -49,3 +53,12 @@ pub mod Status
 --   with_part: the part is written
 --   IsCutIn: the part was cut off
 pub mod Parts
+-- What surrounds a run, as far as it is told.
+--   Source: the inputs
+--   source_of: what inputs tell
+--   Told: what a sink tells
+--   told_of: what this sink tells
+--   Sinks: the outputs and the sink for messages
+--   sinks_of: what outputs and a sink for messages tell
+--   IsMessage: a message was said
+pub mod Told

@@ -3,7 +3,7 @@ use Rattle.std.specs.Prelude.{ℕ, zero, suc, ◌+◌, List, ◌∷◌, ◌++◌
 use Rattle.std.specs.Path.{rfind_below}
 use Rattle.std.specs.Str.{bytes_eq}
 use Rattle.pt_base.specs.declared.settings.Backend.{Backend}
-use Rattle.pt_base.specs.declared.settings.Backend.TheVariants.{Eps, Svg, Dxf, GeoJson, Points, Polygons}
+use Rattle.pt_base.specs.declared.settings.Backend.TheVariants.{Eps, Svg, Dxf, GeoJson, Points, Polygons, Proofs}
 
 -- the name of standard input and of standard output
 abbrev pub dash : List ℕ
@@ -48,6 +48,7 @@ backend_suffix Dxf = codes ".dxf"
 backend_suffix GeoJson = codes ".json"
 backend_suffix Points = codes ".points"
 backend_suffix Polygons = codes ".polygons"
+backend_suffix Proofs = codes ".proofs"
 
 -- the name by which the documents of a file go: the output's, where one is given; else standard output for
 -- standard input, and for a file its name with the backend's suffix in place of its own

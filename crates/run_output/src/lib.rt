@@ -5,6 +5,7 @@
 #![tactic(auto)]
 
 pub mod document;
+pub mod line;
 pub mod made;
 pub mod message;
 pub mod names;

@@ -1,13 +1,10 @@
-//! The lines that the program writes to standard error.
-//!
-//! Where a write fails, the rest of its line is given up: that call was the last one.
-ghost use Rattle.std.specs.Prelude.{◌≡◌, ◌≤◌, true, map};
-ghost use Rattle.std.specs.List.{concat};
+//! The lines that `potrace` writes to standard error.
+ghost use Rattle.std.specs.Prelude.{◌≡◌, ◌≤◌, true};
 ghost use Rattle.pt_base.specs.Documents.{IsSaid};
 ghost use Rattle.pt_base.specs.Failures.{StopsAtFailure};
 ghost use Rattle.run_output.specs.Messages.{bad_words, not_opened, not_written, out_of_memory, page_line, trailing_line};
 
-use crate::pieces::write_pieces;
+use crate::line::say;
 use itoa::Buffer;
 use pt_base::sink::Sink;
 
@@ -108,19 +105,4 @@ pub fn say_trailing<E: Sink>(errs: &mut E, name: &str, pages: u64)
             b"\n",
         ],
     )
-}
-
-/// Writes the pieces one after another, and gives up the rest where a write fails.
-fn say<E: Sink>(errs: &mut E, pieces: &[&[u8]])
-    requires { E.is_ready errs.old ≡ true }
-    ensures said { IsSaid (E.documents errs.old) (E.documents errs.new) (E.faults errs.old)
-        (E.faults errs.new) (concat (map (λ piece. piece.now) pieces.now)) }
-    ensures given_up { StopsAtFailure (E.failures errs.old) (E.failures errs.new) }
-    ensures never_falls { E.faults errs.old ≤ E.faults errs.new }
-    ensures stays_ready { E.is_ready errs.new ≡ true }
-{
-    match write_pieces(errs, pieces) {
-        Ok(()) => {}
-        Err(_) => {}
-    }
 }

@@ -46,6 +46,7 @@ fn backend_suffix(backend: Backend) -> &'static str
         Backend::GeoJson => ".json",
         Backend::Points => ".points",
         Backend::Polygons => ".polygons",
+        Backend::Proofs => ".proofs",
     }
 }
 

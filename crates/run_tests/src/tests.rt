@@ -1,6 +1,7 @@
 //! Worked pages, what is refused, failing devices, and workers.
 
 mod cases;
+mod certificates;
 mod claims;
 mod cuts;
 mod distances;

@@ -171,7 +171,8 @@ fn listed<T: Copy>(alloc: Global, call: Option<T>) -> Result<Vec<T>, NoMemory> {
     Ok(calls)
 }
 
-fn named(alloc: Global, name: &str, bytes: &[u8]) -> Result<NamedBytes, NoMemory>
+/// A file of this name and these bytes.
+pub fn named(alloc: Global, name: &str, bytes: &[u8]) -> Result<NamedBytes, NoMemory>
     ensures { IfOk result (λ file. string_bytes file.name ≡ name.now) }
 {
     Ok(NamedBytes {

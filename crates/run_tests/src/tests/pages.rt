@@ -91,7 +91,7 @@ const TWELVE_SVG: &str = square_svg!(
     "<path fill-rule=\"evenodd\" d=\"M8 32 l-12 -12 l12 -12 l12 -12 l12 12 l12 12 l-12 12 l-12 12 l-12 -12 z\"/>\n"
 );
 
-const PAGES: &[Page] = &[
+pub const PAGES: &[Page] = &[
     // Speckles.
     (LEFT, b"P1 1 1 1\n", &[("-", PIXEL)]),
     (LEFT, b"P1 1 1 0", &[("-", WHITE)]),

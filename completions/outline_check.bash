@@ -1,0 +1,3 @@
+# Completion of the words of outline_check, for bash: it takes none.
+
+complete -W "" outline_check

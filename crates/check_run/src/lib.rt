@@ -1,0 +1,8 @@
+//! The program `outline_check`: whether the polygons of a drawing are the best ones.
+//!
+//! It reads a text of certificates and says whether all are right, or which is the first that isn't. Who
+//! believes it needs to trust neither the program that traced the page nor the machine on which it ran.
+#![tactic(auto)]
+
+pub mod program;
+pub mod task;

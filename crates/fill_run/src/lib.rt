@@ -1,0 +1,4 @@
+//! The run of `point_fill`: standard input is a points text, standard output its page.
+#![tactic(auto)]
+
+pub mod program;

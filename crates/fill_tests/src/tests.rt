@@ -1,0 +1,5 @@
+//! Texts that are filled or refused, and failing devices.
+
+mod cases;
+mod failing;
+mod texts;

@@ -1,0 +1,91 @@
+//! Decimal numbers without needless zeros.
+ghost use Rattle.std.specs.Prelude.{◌≡◌, ℕ, ◌*◌, ◌^◌, ◌<◌, ◌≤◌, ◌↔◌, List, All, IfNone, IfSome, IsTrue, decimal, drop, length, slice_index};
+ghost use Rattle.pt_base.specs.Whole.{IsDigit, value_after};
+ghost use Rattle.list_reader.specs.Numbers.{IsNumeral, IsPlain};
+ghost use Rattle.list_reader.specs.declared.number.TheConstants.{MOST_DIGITS};
+
+/// The most digits of a number below 2^64.
+const MOST_DIGITS: usize = 20;
+
+/// A number, and where it ends.
+#[derive(Clone, Copy, Debug, PartialEq, Eq)]
+pub struct Number {
+    pub value: u64,
+    pub end: usize,
+}
+
+/// The number of at most so much that stands at this place, with all digits that follow.
+pub fn read_number(text: &[u8], at: usize, most: u64) -> Option<Number>
+    requires { at ≤ length text.now }
+    ensures some { IfSome result
+        (λ n. IsNumeral most (drop at text.now) n.value (drop n.end text.now)) }
+    ensures onwards { IfSome result (λ n. at < n.end) }
+    ensures within { IfSome result (λ n. n.end ≤ length text.now) }
+    ensures most { IfSome result (λ n. n.value ≤ most) }
+    ensures none { IfNone result ((n : ℕ) (rest : List ℕ) → IsNumeral most (drop at text.now) n rest → ⊥) }
+{
+    let end = digits_end(text, at);
+    let Some(value) = plain_value(&text[at..end]) else {
+        return None;
+    };
+    if u128::from(most) < value {
+        return None;
+    }
+    Some(Number {
+        value: value as u64,
+        end,
+    })
+}
+
+/// Where the digits end that stand at this place.
+fn digits_end(text: &[u8], at: usize) -> usize
+    requires { at ≤ length text.now }
+    ensures onwards { at ≤ result }
+    ensures within { result ≤ length text.now }
+    ensures digits { (k : ℕ) → at ≤ k → k < result → IsDigit (slice_index text.now k) }
+    ensures stops { ¬ IsDigit (slice_index text.now result) }
+{
+    for k in at..text.len() {
+        if !text[k].is_ascii_digit() {
+            return k;
+        }
+    }
+    text.len()
+}
+
+/// The value of digits, if there are some, no more than a number below 2^64 has, and no needless zero.
+fn plain_value(digits: &[u8]) -> Option<u128>
+    requires { All IsDigit digits.now }
+    ensures some { IfSome result (λ n. 0 < length digits.now) }
+    ensures value { IfSome result (λ n. n ≡ value_after 0 digits.now) }
+    ensures plain { IfSome result (λ n. n < 2 ^ 64 → decimal n ≡ digits.now) }
+    ensures none { IfNone result ((n : ℕ) → n < 2 ^ 64 → decimal n ≡ digits.now → ⊥) }
+{
+    if !is_plain(digits) {
+        return None;
+    }
+    Some(value_of(digits))
+}
+
+/// Whether there are digits, no more than a number below 2^64 has, and no needless zero.
+fn is_plain(digits: &[u8]) -> bool
+    ensures { IsTrue result ↔ IsPlain digits.now }
+{
+    if digits.is_empty() || MOST_DIGITS < digits.len() {
+        return false;
+    }
+    digits.len() == 1 || digits[0] != b'0'
+}
+
+/// The value of no more digits than a number below 2^64 has.
+fn value_of(digits: &[u8]) -> u128
+    requires short { length digits.now ≤ MOST_DIGITS }
+    requires digits { All IsDigit digits.now }
+    ensures { result ≡ value_after 0 digits.now }
+{
+    let mut value = 0;
+    for digit in digits {
+        value = 10 * value + u128::from(*digit - b'0');
+    }
+    value
+}

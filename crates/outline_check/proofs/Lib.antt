@@ -1,0 +1,17 @@
+pub mod Right
+pub mod Trying
+pub mod Reaching
+pub mod Following
+pub mod Best
+pub mod One
+pub mod Exists
+pub mod LineReading
+pub mod PairReading
+pub mod GroupReading
+pub mod HeadReading
+pub mod Judging
+pub mod OneReading
+pub mod Printing
+pub mod Short
+pub mod Written
+pub mod OneVerdict

@@ -1,0 +1,12 @@
+-- Lines: the texts of values, and a line feed.
+use Rattle.std.specs.Prelude.{◌≡◌, ℕ, ◌≤◌, List, ◌∷◌, ◌++◌, All, flat_map, length}
+
+-- the values stand at the front, and then a line feed and the rest
+pub record IsEntryLine (A : Type 0) (text : A → List ℕ) (IsIn : A → Type 0) (bytes : List ℕ) (xs : List A) (rest : List ℕ) : Type 0 where
+  pub is : bytes ≡ flat_map text xs ++ 10 ∷ rest
+  pub all : All IsIn xs
+
+-- so they do, and there is one at least
+pub record IsSomeLine (A : Type 0) (text : A → List ℕ) (IsIn : A → Type 0) (bytes : List ℕ) (xs : List A) (rest : List ℕ) : Type 0 where
+  pub line : IsEntryLine A text IsIn bytes xs rest
+  pub some : 1 ≤ length xs

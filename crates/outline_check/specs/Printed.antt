@@ -1,0 +1,33 @@
+-- The text that a page's certificates are written as.
+use Rattle.std.specs.Prelude.{◌≡◌, ℕ, List, [], ◌∷◌, ◌++◌, codes, decimal}
+use Rattle.pt_base.specs.declared.point.Point.{Point}
+use Rattle.pt_base.specs.declared.trace.Trace.{Trace}
+use Rattle.pt_base.specs.declared.path.Path.{Path}
+use Rattle.pt_base.specs.declared.polygon.Polygon.{Polygon}
+use Rattle.outline_check.specs.declared.label.Label.{Label}
+use Rattle.outline_check.specs.Certificate.{AreRightLabels}
+use Rattle.outline_check.specs.ProofsText.{Certified, certified_text, proofs_text}
+
+-- the first line
+abbrev pub proofs_head : ℕ → ℕ → ℕ → List ℕ
+proofs_head width height count =
+    codes "proofs " ++ (decimal width ++ (codes " " ++ (decimal height ++ (codes " " ++ (decimal count ++ codes "\n")))))
+
+-- a path with its polygon and its right labels was appended
+pub record IsPrintedPath (points : List Point) (at before after : List ℕ) : Type 0 where
+  pub labels : List Label
+  pub right : AreRightLabels points labels
+  pub is : after ≡ before ++ certified_text (record { points = points; at = at; labels = labels })
+
+-- the paths with their polygons and their right labels
+abbrev pub AreCertified : List Path → List Polygon → List Certified → Type 0
+AreCertified [] [] [] = Unit {0}
+AreCertified (path ∷ paths) (polygon ∷ polygons) (c ∷ rest) =
+    (c.points ≡ path.points) × (c.at ≡ polygon.at) × AreRightLabels path.points c.labels × AreCertified paths polygons rest
+AreCertified _ _ _ = ⊥
+
+-- the text is that of all paths
+pub record IsPrinted (trace : Trace) (text : List ℕ) : Type 0 where
+  pub paths : List Certified
+  pub certified : AreCertified trace.paths trace.polygons paths
+  pub is : text ≡ proofs_text trace.width trace.height paths

@@ -1,0 +1,123 @@
+//! The right label of a point, by the labels of the points after it.
+//!
+//! From each later point no more segments are left than from an earlier one. So from where the longest
+//! segment leads as few are left as can be; the points before it from which as few are left stand in a
+//! window, which ends with it.
+//!
+//! ```text
+//!     from . . . . [begin . . . last]    In the window one segment fewer is left than from here.
+//! ```
+ghost use Rattle.std.specs.Prelude.{◌≡◌, ℕ, ◌+◌, ◌<◌, ◌≤◌, ◌^◌, length, slice_index};
+ghost use Rattle.polygon_optimal.specs.Lasts.{AreRising, IsUpToLast, LeadsOn};
+ghost use Rattle.polygon_optimal.specs.Polygon.{penalty_of};
+ghost use Rattle.outline_check.specs.Labels.{IsRight, label_at, label_by};
+ghost use Rattle.outline_check.specs.Known.{AreRightDownTo, IsWindowBegin};
+ghost use Rattle.outline_check.specs.Windows.{onward_by};
+
+use crate::label::Label;
+use crate::segments::Segments;
+
+/// A label, and the point that it comes from.
+#[derive(Clone, Copy)]
+pub(crate) struct Onward {
+    pub(crate) label: Label,
+    pub(crate) next: u32,
+}
+
+/// Where the window of a point begins, by where that of the next point does.
+pub(crate) fn begin_from(segments: &Segments, labels: &[Label], from: u32, later: u32) -> u32
+    requires from { from < length segments.now.moments }
+    requires known { AreRightDownTo (length segments.now.moments)
+        (IsUpToLast segments.now.lasts.items) (penalty_of segments.now.moments)
+        (from + 1) labels.now }
+    requires later { from + 1 < length segments.now.moments
+        → IsWindowBegin (length segments.now.moments) segments.now.lasts.items labels.now (from + 1) later }
+    ensures { IsWindowBegin (length segments.now.moments) segments.now.lasts.items labels.now from result }
+{
+    let last = segments.lasts[from as usize];
+    if labels[last as usize].count == labels[from as usize + 1].count {
+        from + 1
+    } else {
+        later
+    }
+}
+
+/// The right label of a point whose window begins here.
+//
+// The segment to where the label of the next point comes from is mostly the best here too, or nearly. So it
+// comes first, and hardly any of the others is better: they are refused without a root.
+pub(crate) fn label_from(
+    segments: &Segments,
+    labels: &[Label],
+    from: u32,
+    begin: u32,
+    guess: u32,
+) -> Onward
+    requires from { from < length segments.now.moments }
+    requires known { AreRightDownTo (length segments.now.moments)
+        (IsUpToLast segments.now.lasts.items) (penalty_of segments.now.moments)
+        (from + 1) labels.now }
+    requires begin { IsWindowBegin (length segments.now.moments) segments.now.lasts.items labels.now from begin }
+    ensures { IsRight (IsUpToLast segments.now.lasts.items) (penalty_of segments.now.moments)
+        labels.now from result.label }
+{
+    let last = segments.lasts[from as usize];
+    let to = guess.max(begin).min(last);
+    let mut best = by_segment(segments, labels, from, to);
+    for k in begin..last + 1 {
+        best = cheaper(segments, labels, from, k, best);
+    }
+    best
+}
+
+/// The label by the segment to this point.
+fn by_segment(segments: &Segments, labels: &[Label], from: u32, to: u32) -> Onward
+    requires from { from < length segments.now.moments }
+    requires onwards { from < to }
+    requires reached { to ≤ slice_index segments.now.lasts.items from }
+    requires known { AreRightDownTo (length segments.now.moments)
+        (IsUpToLast segments.now.lasts.items) (penalty_of segments.now.moments)
+        (from + 1) labels.now }
+    ensures { result ≡ onward_by (penalty_of segments.now.moments) labels.now from to }
+{
+    let label = labels[to as usize];
+    Onward {
+        label: Label {
+            count: label.count + 1,
+            cost: label.cost + u128::from(segments.penalty(from, to)),
+        },
+        next: to,
+    }
+}
+
+/// The label by the segment to this point, where it is cheaper than `best`.
+//
+// Where the rest alone isn't cheaper, the segment isn't looked at.
+fn cheaper(segments: &Segments, labels: &[Label], from: u32, to: u32, best: Onward) -> Onward
+    requires from { from < length segments.now.moments }
+    requires onwards { from < to }
+    requires reached { to ≤ slice_index segments.now.lasts.items from }
+    requires known { AreRightDownTo (length segments.now.moments)
+        (IsUpToLast segments.now.lasts.items) (penalty_of segments.now.moments)
+        (from + 1) labels.now }
+    ensures cheaper { (label_by (penalty_of segments.now.moments) labels.now from to).cost < best.label.cost
+        → result ≡ onward_by (penalty_of segments.now.moments) labels.now from to }
+    ensures same { best.label.cost ≤ (label_by (penalty_of segments.now.moments) labels.now from to).cost
+        → result ≡ best }
+{
+    let label = labels[to as usize];
+    if best.label.cost <= label.cost {
+        return best;
+    }
+    let limit = (best.label.cost - label.cost).min(1 << 56) as u64;
+    match segments.moments.penalty_below(from, to, limit) {
+        Some(penalty) => Onward {
+            label: Label {
+                count: label.count + 1,
+                cost: label.cost + u128::from(penalty),
+            },
+            next: to,
+        },
+        None => best,
+    }
+}

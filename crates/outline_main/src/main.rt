@@ -1,0 +1,21 @@
+//! outline_check: says whether certificates are right. All that it does is one call, `check_run` of `check_run`.
+#![tactic(auto)]
+
+use check_run::program::check_run;
+use pt_base::err_sink::ErrSink;
+use pt_base::file_inputs::FileInputs;
+use pt_base::file_outputs::FileOutputs;
+use small_program::words::words_of;
+use std::process::ExitCode;
+
+fn main(rt: HostRuntime) -> ExitCode {
+    let mut errs = ErrSink::new(rt.stderr());
+    let words = match words_of(&rt, "outline_check", &mut errs) {
+        Ok(words) => words,
+        Err(end) => return ExitCode::from(end.code()),
+    };
+    let mut inputs = FileInputs::new(&rt);
+    let mut outs = FileOutputs::new(&rt);
+    let status = check_run(rt.alloc(), &words, &mut inputs, &mut outs, &mut errs);
+    ExitCode::from(status)
+}

@@ -1,0 +1,251 @@
+//! Texts of certificates, and what becomes of them where a byte or a number is another.
+
+use outline_check::judge::check_proofs;
+use outline_check::verdict::Verdict;
+use pt_base::digits::put_number;
+use pt_base::fault::NoMemory;
+use std::alloc::Global;
+use std::test::Fail;
+
+/// A page of one pixel with its path.
+const ONE: &str = "proofs 1 1 1\npath 0,1 0,0 1,0 1,1\n";
+
+/// A page of two pixels in a row with theirs.
+const TWO: &str = "proofs 2 1 1\npath 0,1 0,0 1,0 2,0 2,1 1,1\n";
+
+/// The rest of their texts.
+const ONE_RIGHT: &str = "at 0 1 2 3\nlabels 4:0 3:0 2:0 1:0 0:0\n";
+
+const TWO_RIGHT: &str = "at 0 2 4\nlabels 3:294 3:0 2:147 2:0 1:0 1:0 0:0\n";
+
+const VERDICTS: &[(&str, &str, Verdict)] = &[
+    (ONE, ONE_RIGHT, Verdict::Right(1)),
+    (TWO, TWO_RIGHT, Verdict::Right(1)),
+    (
+        "proofs 32767 32767 1\npath 0,1 0,0 1,0 1,1\n",
+        ONE_RIGHT,
+        Verdict::Right(1),
+    ),
+    ("proofs 1 1 0\n", "", Verdict::Right(0)),
+    // A label, a vertex or a point too many, too few, or another one.
+    (
+        ONE,
+        "at 0 1 2 3\nlabels 4:0 3:0 2:1 1:0 0:0\n",
+        Verdict::Wrong(1),
+    ),
+    (
+        ONE,
+        "at 0 1 2 3\nlabels 4:0 3:0 2:0 1:0\n",
+        Verdict::Wrong(1),
+    ),
+    (
+        ONE,
+        "at 0 1 2 3\nlabels 4:0 3:0 2:0 1:0 0:0 0:0\n",
+        Verdict::Wrong(1),
+    ),
+    (ONE, "at 0\nlabels 4:0 3:0 2:0 1:0 0:0\n", Verdict::Wrong(1)),
+    (
+        ONE,
+        "at 1 2 3\nlabels 4:0 3:0 2:0 1:0 0:0\n",
+        Verdict::Wrong(1),
+    ),
+    (
+        ONE,
+        "at 0 1 2 3 4\nlabels 4:0 3:0 2:0 1:0 0:0\n",
+        Verdict::Wrong(1),
+    ),
+    (
+        TWO,
+        "at 0 1 3 4\nlabels 3:294 3:0 2:147 2:0 1:0 1:0 0:0\n",
+        Verdict::Wrong(1),
+    ),
+    // A polygon as good, of a higher list; and labels of the lower one that are no least ones.
+    (
+        TWO,
+        "at 0 3 5\nlabels 3:294 3:0 2:147 2:0 1:0 1:0 0:0\n",
+        Verdict::Wrong(1),
+    ),
+    (
+        TWO,
+        "at 0 2 4\nlabels 3:294 3:294 2:147 2:0 1:0 1:0 0:0\n",
+        Verdict::Wrong(1),
+    ),
+    (
+        "proofs 1 1 1\npath 0,1 0,0 1,0\n",
+        "at 0 1 2\nlabels 3:0 2:0 1:0 0:0\n",
+        Verdict::Wrong(1),
+    ),
+    (
+        "proofs 1 1 1\npath 0,1\n",
+        "at 0\nlabels 0:0\n",
+        Verdict::Wrong(1),
+    ),
+    // No text of certificates.
+    ("", "", Verdict::BadProofs),
+    ("proofs 1 1 0", "", Verdict::BadProofs),
+    ("proofs 1 1 0\n", "\n", Verdict::BadProofs),
+    (" proofs 1 1 0\n", "", Verdict::BadProofs),
+    ("proofs  1 1 0\n", "", Verdict::BadProofs),
+    ("proofs 01 1 0\n", "", Verdict::BadProofs),
+    ("proofs 0 1 0\n", "", Verdict::BadProofs),
+    ("proofs 1 32768 0\n", "", Verdict::BadProofs),
+    ("proofs 1 1 4294967296\n", "", Verdict::BadProofs),
+    (
+        "proofs 1 1 2\npath 0,1 0,0 1,0 1,1\n",
+        ONE_RIGHT,
+        Verdict::BadProofs,
+    ),
+    (
+        "proofs 1 1 0\npath 0,1 0,0 1,0 1,1\n",
+        ONE_RIGHT,
+        Verdict::BadProofs,
+    ),
+    (
+        "proofs 1 1 1\npath 0,1 0,0 2,0 1,1\n",
+        ONE_RIGHT,
+        Verdict::BadProofs,
+    ),
+    (
+        "proofs 1 1 1\npath 0,1 0,0 1,-0 1,1\n",
+        ONE_RIGHT,
+        Verdict::BadProofs,
+    ),
+    ("proofs 1 1 1\npath\n", ONE_RIGHT, Verdict::BadProofs),
+    (ONE, "at\nlabels 4:0 3:0 2:0 1:0 0:0\n", Verdict::BadProofs),
+    (ONE, "at 0 1 2 3\nlabels\n", Verdict::BadProofs),
+    (
+        ONE,
+        "at 0 1 2 3 \nlabels 4:0 3:0 2:0 1:0 0:0\n",
+        Verdict::BadProofs,
+    ),
+    (
+        ONE,
+        "at 0 1 2 3\nlabels 4:0 3:0 2:0 1:0 0:0",
+        Verdict::BadProofs,
+    ),
+    (
+        ONE,
+        "at 0 1 2 3\nlabels 4:0 3:0 2:0 1:0 0\n",
+        Verdict::BadProofs,
+    ),
+    (
+        ONE,
+        "at 0 1 2 3\nlabels 4:0 3:0 2:0 1:0 00:0\n",
+        Verdict::BadProofs,
+    ),
+    (ONE, "at 0 1 2 4294967296\nlabels 0:0\n", Verdict::BadProofs),
+    (
+        ONE,
+        "at 0 1 2 4294967295\nlabels 4294967295:18446744073709551615\n",
+        Verdict::Wrong(1),
+    ),
+    (ONE, "at 0 1 2 3\nlabels 4294967296:0\n", Verdict::BadProofs),
+    (
+        ONE,
+        "at 0 1 2 3\nlabels 4:0 3:0 2:0 1:0 0:18446744073709551616\n",
+        Verdict::BadProofs,
+    ),
+];
+
+#[test]
+fn verdicts(rt: HostRuntime) -> Result<(), Fail> {
+    for (front, rest, verdict) in VERDICTS {
+        let text = format!(in rt.alloc(); "{front}{rest}")?;
+        let found = check_proofs(rt.alloc(), text.as_bytes())?;
+        assert_eq!(rt; found, *verdict, "{text}");
+    }
+    Ok(())
+}
+
+/// Two paths, of which the second is wrong, and three, of which the second and the third are.
+#[test]
+fn first_of_several_wrong_paths(rt: HostRuntime) -> Result<(), Fail> {
+    let good = "path 0,1 0,0 1,0 1,1\nat 0 1 2 3\nlabels 4:0 3:0 2:0 1:0 0:0\n";
+    let bad = "path 0,1 0,0 1,0 1,1\nat 0 1 2\nlabels 4:0 3:0 2:0 1:0 0:0\n";
+    let two = format!(in rt.alloc(); "proofs 1 1 2\n{good}{bad}")?;
+    let three = format!(in rt.alloc(); "proofs 1 1 3\n{good}{bad}{bad}")?;
+    let found = (
+        check_proofs(rt.alloc(), two.as_bytes())?,
+        check_proofs(rt.alloc(), three.as_bytes())?,
+    );
+    assert_eq!(rt; found, (Verdict::Wrong(2), Verdict::Wrong(2)));
+    Ok(())
+}
+
+/// The certificate of two pixels in a row: its numbers, each with what stands before it.
+const NUMBERS: &[(&str, u64)] = &[
+    ("proofs ", 2),
+    (" ", 1),
+    (" ", 1),
+    ("\npath ", 0),
+    (",", 1),
+    (" ", 0),
+    (",", 0),
+    (" ", 1),
+    (",", 0),
+    (" ", 2),
+    (",", 0),
+    (" ", 2),
+    (",", 1),
+    (" ", 1),
+    (",", 1),
+    ("\nat ", 0),
+    (" ", 2),
+    (" ", 4),
+    ("\nlabels ", 3),
+    (":", 294),
+    (" ", 3),
+    (":", 0),
+    (" ", 2),
+    (":", 147),
+    (" ", 2),
+    (":", 0),
+    (" ", 1),
+    (":", 0),
+    (" ", 1),
+    (":", 0),
+    (" ", 0),
+    (":", 0),
+];
+
+/// The same text with other numbers: each is one greater, one less, or twice as great and one more.
+#[test]
+fn each_number_changed(rt: HostRuntime) -> Result<(), Fail> {
+    for (place, (_, number)) in NUMBERS.iter().enumerate() {
+        for other in others(place, *number) {
+            let text = text_with(rt.alloc(), place, other)?;
+            let verdict = check_proofs(rt.alloc(), &text)?;
+            assert!(rt;
+                (verdict == Verdict::Right(1)) == (other == *number),
+                "{place}: {other}"
+            );
+        }
+    }
+    Ok(())
+}
+
+/// Other numbers than this one. A page may be larger than its path needs: so the sides, which come first, only
+/// become less.
+fn others(place: usize, number: u64) -> [u64; 3] {
+    let less = number.saturating_sub(1);
+    if place < 2 {
+        [less, less, less]
+    } else {
+        [
+            less,
+            number.wrapping_add(1),
+            number.wrapping_mul(2).wrapping_add(1),
+        ]
+    }
+}
+
+/// The text with another number in this place.
+fn text_with(alloc: Global, place: usize, other: u64) -> Result<Vec<u8>, NoMemory> {
+    let mut text = Vec::new(alloc);
+    for (k, (before, number)) in NUMBERS.iter().enumerate() {
+        text.extend_from_slice(before.as_bytes())?;
+        put_number(&mut text, if k == place { other } else { *number })?;
+    }
+    text.extend_from_slice(b"\n")?;
+    Ok(text)
+}

@@ -1,0 +1,12 @@
+pub mod Numbers
+pub mod Spelling
+pub mod Traced
+pub mod Shown
+pub mod Placing
+pub mod Looping
+pub mod Marking
+pub mod Sweeping
+pub mod Pathing
+pub mod Whole
+pub mod Replying
+mod Examples

@@ -1,0 +1,25 @@
+-- What the program makes of its input.
+use Rattle.std.specs.Prelude.{◌≡◌, ℕ, ◌⊎◌, List, codes}
+use Rattle.bit_image.specs.Page.{Page}
+use Rattle.bit_image.specs.PbmText.{pbm_text}
+use Rattle.small_program.specs.declared.ending.Ending.{Ending}
+use Rattle.small_program.specs.declared.ending.Ending.TheVariants as ending
+use Rattle.point_fill.specs.Filled.{IsFilled}
+use Rattle.point_fill.specs.PointsFile.{IsSomePointsFile}
+use Rattle.point_fill.specs.declared.fault.FillFault.{FillFault}
+use Rattle.point_fill.specs.declared.fault.FillFault.TheVariants as fault
+
+-- why a text can't be filled, in words
+abbrev pub fill_text : FillFault → List ℕ
+fill_text fault.BadPoints = codes "bad points"
+fill_text fault.NoMemory = codes "out of memory"
+
+-- the reply to a text: the page that it fills, as raw PBM; or, where it tells no paths on a page, that it is refused
+abbrev pub IsFillReply : List ℕ → Ending → List ℕ → Type 0
+IsFillReply text end reply =
+    ((end ≡ ending.Done) × ((page : Page) × IsFilled text page × (reply ≡ pbm_text page)))
+    ⊎ ((end ≡ ending.Refused) × (IsSomePointsFile text → ⊥) × (reply ≡ fill_text fault.BadPoints))
+
+-- the program's name
+abbrev pub filler : List ℕ
+filler = codes "point_fill"

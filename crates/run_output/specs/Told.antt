@@ -1,0 +1,51 @@
+-- What surrounds a run, as far as it is told: where its bytes come from, where its documents go, and what it says.
+use Rattle.std.specs.Prelude.{ℕ, ◌≤◌, Bool, List, Option}
+use Rattle.pt_base.specs.Documents.{Documents, IsSaid}
+use Rattle.pt_base.specs.Failures.{Failures, StopsAtFailure}
+use Rattle.pt_base.specs.Files.{Files}
+use Rattle.pt_base.specs.declared.inputs.Inputs.{Ghosts as InputGhosts}
+use Rattle.pt_base.specs.declared.sink.Sink.{Ghosts as SinkGhosts}
+
+-- the inputs: the files that they tell, whether one is opened, how many openings there were, and their count of faults
+pub record Source : Type 0 where
+  pub files : Option Files
+  pub is_opened : Bool
+  pub openings : ℕ
+  pub faults : ℕ
+
+-- what inputs tell
+abbrev pub source_of : {A : Type 0} → InputGhosts A → A → Source
+source_of of_inputs inputs = record {
+  files = of_inputs.files inputs;
+  is_opened = of_inputs.is_opened inputs;
+  openings = of_inputs.openings inputs;
+  faults = of_inputs.faults inputs;
+}
+
+-- what a sink tells: its documents, its count of faults, and what its calls answered
+pub record Told : Type 0 where
+  pub documents : Option Documents
+  pub faults : ℕ
+  pub failures : Failures
+
+abbrev pub told_of : {A : Type 0} → SinkGhosts A → A → Told
+told_of of_sink sink =
+    record { documents = of_sink.documents sink; faults = of_sink.faults sink; failures = of_sink.failures sink }
+
+-- the outputs, whether a document is open there, and the sink for messages
+pub record Sinks : Type 0 where
+  pub outs : Told
+  pub is_open : Bool
+  pub errs : Told
+
+-- what outputs and a sink for messages tell
+abbrev pub sinks_of : {A B : Type 0} → SinkGhosts A → SinkGhosts B → A → B → Sinks
+sinks_of of_outs of_errs outs errs =
+    record { outs = told_of of_outs outs; is_open = of_outs.is_ready outs; errs = told_of of_errs errs }
+
+-- a message was said: it is whole, or the count of faults rose and a front of it stands there; and no call failed, or
+-- one did and it was the last, so that the rest of the message was given up
+pub record IsMessage (message : List ℕ) (old new : Told) : Type 0 where
+  pub said : IsSaid old.documents new.documents old.faults new.faults message
+  pub given_up : StopsAtFailure old.failures new.failures
+  pub never_falls : old.faults ≤ new.faults

@@ -1,0 +1,97 @@
+-- What a run of a program has done.
+use Rattle.std.specs.Prelude.{◌≡◌, ℕ, ◌<◌, ◌⊎◌, List, codes, false}
+use Rattle.pt_base.specs.Counts.{Rose, next_count}
+use Rattle.pt_base.specs.Documents.{IsCutOff, with_whole}
+use Rattle.pt_base.specs.Failures.{after_err}
+use Rattle.pt_base.specs.Files.{Lacks}
+use Rattle.run_output.specs.Messages.{file_line, program_line}
+use Rattle.run_output.specs.Names.{dash}
+use Rattle.run_output.specs.Told.{IsMessage, Sinks, Source}
+use Rattle.small_program.specs.Input.{HasInput, TellsInput}
+use Rattle.small_program.specs.Reply.{IsReply}
+use Rattle.small_program.specs.declared.ending.Ending.{Ending}
+use Rattle.small_program.specs.declared.ending.Ending.TheVariants as ending
+
+-- standard input was opened once, no read failed, and these are its bytes, where they are told
+pub record TakesInput (bytes : List ℕ) (source source_now : Source) : Type 0 where
+  pub opened : source_now.openings ≡ next_count source.openings
+  pub steady : source_now.faults ≡ source.faults
+  pub has : HasInput source.files bytes
+
+-- standard input was opened once, and that or a read of it failed, or it is told that there is none
+pub record FailsInput (source source_now : Source) : Type 0 where
+  pub opened : source_now.openings ≡ next_count source.openings
+  pub cause : (Lacks source.files dash × (source_now.faults ≡ source.faults)) ⊎ Rose source.faults source_now.faults
+
+-- the inputs' count of faults stayed, and there was one opening at most
+pub record LeavesInput (source source_now : Source) : Type 0 where
+  pub opened : (source_now.openings ≡ source.openings) ⊎ (source_now.openings ≡ next_count source.openings)
+  pub steady : source_now.faults ≡ source.faults
+
+-- nothing is written, and this is said
+pub record OnlySays (message : List ℕ) (old new : Sinks) : Type 0 where
+  pub same : new.outs ≡ old.outs
+  pub same_open : new.is_open ≡ old.is_open
+  pub says : IsMessage message old.errs new.errs
+
+-- the document `-` of this text is written whole, no call of the outputs failed, and nothing is said
+pub record Writes (text : List ℕ) (old new : Sinks) : Type 0 where
+  pub documents : new.outs.documents ≡ with_whole old.outs.documents dash text
+  pub closed : new.is_open ≡ false
+  pub steady : new.outs.faults ≡ old.outs.faults
+  pub went : new.outs.failures.count ≡ old.outs.failures.count
+  pub silent : new.errs ≡ old.errs
+
+-- the document `-` of this text is cut off, by the one call of the outputs that failed, which was the last one; and
+-- that is said
+pub record CutsOff (program text : List ℕ) (old new : Sinks) : Type 0 where
+  pub cut_off : IsCutOff old.outs.documents new.outs.documents dash text
+  pub rose : Rose old.outs.faults new.outs.faults
+  pub failed : new.outs.failures ≡ after_err old.outs.failures
+  pub says : IsMessage (file_line program dash (codes "write fault")) old.errs new.errs
+
+-- a text was to be written, after which the run ends well: it ends so, or the document is cut off
+abbrev pub PutsText : List ℕ → Ending → List ℕ → Ending → Sinks → Sinks → Type 0
+PutsText program well text end old new =
+    ((end ≡ well) × Writes text old new) ⊎ ((end ≡ ending.Unwritten) × CutsOff program text old new)
+
+-- a reply was to be put out, which belongs to this ending and this text
+abbrev pub PutsReply : List ℕ → Ending → List ℕ → Ending → Sinks → Sinks → Type 0
+PutsReply program well text end old new =
+    (((well ≡ ending.Done) ⊎ (well ≡ ending.Wrong)) × PutsText program well text end old new)
+    ⊎ ((well ≡ ending.Refused) × (end ≡ ending.Refused) × OnlySays (file_line program dash text) old new)
+
+-- what a run has done that ends so: its reply belongs to the whole input
+abbrev pub HasDone : (List ℕ → Ending → List ℕ → Type 0) → List ℕ → Ending → Source → Source → Sinks → Sinks → Type 0
+HasDone makes program ending.Done source source_now old new =
+    (bytes : List ℕ) × (text : List ℕ) × TakesInput bytes source source_now
+    × IsReply makes bytes ending.Done text × Writes text old new
+HasDone makes program ending.Wrong source source_now old new =
+    (bytes : List ℕ) × (text : List ℕ) × TakesInput bytes source source_now
+    × IsReply makes bytes ending.Wrong text × Writes text old new
+HasDone makes program ending.BadWords source source_now old new =
+    (source_now ≡ source) × OnlySays (program_line program (codes "bad arguments")) old new
+HasDone makes program ending.Refused source source_now old new =
+    (bytes : List ℕ) × (why : List ℕ) × TakesInput bytes source source_now
+    × IsReply makes bytes ending.Refused why × OnlySays (file_line program dash why) old new
+HasDone makes program ending.Unread source source_now old new =
+    FailsInput source source_now × OnlySays (file_line program dash (codes "read fault")) old new
+HasDone makes program ending.Unwritten source source_now old new =
+    (bytes : List ℕ) × (well : Ending) × (text : List ℕ) × TakesInput bytes source source_now
+    × IsReply makes bytes well text × ((well ≡ ending.Done) ⊎ (well ≡ ending.Wrong)) × CutsOff program text old new
+HasDone makes program ending.OutOfMemory source source_now old new =
+    LeavesInput source source_now × OnlySays (program_line program (codes "out of memory")) old new
+
+-- all that a run does that is given so many words and ends so
+pub record IsProgramRun (makes : List ℕ → Ending → List ℕ → Type 0) (program : List ℕ) (words : ℕ) (end : Ending) (source source_now : Source) (old new : Sinks) : Type 0 where
+  pub outcome : HasDone makes program end source source_now old new
+  -- words are refused, exactly
+  pub bad_words : end ≡ ending.BadWords → 0 < words
+  pub refused : 0 < words → end ≡ ending.BadWords
+  -- where standard input is told and isn't there, it is unread; and where it is there and no device failed, the run ends
+  -- with its reply, or memory ran out
+  pub missing : words ≡ 0 → Lacks source.files dash → end ≡ ending.Unread
+  pub complete : words ≡ 0 → (bytes text : List ℕ) (well : Ending) → TellsInput source.files bytes → IsReply makes bytes well text
+      → (Rose source.faults source_now.faults → ⊥) → (Rose old.outs.faults new.outs.faults → ⊥) → (end ≡ well) ⊎ (end ≡ ending.OutOfMemory)
+  -- a fault of the outputs is told
+  pub unwritten : old.outs.faults < new.outs.faults → end ≡ ending.Unwritten

@@ -1,0 +1,112 @@
+//! All that a program does.
+ghost use Rattle.std.specs.Prelude.{◌≡◌, ℕ, false, length, true};
+ghost use Rattle.run_output.specs.Told.{IsMessage, sinks_of, source_of, told_of};
+ghost use Rattle.small_program.specs.Outcome.{IsProgramRun, PutsReply, PutsText};
+ghost use Rattle.small_program.specs.Reply.{reply_ending, reply_text, stop_ending, stop_line};
+
+use crate::ending::Ending;
+use crate::input::{InputStop, read_all};
+use crate::task::{Reply, Task};
+use pt_base::inputs::Inputs;
+use pt_base::sink::{Outputs, Sink};
+use run_output::document::write_document;
+use run_output::line::{say_line, say_of_file};
+use std::alloc::Global;
+
+/// Has the task reply to standard input, writes the reply's document to standard output or says why there is none, and
+/// answers how it ends. The program's name stands in front of what it says.
+///
+/// After a fault of the outputs nothing more is written to them.
+pub fn run<I: Inputs, O: Outputs, E: Sink, T: Task>(
+    alloc: Global,
+    program: &str,
+    task: &T,
+    words: &[String],
+    inputs: &mut I,
+    outs: &mut O,
+    errs: &mut E,
+) -> Ending
+    requires closed { O.is_ready outs.old ≡ false }
+    requires ready { E.is_ready errs.old ≡ true }
+    ensures { IsProgramRun (T.makes task.now) program.now (length words.now) result
+        (source_of I.Inputs inputs.old) (source_of I.Inputs inputs.new)
+        (sinks_of O.Sink E.Sink outs.old errs.old) (sinks_of O.Sink E.Sink outs.new errs.new) }
+{
+    if !words.is_empty() {
+        say_line(errs, program, "bad arguments");
+        return Ending::BadWords;
+    }
+    let bytes = match read_all(alloc, inputs) {
+        Ok(bytes) => bytes,
+        Err(stop) => return say_stop(program, stop, errs),
+    };
+    match task.reply(alloc, bytes) {
+        Ok(reply) => put_reply(program, reply, outs, errs),
+        Err(_) => {
+            say_line(errs, program, "out of memory");
+            Ending::OutOfMemory
+        }
+    }
+}
+
+/// Says why standard input isn't there whole.
+fn say_stop<E: Sink>(program: &str, stop: InputStop, errs: &mut E) -> Ending
+    requires { E.is_ready errs.old ≡ true }
+    ensures ending { result ≡ stop_ending stop }
+    ensures says { IsMessage (stop_line program.now stop) (told_of E.Sink errs.old)
+        (told_of E.Sink errs.new) }
+{
+    match stop {
+        InputStop::Unread => {
+            say_of_file(errs, program, "-", "read fault");
+            Ending::Unread
+        }
+        InputStop::TooLong => {
+            say_of_file(errs, program, "-", "text too long");
+            Ending::Refused
+        }
+        InputStop::OutOfMemory => {
+            say_line(errs, program, "out of memory");
+            Ending::OutOfMemory
+        }
+    }
+}
+
+/// Writes the document of a reply, or says why there is none.
+fn put_reply<O: Outputs, E: Sink>(program: &str, reply: Reply, outs: &mut O, errs: &mut E) -> Ending
+    requires closed { O.is_ready outs.old ≡ false }
+    requires ready { E.is_ready errs.old ≡ true }
+    ensures { PutsReply program.now (reply_ending reply) (reply_text reply) result
+        (sinks_of O.Sink E.Sink outs.old errs.old) (sinks_of O.Sink E.Sink outs.new errs.new) }
+{
+    match reply {
+        Reply::Right(text) => put_text(program, &text, Ending::Done, outs, errs),
+        Reply::Wrong(text) => put_text(program, &text, Ending::Wrong, outs, errs),
+        Reply::Refused(why) => {
+            say_of_file(errs, program, "-", why);
+            Ending::Refused
+        }
+    }
+}
+
+/// Writes a text as the document, after which the run ends so; or says that it couldn't be written.
+fn put_text<O: Outputs, E: Sink>(
+    program: &str,
+    text: &[u8],
+    well: Ending,
+    outs: &mut O,
+    errs: &mut E,
+) -> Ending
+    requires closed { O.is_ready outs.old ≡ false }
+    requires ready { E.is_ready errs.old ≡ true }
+    ensures { PutsText program.now well text.now result
+        (sinks_of O.Sink E.Sink outs.old errs.old) (sinks_of O.Sink E.Sink outs.new errs.new) }
+{
+    match write_document(outs, "-", text) {
+        Ok(()) => well,
+        Err(_) => {
+            say_of_file(errs, program, "-", "write fault");
+            Ending::Unwritten
+        }
+    }
+}

@@ -1,0 +1,56 @@
+//! The words that a program was started with.
+ghost use Rattle.std.specs.Prelude.{◌≡◌, ◌⊎◌, true, codes, IfErr, OnOk};
+ghost use Rattle.run_output.specs.Messages.{program_line};
+ghost use Rattle.run_output.specs.Told.{IsMessage, told_of};
+ghost use Rattle.small_program.specs.declared.ending.Ending.TheVariants.{BadWords, OutOfMemory};
+
+use crate::ending::Ending;
+use pt_base::fault::NoMemory;
+use pt_base::sink::Sink;
+use run_output::line::say_line;
+use std::alloc::Global;
+use std::env::{self, Args, Env};
+use std::io::ErrorKind;
+
+/// The words behind the program's own name. One that isn't UTF-8 is a word too, and so it is refused at once.
+pub fn words_of<R: Env + Alloc<A = Global>, E: Sink>(
+    rt: &R,
+    program: &str,
+    errs: &mut E,
+) -> Result<Vec<String>, Ending>
+    requires { E.is_ready errs.old ≡ true }
+    ensures silent { OnOk result (told_of E.Sink errs.new ≡ told_of E.Sink errs.old) }
+    ensures says { IfErr result (λ end. ((end ≡ BadWords) × IsMessage
+        (program_line program.now (codes "bad arguments")) (told_of E.Sink errs.old) (told_of E.Sink errs.new))
+        ⊎ ((end ≡ OutOfMemory) × IsMessage
+        (program_line program.now (codes "out of memory")) (told_of E.Sink errs.old) (told_of E.Sink errs.new))) }
+    ensures stays_ready { E.is_ready errs.new ≡ true }
+{
+    let args = match env::args(rt) {
+        Ok(args) => args,
+        Err(error) if error.kind() == ErrorKind::OutOfMemory => {
+            say_line(errs, program, "out of memory");
+            return Err(Ending::OutOfMemory);
+        }
+        Err(_) => {
+            say_line(errs, program, "bad arguments");
+            return Err(Ending::BadWords);
+        }
+    };
+    match behind_name(rt.alloc(), args) {
+        Ok(words) => Ok(words),
+        Err(_) => {
+            say_line(errs, program, "out of memory");
+            Err(Ending::OutOfMemory)
+        }
+    }
+}
+
+/// All but the first.
+fn behind_name(alloc: Global, args: Args) -> Result<Vec<String>, NoMemory> {
+    let mut words = Vec::new(alloc);
+    for word in args.skip(1) {
+        words.push(word)?;
+    }
+    Ok(words)
+}
