@@ -1,14 +1,15 @@
 #!/usr/bin/env python3
 """Refuses one growth of memory after another, and looks at how each run ends.
 
-usage: memory.py PROGRAM [TESTS]
+usage: memory.py PROGRAM [TESTS] [NAME=PROGRAM ..]
 
 PROGRAM is run on small pages, over real files and streams, with its first request for memory refused, then with its
 second one, and so on until a run asks less often. Each run has to end with its whole answer, or with status 5, `potrace:
 out of memory` as its last message, and only whole documents, the first ones, written. TESTS is the program of the
 tests, crates/run_tests/out/run_tests_tests, which `rt test` leaves there; its test `memory_refused` does the same over
 files and documents in memory, and has to pass each time. A library that stands before the C library's malloc, calloc
-and realloc counts and refuses. It needs python3 and a C compiler, cc, on Linux with glibc.
+and realloc counts and refuses. NAME is another program, `point_fill`, which reads a text and writes a document, and
+PROGRAM where it stands: with status 5 it may write nothing. It needs python3 and a C compiler, cc, on Linux with glibc.
 """
 import os
 import shutil
@@ -69,6 +70,8 @@ ROWS = [
     ("-b points -t 0 --workers 1 a.pbm b.pbm", b""),
     ("-b points -t 0 --workers 4 a.pbm b.pbm", b""),
 ]
+# Of another program, texts that it reads, with a word or without one.
+SMALL = {"point_fill": [("", b"points 2 2 2\n+ 1 0,2 0,1 1,1 1,2\n+ 1 1,1 1,0 2,0 2,1\n"), ("", b"points"), ("-h", b"")]}
 # Of the two files: their documents, in order, and the note that is said behind so many of them.
 DOCUMENTS = ["a.points", "a-2.points", "b.points", "b-2.points"]
 OUT_OF_MEMORY = b"potrace: out of memory\n"
@@ -126,6 +129,20 @@ def sweep(library, program, words, data, folder):
         n += 1
 
 
+def sweep_small(library, name, program, word, data):
+    line, said = [program, *word.split()], b"%s: out of memory\n" % name.encode()
+    whole, _ = run(library, 0, line, data)
+    n, wrong = 1, []
+    while True:
+        ran, calls = run(library, n, line, data)
+        came = (ran.returncode, ran.stdout, ran.stderr)
+        if came not in ((whole.returncode, whole.stdout, whole.stderr), (5, b"", said)):
+            wrong.append(n)
+        if calls < n:
+            return calls, wrong
+        n += 1
+
+
 def sweep_test(library, tests, name):
     n, wrong = 1, []
     while True:
@@ -138,7 +155,9 @@ def sweep_test(library, tests, name):
 
 
 def main():
-    if len(sys.argv) not in (2, 3):
+    others = dict(word.split("=", 1) for word in sys.argv[1:] if "=" in word)
+    words = [word for word in sys.argv[1:] if "=" not in word]
+    if len(words) not in (1, 2) or not {*others} <= {*SMALL}:
         sys.exit(__doc__)
     if not shutil.which("cc"):
         sys.exit("memory: cc is missing")
@@ -151,12 +170,17 @@ def main():
         for name, data in FILES.items():
             with open(os.path.join(folder, name), "wb") as it:
                 it.write(data)
-        for words, data in ROWS:
-            calls, ended, wrong = sweep(library, os.path.abspath(sys.argv[1]), words, data, folder)
+        for line, data in ROWS:
+            calls, ended, wrong = sweep(library, os.path.abspath(words[0]), line, data, folder)
             failed += len(wrong)
-            print(f"{words}: asks {calls} times, {ended} refusals end with status 5, wrong after {wrong or 'none'}", flush=True)
-        if len(sys.argv) == 3:
-            calls, wrong = sweep_test(library, os.path.abspath(sys.argv[2]), "tests::memory::memory_refused")
+            print(f"{line}: asks {calls} times, {ended} refusals end with status 5, wrong after {wrong or 'none'}", flush=True)
+        for name, program in others.items():
+            for word, data in SMALL[name]:
+                calls, wrong = sweep_small(library, name, os.path.abspath(program), word, data)
+                failed += len(wrong)
+                print(f"{name} {word}, {len(data)} bytes: asks {calls} times, wrong after {wrong or 'none'}", flush=True)
+        if len(words) == 2:
+            calls, wrong = sweep_test(library, os.path.abspath(words[1]), "tests::memory::memory_refused")
             failed += len(wrong)
             print(f"memory_refused: asks {calls} times, fails after {wrong or 'none'}", flush=True)
     print(f"{failed} failed")
