@@ -4,11 +4,11 @@
 # usage: many.sh TARBALL
 #
 # TARBALL is the one that packaging/make makes. The hosts are network namespaces of this machine with an sshd each, on
-# 198.51.100.2 and 198.51.100.6, addresses that are kept for examples; each has a home of its own in memory, and
-# neither the pages nor this repository, /opt or parallel. The tarball is unpacked there. The first run is cut off from here, by a signal;
-# in the second one a host goes away: its cable first, and then its processes. In the end each document has to be there
-# once, byte for byte as the program writes it here in one process, and nothing else; and a third run has nothing to do.
-# The tasks of the array job are played by the shell, and have to write the same.
+# 198.51.100.2 and 198.51.100.6, addresses that are kept for examples; each has a home of its own in memory, and neither
+# the pages nor this repository, /opt or parallel. The tarball is unpacked there. The first run is cut off from here, by
+# a signal; in the second one a host goes away: its cable first, and then its processes. In the end each document has to
+# be there once, byte for byte as the program writes it here in one process, and nothing else; and a third run has
+# nothing to do.
 #
 # It needs root, python3 and Debian's packages parallel, openssh-server, openssh-client, rsync and iproute2. It takes
 # away what it made, and ends within some minutes.
@@ -35,6 +35,7 @@ clean_up() {
   local host
   for host in $hosts; do
     kill_host "$host"
+    ip link del "many-$host" 2>/dev/null || true
     ip netns del "many-$host" 2>/dev/null || true
   done
   rm -rf "$work"
@@ -94,7 +95,7 @@ until_true() {
 draw_pages() {
   local number
   mkdir -p scans/old
-  for number in $(seq 100 159); do
+  for number in $(seq 100 139); do
     python3 "$top/bench/pages.py" scan 1240 1754 "$number" >"scans/$number.pbm"
   done
   python3 "$top/bench/pages.py" map >"scans/old/a map's [page] *.pbm"
@@ -107,13 +108,6 @@ draw_pages() {
 
 come() { [ "$(find run/status -type f 2>/dev/null | wc -l)" -ge "$1" ]; }
 answers() { ssh -F "$work/ssh_config" -o ConnectTimeout=2 "$1" true </dev/null 2>/dev/null; }
-
-# Whether the pages' folder has the documents of the one process, and nothing else but pages and statuses.
-compare() {
-  diff -r one/scans "$1/scans" || fail "$2: the documents differ"
-  echo "$2: $(find "$1/scans" -name '*.svg' | wc -l) documents and $(find "$1/run/status" -type f | wc -l) statuses, the same as of one process:" \
-    "$(find "$1/run/status" -type f -exec cat {} + | sort | uniq -c | awk '{ printf "%s%s with %s", (NR > 1 ? ", " : ""), $1, $2 }')"
-}
 
 mkdir -p "$work/keys" "$work/at/one"
 cd "$work/at"
@@ -145,21 +139,26 @@ printf '2/%s\n' $hosts >hosts
 # Cut off from here.
 setsid "$top/examples/many/over_hosts" hosts scans run -s >"$work/run-1.log" 2>&1 &
 first=$!
+disown
 until_true 60 come 10
 kill -KILL -- "-$first"
-wait "$first" 2>/dev/null || true
+jobs_first=$(wc -l <run/jobs.log)
 echo "first run: cut off with $(find run/status -type f | wc -l) pages done"
 
 # A host goes away.
 timeout 300 "$top/examples/many/over_hosts" hosts scans run -s >"$work/run-2.log" 2>&1 &
 second=$!
-until_true 60 come 35
+until_true 60 come 25
 ip link set many-two down
 kill_host two
 echo "second run: host two goes away with $(find run/status -type f | wc -l) pages done"
 status=0
 wait "$second" || status=$?
 echo "second run: status $status; $(grep '^over_hosts' "$work/run-2.log")"
+grep -v '^over_hosts' "$work/run-2.log" | sed "s|${TMPDIR:-/tmp}/[^ ]*|FILE|" | sort | uniq -c
+# Jobs begin in order but for those that are tried again.
+tail -n "+$((jobs_first + 1))" run/jobs.log | sort -t $'\t' -k 3,3n |
+  awk '$1 < most { again++ } $1 > most { most = $1 } END { print "tried again in it: " again + 0 " jobs" }'
 
 # Nothing is left to do.
 jobs_done=$(wc -l <run/jobs.log)
@@ -168,16 +167,7 @@ status=0
 [ "$status" -eq 2 ] || { cat "$work/run-2.log" "$work/run-3.log" >&2; fail "the third run ended with $status"; }
 [ "$jobs_done" -eq "$(wc -l <run/jobs.log)" ] || fail "the third run had something to do"
 echo "third run: status $status, nothing to do"
-compare . "two hosts"
+diff -r one/scans scans || fail "the documents differ"
+echo "$(find scans -name '*.svg' | wc -l) documents and $(find run/status -type f | wc -l) statuses, the same as of one process:" \
+  "$(find run/status -type f -exec cat {} + | sort | uniq -c | awk '{ printf " %s with %s", $1, $2 }')"
 awk -F'\t' '$1 != "Seq" { jobs[$2 ", exit value " $7]++ } END { for (it in jobs) print "job log: " jobs[it] " jobs of " it }' run/jobs.log | sort
-
-# The tasks of the array job, two at a time, and one of them twice.
-mkdir array
-(cd one && find scans -type f ! -name '*.svg' -print0 | xargs -0 cp --parents -t ../array)
-cd array
-find scans -type f >list
-for task in 0 1 2 3 2; do echo "$task"; done |
-  PATH=$work/keys/bin:$PATH SLURM_ARRAY_TASK_COUNT=4 xargs -P 2 -I{} \
-    env SLURM_ARRAY_TASK_ID={} "$top/examples/many/array.slurm" list run -s 2>"$work/array.log"
-cd ..
-compare array "the array's tasks"
