@@ -106,7 +106,7 @@ draw_pages() {
   cp "$top/examples/key.pgm" scans/old
 }
 
-come() { [ "$(find run/status -type f 2>/dev/null | wc -l)" -ge "$1" ]; }
+come() { [ "$(find run -name '*.status' 2>/dev/null | wc -l)" -ge "$1" ]; }
 answers() { ssh -F "$work/ssh_config" -o ConnectTimeout=2 "$1" true </dev/null 2>/dev/null; }
 
 mkdir -p "$work/keys" "$work/at/one"
@@ -143,7 +143,7 @@ disown
 until_true 60 come 10
 kill -KILL -- "-$first"
 jobs_first=$(wc -l <run/jobs.log)
-echo "first run: cut off with $(find run/status -type f | wc -l) pages done"
+echo "first run: cut off with $(find run -name '*.status' | wc -l) pages done"
 
 # A host goes away.
 timeout 300 "$top/examples/many/over_hosts" hosts scans run -s >"$work/run-2.log" 2>&1 &
@@ -151,7 +151,7 @@ second=$!
 until_true 60 come 25
 ip link set many-two down
 kill_host two
-echo "second run: host two goes away with $(find run/status -type f | wc -l) pages done"
+echo "second run: host two goes away with $(find run -name '*.status' | wc -l) pages done"
 status=0
 wait "$second" || status=$?
 echo "second run: status $status; $(grep '^over_hosts' "$work/run-2.log")"
@@ -168,6 +168,6 @@ status=0
 [ "$jobs_done" -eq "$(wc -l <run/jobs.log)" ] || fail "the third run had something to do"
 echo "third run: status $status, nothing to do"
 diff -r one/scans scans || fail "the documents differ"
-echo "$(find scans -name '*.svg' | wc -l) documents and $(find run/status -type f | wc -l) statuses, the same as of one process:" \
-  "$(find run/status -type f -exec cat {} + | sort | uniq -c | awk '{ printf " %s with %s", $1, $2 }')"
+echo "$(find scans -name '*.svg' | wc -l) documents and $(find run -name '*.status' | wc -l) statuses, the same as of one process:" \
+  "$(find run -name '*.status' -exec cat {} + | sort | uniq -c | awk '{ printf " %s with %s", $1, $2 }')"
 awk -F'\t' '$1 != "Seq" { jobs[$2 ", exit value " $7]++ } END { for (it in jobs) print "job log: " jobs[it] " jobs of " it }' run/jobs.log | sort

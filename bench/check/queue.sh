@@ -80,7 +80,7 @@ wait_for() {
   exit 1
 }
 is_idle() { [ "$(timeout 5 sinfo -h -o %T 2>/dev/null)" = idle ] && [ -z "$(timeout 5 squeue -h)" ]; }
-come() { [ "$(find run/status -type f 2>/dev/null | wc -l)" -ge "$1" ]; }
+come() { [ "$(find run -name '*.status' 2>/dev/null | wc -l)" -ge "$1" ]; }
 
 cd /at
 wait_for is_idle
@@ -89,10 +89,10 @@ first=$(sbatch --parsable --array=0-7%2 array.slurm pages.txt run -s)
 wait_for come 5
 scancel "$first"
 wait_for is_idle
-echo "first job: cancelled with $(find run/status -type f | wc -l) of $(wc -l <pages.txt) pages done"
+echo "first job: cancelled with $(find run -name '*.status' | wc -l) of $(wc -l <pages.txt) pages done"
 sbatch --parsable --array=0-7%2 array.slurm pages.txt run -s >/dev/null
 wait_for is_idle
-echo "second job: $(find run/status -type f | wc -l) pages done; statuses:$(find run/status -type f -exec cat {} + | sort | uniq -c | awk '{ printf " %s with %s", $1, $2 }')"
+echo "second job: $(find run -name '*.status' | wc -l) pages done; statuses:$(find run -name '*.status' -exec cat {} + | sort | uniq -c | awk '{ printf " %s with %s", $1, $2 }')"
 cat slurm-*.out | sort | uniq -c
 mkdir by-hand
 cp -r pages.txt manual by-hand

@@ -7,10 +7,10 @@
 #
 # usage: sbatch [--array=0-LAST[%MOST]] array.slurm LIST RUN [OPTION..]
 #
-# Of so many tasks each takes every so-manieth page of LIST, a file with a name a line; %MOST of them run at a time. The
-# folder is the one where it is handed in, which all nodes share, and potrace is on the PATH there. The documents come
-# beside the pages, as `potrace OPTION.. PAGE` writes them. RUN/status/PAGE is the status of each page that is done: 0, or
-# 1 or 2 where it was refused. A task fails where a page ended otherwise, for want of disk or memory, and has no status.
+# Of N tasks each takes every N-th page of LIST, a file with a name a line; at most MOST of them run at a time. The folder
+# is the one where it is handed in, which all nodes share, and potrace is on the PATH there. The documents come beside the
+# pages, as `potrace OPTION.. PAGE` writes them. RUN/PAGE.status has the status of each page that is done: 0, or 1 or 2
+# where it was refused. A task fails where a page ended otherwise, as for want of disk or memory, and has no status.
 set -u
 
 [ $# -ge 2 ] || { echo "usage: sbatch array.slurm LIST RUN [OPTION..]" >&2; exit 1; }
@@ -19,7 +19,7 @@ shift 2
 
 awk -v count="$SLURM_ARRAY_TASK_COUNT" -v task="$SLURM_ARRAY_TASK_ID" 'NR % count == task' "$list" | {
   while IFS= read -r page; do
-    status=$run/status/$page
+    status=$run/$page.status
     [ ! -s "$status" ] || continue
     potrace --workers 1 "$@" -- "$page" </dev/null
     said=$?
