@@ -20,10 +20,12 @@ for tool in python3 parallel /usr/sbin/sshd ssh ssh-keygen rsync ip setsid timeo
   command -v "$tool" >/dev/null || { echo "many: $tool is missing" >&2; exit 2; }
 done
 [ "$(id -u)" -eq 0 ] || { echo "many: only root makes network namespaces" >&2; exit 2; }
-[ -z "$(ip route show root 198.51.100.0/24; ip netns list | grep '^many-')" ] || { echo "many: its addresses or names are taken" >&2; exit 2; }
+taken=$(ip route show root 198.51.100.0/24; ip netns list | grep '^many-' || true)
+[ -z "$taken" ] || { echo "many: its addresses or names are taken: $taken" >&2; exit 2; }
 tarball=$(readlink -f "$1")
 hosts="one two"
 work=$(mktemp -d)
+export TMPDIR=$work
 trap 'clean_up' EXIT
 
 # The processes of a host, by their numbers.
@@ -155,7 +157,7 @@ echo "second run: host two goes away with $(find run -name '*.status' | wc -l) p
 status=0
 wait "$second" || status=$?
 echo "second run: status $status; $(grep '^over_hosts' "$work/run-2.log")"
-grep -v '^over_hosts' "$work/run-2.log" | sed "s|${TMPDIR:-/tmp}/[^ ]*|FILE|" | sort | uniq -c
+grep -v '^over_hosts' "$work/run-2.log" | sed "s|$work/[^ ]*|FILE|" | sort | uniq -c
 # Jobs begin in order but for those that are tried again.
 tail -n "+$((jobs_first + 1))" run/jobs.log | sort -t $'\t' -k 3,3n |
   awk '$1 < most { again++ } $1 > most { most = $1 } END { print "tried again in it: " again + 0 " jobs" }'
