@@ -4,13 +4,13 @@
 # usage: bench/check/manual.sh [PROGRAM [FILLER]]
 #
 # The examples are taken from docs/potrace.1 and docs/point_fill.1 and run one after another in a folder with the pages that
-# they name; the documents that they speak of must then be there and be read by a parser. The batch queue is played by the
-# shell. PROGRAM and FILLER are ours, and are built if they aren't given. It needs Debian's packages mandoc, man-db, imagemagick and
-# poppler-utils, and python3. It is no part of the gate.
+# they name; the documents that they speak of must then be there and be read by a parser. The batch queue, and the host
+# that ssh reaches, are played by the shell. PROGRAM and FILLER are ours, and are built if they aren't given. It needs Debian's packages mandoc,
+# man-db, imagemagick, poppler-utils, parallel and rsync, and python3. It is no part of the gate.
 set -euo pipefail
 
 top=$(cd "$(dirname "$(readlink -f "${BASH_SOURCE[0]}")")/../.." && pwd)
-for tool in mandoc man convert pdftoppm python3 find xargs split; do
+for tool in mandoc man convert pdftoppm python3 find xargs parallel rsync; do
   command -v "$tool" >/dev/null || { echo "manual: $tool is missing" >&2; exit 2; }
 done
 program=$(readlink -f "${1:-$top/potrace}")
@@ -39,17 +39,31 @@ for name in sys.argv[1:]:
     with open(name, encoding="utf-8") as file:
         section = file.read().split(".Sh EXAMPLES\n")[1].split("\n.Sh ")[0]
     for line, block in re.findall(r"^\.Dl (.*)$|^\.Bd .*\n((?:.*\n)*?)\.Ed$", section, re.M):
-        text = (line or block).replace("\\(aq", "'").replace("\\en", "\\n").rstrip("\n")
+        text = (line or block).replace("\\(aq", "'").replace("\\e", "\\").rstrip("\n")
         assert "\\(" not in text, text
         print(text, end="\n\0\n")
 END
 
-mkdir "$work/bin" "$work/at" "$work/at/scans"
+mkdir "$work/bin" "$work/at" "$work/at/scans" "$work/host"
 cd "$work/at"
 ln -s "$program" "$work/bin/potrace"
 ln -s "$filler" "$work/bin/point_fill"
-printf '#!/bin/sh\nexec sh\n' >"$work/bin/batch"
-chmod +x "$work/bin/batch"
+cat >"$work/bin/ssh" <<END
+#!/bin/sh
+# Behind the host's name stands a command, for a shell in the host's home.
+until [ "\$1" = scanner ]; do shift; done
+shift
+[ "\$1" != -- ] || shift
+cd "$work/host" && exec sh -c "\$*"
+END
+cat >"$work/bin/sbatch" <<'END'
+#!/bin/sh
+# --array=FIRST-LAST --wrap COMMAND, one task after another, once the documents of the example before it are gone.
+rm third.svg 'fourth page.svg' third.pbm.status 'fourth page.pbm.status' || exit
+range=${1#--array=}
+for task in $(seq "${range%-*}" "${range#*-}"); do SLURM_ARRAY_TASK_ID=$task sh -c "$3" || exit; done
+END
+chmod +x "$work/bin/ssh" "$work/bin/sbatch"
 PATH=$work/bin:$PATH
 
 python3 "$top/bench/pages.py" scan 400 300 >scan.pbm
@@ -61,6 +75,7 @@ cp scan.pbm scans/second.pbm
 cp mask.pbm third.pbm
 cp logo.pbm 'fourth page.pbm'
 printf 'third.pbm\nfourth page.pbm\n' >pages.txt
+echo 2/scanner >hosts
 convert gray.pgm -transparent white -resize 400% photo.png
 # A PDF of two pages, each with a black bar.
 python3 - >letter.pdf <<'END'
