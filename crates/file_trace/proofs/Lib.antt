@@ -1,10 +1,7 @@
-pub mod Batching
-pub mod Carrying
 pub mod Counting
 pub mod Ending
 pub mod Exists
 pub mod Filing
-pub mod Holding
 pub mod OnePass
 pub mod Joining
 pub mod Keeping

@@ -1,40 +1,44 @@
 -- How far the tracing of a file has come: its first pages are traced.
-use Rattle.std.specs.Prelude.{◌≡◌, ◌≢◌, ◌⊎◌, ℕ, ◌+◌, ◌*◌, ◌<◌, ◌≤◌, Bool, false, List, [], ◌∷◌, ◌++◌, length, drop, Option, Some, IfSome, option_map}
-use Rattle.pt_base.specs.Counts.{Rose}
+use Rattle.std.specs.Prelude.{◌≡◌, ◌≢◌, ◌⊎◌, ℕ, ◌+◌, ◌*◌, ◌<◌, ◌≤◌, Bool, false, true, List, [], ◌∷◌, ◌++◌, length, drop, Option, Some, IfSome, option_map, Result, Ok, Err}
+use Rattle.pt_base.specs.Counts.{Rose, next_count}
 use Rattle.pt_base.specs.Files.{Contents, Files, unread}
-use Rattle.bit_image.specs.Page.{Page as Pixels}
+use Rattle.bit_image.specs.Page.{IsPage, Page as Pixels}
 use Rattle.bitmap_input.specs.declared.fault.InFault.{InFault}
 use Rattle.bitmap_input.specs.declared.fault.InFault.TheVariants as fault
 use Rattle.bitmap_input.specs.Cut.{Kind, is_by_end}
 use Rattle.bitmap_input.specs.Cut.Ending.{End, Trailing, Refused}
 use Rattle.bitmap_input.specs.FaultText.{cause_text, fault_text}
-use Rattle.bitmap_input.specs.Raw.{Raw, shown}
+use Rattle.bitmap_input.specs.Raw.{Raw}
 use Rattle.bitmap_input.specs.Front.{front, page_at}
 use Rattle.bitmap_input.specs.Front.Answer.{Page, Ends}
 use Rattle.bitmap_input.specs.FilePages.{next_begins}
-use Rattle.bitmap_input.specs.Reading.{AreNeeded, Moves, cause_of_fault}
+use Rattle.bitmap_input.specs.Reading.{AreNeeded, AtEnd, Moves, cause_of_fault}
 use Rattle.bitmap_input.specs.Reading.Cause.{Device, Says}
-use Rattle.bitmap_input.specs.Reader.{Reader, ahead as reader_ahead, is_later as reader_is_later}
-use Rattle.page_trace.specs.Document.{IsDocument}
+use Rattle.bitmap_input.specs.Reader.{Reader, ReadFails, ahead as reader_ahead, is_later as reader_is_later}
 use Rattle.run_output.specs.Messages.{out_of_memory, page_line, trailing_line}
 use Rattle.run_output.specs.Names.{next_name}
 use Rattle.run_output.specs.Made.{most_pages}
+use Rattle.run_output.specs.declared.part.Binding.TheVariants.{Apart}
 use Rattle.run_output.specs.declared.status.Status.{Status}
 use Rattle.run_output.specs.declared.status.Status.TheVariants as status
-use Rattle.file_trace.specs.Items.{AreItems, Item, Rest, doc_count, too_many}
-use Rattle.file_trace.specs.Items.Item.{Doc, Note}
-use Rattle.file_trace.specs.Held.{AreHeld, Held, Holds}
-use Rattle.file_trace.specs.Outcome.{AreCarriedOut, BeginsWith, HasEnded, IsUnwritten, LeavesBehind, ReadsNear, Sinks, StopsReading, is_later}
-use Rattle.pt_base.specs.declared.settings.Settings.{Settings}
+use Rattle.page_batches.specs.Items.{Doc, Item, page_count}
+use Rattle.page_batches.specs.Items.Item.{Note}
+use Rattle.page_batches.specs.Held.{AreHeld, Held, Holds}
+use Rattle.page_batches.specs.Outcome.{AreCarriedOut, HasEnded, IsHalt, IsUnwritten, Sinks}
+use Rattle.file_trace.specs.Items.{AreItems, Rest, told_contents, too_many}
+use Rattle.file_trace.specs.Manner.{Manner, shown_by}
+use Rattle.file_trace.specs.Outcome.{BeginsWith, IsOutcomeBehind, LeavesBehind, ReadsNear, Source, StopsReading, is_later, opened_name}
+use Rattle.file_trace.specs.OnePass.{IsOnePass}
 use Rattle.file_trace.specs.declared.pages.PagesEnd.{PagesEnd}
 use Rattle.file_trace.specs.declared.pages.PagesEnd.TheVariants as why
+use Rattle.file_trace.specs.declared.pages.Traced.{Traced}
 
 -- these are the texts of these pages, in order
-abbrev pub AreTraced : Settings → List Raw → List (List ℕ) → Type 0
-AreTraced settings [] [] = Unit {0}
-AreTraced settings (raw ∷ raws) (text ∷ texts) = IsDocument (shown settings.level settings.invert raw) settings text × AreTraced settings raws texts
-AreTraced settings [] (text ∷ texts) = ⊥
-AreTraced settings (raw ∷ raws) [] = ⊥
+abbrev pub AreTraced : Manner → List Raw → List (List ℕ) → Type 0
+AreTraced manner [] [] = Unit {0}
+AreTraced manner (raw ∷ raws) (text ∷ texts) = manner.belongs (shown_by manner raw) text × AreTraced manner raws texts
+AreTraced manner [] (text ∷ texts) = ⊥
+AreTraced manner (raw ∷ raws) [] = ⊥
 
 -- the items of the documents of these texts, with this base name, after documents with these
 abbrev pub docs : List ℕ → List (List ℕ) → List (List ℕ) → List Item
@@ -53,12 +57,12 @@ pub record Settles (later : Bool) (bytes : List ℕ) (raw : Raw) (used : ℕ) (l
 
 -- the next page of what is ahead was read; as long as no read has given nothing, it is the next page
 -- whatever comes behind the bytes that were taken
-pub record ReadsPage (settings : Settings) (old : Reader) (before : Option Files) (page : Pixels) (new : Reader) (now : Option Files) : Type 0 where
+pub record ReadsPage (manner : Manner) (old : Reader) (before : Option Files) (page : Pixels) (new : Reader) (now : Option Files) : Type 0 where
   pub raw : Raw
   pub used : ℕ
   pub more : List ℕ
   pub moves : Moves old.ended before new.ended now more
-  pub shows : page ≡ shown settings.level settings.invert raw
+  pub shows : page ≡ shown_by manner raw
   pub told : IfSome (ahead old before) (λ bytes. (front (reader_is_later old) bytes ≡ Page raw used)
       × (ahead new now ≡ Some (drop (next_begins bytes raw used) bytes)))
   pub settled : new.ended ≡ false → (tail : List ℕ) → Settles (reader_is_later old) (reader_ahead old (more ++ tail)) raw used (reader_ahead new tail)
@@ -126,15 +130,38 @@ InputCount status.BadWords before now = now ≡ before
 InputCount status.Refused before now = now ≡ before
 InputCount status.Unwritten before now = Unit {0}
 
--- how the outputs moved: their count rose where a document couldn't be written, and else it stayed, and
--- no document is open
-abbrev pub OutputCount : Status → ℕ → ℕ → Bool → Type 0
-OutputCount status.Unwritten before now ready = Rose before now
-OutputCount status.Done before now ready = (now ≡ before) × (ready ≡ false)
-OutputCount status.BadWords before now ready = (now ≡ before) × (ready ≡ false)
-OutputCount status.Refused before now ready = (now ≡ before) × (ready ≡ false)
-OutputCount status.Unread before now ready = (now ≡ before) × (ready ≡ false)
-OutputCount status.OutOfMemory before now ready = (now ≡ before) × (ready ≡ false)
+-- the count of faults of the inputs moved as it does where the reading of pages ends so: it rose where a read failed,
+-- and else it stayed, but where memory ran out
+abbrev pub FaultsBy : PagesEnd → ℕ → ℕ → Type 0
+FaultsBy why.Unread before now = Rose before now
+FaultsBy why.OutOfMemory before now = Unit {0}
+FaultsBy end before now = now ≡ before
+
+-- a file is opened, and where a read gave nothing of it nothing is left of it
+pub record IsReading (reader : Reader) (source : Source) : Type 0 where
+  pub opened : source.is_opened ≡ true
+  pub at_end : reader.ended ≡ true → AtEnd source.files
+
+-- the next page was read; or none was, for this reason
+abbrev pub Answered : Result Pixels PagesEnd → Manner → Reader → Source → Reader → Source → Type 0
+Answered (Ok page) manner old before new now =
+    ReadsPage manner old before.files page new now.files × IsPage page × (now.faults ≡ before.faults)
+Answered (Err end) manner old before new now =
+    EndsReading (reader_is_later old) (ahead old before.files) end × (end ≡ why.Unread → ReadFails old before.files new now.files)
+    × FaultsBy end before.faults now.faults
+
+-- no file was opened: the opened one is the one that was, and the files hold what they held
+pub record StaysIn (old new : Source) : Type 0 where
+  pub openings : new.openings ≡ old.openings
+  pub name : opened_name new.files ≡ opened_name old.files
+  pub contents : told_contents new.files ≡ told_contents old.files
+
+-- the file of this name was asked for: it is the opened one, where one is opened and that is told; and the files hold
+-- what they held
+pub record AsksFor (name : List ℕ) (old new : Source) : Type 0 where
+  pub one_more : new.openings ≡ next_count old.openings
+  pub named : IfSome (opened_name new.files) (λ opened. opened ≡ name)
+  pub contents : told_contents new.files ≡ told_contents old.files
 
 -- a read failed behind these pages, and of the opened file the bytes behind those that were taken are unread
 pub record HasUnread (raws : List Raw) (before now : Option Files) : Type 0 where
@@ -144,56 +171,63 @@ pub record HasUnread (raws : List Raw) (before now : Option Files) : Type 0 wher
 
 -- k pages were read, after documents with these base names, and then the reading ended so; of what was held
 -- before and the documents of these pages, the first are carried out, and the others are held
-pub record Traces (size : ℕ) (settings : Settings) (base : List ℕ) (made : List (List ℕ)) (before now : Option Files) (held held_now : List Held) (old new : Sinks) (k : ℕ) (end : PagesEnd) : Type 0 where
+pub record Traces (size : ℕ) (manner : Manner) (base : List ℕ) (made : List (List ℕ)) (before now : Option Files) (held held_now : List Held) (old new : Sinks) (k : ℕ) (end : PagesEnd) : Type 0 where
   pub raws : List Raw
   pub texts : List (List ℕ)
   pub count : k ≡ length raws
   pub few : k + length made ≤ most_pages
-  pub traced : AreTraced settings raws texts
+  pub traced : AreTraced manner raws texts
   pub rest : Option (List ℕ)
   pub begins : IfSome (unread before) (λ all. (left : List ℕ) × (rest ≡ Some left) × BeginsWith false all raws left)
   pub ends : EndsBy (is_later false raws) rest end
   pub full : end ≡ why.TooMany → most_pages ≤ k + length made
   pub near : IfSome (unread before) (λ all. (left : List ℕ) × (unread now ≡ Some left) × ReadsNear all raws left)
   pub unread : end ≡ why.Unread → HasUnread raws before now
-  pub holds : (first : List Item) → AreHeld settings held first → Holds size settings (first ++ docs base made texts) held_now old new
+  pub holds : (first : List Item) → AreHeld Apart manner.belongs held first → Holds Apart size manner.belongs (first ++ docs base made texts) held_now old new
 
 -- a document couldn't be written: behind whole batches, and the items hold one batch more at most
 pub record IsInPart (size : ℕ) (items : List Item) (old new : Sinks) : Type 0 where
   pub unwritten : IsUnwritten items old new
   pub batches : ℕ
-  pub behind : batches * size ≤ doc_count unwritten.before
-  pub most : doc_count items < batches * size + size
+  pub behind : batches * size ≤ page_count unwritten.before
+  pub most : page_count items < batches * size + size
 
 -- a document of the last batch couldn't be written: the items are whole batches
 pub record IsInBatch (size : ℕ) (items : List Item) (old new : Sinks) : Type 0 where
   pub unwritten : IsUnwritten items old new
   pub batches : ℕ
-  pub behind : batches * size ≤ doc_count unwritten.before
-  pub full : doc_count items ≡ batches * size + size
+  pub behind : batches * size ≤ page_count unwritten.before
+  pub within : page_count unwritten.before < page_count items
+  pub full : page_count items ≡ batches * size + size
 
 -- some pages were read, after documents with these base names; what was held before and the documents of these
 -- pages were carried out as far as the status says. Where one of them couldn't be written it is one of a batch that
 -- ends with them, and at most 65,536 bytes behind them were taken.
-pub record Halts (s : Status) (size : ℕ) (settings : Settings) (base : List ℕ) (made : List (List ℕ)) (before now : Option Files) (held : List Held) (old new : Sinks) : Type 0 where
+pub record Halts (s : Status) (size : ℕ) (manner : Manner) (base : List ℕ) (made : List (List ℕ)) (before now : Option Files) (held : List Held) (old new : Sinks) : Type 0 where
   pub raws : List Raw
   pub texts : List (List ℕ)
   pub few : length raws + length made ≤ most_pages
-  pub traced : AreTraced settings raws texts
+  pub traced : AreTraced manner raws texts
   pub begins : IfSome (unread before) (λ all. (left : List ℕ) × BeginsWith false all raws left)
-  pub ended : (first : List Item) → AreHeld settings held first → HasEnded s (first ++ docs base made texts) old new
+  pub ended : (first : List Item) → AreHeld Apart manner.belongs held first → HasEnded s (first ++ docs base made texts) old new
   pub some : raws ≢ []
-  pub in_batch : s ≡ status.Unwritten → (first : List Item) → AreHeld settings held first → IsInBatch size (first ++ docs base made texts) old new
+  pub in_batch : s ≡ status.Unwritten → (first : List Item) → AreHeld Apart manner.belongs held first → IsInBatch size (first ++ docs base made texts) old new
   pub near : IfSome (unread before) (λ all. (behind : List ℕ) × (rest : List ℕ) × LeavesBehind false all raws behind × (unread now ≡ Some rest) × (length behind ≤ length rest + 65536))
 
--- the note of a file of this name whose k pages end so
-abbrev pub end_notes : List ℕ → PagesEnd → ℕ → List Item
-end_notes name why.Trailing k = Note (trailing_line name k) ∷ []
-end_notes name why.End k = []
-end_notes name (why.Refused fault) k = []
-end_notes name why.TooMany k = []
-end_notes name why.Unread k = []
-end_notes name why.OutOfMemory k = []
+-- the reading of pages ended: with the file's pages, or within a batch that couldn't be carried out
+abbrev pub EndsPages : Result Traced Status → ℕ → Manner → List ℕ → List (List ℕ) → Option Files → Option Files → List Held → List Held → Sinks → Sinks → Type 0
+EndsPages (Ok traced) size manner base made before now held held_now old new =
+    Traces size manner base made before now held held_now old new traced.pages traced.end
+EndsPages (Err s) size manner base made before now held held_now old new = IsHalt s × Halts s size manner base made before now held old new
+
+-- the items of the end of a file of this name whose k pages end so: a note, or none
+abbrev pub items_at_end : List ℕ → PagesEnd → ℕ → List Item
+items_at_end name why.Trailing k = Note (trailing_line name k) ∷ []
+items_at_end name why.End k = []
+items_at_end name (why.Refused fault) k = []
+items_at_end name why.TooMany k = []
+items_at_end name why.Unread k = []
+items_at_end name why.OutOfMemory k = []
 
 -- what is said where the run ends with the pages of the file of this name, k of which were read
 abbrev pub end_message : List ℕ → PagesEnd → ℕ → List ℕ
@@ -217,7 +251,36 @@ EndsWith made made_now items = (made_now ≡ made) × (items ≡ [])
 
 -- these are the items of the file of this name, and the run goes on behind them; of what was held before and
 -- them the first are carried out, and the others are held
-pub record TracesFile (size : ℕ) (contents : Option Contents) (settings : Settings) (output : Option (List ℕ)) (name : List ℕ) (made made_now : List (List ℕ)) (held held_now : List Held) (old new : Sinks) : Type 0 where
+pub record TracesFile (size : ℕ) (contents : Option Contents) (manner : Manner) (name : List ℕ) (made made_now : List (List ℕ)) (held held_now : List Held) (old new : Sinks) : Type 0 where
   pub items : List Item
-  pub are : AreItems contents settings output (EndsWith made_now) (name ∷ []) made items
-  pub holds : (first : List Item) → AreHeld settings held first → Holds size settings (first ++ items) held_now old new
+  pub are : AreItems contents manner (EndsWith made_now) (name ∷ []) made items
+  pub holds : (first : List Item) → AreHeld Apart manner.belongs held first → Holds Apart size manner.belongs (first ++ items) held_now old new
+
+-- the end of the pages of the file of this name, k of which were read, is held behind these items, and the run goes on;
+-- or the run ends there
+abbrev pub EndsWithPages : Result Unit Status → ℕ → Manner → List ℕ → PagesEnd → ℕ → List Item → List Held → Sinks → Sinks → Type 0
+EndsWithPages (Ok done) size manner name end k items held_now old new =
+    Holds Apart size manner.belongs (items ++ items_at_end name end k) held_now old new
+EndsWithPages (Err s) size manner name end k items held_now old new = EndsWithFile name end k s items old new
+
+-- the status of a run that ends with the pages of a file that end so: it is theirs, or what was held couldn't be carried
+-- out; where that couldn't be written there was something to be said of the file
+pub record EndsBecause (end : PagesEnd) (s : Status) : Type 0 where
+  pub which : (s ≡ status_of end) ⊎ IsHalt s
+  pub unwritten : s ≡ status.Unwritten → (status_of end ≡ status.Refused) ⊎ (status_of end ≡ status.Unread)
+
+-- the run goes on behind the pages of a file that end so, or it ends there
+abbrev pub GoesOnAfter : Result Unit Status → PagesEnd → Type 0
+GoesOnAfter (Ok done) end = status_of end ≡ status.Done
+GoesOnAfter (Err s) end = EndsBecause end s
+
+-- a file was traced: its items are carried out or held, and its documents are counted; or the run ends there, whatever
+-- files come behind it and whichever items are those of what was held; and where a document couldn't be written no more
+-- was read than its batch
+abbrev pub EndsFile : Result Unit Status → ℕ → Manner → List ℕ → List (List ℕ) → List (List ℕ) → List Held → List Held → Source → Source → Sinks → Sinks → Type 0
+EndsFile (Ok done) size manner name made made_now held held_now source source_now old new =
+    TracesFile size (told_contents source.files) manner name made made_now held held_now old new
+EndsFile (Err s) size manner name made made_now held held_now source source_now old new =
+    (names : List (List ℕ)) (first : List Item) → AreHeld Apart manner.belongs held first
+    → IsOutcomeBehind s first (told_contents source.files) manner (name ∷ names) made source source_now old new
+    × (s ≡ status.Unwritten → IsOnePass size first (told_contents source.files) manner (name ∷ names) made source source_now old new)

@@ -1,9 +1,11 @@
-use Rattle.std.proofs.Common.{◌≡◌, ◌≤◌, ◌<◌, ◌*◌, ◌-◌, false, true}
+use Rattle.std.proofs.Common.{◌≡◌, ◌≤◌, ◌*◌, ◌-◌}
 use Rattle.pt_base.specs.Files.{unread}
-use Rattle.bitmap_input.specs.Reading.{AtEnd}
-use Rattle.file_trace.specs.Held.{pages_held}
-use Rattle.file_trace.specs.Items.{told_contents}
-use Rattle.file_trace.specs.Outcome.{opened_name, sinks_of}
+use Rattle.run_output.specs.declared.part.Binding.TheVariants.{Apart}
+use Rattle.page_batches.specs.Desks.{Keeps, sinks_at}
+use Rattle.page_batches.specs.Held.{Waits}
+use Rattle.file_trace.specs.Outcome.{source_of}
+use Rattle.file_trace.specs.Progress.{IsReading, StaysIn}
+use Rattle.file_trace.specs.Tasks.{manner_of}
 use Rattle.file_trace.proofs.Tracing.{IsTraced}
 use Rattle.file_trace.proofs.pages.trace_pages.Given as goal
 
@@ -15,18 +17,13 @@ invariant-loop-pages g l =
     let errs = g.E.Sink in
     record {
       most : l.pages ≤ l.room;
-      traced : IsTraced (2 * l.workers) l.settings l.base l.made (unread (inputs.files l.fn.inputs)) l.reader (inputs.files l.inputs) l.fn.batch l.batch
-          (sinks_of outs errs l.fn.outs l.fn.errs) (sinks_of outs errs l.outs l.errs) l.pages;
-      not_full : pages_held l.batch < 2 * l.workers;
-      at_end : l.reader.ended ≡ true → AtEnd (inputs.files l.inputs);
-      opened : inputs.is_opened l.inputs ≡ true;
-      closed : outs.is_ready l.outs ≡ false;
-      ready : errs.is_ready l.errs ≡ true;
-      openings : inputs.openings l.inputs ≡ inputs.openings l.fn.inputs;
-      name : opened_name (inputs.files l.inputs) ≡ opened_name (inputs.files l.fn.inputs);
-      contents : told_contents (inputs.files l.inputs) ≡ told_contents (inputs.files l.fn.inputs);
+      traced : IsTraced (2 * l.task.plan.workers) (manner_of g.J.PageJob l.task) l.base l.made (unread (inputs.files l.fn.inputs)) l.reader (inputs.files l.inputs) l.fn.batch l.batch
+          (sinks_at outs errs l.fn.desk) (sinks_at outs errs l.desk) l.pages;
+      waits : Waits Apart (2 * l.task.plan.workers) 0 (outs.is_ready l.desk.outs.now) l.batch;
+      reading : IsReading l.reader (source_of inputs l.inputs);
+      stays : StaysIn (source_of inputs l.fn.inputs) (source_of inputs l.inputs);
       input : inputs.faults l.inputs ≡ inputs.faults l.fn.inputs;
-      output : outs.faults l.outs ≡ outs.faults l.fn.outs;
+      keeps : Keeps outs errs l.fn.desk l.desk;
     }
 
 abbrev pub decreases-loop-pages : goal.decreases-loop-pages
