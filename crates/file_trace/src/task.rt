@@ -11,7 +11,7 @@ use threshold_map::level::Level;
 
 /// What is done with the pages of files, how these are read, and how documents are named.
 #[derive(Drop)]
-pub struct Task<'a, R: Threads + Sync, J: PageJob + Sync, G: Gate + Sync> {
+pub struct Task<'a, 'b, R: Threads + Sync, J: PageJob + Sync, G: Gate + Sync> {
     /// What is done with a page, and by how many workers.
     pub plan: Plan<'a, R, J, G>,
     /// Up to which brightness a pixel is black.
@@ -19,7 +19,7 @@ pub struct Task<'a, R: Threads + Sync, J: PageJob + Sync, G: Gate + Sync> {
     /// Whether each pixel is inverted.
     pub invert: bool,
     /// The name of all documents, where one is given. Else they are named after their files.
-    pub output: Option<&'a str>,
+    pub output: Option<&'b str>,
     /// What documents are: their names end so.
     pub backend: Backend,
     ghost apart: { plan.binding ≡ Binding.Apart },
