@@ -5,6 +5,8 @@ use Rattle.pt_base.specs.Counts.{Rose, next_count}
 use Rattle.pt_base.specs.Files.{Contents, Files, Lacks, Opened, unread, unread_of, with_file}
 use Rattle.pt_base.specs.declared.fault.OpenFault.{OpenFault}
 use Rattle.pt_base.specs.declared.fault.OpenFault.TheVariants as opening
+use Rattle.bitmap_input.specs.declared.fault.InFault.{InFault}
+use Rattle.bitmap_input.specs.declared.fault.InFault.TheVariants as fault
 use Rattle.bitmap_input.specs.FaultText.{cause_text}
 use Rattle.bitmap_input.specs.Raw.{Raw}
 use Rattle.bitmap_input.specs.Reading.Cause.{Device}
@@ -118,8 +120,8 @@ near_of (Some files) start (Some now) name raws opened there contents named near
 pub file_unread : (size : ℕ) (manner : Manner) (name : List ℕ) (made : List (List ℕ)) (start : Option Files) (k : ℕ) (held held_mid : List Held) (source source_now : Source) (a b c : Sinks)
     → start ≡ with_file source.files name → (Lacks source.files name → ⊥) → source_now.openings ≡ next_count source.openings
     → told_contents source_now.files ≡ told_contents start → opened_name source_now.files ≡ opened_name start → Rose source.faults source_now.faults
-    → (t : Traces size manner (base_by manner name) made start source_now.files held held_mid a b k why.Unread) → (names : List (List ℕ)) (first : List Item)
-    → AreCarriedOut (first ++ docs (base_by manner name) made t.texts) (end_message name why.Unread k ∷ []) a c
+    → (t : Traces size manner (base_by manner name) made start source_now.files held held_mid a b k (why.Fault fault.ReadFault)) → (names : List (List ℕ)) (first : List Item)
+    → AreCarriedOut (first ++ docs (base_by manner name) made t.texts) (end_message name (why.Fault fault.ReadFault) k ∷ []) a c
     → IsUnread first (told_contents source.files) manner (name ∷ names) made source source_now a c
 file_unread size manner name made start k held held_mid source source_now a b c opened there one contents named rose t names first done =
     let base = base_by manner name in
@@ -226,6 +228,15 @@ end_said name end k s line items a b c done outs one stop =
     (only_said (end_message name end k) b c outs (subst (λ m. IsMessage m b.errs c.errs) stop.same one)) in
     inl (stop.is, stop.going, stop.memory, subst (λ (l : List Item). AreCarriedOut l (end_message name end k ∷ []) a c) (append-nil items) both)
 
+-- with a refusal or a failed read the run ends, and not for want of memory
+pub not_done : (f : InFault) → (status_of (why.Fault f) ≡ status.Refused) ⊎ (status_of (why.Fault f) ≡ status.Unread) → status_of (why.Fault f) ≢ status.Done
+not_done f (inl refused) = λ done. absurd (let no : status.Refused ≡ status.Done = sym refused ∙ done in cc)
+not_done f (inr unread) = λ done. absurd (let no : status.Unread ≡ status.Done = sym unread ∙ done in cc)
+
+pub not_out : (f : InFault) → (status_of (why.Fault f) ≡ status.Refused) ⊎ (status_of (why.Fault f) ≡ status.Unread) → status_of (why.Fault f) ≢ status.OutOfMemory
+not_out f (inl refused) = λ out. absurd (let no : status.Refused ≡ status.OutOfMemory = sym refused ∙ out in cc)
+not_out f (inr unread) = λ out. absurd (let no : status.Unread ≡ status.OutOfMemory = sym unread ∙ out in cc)
+
 -- how the inputs moved where the run ends within items: that isn't told
 pub input_of_halt : (s : Status) → IsHalt s → (before now : ℕ) → InputCount s before now
 input_of_halt s (inl is) before now = subst (λ v. InputCount v before now) (sym is) tt
@@ -280,17 +291,17 @@ module _ (size : ℕ) (manner : Manner) (can : HasTexts manner) (name : List ℕ
       }
 
   -- behind all that was held, and its message is said
-  ends_said : (end : PagesEnd) → (end ≡ why.Unread → Rose source.faults source_now.faults) → (t : TracedTo end) → status_of end ≢ status.Done → status_of end ≢ status.OutOfMemory
+  ends_said : (end : PagesEnd) → (end ≡ why.Fault fault.ReadFault → Rose source.faults source_now.faults) → (t : TracedTo end) → status_of end ≢ status.Done → status_of end ≢ status.OutOfMemory
       → (names : List (List ℕ)) (first : List Item) → AreCarriedOut (first ++ docs base made t.texts) (end_message name end k ∷ []) a c → Ends (status_of end) first names
   ends_said why.End rose t going memory names first done = absurd (going refl)
   ends_said why.Trailing rose t going memory names first done = absurd (going refl)
-  ends_said why.OutOfMemory rose t going memory names first done = absurd (memory refl)
-  ends_said (why.Refused f) rose t going memory names first done =
-      stopped (why.Refused f) t names first (refused_items (told_contents source.files) manner name made size start source_now.files k held held_mid a b has f names t) done
   ends_said why.TooMany rose t going memory names first done =
       stopped why.TooMany t names first (full_items (told_contents source.files) manner name made size start source_now.files k held held_mid a b has names t) done
-  ends_said why.Unread rose t going memory names first done =
+  ends_said (why.Fault fault.ReadFault) rose t going memory names first done =
       inr (file_unread size manner name made start k held held_mid source source_now a b c opened there one contents named (rose refl) t names first done)
+  ends_said (why.Fault fault.NoMemory) rose t going memory names first done = absurd (memory refl)
+  ends_said (why.Fault f) rose t going memory names first done =
+      stopped (why.Fault f) t names first (refused_items (told_contents source.files) manner name made size start source_now.files k held held_mid a b has f refl names t) done
 
   -- within what was held
   ends_within : (s : Status) → IsHalt s → (r : HasRead (told_contents source.files) manner name made) (names : List (List ℕ)) (first : List Item)
@@ -299,7 +310,7 @@ module _ (size : ℕ) (manner : Manner) (can : HasTexts manner) (name : List ℕ
       outcome_of_halt s which first (told_contents source.files) manner (name ∷ names) made source source_now a c
       (file_halts (told_contents source.files) manner name made can s which first names a c r ended)
 
-  pub file_ends : (s : Status) (end : PagesEnd) → (end ≡ why.Unread → Rose source.faults source_now.faults) → TracedTo end
+  pub file_ends : (s : Status) (end : PagesEnd) → (end ≡ why.Fault fault.ReadFault → Rose source.faults source_now.faults) → TracedTo end
       → ((left : List Item) → AreHeld Apart manner.belongs held_mid left → EndsWithFile name end k s left b c)
       → (names : List (List ℕ)) (first : List Item) → AreHeld Apart manner.belongs held first → Ends s first names
   file_ends s end rose t ends names first are =

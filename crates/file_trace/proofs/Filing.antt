@@ -12,7 +12,9 @@ use Rattle.bitmap_input.specs.Front.{front}
 use Rattle.bitmap_input.specs.Front.Answer.{Page as Gives, Ends}
 use Rattle.bitmap_input.specs.FilePages.{FilePages, next_begins}
 use Rattle.bitmap_input.specs.FilePages.FilePages.{Ended, Next}
+use Rattle.bitmap_input.specs.Reader.{IfSays}
 use Rattle.bitmap_input.specs.declared.fault.InFault.{InFault}
+use Rattle.bitmap_input.specs.declared.fault.InFault.TheVariants as fault
 use Rattle.run_output.specs.Messages.{page_line, trailing_line}
 use Rattle.run_output.specs.Names.{made_with}
 use Rattle.run_output.specs.Made.{most_pages}
@@ -116,6 +118,12 @@ page_found manner raw used later (Some left) here =
     record { raws = more.raws; ending = more.ending; pages = Next here more.pages; shows = more.shows }
 
 -- What was done of a file.
+
+-- a page is refused for what its bytes say
+refusal : (f : InFault) → status_of (why.Fault f) ≡ status.Refused → (kind : Kind) × (cause_of_fault f ≡ Says (Refused kind))
+refusal fault.ReadFault is = absurd (let no : status.Unread ≡ status.Refused = is in cc)
+refusal fault.NoMemory is = absurd (let no : status.OutOfMemory ≡ status.Refused = is in cc)
+refusal f is = (_, refl)
 
 -- the message of a fault tells the kind of the refusal
 fault_text-kind : (f : InFault) (kind : Kind) → cause_of_fault f ≡ Says (Refused kind) → fault_text f ≡ kind_text kind
@@ -230,10 +238,10 @@ module _ (contents : Option Contents) (manner : Manner) (name : List ℕ) (made 
     items_of why.End t done = listed (EndsWith (made_with base k made)) (read_of why.End t) k t.count [] End [] (pages_end _ End t.rest t.ends) (refl, refl)
     items_of why.Trailing t done =
         listed (EndsWith (made_with base k made)) (read_of why.Trailing t) k t.count [] Trailing (Note (trailing_line name k) ∷ []) (pages_end _ Trailing t.rest t.ends) ([], refl, (refl, refl))
-    items_of (why.Refused f) t done = absurd (let no : status.Refused ≡ status.Done = done in cc)
     items_of why.TooMany t done = absurd (let no : status.Refused ≡ status.Done = done in cc)
-    items_of why.Unread t done = absurd (let no : status.Unread ≡ status.Done = done in cc)
-    items_of why.OutOfMemory t done = absurd (let no : status.OutOfMemory ≡ status.Done = done in cc)
+    items_of (why.Fault fault.ReadFault) t done = absurd (let no : status.Unread ≡ status.Done = done in cc)
+    items_of (why.Fault fault.NoMemory) t done = absurd (let no : status.OutOfMemory ≡ status.Done = done in cc)
+    items_of (why.Fault f) t done = absurd (let no : status.Refused ≡ status.Done = done in cc)
 
     -- the run goes on behind the file
     pub file_goes_on : (end : PagesEnd) → TracedTo end → (held_now : List Held) (c : Sinks)
@@ -250,13 +258,16 @@ module _ (contents : Option Contents) (manner : Manner) (name : List ℕ) (made 
     abbrev AreRefused : List (List ℕ) → List (List ℕ) → List ℕ → Type 0
     AreRefused names texts message = AreItems contents manner Nothing (name ∷ names) made (docs base made texts ++ Stop message ∷ [])
 
-    pub refused_items : (f : InFault) (names : List (List ℕ)) (t : TracedTo (why.Refused f)) → AreRefused names t.texts (end_message name (why.Refused f) k)
-    refused_items f names t =
-        let (kind, cause, here) = t.ends in
+    pub refused_items : (f : InFault) → status_of (why.Fault f) ≡ status.Refused → (names : List (List ℕ)) (t : TracedTo (why.Fault f))
+        → AreRefused names t.texts (end_message name (why.Fault f) k)
+    refused_items f is names t =
+        let (kind, cause) = refusal f is in
+        let later = is_later false t.raws in
+        let here = subst (λ c. IfSome t.rest (λ bytes. IfSays c (λ ending. front later bytes ≡ Ends ending))) cause t.ends in
         let message = page_line name (k + 1) (kind_text kind) in
         let same : page_line name (k + 1) (fault_text f) ≡ message = ap (page_line name (k + 1)) (fault_text-kind f kind cause) in
         subst (AreRefused names t.texts) (sym same)
-        (inr (listed (Behind names) (read_of (why.Refused f) t) k t.count [] (Refused kind) (Stop message ∷ []) (pages_end _ (Refused kind) t.rest here) refl))
+        (inr (listed (Behind names) (read_of (why.Fault f) t) k t.count [] (Refused kind) (Stop message ∷ []) (pages_end _ (Refused kind) t.rest here) refl))
 
     pub full_items : (names : List (List ℕ)) (t : TracedTo why.TooMany) → AreRefused names t.texts (end_message name why.TooMany k)
     full_items names t =

@@ -1,5 +1,5 @@
 -- What stays the same from call to call.
-use Rattle.std.proofs.Common.{◌≡◌, ℕ, List, Err, ◌∙◌, arith}
+use Rattle.std.proofs.Common.{ℕ, List, Err, ◌∙◌, arith}
 use Rattle.pt_base.specs.declared.sink.Sink.{Ghosts as SinkGhosts}
 use Rattle.bit_image.specs.Page.{Page as Pixels}
 use Rattle.bitmap_input.specs.Reader.{Reader}
@@ -12,7 +12,7 @@ use Rattle.page_batches.specs.Items.{Item}
 use Rattle.page_batches.specs.Outcome.{HasEnded, Sinks}
 use Rattle.page_batches.specs.declared.desk.Desk.{Desk}
 use Rattle.file_trace.specs.Outcome.{Source}
-use Rattle.file_trace.specs.Progress.{StaysIn, TakesNeeded}
+use Rattle.file_trace.specs.Progress.{StaysIn, Takes}
 use Rattle.file_trace.proofs.Reading.{contents_taken, name_taken}
 
 -- the same desk, after one call and another
@@ -26,12 +26,11 @@ keeps_on of_outs of_errs x y z first next = record {
 }
 
 -- bytes were taken of the opened file
-pub stays_taken : (old new : Reader) (start before now : Source) → StaysIn start before → TakesNeeded old before.files new now.files → now.openings ≡ before.openings
-    → StaysIn start now
-stays_taken old new start before now stays takes same = record {
-  openings = same ∙ stays.openings;
-  name = name_taken old new before.files now.files takes ∙ stays.name;
-  contents = contents_taken old new before.files now.files takes ∙ stays.contents;
+pub stays_taken : (old new : Reader) (start before now : Source) → StaysIn start before → Takes old before new now → StaysIn start now
+stays_taken old new start before now stays takes = record {
+  openings = takes.openings ∙ stays.openings;
+  name = name_taken old new before.files now.files takes.needed ∙ stays.name;
+  contents = contents_taken old new before.files now.files takes.needed ∙ stays.contents;
 }
 
 -- the run ends within the items that were to be held

@@ -1,5 +1,5 @@
 -- What a run is to write is one list, where it is told what the files hold.
-use Rattle.std.proofs.Common.{◌≡◌, ℕ, suc, inl, inr, false, None, Some, Option, List, [], ◌∷◌, sym, ◌∙◌, ap, subst, arith}
+use Rattle.std.proofs.Common.{◌≡◌, ℕ, suc, inl, inr, false, None, Some, List, [], ◌∷◌, sym, ◌∙◌, ap, subst, arith}
 use Rattle.pt_base.specs.Files.{Contents}
 use Rattle.bitmap_input.specs.Cut.{Ending}
 use Rattle.bitmap_input.specs.Cut.Ending.{End, Trailing, Refused}

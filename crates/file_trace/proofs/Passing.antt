@@ -2,6 +2,7 @@
 use Rattle.std.proofs.Common.{◌≡◌, ◌≤◌, ◌<◌, ◌⊎◌, ℕ, ◌+◌, false, List, [], ◌∷◌, ◌++◌, length, Option, None, Some, IfSome, inl, inr, refl, sym, ◌∙◌, ap, subst, append_assoc, zero-mul, arith}
 use Rattle.pt_base.specs.Counts.{Rose, next_count}
 use Rattle.pt_base.specs.Files.{Contents, Files, Lacks, unread, with_file}
+use Rattle.bitmap_input.specs.declared.fault.InFault.TheVariants as fault
 use Rattle.run_output.specs.declared.status.Status.{Status}
 use Rattle.run_output.specs.declared.status.Status.TheVariants as status
 use Rattle.run_output.specs.declared.part.Binding.TheVariants.{Apart}
@@ -73,7 +74,7 @@ module _ (size : ℕ) (some : 0 < size) (manner : Manner) (can : HasTexts manner
   Passes first names a c = IsOnePass size first (told_contents source.files) manner (name ∷ names) made source source_now a c
 
   -- the run ends with the pages of the file, and a document of what is held then couldn't be written
-  pub pass_ended : (k : ℕ) (held held_mid : List Held) (a b c : Sinks) (end : PagesEnd) → (end ≡ why.Unread → Rose source.faults source_now.faults)
+  pub pass_ended : (k : ℕ) (held held_mid : List Held) (a b c : Sinks) (end : PagesEnd) → (end ≡ why.Fault fault.ReadFault → Rose source.faults source_now.faults)
       → Traces size manner base made start source_now.files held held_mid a b k end → pages_held held_mid < size
       → ((left : List Item) → AreHeld Apart manner.belongs held_mid left → EndsWithFile name end k status.Unwritten left b c) → (status_of end ≡ status.Refused) ⊎ (status_of end ≡ status.Unread)
       → (names : List (List ℕ)) (first : List Item) → AreHeld Apart manner.belongs held first → Passes first names a c
@@ -92,29 +93,29 @@ module _ (size : ℕ) (some : 0 < size) (manner : Manner) (can : HasTexts manner
     split : (texts : List (List ℕ)) (after : List Item) → first ++ (docs base made texts ++ after) ≡ (first ++ docs base made texts) ++ after
     split texts after = sym (append_assoc first (docs base made texts) after)
 
-    by_end : (e : PagesEnd) → (e ≡ why.Unread → Rose source.faults source_now.faults) → (t : Traces size manner base made start source_now.files held held_mid a b k e)
+    by_end : (e : PagesEnd) → (e ≡ why.Fault fault.ReadFault → Rose source.faults source_now.faults) → (t : Traces size manner base made start source_now.files held held_mid a b k e)
         → ((left : List Item) → AreHeld Apart manner.belongs held_mid left → EndsWithFile name e k status.Unwritten left b c) → (status_of e ≡ status.Refused) ⊎ (status_of e ≡ status.Unread) → Passes first names a c
-    by_end (why.Refused f) rose t ends which =
-        let part = part_halts size manner (first ++ docs base made t.texts) held_mid a b c (t.holds first are) (u (why.Refused f) ends which) few in
-        let last : List Item = Stop (end_message name (why.Refused f) k) ∷ [] in
-        pass_of_part size some first told manner (name ∷ names) made source source_now a c (first ++ docs base made t.texts) last (docs base made t.texts ++ last)
-        (refused_items told manner name made size start source_now.files k held held_mid a b has f names t) part (split t.texts last) refl
     by_end why.TooMany rose t ends which =
         let part = part_halts size manner (first ++ docs base made t.texts) held_mid a b c (t.holds first are) (u why.TooMany ends which) few in
         let last : List Item = Stop (end_message name why.TooMany k) ∷ [] in
         pass_of_part size some first told manner (name ∷ names) made source source_now a c (first ++ docs base made t.texts) last (docs base made t.texts ++ last)
         (full_items told manner name made size start source_now.files k held held_mid a b has names t) part (split t.texts last) refl
-    by_end why.Unread rose t ends which =
-        let part = part_halts size manner (first ++ docs base made t.texts) held_mid a b c (t.holds first are) (u why.Unread ends which) few in
-        let (after, items) = items_after told manner name made can names (read_by_tracing size told manner name base made start source_now.files held held_mid a b k why.Unread has t) in
-        pass_of_rise size some first told manner (name ∷ names) made source source_now a c (first ++ docs base made t.texts) after (docs base made t.texts ++ after)
-        items part.unwritten (split t.texts after) (rose refl)
     by_end why.End rose t ends (inl is) = absurd (let no : status.Done ≡ status.Refused = is in cc)
     by_end why.End rose t ends (inr is) = absurd (let no : status.Done ≡ status.Unread = is in cc)
     by_end why.Trailing rose t ends (inl is) = absurd (let no : status.Done ≡ status.Refused = is in cc)
     by_end why.Trailing rose t ends (inr is) = absurd (let no : status.Done ≡ status.Unread = is in cc)
-    by_end why.OutOfMemory rose t ends (inl is) = absurd (let no : status.OutOfMemory ≡ status.Refused = is in cc)
-    by_end why.OutOfMemory rose t ends (inr is) = absurd (let no : status.OutOfMemory ≡ status.Unread = is in cc)
+    by_end (why.Fault fault.NoMemory) rose t ends (inl is) = absurd (let no : status.OutOfMemory ≡ status.Refused = is in cc)
+    by_end (why.Fault fault.NoMemory) rose t ends (inr is) = absurd (let no : status.OutOfMemory ≡ status.Unread = is in cc)
+    by_end (why.Fault fault.ReadFault) rose t ends which =
+        let part = part_halts size manner (first ++ docs base made t.texts) held_mid a b c (t.holds first are) (u (why.Fault fault.ReadFault) ends which) few in
+        let (after, items) = items_after told manner name made can names (read_by_tracing size told manner name base made start source_now.files held held_mid a b k (why.Fault fault.ReadFault) has t) in
+        pass_of_rise size some first told manner (name ∷ names) made source source_now a c (first ++ docs base made t.texts) after (docs base made t.texts ++ after)
+        items part.unwritten (split t.texts after) (rose refl)
+    by_end (why.Fault f) rose t ends which =
+        let part = part_halts size manner (first ++ docs base made t.texts) held_mid a b c (t.holds first are) (u (why.Fault f) ends which) few in
+        let last : List Item = Stop (end_message name (why.Fault f) k) ∷ [] in
+        pass_of_part size some first told manner (name ∷ names) made source source_now a c (first ++ docs base made t.texts) last (docs base made t.texts ++ last)
+        (refused_items told manner name made size start source_now.files k held held_mid a b has f refl names t) part (split t.texts last) refl
 
   -- a document of the batch that the last page of the file fills couldn't be written
   pub pass_halted : (held : List Held) (a c : Sinks) → Halts status.Unwritten size manner base made start source_now.files held a c

@@ -10,11 +10,9 @@ use Rattle.bitmap_input.specs.declared.fault.InFault.{InFault}
 use Rattle.bitmap_input.specs.declared.fault.InFault.TheVariants as fault
 use Rattle.bitmap_input.specs.Cut.{Cut, is_by_end}
 use Rattle.bitmap_input.specs.Cut.Cut.{Takes, Stops}
-use Rattle.bitmap_input.specs.Cut.Kind.{UnknownFormat, BadHeader, ZeroSide, TooLarge, Truncated, BadRaster, BmpKind, BadOffset, TooLong}
-use Rattle.bitmap_input.specs.Cut.Ending.{Refused}
 use Rattle.bitmap_input.specs.Cut.{Ending}
 use Rattle.bitmap_input.specs.Front.{front, page_at}
-use Rattle.bitmap_input.specs.Front.Answer.{Page, Ends}
+use Rattle.bitmap_input.specs.Front.Answer.{Page}
 use Rattle.bitmap_input.specs.FilePages.{FilePages, next_begins}
 use Rattle.bitmap_input.specs.FilePages.FilePages.{Next}
 use Rattle.bitmap_input.specs.Raw.{Raw}
@@ -28,7 +26,7 @@ use Rattle.bitmap_input.proofs.Sided.{pages_shown}
 use Rattle.file_trace.specs.Items.{told_contents}
 use Rattle.file_trace.specs.Manner.{Manner, shown_by}
 use Rattle.file_trace.specs.Outcome.{opened_name}
-use Rattle.file_trace.specs.Progress.{EndsReading, FaultsBy, ReadsPage, Settles, TakesNeeded, ahead, end_of_fault}
+use Rattle.file_trace.specs.Progress.{FaultsBy, ReadsPage, Settles, TakesNeeded, ahead}
 use Rattle.file_trace.specs.declared.pages.PagesEnd.TheVariants as why
 
 -- what holds of what the bytes give holds of that
@@ -201,50 +199,12 @@ given_page manner old new before now page gives =
     let all : FilePages (is_later old) bytes (gives.raw ∷ raws) ending = Next gives.answers.is pages in
     subst IsPage (sym gives.shows) (All-head P gives.raw raws (pages_shown manner.level manner.invert all))
 
--- why a refused page ends the reading
-pub fault_ends : (f : InFault) (o : Option (List ℕ)) (g : List ℕ → List ℕ) (later : Bool)
-    → IfSome o (λ rest. IfSays (cause_of_fault f) (λ ending. front later (g rest) ≡ Ends ending))
-    → EndsReading later (option_map g o) (end_of_fault f)
-fault_ends fault.ReadFault o g later h = tt
-fault_ends fault.NoMemory o g later h = tt
-fault_ends fault.UnknownFormat o g later h = (UnknownFormat, refl, mapped o g (λ all. front later all ≡ Ends (Refused UnknownFormat)) h)
-fault_ends fault.BadHeader o g later h = (BadHeader, refl, mapped o g (λ all. front later all ≡ Ends (Refused BadHeader)) h)
-fault_ends fault.ZeroSide o g later h = (ZeroSide, refl, mapped o g (λ all. front later all ≡ Ends (Refused ZeroSide)) h)
-fault_ends fault.TooLarge o g later h = (TooLarge, refl, mapped o g (λ all. front later all ≡ Ends (Refused TooLarge)) h)
-fault_ends fault.Truncated o g later h = (Truncated, refl, mapped o g (λ all. front later all ≡ Ends (Refused Truncated)) h)
-fault_ends fault.BadRaster o g later h = (BadRaster, refl, mapped o g (λ all. front later all ≡ Ends (Refused BadRaster)) h)
-fault_ends fault.BmpKind o g later h = (BmpKind, refl, mapped o g (λ all. front later all ≡ Ends (Refused BmpKind)) h)
-fault_ends fault.BadOffset o g later h = (BadOffset, refl, mapped o g (λ all. front later all ≡ Ends (Refused BadOffset)) h)
-fault_ends fault.TooLong o g later h = (TooLong, refl, mapped o g (λ all. front later all ≡ Ends (Refused TooLong)) h)
-
--- where the end of the reading is a read's fault, so is the reader's
-pub unread_fault : (f : InFault) → end_of_fault f ≡ why.Unread → f ≡ fault.ReadFault
-unread_fault fault.ReadFault e = refl
-unread_fault fault.NoMemory e = absurd (let no : why.OutOfMemory ≡ why.Unread = e in cc)
-unread_fault fault.UnknownFormat e = absurd (let no : why.Refused fault.UnknownFormat ≡ why.Unread = e in cc)
-unread_fault fault.BadHeader e = absurd (let no : why.Refused fault.BadHeader ≡ why.Unread = e in cc)
-unread_fault fault.ZeroSide e = absurd (let no : why.Refused fault.ZeroSide ≡ why.Unread = e in cc)
-unread_fault fault.TooLarge e = absurd (let no : why.Refused fault.TooLarge ≡ why.Unread = e in cc)
-unread_fault fault.Truncated e = absurd (let no : why.Refused fault.Truncated ≡ why.Unread = e in cc)
-unread_fault fault.BadRaster e = absurd (let no : why.Refused fault.BadRaster ≡ why.Unread = e in cc)
-unread_fault fault.BmpKind e = absurd (let no : why.Refused fault.BmpKind ≡ why.Unread = e in cc)
-unread_fault fault.BadOffset e = absurd (let no : why.Refused fault.BadOffset ≡ why.Unread = e in cc)
-unread_fault fault.TooLong e = absurd (let no : why.Refused fault.TooLong ≡ why.Unread = e in cc)
-
 -- how the inputs' count of faults moved with a fault
 pub fault_counts : (f : InFault) (before now : ℕ) → IfSays (cause_of_fault f) (λ ending. now ≡ before) → (f ≡ fault.ReadFault → Rose before now)
-    → FaultsBy (end_of_fault f) before now
+    → FaultsBy (why.Fault f) before now
 fault_counts fault.ReadFault before now steady rose = rose refl
 fault_counts fault.NoMemory before now steady rose = tt
-fault_counts fault.UnknownFormat before now steady rose = steady
-fault_counts fault.BadHeader before now steady rose = steady
-fault_counts fault.ZeroSide before now steady rose = steady
-fault_counts fault.TooLarge before now steady rose = steady
-fault_counts fault.Truncated before now steady rose = steady
-fault_counts fault.BadRaster before now steady rose = steady
-fault_counts fault.BmpKind before now steady rose = steady
-fault_counts fault.BadOffset before now steady rose = steady
-fault_counts fault.TooLong before now steady rose = steady
+fault_counts f before now steady rose = steady
 
 -- taking bytes keeps the opened file's name
 name-with_read : (before : Option Files) (n : ℕ) → opened_name (with_read before n) ≡ opened_name before
@@ -275,15 +235,7 @@ fault_takes fault.ReadFault old new before now ends fails wants =
     record { more = r.more; moves = r.moves; needed = record { before = r.more; block = []; split = sym (append-nil r.more); within = omega arith; undecided = inr r.by_end } }
 fault_takes fault.NoMemory old new before now ends fails wants =
     let m = wants refl in record { more = m.more; moves = m.moves; needed = m.needed }
-fault_takes fault.UnknownFormat old new before now ends fails wants = takes_ending (Refused UnknownFormat) old new before now ends
-fault_takes fault.BadHeader old new before now ends fails wants = takes_ending (Refused BadHeader) old new before now ends
-fault_takes fault.ZeroSide old new before now ends fails wants = takes_ending (Refused ZeroSide) old new before now ends
-fault_takes fault.TooLarge old new before now ends fails wants = takes_ending (Refused TooLarge) old new before now ends
-fault_takes fault.Truncated old new before now ends fails wants = takes_ending (Refused Truncated) old new before now ends
-fault_takes fault.BadRaster old new before now ends fails wants = takes_ending (Refused BadRaster) old new before now ends
-fault_takes fault.BmpKind old new before now ends fails wants = takes_ending (Refused BmpKind) old new before now ends
-fault_takes fault.BadOffset old new before now ends fails wants = takes_ending (Refused BadOffset) old new before now ends
-fault_takes fault.TooLong old new before now ends fails wants = takes_ending (Refused TooLong) old new before now ends
+fault_takes f old new before now ends fails wants = takes_ending _ old new before now ends
 
 -- taking bytes keeps what the files hold
 contents-with_read : (before : Option Files) (n : ℕ) → told_contents (with_read before n) ≡ told_contents before

@@ -5,6 +5,7 @@ use Rattle.std.proofs.lemmas.Bool.Decides.{nat_tests}
 use Rattle.std.proofs.lemmas.List.{append-nil}
 use Rattle.pt_base.specs.Files.{Files, unread}
 use Rattle.bit_image.specs.Page.{Page as Pixels}
+use Rattle.bitmap_input.specs.declared.fault.InFault.TheVariants as fault
 use Rattle.bitmap_input.specs.Cut.{is_by_end}
 use Rattle.bitmap_input.specs.Raw.{Raw}
 use Rattle.bitmap_input.specs.Front.{front, page_at}
@@ -22,9 +23,9 @@ use Rattle.page_batches.specs.Held.{AreHeld, Held, Holds, pages_held}
 use Rattle.page_batches.specs.Items.{Doc, Item}
 use Rattle.page_batches.specs.Outcome.{HasEnded, Sinks}
 use Rattle.page_batches.proofs.Holding.{all_held, ended_behind, holds_on}
-use Rattle.file_trace.specs.Manner.{Manner, shown_by}
+use Rattle.file_trace.specs.Manner.{Manner}
 use Rattle.file_trace.specs.Outcome.{BeginsSettled, BeginsWith, LeavesBehind, ReadsNear, is_later}
-use Rattle.file_trace.specs.Progress.{AreTraced, EndsBy, EndsReading, Halts, HasUnread, IsInBatch, ReadsPage, Settles, TakesNeeded, Traces, ahead, docs}
+use Rattle.file_trace.specs.Progress.{AreTraced, EndsBy, Halts, HasUnread, IsInBatch, ReadsPage, Settles, TakesNeeded, Traces, ahead, docs}
 use Rattle.file_trace.specs.declared.pages.PagesEnd.{PagesEnd}
 use Rattle.file_trace.specs.declared.pages.PagesEnd.TheVariants as why
 use Rattle.file_trace.proofs.OnePass.{batch_halts}
@@ -277,7 +278,7 @@ unread_more size manner base made start reader after files now held held_now a b
 -- no page more is read
 pub no_more : (size : ℕ) (manner : Manner) (base : List ℕ) (made : List (List ℕ)) (start : Option Files) (reader after : Reader) (files files_now : Option Files) (held held_now : List Held) (a b : Sinks) (k : ℕ) (end : PagesEnd)
     → IsTraced size manner base made (unread start) reader files held held_now a b k
-    → EndsBy (reader_is_later reader) (ahead reader files) end → (end ≡ why.Unread → ReadFails reader files after files_now) → TakesNeeded reader files after files_now
+    → EndsBy (reader_is_later reader) (ahead reader files) end → (end ≡ why.Fault fault.ReadFault → ReadFails reader files after files_now) → TakesNeeded reader files after files_now
     → k + length made ≤ most_pages → (end ≡ why.TooMany → most_pages ≤ k + length made)
     → Traces size manner base made start files_now held held_now a b k end
 no_more size manner base made start reader after files files_now held held_now a b k end t ends fails takes few full = record {
@@ -294,12 +295,3 @@ no_more size manner base made start reader after files files_now held held_now a
   near = near_end (unread start) reader after files files_now t.taken t.raws (later_is reader t.raws k t.counted t.count) t.near t.told t.settled takes;
   holds = t.holds;
 }
-
--- what ends the reading of a page ends that of the pages, and it isn't one too many
-pub ends_by : (later : Bool) (rest : Option (List ℕ)) (end : PagesEnd) → EndsReading later rest end → EndsBy later rest end × (end ≢ why.TooMany)
-ends_by later rest why.End ends = (ends, λ e. cc)
-ends_by later rest why.Trailing ends = (ends, λ e. cc)
-ends_by later rest (why.Refused fault) ends = (ends, λ e. cc)
-ends_by later rest why.Unread ends = (ends, λ e. cc)
-ends_by later rest why.OutOfMemory ends = (ends, λ e. cc)
-ends_by later rest why.TooMany ends = absurd ends

@@ -53,15 +53,17 @@ pub mod OnePass
 --   Settles: this page stands there, not by the end of the bytes
 --   ReadsPage: the next page of what is ahead was read
 --   TakesNeeded: bytes were taken, as far as what stands ahead needs them
---   EndsReading: no page was read for this reason
 --   EndsBy: no further page was read for this reason
---   end_of_fault: why no further page is read, where the reader tells of a fault
 --   status_of: the status with which a run ends where the pages of a file end so
 --   InputCount: how the inputs' count of faults moved
 --   FaultsBy: how it moved where the reading of pages ends so
---   IsReading: a file is opened, and the reader stands in it
+--   CanRead: a file is opened, and the reader stands in it
+--   EndsReading: the reading of pages ended for this reason
 --   Answered: the next page was read, or none was for this reason
+--   Takes: bytes were taken of the opened file, and no file was opened
 --   StaysIn: no file was opened
+--   CanHold: what is held waits for the pages of a file
+--   IsAtStart: a file was opened, and nothing is read of it
 --   AsksFor: the file of this name was asked for
 --   HasUnread: a read failed behind these pages
 --   Traces: k pages were read, and then the reading ended so

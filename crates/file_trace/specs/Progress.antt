@@ -1,21 +1,20 @@
 -- How far the tracing of a file has come: its first pages are traced.
 use Rattle.std.specs.Prelude.{◌≡◌, ◌≢◌, ◌⊎◌, ℕ, ◌+◌, ◌*◌, ◌<◌, ◌≤◌, Bool, false, true, List, [], ◌∷◌, ◌++◌, length, drop, Option, Some, IfSome, option_map, Result, Ok, Err}
 use Rattle.pt_base.specs.Counts.{Rose, next_count}
+use Rattle.pt_base.specs.declared.sink.Sink.{Ghosts as SinkGhosts}
 use Rattle.pt_base.specs.Files.{Contents, Files, unread}
 use Rattle.bit_image.specs.Page.{IsPage, Page as Pixels}
-use Rattle.bitmap_input.specs.declared.fault.InFault.{InFault}
 use Rattle.bitmap_input.specs.declared.fault.InFault.TheVariants as fault
-use Rattle.bitmap_input.specs.Cut.{Kind, is_by_end}
-use Rattle.bitmap_input.specs.Cut.Ending.{End, Trailing, Refused}
-use Rattle.bitmap_input.specs.FaultText.{cause_text, fault_text}
+use Rattle.bitmap_input.specs.Cut.{is_by_end}
+use Rattle.bitmap_input.specs.Cut.Ending.{End, Trailing}
+use Rattle.bitmap_input.specs.FaultText.{fault_text}
 use Rattle.bitmap_input.specs.Raw.{Raw}
 use Rattle.bitmap_input.specs.Front.{front, page_at}
 use Rattle.bitmap_input.specs.Front.Answer.{Page, Ends}
 use Rattle.bitmap_input.specs.FilePages.{next_begins}
 use Rattle.bitmap_input.specs.Reading.{AreNeeded, AtEnd, Moves, cause_of_fault}
-use Rattle.bitmap_input.specs.Reading.Cause.{Device, Says}
-use Rattle.bitmap_input.specs.Reader.{Reader, ReadFails, ahead as reader_ahead, is_later as reader_is_later}
-use Rattle.run_output.specs.Messages.{out_of_memory, page_line, trailing_line}
+use Rattle.bitmap_input.specs.Reader.{IfSays, ReadFails, Reader, ahead as reader_ahead, at_start, is_later as reader_is_later}
+use Rattle.run_output.specs.Messages.{page_line, trailing_line}
 use Rattle.run_output.specs.Names.{next_name}
 use Rattle.run_output.specs.Made.{most_pages}
 use Rattle.run_output.specs.declared.part.Binding.TheVariants.{Apart}
@@ -23,8 +22,9 @@ use Rattle.run_output.specs.declared.status.Status.{Status}
 use Rattle.run_output.specs.declared.status.Status.TheVariants as status
 use Rattle.page_batches.specs.Items.{Doc, Item, page_count}
 use Rattle.page_batches.specs.Items.Item.{Note}
-use Rattle.page_batches.specs.Held.{AreHeld, Held, Holds}
+use Rattle.page_batches.specs.Held.{AreHeld, Held, Holds, Waits}
 use Rattle.page_batches.specs.Outcome.{AreCarriedOut, HasEnded, IsHalt, IsUnwritten, Sinks}
+use Rattle.page_batches.specs.declared.desk.Desk.{Desk}
 use Rattle.file_trace.specs.Items.{AreItems, Rest, told_contents, too_many}
 use Rattle.file_trace.specs.Manner.{Manner, shown_by}
 use Rattle.file_trace.specs.Outcome.{BeginsWith, IsOutcomeBehind, LeavesBehind, ReadsNear, Source, StopsReading, is_later, opened_name}
@@ -76,49 +76,21 @@ pub record TakesNeeded (old : Reader) (before : Option Files) (new : Reader) (no
   pub moves : Moves old.ended before new.ended now more
   pub needed : AreNeeded (λ bytes. page_at (reader_is_later old) (reader_ahead old bytes)) more
 
--- no page was read for this reason, where `later` says whether a page came before and `rest` is what is
--- ahead: the pages end, or one is refused; or a read failed, or memory ran out
-abbrev pub EndsReading : Bool → Option (List ℕ) → PagesEnd → Type 0
-EndsReading later rest why.End = IfSome rest (λ bytes. front later bytes ≡ Ends End)
-EndsReading later rest why.Trailing = IfSome rest (λ bytes. front later bytes ≡ Ends Trailing)
-EndsReading later rest (why.Refused fault) =
-    (kind : Kind) × (cause_of_fault fault ≡ Says (Refused kind)) × IfSome rest (λ bytes. front later bytes ≡ Ends (Refused kind))
-EndsReading later rest why.Unread = Unit {0}
-EndsReading later rest why.OutOfMemory = Unit {0}
-EndsReading later rest why.TooMany = ⊥
-
--- no further page was read for this reason, where `later` says whether a page came before and `rest` is what
--- is ahead: nothing was found there; or a page that is one too many
+-- no further page was read for this reason, where `later` says whether a page came before and `rest` is what is ahead:
+-- the pages end, or one is refused; or a page is one too many; or a read failed, or memory ran out
 abbrev pub EndsBy : Bool → Option (List ℕ) → PagesEnd → Type 0
+EndsBy later rest why.End = IfSome rest (λ bytes. front later bytes ≡ Ends End)
+EndsBy later rest why.Trailing = IfSome rest (λ bytes. front later bytes ≡ Ends Trailing)
 EndsBy later rest why.TooMany = (raw : Raw) × (used : ℕ) × IfSome rest (λ bytes. front later bytes ≡ Page raw used)
-EndsBy later rest why.End = EndsReading later rest why.End
-EndsBy later rest why.Trailing = EndsReading later rest why.Trailing
-EndsBy later rest (why.Refused fault) = EndsReading later rest (why.Refused fault)
-EndsBy later rest why.Unread = EndsReading later rest why.Unread
-EndsBy later rest why.OutOfMemory = EndsReading later rest why.OutOfMemory
-
--- why no further page is read, where the reader tells of a fault
-abbrev pub end_of_fault : InFault → PagesEnd
-end_of_fault fault.ReadFault = why.Unread
-end_of_fault fault.NoMemory = why.OutOfMemory
-end_of_fault fault.UnknownFormat = why.Refused fault.UnknownFormat
-end_of_fault fault.BadHeader = why.Refused fault.BadHeader
-end_of_fault fault.ZeroSide = why.Refused fault.ZeroSide
-end_of_fault fault.TooLarge = why.Refused fault.TooLarge
-end_of_fault fault.Truncated = why.Refused fault.Truncated
-end_of_fault fault.BadRaster = why.Refused fault.BadRaster
-end_of_fault fault.BmpKind = why.Refused fault.BmpKind
-end_of_fault fault.BadOffset = why.Refused fault.BadOffset
-end_of_fault fault.TooLong = why.Refused fault.TooLong
+EndsBy later rest (why.Fault f) = IfSome rest (λ bytes. IfSays (cause_of_fault f) (λ ending. front later bytes ≡ Ends ending))
 
 -- the status with which a run ends where the pages of a file end so; at Done it goes on
 abbrev pub status_of : PagesEnd → Status
 status_of why.End = status.Done
 status_of why.Trailing = status.Done
-status_of (why.Refused fault) = status.Refused
-status_of why.TooMany = status.Refused
-status_of why.Unread = status.Unread
-status_of why.OutOfMemory = status.OutOfMemory
+status_of (why.Fault fault.ReadFault) = status.Unread
+status_of (why.Fault fault.NoMemory) = status.OutOfMemory
+status_of end = status.Refused
 
 -- how the inputs' count of faults moved: it stayed, but where a read failed (and then perhaps a document of a
 -- page in front of it couldn't be written) or memory ran out
@@ -133,28 +105,51 @@ InputCount status.Unwritten before now = Unit {0}
 -- the count of faults of the inputs moved as it does where the reading of pages ends so: it rose where a read failed,
 -- and else it stayed, but where memory ran out
 abbrev pub FaultsBy : PagesEnd → ℕ → ℕ → Type 0
-FaultsBy why.Unread before now = Rose before now
-FaultsBy why.OutOfMemory before now = Unit {0}
+FaultsBy (why.Fault fault.ReadFault) before now = Rose before now
+FaultsBy (why.Fault fault.NoMemory) before now = Unit {0}
 FaultsBy end before now = now ≡ before
 
--- a file is opened, and where a read gave nothing of it nothing is left of it
-pub record IsReading (reader : Reader) (source : Source) : Type 0 where
+-- a file is opened, and where a read gave nothing of it nothing is left of it; and the reader isn't over
+pub record CanRead (reader : Reader) (source : Source) : Type 0 where
   pub opened : source.is_opened ≡ true
   pub at_end : reader.ended ≡ true → AtEnd source.files
+  pub going_on : reader.over ≡ false
+  pub room : reader.pages < 4294967295
 
--- the next page was read; or none was, for this reason
+-- the reading of pages ended for this reason: that is what stands ahead; where a read failed it is so by the end of what
+-- was taken; and so the count of faults moved
+pub record EndsReading (end : PagesEnd) (old : Reader) (before : Source) (new : Reader) (now : Source) : Type 0 where
+  pub ends : EndsBy (reader_is_later old) (ahead old before.files) end
+  pub read_fault : end ≡ why.Fault fault.ReadFault → ReadFails old before.files new now.files
+  pub faults : FaultsBy end before.faults now.faults
+
+-- the next page was read, and the reader can read on; or none was, for this reason
 abbrev pub Answered : Result Pixels PagesEnd → Manner → Reader → Source → Reader → Source → Type 0
 Answered (Ok page) manner old before new now =
     ReadsPage manner old before.files page new now.files × IsPage page × (now.faults ≡ before.faults)
-Answered (Err end) manner old before new now =
-    EndsReading (reader_is_later old) (ahead old before.files) end × (end ≡ why.Unread → ReadFails old before.files new now.files)
-    × FaultsBy end before.faults now.faults
+    × (now.is_opened ≡ true) × (new.ended ≡ true → AtEnd now.files)
+Answered (Err end) manner old before new now = EndsReading end old before new now × (end ≢ why.TooMany)
+
+-- bytes were taken of the opened file, as far as what stands ahead needs them, and no file was opened
+pub record Takes (old : Reader) (before : Source) (new : Reader) (now : Source) : Type 0 where
+  pub needed : TakesNeeded old before.files new now.files
+  pub openings : now.openings ≡ before.openings
 
 -- no file was opened: the opened one is the one that was, and the files hold what they held
 pub record StaysIn (old new : Source) : Type 0 where
   pub openings : new.openings ≡ old.openings
   pub name : opened_name new.files ≡ opened_name old.files
   pub contents : told_contents new.files ≡ told_contents old.files
+
+-- what is held waits for the pages of a file, and messages can be said
+pub record CanHold {A B : Type 0} (of_outs : SinkGhosts A) (of_errs : SinkGhosts B) (size : ℕ) (desk : Desk A B) (held : List Held) : Type 0 where
+  pub waits : Waits Apart size 0 (of_outs.is_ready desk.outs.now) held
+  pub ready : of_errs.is_ready desk.errs.now ≡ true
+
+-- a file was opened, and nothing is read of it
+pub record IsAtStart (reader : Reader) (source : Source) : Type 0 where
+  pub opened : source.is_opened ≡ true
+  pub fresh : reader ≡ at_start
 
 -- the file of this name was asked for: it is the opened one, where one is opened and that is told; and the files hold
 -- what they held
@@ -182,7 +177,7 @@ pub record Traces (size : ℕ) (manner : Manner) (base : List ℕ) (made : List 
   pub ends : EndsBy (is_later false raws) rest end
   pub full : end ≡ why.TooMany → most_pages ≤ k + length made
   pub near : IfSome (unread before) (λ all. (left : List ℕ) × (unread now ≡ Some left) × ReadsNear all raws left)
-  pub unread : end ≡ why.Unread → HasUnread raws before now
+  pub unread : end ≡ why.Fault fault.ReadFault → HasUnread raws before now
   pub holds : (first : List Item) → AreHeld Apart manner.belongs held first → Holds Apart size manner.belongs (first ++ docs base made texts) held_now old new
 
 -- a document couldn't be written: behind whole batches, and the items hold one batch more at most
@@ -223,20 +218,13 @@ EndsPages (Err s) size manner base made before now held held_now old new = IsHal
 -- the items of the end of a file of this name whose k pages end so: a note, or none
 abbrev pub items_at_end : List ℕ → PagesEnd → ℕ → List Item
 items_at_end name why.Trailing k = Note (trailing_line name k) ∷ []
-items_at_end name why.End k = []
-items_at_end name (why.Refused fault) k = []
-items_at_end name why.TooMany k = []
-items_at_end name why.Unread k = []
-items_at_end name why.OutOfMemory k = []
+items_at_end name end k = []
 
 -- what is said where the run ends with the pages of the file of this name, k of which were read
 abbrev pub end_message : List ℕ → PagesEnd → ℕ → List ℕ
-end_message name (why.Refused fault) k = page_line name (k + 1) (fault_text fault)
+end_message name (why.Fault f) k = page_line name (k + 1) (fault_text f)
 end_message name why.TooMany k = page_line name (k + 1) too_many
-end_message name why.Unread k = page_line name (k + 1) (cause_text Device)
-end_message name why.OutOfMemory k = out_of_memory
-end_message name why.End k = []
-end_message name why.Trailing k = []
+end_message name end k = []
 
 -- the run ends with the pages of a file: these items, which were held, are carried out, and the message is
 -- said; or they are carried out as far as the status says

@@ -1,15 +1,15 @@
 //! A whole file: opened, its pages read and held by batches, and how it ended said.
-ghost use Rattle.std.specs.Prelude.{◌≡◌, ◌*◌, ◌≤◌, ◌⊎◌, List, true, OnErr, OnOk, IfErr};
-ghost use Rattle.run_output.specs.Made.{most_pages};
+ghost use Rattle.std.specs.Prelude.{◌≡◌, ◌*◌, ◌⊎◌, List, OnOk};
 ghost use Rattle.run_output.specs.declared.part.Binding.{Binding};
 ghost use Rattle.run_output.specs.declared.status.Status.{Status};
 ghost use Rattle.page_batches.specs.Desks.{Keeps, sinks_at};
-ghost use Rattle.page_batches.specs.Held.{AreHeld, Waits};
+ghost use Rattle.page_batches.specs.Held.{AreHeld};
 ghost use Rattle.page_batches.specs.Items.{Item};
 ghost use Rattle.page_batches.specs.Outcome.{IsHalt, ended_with};
 ghost use Rattle.file_trace.specs.Manner.{HasTexts};
 ghost use Rattle.file_trace.specs.Outcome.{source_of};
-ghost use Rattle.file_trace.specs.Progress.{AsksFor, EndsFile, EndsWithPages, GoesOnAfter, InputCount};
+ghost use Rattle.file_trace.specs.Progress.{AsksFor, CanHold, EndsFile, EndsWithPages, GoesOnAfter, InputCount, status_of};
+ghost use Rattle.file_trace.specs.declared.pages.PagesEnd.{PagesEnd};
 ghost use Rattle.file_trace.specs.Tasks.{manner_of};
 ghost use Rattle.file_trace.specs.Unopened.{EndsUnopened};
 
@@ -42,14 +42,12 @@ pub(crate) fn trace_file<R: Threads + Sync, J: PageJob + Sync, G: Gate + Sync, I
     desk: &mut Desk<O, E>,
 ) -> Result<(), Status>
     requires texts { HasTexts (manner_of J.PageJob task.now) }
-    requires waits { Waits Binding.Apart (2 * task.now.plan.workers) 0 (O.is_ready desk.old.outs.now) batch.old }
-    requires ready { E.is_ready desk.old.errs.now ≡ true }
+    requires going { CanHold O.Sink E.Sink (2 * task.now.plan.workers) desk.old batch.old }
     ensures traced { EndsFile result (2 * task.now.plan.workers) (manner_of J.PageJob task.now) name.now
         made.old made.new batch.old batch.new
         (source_of I.Inputs inputs.old) (source_of I.Inputs inputs.new)
         (sinks_at O.Sink E.Sink desk.old) (sinks_at O.Sink E.Sink desk.new) }
-    ensures waits { OnOk result (Waits Binding.Apart (2 * task.now.plan.workers) 0 (O.is_ready desk.new.outs.now)
-        batch.new) }
+    ensures going { OnOk result (CanHold O.Sink E.Sink (2 * task.now.plan.workers) desk.new batch.new) }
     ensures asked { AsksFor name.now (source_of I.Inputs inputs.old) (source_of I.Inputs inputs.new) }
     ensures input { InputCount (ended_with result) (I.faults inputs.old) (I.faults inputs.new) }
     ensures keeps { Keeps O.Sink E.Sink desk.old desk.new }
@@ -89,8 +87,7 @@ fn end_unopened<R: Threads + Sync, J: PageJob + Sync, G: Gate + Sync, O: Outputs
     batch: &mut Batch,
     desk: &mut Desk<O, E>,
 ) -> Status
-    requires waits { Waits Binding.Apart (2 * task.now.plan.workers) 0 (O.is_ready desk.old.outs.now) batch.old }
-    requires ready { E.is_ready desk.old.errs.now ≡ true }
+    requires going { CanHold O.Sink E.Sink (2 * task.now.plan.workers) desk.old batch.old }
     ensures ends { (first : List Item) → AreHeld Binding.Apart (J.belongs task.now.plan.job.now) batch.old first
         → EndsUnopened name.now result first
         (sinks_at O.Sink E.Sink desk.old) (sinks_at O.Sink E.Sink desk.new) }
@@ -115,16 +112,13 @@ fn finish<R: Threads + Sync, J: PageJob + Sync, G: Gate + Sync, O: Outputs, E: S
     batch: &mut Batch,
     desk: &mut Desk<O, E>,
 ) -> Result<(), Status>
-    requires waits { Waits Binding.Apart (2 * task.now.plan.workers) 0 (O.is_ready desk.old.outs.now) batch.old }
-    requires few { traced.pages ≤ most_pages }
-    requires ready { E.is_ready desk.old.errs.now ≡ true }
+    requires going { CanHold O.Sink E.Sink (2 * task.now.plan.workers) desk.old batch.old }
     ensures ended { (first : List Item) → AreHeld Binding.Apart (J.belongs task.now.plan.job.now) batch.old first
         → EndsWithPages result (2 * task.now.plan.workers) (manner_of J.PageJob task.now) name.now
         traced.end traced.pages first batch.new
         (sinks_at O.Sink E.Sink desk.old) (sinks_at O.Sink E.Sink desk.new) }
     ensures because { GoesOnAfter result traced.end }
-    ensures waits { OnOk result (Waits Binding.Apart (2 * task.now.plan.workers) 0 (O.is_ready desk.new.outs.now)
-        batch.new) }
+    ensures going { OnOk result (CanHold O.Sink E.Sink (2 * task.now.plan.workers) desk.new batch.new) }
     ensures keeps { Keeps O.Sink E.Sink desk.old desk.new }
 {
     let pages = traced.pages;
@@ -139,13 +133,12 @@ fn finish<R: Threads + Sync, J: PageJob + Sync, G: Gate + Sync, O: Outputs, E: S
                 }
             };
         }
-        PagesEnd::OutOfMemory => {
+        PagesEnd::TooMany => (Status::Refused, "too many pages"),
+        PagesEnd::Fault(InFault::NoMemory) => {
             say_out_of_memory(desk.errs);
             return Err(Status::OutOfMemory);
         }
-        PagesEnd::Refused(fault) => (Status::Refused, fault.text()),
-        PagesEnd::TooMany => (Status::Refused, "too many pages"),
-        PagesEnd::Unread => (Status::Unread, InFault::ReadFault.text()),
+        PagesEnd::Fault(fault) => (status_of(fault), fault.text()),
     };
     match batch.carry_out(&task.plan, desk) {
         Ok(()) => {
@@ -153,5 +146,16 @@ fn finish<R: Threads + Sync, J: PageJob + Sync, G: Gate + Sync, O: Outputs, E: S
             Err(status)
         }
         Err(status) => Err(status),
+    }
+}
+
+/// The status of a run that ends with a page that can't be read.
+fn status_of(fault: InFault) -> Status
+    ensures { result ≡ status_of (PagesEnd.Fault fault) }
+{
+    match fault {
+        InFault::ReadFault => Status::Unread,
+        InFault::NoMemory => Status::OutOfMemory,
+        _ => Status::Refused,
     }
 }

@@ -1,18 +1,16 @@
 //! The pages of the opened file, read one after another, and held by batches.
-ghost use Rattle.std.specs.Prelude.{◌≡◌, ◌+◌, ◌*◌, ◌++◌, ◌∷◌, ◌<◌, [], suc, true, false, List, ℕ, IfErr, IfOk, OnOk};
-ghost use Rattle.bitmap_input.specs.Reader.{ReadFails, at_start, is_later as reader_is_later};
+ghost use Rattle.std.specs.Prelude.{◌≡◌, ◌+◌, ◌*◌, ◌++◌, ◌∷◌, ◌<◌, [], List, ℕ, IfErr, IfOk, OnOk};
 ghost use Rattle.run_output.specs.Names.{document_name};
 ghost use Rattle.run_output.specs.declared.part.Binding.{Binding};
 ghost use Rattle.run_output.specs.declared.status.Status.{Status};
 ghost use Rattle.page_batches.specs.Desks.{Keeps, sinks_at};
-ghost use Rattle.page_batches.specs.Held.{AreHeld, EndsHolding, Waits, pages_held};
+ghost use Rattle.page_batches.specs.Held.{AreHeld, EndsHolding, pages_held};
 ghost use Rattle.page_batches.specs.Items.{Doc, Item};
 ghost use Rattle.page_batches.specs.Outcome.{IsHalt};
 ghost use Rattle.file_trace.specs.Manner.{HasTexts};
 ghost use Rattle.file_trace.specs.Outcome.{source_of};
-ghost use Rattle.file_trace.specs.Progress.{Answered, EndsBy, EndsPages, FaultsBy, IsReading, StaysIn, TakesNeeded, ahead, end_of_fault};
+ghost use Rattle.file_trace.specs.Progress.{Answered, CanHold, CanRead, EndsPages, EndsReading, FaultsBy, IsAtStart, StaysIn, Takes};
 ghost use Rattle.file_trace.specs.Tasks.{manner_of};
-ghost use Rattle.file_trace.specs.declared.pages.PagesEnd.{PagesEnd};
 
 use crate::task::Task;
 use bit_image::bitmap::Bitmap;
@@ -41,26 +39,10 @@ pub(crate) enum PagesEnd {
     End,
     /// Bytes that begin no page follow.
     Trailing,
-    /// The page is refused.
-    Refused(InFault),
     /// The page is one more than a run accepts.
     TooMany,
-    /// A read failed.
-    Unread,
-    /// Memory ran out.
-    OutOfMemory,
-}
-
-impl From<InFault> for PagesEnd {
-    ghost from_gives = { λ fault end. end ≡ end_of_fault fault };
-
-    fn from(fault: InFault) -> PagesEnd {
-        match fault {
-            InFault::ReadFault => PagesEnd::Unread,
-            InFault::NoMemory => PagesEnd::OutOfMemory,
-            _ => PagesEnd::Refused(fault),
-        }
-    }
+    /// The page can't be read.
+    Fault(InFault),
 }
 
 /// How many pages of a file were read, and why no further one was.
@@ -83,15 +65,12 @@ pub(crate) fn trace_pages<R: Threads + Sync, J: PageJob + Sync, G: Gate + Sync, 
     desk: &mut Desk<O, E>,
 ) -> Result<Traced, Status>
     requires texts { HasTexts (manner_of J.PageJob task.now) }
-    requires waits { Waits Binding.Apart (2 * task.now.plan.workers) 0 (O.is_ready desk.old.outs.now) batch.old }
-    requires opened { I.is_opened inputs.old ≡ true }
-    requires fresh { reader.old ≡ at_start }
-    requires ready { E.is_ready desk.old.errs.now ≡ true }
+    requires going { CanHold O.Sink E.Sink (2 * task.now.plan.workers) desk.old batch.old }
+    requires start { IsAtStart reader.old (source_of I.Inputs inputs.old) }
     ensures traced { EndsPages result (2 * task.now.plan.workers) (manner_of J.PageJob task.now) base.now made.now
         (I.files inputs.old) (I.files inputs.new) batch.old batch.new
         (sinks_at O.Sink E.Sink desk.old) (sinks_at O.Sink E.Sink desk.new) }
-    ensures waits { OnOk result (Waits Binding.Apart (2 * task.now.plan.workers) 0 (O.is_ready desk.new.outs.now)
-        batch.new) }
+    ensures going { OnOk result (CanHold O.Sink E.Sink (2 * task.now.plan.workers) desk.new batch.new) }
     ensures stays { StaysIn (source_of I.Inputs inputs.old) (source_of I.Inputs inputs.new) }
     ensures input { IfOk result (λ traced. FaultsBy traced.end (I.faults inputs.old) (I.faults inputs.new)) }
     ensures keeps { Keeps O.Sink E.Sink desk.old desk.new }
@@ -125,18 +104,15 @@ fn hold_page<R: Threads + Sync, J: PageJob + Sync, G: Gate + Sync, O: Outputs, E
     desk: &mut Desk<O, E>,
 ) -> Result<(), Status>
     requires room { first + before < 4294967295 }
-    requires waits { Waits Binding.Apart (2 * task.now.plan.workers) 0 (O.is_ready desk.old.outs.now) batch.old }
-    requires ready { E.is_ready desk.old.errs.now ≡ true }
+    requires going { CanHold O.Sink E.Sink (2 * task.now.plan.workers) desk.old batch.old }
     ensures held { (items : List Item) → AreHeld Binding.Apart (J.belongs task.now.plan.job.now) batch.old items
         → (text : List ℕ) → J.belongs task.now.plan.job.now page text
         → EndsHolding result Binding.Apart (2 * task.now.plan.workers) (J.belongs task.now.plan.job.now)
         (items ++ Doc (document_name base.now (first + before + 1)) text ∷ []) batch.new
         (sinks_at O.Sink E.Sink desk.old) (sinks_at O.Sink E.Sink desk.new) }
-    ensures halts { IfErr result IsHalt }
-    ensures full { IfErr result (λ status. status ≡ Status.Unwritten
-        → pages_held batch.old + 1 ≡ 2 * task.now.plan.workers) }
-    ensures waits { OnOk result (Waits Binding.Apart (2 * task.now.plan.workers) 0 (O.is_ready desk.new.outs.now)
-        batch.new) }
+    ensures halts { IfErr result (λ status. IsHalt status
+        × (status ≡ Status.Unwritten → pages_held batch.old + 1 ≡ 2 * task.now.plan.workers)) }
+    ensures going { OnOk result (CanHold O.Sink E.Sink (2 * task.now.plan.workers) desk.new batch.new) }
     ensures keeps { Keeps O.Sink E.Sink desk.old desk.new }
 {
     let Ok(name) = document_name(task.plan.alloc, base, first + before + 1) else {
@@ -152,16 +128,15 @@ fn read_next<R: Threads + Sync, J: PageJob + Sync, G: Gate + Sync, I: Inputs>(
     reader: &mut PageReader,
     inputs: &mut I,
 ) -> Result<Bitmap, PagesEnd>
-    requires reading { IsReading reader.old (source_of I.Inputs inputs.old) }
-    requires room { reader.old.pages < 4294967295 }
-    requires going_on { reader.old.over ≡ false }
+    requires can { CanRead reader.old (source_of I.Inputs inputs.old) }
     ensures answer { Answered result (manner_of J.PageJob task.now) reader.old (source_of I.Inputs inputs.old)
         reader.new (source_of I.Inputs inputs.new) }
-    ensures takes { TakesNeeded reader.old (I.files inputs.old) reader.new (I.files inputs.new) }
-    ensures reading { IsReading reader.new (source_of I.Inputs inputs.new) }
-    ensures same_openings { I.openings inputs.new ≡ I.openings inputs.old }
+    ensures takes { Takes reader.old (source_of I.Inputs inputs.old) reader.new (source_of I.Inputs inputs.new) }
 {
-    let next = reader.next(task.plan.alloc, inputs, &task.level, task.invert)?;
+    let next = match reader.next(task.plan.alloc, inputs, &task.level, task.invert) {
+        Ok(next) => next,
+        Err(fault) => return Err(PagesEnd::Fault(fault)),
+    };
     match next {
         Next::Page(page) => Ok(page),
         Next::End => Err(PagesEnd::End),
@@ -176,15 +151,10 @@ fn end_after_most<R: Threads + Sync, J: PageJob + Sync, G: Gate + Sync, I: Input
     reader: &mut PageReader,
     inputs: &mut I,
 ) -> PagesEnd
-    requires reading { IsReading reader.old (source_of I.Inputs inputs.old) }
-    requires room { reader.old.pages < 4294967295 }
-    requires going_on { reader.old.over ≡ false }
-    ensures ends { EndsBy (reader_is_later reader.old) (ahead reader.old (I.files inputs.old)) result }
-    ensures read_fault { result ≡ PagesEnd.Unread
-        → ReadFails reader.old (I.files inputs.old) reader.new (I.files inputs.new) }
-    ensures faults { FaultsBy result (I.faults inputs.old) (I.faults inputs.new) }
-    ensures takes { TakesNeeded reader.old (I.files inputs.old) reader.new (I.files inputs.new) }
-    ensures same_openings { I.openings inputs.new ≡ I.openings inputs.old }
+    requires can { CanRead reader.old (source_of I.Inputs inputs.old) }
+    ensures ends { EndsReading result reader.old (source_of I.Inputs inputs.old)
+        reader.new (source_of I.Inputs inputs.new) }
+    ensures takes { Takes reader.old (source_of I.Inputs inputs.old) reader.new (source_of I.Inputs inputs.new) }
 {
     match read_next(task, reader, inputs) {
         Ok(_page) => PagesEnd::TooMany,

@@ -1,4 +1,4 @@
-use Rattle.std.proofs.Common.{inl, inr, refl}
+use Rattle.std.proofs.Common.{inr, refl}
 use Rattle.file_trace.proofs.Ending.{halts_in, unopened_said}
 use Rattle.file_trace.proofs.file.end_unopened.Goals as goal
 

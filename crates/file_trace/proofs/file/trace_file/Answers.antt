@@ -1,4 +1,4 @@
-use Rattle.std.proofs.Common.{◌≡◌, ◌∙◌, ◌∷◌, ◌*◌, ◌<◌, Err, ap, refl, subst, arith}
+use Rattle.std.proofs.Common.{◌≡◌, ◌∙◌, ◌∷◌, ◌*◌, Err, ap, refl, subst, arith}
 use Rattle.pt_base.specs.Files.{Lacks}
 use Rattle.run_output.specs.declared.status.Status.TheVariants as status
 use Rattle.file_trace.specs.Items.{told_contents}
@@ -23,7 +23,7 @@ returns-in-Err-clause-traced g c = λ names first are.
       unopened_ends manner c.requires.texts c.args.name.now c.args.made.now c.args.batch.now old now _ _ c.in-Err.ensures.one_more c.in-Err.ensures.none_opened cause
           c.end_unopened.result c.end_unopened.ensures.ends names first are,
       λ is. pass_unopened (2 * c.args.task.now.plan.workers) (omega (arith, c.args.task.now.plan.some_worker)) manner c.requires.texts c.args.name.now c.args.made.now c.args.batch.now old now _ _
-          c.requires.waits.few cause c.end_unopened.result c.end_unopened.ensures.ends is names first are,
+          c.requires.going.waits.few cause c.end_unopened.result c.end_unopened.ensures.ends is names first are,
     )
 
 pub returns-in-Err-clause-asked : goal.returns-in-Err-clause-asked
@@ -94,7 +94,7 @@ returns-in-Err-finish-clause-traced g c = λ names first are.
           c.in-Err-finish.status end rose traced c.in-Err-finish.ensures.ended names first are,
       λ is. pass_ended (2 * c.args.task.now.plan.workers) (omega (arith, c.args.task.now.plan.some_worker)) manner c.requires.texts c.args.name.now c.args.made.now start old now
           c.in-Ok.ensures.file there (c.trace_pages.ensures.stays.openings ∙ c.in-Ok.ensures.one_more) c.trace_pages.ensures.stays.contents c.trace_pages.ensures.stays.name
-          c.in-Ok-trace_pages.traced.pages c.args.batch.now c.trace_pages.new.batch _ _ _ end rose traced c.in-Ok-trace_pages.ensures.waits.few
+          c.in-Ok-trace_pages.traced.pages c.args.batch.now c.trace_pages.new.batch _ _ _ end rose traced c.in-Ok-trace_pages.ensures.going.waits.few
           (rw is at c.in-Err-finish.ensures.ended) (c.in-Err-finish.ensures.because.unwritten is) names first are,
     )
 

@@ -1,4 +1,4 @@
-use Rattle.std.proofs.Common.{◌≡◌, ◌∙◌, ◌*◌, ◌<◌, [], length, inl, refl, arith}
+use Rattle.std.proofs.Common.{◌≡◌, ◌∙◌, ◌*◌, [], length, inl, refl, arith}
 use Rattle.std.proofs.lemmas.List.{take_all}
 use Rattle.run_output.specs.declared.status.Status.TheVariants as status
 use Rattle.file_trace.specs.Items.{told_contents}
@@ -15,7 +15,7 @@ pub loop-name-init : goal.loop-name-init
 loop-name-init g c = record {
   done = rw (c.new-made.ensures, c.new-batch.ensures) (none_done _ (told_contents (g.I.Inputs.files c.args.inputs.now)) (manner_of g.J.PageJob c.args.task.now) _);
   within = omega arith;
-  waits = rw c.new-batch.ensures (record { few = omega (arith, c.args.task.now.plan.some_worker); turn = tt; next = c.requires.closed });
+  going = record { waits = rw c.new-batch.ensures (record { few = omega (arith, c.args.task.now.plan.some_worker); turn = tt; next = c.requires.closed }); ready = c.requires.ready };
   openings = (let most = g.met.I.Inputs.openings_counted c.args.inputs.now in omega (arith, most));
   opened = inl (refl, refl);
   contents = refl;
@@ -31,7 +31,7 @@ loop-name-preserved g c =
     record {
       done = one_done _ _ (manner_of g.J.PageJob c.args.task.now) _ c.loop-name.name-index c.name-item.result _ _ _ _ _ _ _ c.loop-name-test.true c.name-item.is c.loop-name.invariant.done file;
       within = omega (arith, c.loop-name-test.true);
-      waits = c.in-Ok-traced.ensures.waits;
+      going = c.in-Ok-traced.ensures.going;
       openings = openings_more _ c.loop-name.name-index _ _ c.loop-name.invariant.openings asked.one_more;
       opened = opens_to c.args.names.now c.loop-name.name-index c.name-item.result
           (source_of g.I.Inputs c.args.inputs.now) (source_of g.I.Inputs c.loop-name.inputs) (source_of g.I.Inputs c.trace_file-traced.new.inputs) c.loop-name-test.true c.name-item.is c.loop-name.invariant.openings asked.one_more asked.named;
@@ -92,7 +92,7 @@ returns g c =
       outcome = ends_after c.in-Err-carry_out.status which _ _ (manner_of g.J.PageJob c.args.task.now) _ _ _ _ _ _ _ _ done ended;
       opened = c.loop-name.invariant.opened;
       one_pass = λ is.
-          passes_after (2 * c.args.task.now.plan.workers) (omega (arith, c.args.task.now.plan.some_worker)) _ (manner_of g.J.PageJob c.args.task.now) _ _ _ _ _ _ _ _ done c.loop-name.invariant.waits.few (rw is at ended);
+          passes_after (2 * c.args.task.now.plan.workers) (omega (arith, c.args.task.now.plan.some_worker)) _ (manner_of g.J.PageJob c.args.task.now) _ _ _ _ _ _ _ _ done c.loop-name.invariant.going.waits.few (rw is at ended);
       input = input_of_halt c.in-Err-carry_out.status which _ _;
       keeps = keeps_on _ _ _ _ _ c.loop-name.invariant.keeps c.carry_out.ensures.keeps;
     }

@@ -1,10 +1,9 @@
 use Rattle.std.proofs.Common.{◌≡◌, ◌≤◌, ◌+◌, ◌*◌, length, min, take}
 use Rattle.pt_base.specs.Counts.{last_count}
-use Rattle.run_output.specs.declared.part.Binding.TheVariants.{Apart}
 use Rattle.page_batches.specs.Desks.{Keeps, sinks_at}
-use Rattle.page_batches.specs.Held.{Waits}
 use Rattle.file_trace.specs.Items.{told_contents}
 use Rattle.file_trace.specs.Outcome.{OpensFirst, source_of}
+use Rattle.file_trace.specs.Progress.{CanHold}
 use Rattle.file_trace.specs.Tasks.{manner_of}
 use Rattle.file_trace.proofs.Running.{AreDone}
 use Rattle.file_trace.proofs.files.trace_files.Given as goal
@@ -19,7 +18,7 @@ invariant-loop-name g l =
       done : AreDone (2 * l.task.plan.workers) (told_contents (inputs.files l.fn.inputs)) (manner_of g.J.PageJob l.task) (take l.name-index l.names) l.made l.batch
           (sinks_at outs errs l.fn.desk) (sinks_at outs errs l.desk);
       within : l.name-index ≤ length l.names;
-      waits : Waits Apart (2 * l.task.plan.workers) 0 (outs.is_ready l.desk.outs.now) l.batch;
+      going : CanHold outs errs (2 * l.task.plan.workers) l.desk l.batch;
       openings : inputs.openings l.inputs ≡ min (inputs.openings l.fn.inputs + l.name-index) last_count;
       opened : OpensFirst l.names (source_of inputs l.fn.inputs) (source_of inputs l.inputs);
       contents : told_contents (inputs.files l.inputs) ≡ told_contents (inputs.files l.fn.inputs);

@@ -1,10 +1,9 @@
-use Rattle.std.proofs.Common.{◌≡◌, ◌≤◌, ◌*◌, ◌-◌}
+use Rattle.std.proofs.Common.{◌≡◌, ◌≤◌, ◌*◌, ◌-◌, true}
 use Rattle.pt_base.specs.Files.{unread}
-use Rattle.run_output.specs.declared.part.Binding.TheVariants.{Apart}
+use Rattle.bitmap_input.specs.Reading.{AtEnd}
 use Rattle.page_batches.specs.Desks.{Keeps, sinks_at}
-use Rattle.page_batches.specs.Held.{Waits}
 use Rattle.file_trace.specs.Outcome.{source_of}
-use Rattle.file_trace.specs.Progress.{IsReading, StaysIn}
+use Rattle.file_trace.specs.Progress.{CanHold, StaysIn}
 use Rattle.file_trace.specs.Tasks.{manner_of}
 use Rattle.file_trace.proofs.Tracing.{IsTraced}
 use Rattle.file_trace.proofs.pages.trace_pages.Given as goal
@@ -19,8 +18,9 @@ invariant-loop-pages g l =
       most : l.pages ≤ l.room;
       traced : IsTraced (2 * l.task.plan.workers) (manner_of g.J.PageJob l.task) l.base l.made (unread (inputs.files l.fn.inputs)) l.reader (inputs.files l.inputs) l.fn.batch l.batch
           (sinks_at outs errs l.fn.desk) (sinks_at outs errs l.desk) l.pages;
-      waits : Waits Apart (2 * l.task.plan.workers) 0 (outs.is_ready l.desk.outs.now) l.batch;
-      reading : IsReading l.reader (source_of inputs l.inputs);
+      going : CanHold outs errs (2 * l.task.plan.workers) l.desk l.batch;
+      opened : inputs.is_opened l.inputs ≡ true;
+      at_end : l.reader.ended ≡ true → AtEnd (inputs.files l.inputs);
       stays : StaysIn (source_of inputs l.fn.inputs) (source_of inputs l.inputs);
       input : inputs.faults l.inputs ≡ inputs.faults l.fn.inputs;
       keeps : Keeps outs errs l.fn.desk l.desk;
