@@ -1,45 +1,52 @@
 -- How a run ends in a file.
-use Rattle.std.proofs.Common.{◌≡◌, ◌≢◌, ◌≤◌, ◌⊎◌, ℕ, ◌+◌, false, List, [], ◌∷◌, ◌++◌, length, Option, None, Some, IfSome, option_map, inl, inr, refl, sym, ◌∙◌, ap, subst, append-nil, append_assoc, arith}
+use Rattle.std.proofs.Common.{◌≡◌, ◌≢◌, ◌≤◌, ◌⊎◌, ℕ, ◌+◌, Bool, false, List, [], ◌∷◌, ◌++◌, length, Option, None, Some, IfSome, option_map, Err, inl, inr, refl, sym, ◌∙◌, ap, subst, append-nil, append_assoc, arith}
 use Rattle.std.specs.FinMap.{get}
 use Rattle.pt_base.specs.Counts.{Rose, next_count}
 use Rattle.pt_base.specs.Files.{Contents, Files, Lacks, Opened, unread, unread_of, with_file}
 use Rattle.pt_base.specs.declared.fault.OpenFault.{OpenFault}
 use Rattle.pt_base.specs.declared.fault.OpenFault.TheVariants as opening
-use Rattle.pt_base.specs.declared.settings.Settings.{Settings}
+use Rattle.bitmap_input.specs.declared.fault.InFault.{InFault}
+use Rattle.bitmap_input.specs.declared.fault.InFault.TheVariants as fault
 use Rattle.bitmap_input.specs.FaultText.{cause_text}
 use Rattle.bitmap_input.specs.Raw.{Raw}
 use Rattle.bitmap_input.specs.Reading.Cause.{Device}
-use Rattle.page_trace.specs.Document.{CanWrite}
 use Rattle.run_output.specs.Messages.{not_opened, out_of_memory, page_line}
-use Rattle.run_output.specs.Names.{base_name}
 use Rattle.run_output.specs.Made.{most_pages}
 use Rattle.run_output.specs.declared.status.Status.{Status}
 use Rattle.run_output.specs.declared.status.Status.TheVariants as status
-use Rattle.file_trace.specs.Held.{AreHeld, Held}
-use Rattle.file_trace.specs.Items.{AreItems, IsAbsent, Item, Nothing, told_contents}
-use Rattle.file_trace.specs.Items.Item.{Stop}
-use Rattle.file_trace.specs.Outcome.{AreCarriedOut, HasEnded, HoldsBytes, IsMessage, IsOutcomeBehind, IsUnopened, IsUnread, OpensUpTo, ReadsFileNear, ReadsNear, Sinks, Source, opened_name}
+use Rattle.run_output.specs.declared.part.Binding.{Binding}
+use Rattle.run_output.specs.declared.part.Binding.TheVariants.{Apart}
+use Rattle.page_batches.specs.Held.{AreHeld, Held, LeavesBatch}
+use Rattle.page_batches.specs.Items.{Item}
+use Rattle.page_batches.specs.Items.Item.{Stop}
+use Rattle.page_batches.specs.Outcome.{AreCarriedOut, HasEnded, IsHalt, IsMessage, Sinks}
+use Rattle.page_batches.proofs.Carrying.{GoesOn-behind, IsSaying, carried_on, ended_more, ended_on, memory_out, only_said}
+use Rattle.page_batches.proofs.Holding.{ended_behind, halts_by, holds_goes_on}
+use Rattle.file_trace.specs.Items.{AreItems, IsAbsent, Nothing, told_contents}
+use Rattle.file_trace.specs.Manner.{HasTexts, Manner, base_by}
+use Rattle.file_trace.specs.Outcome.{HoldsBytes, IsOutcomeBehind, IsUnopened, IsUnread, OpensUpTo, ReadsFileNear, ReadsNear, Source, opened_name}
 use Rattle.file_trace.specs.Progress.{EndsWithFile, Halts, InputCount, Traces, TracesFile, docs, end_message, status_of}
 use Rattle.file_trace.specs.Unopened.{EndsUnopened}
 use Rattle.file_trace.specs.declared.pages.PagesEnd.{PagesEnd}
 use Rattle.file_trace.specs.declared.pages.PagesEnd.TheVariants as why
-use Rattle.file_trace.proofs.Carrying.{carried_on, ended_on, only_said}
 use Rattle.file_trace.proofs.Exists.{items_found}
 use Rattle.file_trace.proofs.Filing.{docs_alone, file_halts, full_items, has_bytes, read_by_halting, read_by_tracing, refused_items, HasBytes, HasRead}
-use Rattle.file_trace.proofs.Holding.{ended_behind}
 use Rattle.file_trace.proofs.Joining.{items_join}
-use Rattle.file_trace.proofs.Keeping.{GoesOn-behind, IsHalt, ended_more, holds_goes_on, memory_out}
+
+-- where a batch wasn't carried out, the run ends within it
+pub halts_in : (s : Status) (b : Binding) (is_open is_open_now : Bool) (held held_now : List Held) → LeavesBatch (Err s) b is_open is_open_now held held_now → IsHalt s
+halts_in s b is_open is_open_now held held_now left = halts_by (Err s) b is_open is_open_now held held_now left
 
 -- the first file was asked for
 pub at_first : (name : List ℕ) (names : List (List ℕ)) (openings openings_now : ℕ) → openings_now ≡ next_count openings → OpensUpTo (name ∷ names) name [] openings openings_now
 at_first name names openings openings_now one = record { back = names; listed = refl; grew = one }
 
 -- the file can't be opened, behind the first items
-file_unopened : (settings : Settings) (output : Option (List ℕ)) (name : List ℕ) (made : List (List ℕ)) (source source_now : Source) (a c : Sinks)
+file_unopened : (manner : Manner) (name : List ℕ) (made : List (List ℕ)) (source source_now : Source) (a c : Sinks)
     → source_now.openings ≡ next_count source.openings → source_now.is_opened ≡ false → IsAbsent (told_contents source.files) name ⊎ Rose source.faults source_now.faults
     → (names : List (List ℕ)) (first : List Item) → AreCarriedOut first (not_opened name ∷ []) a c
-    → IsUnopened first (told_contents source.files) settings output (name ∷ names) made source source_now a c
-file_unopened settings output name made source source_now a c one closed cause names first done = record {
+    → IsUnopened first (told_contents source.files) manner (name ∷ names) made source source_now a c
+file_unopened manner name made source source_now a c one closed cause names first done = record {
   name = name;
   front = [];
   before = [];
@@ -52,7 +59,7 @@ file_unopened settings output name made source source_now a c one closed cause n
 
 -- all that was held is carried out, and then that is said
 pub unopened_said : (name : List ℕ) (items : List Item) (a b c : Sinks) → AreCarriedOut items [] a b
-    → c.outs ≡ b.outs → IsMessage (not_opened name) b.errs c.errs → EndsUnopened name status.Unread items a c
+    → IsSaying b c → IsMessage (not_opened name) b.errs c.errs → EndsUnopened name status.Unread items a c
 unopened_said name items a b c done same one =
     inl (
       refl,
@@ -110,14 +117,14 @@ near_of (Some files) start (Some now) name raws opened there contents named near
     (rest, opened_as now.opened name rest left (named ∙ ap opened_name opened ∙ name-opened files name bytes held), (bytes, held, few))
 
 -- a read failed behind pages of the file
-pub file_unread : (size : ℕ) (settings : Settings) (output : Option (List ℕ)) (name : List ℕ) (made : List (List ℕ)) (start : Option Files) (k : ℕ) (held held_mid : List Held) (source source_now : Source) (a b c : Sinks)
+pub file_unread : (size : ℕ) (manner : Manner) (name : List ℕ) (made : List (List ℕ)) (start : Option Files) (k : ℕ) (held held_mid : List Held) (source source_now : Source) (a b c : Sinks)
     → start ≡ with_file source.files name → (Lacks source.files name → ⊥) → source_now.openings ≡ next_count source.openings
     → told_contents source_now.files ≡ told_contents start → opened_name source_now.files ≡ opened_name start → Rose source.faults source_now.faults
-    → (t : Traces size settings (base_name output settings.backend name) made start source_now.files held held_mid a b k why.Unread) → (names : List (List ℕ)) (first : List Item)
-    → AreCarriedOut (first ++ docs (base_name output settings.backend name) made t.texts) (end_message name why.Unread k ∷ []) a c
-    → IsUnread first (told_contents source.files) settings output (name ∷ names) made source source_now a c
-file_unread size settings output name made start k held held_mid source source_now a b c opened there one contents named rose t names first done =
-    let base = base_name output settings.backend name in
+    → (t : Traces size manner (base_by manner name) made start source_now.files held held_mid a b k (why.Fault fault.ReadFault)) → (names : List (List ℕ)) (first : List Item)
+    → AreCarriedOut (first ++ docs (base_by manner name) made t.texts) (end_message name (why.Fault fault.ReadFault) k ∷ []) a c
+    → IsUnread first (told_contents source.files) manner (name ∷ names) made source source_now a c
+file_unread size manner name made start k held held_mid source source_now a b c opened there one contents named rose t names first done =
+    let base = base_by manner name in
     let u = t.unread refl in
     let left = left_of source.files start source_now.files name u.taken opened there contents named u.told in
     let few : length t.raws + length made ≤ most_pages = omega (arith, t.count, t.few) in
@@ -133,7 +140,7 @@ file_unread size settings output name made start k held held_mid source source_n
       bytes = left.bytes;
       rose = rose;
       stops = u.stops;
-      items = docs_alone settings name base made t.raws t.texts t.traced few;
+      items = docs_alone manner name base made t.raws t.texts t.traced few;
       done = subst (λ (n : ℕ). AreCarriedOut (first ++ docs base made t.texts) (page_line name (n + 1) (cause_text Device) ∷ []) a c) t.count done;
     }
 
@@ -149,60 +156,60 @@ unopened_by told name before now opening.Absent absent device = inl (lacks_absen
 unopened_by told name before now opening.Device absent device = inr (device refl)
 
 -- where the run ends within items, and there are items of the files behind them
-pub outcome_of_halt : (s : Status) → IsHalt s → (first : List Item) (contents : Option Contents) (settings : Settings) (output : Option (List ℕ)) (names made : List (List ℕ)) (source source_now : Source) (a b : Sinks)
-    → (items : List Item) × AreItems contents settings output Nothing names made items × HasEnded s (first ++ items) a b
-    → IsOutcomeBehind s first contents settings output names made source source_now a b
-outcome_of_halt status.Done (inl is) first contents settings output names made source source_now a b h = absurd (let no : status.Done ≡ status.Unwritten = is in cc)
-outcome_of_halt status.Done (inr is) first contents settings output names made source source_now a b h = absurd (let no : status.Done ≡ status.OutOfMemory = is in cc)
-outcome_of_halt status.BadWords which first contents settings output names made source source_now a b h = h
-outcome_of_halt status.Refused (inl is) first contents settings output names made source source_now a b h = absurd (let no : status.Refused ≡ status.Unwritten = is in cc)
-outcome_of_halt status.Refused (inr is) first contents settings output names made source source_now a b h = absurd (let no : status.Refused ≡ status.OutOfMemory = is in cc)
-outcome_of_halt status.Unwritten which first contents settings output names made source source_now a b h = h
-outcome_of_halt status.OutOfMemory which first contents settings output names made source source_now a b h = h
-outcome_of_halt status.Unread (inl is) first contents settings output names made source source_now a b h = absurd (let no : status.Unread ≡ status.Unwritten = is in cc)
-outcome_of_halt status.Unread (inr is) first contents settings output names made source source_now a b h = absurd (let no : status.Unread ≡ status.OutOfMemory = is in cc)
+pub outcome_of_halt : (s : Status) → IsHalt s → (first : List Item) (contents : Option Contents) (manner : Manner) (names made : List (List ℕ)) (source source_now : Source) (a b : Sinks)
+    → (items : List Item) × AreItems contents manner Nothing names made items × HasEnded s (first ++ items) a b
+    → IsOutcomeBehind s first contents manner names made source source_now a b
+outcome_of_halt status.Done (inl is) first contents manner names made source source_now a b h = absurd (let no : status.Done ≡ status.Unwritten = is in cc)
+outcome_of_halt status.Done (inr is) first contents manner names made source source_now a b h = absurd (let no : status.Done ≡ status.OutOfMemory = is in cc)
+outcome_of_halt status.BadWords which first contents manner names made source source_now a b h = h
+outcome_of_halt status.Refused (inl is) first contents manner names made source source_now a b h = absurd (let no : status.Refused ≡ status.Unwritten = is in cc)
+outcome_of_halt status.Refused (inr is) first contents manner names made source source_now a b h = absurd (let no : status.Refused ≡ status.OutOfMemory = is in cc)
+outcome_of_halt status.Unwritten which first contents manner names made source source_now a b h = h
+outcome_of_halt status.OutOfMemory which first contents manner names made source source_now a b h = h
+outcome_of_halt status.Unread (inl is) first contents manner names made source source_now a b h = absurd (let no : status.Unread ≡ status.Unwritten = is in cc)
+outcome_of_halt status.Unread (inr is) first contents manner names made source source_now a b h = absurd (let no : status.Unread ≡ status.OutOfMemory = is in cc)
 
 -- the run ends within the first items
-pub ends_before : (s : Status) → IsHalt s → (contents : Option Contents) (settings : Settings) → CanWrite settings → (output : Option (List ℕ)) (names made : List (List ℕ)) (source source_now : Source) (a b : Sinks) (first : List Item)
-    → HasEnded s first a b → IsOutcomeBehind s first contents settings output names made source source_now a b
-ends_before s which contents settings can output names made source source_now a b first ended =
-    let items = items_found contents settings can output names made in
-    outcome_of_halt s which first contents settings output names made source source_now a b (items.0, items.1, ended_more s which first items.0 a b ended)
+pub ends_before : (s : Status) → IsHalt s → (contents : Option Contents) (manner : Manner) → HasTexts manner → (names made : List (List ℕ)) (source source_now : Source) (a b : Sinks) (first : List Item)
+    → HasEnded s first a b → IsOutcomeBehind s first contents manner names made source source_now a b
+ends_before s which contents manner can names made source source_now a b first ended =
+    let items = items_found contents manner can names made in
+    outcome_of_halt s which first contents manner names made source source_now a b (items.0, items.1, ended_more s which first items.0 a b ended)
 
 -- the run ends where the file can't be opened
-pub unopened_ends : (settings : Settings) → CanWrite settings → (output : Option (List ℕ)) (name : List ℕ) (made : List (List ℕ)) (held : List Held) (source source_now : Source) (a c : Sinks)
+pub unopened_ends : (manner : Manner) → HasTexts manner → (name : List ℕ) (made : List (List ℕ)) (held : List Held) (source source_now : Source) (a c : Sinks)
     → source_now.openings ≡ next_count source.openings → source_now.is_opened ≡ false → IsAbsent (told_contents source.files) name ⊎ Rose source.faults source_now.faults
-    → (s : Status) → ((first : List Item) → AreHeld settings held first → EndsUnopened name s first a c)
-    → (names : List (List ℕ)) (first : List Item) → AreHeld settings held first → IsOutcomeBehind s first (told_contents source.files) settings output (name ∷ names) made source source_now a c
-unopened_ends settings can output name made held source source_now a c one closed cause s ends names first are = elim (ends first are) [
+    → (s : Status) → ((first : List Item) → AreHeld Apart manner.belongs held first → EndsUnopened name s first a c)
+    → (names : List (List ℕ)) (first : List Item) → AreHeld Apart manner.belongs held first → IsOutcomeBehind s first (told_contents source.files) manner (name ∷ names) made source source_now a c
+unopened_ends manner can name made held source source_now a c one closed cause s ends names first are = elim (ends first are) [
   | inl (is, done) ↦
-      subst (λ (v : Status). IsOutcomeBehind v first (told_contents source.files) settings output (name ∷ names) made source source_now a c) (sym is)
-      (inl (file_unopened settings output name made source source_now a c one closed cause names first done))
-  | inr (which, ended) ↦ ends_before s which (told_contents source.files) settings can output (name ∷ names) made source source_now a c first ended
+      subst (λ (v : Status). IsOutcomeBehind v first (told_contents source.files) manner (name ∷ names) made source source_now a c) (sym is)
+      (inl (file_unopened manner name made source source_now a c one closed cause names first done))
+  | inr (which, ended) ↦ ends_before s which (told_contents source.files) manner can (name ∷ names) made source source_now a c first ended
 ]
 
 -- memory ran out before any of the first items was carried out, and of the files behind them
-pub ends_at_once : (contents : Option Contents) (settings : Settings) → CanWrite settings → (output : Option (List ℕ)) (names made : List (List ℕ)) (a b : Sinks)
-    → b.outs ≡ a.outs → IsMessage out_of_memory a.errs b.errs → (first : List Item)
-    → (items : List Item) × AreItems contents settings output Nothing names made items × HasEnded status.OutOfMemory (first ++ items) a b
-ends_at_once contents settings can output names made a b same one first =
-    let items = items_found contents settings can output names made in
+pub ends_at_once : (contents : Option Contents) (manner : Manner) → HasTexts manner → (names made : List (List ℕ)) (a b : Sinks)
+    → IsSaying a b → IsMessage out_of_memory a.errs b.errs → (first : List Item)
+    → (items : List Item) × AreItems contents manner Nothing names made items × HasEnded status.OutOfMemory (first ++ items) a b
+ends_at_once contents manner can names made a b same one first =
+    let items = items_found contents manner can names made in
     (items.0, items.1, memory_out (first ++ items.0) a b same one)
 
 -- memory ran out behind a file
-pub ends_behind : (size : ℕ) (contents : Option Contents) (settings : Settings) → CanWrite settings → (output : Option (List ℕ)) (name : List ℕ) (made made_now : List (List ℕ)) (held held_now : List Held) (a b c : Sinks)
-    → TracesFile size contents settings output name made made_now held held_now a b
-    → c.outs ≡ b.outs → IsMessage out_of_memory b.errs c.errs → (names : List (List ℕ)) (first : List Item) → AreHeld settings held first
-    → (items : List Item) × AreItems contents settings output Nothing (name ∷ names) made items × HasEnded status.OutOfMemory (first ++ items) a c
-ends_behind size contents settings can output name made made_now held held_now a b c file same one names first are_held =
+pub ends_behind : (size : ℕ) (contents : Option Contents) (manner : Manner) → HasTexts manner → (name : List ℕ) (made made_now : List (List ℕ)) (held held_now : List Held) (a b c : Sinks)
+    → TracesFile size contents manner name made made_now held held_now a b
+    → IsSaying b c → IsMessage out_of_memory b.errs c.errs → (names : List (List ℕ)) (first : List Item) → AreHeld Apart manner.belongs held first
+    → (items : List Item) × AreItems contents manner Nothing (name ∷ names) made items × HasEnded status.OutOfMemory (first ++ items) a c
+ends_behind size contents manner can name made made_now held held_now a b c file same one names first are_held =
     let h = file.holds first are_held in
-    let goes = GoesOn-behind first file.items (holds_goes_on size settings (first ++ file.items) held_now a b h) in
-    let more = items_found contents settings can output names made_now in
-    let are = items_join contents settings output Nothing names made_now more.0 more.1 (name ∷ []) made file.items goes file.are in (
+    let goes = GoesOn-behind first file.items (holds_goes_on Apart size manner.belongs (first ++ file.items) held_now a b h) in
+    let more = items_found contents manner can names made_now in
+    let are = items_join contents manner Nothing names made_now more.0 more.1 (name ∷ []) made file.items goes file.are in (
       file.items ++ more.0,
       are,
       subst (λ (l : List Item). HasEnded status.OutOfMemory l a c) (append_assoc first file.items more.0)
-          (ended_behind status.OutOfMemory size settings (first ++ file.items) more.0 held_now a b c h (λ left is. memory_out (left ++ more.0) b c same one)),
+          (ended_behind status.OutOfMemory Apart size manner.belongs (first ++ file.items) more.0 held_now a b c h (λ left is. memory_out (left ++ more.0) b c same one)),
     )
 
 -- the run ends so with the pages of a file, and this line is said
@@ -213,13 +220,22 @@ pub record IsStop (name : List ℕ) (end : PagesEnd) (k : ℕ) (s : Status) (lin
   pub same : line ≡ end_message name end k
 
 -- all that was held is carried out, and then the line of the end is said
-pub end_said : (name : List ℕ) (end : PagesEnd) (k : ℕ) (s : Status) (line : List ℕ) (items : List Item) (a b c : Sinks) → AreCarriedOut items [] a b → c.outs ≡ b.outs → IsMessage line b.errs c.errs
+pub end_said : (name : List ℕ) (end : PagesEnd) (k : ℕ) (s : Status) (line : List ℕ) (items : List Item) (a b c : Sinks) → AreCarriedOut items [] a b → IsSaying b c → IsMessage line b.errs c.errs
     → IsStop name end k s line → EndsWithFile name end k s items a c
 end_said name end k s line items a b c done outs one stop =
     let both : AreCarriedOut (items ++ []) (end_message name end k ∷ []) a c =
     carried_on items [] (end_message name end k ∷ []) a b c done
     (only_said (end_message name end k) b c outs (subst (λ m. IsMessage m b.errs c.errs) stop.same one)) in
     inl (stop.is, stop.going, stop.memory, subst (λ (l : List Item). AreCarriedOut l (end_message name end k ∷ []) a c) (append-nil items) both)
+
+-- with a refusal or a failed read the run ends, and not for want of memory
+pub not_done : (f : InFault) → (status_of (why.Fault f) ≡ status.Refused) ⊎ (status_of (why.Fault f) ≡ status.Unread) → status_of (why.Fault f) ≢ status.Done
+not_done f (inl refused) = λ done. absurd (let no : status.Refused ≡ status.Done = sym refused ∙ done in cc)
+not_done f (inr unread) = λ done. absurd (let no : status.Unread ≡ status.Done = sym unread ∙ done in cc)
+
+pub not_out : (f : InFault) → (status_of (why.Fault f) ≡ status.Refused) ⊎ (status_of (why.Fault f) ≡ status.Unread) → status_of (why.Fault f) ≢ status.OutOfMemory
+not_out f (inl refused) = λ out. absurd (let no : status.Refused ≡ status.OutOfMemory = sym refused ∙ out in cc)
+not_out f (inr unread) = λ out. absurd (let no : status.Unread ≡ status.OutOfMemory = sym unread ∙ out in cc)
 
 -- how the inputs moved where the run ends within items: that isn't told
 pub input_of_halt : (s : Status) → IsHalt s → (before now : ℕ) → InputCount s before now
@@ -237,24 +253,24 @@ input_count s end before now (inl is) count = subst (λ v. InputCount v before n
 input_count s end before now (inr which) count = input_of_halt s which before now
 
 -- the run ends in the file
-module _ (size : ℕ) (settings : Settings) (can : CanWrite settings) (output : Option (List ℕ)) (name : List ℕ) (made : List (List ℕ)) (start : Option Files) (k : ℕ) (held held_mid : List Held)
+module _ (size : ℕ) (manner : Manner) (can : HasTexts manner) (name : List ℕ) (made : List (List ℕ)) (start : Option Files) (k : ℕ) (held held_mid : List Held)
     (source source_now : Source) (a b c : Sinks) (opened : start ≡ with_file source.files name) (there : Lacks source.files name → ⊥) (one : source_now.openings ≡ next_count source.openings)
     (contents : told_contents source_now.files ≡ told_contents start) (named : opened_name source_now.files ≡ opened_name start) where
   abbrev base : List ℕ
-  base = base_name output settings.backend name
+  base = base_by manner name
 
   abbrev TracedTo : PagesEnd → Type 0
-  TracedTo end = Traces size settings base made start source_now.files held held_mid a b k end
+  TracedTo end = Traces size manner base made start source_now.files held held_mid a b k end
 
   abbrev Ends : Status → List Item → List (List ℕ) → Type 0
-  Ends s first names = IsOutcomeBehind s first (told_contents source.files) settings output (name ∷ names) made source source_now a c
+  Ends s first names = IsOutcomeBehind s first (told_contents source.files) manner (name ∷ names) made source source_now a c
 
   has : HasBytes (told_contents source.files) name (unread start)
   has = has_bytes source.files start name opened there
 
   -- with a page that is refused
   stopped : (end : PagesEnd) (t : TracedTo end) (names : List (List ℕ)) (first : List Item)
-      → AreItems (told_contents source.files) settings output Nothing (name ∷ names) made (docs base made t.texts ++ Stop (end_message name end k) ∷ [])
+      → AreItems (told_contents source.files) manner Nothing (name ∷ names) made (docs base made t.texts ++ Stop (end_message name end k) ∷ [])
       → AreCarriedOut (first ++ docs base made t.texts) (end_message name end k ∷ []) a c → Ends status.Refused first names
   stopped end t names first all done =
       let (rest, here, near) = near_of source.files start source_now.files name t.raws opened there contents named t.near in
@@ -269,34 +285,34 @@ module _ (size : ℕ) (settings : Settings) (can : CanWrite settings) (output : 
         reached = at_first name names source.openings source_now.openings one;
         opened = here;
         near = near;
-        items = docs_alone settings name base made t.raws t.texts t.traced few;
+        items = docs_alone manner name base made t.raws t.texts t.traced few;
         all = all;
         done = done;
       }
 
   -- behind all that was held, and its message is said
-  ends_said : (end : PagesEnd) → (end ≡ why.Unread → Rose source.faults source_now.faults) → (t : TracedTo end) → status_of end ≢ status.Done → status_of end ≢ status.OutOfMemory
+  ends_said : (end : PagesEnd) → (end ≡ why.Fault fault.ReadFault → Rose source.faults source_now.faults) → (t : TracedTo end) → status_of end ≢ status.Done → status_of end ≢ status.OutOfMemory
       → (names : List (List ℕ)) (first : List Item) → AreCarriedOut (first ++ docs base made t.texts) (end_message name end k ∷ []) a c → Ends (status_of end) first names
   ends_said why.End rose t going memory names first done = absurd (going refl)
   ends_said why.Trailing rose t going memory names first done = absurd (going refl)
-  ends_said why.OutOfMemory rose t going memory names first done = absurd (memory refl)
-  ends_said (why.Refused f) rose t going memory names first done =
-      stopped (why.Refused f) t names first (refused_items (told_contents source.files) settings output name made size start source_now.files k held held_mid a b has f names t) done
   ends_said why.TooMany rose t going memory names first done =
-      stopped why.TooMany t names first (full_items (told_contents source.files) settings output name made size start source_now.files k held held_mid a b has names t) done
-  ends_said why.Unread rose t going memory names first done =
-      inr (file_unread size settings output name made start k held held_mid source source_now a b c opened there one contents named (rose refl) t names first done)
+      stopped why.TooMany t names first (full_items (told_contents source.files) manner name made size start source_now.files k held held_mid a b has names t) done
+  ends_said (why.Fault fault.ReadFault) rose t going memory names first done =
+      inr (file_unread size manner name made start k held held_mid source source_now a b c opened there one contents named (rose refl) t names first done)
+  ends_said (why.Fault fault.NoMemory) rose t going memory names first done = absurd (memory refl)
+  ends_said (why.Fault f) rose t going memory names first done =
+      stopped (why.Fault f) t names first (refused_items (told_contents source.files) manner name made size start source_now.files k held held_mid a b has f refl names t) done
 
   -- within what was held
-  ends_within : (s : Status) → IsHalt s → (r : HasRead (told_contents source.files) settings name made) (names : List (List ℕ)) (first : List Item)
+  ends_within : (s : Status) → IsHalt s → (r : HasRead (told_contents source.files) manner name made) (names : List (List ℕ)) (first : List Item)
       → HasEnded s (first ++ docs base made r.texts) a c → Ends s first names
   ends_within s which r names first ended =
-      outcome_of_halt s which first (told_contents source.files) settings output (name ∷ names) made source source_now a c
-      (file_halts (told_contents source.files) settings output name made can s which first names a c r ended)
+      outcome_of_halt s which first (told_contents source.files) manner (name ∷ names) made source source_now a c
+      (file_halts (told_contents source.files) manner name made can s which first names a c r ended)
 
-  pub file_ends : (s : Status) (end : PagesEnd) → (end ≡ why.Unread → Rose source.faults source_now.faults) → TracedTo end
-      → ((left : List Item) → AreHeld settings held_mid left → EndsWithFile name end k s left b c)
-      → (names : List (List ℕ)) (first : List Item) → AreHeld settings held first → Ends s first names
+  pub file_ends : (s : Status) (end : PagesEnd) → (end ≡ why.Fault fault.ReadFault → Rose source.faults source_now.faults) → TracedTo end
+      → ((left : List Item) → AreHeld Apart manner.belongs held_mid left → EndsWithFile name end k s left b c)
+      → (names : List (List ℕ)) (first : List Item) → AreHeld Apart manner.belongs held first → Ends s first names
   file_ends s end rose t ends names first are =
       let h = t.holds first are in
       elim (ends h.left h.are_held) [
@@ -305,16 +321,16 @@ module _ (size : ℕ) (settings : Settings) (can : CanWrite settings) (output : 
             (ends_said end rose t (λ e. going (is ∙ e)) (λ e. memory (is ∙ e)) names first
             (subst (λ l. AreCarriedOut l (end_message name end k ∷ []) a c) (sym h.split) (carried_on h.done h.left (end_message name end k ∷ []) a b c h.carried done)))
         | inr (which, ended) ↦
-            ends_within s which (read_by_tracing size (told_contents source.files) settings name base made start source_now.files held held_mid a b k end has t) names first
+            ends_within s which (read_by_tracing size (told_contents source.files) manner name base made start source_now.files held held_mid a b k end has t) names first
             (subst (λ l. HasEnded s l a c) (sym h.split) (ended_on s h.done h.left a b c h.carried ended))
       ]
 
 -- the run ends within the pages of the file
-pub file_halted : (size : ℕ) (settings : Settings) → CanWrite settings → (output : Option (List ℕ)) (name : List ℕ) (made : List (List ℕ)) (start : Option Files) (held : List Held) (source source_now : Source) (a b : Sinks) (s : Status)
-    → start ≡ with_file source.files name → (Lacks source.files name → ⊥) → IsHalt s → Halts s size settings (base_name output settings.backend name) made start source_now.files held a b
-    → (names : List (List ℕ)) (first : List Item) → AreHeld settings held first → IsOutcomeBehind s first (told_contents source.files) settings output (name ∷ names) made source source_now a b
-file_halted size settings can output name made start held source source_now a b s opened there which t names first are =
+pub file_halted : (size : ℕ) (manner : Manner) → HasTexts manner → (name : List ℕ) (made : List (List ℕ)) (start : Option Files) (held : List Held) (source source_now : Source) (a b : Sinks) (s : Status)
+    → start ≡ with_file source.files name → (Lacks source.files name → ⊥) → IsHalt s → Halts s size manner (base_by manner name) made start source_now.files held a b
+    → (names : List (List ℕ)) (first : List Item) → AreHeld Apart manner.belongs held first → IsOutcomeBehind s first (told_contents source.files) manner (name ∷ names) made source source_now a b
+file_halted size manner can name made start held source source_now a b s opened there which t names first are =
     let has = has_bytes source.files start name opened there in
-    let r = read_by_halting size (told_contents source.files) s settings name (base_name output settings.backend name) made start source_now.files held a b has t in
-    outcome_of_halt s which first (told_contents source.files) settings output (name ∷ names) made source source_now a b
-    (file_halts (told_contents source.files) settings output name made can s which first names a b r (t.ended first are))
+    let r = read_by_halting size (told_contents source.files) s manner name (base_by manner name) made start source_now.files held a b has t in
+    outcome_of_halt s which first (told_contents source.files) manner (name ∷ names) made source source_now a b
+    (file_halts (told_contents source.files) manner name made can s which first names a b r (t.ended first are))

@@ -2,7 +2,6 @@
 use Rattle.std.proofs.Common.{◌≡◌, ◌≤◌, ℕ, suc, ◌+◌, Bool, true, false, List, [], ◌∷◌, ◌++◌, length, drop, Option, None, Some, IfSome, option_map, inl, inr, refl, sym, ◌∙◌, ap, subst, append_assoc, arith, append-nil}
 use Rattle.std.specs.FinMap.{get}
 use Rattle.pt_base.specs.Files.{Contents, Files, Lacks, unread, unread_of, with_file}
-use Rattle.pt_base.specs.declared.settings.Settings.{Settings}
 use Rattle.bitmap_input.specs.Cut.{Ending, Kind}
 use Rattle.bitmap_input.specs.Cut.Ending.{End, Trailing, Refused}
 use Rattle.bitmap_input.specs.FaultText.{cause_text, fault_text, kind_text}
@@ -13,35 +12,40 @@ use Rattle.bitmap_input.specs.Front.{front}
 use Rattle.bitmap_input.specs.Front.Answer.{Page as Gives, Ends}
 use Rattle.bitmap_input.specs.FilePages.{FilePages, next_begins}
 use Rattle.bitmap_input.specs.FilePages.FilePages.{Ended, Next}
+use Rattle.bitmap_input.specs.Reader.{IfSays}
 use Rattle.bitmap_input.specs.declared.fault.InFault.{InFault}
-use Rattle.page_trace.specs.Document.{CanWrite}
+use Rattle.bitmap_input.specs.declared.fault.InFault.TheVariants as fault
 use Rattle.run_output.specs.Messages.{page_line, trailing_line}
-use Rattle.run_output.specs.Names.{base_name, made_with}
+use Rattle.run_output.specs.Names.{made_with}
 use Rattle.run_output.specs.Made.{most_pages}
 use Rattle.run_output.specs.declared.status.Status.{Status}
 use Rattle.run_output.specs.declared.status.Status.TheVariants as status
 use Rattle.run_output.proofs.Naming.{length-made_with, made_with-in}
-use Rattle.file_trace.specs.Held.{AreHeld, Held, Holds}
-use Rattle.file_trace.specs.Items.{AreItems, ArePageItems, HoldsPages, Item, Nothing, Rest, told_contents, too_many}
-use Rattle.file_trace.specs.Items.Item.{Note, Stop}
-use Rattle.file_trace.specs.Outcome.{BeginsWith, HasEnded, Sinks, is_later}
-use Rattle.file_trace.specs.Progress.{AreTraced, EndsWith, Halts, Traces, TracesFile, docs, end_message, end_notes, status_of}
+use Rattle.run_output.specs.declared.part.Binding.TheVariants.{Apart}
+use Rattle.page_batches.specs.Held.{AreHeld, Held, Holds}
+use Rattle.page_batches.specs.Items.{Item}
+use Rattle.page_batches.specs.Items.Item.{Note, Stop}
+use Rattle.page_batches.specs.Outcome.{HasEnded, IsHalt, Sinks}
+use Rattle.page_batches.proofs.Carrying.{ended_more}
+use Rattle.page_batches.proofs.Holding.{holds_on}
+use Rattle.file_trace.specs.Items.{AreItems, ArePageItems, HoldsPages, Nothing, Rest, told_contents, too_many}
+use Rattle.file_trace.specs.Manner.{HasTexts, Manner, base_by}
+use Rattle.file_trace.specs.Outcome.{BeginsWith, is_later}
+use Rattle.file_trace.specs.Progress.{AreTraced, EndsWith, Halts, Traces, TracesFile, docs, end_message, items_at_end, status_of}
 use Rattle.file_trace.specs.declared.pages.PagesEnd.{PagesEnd}
 use Rattle.file_trace.specs.declared.pages.PagesEnd.TheVariants as why
 use Rattle.file_trace.proofs.Exists.{AreShown, items_found, page_items_found, pages_found}
-use Rattle.file_trace.proofs.Holding.{holds_on}
-use Rattle.file_trace.proofs.Keeping.{IsHalt, ended_more}
 use Rattle.file_trace.proofs.Paging.{pages_on}
 
 -- the items of a file are the documents of its first pages and what follows those
-pub pages_docs : (settings : Settings) (name base : List ℕ) (ending : Ending) (F : Rest) (raws more : List Raw) (texts : List (List ℕ)) (pages k : ℕ) (made mid : List (List ℕ)) (after : List Item)
-    → AreTraced settings raws texts → k ≡ pages + length raws → length raws + length made ≤ most_pages → mid ≡ made_with base (length raws) made
-    → ArePageItems settings name base ending F more k mid after → ArePageItems settings name base ending F (raws ++ more) pages made (docs base made texts ++ after)
-pages_docs settings name base ending F [] more [] pages k made mid after t count few same h =
-    let P : ℕ → Type 0 = λ n. ArePageItems settings name base ending F more n made after in
-    let Q : List (List ℕ) → Type 0 = λ m. ArePageItems settings name base ending F more k m after in
+pub pages_docs : (manner : Manner) (name base : List ℕ) (ending : Ending) (F : Rest) (raws more : List Raw) (texts : List (List ℕ)) (pages k : ℕ) (made mid : List (List ℕ)) (after : List Item)
+    → AreTraced manner raws texts → k ≡ pages + length raws → length raws + length made ≤ most_pages → mid ≡ made_with base (length raws) made
+    → ArePageItems manner name base ending F more k mid after → ArePageItems manner name base ending F (raws ++ more) pages made (docs base made texts ++ after)
+pages_docs manner name base ending F [] more [] pages k made mid after t count few same h =
+    let P : ℕ → Type 0 = λ n. ArePageItems manner name base ending F more n made after in
+    let Q : List (List ℕ) → Type 0 = λ m. ArePageItems manner name base ending F more k m after in
     subst P (omega (arith, count)) (subst Q same h)
-pages_docs settings name base ending F (raw ∷ raws) more (text ∷ texts) pages k made mid after t count few same h =
+pages_docs manner name base ending F (raw ∷ raws) more (text ∷ texts) pages k made mid after t count few same h =
     inl (
       omega (arith, few),
       (
@@ -49,20 +53,20 @@ pages_docs settings name base ending F (raw ∷ raws) more (text ∷ texts) page
         docs base (base ∷ made) texts ++ after,
         t.0,
         refl,
-        pages_docs settings name base ending F raws more texts (suc pages) k (base ∷ made) mid after t.1 (omega (arith, count)) (omega (arith, few))
+        pages_docs manner name base ending F raws more texts (suc pages) k (base ∷ made) mid after t.1 (omega (arith, count)) (omega (arith, few))
             (same ∙ sym (made_with-in base (length raws) made)) h,
       ),
     )
-pages_docs settings name base ending F [] more (text ∷ texts) pages k made mid after t count few same h = absurd t
-pages_docs settings name base ending F (raw ∷ raws) more [] pages k made mid after t count few same h = absurd t
+pages_docs manner name base ending F [] more (text ∷ texts) pages k made mid after t count few same h = absurd t
+pages_docs manner name base ending F (raw ∷ raws) more [] pages k made mid after t count few same h = absurd t
 
 -- the items of a file with these pages alone
-pub docs_alone : (settings : Settings) (name base : List ℕ) (made : List (List ℕ)) (raws : List Raw) (texts : List (List ℕ)) → AreTraced settings raws texts → length raws + length made ≤ most_pages
-    → ArePageItems settings name base End Nothing raws 0 made (docs base made texts)
-docs_alone settings name base made raws texts traced few =
-    let items = pages_docs settings name base End Nothing raws [] texts 0 (length raws) made (made_with base (length raws) made) [] traced (omega arith) few refl refl in
-    subst (λ (rs : List Raw). ArePageItems settings name base End Nothing rs 0 made (docs base made texts)) (append-nil raws)
-    (subst (λ (l : List Item). ArePageItems settings name base End Nothing (raws ++ []) 0 made l) (append-nil (docs base made texts)) items)
+pub docs_alone : (manner : Manner) (name base : List ℕ) (made : List (List ℕ)) (raws : List Raw) (texts : List (List ℕ)) → AreTraced manner raws texts → length raws + length made ≤ most_pages
+    → ArePageItems manner name base End Nothing raws 0 made (docs base made texts)
+docs_alone manner name base made raws texts traced few =
+    let items = pages_docs manner name base End Nothing raws [] texts 0 (length raws) made (made_with base (length raws) made) [] traced (omega arith) few refl refl in
+    subst (λ (rs : List Raw). ArePageItems manner name base End Nothing rs 0 made (docs base made texts)) (append-nil raws)
+    (subst (λ (l : List Item). ArePageItems manner name base End Nothing (raws ++ []) 0 made l) (append-nil (docs base made texts)) items)
 
 -- the pages that were found in the file's bytes are those of the file
 
@@ -100,37 +104,43 @@ pages_end later ending None here = tt
 pages_end later ending (Some left) here = Ended here
 
 -- behind a page that is left
-record HasPage (settings : Settings) (raw : Raw) (later : Bool) (rest : Option (List ℕ)) : Type 0 where
+record HasPage (manner : Manner) (raw : Raw) (later : Bool) (rest : Option (List ℕ)) : Type 0 where
   raws : List Raw
   ending : Ending
   pages : IfSome rest (λ left. FilePages later left (raw ∷ raws) ending)
-  shows : AreShown settings raws
+  shows : AreShown manner raws
 
-page_found : (settings : Settings) (raw : Raw) (used : ℕ) (later : Bool) (rest : Option (List ℕ)) → IfSome rest (λ left. front later left ≡ Gives raw used) → HasPage settings raw later rest
-page_found settings raw used later None here =
-    let none = pages_found settings later None in record { raws = none.raws; ending = none.ending; pages = tt; shows = none.shows }
-page_found settings raw used later (Some left) here =
-    let more = pages_found settings true (Some (drop (next_begins left raw used) left)) in
+page_found : (manner : Manner) (raw : Raw) (used : ℕ) (later : Bool) (rest : Option (List ℕ)) → IfSome rest (λ left. front later left ≡ Gives raw used) → HasPage manner raw later rest
+page_found manner raw used later None here =
+    let none = pages_found manner later None in record { raws = none.raws; ending = none.ending; pages = tt; shows = none.shows }
+page_found manner raw used later (Some left) here =
+    let more = pages_found manner true (Some (drop (next_begins left raw used) left)) in
     record { raws = more.raws; ending = more.ending; pages = Next here more.pages; shows = more.shows }
 
 -- What was done of a file.
+
+-- a page is refused for what its bytes say
+refusal : (f : InFault) → status_of (why.Fault f) ≡ status.Refused → (kind : Kind) × (cause_of_fault f ≡ Says (Refused kind))
+refusal fault.ReadFault is = absurd (let no : status.Unread ≡ status.Refused = is in cc)
+refusal fault.NoMemory is = absurd (let no : status.OutOfMemory ≡ status.Refused = is in cc)
+refusal f is = (_, refl)
 
 -- the message of a fault tells the kind of the refusal
 fault_text-kind : (f : InFault) (kind : Kind) → cause_of_fault f ≡ Says (Refused kind) → fault_text f ≡ kind_text kind
 fault_text-kind f kind e = ap cause_text e
 
 -- these are pages of the file of this name, and the texts of their documents; `rest` is what follows them
-pub record HasRead (contents : Option Contents) (settings : Settings) (name : List ℕ) (made : List (List ℕ)) : Type 0 where
+pub record HasRead (contents : Option Contents) (manner : Manner) (name : List ℕ) (made : List (List ℕ)) : Type 0 where
   pub raws : List Raw
   pub texts : List (List ℕ)
   pub few : length raws + length made ≤ most_pages
-  pub traced : AreTraced settings raws texts
+  pub traced : AreTraced manner raws texts
   pub rest : Option (List ℕ)
   pub holds : (more : List Raw) (ending : Ending) → IfSome rest (λ left. FilePages (is_later false raws) left more ending) → HoldsPages contents name (raws ++ more) ending
 
-abbrev pub read_by_tracing : (size : ℕ) (contents : Option Contents) (settings : Settings) (name base : List ℕ) (made : List (List ℕ)) (start now : Option Files) (held held_now : List Held) (a b : Sinks) (k : ℕ) (end : PagesEnd)
-    → HasBytes contents name (unread start) → Traces size settings base made start now held held_now a b k end → HasRead contents settings name made
-read_by_tracing size contents settings name base made start now held held_now a b k end has t = record {
+abbrev pub read_by_tracing : (size : ℕ) (contents : Option Contents) (manner : Manner) (name base : List ℕ) (made : List (List ℕ)) (start now : Option Files) (held held_now : List Held) (a b : Sinks) (k : ℕ) (end : PagesEnd)
+    → HasBytes contents name (unread start) → Traces size manner base made start now held held_now a b k end → HasRead contents manner name made
+read_by_tracing size contents manner name base made start now held held_now a b k end has t = record {
   raws = t.raws;
   texts = t.texts;
   few = omega (arith, t.count, t.few);
@@ -140,18 +150,18 @@ read_by_tracing size contents settings name base made start now held held_now a 
 }
 
 -- the same base name, spelled otherwise
-pub traced_named : (size : ℕ) (settings : Settings) (base other : List ℕ) (made : List (List ℕ)) (start now : Option Files) (held held_now : List Held) (a b : Sinks) (k : ℕ) (end : PagesEnd) → base ≡ other
-    → Traces size settings base made start now held held_now a b k end → Traces size settings other made start now held held_now a b k end
-traced_named size settings base other made start now held held_now a b k end same t = subst (λ (name : List ℕ). Traces size settings name made start now held held_now a b k end) same t
+pub traced_named : (size : ℕ) (manner : Manner) (base other : List ℕ) (made : List (List ℕ)) (start now : Option Files) (held held_now : List Held) (a b : Sinks) (k : ℕ) (end : PagesEnd) → base ≡ other
+    → Traces size manner base made start now held held_now a b k end → Traces size manner other made start now held held_now a b k end
+traced_named size manner base other made start now held held_now a b k end same t = subst (λ (name : List ℕ). Traces size manner name made start now held held_now a b k end) same t
 
-pub halts_named : (s : Status) (size : ℕ) (settings : Settings) (base other : List ℕ) (made : List (List ℕ)) (start now : Option Files) (held : List Held) (a b : Sinks) → base ≡ other
-    → Halts s size settings base made start now held a b → Halts s size settings other made start now held a b
-halts_named s size settings base other made start now held a b same t = subst (λ (name : List ℕ). Halts s size settings name made start now held a b) same t
+pub halts_named : (s : Status) (size : ℕ) (manner : Manner) (base other : List ℕ) (made : List (List ℕ)) (start now : Option Files) (held : List Held) (a b : Sinks) → base ≡ other
+    → Halts s size manner base made start now held a b → Halts s size manner other made start now held a b
+halts_named s size manner base other made start now held a b same t = subst (λ (name : List ℕ). Halts s size manner name made start now held a b) same t
 
 -- the reading halted at a document that couldn't be written
-pub halts_unwritten : (s : Status) (size : ℕ) (settings : Settings) (base : List ℕ) (made : List (List ℕ)) (start now : Option Files) (held : List Held) (a b : Sinks) → s ≡ status.Unwritten
-    → Halts s size settings base made start now held a b → Halts status.Unwritten size settings base made start now held a b
-halts_unwritten s size settings base made start now held a b is t = subst (λ (v : Status). Halts v size settings base made start now held a b) is t
+pub halts_unwritten : (s : Status) (size : ℕ) (manner : Manner) (base : List ℕ) (made : List (List ℕ)) (start now : Option Files) (held : List Held) (a b : Sinks) → s ≡ status.Unwritten
+    → Halts s size manner base made start now held a b → Halts status.Unwritten size manner base made start now held a b
+halts_unwritten s size manner base made start now held a b is t = subst (λ (v : Status). Halts v size manner base made start now held a b) is t
 
 -- the same where the reading halted
 pub record IsBehind (contents : Option Contents) (name : List ℕ) (raws : List Raw) : Type 0 where
@@ -165,46 +175,46 @@ behind_pages (Some contents) name all raws (bytes, held, is) begins =
     let (left, b) = subst (λ (o : Option (List ℕ)). IfSome o (λ bs. (left : List ℕ) × BeginsWith false bs raws left)) is begins in
     record { rest = Some left; holds = λ more ending pages. (bytes, held, pages_on false bytes raws left more ending b pages) }
 
-abbrev pub read_by_halting : (size : ℕ) (contents : Option Contents) (s : Status) (settings : Settings) (name base : List ℕ) (made : List (List ℕ)) (start now : Option Files) (held : List Held) (a b : Sinks)
-    → HasBytes contents name (unread start) → Halts s size settings base made start now held a b → HasRead contents settings name made
-read_by_halting size contents s settings name base made start now held a b has t =
+abbrev pub read_by_halting : (size : ℕ) (contents : Option Contents) (s : Status) (manner : Manner) (name base : List ℕ) (made : List (List ℕ)) (start now : Option Files) (held : List Held) (a b : Sinks)
+    → HasBytes contents name (unread start) → Halts s size manner base made start now held a b → HasRead contents manner name made
+read_by_halting size contents s manner name base made start now held a b has t =
     let behind = behind_pages contents name (unread start) t.raws has t.begins in
     record { raws = t.raws; texts = t.texts; few = t.few; traced = t.traced; rest = behind.rest; holds = behind.holds }
 
-module _ (contents : Option Contents) (settings : Settings) (output : Option (List ℕ)) (name : List ℕ) (made : List (List ℕ)) where
+module _ (contents : Option Contents) (manner : Manner) (name : List ℕ) (made : List (List ℕ)) where
   abbrev base : List ℕ
-  base = base_name output settings.backend name
+  base = base_by manner name
 
   -- the items of the file, and of what follows it
-  listed : (F : Rest) (r : HasRead contents settings name made) (k : ℕ) → k ≡ length r.raws → (more : List Raw) (ending : Ending) (after : List Item)
+  listed : (F : Rest) (r : HasRead contents manner name made) (k : ℕ) → k ≡ length r.raws → (more : List Raw) (ending : Ending) (after : List Item)
       → IfSome r.rest (λ left. FilePages (is_later false r.raws) left more ending)
-      → ArePageItems settings name base ending F more k (made_with base k made) after
-      → (raws : List Raw) × (ending : Ending) × HoldsPages contents name raws ending × ArePageItems settings name base ending F raws 0 made (docs base made r.texts ++ after)
+      → ArePageItems manner name base ending F more k (made_with base k made) after
+      → (raws : List Raw) × (ending : Ending) × HoldsPages contents name raws ending × ArePageItems manner name base ending F raws 0 made (docs base made r.texts ++ after)
   listed F r k count more ending after pages follow = (
     r.raws ++ more,
     ending,
     r.holds more ending pages,
-    pages_docs settings name base ending F r.raws more r.texts 0 k made (made_with base k made) after r.traced (omega (arith, count)) r.few (ap (λ n. made_with base n made) count) follow,
+    pages_docs manner name base ending F r.raws more r.texts 0 k made (made_with base k made) after r.traced (omega (arith, count)) r.few (ap (λ n. made_with base n made) count) follow,
   )
 
   -- the items of the file and of those behind it, behind the first ones, as far as the status says
   abbrev EndsFile : Status → List Item → List (List ℕ) → Sinks → Sinks → Type 0
-  EndsFile s first names a c = (items : List Item) × AreItems contents settings output Nothing (name ∷ names) made items × HasEnded s (first ++ items) a c
+  EndsFile s first names a c = (items : List Item) × AreItems contents manner Nothing (name ∷ names) made items × HasEnded s (first ++ items) a c
 
   abbrev Behind : List (List ℕ) → Rest
-  Behind names = AreItems contents settings output Nothing names
+  Behind names = AreItems contents manner Nothing names
 
   -- the documents of its first pages, and then items of the rest of it and of the files behind it
-  pub items_after : CanWrite settings → (names : List (List ℕ)) (r : HasRead contents settings name made)
-      → (after : List Item) × AreItems contents settings output Nothing (name ∷ names) made (docs base made r.texts ++ after)
+  pub items_after : HasTexts manner → (names : List (List ℕ)) (r : HasRead contents manner name made)
+      → (after : List Item) × AreItems contents manner Nothing (name ∷ names) made (docs base made r.texts ++ after)
   items_after can names r =
       let k = length r.raws in
-      let left = pages_found settings (is_later false r.raws) r.rest in
-      let behind = page_items_found settings can name base left.ending (Behind names) (λ m. items_found contents settings can output names m) left.raws left.shows k (made_with base k made) in
+      let left = pages_found manner (is_later false r.raws) r.rest in
+      let behind = page_items_found manner can name base left.ending (Behind names) (λ m. items_found contents manner can names m) left.raws left.shows k (made_with base k made) in
       (behind.0, inr (listed (Behind names) r k refl left.raws left.ending behind.0 left.pages behind.1))
 
   -- the run ends within the file
-  pub file_halts : CanWrite settings → (s : Status) → IsHalt s → (first : List Item) (names : List (List ℕ)) (a c : Sinks) (r : HasRead contents settings name made)
+  pub file_halts : HasTexts manner → (s : Status) → IsHalt s → (first : List Item) (names : List (List ℕ)) (a c : Sinks) (r : HasRead contents manner name made)
       → HasEnded s (first ++ docs base made r.texts) a c → EndsFile s first names a c
   file_halts can s which first names a c r ended =
       let (after, are) = items_after can names r in (
@@ -216,50 +226,53 @@ module _ (contents : Option Contents) (settings : Settings) (output : Option (Li
   module _ (size : ℕ) (start now : Option Files) (k : ℕ) (held held_mid : List Held) (a b : Sinks) (has : HasBytes contents name (unread start)) where
     -- its pages were read, and the reading ended so
     abbrev TracedTo : PagesEnd → Type 0
-    TracedTo end = Traces size settings base made start now held held_mid a b k end
+    TracedTo end = Traces size manner base made start now held held_mid a b k end
 
-    abbrev read_of : (end : PagesEnd) → TracedTo end → HasRead contents settings name made
-    read_of end t = read_by_tracing size contents settings name base made start now held held_mid a b k end has t
+    abbrev read_of : (end : PagesEnd) → TracedTo end → HasRead contents manner name made
+    read_of end t = read_by_tracing size contents manner name base made start now held held_mid a b k end has t
 
     -- the items of the file, where the run goes on behind it
     items_of : (end : PagesEnd) (t : TracedTo end) → status_of end ≡ status.Done
         → (raws : List Raw) × (ending : Ending) × HoldsPages contents name raws ending
-        × ArePageItems settings name base ending (EndsWith (made_with base k made)) raws 0 made (docs base made t.texts ++ end_notes name end k)
+        × ArePageItems manner name base ending (EndsWith (made_with base k made)) raws 0 made (docs base made t.texts ++ items_at_end name end k)
     items_of why.End t done = listed (EndsWith (made_with base k made)) (read_of why.End t) k t.count [] End [] (pages_end _ End t.rest t.ends) (refl, refl)
     items_of why.Trailing t done =
         listed (EndsWith (made_with base k made)) (read_of why.Trailing t) k t.count [] Trailing (Note (trailing_line name k) ∷ []) (pages_end _ Trailing t.rest t.ends) ([], refl, (refl, refl))
-    items_of (why.Refused f) t done = absurd (let no : status.Refused ≡ status.Done = done in cc)
     items_of why.TooMany t done = absurd (let no : status.Refused ≡ status.Done = done in cc)
-    items_of why.Unread t done = absurd (let no : status.Unread ≡ status.Done = done in cc)
-    items_of why.OutOfMemory t done = absurd (let no : status.OutOfMemory ≡ status.Done = done in cc)
+    items_of (why.Fault fault.ReadFault) t done = absurd (let no : status.Unread ≡ status.Done = done in cc)
+    items_of (why.Fault fault.NoMemory) t done = absurd (let no : status.OutOfMemory ≡ status.Done = done in cc)
+    items_of (why.Fault f) t done = absurd (let no : status.Refused ≡ status.Done = done in cc)
 
     -- the run goes on behind the file
     pub file_goes_on : (end : PagesEnd) → TracedTo end → (held_now : List Held) (c : Sinks)
-        → ((left : List Item) → AreHeld settings held_mid left → Holds size settings (left ++ end_notes name end k) held_now b c) → status_of end ≡ status.Done
-        → TracesFile size contents settings output name made (made_with base k made) held held_now a c
+        → ((left : List Item) → AreHeld Apart manner.belongs held_mid left → Holds Apart size manner.belongs (left ++ items_at_end name end k) held_now b c) → status_of end ≡ status.Done
+        → TracesFile size contents manner name made (made_with base k made) held held_now a c
     file_goes_on end t held_now c behind done = record {
-      items = docs base made t.texts ++ end_notes name end k;
+      items = docs base made t.texts ++ items_at_end name end k;
       are = inr (items_of end t done);
-      holds = λ first are. subst (λ l. Holds size settings l held_now a c) (append_assoc first (docs base made t.texts) (end_notes name end k))
-          (holds_on size settings (first ++ docs base made t.texts) (end_notes name end k) held_mid held_now a b c (t.holds first are) behind);
+      holds = λ first are. subst (λ l. Holds Apart size manner.belongs l held_now a c) (append_assoc first (docs base made t.texts) (items_at_end name end k))
+          (holds_on Apart size manner.belongs (first ++ docs base made t.texts) (items_at_end name end k) held_mid held_now a b c (t.holds first are) behind);
     }
 
     -- the documents of its pages, and a refusal
     abbrev AreRefused : List (List ℕ) → List (List ℕ) → List ℕ → Type 0
-    AreRefused names texts message = AreItems contents settings output Nothing (name ∷ names) made (docs base made texts ++ Stop message ∷ [])
+    AreRefused names texts message = AreItems contents manner Nothing (name ∷ names) made (docs base made texts ++ Stop message ∷ [])
 
-    pub refused_items : (f : InFault) (names : List (List ℕ)) (t : TracedTo (why.Refused f)) → AreRefused names t.texts (end_message name (why.Refused f) k)
-    refused_items f names t =
-        let (kind, cause, here) = t.ends in
+    pub refused_items : (f : InFault) → status_of (why.Fault f) ≡ status.Refused → (names : List (List ℕ)) (t : TracedTo (why.Fault f))
+        → AreRefused names t.texts (end_message name (why.Fault f) k)
+    refused_items f is names t =
+        let (kind, cause) = refusal f is in
+        let later = is_later false t.raws in
+        let here = subst (λ c. IfSome t.rest (λ bytes. IfSays c (λ ending. front later bytes ≡ Ends ending))) cause t.ends in
         let message = page_line name (k + 1) (kind_text kind) in
         let same : page_line name (k + 1) (fault_text f) ≡ message = ap (page_line name (k + 1)) (fault_text-kind f kind cause) in
         subst (AreRefused names t.texts) (sym same)
-        (inr (listed (Behind names) (read_of (why.Refused f) t) k t.count [] (Refused kind) (Stop message ∷ []) (pages_end _ (Refused kind) t.rest here) refl))
+        (inr (listed (Behind names) (read_of (why.Fault f) t) k t.count [] (Refused kind) (Stop message ∷ []) (pages_end _ (Refused kind) t.rest here) refl))
 
     pub full_items : (names : List (List ℕ)) (t : TracedTo why.TooMany) → AreRefused names t.texts (end_message name why.TooMany k)
     full_items names t =
         let (raw, used, here) = t.ends in
-        let page = page_found settings raw used (is_later false t.raws) t.rest here in
+        let page = page_found manner raw used (is_later false t.raws) t.rest here in
         let message = page_line name (k + 1) too_many in
         let full : most_pages ≤ length (made_with base k made) = omega (arith, t.full refl, length-made_with base k made) in
         inr (listed (Behind names) (read_of why.TooMany t) k t.count (raw ∷ page.raws) page.ending (Stop message ∷ []) page.pages (inr (full, refl)))

@@ -1,56 +1,44 @@
--- How a run goes on after what is held, or ends within it.
-use Rattle.std.proofs.Common.{◌≡◌, ◌⊎◌, ℕ, List, [], ◌∷◌, ◌++◌, inl, inr, refl, sym, ◌∙◌, ap, subst, append_assoc}
-use Rattle.pt_base.specs.declared.settings.Settings.{Settings}
-use Rattle.run_output.specs.Messages.{out_of_memory}
+-- What stays the same from call to call.
+use Rattle.std.proofs.Common.{ℕ, List, Err, ◌∙◌, arith}
+use Rattle.pt_base.specs.declared.sink.Sink.{Ghosts as SinkGhosts}
+use Rattle.bit_image.specs.Page.{Page as Pixels}
+use Rattle.bitmap_input.specs.Reader.{Reader}
+use Rattle.run_output.specs.declared.part.Binding.{Binding}
 use Rattle.run_output.specs.declared.status.Status.{Status}
 use Rattle.run_output.specs.declared.status.Status.TheVariants as status
-use Rattle.file_trace.specs.Held.{AreHeld, Held, Holds}
-use Rattle.file_trace.specs.Held.Held.{Message, Page}
-use Rattle.file_trace.specs.Items.{Item}
-use Rattle.file_trace.specs.Items.Item.{Doc, Missing, Note, Stop}
-use Rattle.file_trace.specs.Outcome.{GoesOn, HasEnded, IsMessage, Sinks}
-use Rattle.file_trace.proofs.Carrying.{only_said, unwritten_more, GoesOn-append}
+use Rattle.page_batches.specs.Desks.{Keeps}
+use Rattle.page_batches.specs.Held.{EndsHolding, Held}
+use Rattle.page_batches.specs.Items.{Item}
+use Rattle.page_batches.specs.Outcome.{HasEnded, Sinks}
+use Rattle.page_batches.specs.declared.desk.Desk.{Desk}
+use Rattle.file_trace.specs.Outcome.{Source}
+use Rattle.file_trace.specs.Progress.{StaysIn, Takes}
+use Rattle.file_trace.proofs.Reading.{contents_taken, name_taken}
 
--- the run goes on after what is held
-held_goes_on : (settings : Settings) (held : List Held) (items : List Item) → AreHeld settings held items → GoesOn items
-held_goes_on settings [] items is = subst GoesOn (sym is) tt
-held_goes_on settings (Page name page ∷ held) items (text, rest, is_text, is, are) = subst GoesOn (sym is) (held_goes_on settings held rest are)
-held_goes_on settings (Message message ∷ held) items (rest, is, are) = subst GoesOn (sym is) (held_goes_on settings held rest are)
-
--- and so after what was read
-pub holds_goes_on : (size : ℕ) (settings : Settings) (read : List Item) (held : List Held) (a b : Sinks) → Holds size settings read held a b → GoesOn read
-holds_goes_on size settings read held a b h =
-    subst GoesOn (sym h.split) (GoesOn-append h.done h.left h.carried.goes_on (held_goes_on settings held h.left h.are_held))
-
--- where the run goes on after items, it goes on after the last of them
-pub GoesOn-behind : (items more : List Item) → GoesOn (items ++ more) → GoesOn more
-GoesOn-behind [] more goes = goes
-GoesOn-behind (Doc name text ∷ items) more goes = GoesOn-behind items more goes
-GoesOn-behind (Note message ∷ items) more goes = GoesOn-behind items more goes
-GoesOn-behind (Stop message ∷ items) more goes = absurd goes
-GoesOn-behind (Missing name ∷ items) more goes = absurd goes
-
--- memory ran out before any of the items was carried out
-pub memory_out : (items : List Item) (a b : Sinks) → b.outs ≡ a.outs → IsMessage out_of_memory a.errs b.errs
-    → HasEnded status.OutOfMemory items a b
-memory_out items a b same one = record { before = []; after = items; split = refl; done = only_said out_of_memory a b same one }
-
--- the run ends within items: a document isn't written, or memory runs out
-abbrev pub IsHalt : Status → Type 0
-IsHalt s = (s ≡ status.Unwritten) ⊎ (s ≡ status.OutOfMemory)
-
--- and so within these and more
-pub ended_more : (s : Status) → IsHalt s → (items more : List Item) (a b : Sinks) → HasEnded s items a b → HasEnded s (items ++ more) a b
-ended_more status.Unwritten which items more a b e = (unwritten_more items more a b e).0
-ended_more status.OutOfMemory which items more a b e = record {
-  before = e.before;
-  after = e.after ++ more;
-  split = ap (λ l. l ++ more) e.split ∙ append_assoc e.before e.after more;
-  done = e.done;
+-- the same desk, after one call and another
+pub keeps_on : {A B : Type 0} (of_outs : SinkGhosts A) (of_errs : SinkGhosts B) (x y z : Desk A B) → Keeps of_outs of_errs x y → Keeps of_outs of_errs y z
+    → Keeps of_outs of_errs x z
+keeps_on of_outs of_errs x y z first next = record {
+  outs = next.outs ∙ first.outs;
+  errs = next.errs ∙ first.errs;
+  ready = next.ready;
+  never_falls = let a = first.never_falls in let b = next.never_falls in omega (arith, a, b);
 }
-ended_more status.Done (inl is) items more a b e = absurd (let no : status.Done ≡ status.Unwritten = is in cc)
-ended_more status.Done (inr is) items more a b e = absurd (let no : status.Done ≡ status.OutOfMemory = is in cc)
-ended_more status.Refused (inl is) items more a b e = absurd (let no : status.Refused ≡ status.Unwritten = is in cc)
-ended_more status.Refused (inr is) items more a b e = absurd (let no : status.Refused ≡ status.OutOfMemory = is in cc)
-ended_more status.BadWords which items more a b e = absurd e
-ended_more status.Unread which items more a b e = absurd e
+
+-- bytes were taken of the opened file
+pub stays_taken : (old new : Reader) (start before now : Source) → StaysIn start before → Takes old before new now → StaysIn start now
+stays_taken old new start before now stays takes = record {
+  openings = takes.openings ∙ stays.openings;
+  name = name_taken old new before.files now.files takes.needed ∙ stays.name;
+  contents = contents_taken old new before.files now.files takes.needed ∙ stays.contents;
+}
+
+-- the run ends within the items that were to be held
+pub ended_by : (s : Status) (b : Binding) (size : ℕ) (belongs : Pixels → List ℕ → Type 0) (read : List Item) (held : List Held) (x y : Sinks)
+    → EndsHolding (Err s) b size belongs read held x y → HasEnded s read x y
+ended_by status.Unwritten b size belongs read held x y ends = ends
+ended_by status.OutOfMemory b size belongs read held x y ends = ends
+ended_by status.Done b size belongs read held x y ends = absurd ends
+ended_by status.BadWords b size belongs read held x y ends = absurd ends
+ended_by status.Refused b size belongs read held x y ends = absurd ends
+ended_by status.Unread b size belongs read held x y ends = absurd ends

@@ -1,10 +1,8 @@
-pub mod Batching
-pub mod Carrying
+pub mod Closing
 pub mod Counting
 pub mod Ending
 pub mod Exists
 pub mod Filing
-pub mod Holding
 pub mod OnePass
 pub mod Joining
 pub mod Keeping

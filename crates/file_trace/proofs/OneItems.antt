@@ -1,17 +1,17 @@
 -- What a run is to write is one list, where it is told what the files hold.
-use Rattle.std.proofs.Common.{◌≡◌, ℕ, suc, inl, inr, false, None, Some, Option, List, [], ◌∷◌, sym, ◌∙◌, ap, subst, arith}
+use Rattle.std.proofs.Common.{◌≡◌, ℕ, suc, inl, inr, false, None, Some, List, [], ◌∷◌, sym, ◌∙◌, ap, subst, arith}
 use Rattle.pt_base.specs.Files.{Contents}
-use Rattle.pt_base.specs.declared.settings.Settings.{Settings}
 use Rattle.bitmap_input.specs.Cut.{Ending}
 use Rattle.bitmap_input.specs.Cut.Ending.{End, Trailing, Refused}
-use Rattle.bitmap_input.specs.Raw.{Raw, shown}
+use Rattle.bitmap_input.specs.Raw.{Raw}
 use Rattle.bitmap_input.specs.FilePages.{FilePages}
 use Rattle.bitmap_input.proofs.Files.{file_pages_same}
-use Rattle.page_trace.proofs.OneTrace.{one_document}
 use Rattle.run_output.specs.Messages.{trailing_line}
-use Rattle.run_output.specs.Names.{base_name, next_name}
-use Rattle.file_trace.specs.Items.{AreEndItems, AreItems, ArePageItems, HoldsPages, Item, Rest}
-use Rattle.file_trace.specs.Items.Item.{Doc, Note}
+use Rattle.run_output.specs.Names.{next_name}
+use Rattle.page_batches.specs.Items.{Doc, Item}
+use Rattle.page_batches.specs.Items.Item.{Note}
+use Rattle.file_trace.specs.Items.{AreEndItems, AreItems, ArePageItems, HoldsPages, Rest}
+use Rattle.file_trace.specs.Manner.{HasOneText, Manner, base_by, shown_by}
 
 -- what follows is one list
 abbrev IsOne : (List Item → Type 0) → Type 0
@@ -23,16 +23,16 @@ one_end name pages Trailing Follow is_one one other a b = a.1 ∙ ap (λ (items 
 one_end name pages (Refused kind) Follow is_one one other a b = a ∙ sym b
 
 -- the items of some pages
-one_page_list : (settings : Settings) (name base : List ℕ) (ending : Ending) (F : Rest) → ((made : List (List ℕ)) → IsOne (F made)) → (raws : List Raw) (pages : ℕ)
-    (made : List (List ℕ)) → IsOne (ArePageItems settings name base ending F raws pages made)
-one_page_list settings name base ending F is_one [] pages made one other a b = one_end name pages ending (F made) (is_one made) one other a b
-one_page_list settings name base ending F is_one (raw ∷ raws) pages made one other (inl (few, (text, rest, is, listed, follow))) (inl (few2, (text2, rest2, is2, listed2, follow2))) =
-    let same = one_document settings.backend (shown settings.level settings.invert raw) settings text text2 is is2 in
-    let rests = one_page_list settings name base ending F is_one raws (suc pages) (base ∷ made) rest rest2 follow follow2 in
+one_page_list : (manner : Manner) → HasOneText manner → (name base : List ℕ) (ending : Ending) (F : Rest) → ((made : List (List ℕ)) → IsOne (F made)) → (raws : List Raw) (pages : ℕ)
+    (made : List (List ℕ)) → IsOne (ArePageItems manner name base ending F raws pages made)
+one_page_list manner single name base ending F is_one [] pages made one other a b = one_end name pages ending (F made) (is_one made) one other a b
+one_page_list manner single name base ending F is_one (raw ∷ raws) pages made one other (inl (few, (text, rest, is, listed, follow))) (inl (few2, (text2, rest2, is2, listed2, follow2))) =
+    let same = single (shown_by manner raw) text text2 is is2 in
+    let rests = one_page_list manner single name base ending F is_one raws (suc pages) (base ∷ made) rest rest2 follow follow2 in
     listed ∙ ap (λ (t : List ℕ). Doc (next_name base made) t ∷ rest) same ∙ ap (λ (items : List Item). Doc (next_name base made) text2 ∷ items) rests ∙ sym listed2
-one_page_list settings name base ending F is_one (raw ∷ raws) pages made one other (inl a) (inr b) = absurd (let few = a.0 in let many = b.0 in omega (arith, few, many))
-one_page_list settings name base ending F is_one (raw ∷ raws) pages made one other (inr a) (inl b) = absurd (let many = a.0 in let few = b.0 in omega (arith, few, many))
-one_page_list settings name base ending F is_one (raw ∷ raws) pages made one other (inr a) (inr b) = a.1 ∙ sym b.1
+one_page_list manner single name base ending F is_one (raw ∷ raws) pages made one other (inl a) (inr b) = absurd (let few = a.0 in let many = b.0 in omega (arith, few, many))
+one_page_list manner single name base ending F is_one (raw ∷ raws) pages made one other (inr a) (inl b) = absurd (let many = a.0 in let few = b.0 in omega (arith, few, many))
+one_page_list manner single name base ending F is_one (raw ∷ raws) pages made one other (inr a) (inr b) = a.1 ∙ sym b.1
 
 one_file : (contents : Contents) (name : List ℕ) (raws others : List Raw) (ending other : Ending) → HoldsPages (Some contents) name raws ending
     → HoldsPages (Some contents) name others other → (others ≡ raws) × (other ≡ ending)
@@ -42,18 +42,18 @@ one_file contents name raws others ending other (bytes, held, pages) (bytes2, he
     file_pages_same pages (subst (λ (bs : List ℕ). FilePages false bs others other) same pages2)
 
 -- the items of files
-pub one_list : (contents : Contents) (settings : Settings) (output : Option (List ℕ)) (F : Rest) → ((made : List (List ℕ)) → IsOne (F made)) → (names made : List (List ℕ))
-    → IsOne (AreItems (Some contents) settings output F names made)
-one_list contents settings output F is_one [] made one other a b = is_one made one other a b
-one_list contents settings output F is_one (name ∷ names) made one other (inl a) (inl b) = a.1 ∙ sym b.1
-one_list contents settings output F is_one (name ∷ names) made one other (inl (absent, is)) (inr (raws, ending, (bytes, held, pages), are)) =
+pub one_list : (contents : Contents) (manner : Manner) → HasOneText manner → (F : Rest) → ((made : List (List ℕ)) → IsOne (F made)) → (names made : List (List ℕ))
+    → IsOne (AreItems (Some contents) manner F names made)
+one_list contents manner single F is_one [] made one other a b = is_one made one other a b
+one_list contents manner single F is_one (name ∷ names) made one other (inl a) (inl b) = a.1 ∙ sym b.1
+one_list contents manner single F is_one (name ∷ names) made one other (inl (absent, is)) (inr (raws, ending, (bytes, held, pages), are)) =
     absurd (let e : None ≡ Some bytes = sym absent ∙ held in cc)
-one_list contents settings output F is_one (name ∷ names) made one other (inr (raws, ending, (bytes, held, pages), are)) (inl (absent, is)) =
+one_list contents manner single F is_one (name ∷ names) made one other (inr (raws, ending, (bytes, held, pages), are)) (inl (absent, is)) =
     absurd (let e : None ≡ Some bytes = sym absent ∙ held in cc)
-one_list contents settings output F is_one (name ∷ names) made one other (inr (raws, ending, holds, are)) (inr (raws2, ending2, holds2, are2)) =
+one_list contents manner single F is_one (name ∷ names) made one other (inr (raws, ending, holds, are)) (inr (raws2, ending2, holds2, are2)) =
     let (same, ends) = one_file contents name raws raws2 ending ending2 holds holds2 in
-    let base = base_name output settings.backend name in
-    let G : Rest = AreItems (Some contents) settings output F names in
-    let again = subst (λ (e : Ending). ArePageItems settings name base e G raws 0 made other) ends
-    (subst (λ (rs : List Raw). ArePageItems settings name base ending2 G rs 0 made other) same are2) in
-    one_page_list settings name base ending G (λ m. one_list contents settings output F is_one names m) raws 0 made one other are again
+    let base = base_by manner name in
+    let G : Rest = AreItems (Some contents) manner F names in
+    let again = subst (λ (e : Ending). ArePageItems manner name base e G raws 0 made other) ends
+    (subst (λ (rs : List Raw). ArePageItems manner name base ending2 G rs 0 made other) same are2) in
+    one_page_list manner single name base ending G (λ m. one_list contents manner single F is_one names m) raws 0 made one other are again

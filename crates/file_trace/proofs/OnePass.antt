@@ -3,21 +3,31 @@ use Rattle.std.proofs.Common.{◌≡◌, ◌≤◌, ◌<◌, ℕ, ◌+◌, ◌*�
 use Rattle.std.proofs.lemmas.Nat.{div_below, le-div}
 use Rattle.pt_base.specs.Counts.{Rose}
 use Rattle.pt_base.specs.Files.{Contents}
-use Rattle.pt_base.specs.declared.settings.Settings.{Settings}
-use Rattle.file_trace.specs.Held.{AreHeld, Held, Holds, pages_held}
-use Rattle.file_trace.specs.Items.{AreItems, Item, Nothing, doc_count}
-use Rattle.file_trace.specs.Items.Item.{Doc}
-use Rattle.file_trace.specs.Outcome.{IsUnwritten, Sinks, Source}
+use Rattle.run_output.specs.declared.part.Binding.TheVariants.{Apart}
+use Rattle.page_batches.specs.Held.{AreHeld, Held, Holds, pages_held}
+use Rattle.page_batches.specs.Items.{Doc, Item, page_count}
+use Rattle.page_batches.specs.Items.Item.{Write}
+use Rattle.page_batches.specs.Outcome.{IsUnwritten, Sinks}
+use Rattle.page_batches.proofs.Carrying.{unwritten_as, unwritten_more, unwritten_on}
+use Rattle.page_batches.proofs.Holding.{page_count-append, page_count-held, split_on}
+use Rattle.file_trace.specs.Items.{AreItems, Nothing}
+use Rattle.file_trace.specs.Manner.{Manner}
+use Rattle.file_trace.specs.Outcome.{Source}
 use Rattle.file_trace.specs.OnePass.{IfReadsTo, IsOnePass, batch_end}
 use Rattle.file_trace.specs.Progress.{IsInBatch, IsInPart}
-use Rattle.file_trace.proofs.Carrying.{unwritten_as, unwritten_more, unwritten_on}
-use Rattle.file_trace.proofs.Holding.{doc_count-append, doc_count-held, split_on}
 
--- a document is behind those before it
-before_less : (items before after : List Item) (name text : List ℕ) → items ≡ before ++ Doc name text ∷ after → doc_count before < doc_count items
-before_less items before after name text split =
-    let same = ap doc_count split in
-    let both = doc_count-append before (Doc name text ∷ after) in omega (arith, same, both)
+-- the items in front of one are among those in front of the last one
+before_last : (read before after : List Item) (last item : Item) → read ++ last ∷ [] ≡ before ++ item ∷ after → page_count before ≤ page_count read
+before_last read [] after last item e = omega arith
+before_last [] (x ∷ []) after last item e = cc
+before_last [] (x ∷ y ∷ before) after last item e = cc
+before_last (r ∷ read) (x ∷ before) after last item e =
+    let same : r ≡ x = cc in
+    let rest : read ++ last ∷ [] ≡ before ++ item ∷ after = cc in
+    let less = before_last read before after last item rest in
+    let one = ap (λ (i : Item). page_count (i ∷ [])) same in
+    let here = page_count-append (x ∷ []) before in
+    let there = page_count-append (r ∷ []) read in omega (arith, less, one, here, there)
 
 -- the batch in which the k-th document is ends with this one
 batch_end_least : (size k batches : ℕ) → 0 < size → batches * size ≤ k → batches * size + size ≤ batch_end size k
@@ -50,49 +60,51 @@ batch_end_behind size k batches some =
           let small : k % size < size = mod-lt k some in omega (arith, rest, small)
 
 -- what was read, and then a document, and what is held with it fills a batch: one of these couldn't be written
-pub batch_halts : (size : ℕ) (settings : Settings) (read : List Item) (name text : List ℕ) (held : List Held) (a b c : Sinks) → (h : Holds size settings read held a b)
-    → ((left : List Item) → AreHeld settings held left → IsUnwritten (left ++ Doc name text ∷ []) b c) → pages_held held + 1 ≡ size → IsInBatch size (read ++ Doc name text ∷ []) a c
-batch_halts size settings read name text held a b c h behind full =
+pub batch_halts : (size : ℕ) (manner : Manner) (read : List Item) (name text : List ℕ) (held : List Held) (a b c : Sinks) → (h : Holds Apart size manner.belongs read held a b)
+    → ((left : List Item) → AreHeld Apart manner.belongs held left → IsUnwritten (left ++ Doc name text ∷ []) b c) → pages_held held + 1 ≡ size → IsInBatch size (read ++ Doc name text ∷ []) a c
+batch_halts size manner read name text held a b c h behind full =
     let more : List Item = Doc name text ∷ [] in
     let u = behind h.left h.are_held in
     let (v, e) = unwritten_on h.done (h.left ++ more) a b c h.carried u in
     let split = split_on h.done h.left read more h.split in
     let (w, d) = unwritten_as (read ++ more) (h.done ++ (h.left ++ more)) a c split v in
-    let before = ap doc_count (d ∙ e) ∙ doc_count-append h.done u.before in
-    let all = ap doc_count split ∙ doc_count-append h.done (h.left ++ more) in
-    let last = doc_count-append h.left more in
-    let held_is = doc_count-held settings held h.left h.are_held in
-    record { unwritten = w; batches = h.batches; behind = omega (arith, before, h.whole); full = omega (arith, all, last, held_is, h.whole, full) }
+    let before = ap page_count (d ∙ e) ∙ page_count-append h.done u.before in
+    let all = ap page_count split ∙ page_count-append h.done (h.left ++ more) in
+    let last = page_count-append h.left more in
+    let held_is = page_count-held Apart manner.belongs held h.left h.are_held in
+    let less = before_last read w.before w.after (Doc name text) (Write w.part) w.split in
+    let sum = page_count-append read more in
+    record { unwritten = w; batches = h.batches; behind = omega (arith, before, h.whole); within = omega (arith, less, sum); full = omega (arith, all, last, held_is, h.whole, full) }
 
 -- what was read, and what is held of it fills no batch: one document of that couldn't be written
-pub part_halts : (size : ℕ) (settings : Settings) (read : List Item) (held : List Held) (a b c : Sinks) → (h : Holds size settings read held a b)
-    → ((left : List Item) → AreHeld settings held left → IsUnwritten left b c) → pages_held held < size → IsInPart size read a c
-part_halts size settings read held a b c h behind few =
+pub part_halts : (size : ℕ) (manner : Manner) (read : List Item) (held : List Held) (a b c : Sinks) → (h : Holds Apart size manner.belongs read held a b)
+    → ((left : List Item) → AreHeld Apart manner.belongs held left → IsUnwritten left b c) → pages_held held < size → IsInPart size read a c
+part_halts size manner read held a b c h behind few =
     let u = behind h.left h.are_held in
     let (v, e) = unwritten_on h.done h.left a b c h.carried u in
     let (w, d) = unwritten_as read (h.done ++ h.left) a c h.split v in
-    let before = ap doc_count (d ∙ e) ∙ doc_count-append h.done u.before in
-    let all = ap doc_count h.split ∙ doc_count-append h.done h.left in
-    let held_is = doc_count-held settings held h.left h.are_held in
+    let before = ap page_count (d ∙ e) ∙ page_count-append h.done u.before in
+    let all = ap page_count h.split ∙ page_count-append h.done h.left in
+    let held_is = page_count-held Apart manner.belongs held h.left h.are_held in
     record { unwritten = w; batches = h.batches; behind = omega (arith, before, h.whole); most = omega (arith, all, held_is, h.whole, few) }
 
-module _ (size : ℕ) (some : 0 < size) (first : List Item) (contents : Option Contents) (settings : Settings) (output : Option (List ℕ)) (names made : List (List ℕ)) (source source_now : Source) (a c : Sinks) where
+module _ (size : ℕ) (some : 0 < size) (first : List Item) (contents : Option Contents) (manner : Manner) (names made : List (List ℕ)) (source source_now : Source) (a c : Sinks) where
   abbrev Passes : Type 0
-  Passes = IsOnePass size first contents settings output names made source source_now a c
+  Passes = IsOnePass size first contents manner names made source source_now a c
 
   -- the run ended within items that fill no batch, and no document is behind them
-  pub pass_of_part : (read last items : List Item) → AreItems contents settings output Nothing names made items → IsInPart size read a c
-      → first ++ items ≡ read ++ last → doc_count last ≡ 0 → Passes
+  pub pass_of_part : (read last items : List Item) → AreItems contents manner Nothing names made items → IsInPart size read a c
+      → first ++ items ≡ read ++ last → page_count last ≡ 0 → Passes
   pass_of_part read last items are p split none =
       let (v, e) = unwritten_more read last a c p.unwritten in
       let (w, d) = unwritten_as (first ++ items) (read ++ last) a c split v in
-      let before : doc_count w.before ≡ doc_count p.unwritten.before = ap doc_count (d ∙ e) in
-      let all = ap doc_count split ∙ doc_count-append read last in
-      let least = batch_end_least size (doc_count w.before) p.batches some (omega (arith, before, p.behind)) in
+      let before : page_count w.before ≡ page_count p.unwritten.before = ap page_count (d ∙ e) in
+      let all = ap page_count split ∙ page_count-append read last in
+      let least = batch_end_least size (page_count w.before) p.batches some (omega (arith, before, p.behind)) in
       record { items = items; are = are; unwritten = w; no_farther = λ steady enough. absurd (omega (arith, enough, least, all, none, p.most)) }
 
   -- an input failed
-  pub pass_of_rise : (read more items : List Item) → AreItems contents settings output Nothing names made items → IsUnwritten read a c
+  pub pass_of_rise : (read more items : List Item) → AreItems contents manner Nothing names made items → IsUnwritten read a c
       → first ++ items ≡ read ++ more → Rose source.faults source_now.faults → Passes
   pass_of_rise read more items are u split rose =
       let (v, e) = unwritten_more read more a c u in
@@ -100,18 +112,17 @@ module _ (size : ℕ) (some : 0 < size) (first : List Item) (contents : Option C
       record { items = items; are = are; unwritten = w; no_farther = λ steady enough. absurd (steady rose) }
 
   -- the run ended with a whole batch
-  pub pass_of_batch : (read more items : List Item) → AreItems contents settings output Nothing names made items → (p : IsInBatch size read a c)
-      → first ++ items ≡ read ++ more → IfReadsTo (doc_count read) first contents settings output names made source source_now → Passes
+  pub pass_of_batch : (read more items : List Item) → AreItems contents manner Nothing names made items → (p : IsInBatch size read a c)
+      → first ++ items ≡ read ++ more → IfReadsTo (page_count read) first contents manner names made source source_now → Passes
   pass_of_batch read more items are p split reads =
       let (v, e) = unwritten_more read more a c p.unwritten in
       let (w, d) = unwritten_as (first ++ items) (read ++ more) a c split v in
-      let before : doc_count w.before ≡ doc_count p.unwritten.before = ap doc_count (d ∙ e) in
-      let less = before_less read p.unwritten.before p.unwritten.after p.unwritten.name p.unwritten.text p.unwritten.split in
-      let is = batch_end_is size (doc_count w.before) p.batches some (omega (arith, before, p.behind)) (omega (arith, before, less, p.full)) in
-      let same : doc_count read ≡ batch_end size (doc_count w.before) = omega (arith, is, p.full) in
+      let before : page_count w.before ≡ page_count p.unwritten.before = ap page_count (d ∙ e) in
+      let is = batch_end_is size (page_count w.before) p.batches some (omega (arith, before, p.behind)) (omega (arith, before, p.within, p.full)) in
+      let same : page_count read ≡ batch_end size (page_count w.before) = omega (arith, is, p.full) in
       record {
         items = items;
         are = are;
         unwritten = w;
-        no_farther = λ steady enough. subst (λ n. IfReadsTo n first contents settings output names made source source_now) same reads;
+        no_farther = λ steady enough. subst (λ n. IfReadsTo n first contents manner names made source source_now) same reads;
       }

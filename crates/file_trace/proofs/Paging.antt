@@ -1,15 +1,14 @@
 -- The pages of a file, found one after another.
 use Rattle.std.proofs.Common.{◌≡◌, ℕ, Bool, true, List, [], ◌∷◌, ◌++◌, drop, refl, sym, ◌∙◌, ap, subst}
 use Rattle.bitmap_input.specs.Cut.{Ending, is_by_end}
-use Rattle.bitmap_input.specs.Raw.{Raw, shown}
+use Rattle.bitmap_input.specs.Raw.{Raw}
 use Rattle.bitmap_input.specs.Front.{front, page_at}
 use Rattle.bitmap_input.specs.Front.Answer.{Page as Gives}
 use Rattle.bitmap_input.specs.FilePages.{FilePages, next_begins}
 use Rattle.bitmap_input.specs.FilePages.FilePages.{Next}
-use Rattle.page_trace.specs.Document.{IsDocument}
+use Rattle.file_trace.specs.Manner.{Manner, shown_by}
 use Rattle.file_trace.specs.Outcome.{BeginsSettled, BeginsWith, LeavesBehind, is_later}
 use Rattle.file_trace.specs.Progress.{AreTraced, Settles}
-use Rattle.pt_base.specs.declared.settings.Settings.{Settings}
 
 is_later-true : (raws : List Raw) → is_later true raws ≡ true
 is_later-true [] = refl
@@ -40,12 +39,12 @@ BeginsSettled-more later bytes [] rest raw used left b s =
 BeginsSettled-more later bytes (r ∷ raws) rest raw used left (n, f, o, b) s =
     (n, f, o, BeginsSettled-more true _ raws rest raw used left b (subst (λ l. Settles l rest raw used left) (sym (is_later-true raws)) s))
 
-pub AreTraced-more : (settings : Settings) (raws : List Raw) (texts : List (List ℕ)) (raw : Raw) (text : List ℕ)
-    → AreTraced settings raws texts → IsDocument (shown settings.level settings.invert raw) settings text → AreTraced settings (raws ++ raw ∷ []) (texts ++ text ∷ [])
-AreTraced-more settings [] [] raw text h p = (p, tt)
-AreTraced-more settings (r ∷ raws) (t ∷ texts) raw text h p = (h.0, AreTraced-more settings raws texts raw text h.1 p)
-AreTraced-more settings [] (t ∷ texts) raw text h p = absurd h
-AreTraced-more settings (r ∷ raws) [] raw text h p = absurd h
+pub AreTraced-more : (manner : Manner) (raws : List Raw) (texts : List (List ℕ)) (raw : Raw) (text : List ℕ)
+    → AreTraced manner raws texts → manner.belongs (shown_by manner raw) text → AreTraced manner (raws ++ raw ∷ []) (texts ++ text ∷ [])
+AreTraced-more manner [] [] raw text h p = (p, tt)
+AreTraced-more manner (r ∷ raws) (t ∷ texts) raw text h p = (h.0, AreTraced-more manner raws texts raw text h.1 p)
+AreTraced-more manner [] (t ∷ texts) raw text h p = absurd h
+AreTraced-more manner (r ∷ raws) [] raw text h p = absurd h
 
 -- the pages of a file that begins with these, and goes on with those behind them
 pub pages_on : (later : Bool) (bytes : List ℕ) (raws : List Raw) (rest : List ℕ) (more : List Raw) (ending : Ending)

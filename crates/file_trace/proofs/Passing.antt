@@ -2,16 +2,19 @@
 use Rattle.std.proofs.Common.{◌≡◌, ◌≤◌, ◌<◌, ◌⊎◌, ℕ, ◌+◌, false, List, [], ◌∷◌, ◌++◌, length, Option, None, Some, IfSome, inl, inr, refl, sym, ◌∙◌, ap, subst, append_assoc, zero-mul, arith}
 use Rattle.pt_base.specs.Counts.{Rose, next_count}
 use Rattle.pt_base.specs.Files.{Contents, Files, Lacks, unread, with_file}
-use Rattle.pt_base.specs.declared.settings.Settings.{Settings}
-use Rattle.page_trace.specs.Document.{CanWrite}
-use Rattle.run_output.specs.Names.{base_name}
+use Rattle.bitmap_input.specs.declared.fault.InFault.TheVariants as fault
 use Rattle.run_output.specs.declared.status.Status.{Status}
 use Rattle.run_output.specs.declared.status.Status.TheVariants as status
-use Rattle.file_trace.specs.Held.{AreHeld, Held, pages_held}
-use Rattle.file_trace.specs.Items.{IsAbsent, Item, doc_count, told_contents}
-use Rattle.file_trace.specs.Items.Item.{Missing, Stop}
+use Rattle.run_output.specs.declared.part.Binding.TheVariants.{Apart}
+use Rattle.page_batches.specs.Held.{AreHeld, Held, pages_held}
+use Rattle.page_batches.specs.Items.{GoesOn, Item, page_count}
+use Rattle.page_batches.specs.Items.Item.{Missing, Stop}
+use Rattle.page_batches.specs.Outcome.{HasEnded, IsUnwritten, Sinks}
+use Rattle.page_batches.proofs.Holding.{page_count-held}
+use Rattle.file_trace.specs.Items.{IsAbsent, told_contents}
+use Rattle.file_trace.specs.Manner.{HasTexts, Manner, base_by}
 use Rattle.file_trace.specs.OnePass.{IfReadsTo, IsOnePass}
-use Rattle.file_trace.specs.Outcome.{GoesOn, HasEnded, IsUnwritten, LeavesBehind, Sinks, Source, opened_name}
+use Rattle.file_trace.specs.Outcome.{LeavesBehind, Source, opened_name}
 use Rattle.file_trace.specs.Progress.{EndsWithFile, Halts, IsInPart, Traces, docs, end_message, status_of}
 use Rattle.file_trace.specs.Unopened.{EndsUnopened}
 use Rattle.file_trace.specs.declared.pages.PagesEnd.{PagesEnd}
@@ -19,38 +22,37 @@ use Rattle.file_trace.specs.declared.pages.PagesEnd.TheVariants as why
 use Rattle.file_trace.proofs.Ending.{at_first, name-opened, opened_as}
 use Rattle.file_trace.proofs.Exists.{items_found}
 use Rattle.file_trace.proofs.Filing.{docs_alone, full_items, has_bytes, items_after, read_by_halting, read_by_tracing, refused_items, HasBytes}
-use Rattle.file_trace.proofs.Holding.{doc_count-held}
 use Rattle.file_trace.proofs.OnePass.{part_halts, pass_of_batch, pass_of_part, pass_of_rise}
 
 -- a document of what was held couldn't be written, where that fills no batch
-pub held_part : (size : ℕ) (settings : Settings) (held : List Held) (first : List Item) (a c : Sinks) → pages_held held < size → AreHeld settings held first → IsUnwritten first a c → IsInPart size first a c
-held_part size settings held first a c few are u =
-    let count = doc_count-held settings held first are in
+pub held_part : (size : ℕ) (manner : Manner) (held : List Held) (first : List Item) (a c : Sinks) → pages_held held < size → AreHeld Apart manner.belongs held first → IsUnwritten first a c → IsInPart size first a c
+held_part size manner held first a c few are u =
+    let count = page_count-held Apart manner.belongs held first are in
     let none = zero-mul size in
     record { unwritten = u; batches = 0; behind = omega (arith, none); most = omega (arith, count, few, none) }
 
 -- the file can't be opened, and a document of what was held couldn't be written
-pass_held : (size : ℕ) → 0 < size → (settings : Settings) → CanWrite settings → (output : Option (List ℕ)) (name : List ℕ) (made : List (List ℕ)) (held : List Held) (source source_now : Source) (a c : Sinks)
-    → pages_held held < size → IsAbsent (told_contents source.files) name ⊎ Rose source.faults source_now.faults → (names : List (List ℕ)) (first : List Item) → AreHeld settings held first → IsUnwritten first a c
-    → IsOnePass size first (told_contents source.files) settings output (name ∷ names) made source source_now a c
-pass_held size some settings can output name made held source source_now a c few cause names first are u = by_cause cause where
+pass_held : (size : ℕ) → 0 < size → (manner : Manner) → HasTexts manner → (name : List ℕ) (made : List (List ℕ)) (held : List Held) (source source_now : Source) (a c : Sinks)
+    → pages_held held < size → IsAbsent (told_contents source.files) name ⊎ Rose source.faults source_now.faults → (names : List (List ℕ)) (first : List Item) → AreHeld Apart manner.belongs held first → IsUnwritten first a c
+    → IsOnePass size first (told_contents source.files) manner (name ∷ names) made source source_now a c
+pass_held size some manner can name made held source source_now a c few cause names first are u = by_cause cause where
   by_cause : IsAbsent (told_contents source.files) name ⊎ Rose source.faults source_now.faults
-      → IsOnePass size first (told_contents source.files) settings output (name ∷ names) made source source_now a c
+      → IsOnePass size first (told_contents source.files) manner (name ∷ names) made source source_now a c
   by_cause (inl absent) =
-      pass_of_part size some first (told_contents source.files) settings output (name ∷ names) made source source_now a c first (Missing name ∷ []) (Missing name ∷ [])
-      (inl (absent, refl)) (held_part size settings held first a c few are u) refl refl
+      pass_of_part size some first (told_contents source.files) manner (name ∷ names) made source source_now a c first (Missing name ∷ []) (Missing name ∷ [])
+      (inl (absent, refl)) (held_part size manner held first a c few are u) refl refl
   by_cause (inr rose) =
-      let more = items_found (told_contents source.files) settings can output (name ∷ names) made in
-      pass_of_rise size some first (told_contents source.files) settings output (name ∷ names) made source source_now a c first more.0 more.0 more.1 u refl rose
+      let more = items_found (told_contents source.files) manner can (name ∷ names) made in
+      pass_of_rise size some first (told_contents source.files) manner (name ∷ names) made source source_now a c first more.0 more.0 more.1 u refl rose
 
-pub pass_unopened : (size : ℕ) → 0 < size → (settings : Settings) → CanWrite settings → (output : Option (List ℕ)) (name : List ℕ) (made : List (List ℕ)) (held : List Held) (source source_now : Source) (a c : Sinks)
+pub pass_unopened : (size : ℕ) → 0 < size → (manner : Manner) → HasTexts manner → (name : List ℕ) (made : List (List ℕ)) (held : List Held) (source source_now : Source) (a c : Sinks)
     → pages_held held < size → IsAbsent (told_contents source.files) name ⊎ Rose source.faults source_now.faults
-    → (s : Status) → ((first : List Item) → AreHeld settings held first → EndsUnopened name s first a c) → s ≡ status.Unwritten → (names : List (List ℕ)) (first : List Item) → AreHeld settings held first
-    → IsOnePass size first (told_contents source.files) settings output (name ∷ names) made source source_now a c
-pass_unopened size some settings can output name made held source source_now a c few cause s ends unwritten names first are = elim (ends first are) [
+    → (s : Status) → ((first : List Item) → AreHeld Apart manner.belongs held first → EndsUnopened name s first a c) → s ≡ status.Unwritten → (names : List (List ℕ)) (first : List Item) → AreHeld Apart manner.belongs held first
+    → IsOnePass size first (told_contents source.files) manner (name ∷ names) made source source_now a c
+pass_unopened size some manner can name made held source source_now a c few cause s ends unwritten names first are = elim (ends first are) [
   | inl (is, done) ↦ absurd (let no : status.Unread ≡ status.Unwritten = sym is ∙ unwritten in cc)
   | inr (which, ended) ↦
-      pass_held size some settings can output name made held source source_now a c few cause names first are (subst (λ (v : Status). HasEnded v first a c) unwritten ended)
+      pass_held size some manner can name made held source source_now a c few cause names first are (subst (λ (v : Status). HasEnded v first a c) unwritten ended)
 ]
 
 -- the run goes on after documents
@@ -59,29 +61,29 @@ docs_go_on base made [] = tt
 docs_go_on base made (text ∷ texts) = docs_go_on base (base ∷ made) texts
 
 -- the file was opened
-module _ (size : ℕ) (some : 0 < size) (settings : Settings) (can : CanWrite settings) (output : Option (List ℕ)) (name : List ℕ) (made : List (List ℕ)) (start : Option Files)
+module _ (size : ℕ) (some : 0 < size) (manner : Manner) (can : HasTexts manner) (name : List ℕ) (made : List (List ℕ)) (start : Option Files)
     (source source_now : Source) (opened : start ≡ with_file source.files name) (there : Lacks source.files name → ⊥) (one : source_now.openings ≡ next_count source.openings)
     (contents : told_contents source_now.files ≡ told_contents start) (named : opened_name source_now.files ≡ opened_name start) where
   abbrev base : List ℕ
-  base = base_name output settings.backend name
+  base = base_by manner name
 
   has : HasBytes (told_contents source.files) name (unread start)
   has = has_bytes source.files start name opened there
 
   abbrev Passes : List Item → List (List ℕ) → Sinks → Sinks → Type 0
-  Passes first names a c = IsOnePass size first (told_contents source.files) settings output (name ∷ names) made source source_now a c
+  Passes first names a c = IsOnePass size first (told_contents source.files) manner (name ∷ names) made source source_now a c
 
   -- the run ends with the pages of the file, and a document of what is held then couldn't be written
-  pub pass_ended : (k : ℕ) (held held_mid : List Held) (a b c : Sinks) (end : PagesEnd) → (end ≡ why.Unread → Rose source.faults source_now.faults)
-      → Traces size settings base made start source_now.files held held_mid a b k end → pages_held held_mid < size
-      → ((left : List Item) → AreHeld settings held_mid left → EndsWithFile name end k status.Unwritten left b c) → (status_of end ≡ status.Refused) ⊎ (status_of end ≡ status.Unread)
-      → (names : List (List ℕ)) (first : List Item) → AreHeld settings held first → Passes first names a c
+  pub pass_ended : (k : ℕ) (held held_mid : List Held) (a b c : Sinks) (end : PagesEnd) → (end ≡ why.Fault fault.ReadFault → Rose source.faults source_now.faults)
+      → Traces size manner base made start source_now.files held held_mid a b k end → pages_held held_mid < size
+      → ((left : List Item) → AreHeld Apart manner.belongs held_mid left → EndsWithFile name end k status.Unwritten left b c) → (status_of end ≡ status.Refused) ⊎ (status_of end ≡ status.Unread)
+      → (names : List (List ℕ)) (first : List Item) → AreHeld Apart manner.belongs held first → Passes first names a c
   pass_ended k held held_mid a b c end rose t few ends which names first are = by_end end rose t ends which where
     told : Option Contents
     told = told_contents source.files
 
-    u : (e : PagesEnd) → ((left : List Item) → AreHeld settings held_mid left → EndsWithFile name e k status.Unwritten left b c) → (status_of e ≡ status.Refused) ⊎ (status_of e ≡ status.Unread)
-        → (left : List Item) → AreHeld settings held_mid left → IsUnwritten left b c
+    u : (e : PagesEnd) → ((left : List Item) → AreHeld Apart manner.belongs held_mid left → EndsWithFile name e k status.Unwritten left b c) → (status_of e ≡ status.Refused) ⊎ (status_of e ≡ status.Unread)
+        → (left : List Item) → AreHeld Apart manner.belongs held_mid left → IsUnwritten left b c
     u e ends which left held = by_ends (ends left held) which where
       by_ends : EndsWithFile name e k status.Unwritten left b c → (status_of e ≡ status.Refused) ⊎ (status_of e ≡ status.Unread) → IsUnwritten left b c
       by_ends (inl (is, going, memory, done)) (inl refused) = absurd (let no : status.Unwritten ≡ status.Refused = is ∙ refused in cc)
@@ -91,44 +93,44 @@ module _ (size : ℕ) (some : 0 < size) (settings : Settings) (can : CanWrite se
     split : (texts : List (List ℕ)) (after : List Item) → first ++ (docs base made texts ++ after) ≡ (first ++ docs base made texts) ++ after
     split texts after = sym (append_assoc first (docs base made texts) after)
 
-    by_end : (e : PagesEnd) → (e ≡ why.Unread → Rose source.faults source_now.faults) → (t : Traces size settings base made start source_now.files held held_mid a b k e)
-        → ((left : List Item) → AreHeld settings held_mid left → EndsWithFile name e k status.Unwritten left b c) → (status_of e ≡ status.Refused) ⊎ (status_of e ≡ status.Unread) → Passes first names a c
-    by_end (why.Refused f) rose t ends which =
-        let part = part_halts size settings (first ++ docs base made t.texts) held_mid a b c (t.holds first are) (u (why.Refused f) ends which) few in
-        let last : List Item = Stop (end_message name (why.Refused f) k) ∷ [] in
-        pass_of_part size some first told settings output (name ∷ names) made source source_now a c (first ++ docs base made t.texts) last (docs base made t.texts ++ last)
-        (refused_items told settings output name made size start source_now.files k held held_mid a b has f names t) part (split t.texts last) refl
+    by_end : (e : PagesEnd) → (e ≡ why.Fault fault.ReadFault → Rose source.faults source_now.faults) → (t : Traces size manner base made start source_now.files held held_mid a b k e)
+        → ((left : List Item) → AreHeld Apart manner.belongs held_mid left → EndsWithFile name e k status.Unwritten left b c) → (status_of e ≡ status.Refused) ⊎ (status_of e ≡ status.Unread) → Passes first names a c
     by_end why.TooMany rose t ends which =
-        let part = part_halts size settings (first ++ docs base made t.texts) held_mid a b c (t.holds first are) (u why.TooMany ends which) few in
+        let part = part_halts size manner (first ++ docs base made t.texts) held_mid a b c (t.holds first are) (u why.TooMany ends which) few in
         let last : List Item = Stop (end_message name why.TooMany k) ∷ [] in
-        pass_of_part size some first told settings output (name ∷ names) made source source_now a c (first ++ docs base made t.texts) last (docs base made t.texts ++ last)
-        (full_items told settings output name made size start source_now.files k held held_mid a b has names t) part (split t.texts last) refl
-    by_end why.Unread rose t ends which =
-        let part = part_halts size settings (first ++ docs base made t.texts) held_mid a b c (t.holds first are) (u why.Unread ends which) few in
-        let (after, items) = items_after told settings output name made can names (read_by_tracing size told settings name base made start source_now.files held held_mid a b k why.Unread has t) in
-        pass_of_rise size some first told settings output (name ∷ names) made source source_now a c (first ++ docs base made t.texts) after (docs base made t.texts ++ after)
-        items part.unwritten (split t.texts after) (rose refl)
+        pass_of_part size some first told manner (name ∷ names) made source source_now a c (first ++ docs base made t.texts) last (docs base made t.texts ++ last)
+        (full_items told manner name made size start source_now.files k held held_mid a b has names t) part (split t.texts last) refl
     by_end why.End rose t ends (inl is) = absurd (let no : status.Done ≡ status.Refused = is in cc)
     by_end why.End rose t ends (inr is) = absurd (let no : status.Done ≡ status.Unread = is in cc)
     by_end why.Trailing rose t ends (inl is) = absurd (let no : status.Done ≡ status.Refused = is in cc)
     by_end why.Trailing rose t ends (inr is) = absurd (let no : status.Done ≡ status.Unread = is in cc)
-    by_end why.OutOfMemory rose t ends (inl is) = absurd (let no : status.OutOfMemory ≡ status.Refused = is in cc)
-    by_end why.OutOfMemory rose t ends (inr is) = absurd (let no : status.OutOfMemory ≡ status.Unread = is in cc)
+    by_end (why.Fault fault.NoMemory) rose t ends (inl is) = absurd (let no : status.OutOfMemory ≡ status.Refused = is in cc)
+    by_end (why.Fault fault.NoMemory) rose t ends (inr is) = absurd (let no : status.OutOfMemory ≡ status.Unread = is in cc)
+    by_end (why.Fault fault.ReadFault) rose t ends which =
+        let part = part_halts size manner (first ++ docs base made t.texts) held_mid a b c (t.holds first are) (u (why.Fault fault.ReadFault) ends which) few in
+        let (after, items) = items_after told manner name made can names (read_by_tracing size told manner name base made start source_now.files held held_mid a b k (why.Fault fault.ReadFault) has t) in
+        pass_of_rise size some first told manner (name ∷ names) made source source_now a c (first ++ docs base made t.texts) after (docs base made t.texts ++ after)
+        items part.unwritten (split t.texts after) (rose refl)
+    by_end (why.Fault f) rose t ends which =
+        let part = part_halts size manner (first ++ docs base made t.texts) held_mid a b c (t.holds first are) (u (why.Fault f) ends which) few in
+        let last : List Item = Stop (end_message name (why.Fault f) k) ∷ [] in
+        pass_of_part size some first told manner (name ∷ names) made source source_now a c (first ++ docs base made t.texts) last (docs base made t.texts ++ last)
+        (refused_items told manner name made size start source_now.files k held held_mid a b has f refl names t) part (split t.texts last) refl
 
   -- a document of the batch that the last page of the file fills couldn't be written
-  pub pass_halted : (held : List Held) (a c : Sinks) → Halts status.Unwritten size settings base made start source_now.files held a c
-      → (names : List (List ℕ)) (first : List Item) → AreHeld settings held first → Passes first names a c
+  pub pass_halted : (held : List Held) (a c : Sinks) → Halts status.Unwritten size manner base made start source_now.files held a c
+      → (names : List (List ℕ)) (first : List Item) → AreHeld Apart manner.belongs held first → Passes first names a c
   pass_halted held a c t names first are =
-      let r = read_by_halting size (told_contents source.files) status.Unwritten settings name base made start source_now.files held a c has t in
-      let (after, items) = items_after (told_contents source.files) settings output name made can names r in
-      pass_of_batch size some first (told_contents source.files) settings output (name ∷ names) made source source_now a c (first ++ docs base made t.texts) after (docs base made t.texts ++ after)
+      let r = read_by_halting size (told_contents source.files) status.Unwritten manner name base made start source_now.files held a c has t in
+      let (after, items) = items_after (told_contents source.files) manner name made can names r in
+      pass_of_batch size some first (told_contents source.files) manner (name ∷ names) made source source_now a c (first ++ docs base made t.texts) after (docs base made t.texts ++ after)
       items (t.in_batch refl first are) (sym (append_assoc first (docs base made t.texts) after)) (reads source.files opened there) where
         opened_at : (now : Option Files) (rest : List ℕ) → unread now ≡ Some rest → opened_name now ≡ Some name → IfSome now (λ files. files.opened ≡ Some (record { name = name; rest = rest }))
         opened_at None rest e f = tt
         opened_at (Some files) rest e f = opened_as files.opened name rest e f
 
         reads : (told : Option Files) → start ≡ with_file told name → (Lacks told name → ⊥)
-            → IfReadsTo (doc_count (first ++ docs base made t.texts)) first (told_contents told) settings output (name ∷ names) made source source_now
+            → IfReadsTo (page_count (first ++ docs base made t.texts)) first (told_contents told) manner (name ∷ names) made source source_now
         reads None opened there = tt
         reads (Some files) opened there =
             let (bytes, held_is, is) = has_bytes (Some files) start name opened there in
@@ -148,7 +150,7 @@ module _ (size : ℕ) (some : 0 < size) (settings : Settings) (can : CanWrite se
               begins = begins;
               opened = opened_at source_now.files rest unread_is (named ∙ ap opened_name opened ∙ name-opened files name bytes held_is);
               near = near;
-              items = docs_alone settings name base made t.raws t.texts t.traced t.few;
+              items = docs_alone manner name base made t.raws t.texts t.traced t.few;
               goes_on = docs_go_on base made t.texts;
               count = refl;
             }

@@ -3,20 +3,19 @@ use Rattle.std.proofs.Common.{◌≡◌, ◌≤◌, ℕ, ◌+◌, ◌-◌, Bool,
 use Rattle.std.specs.FinMap.{get}
 use Rattle.std.proofs.lemmas.List.{drop-append-le, drop-drop, length-drop, take-append-drop}
 use Rattle.std.proofs.lemmas.List.Elements.{All-head}
+use Rattle.pt_base.specs.Counts.{Rose}
 use Rattle.pt_base.specs.Files.{Files, Opened, taken_of, unread, unread_of, with_file, with_no_file, with_read}
 use Rattle.bit_image.specs.Page.{IsPage, Page as Pixels}
 use Rattle.bitmap_input.specs.declared.fault.InFault.{InFault}
 use Rattle.bitmap_input.specs.declared.fault.InFault.TheVariants as fault
 use Rattle.bitmap_input.specs.Cut.{Cut, is_by_end}
 use Rattle.bitmap_input.specs.Cut.Cut.{Takes, Stops}
-use Rattle.bitmap_input.specs.Cut.Kind.{UnknownFormat, BadHeader, ZeroSide, TooLarge, Truncated, BadRaster, BmpKind, BadOffset, TooLong}
-use Rattle.bitmap_input.specs.Cut.Ending.{Refused}
 use Rattle.bitmap_input.specs.Cut.{Ending}
 use Rattle.bitmap_input.specs.Front.{front, page_at}
-use Rattle.bitmap_input.specs.Front.Answer.{Page, Ends}
+use Rattle.bitmap_input.specs.Front.Answer.{Page}
 use Rattle.bitmap_input.specs.FilePages.{FilePages, next_begins}
 use Rattle.bitmap_input.specs.FilePages.FilePages.{Next}
-use Rattle.bitmap_input.specs.Raw.{Raw, shown}
+use Rattle.bitmap_input.specs.Raw.{Raw}
 use Rattle.bitmap_input.specs.Reading.{AtEnd, cause_of_fault}
 use Rattle.bitmap_input.specs.Reader.{Reader, ahead as reader_ahead, is_later, GivesEnding, GivesPage, IfSays, MemoryFails, ReadFails, TellsPage}
 use Rattle.bitmap_input.proofs.Appending.{with_more}
@@ -24,12 +23,14 @@ use Rattle.bitmap_input.proofs.FrontStays.{front_stays, page_stays}
 use Rattle.bitmap_input.proofs.Behind.{ahead_with_more, begins_with_more, front_within}
 use Rattle.bitmap_input.proofs.Files.{file_pages_some}
 use Rattle.bitmap_input.proofs.Sided.{pages_shown}
-use Rattle.pt_base.specs.declared.settings.Settings.{Settings}
 use Rattle.file_trace.specs.Items.{told_contents}
+use Rattle.file_trace.specs.Manner.{Manner, shown_by}
 use Rattle.file_trace.specs.Outcome.{opened_name}
-use Rattle.file_trace.specs.Progress.{EndsReading, ReadsPage, Settles, TakesNeeded, ahead, end_of_fault}
+use Rattle.file_trace.specs.Progress.{FaultsBy, ReadsPage, Settles, TakesNeeded, ahead}
+use Rattle.file_trace.specs.declared.pages.PagesEnd.TheVariants as why
 
-mapped : (o : Option (List ℕ)) (f : List ℕ → List ℕ) (P : List ℕ → Type 0) → IfSome o (λ rest. P (f rest)) → IfSome (option_map f o) P
+-- what holds of what the bytes give holds of that
+pub mapped : (o : Option (List ℕ)) (f : List ℕ → List ℕ) (P : List ℕ → Type 0) → IfSome o (λ rest. P (f rest)) → IfSome (option_map f o) P
 mapped None f P h = tt
 mapped (Some rest) f P h = h
 
@@ -61,10 +62,10 @@ not_by_end false ended settled going = refl
 not_by_end true ended settled going = absurd (let wrong : true ≡ false = sym (settled refl) ∙ going in cc)
 
 -- a page that was given before a read gave nothing is the next page, whatever comes behind the bytes taken
-settles : (settings : Settings) (old new : Reader) (before now : Option Files) (page : Pixels)
-    → (gives : GivesPage settings.level settings.invert old before page new now) → new.ended ≡ false → (tail : List ℕ)
+settles : (manner : Manner) (old new : Reader) (before now : Option Files) (page : Pixels)
+    → (gives : GivesPage manner.level manner.invert old before page new now) → new.ended ≡ false → (tail : List ℕ)
     → Settles (is_later old) (reader_ahead old (gives.answers.more ++ tail)) gives.raw gives.used (reader_ahead new tail)
-settles settings old new before now page gives going tail =
+settles manner old new before now page gives going tail =
     let taken : List ℕ = reader_ahead old gives.answers.more in
     let open_end : is_by_end (page_at (is_later old) taken) ≡ false = not_by_end _ new.ended gives.answers.settled going in
     let split : reader_ahead old (gives.answers.more ++ tail) ≡ taken ++ tail =
@@ -85,26 +86,26 @@ first_taken before more rest told is =
     sym (take-append-drop (length more) rest) ∙ ap (λ l. l ++ drop (length more) rest) (sym front_of)
 
 -- the same where the whole rest of the file tells the page
-settles_told : (settings : Settings) (old new : Reader) (before now : Option Files) (page : Pixels) (rest : List ℕ)
-    → (gives : GivesPage settings.level settings.invert old before page new now) → unread before ≡ Some rest
+settles_told : (manner : Manner) (old new : Reader) (before now : Option Files) (page : Pixels) (rest : List ℕ)
+    → (gives : GivesPage manner.level manner.invert old before page new now) → unread before ≡ Some rest
     → (raw : Raw) (used : ℕ) → front (is_later old) (reader_ahead old rest) ≡ Page raw used → new.ended ≡ false → (tail : List ℕ)
     → Settles (is_later old) (reader_ahead old (gives.answers.more ++ tail)) raw used (reader_ahead new tail)
-settles_told settings old new before now page rest gives is raw used here going tail =
+settles_told manner old new before now page rest gives is raw used here going tail =
     let whole = first_taken before gives.answers.more rest gives.answers.moves.told is in
-    let at_rest = settles settings old new before now page gives going (drop (length gives.answers.more) rest) in
+    let at_rest = settles manner old new before now page gives going (drop (length gives.answers.more) rest) in
     let there : front (is_later old) (reader_ahead old rest) ≡ Page gives.raw gives.used = ap (λ bs. front (is_later old) (reader_ahead old bs)) whole ∙ at_rest.is in
     let same : Page gives.raw gives.used ≡ Page raw used = sym there ∙ here in
     let same_raw : gives.raw ≡ raw = cc in
     let same_used : gives.used ≡ used = cc in
     let bytes : List ℕ = reader_ahead old (gives.answers.more ++ tail) in
     subst (λ (r : Raw). Settles (is_later old) bytes r used (reader_ahead new tail)) same_raw
-    (subst (λ (n : ℕ). Settles (is_later old) bytes gives.raw n (reader_ahead new tail)) same_used (settles settings old new before now page gives going tail))
+    (subst (λ (n : ℕ). Settles (is_later old) bytes gives.raw n (reader_ahead new tail)) same_used (settles manner old new before now page gives going tail))
 
 -- the page that was given stands in the whole rest of the file
-same_page : (settings : Settings) (old new : Reader) (before now : Option Files) (page : Pixels) (rest : List ℕ)
-    → (gives : GivesPage settings.level settings.invert old before page new now) → unread before ≡ Some rest → (new.ended ≡ true → AtEnd now)
+same_page : (manner : Manner) (old new : Reader) (before now : Option Files) (page : Pixels) (rest : List ℕ)
+    → (gives : GivesPage manner.level manner.invert old before page new now) → unread before ≡ Some rest → (new.ended ≡ true → AtEnd now)
     → front (is_later old) (reader_ahead old rest) ≡ Page gives.raw gives.used
-same_page settings old new before now page rest gives is at_end = by_ended new.ended refl where
+same_page manner old new before now page rest gives is at_end = by_ended new.ended refl where
   more : List ℕ
   more = gives.answers.more
 
@@ -112,7 +113,7 @@ same_page settings old new before now page rest gives is at_end = by_ended new.e
   whole = first_taken before more rest gives.answers.moves.told is
 
   by_ended : (e : Bool) → new.ended ≡ e → front (is_later old) (reader_ahead old rest) ≡ Page gives.raw gives.used
-  by_ended false going = ap (λ bs. front (is_later old) (reader_ahead old bs)) whole ∙ (settles settings old new before now page gives going (drop (length more) rest)).is
+  by_ended false going = ap (λ bs. front (is_later old) (reader_ahead old bs)) whole ∙ (settles manner old new before now page gives going (drop (length more) rest)).is
   by_ended true ended =
       let still : unread now ≡ Some (drop (length more) rest) = ap unread gives.answers.moves.files ∙ unread-with_read before (length more) rest is in
       let none = subst (λ (o : Option (List ℕ)). IfSome o (λ r. r ≡ [])) still (at_end ended) in
@@ -131,27 +132,27 @@ left_near skip used bytes more left within =
     let g = length-append more left in omega (arith, within, a, b, c, d, e, f, g)
 
 -- little was taken behind the used bytes of a page that was given
-page_near : (settings : Settings) (old new : Reader) (before now : Option Files) (page : Pixels) (rest : List ℕ) (raw : Raw) (used : ℕ)
-    → (gives : GivesPage settings.level settings.invert old before page new now) → unread before ≡ Some rest → (new.ended ≡ true → AtEnd now) → length new.bytes ≤ 65536
+page_near : (manner : Manner) (old new : Reader) (before now : Option Files) (page : Pixels) (rest : List ℕ) (raw : Raw) (used : ℕ)
+    → (gives : GivesPage manner.level manner.invert old before page new now) → unread before ≡ Some rest → (new.ended ≡ true → AtEnd now) → length new.bytes ≤ 65536
     → front (is_later old) (reader_ahead old rest) ≡ Page raw used
     → length (drop used (reader_ahead old rest)) ≤ length (drop (length gives.answers.more) rest) + 65536
-page_near settings old new before now page rest raw used gives is at_end within here =
+page_near manner old new before now page rest raw used gives is at_end within here =
     let more : List ℕ = gives.answers.more in
     let left : List ℕ = drop (length more) rest in
     let whole = first_taken before more rest gives.answers.moves.told is in
-    let same : Page gives.raw gives.used ≡ Page raw used = sym (same_page settings old new before now page rest gives is at_end) ∙ here in
+    let same : Page gives.raw gives.used ≡ Page raw used = sym (same_page manner old new before now page rest gives is at_end) ∙ here in
     let same_used : gives.used ≡ used = cc in
     let few : length (drop gives.used (reader_ahead old more)) ≤ 65536 = subst (λ (l : List ℕ). length l ≤ 65536) gives.left within in
     let P : List ℕ → Type 0 = λ l. length (drop used (reader_ahead old l)) ≤ length left + 65536 in
     let Q : ℕ → Type 0 = λ n. length (drop n (reader_ahead old (more ++ left))) ≤ length left + 65536 in
     subst P (sym whole) (subst Q same_used (left_near old.skip gives.used old.bytes more left few))
 
-pub reads_page : (settings : Settings) (old new : Reader) (before now : Option Files) (page : Pixels)
-    → GivesPage settings.level settings.invert old before page new now
-    → IfSome (unread before) (λ rest. TellsPage settings.level settings.invert old rest page new now)
-    → (new.ended ≡ true → AtEnd now) → length new.bytes ≤ 65536 → ReadsPage settings old before page new now
-reads_page settings old new before now page gives tells at_end within = by_told (unread before) refl tells where
-  by_told : (o : Option (List ℕ)) → unread before ≡ o → IfSome o (λ rest. TellsPage settings.level settings.invert old rest page new now) → ReadsPage settings old before page new now
+pub reads_page : (manner : Manner) (old new : Reader) (before now : Option Files) (page : Pixels)
+    → GivesPage manner.level manner.invert old before page new now
+    → IfSome (unread before) (λ rest. TellsPage manner.level manner.invert old rest page new now)
+    → (new.ended ≡ true → AtEnd now) → length new.bytes ≤ 65536 → ReadsPage manner old before page new now
+reads_page manner old new before now page gives tells at_end within = by_told (unread before) refl tells where
+  by_told : (o : Option (List ℕ)) → unread before ≡ o → IfSome o (λ rest. TellsPage manner.level manner.invert old rest page new now) → ReadsPage manner old before page new now
   by_told None is h = record {
     raw = gives.raw;
     used = gives.used;
@@ -160,7 +161,7 @@ reads_page settings old new before now page gives tells at_end within = by_told 
     shows = gives.shows;
     told = subst (λ (o : Option (List ℕ)). IfSome (option_map (reader_ahead old) o)
         (λ bytes. (front (is_later old) bytes ≡ Page gives.raw gives.used) × (ahead new now ≡ Some (drop (next_begins bytes gives.raw gives.used) bytes)))) (sym is) tt;
-    settled = settles settings old new before now page gives;
+    settled = settles manner old new before now page gives;
     near = subst (λ (o : Option (List ℕ)). IfSome o
         (λ rest. (left : List ℕ) × (unread now ≡ Some left) × (length (drop gives.used (reader_ahead old rest)) ≤ length left + 65536))) (sym is) tt;
     counted = gives.counted;
@@ -180,39 +181,30 @@ reads_page settings old new before now page gives tells at_end within = by_told 
         told = subst (λ (o : Option (List ℕ)). IfSome (option_map (reader_ahead old) o)
             (λ bytes. (front (is_later old) bytes ≡ Page h.raw h.used) × (ahead new now ≡ Some (drop (next_begins bytes h.raw h.used) bytes)))) (sym is)
             (h.is, ap (option_map (reader_ahead new)) still ∙ ap Some left);
-        settled = settles_told settings old new before now page rest gives is h.raw h.used h.is;
+        settled = settles_told manner old new before now page rest gives is h.raw h.used h.is;
         near = subst (λ (o : Option (List ℕ)). IfSome o
             (λ rest. (left : List ℕ) × (unread now ≡ Some left) × (length (drop h.used (reader_ahead old rest)) ≤ length left + 65536))) (sym is)
-            (drop (length gives.answers.more) rest, still, page_near settings old new before now page rest h.raw h.used gives is at_end within h.is);
+            (drop (length gives.answers.more) rest, still, page_near manner old new before now page rest h.raw h.used gives is at_end within h.is);
         counted = gives.counted;
         going_on = gives.going_on;
       }
 
 -- what the reader gives is a page: its sides are in range
-pub given_page : (settings : Settings) (old new : Reader) (before now : Option Files) (page : Pixels)
-    → GivesPage settings.level settings.invert old before page new now → IsPage page
-given_page settings old new before now page gives =
+pub given_page : (manner : Manner) (old new : Reader) (before now : Option Files) (page : Pixels)
+    → GivesPage manner.level manner.invert old before page new now → IsPage page
+given_page manner old new before now page gives =
     let bytes : List ℕ = reader_ahead old gives.answers.more in
-    let P : Raw → Type 0 = λ raw. IsPage (shown settings.level settings.invert raw) in
+    let P : Raw → Type 0 = λ raw. IsPage (shown_by manner raw) in
     let (raws, ending, pages) = file_pages_some true (drop (next_begins bytes gives.raw gives.used) bytes) in
     let all : FilePages (is_later old) bytes (gives.raw ∷ raws) ending = Next gives.answers.is pages in
-    subst IsPage (sym gives.shows) (All-head P gives.raw raws (pages_shown settings.level settings.invert all))
+    subst IsPage (sym gives.shows) (All-head P gives.raw raws (pages_shown manner.level manner.invert all))
 
--- why a refused page ends the reading
-pub fault_ends : (f : InFault) (o : Option (List ℕ)) (g : List ℕ → List ℕ) (later : Bool)
-    → IfSome o (λ rest. IfSays (cause_of_fault f) (λ ending. front later (g rest) ≡ Ends ending))
-    → EndsReading later (option_map g o) (end_of_fault f)
-fault_ends fault.ReadFault o g later h = tt
-fault_ends fault.NoMemory o g later h = tt
-fault_ends fault.UnknownFormat o g later h = (UnknownFormat, refl, mapped o g (λ all. front later all ≡ Ends (Refused UnknownFormat)) h)
-fault_ends fault.BadHeader o g later h = (BadHeader, refl, mapped o g (λ all. front later all ≡ Ends (Refused BadHeader)) h)
-fault_ends fault.ZeroSide o g later h = (ZeroSide, refl, mapped o g (λ all. front later all ≡ Ends (Refused ZeroSide)) h)
-fault_ends fault.TooLarge o g later h = (TooLarge, refl, mapped o g (λ all. front later all ≡ Ends (Refused TooLarge)) h)
-fault_ends fault.Truncated o g later h = (Truncated, refl, mapped o g (λ all. front later all ≡ Ends (Refused Truncated)) h)
-fault_ends fault.BadRaster o g later h = (BadRaster, refl, mapped o g (λ all. front later all ≡ Ends (Refused BadRaster)) h)
-fault_ends fault.BmpKind o g later h = (BmpKind, refl, mapped o g (λ all. front later all ≡ Ends (Refused BmpKind)) h)
-fault_ends fault.BadOffset o g later h = (BadOffset, refl, mapped o g (λ all. front later all ≡ Ends (Refused BadOffset)) h)
-fault_ends fault.TooLong o g later h = (TooLong, refl, mapped o g (λ all. front later all ≡ Ends (Refused TooLong)) h)
+-- how the inputs' count of faults moved with a fault
+pub fault_counts : (f : InFault) (before now : ℕ) → IfSays (cause_of_fault f) (λ ending. now ≡ before) → (f ≡ fault.ReadFault → Rose before now)
+    → FaultsBy (why.Fault f) before now
+fault_counts fault.ReadFault before now steady rose = rose refl
+fault_counts fault.NoMemory before now steady rose = tt
+fault_counts f before now steady rose = steady
 
 -- taking bytes keeps the opened file's name
 name-with_read : (before : Option Files) (n : ℕ) → opened_name (with_read before n) ≡ opened_name before
@@ -226,9 +218,9 @@ pub name_taken : (old new : Reader) (before now : Option Files) → TakesNeeded 
 name_taken old new before now takes = ap opened_name takes.moves.files ∙ name-with_read before (length takes.more)
 
 -- taken as far as that is needed: for a page
-pub takes_page : (settings : Settings) (old new : Reader) (before now : Option Files) (page : Pixels)
-    → GivesPage settings.level settings.invert old before page new now → TakesNeeded old before new now
-takes_page settings old new before now page gives = record { more = gives.answers.more; moves = gives.answers.moves; needed = gives.answers.needed }
+pub takes_page : (manner : Manner) (old new : Reader) (before now : Option Files) (page : Pixels)
+    → GivesPage manner.level manner.invert old before page new now → TakesNeeded old before new now
+takes_page manner old new before now page gives = record { more = gives.answers.more; moves = gives.answers.moves; needed = gives.answers.needed }
 
 -- for an end
 pub takes_ending : (ending : Ending) (old new : Reader) (before now : Option Files) → GivesEnding old before ending new now → TakesNeeded old before new now
@@ -243,15 +235,7 @@ fault_takes fault.ReadFault old new before now ends fails wants =
     record { more = r.more; moves = r.moves; needed = record { before = r.more; block = []; split = sym (append-nil r.more); within = omega arith; undecided = inr r.by_end } }
 fault_takes fault.NoMemory old new before now ends fails wants =
     let m = wants refl in record { more = m.more; moves = m.moves; needed = m.needed }
-fault_takes fault.UnknownFormat old new before now ends fails wants = takes_ending (Refused UnknownFormat) old new before now ends
-fault_takes fault.BadHeader old new before now ends fails wants = takes_ending (Refused BadHeader) old new before now ends
-fault_takes fault.ZeroSide old new before now ends fails wants = takes_ending (Refused ZeroSide) old new before now ends
-fault_takes fault.TooLarge old new before now ends fails wants = takes_ending (Refused TooLarge) old new before now ends
-fault_takes fault.Truncated old new before now ends fails wants = takes_ending (Refused Truncated) old new before now ends
-fault_takes fault.BadRaster old new before now ends fails wants = takes_ending (Refused BadRaster) old new before now ends
-fault_takes fault.BmpKind old new before now ends fails wants = takes_ending (Refused BmpKind) old new before now ends
-fault_takes fault.BadOffset old new before now ends fails wants = takes_ending (Refused BadOffset) old new before now ends
-fault_takes fault.TooLong old new before now ends fails wants = takes_ending (Refused TooLong) old new before now ends
+fault_takes f old new before now ends fails wants = takes_ending _ old new before now ends
 
 -- taking bytes keeps what the files hold
 contents-with_read : (before : Option Files) (n : ℕ) → told_contents (with_read before n) ≡ told_contents before

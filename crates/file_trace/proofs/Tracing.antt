@@ -5,6 +5,7 @@ use Rattle.std.proofs.lemmas.Bool.Decides.{nat_tests}
 use Rattle.std.proofs.lemmas.List.{append-nil}
 use Rattle.pt_base.specs.Files.{Files, unread}
 use Rattle.bit_image.specs.Page.{Page as Pixels}
+use Rattle.bitmap_input.specs.declared.fault.InFault.TheVariants as fault
 use Rattle.bitmap_input.specs.Cut.{is_by_end}
 use Rattle.bitmap_input.specs.Raw.{Raw}
 use Rattle.bitmap_input.specs.Front.{front, page_at}
@@ -12,45 +13,45 @@ use Rattle.bitmap_input.specs.Front.Answer.{Page}
 use Rattle.bitmap_input.specs.FilePages.{next_begins}
 use Rattle.bitmap_input.specs.Reading.{Moves}
 use Rattle.bitmap_input.specs.Reader.{Reader, ReadFails, ahead as reader_ahead, at_start, is_later as reader_is_later}
-use Rattle.page_trace.specs.Document.{IsDocument}
 use Rattle.run_output.specs.Names.{made_with, next_name}
 use Rattle.run_output.specs.Made.{most_pages}
 use Rattle.run_output.specs.declared.status.Status.{Status}
 use Rattle.run_output.specs.declared.status.Status.TheVariants as status
 use Rattle.run_output.proofs.Naming.{made_with-in}
-use Rattle.file_trace.specs.Held.{AreHeld, Held, Holds, pages_held}
-use Rattle.file_trace.specs.Items.{Item}
-use Rattle.file_trace.specs.Items.Item.{Doc}
-use Rattle.file_trace.specs.Outcome.{BeginsSettled, BeginsWith, HasEnded, LeavesBehind, ReadsNear, Sinks, is_later}
-use Rattle.file_trace.specs.Progress.{AreTraced, EndsBy, EndsReading, Halts, HasUnread, IsInBatch, ReadsPage, Settles, TakesNeeded, Traces, ahead, docs}
-use Rattle.pt_base.specs.declared.settings.Settings.{Settings}
+use Rattle.run_output.specs.declared.part.Binding.TheVariants.{Apart}
+use Rattle.page_batches.specs.Held.{AreHeld, Held, Holds, pages_held}
+use Rattle.page_batches.specs.Items.{Doc, Item}
+use Rattle.page_batches.specs.Outcome.{HasEnded, Sinks}
+use Rattle.page_batches.proofs.Holding.{all_held, ended_behind, holds_on}
+use Rattle.file_trace.specs.Manner.{Manner}
+use Rattle.file_trace.specs.Outcome.{BeginsSettled, BeginsWith, LeavesBehind, ReadsNear, is_later}
+use Rattle.file_trace.specs.Progress.{AreTraced, EndsBy, Halts, HasUnread, IsInBatch, ReadsPage, Settles, TakesNeeded, Traces, ahead, docs}
 use Rattle.file_trace.specs.declared.pages.PagesEnd.{PagesEnd}
 use Rattle.file_trace.specs.declared.pages.PagesEnd.TheVariants as why
-use Rattle.file_trace.proofs.Holding.{all_held, ended_behind, holds_on}
 use Rattle.file_trace.proofs.OnePass.{batch_halts}
 use Rattle.file_trace.proofs.Paging.{AreTraced-more, BeginsSettled-more, BeginsWith-more, LeavesBehind-more}
 use Rattle.file_trace.proofs.Reading.{first_taken, unread-with_read}
 
 -- the first k pages were read; of what was held before and their documents, which have these texts, the first
 -- are carried out, and the others are held; the reader stands behind the pages
-pub record IsTraced (size : ℕ) (settings : Settings) (base : List ℕ) (made : List (List ℕ)) (bytes : Option (List ℕ)) (reader : Reader) (files : Option Files) (held held_now : List Held) (old new : Sinks) (k : ℕ) : Type 0 where
+pub record IsTraced (size : ℕ) (manner : Manner) (base : List ℕ) (made : List (List ℕ)) (bytes : Option (List ℕ)) (reader : Reader) (files : Option Files) (held held_now : List Held) (old new : Sinks) (k : ℕ) : Type 0 where
   pub raws : List Raw
   pub texts : List (List ℕ)
   pub taken : List ℕ
   pub count : k ≡ length raws
-  pub traced : AreTraced settings raws texts
+  pub traced : AreTraced manner raws texts
   pub begins : IfSome bytes (λ all. (left : List ℕ) × (ahead reader files ≡ Some left) × BeginsWith false all raws left)
   pub told : IfSome bytes (λ all. (rest : List ℕ) × (all ≡ taken ++ rest) × (unread files ≡ Some rest))
   pub settled : reader.ended ≡ false → (tail : List ℕ) → BeginsSettled false (taken ++ tail) raws (reader_ahead reader tail)
   pub near : IfSome bytes (λ all. (behind : List ℕ) × (rest : List ℕ) × LeavesBehind false all raws behind × (unread files ≡ Some rest) × (length behind ≤ length rest + 65536))
-  pub holds : (first : List Item) → AreHeld settings held first → Holds size settings (first ++ docs base made texts) held_now old new
+  pub holds : (first : List Item) → AreHeld Apart manner.belongs held first → Holds Apart size manner.belongs (first ++ docs base made texts) held_now old new
   pub counted : reader.pages ≡ k
   pub going_on : reader.over ≡ false
 
 -- nothing is traced yet
-pub none_traced : (size : ℕ) (settings : Settings) (base : List ℕ) (made : List (List ℕ)) (files : Option Files) (held : List Held) (a : Sinks)
-    → IsTraced size settings base made (unread files) at_start files held held a a 0
-none_traced size settings base made files held a = record {
+pub none_traced : (size : ℕ) (manner : Manner) (base : List ℕ) (made : List (List ℕ)) (files : Option Files) (held : List Held) (a : Sinks)
+    → IsTraced size manner base made (unread files) at_start files held held a a 0
+none_traced size manner base made files held a = record {
   raws = [];
   texts = [];
   taken = [];
@@ -60,7 +61,7 @@ none_traced size settings base made files held a = record {
   told = all_left (unread files);
   settled = λ _ tail. refl;
   near = all_near (unread files);
-  holds = λ first are. rw (append-nil first) (all_held size settings held first a are);
+  holds = λ first are. rw (append-nil first) (all_held Apart size manner.belongs held first a are);
   counted = refl;
   going_on = refl;
 } where
@@ -107,22 +108,22 @@ still_going : (ended ended_now : Bool) → (ended ≡ true → ended_now ≡ tru
 still_going false ended_now stays going = refl
 still_going true ended_now stays going = absurd (let wrong : true ≡ false = sym (stays refl) ∙ going in cc)
 
-settled_more : (settings : Settings) (bytes : List ℕ) (old new : Reader) (before after : Option Files) (page : Pixels) (raws : List Raw)
+settled_more : (manner : Manner) (bytes : List ℕ) (old new : Reader) (before after : Option Files) (page : Pixels) (raws : List Raw)
     → (later : reader_is_later old ≡ is_later false raws) → (old.ended ≡ false → (tail : List ℕ) → BeginsSettled false (bytes ++ tail) raws (reader_ahead old tail))
-    → (p : ReadsPage settings old before page new after) → new.ended ≡ false → (tail : List ℕ)
+    → (p : ReadsPage manner old before page new after) → new.ended ≡ false → (tail : List ℕ)
     → BeginsSettled false ((bytes ++ p.more) ++ tail) (raws ++ p.raw ∷ []) (reader_ahead new tail)
-settled_more settings bytes old new before after page raws later settled p going tail =
+settled_more manner bytes old new before after page raws later settled p going tail =
     let was : old.ended ≡ false = still_going old.ended new.ended (λ e. (p.moves.stopped e).1) going in
     let next = subst (λ l. Settles l (reader_ahead old (p.more ++ tail)) p.raw p.used (reader_ahead new tail)) later (p.settled going tail) in
     subst (λ bs. BeginsSettled false bs (raws ++ p.raw ∷ []) (reader_ahead new tail)) (sym (append_assoc bytes p.more tail))
     (BeginsSettled-more false (bytes ++ (p.more ++ tail)) raws (reader_ahead old (p.more ++ tail)) p.raw p.used (reader_ahead new tail) (settled was (p.more ++ tail)) next)
 
 -- little is taken behind one page more
-near_more : (settings : Settings) (bytes : Option (List ℕ)) (old new : Reader) (before now : Option Files) (page : Pixels) (raws : List Raw) → reader_is_later old ≡ is_later false raws
-    → IfSome bytes (λ all. (left : List ℕ) × (ahead old before ≡ Some left) × BeginsWith false all raws left) → (p : ReadsPage settings old before page new now)
+near_more : (manner : Manner) (bytes : Option (List ℕ)) (old new : Reader) (before now : Option Files) (page : Pixels) (raws : List Raw) → reader_is_later old ≡ is_later false raws
+    → IfSome bytes (λ all. (left : List ℕ) × (ahead old before ≡ Some left) × BeginsWith false all raws left) → (p : ReadsPage manner old before page new now)
     → IfSome bytes (λ all. (behind : List ℕ) × (rest : List ℕ) × LeavesBehind false all (raws ++ p.raw ∷ []) behind × (unread now ≡ Some rest) × (length behind ≤ length rest + 65536))
-near_more settings None old new before now page raws same begins p = tt
-near_more settings (Some all) old new before now page raws same (left, is, b) p = by_rest (unread before) refl where
+near_more manner None old new before now page raws same begins p = tt
+near_more manner (Some all) old new before now page raws same (left, is, b) p = by_rest (unread before) refl where
   by_rest : (o : Option (List ℕ)) → unread before ≡ o
       → (behind : List ℕ) × (rest : List ℕ) × LeavesBehind false all (raws ++ p.raw ∷ []) behind × (unread now ≡ Some rest) × (length behind ≤ length rest + 65536)
   by_rest None e = absurd (let no : None ≡ Some left = sym (ap (option_map (reader_ahead old)) e) ∙ is in cc)
@@ -186,11 +187,11 @@ docs-more base made (t ∷ texts) text =
     ∙ ap (λ m. docs base (base ∷ made) texts ++ Doc (next_name base m) text ∷ []) (made_with-in base (length texts) made))
 
 -- a text for each page
-pub traced_length : (settings : Settings) (raws : List Raw) (texts : List (List ℕ)) → AreTraced settings raws texts → length raws ≡ length texts
-traced_length settings [] [] t = refl
-traced_length settings (raw ∷ raws) (text ∷ texts) t = ap suc (traced_length settings raws texts t.1)
-traced_length settings [] (text ∷ texts) t = absurd t
-traced_length settings (raw ∷ raws) [] t = absurd t
+pub traced_length : (manner : Manner) (raws : List Raw) (texts : List (List ℕ)) → AreTraced manner raws texts → length raws ≡ length texts
+traced_length manner [] [] t = refl
+traced_length manner (raw ∷ raws) (text ∷ texts) t = ap suc (traced_length manner raws texts t.1)
+traced_length manner [] (text ∷ texts) t = absurd t
+traced_length manner (raw ∷ raws) [] t = absurd t
 
 -- the items before, and then the documents of one text more
 items_more : (base : List ℕ) (made : List (List ℕ)) (first : List Item) (texts : List (List ℕ)) (text : List ℕ) (k : ℕ) → k ≡ length texts
@@ -201,11 +202,11 @@ items_more base made first texts text k count =
     ∙ ap (λ l. first ++ l) (sym (docs-more base made texts text))
 
 -- one page more is read, and what has to be done of its document is held or carried out
-pub one_more : (size : ℕ) (settings : Settings) (base : List ℕ) (made : List (List ℕ)) (bytes : Option (List ℕ)) (old new : Reader) (before after : Option Files) (held mid_held held_now : List Held) (a b c : Sinks) (k : ℕ) (page : Pixels) (text : List ℕ)
-    → IsTraced size settings base made bytes old before held mid_held a b k → ReadsPage settings old before page new after → IsDocument page settings text
-    → ((left : List Item) → AreHeld settings mid_held left → Holds size settings (left ++ Doc (next_name base (made_with base k made)) text ∷ []) held_now b c)
-    → IsTraced size settings base made bytes new after held held_now a c (k + 1)
-one_more size settings base made bytes old new before after held mid_held held_now a b c k page text t p is_text holds =
+pub one_more : (size : ℕ) (manner : Manner) (base : List ℕ) (made : List (List ℕ)) (bytes : Option (List ℕ)) (old new : Reader) (before after : Option Files) (held mid_held held_now : List Held) (a b c : Sinks) (k : ℕ) (page : Pixels) (text : List ℕ)
+    → IsTraced size manner base made bytes old before held mid_held a b k → ReadsPage manner old before page new after → manner.belongs page text
+    → ((left : List Item) → AreHeld Apart manner.belongs mid_held left → Holds Apart size manner.belongs (left ++ Doc (next_name base (made_with base k made)) text ∷ []) held_now b c)
+    → IsTraced size manner base made bytes new after held held_now a c (k + 1)
+one_more size manner base made bytes old new before after held mid_held held_now a b c k page text t p is_text holds =
     let later = later_is old t.raws k t.counted t.count in
     let doc = Doc (next_name base (made_with base k made)) text in
     record {
@@ -213,13 +214,13 @@ one_more size settings base made bytes old new before after held mid_held held_n
       texts = t.texts ++ text ∷ [];
       taken = t.taken ++ p.more;
       count = rw length-append (omega (arith, t.count));
-      traced = AreTraced-more settings t.raws t.texts p.raw text t.traced (subst (λ pixels. IsDocument pixels settings text) p.shows is_text);
+      traced = AreTraced-more manner t.raws t.texts p.raw text t.traced (subst (λ pixels. manner.belongs pixels text) p.shows is_text);
       begins = begins_more bytes (ahead old before) (ahead new after) t.raws p.raw p.used (reader_is_later old) later t.begins p.told;
       told = told_more bytes before after t.taken p.more old.ended new.ended p.moves t.told;
-      settled = settled_more settings t.taken old new before after page t.raws later t.settled p;
-      near = near_more settings bytes old new before after page t.raws later t.begins p;
-      holds = λ first are. subst (λ l. Holds size settings l held_now a c) (items_more base made first t.texts text k (t.count ∙ traced_length settings t.raws t.texts t.traced))
-          (holds_on size settings (first ++ docs base made t.texts) (doc ∷ []) mid_held held_now a b c (t.holds first are) holds);
+      settled = settled_more manner t.taken old new before after page t.raws later t.settled p;
+      near = near_more manner bytes old new before after page t.raws later t.begins p;
+      holds = λ first are. subst (λ l. Holds Apart size manner.belongs l held_now a c) (items_more base made first t.texts text k (t.count ∙ traced_length manner t.raws t.texts t.traced))
+          (holds_on Apart size manner.belongs (first ++ docs base made t.texts) (doc ∷ []) mid_held held_now a b c (t.holds first are) holds);
       counted = omega (arith, p.counted, t.counted);
       going_on = p.going_on;
     }
@@ -236,11 +237,11 @@ no_less [] raw = λ e. cc
 no_less (first ∷ raws) raw = λ e. cc
 
 -- one page more is read, and what was held with it couldn't be carried out
-pub halted : (s : Status) (size : ℕ) (settings : Settings) (base : List ℕ) (made : List (List ℕ)) (start : Option Files) (old new : Reader) (before after : Option Files) (held mid_held : List Held) (a b c : Sinks) (k : ℕ) (page : Pixels) (text : List ℕ)
-    → IsTraced size settings base made (unread start) old before held mid_held a b k → ReadsPage settings old before page new after → IsDocument page settings text
-    → ((left : List Item) → AreHeld settings mid_held left → HasEnded s (left ++ Doc (next_name base (made_with base k made)) text ∷ []) b c)
-    → k + length made < most_pages → (s ≡ status.Unwritten → pages_held mid_held + 1 ≡ size) → Halts s size settings base made start after held a c
-halted s size settings base made start old new before after held mid_held a b c k page text t p is_text ended few full =
+pub halted : (s : Status) (size : ℕ) (manner : Manner) (base : List ℕ) (made : List (List ℕ)) (start : Option Files) (old new : Reader) (before after : Option Files) (held mid_held : List Held) (a b c : Sinks) (k : ℕ) (page : Pixels) (text : List ℕ)
+    → IsTraced size manner base made (unread start) old before held mid_held a b k → ReadsPage manner old before page new after → manner.belongs page text
+    → ((left : List Item) → AreHeld Apart manner.belongs mid_held left → HasEnded s (left ++ Doc (next_name base (made_with base k made)) text ∷ []) b c)
+    → k + length made < most_pages → (s ≡ status.Unwritten → pages_held mid_held + 1 ≡ size) → Halts s size manner base made start after held a c
+halted s size manner base made start old new before after held mid_held a b c k page text t p is_text ended few full =
     let doc = Doc (next_name base (made_with base k made)) text in
     let later = later_is old t.raws k t.counted t.count in
     let begins = begins_more (unread start) (ahead old before) (ahead new after) t.raws p.raw p.used (reader_is_later old) later t.begins p.told in
@@ -248,21 +249,21 @@ halted s size settings base made start old new before after held mid_held a b c 
       raws = t.raws ++ p.raw ∷ [];
       texts = t.texts ++ text ∷ [];
       few = rw length-append (omega (arith, t.count, few));
-      traced = AreTraced-more settings t.raws t.texts p.raw text t.traced (subst (λ pixels. IsDocument pixels settings text) p.shows is_text);
+      traced = AreTraced-more manner t.raws t.texts p.raw text t.traced (subst (λ pixels. manner.belongs pixels text) p.shows is_text);
       begins = just_begins (unread start) (ahead new after) (t.raws ++ p.raw ∷ []) begins;
       some = no_less t.raws p.raw;
-      near = near_more settings (unread start) old new before after page t.raws later t.begins p;
-      in_batch = λ is first are. subst (λ l. IsInBatch size l a c) (items_more base made first t.texts text k (t.count ∙ traced_length settings t.raws t.texts t.traced))
-          (batch_halts size settings (first ++ docs base made t.texts) (next_name base (made_with base k made)) text mid_held a b c (t.holds first are)
+      near = near_more manner (unread start) old new before after page t.raws later t.begins p;
+      in_batch = λ is first are. subst (λ l. IsInBatch size l a c) (items_more base made first t.texts text k (t.count ∙ traced_length manner t.raws t.texts t.traced))
+          (batch_halts size manner (first ++ docs base made t.texts) (next_name base (made_with base k made)) text mid_held a b c (t.holds first are)
           (λ left held. subst (λ v. HasEnded v (left ++ doc ∷ []) b c) is (ended left held)) (full is));
-      ended = λ first are. subst (λ l. HasEnded s l a c) (items_more base made first t.texts text k (t.count ∙ traced_length settings t.raws t.texts t.traced))
-          (ended_behind s size settings (first ++ docs base made t.texts) (doc ∷ []) mid_held a b c (t.holds first are) ended);
+      ended = λ first are. subst (λ l. HasEnded s l a c) (items_more base made first t.texts text k (t.count ∙ traced_length manner t.raws t.texts t.traced))
+          (ended_behind s Apart size manner.belongs (first ++ docs base made t.texts) (doc ∷ []) mid_held a b c (t.holds first are) ended);
     }
 
 -- a read failed behind the pages that were read
-unread_more : (size : ℕ) (settings : Settings) (base : List ℕ) (made : List (List ℕ)) (start : Option Files) (reader after : Reader) (files now : Option Files) (held held_now : List Held) (a b : Sinks) (k : ℕ)
-    → (t : IsTraced size settings base made (unread start) reader files held held_now a b k) → ReadFails reader files after now → HasUnread t.raws start now
-unread_more size settings base made start reader after files now held held_now a b k t fails =
+unread_more : (size : ℕ) (manner : Manner) (base : List ℕ) (made : List (List ℕ)) (start : Option Files) (reader after : Reader) (files now : Option Files) (held held_now : List Held) (a b : Sinks) (k : ℕ)
+    → (t : IsTraced size manner base made (unread start) reader files held held_now a b k) → ReadFails reader files after now → HasUnread t.raws start now
+unread_more size manner base made start reader after files now held held_now a b k t fails =
     let was : reader.ended ≡ false = still_going reader.ended after.ended (λ e. (fails.moves.stopped e).1) fails.going_on in
     record {
       taken = t.taken ++ fails.more;
@@ -275,12 +276,12 @@ unread_more size settings base made start reader after files now held held_now a
     }
 
 -- no page more is read
-pub no_more : (size : ℕ) (settings : Settings) (base : List ℕ) (made : List (List ℕ)) (start : Option Files) (reader after : Reader) (files files_now : Option Files) (held held_now : List Held) (a b : Sinks) (k : ℕ) (end : PagesEnd)
-    → IsTraced size settings base made (unread start) reader files held held_now a b k
-    → EndsBy (reader_is_later reader) (ahead reader files) end → (end ≡ why.Unread → ReadFails reader files after files_now) → TakesNeeded reader files after files_now
+pub no_more : (size : ℕ) (manner : Manner) (base : List ℕ) (made : List (List ℕ)) (start : Option Files) (reader after : Reader) (files files_now : Option Files) (held held_now : List Held) (a b : Sinks) (k : ℕ) (end : PagesEnd)
+    → IsTraced size manner base made (unread start) reader files held held_now a b k
+    → EndsBy (reader_is_later reader) (ahead reader files) end → (end ≡ why.Fault fault.ReadFault → ReadFails reader files after files_now) → TakesNeeded reader files after files_now
     → k + length made ≤ most_pages → (end ≡ why.TooMany → most_pages ≤ k + length made)
-    → Traces size settings base made start files_now held held_now a b k end
-no_more size settings base made start reader after files files_now held held_now a b k end t ends fails takes few full = record {
+    → Traces size manner base made start files_now held held_now a b k end
+no_more size manner base made start reader after files files_now held held_now a b k end t ends fails takes few full = record {
   raws = t.raws;
   texts = t.texts;
   count = t.count;
@@ -290,16 +291,7 @@ no_more size settings base made start reader after files files_now held held_now
   begins = t.begins;
   ends = subst (λ l. EndsBy l (ahead reader files) end) (later_is reader t.raws k t.counted t.count) ends;
   full = full;
-  unread = λ e. unread_more size settings base made start reader after files files_now held held_now a b k t (fails e);
+  unread = λ e. unread_more size manner base made start reader after files files_now held held_now a b k t (fails e);
   near = near_end (unread start) reader after files files_now t.taken t.raws (later_is reader t.raws k t.counted t.count) t.near t.told t.settled takes;
   holds = t.holds;
 }
-
--- what ends the reading of a page ends that of the pages, and it isn't one too many
-pub ends_by : (later : Bool) (rest : Option (List ℕ)) (end : PagesEnd) → EndsReading later rest end → EndsBy later rest end × (end ≢ why.TooMany)
-ends_by later rest why.End ends = (ends, λ e. cc)
-ends_by later rest why.Trailing ends = (ends, λ e. cc)
-ends_by later rest (why.Refused fault) ends = (ends, λ e. cc)
-ends_by later rest why.Unread ends = (ends, λ e. cc)
-ends_by later rest why.OutOfMemory ends = (ends, λ e. cc)
-ends_by later rest why.TooMany ends = absurd ends

@@ -1,5 +1,15 @@
+-- The manner in which files become documents.
+--   Manner: how pages are read, how documents are named, and which texts belong to a page
+--   manner_by: the manner of these
+--   shown_by: the page that is read of a raw one
+--   base_by: the name by which all documents of a file go
+--   HasTexts: a text belongs to each page
+--   HasOneText: and only one
+pub mod Manner
+-- A task over files.
+--   manner_of: its manner
+pub mod Tasks
 -- What a run over files is to write, in order.
---   Item: one thing to write
 --   too_many: the pages of the run are more than it accepts
 --   told_contents: what the files hold, where that is told
 --   IsAbsent: it is told that there is no file of this name
@@ -9,25 +19,10 @@
 --   AreEndItems: what follows the documents of a file that ends like this
 --   ArePageItems: the items of the pages of a file, and what follows them
 --   AreItems: the items of files in order, and what follows them
---   doc_count: how many of the items are documents
 pub mod Items
 -- What a run has done, against the items that it was to write.
---   Told: what a sink tells
---   told_of
---   Sinks: the outputs and the sink for messages
---   sinks_of: what outputs and a sink for messages tell
 --   Source: the inputs
 --   source_of: what inputs tell
---   GoesOn: the run goes on after each of the items
---   with_items: the documents of the items are added, whole and in order
---   notes: the messages of the notes, in order
---   IsMessage: a message was said
---   AreSaid: the messages were said
---   AreCarriedOut: these items are carried out, and then these messages were said
---   IsRefused: the last item is a page that is refused
---   IsUnwritten: all items before a document are carried out, and that document is cut off
---   IsOutOfMemory: some first items are carried out, and then memory ran out
---   HasEnded: the items are carried out as far as the status says
 --   OpensUpTo: the file of this name is the last one that was asked for
 --   opened_name: the name of the opened file, where that is told and a file is opened
 --   OpensFirst: nothing was opened; or the first of these files were
@@ -45,46 +40,46 @@ pub mod Items
 --   IsOutcomeBehind: what was done of first items, and of those of files
 --   IsOutcome: what was done of the items of files
 pub mod Outcome
--- What was read and isn't carried out yet.
---   Held: one thing that is held
---   pages_held: how many pages are held
---   AreHeld: these are the items of what is held
---   Holds: of the items that were read the first are carried out, and the others are held
-pub mod Held
 -- How far a run has read where a document couldn't be written.
 --   batch_end: how many pages there are up to the end of the batch of a document
 --   ReadsTo: so many pages were read, and at most 65,536 bytes behind them
 --   IfReadsTo: the same, where it is told what the files hold
 --   IsOnePass: no more was read than the batch of the document that couldn't be written
 pub mod OnePass
--- The entries of a batch, and the pages that they speak of.
---   pages_among: how many pages these entries speak of
---   held_by: what these entries hold, where these are their pages
---   items_by: the items of these entries, where these are the texts of their pages
-pub mod Entries
--- How far the tracing of a file has come.
+-- How far the reading of a file has come.
 --   AreTraced: these are the texts of these pages, in order
 --   docs: the items of the documents of these texts
 --   ahead: the bytes that the reader has still to read pages from, where they are told
 --   Settles: this page stands there, not by the end of the bytes
 --   ReadsPage: the next page of what is ahead was read
 --   TakesNeeded: bytes were taken, as far as what stands ahead needs them
---   EndsReading: no page was read for this reason
 --   EndsBy: no further page was read for this reason
---   end_of_fault: why no further page is read, where the reader tells of a fault
 --   status_of: the status with which a run ends where the pages of a file end so
 --   InputCount: how the inputs' count of faults moved
---   OutputCount: how the outputs moved
+--   FaultsBy: how it moved where the reading of pages ends so
+--   CanRead: a file is opened, and the reader stands in it
+--   EndsReading: the reading of pages ended for this reason
+--   Answered: the next page was read, or none was for this reason
+--   Takes: bytes were taken of the opened file, and no file was opened
+--   StaysIn: no file was opened
+--   CanHold: what is held waits for the pages of a file
+--   IsAtStart: a file was opened, and nothing is read of it
+--   AsksFor: the file of this name was asked for
 --   HasUnread: a read failed behind these pages
 --   Traces: k pages were read, and then the reading ended so
 --   IsInPart: a document couldn't be written, and the items behind whole batches fill no batch
 --   IsInBatch: a document of the last batch couldn't be written
 --   Halts: some pages were read, and then what was held couldn't be carried out
---   end_notes: the note of a file whose pages end so
+--   EndsPages: the reading of pages ended
+--   items_at_end: the items of the end of a file
 --   end_message: what is said where the run ends with the pages of a file
 --   EndsWithFile: the run ends with the pages of a file
 --   EndsWith: nothing follows, and these are the base names of the documents so far
 --   TracesFile: the items of a file are carried out or held
+--   EndsWithPages: the end of a file's pages is held, or the run ends there
+--   EndsBecause: the status of a run that ends with the pages of a file
+--   GoesOnAfter: the run goes on behind the pages of a file, or it ends there
+--   EndsFile: a file was traced, or the run ends there
 pub mod Progress
 -- How a run ends where a file can't be opened.
 --   EndsUnopened: all that was held is carried out, and that is said

@@ -3,12 +3,13 @@ use Rattle.std.specs.Prelude.{◌≡◌, ◌≢◌, ℕ, ◌+◌, ◌*◌, ◌/�
 use Rattle.std.specs.FinMap.{get}
 use Rattle.pt_base.specs.Counts.{Rose}
 use Rattle.pt_base.specs.Files.{Contents}
-use Rattle.pt_base.specs.declared.settings.Settings.{Settings}
 use Rattle.bitmap_input.specs.Cut.Ending.{End}
 use Rattle.bitmap_input.specs.Raw.{Raw}
-use Rattle.run_output.specs.Names.{base_name}
-use Rattle.file_trace.specs.Items.{AreItems, ArePageItems, Item, Nothing, doc_count}
-use Rattle.file_trace.specs.Outcome.{GoesOn, IsUnwritten, LeavesBehind, OpensUpTo, Sinks, Source}
+use Rattle.page_batches.specs.Items.{GoesOn, Item, page_count}
+use Rattle.page_batches.specs.Outcome.{IsUnwritten, Sinks}
+use Rattle.file_trace.specs.Items.{AreItems, ArePageItems, Nothing}
+use Rattle.file_trace.specs.Manner.{Manner, base_by}
+use Rattle.file_trace.specs.Outcome.{LeavesBehind, OpensUpTo, Source}
 
 -- in batches of so many pages, how many pages there are up to the end of the batch behind k whole documents
 abbrev pub batch_end : ℕ → ℕ → ℕ
@@ -16,7 +17,7 @@ batch_end size k = (k / size + 1) * size
 
 -- of the files of these names so many pages were read, behind these first items: the last one stands in the opened
 -- file, and of that file at most 65,536 bytes behind what it takes were taken
-pub record ReadsTo (pages : ℕ) (first : List Item) (contents : Contents) (settings : Settings) (output : Option (List ℕ)) (names made : List (List ℕ)) (source source_now : Source) : Type 0 where
+pub record ReadsTo (pages : ℕ) (first : List Item) (contents : Contents) (manner : Manner) (names made : List (List ℕ)) (source source_now : Source) : Type 0 where
   pub name : List ℕ
   pub front : List (List ℕ)
   pub bytes : List ℕ
@@ -30,20 +31,20 @@ pub record ReadsTo (pages : ℕ) (first : List Item) (contents : Contents) (sett
   pub begins : LeavesBehind false bytes raws behind
   pub opened : IfSome source_now.files (λ files. files.opened ≡ Some (record { name = name; rest = rest }))
   pub near : length behind ≤ length rest + 65536
-  pub items : AreItems (Some contents) settings output
-      (λ made items. ArePageItems settings name (base_name output settings.backend name) End Nothing raws 0 made items) front made before
+  pub items : AreItems (Some contents) manner
+      (λ made items. ArePageItems manner name (base_by manner name) End Nothing raws 0 made items) front made before
   pub goes_on : GoesOn before
-  pub count : doc_count (first ++ before) ≡ pages
+  pub count : page_count (first ++ before) ≡ pages
 
-abbrev pub IfReadsTo : ℕ → List Item → Option Contents → Settings → Option (List ℕ) → List (List ℕ) → List (List ℕ) → Source → Source → Type 0
-IfReadsTo pages first None settings output names made source source_now = Unit {0}
-IfReadsTo pages first (Some contents) settings output names made source source_now = ReadsTo pages first contents settings output names made source source_now
+abbrev pub IfReadsTo : ℕ → List Item → Option Contents → Manner → List (List ℕ) → List (List ℕ) → Source → Source → Type 0
+IfReadsTo pages first None manner names made source source_now = Unit {0}
+IfReadsTo pages first (Some contents) manner names made source source_now = ReadsTo pages first contents manner names made source source_now
 
 -- behind these first items, a document couldn't be written: where no input failed, and there are as many documents
 -- as fill that document's batch, no more was read than the batch
-pub record IsOnePass (size : ℕ) (first : List Item) (contents : Option Contents) (settings : Settings) (output : Option (List ℕ)) (names made : List (List ℕ)) (source source_now : Source) (old new : Sinks) : Type 0 where
+pub record IsOnePass (size : ℕ) (first : List Item) (contents : Option Contents) (manner : Manner) (names made : List (List ℕ)) (source source_now : Source) (old new : Sinks) : Type 0 where
   pub items : List Item
-  pub are : AreItems contents settings output Nothing names made items
+  pub are : AreItems contents manner Nothing names made items
   pub unwritten : IsUnwritten (first ++ items) old new
-  pub no_farther : (Rose source.faults source_now.faults → ⊥) → batch_end size (doc_count unwritten.before) ≤ doc_count (first ++ items)
-      → IfReadsTo (batch_end size (doc_count unwritten.before)) first contents settings output names made source source_now
+  pub no_farther : (Rose source.faults source_now.faults → ⊥) → batch_end size (page_count unwritten.before) ≤ page_count (first ++ items)
+      → IfReadsTo (batch_end size (page_count unwritten.before)) first contents manner names made source source_now

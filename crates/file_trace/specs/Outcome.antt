@@ -2,12 +2,8 @@
 use Rattle.std.specs.Prelude.{◌≡◌, ℕ, ◌+◌, ◌≤◌, ◌⊎◌, Bool, true, false, List, [], ◌∷◌, ◌++◌, length, min, drop, Option, None, Some, IfSome, option_map}
 use Rattle.std.specs.FinMap.{get}
 use Rattle.pt_base.specs.Counts.{Rose, last_count}
-use Rattle.pt_base.specs.Documents.{Documents, with_whole, IsCutOff, IsSaid}
-use Rattle.pt_base.specs.Failures.{Failures, StopsAtFailure, after_err}
 use Rattle.pt_base.specs.Files.{Contents, Files}
 use Rattle.pt_base.specs.declared.inputs.Inputs.{Ghosts as InputGhosts}
-use Rattle.pt_base.specs.declared.settings.Settings.{Settings}
-use Rattle.pt_base.specs.declared.sink.Sink.{Ghosts as SinkGhosts}
 use Rattle.bitmap_input.specs.Cut.{is_by_end}
 use Rattle.bitmap_input.specs.Cut.Ending.{End}
 use Rattle.bitmap_input.specs.FaultText.{cause_text}
@@ -16,33 +12,14 @@ use Rattle.bitmap_input.specs.Reading.Cause.{Device}
 use Rattle.bitmap_input.specs.Front.{front, page_at}
 use Rattle.bitmap_input.specs.Front.Answer.{Page}
 use Rattle.bitmap_input.specs.FilePages.{next_begins}
-use Rattle.run_output.specs.Names.{base_name}
-use Rattle.run_output.specs.Messages.{not_opened, not_written, out_of_memory, page_line}
+use Rattle.run_output.specs.Messages.{not_opened, page_line}
 use Rattle.run_output.specs.declared.status.Status.{Status}
 use Rattle.run_output.specs.declared.status.Status.TheVariants as status
-use Rattle.file_trace.specs.Items.{Item, AreItems, ArePageItems, IsAbsent, Nothing}
-use Rattle.file_trace.specs.Items.Item.{Doc, Note, Stop, Missing}
-
--- what a sink tells: its documents, its count of faults, and what its calls answered
-pub record Told : Type 0 where
-  pub documents : Option Documents
-  pub faults : ℕ
-  pub failures : Failures
-
-abbrev pub told_of : {A : Type 0} → SinkGhosts A → A → Told
-told_of of_sink sink =
-    record { documents = of_sink.documents sink; faults = of_sink.faults sink; failures = of_sink.failures sink }
-
--- the outputs, whether a document is open there, and the sink for messages
-pub record Sinks : Type 0 where
-  pub outs : Told
-  pub is_open : Bool
-  pub errs : Told
-
--- what outputs and a sink for messages tell
-abbrev pub sinks_of : {A B : Type 0} → SinkGhosts A → SinkGhosts B → A → B → Sinks
-sinks_of of_outs of_errs outs errs =
-    record { outs = told_of of_outs outs; is_open = of_outs.is_ready outs; errs = told_of of_errs errs }
+use Rattle.page_batches.specs.Items.{Item}
+use Rattle.page_batches.specs.Items.Item.{Stop}
+use Rattle.page_batches.specs.Outcome.{AreCarriedOut, HasEnded, Sinks}
+use Rattle.file_trace.specs.Items.{AreItems, ArePageItems, IsAbsent, Nothing, told_contents}
+use Rattle.file_trace.specs.Manner.{Manner, base_by}
 
 -- the inputs: the files that they tell, whether one is opened, how many openings there were, and their count
 -- of faults
@@ -60,86 +37,6 @@ source_of of_inputs inputs = record {
   openings = of_inputs.openings inputs;
   faults = of_inputs.faults inputs;
 }
-
--- the run goes on after each of the items
-abbrev pub GoesOn : List Item → Type 0
-GoesOn [] = Unit {0}
-GoesOn (Doc name text ∷ items) = GoesOn items
-GoesOn (Note message ∷ items) = GoesOn items
-GoesOn (Stop message ∷ items) = ⊥
-GoesOn (Missing name ∷ items) = ⊥
-
--- the documents of the items are added, whole and in order
-abbrev pub with_items : Option Documents → List Item → Option Documents
-with_items told [] = told
-with_items told (Doc name text ∷ items) = with_items (with_whole told name text) items
-with_items told (Note message ∷ items) = with_items told items
-with_items told (Stop message ∷ items) = with_items told items
-with_items told (Missing name ∷ items) = with_items told items
-
--- the messages of the notes, in order
-abbrev pub notes : List Item → List (List ℕ)
-notes [] = []
-notes (Doc name text ∷ items) = notes items
-notes (Note message ∷ items) = message ∷ notes items
-notes (Stop message ∷ items) = notes items
-notes (Missing name ∷ items) = notes items
-
--- a message was said: it is whole, or the count of faults rose and a front of it stands there; and no call failed, or
--- one did and it was the last, so that the rest of the message was given up
-pub record IsMessage (message : List ℕ) (old new : Told) : Type 0 where
-  pub said : IsSaid old.documents new.documents old.faults new.faults message
-  pub given_up : StopsAtFailure old.failures new.failures
-  pub never_falls : old.faults ≤ new.faults
-
--- these messages were said, one after another
-abbrev pub AreSaid : Told → Told → List (List ℕ) → Type 0
-AreSaid old new [] = new ≡ old
-AreSaid old new (message ∷ messages) = (mid : Told) × IsMessage message old mid × AreSaid mid new messages
-
--- these items are carried out: their documents are added, and no call of the outputs failed; and their notes were
--- said, and then these messages
-pub record AreCarriedOut (items : List Item) (last : List (List ℕ)) (old new : Sinks) : Type 0 where
-  pub goes_on : GoesOn items
-  pub documents : new.outs.documents ≡ with_items old.outs.documents items
-  pub went : new.outs.failures.count ≡ old.outs.failures.count
-  pub messages : AreSaid old.errs new.errs (notes items ++ last)
-
--- the last item is a page that is refused: all before it are carried out, and its message is the last one
-pub record IsRefused (items : List Item) (old new : Sinks) : Type 0 where
-  pub before : List Item
-  pub message : List ℕ
-  pub split : items ≡ before ++ Stop message ∷ []
-  pub done : AreCarriedOut before (message ∷ []) old new
-
--- all items before a document are carried out, and that document is cut off, by the one call of the outputs that
--- failed, which was the last one; the document's fault is the last message
-pub record IsUnwritten (items : List Item) (old new : Sinks) : Type 0 where
-  pub before : List Item
-  pub name : List ℕ
-  pub text : List ℕ
-  pub after : List Item
-  pub split : items ≡ before ++ Doc name text ∷ after
-  pub goes_on : GoesOn before
-  pub cut_off : IsCutOff (with_items old.outs.documents before) new.outs.documents name text
-  pub failed : new.outs.failures ≡ after_err old.outs.failures
-  pub messages : AreSaid old.errs new.errs (notes before ++ not_written name ∷ [])
-
--- some first items are carried out, and then memory ran out
-pub record IsOutOfMemory (items : List Item) (old new : Sinks) : Type 0 where
-  pub before : List Item
-  pub after : List Item
-  pub split : items ≡ before ++ after
-  pub done : AreCarriedOut before (out_of_memory ∷ []) old new
-
--- the items are carried out as far as the status says
-abbrev pub HasEnded : Status → List Item → Sinks → Sinks → Type 0
-HasEnded status.Done items old new = AreCarriedOut items [] old new
-HasEnded status.Refused items old new = IsRefused items old new
-HasEnded status.Unwritten items old new = IsUnwritten items old new
-HasEnded status.OutOfMemory items old new = IsOutOfMemory items old new
-HasEnded status.BadWords items old new = ⊥
-HasEnded status.Unread items old new = ⊥
 
 -- the file of this name is the last one that was asked for: those in front of it were opened before, each
 -- once and in order
@@ -163,14 +60,14 @@ OpensFirst names source source_now =
 
 -- a file can't be opened: it isn't there, or a device failed. The first items, and all items of the files in
 -- front of it, are carried out, and its message is the last one.
-pub record IsUnopened (first : List Item) (contents : Option Contents) (settings : Settings) (output : Option (List ℕ)) (names made : List (List ℕ)) (source source_now : Source) (old new : Sinks) : Type 0 where
+pub record IsUnopened (first : List Item) (contents : Option Contents) (manner : Manner) (names made : List (List ℕ)) (source source_now : Source) (old new : Sinks) : Type 0 where
   pub name : List ℕ
   pub front : List (List ℕ)
   pub before : List Item
   pub reached : OpensUpTo names name front source.openings source_now.openings
   pub closed : source_now.is_opened ≡ false
   pub cause : IsAbsent contents name ⊎ Rose source.faults source_now.faults
-  pub items : AreItems contents settings output Nothing front made before
+  pub items : AreItems contents manner Nothing front made before
   pub done : AreCarriedOut (first ++ before) (not_opened name ∷ []) old new
 
 -- the first pages of the bytes are these, and `rest` is what follows them
@@ -213,7 +110,7 @@ HoldsBytes (Some contents) name taken rest = get contents name ≡ Some (taken +
 
 -- a read failed: the first items, all items of the files in front of the opened one, and the documents of its
 -- pages that had been taken whole, are carried out, and the message of the page behind them is the last one
-pub record IsUnread (first : List Item) (contents : Option Contents) (settings : Settings) (output : Option (List ℕ)) (names made : List (List ℕ)) (source source_now : Source) (old new : Sinks) : Type 0 where
+pub record IsUnread (first : List Item) (contents : Option Contents) (manner : Manner) (names made : List (List ℕ)) (source source_now : Source) (old new : Sinks) : Type 0 where
   pub name : List ℕ
   pub front : List (List ℕ)
   pub taken : List ℕ
@@ -225,8 +122,8 @@ pub record IsUnread (first : List Item) (contents : Option Contents) (settings :
   pub bytes : HoldsBytes contents name taken rest
   pub rose : Rose source.faults source_now.faults
   pub stops : StopsReading taken raws
-  pub items : AreItems contents settings output
-      (λ made items. ArePageItems settings name (base_name output settings.backend name) End Nothing raws 0 made items) front made before
+  pub items : AreItems contents manner
+      (λ made items. ArePageItems manner name (base_by manner name) End Nothing raws 0 made items) front made before
   pub done : AreCarriedOut (first ++ before) (page_line name (length raws + 1) (cause_text Device) ∷ []) old new
 
 -- of these bytes, which begin with these pages, the `rest` ones are unread: no more than 65,536 were taken behind those
@@ -244,7 +141,7 @@ ReadsFileNear (Some contents) name raws rest = (bytes : List ℕ) × (get conten
 -- a page is refused: the first items, all items of the files in front of the opened one, and the documents of its pages
 -- in front of that page are carried out, and its message is the last one. No other file was opened, and this one is
 -- read no farther than that decides, but for 65,536 bytes.
-pub record IsStopped (first : List Item) (contents : Option Contents) (settings : Settings) (output : Option (List ℕ)) (names made : List (List ℕ)) (source source_now : Source) (old new : Sinks) : Type 0 where
+pub record IsStopped (first : List Item) (contents : Option Contents) (manner : Manner) (names made : List (List ℕ)) (source source_now : Source) (old new : Sinks) : Type 0 where
   pub name : List ℕ
   pub front : List (List ℕ)
   pub raws : List Raw
@@ -254,24 +151,24 @@ pub record IsStopped (first : List Item) (contents : Option Contents) (settings 
   pub reached : OpensUpTo names name front source.openings source_now.openings
   pub opened : IfSome source_now.files (λ files. files.opened ≡ Some (record { name = name; rest = rest }))
   pub near : ReadsFileNear contents name raws rest
-  pub items : AreItems contents settings output
-      (λ made items. ArePageItems settings name (base_name output settings.backend name) End Nothing raws 0 made items) front made before
-  pub all : AreItems contents settings output Nothing names made (before ++ Stop message ∷ [])
+  pub items : AreItems contents manner
+      (λ made items. ArePageItems manner name (base_by manner name) End Nothing raws 0 made items) front made before
+  pub all : AreItems contents manner Nothing names made (before ++ Stop message ∷ [])
   pub done : AreCarriedOut (first ++ before) (message ∷ []) old new
 
 -- what was done of these first items and those of the files of these names, after documents with these base
 -- names
-abbrev pub IsOutcomeBehind : Status → List Item → Option Contents → Settings → Option (List ℕ) → List (List ℕ) → List (List ℕ) → Source → Source → Sinks → Sinks → Type 0
-IsOutcomeBehind status.Unread first contents settings output names made source source_now old new =
-    IsUnopened first contents settings output names made source source_now old new ⊎ IsUnread first contents settings output names made source source_now old new
-IsOutcomeBehind status.Done first contents settings output names made source source_now old new =
-    (items : List Item) × AreItems contents settings output Nothing names made items × HasEnded status.Done (first ++ items) old new
+abbrev pub IsOutcomeBehind : Status → List Item → Option Contents → Manner → List (List ℕ) → List (List ℕ) → Source → Source → Sinks → Sinks → Type 0
+IsOutcomeBehind status.Unread first contents manner names made source source_now old new =
+    IsUnopened first contents manner names made source source_now old new ⊎ IsUnread first contents manner names made source source_now old new
+IsOutcomeBehind status.Done first contents manner names made source source_now old new =
+    (items : List Item) × AreItems contents manner Nothing names made items × HasEnded status.Done (first ++ items) old new
     × (source_now.openings ≡ min (source.openings + length names) last_count)
-IsOutcomeBehind status.Refused first contents settings output names made source source_now old new =
-    IsStopped first contents settings output names made source source_now old new
-IsOutcomeBehind s first contents settings output names made source source_now old new =
-    (items : List Item) × AreItems contents settings output Nothing names made items × HasEnded s (first ++ items) old new
+IsOutcomeBehind status.Refused first contents manner names made source source_now old new =
+    IsStopped first contents manner names made source source_now old new
+IsOutcomeBehind s first contents manner names made source source_now old new =
+    (items : List Item) × AreItems contents manner Nothing names made items × HasEnded s (first ++ items) old new
 
--- what was done of the items of the files of these names, after documents with these base names
-abbrev pub IsOutcome : Status → Option Contents → Settings → Option (List ℕ) → List (List ℕ) → List (List ℕ) → Source → Source → Sinks → Sinks → Type 0
-IsOutcome s contents settings output names made source source_now old new = IsOutcomeBehind s [] contents settings output names made source source_now old new
+-- what was done of the items of the files of these names
+abbrev pub IsOutcome : Status → Manner → List (List ℕ) → Source → Source → Sinks → Sinks → Type 0
+IsOutcome s manner names source source_now old new = IsOutcomeBehind s [] (told_contents source.files) manner names [] source source_now old new

@@ -1,40 +1,44 @@
 -- How far the tracing of a file has come: its first pages are traced.
-use Rattle.std.specs.Prelude.{◌≡◌, ◌≢◌, ◌⊎◌, ℕ, ◌+◌, ◌*◌, ◌<◌, ◌≤◌, Bool, false, List, [], ◌∷◌, ◌++◌, length, drop, Option, Some, IfSome, option_map}
-use Rattle.pt_base.specs.Counts.{Rose}
+use Rattle.std.specs.Prelude.{◌≡◌, ◌≢◌, ◌⊎◌, ℕ, ◌+◌, ◌*◌, ◌<◌, ◌≤◌, Bool, false, true, List, [], ◌∷◌, ◌++◌, length, drop, Option, Some, IfSome, option_map, Result, Ok, Err}
+use Rattle.pt_base.specs.Counts.{Rose, next_count}
+use Rattle.pt_base.specs.declared.sink.Sink.{Ghosts as SinkGhosts}
 use Rattle.pt_base.specs.Files.{Contents, Files, unread}
-use Rattle.bit_image.specs.Page.{Page as Pixels}
-use Rattle.bitmap_input.specs.declared.fault.InFault.{InFault}
+use Rattle.bit_image.specs.Page.{IsPage, Page as Pixels}
 use Rattle.bitmap_input.specs.declared.fault.InFault.TheVariants as fault
-use Rattle.bitmap_input.specs.Cut.{Kind, is_by_end}
-use Rattle.bitmap_input.specs.Cut.Ending.{End, Trailing, Refused}
-use Rattle.bitmap_input.specs.FaultText.{cause_text, fault_text}
-use Rattle.bitmap_input.specs.Raw.{Raw, shown}
+use Rattle.bitmap_input.specs.Cut.{is_by_end}
+use Rattle.bitmap_input.specs.Cut.Ending.{End, Trailing}
+use Rattle.bitmap_input.specs.FaultText.{fault_text}
+use Rattle.bitmap_input.specs.Raw.{Raw}
 use Rattle.bitmap_input.specs.Front.{front, page_at}
 use Rattle.bitmap_input.specs.Front.Answer.{Page, Ends}
 use Rattle.bitmap_input.specs.FilePages.{next_begins}
-use Rattle.bitmap_input.specs.Reading.{AreNeeded, Moves, cause_of_fault}
-use Rattle.bitmap_input.specs.Reading.Cause.{Device, Says}
-use Rattle.bitmap_input.specs.Reader.{Reader, ahead as reader_ahead, is_later as reader_is_later}
-use Rattle.page_trace.specs.Document.{IsDocument}
-use Rattle.run_output.specs.Messages.{out_of_memory, page_line, trailing_line}
+use Rattle.bitmap_input.specs.Reading.{AreNeeded, AtEnd, Moves, cause_of_fault}
+use Rattle.bitmap_input.specs.Reader.{IfSays, ReadFails, Reader, ahead as reader_ahead, at_start, is_later as reader_is_later}
+use Rattle.run_output.specs.Messages.{page_line, trailing_line}
 use Rattle.run_output.specs.Names.{next_name}
 use Rattle.run_output.specs.Made.{most_pages}
+use Rattle.run_output.specs.declared.part.Binding.TheVariants.{Apart}
 use Rattle.run_output.specs.declared.status.Status.{Status}
 use Rattle.run_output.specs.declared.status.Status.TheVariants as status
-use Rattle.file_trace.specs.Items.{AreItems, Item, Rest, doc_count, too_many}
-use Rattle.file_trace.specs.Items.Item.{Doc, Note}
-use Rattle.file_trace.specs.Held.{AreHeld, Held, Holds}
-use Rattle.file_trace.specs.Outcome.{AreCarriedOut, BeginsWith, HasEnded, IsUnwritten, LeavesBehind, ReadsNear, Sinks, StopsReading, is_later}
-use Rattle.pt_base.specs.declared.settings.Settings.{Settings}
+use Rattle.page_batches.specs.Items.{Doc, Item, page_count}
+use Rattle.page_batches.specs.Items.Item.{Note}
+use Rattle.page_batches.specs.Held.{AreHeld, Held, Holds, Waits}
+use Rattle.page_batches.specs.Outcome.{AreCarriedOut, HasEnded, IsHalt, IsUnwritten, Sinks}
+use Rattle.page_batches.specs.declared.desk.Desk.{Desk}
+use Rattle.file_trace.specs.Items.{AreItems, Rest, told_contents, too_many}
+use Rattle.file_trace.specs.Manner.{Manner, shown_by}
+use Rattle.file_trace.specs.Outcome.{BeginsWith, IsOutcomeBehind, LeavesBehind, ReadsNear, Source, StopsReading, is_later, opened_name}
+use Rattle.file_trace.specs.OnePass.{IsOnePass}
 use Rattle.file_trace.specs.declared.pages.PagesEnd.{PagesEnd}
 use Rattle.file_trace.specs.declared.pages.PagesEnd.TheVariants as why
+use Rattle.file_trace.specs.declared.pages.Traced.{Traced}
 
 -- these are the texts of these pages, in order
-abbrev pub AreTraced : Settings → List Raw → List (List ℕ) → Type 0
-AreTraced settings [] [] = Unit {0}
-AreTraced settings (raw ∷ raws) (text ∷ texts) = IsDocument (shown settings.level settings.invert raw) settings text × AreTraced settings raws texts
-AreTraced settings [] (text ∷ texts) = ⊥
-AreTraced settings (raw ∷ raws) [] = ⊥
+abbrev pub AreTraced : Manner → List Raw → List (List ℕ) → Type 0
+AreTraced manner [] [] = Unit {0}
+AreTraced manner (raw ∷ raws) (text ∷ texts) = manner.belongs (shown_by manner raw) text × AreTraced manner raws texts
+AreTraced manner [] (text ∷ texts) = ⊥
+AreTraced manner (raw ∷ raws) [] = ⊥
 
 -- the items of the documents of these texts, with this base name, after documents with these
 abbrev pub docs : List ℕ → List (List ℕ) → List (List ℕ) → List Item
@@ -53,12 +57,12 @@ pub record Settles (later : Bool) (bytes : List ℕ) (raw : Raw) (used : ℕ) (l
 
 -- the next page of what is ahead was read; as long as no read has given nothing, it is the next page
 -- whatever comes behind the bytes that were taken
-pub record ReadsPage (settings : Settings) (old : Reader) (before : Option Files) (page : Pixels) (new : Reader) (now : Option Files) : Type 0 where
+pub record ReadsPage (manner : Manner) (old : Reader) (before : Option Files) (page : Pixels) (new : Reader) (now : Option Files) : Type 0 where
   pub raw : Raw
   pub used : ℕ
   pub more : List ℕ
   pub moves : Moves old.ended before new.ended now more
-  pub shows : page ≡ shown settings.level settings.invert raw
+  pub shows : page ≡ shown_by manner raw
   pub told : IfSome (ahead old before) (λ bytes. (front (reader_is_later old) bytes ≡ Page raw used)
       × (ahead new now ≡ Some (drop (next_begins bytes raw used) bytes)))
   pub settled : new.ended ≡ false → (tail : List ℕ) → Settles (reader_is_later old) (reader_ahead old (more ++ tail)) raw used (reader_ahead new tail)
@@ -72,49 +76,21 @@ pub record TakesNeeded (old : Reader) (before : Option Files) (new : Reader) (no
   pub moves : Moves old.ended before new.ended now more
   pub needed : AreNeeded (λ bytes. page_at (reader_is_later old) (reader_ahead old bytes)) more
 
--- no page was read for this reason, where `later` says whether a page came before and `rest` is what is
--- ahead: the pages end, or one is refused; or a read failed, or memory ran out
-abbrev pub EndsReading : Bool → Option (List ℕ) → PagesEnd → Type 0
-EndsReading later rest why.End = IfSome rest (λ bytes. front later bytes ≡ Ends End)
-EndsReading later rest why.Trailing = IfSome rest (λ bytes. front later bytes ≡ Ends Trailing)
-EndsReading later rest (why.Refused fault) =
-    (kind : Kind) × (cause_of_fault fault ≡ Says (Refused kind)) × IfSome rest (λ bytes. front later bytes ≡ Ends (Refused kind))
-EndsReading later rest why.Unread = Unit {0}
-EndsReading later rest why.OutOfMemory = Unit {0}
-EndsReading later rest why.TooMany = ⊥
-
--- no further page was read for this reason, where `later` says whether a page came before and `rest` is what
--- is ahead: nothing was found there; or a page that is one too many
+-- no further page was read for this reason, where `later` says whether a page came before and `rest` is what is ahead:
+-- the pages end, or one is refused; or a page is one too many; or a read failed, or memory ran out
 abbrev pub EndsBy : Bool → Option (List ℕ) → PagesEnd → Type 0
+EndsBy later rest why.End = IfSome rest (λ bytes. front later bytes ≡ Ends End)
+EndsBy later rest why.Trailing = IfSome rest (λ bytes. front later bytes ≡ Ends Trailing)
 EndsBy later rest why.TooMany = (raw : Raw) × (used : ℕ) × IfSome rest (λ bytes. front later bytes ≡ Page raw used)
-EndsBy later rest why.End = EndsReading later rest why.End
-EndsBy later rest why.Trailing = EndsReading later rest why.Trailing
-EndsBy later rest (why.Refused fault) = EndsReading later rest (why.Refused fault)
-EndsBy later rest why.Unread = EndsReading later rest why.Unread
-EndsBy later rest why.OutOfMemory = EndsReading later rest why.OutOfMemory
-
--- why no further page is read, where the reader tells of a fault
-abbrev pub end_of_fault : InFault → PagesEnd
-end_of_fault fault.ReadFault = why.Unread
-end_of_fault fault.NoMemory = why.OutOfMemory
-end_of_fault fault.UnknownFormat = why.Refused fault.UnknownFormat
-end_of_fault fault.BadHeader = why.Refused fault.BadHeader
-end_of_fault fault.ZeroSide = why.Refused fault.ZeroSide
-end_of_fault fault.TooLarge = why.Refused fault.TooLarge
-end_of_fault fault.Truncated = why.Refused fault.Truncated
-end_of_fault fault.BadRaster = why.Refused fault.BadRaster
-end_of_fault fault.BmpKind = why.Refused fault.BmpKind
-end_of_fault fault.BadOffset = why.Refused fault.BadOffset
-end_of_fault fault.TooLong = why.Refused fault.TooLong
+EndsBy later rest (why.Fault f) = IfSome rest (λ bytes. IfSays (cause_of_fault f) (λ ending. front later bytes ≡ Ends ending))
 
 -- the status with which a run ends where the pages of a file end so; at Done it goes on
 abbrev pub status_of : PagesEnd → Status
 status_of why.End = status.Done
 status_of why.Trailing = status.Done
-status_of (why.Refused fault) = status.Refused
-status_of why.TooMany = status.Refused
-status_of why.Unread = status.Unread
-status_of why.OutOfMemory = status.OutOfMemory
+status_of (why.Fault fault.ReadFault) = status.Unread
+status_of (why.Fault fault.NoMemory) = status.OutOfMemory
+status_of end = status.Refused
 
 -- how the inputs' count of faults moved: it stayed, but where a read failed (and then perhaps a document of a
 -- page in front of it couldn't be written) or memory ran out
@@ -126,15 +102,61 @@ InputCount status.BadWords before now = now ≡ before
 InputCount status.Refused before now = now ≡ before
 InputCount status.Unwritten before now = Unit {0}
 
--- how the outputs moved: their count rose where a document couldn't be written, and else it stayed, and
--- no document is open
-abbrev pub OutputCount : Status → ℕ → ℕ → Bool → Type 0
-OutputCount status.Unwritten before now ready = Rose before now
-OutputCount status.Done before now ready = (now ≡ before) × (ready ≡ false)
-OutputCount status.BadWords before now ready = (now ≡ before) × (ready ≡ false)
-OutputCount status.Refused before now ready = (now ≡ before) × (ready ≡ false)
-OutputCount status.Unread before now ready = (now ≡ before) × (ready ≡ false)
-OutputCount status.OutOfMemory before now ready = (now ≡ before) × (ready ≡ false)
+-- the count of faults of the inputs moved as it does where the reading of pages ends so: it rose where a read failed,
+-- and else it stayed, but where memory ran out
+abbrev pub FaultsBy : PagesEnd → ℕ → ℕ → Type 0
+FaultsBy (why.Fault fault.ReadFault) before now = Rose before now
+FaultsBy (why.Fault fault.NoMemory) before now = Unit {0}
+FaultsBy end before now = now ≡ before
+
+-- a file is opened, and where a read gave nothing of it nothing is left of it; and the reader isn't over
+pub record CanRead (reader : Reader) (source : Source) : Type 0 where
+  pub opened : source.is_opened ≡ true
+  pub at_end : reader.ended ≡ true → AtEnd source.files
+  pub going_on : reader.over ≡ false
+  pub room : reader.pages < 4294967295
+
+-- the reading of pages ended for this reason: that is what stands ahead; where a read failed it is so by the end of what
+-- was taken; and so the count of faults moved
+pub record EndsReading (end : PagesEnd) (old : Reader) (before : Source) (new : Reader) (now : Source) : Type 0 where
+  pub ends : EndsBy (reader_is_later old) (ahead old before.files) end
+  pub read_fault : end ≡ why.Fault fault.ReadFault → ReadFails old before.files new now.files
+  pub faults : FaultsBy end before.faults now.faults
+
+-- the next page was read, and the reader can read on; or none was, for this reason
+abbrev pub Answered : Result Pixels PagesEnd → Manner → Reader → Source → Reader → Source → Type 0
+Answered (Ok page) manner old before new now =
+    ReadsPage manner old before.files page new now.files × IsPage page × (now.faults ≡ before.faults)
+    × (now.is_opened ≡ true) × (new.ended ≡ true → AtEnd now.files)
+Answered (Err end) manner old before new now = EndsReading end old before new now × (end ≢ why.TooMany)
+
+-- bytes were taken of the opened file, as far as what stands ahead needs them, and no file was opened
+pub record Takes (old : Reader) (before : Source) (new : Reader) (now : Source) : Type 0 where
+  pub needed : TakesNeeded old before.files new now.files
+  pub openings : now.openings ≡ before.openings
+
+-- no file was opened: the opened one is the one that was, and the files hold what they held
+pub record StaysIn (old new : Source) : Type 0 where
+  pub openings : new.openings ≡ old.openings
+  pub name : opened_name new.files ≡ opened_name old.files
+  pub contents : told_contents new.files ≡ told_contents old.files
+
+-- what is held waits for the pages of a file, and messages can be said
+pub record CanHold {A B : Type 0} (of_outs : SinkGhosts A) (of_errs : SinkGhosts B) (size : ℕ) (desk : Desk A B) (held : List Held) : Type 0 where
+  pub waits : Waits Apart size 0 (of_outs.is_ready desk.outs.now) held
+  pub ready : of_errs.is_ready desk.errs.now ≡ true
+
+-- a file was opened, and nothing is read of it
+pub record IsAtStart (reader : Reader) (source : Source) : Type 0 where
+  pub opened : source.is_opened ≡ true
+  pub fresh : reader ≡ at_start
+
+-- the file of this name was asked for: it is the opened one, where one is opened and that is told; and the files hold
+-- what they held
+pub record AsksFor (name : List ℕ) (old new : Source) : Type 0 where
+  pub one_more : new.openings ≡ next_count old.openings
+  pub named : IfSome (opened_name new.files) (λ opened. opened ≡ name)
+  pub contents : told_contents new.files ≡ told_contents old.files
 
 -- a read failed behind these pages, and of the opened file the bytes behind those that were taken are unread
 pub record HasUnread (raws : List Raw) (before now : Option Files) : Type 0 where
@@ -144,65 +166,65 @@ pub record HasUnread (raws : List Raw) (before now : Option Files) : Type 0 wher
 
 -- k pages were read, after documents with these base names, and then the reading ended so; of what was held
 -- before and the documents of these pages, the first are carried out, and the others are held
-pub record Traces (size : ℕ) (settings : Settings) (base : List ℕ) (made : List (List ℕ)) (before now : Option Files) (held held_now : List Held) (old new : Sinks) (k : ℕ) (end : PagesEnd) : Type 0 where
+pub record Traces (size : ℕ) (manner : Manner) (base : List ℕ) (made : List (List ℕ)) (before now : Option Files) (held held_now : List Held) (old new : Sinks) (k : ℕ) (end : PagesEnd) : Type 0 where
   pub raws : List Raw
   pub texts : List (List ℕ)
   pub count : k ≡ length raws
   pub few : k + length made ≤ most_pages
-  pub traced : AreTraced settings raws texts
+  pub traced : AreTraced manner raws texts
   pub rest : Option (List ℕ)
   pub begins : IfSome (unread before) (λ all. (left : List ℕ) × (rest ≡ Some left) × BeginsWith false all raws left)
   pub ends : EndsBy (is_later false raws) rest end
   pub full : end ≡ why.TooMany → most_pages ≤ k + length made
   pub near : IfSome (unread before) (λ all. (left : List ℕ) × (unread now ≡ Some left) × ReadsNear all raws left)
-  pub unread : end ≡ why.Unread → HasUnread raws before now
-  pub holds : (first : List Item) → AreHeld settings held first → Holds size settings (first ++ docs base made texts) held_now old new
+  pub unread : end ≡ why.Fault fault.ReadFault → HasUnread raws before now
+  pub holds : (first : List Item) → AreHeld Apart manner.belongs held first → Holds Apart size manner.belongs (first ++ docs base made texts) held_now old new
 
 -- a document couldn't be written: behind whole batches, and the items hold one batch more at most
 pub record IsInPart (size : ℕ) (items : List Item) (old new : Sinks) : Type 0 where
   pub unwritten : IsUnwritten items old new
   pub batches : ℕ
-  pub behind : batches * size ≤ doc_count unwritten.before
-  pub most : doc_count items < batches * size + size
+  pub behind : batches * size ≤ page_count unwritten.before
+  pub most : page_count items < batches * size + size
 
 -- a document of the last batch couldn't be written: the items are whole batches
 pub record IsInBatch (size : ℕ) (items : List Item) (old new : Sinks) : Type 0 where
   pub unwritten : IsUnwritten items old new
   pub batches : ℕ
-  pub behind : batches * size ≤ doc_count unwritten.before
-  pub full : doc_count items ≡ batches * size + size
+  pub behind : batches * size ≤ page_count unwritten.before
+  pub within : page_count unwritten.before < page_count items
+  pub full : page_count items ≡ batches * size + size
 
 -- some pages were read, after documents with these base names; what was held before and the documents of these
 -- pages were carried out as far as the status says. Where one of them couldn't be written it is one of a batch that
 -- ends with them, and at most 65,536 bytes behind them were taken.
-pub record Halts (s : Status) (size : ℕ) (settings : Settings) (base : List ℕ) (made : List (List ℕ)) (before now : Option Files) (held : List Held) (old new : Sinks) : Type 0 where
+pub record Halts (s : Status) (size : ℕ) (manner : Manner) (base : List ℕ) (made : List (List ℕ)) (before now : Option Files) (held : List Held) (old new : Sinks) : Type 0 where
   pub raws : List Raw
   pub texts : List (List ℕ)
   pub few : length raws + length made ≤ most_pages
-  pub traced : AreTraced settings raws texts
+  pub traced : AreTraced manner raws texts
   pub begins : IfSome (unread before) (λ all. (left : List ℕ) × BeginsWith false all raws left)
-  pub ended : (first : List Item) → AreHeld settings held first → HasEnded s (first ++ docs base made texts) old new
+  pub ended : (first : List Item) → AreHeld Apart manner.belongs held first → HasEnded s (first ++ docs base made texts) old new
   pub some : raws ≢ []
-  pub in_batch : s ≡ status.Unwritten → (first : List Item) → AreHeld settings held first → IsInBatch size (first ++ docs base made texts) old new
+  pub in_batch : s ≡ status.Unwritten → (first : List Item) → AreHeld Apart manner.belongs held first → IsInBatch size (first ++ docs base made texts) old new
   pub near : IfSome (unread before) (λ all. (behind : List ℕ) × (rest : List ℕ) × LeavesBehind false all raws behind × (unread now ≡ Some rest) × (length behind ≤ length rest + 65536))
 
--- the note of a file of this name whose k pages end so
-abbrev pub end_notes : List ℕ → PagesEnd → ℕ → List Item
-end_notes name why.Trailing k = Note (trailing_line name k) ∷ []
-end_notes name why.End k = []
-end_notes name (why.Refused fault) k = []
-end_notes name why.TooMany k = []
-end_notes name why.Unread k = []
-end_notes name why.OutOfMemory k = []
+-- the reading of pages ended: with the file's pages, or within a batch that couldn't be carried out
+abbrev pub EndsPages : Result Traced Status → ℕ → Manner → List ℕ → List (List ℕ) → Option Files → Option Files → List Held → List Held → Sinks → Sinks → Type 0
+EndsPages (Ok traced) size manner base made before now held held_now old new =
+    Traces size manner base made before now held held_now old new traced.pages traced.end
+EndsPages (Err s) size manner base made before now held held_now old new = IsHalt s × Halts s size manner base made before now held old new
+
+-- the items of the end of a file of this name whose k pages end so: a note, or none
+abbrev pub items_at_end : List ℕ → PagesEnd → ℕ → List Item
+items_at_end name why.Trailing k = Note (trailing_line name k) ∷ []
+items_at_end name end k = []
 
 -- what is said where the run ends with the pages of the file of this name, k of which were read
 abbrev pub end_message : List ℕ → PagesEnd → ℕ → List ℕ
-end_message name (why.Refused fault) k = page_line name (k + 1) (fault_text fault)
+end_message name (why.Fault f) k = page_line name (k + 1) (fault_text f)
 end_message name why.TooMany k = page_line name (k + 1) too_many
-end_message name why.Unread k = page_line name (k + 1) (cause_text Device)
-end_message name why.OutOfMemory k = out_of_memory
-end_message name why.End k = []
-end_message name why.Trailing k = []
+end_message name end k = []
 
 -- the run ends with the pages of a file: these items, which were held, are carried out, and the message is
 -- said; or they are carried out as far as the status says
@@ -217,7 +239,36 @@ EndsWith made made_now items = (made_now ≡ made) × (items ≡ [])
 
 -- these are the items of the file of this name, and the run goes on behind them; of what was held before and
 -- them the first are carried out, and the others are held
-pub record TracesFile (size : ℕ) (contents : Option Contents) (settings : Settings) (output : Option (List ℕ)) (name : List ℕ) (made made_now : List (List ℕ)) (held held_now : List Held) (old new : Sinks) : Type 0 where
+pub record TracesFile (size : ℕ) (contents : Option Contents) (manner : Manner) (name : List ℕ) (made made_now : List (List ℕ)) (held held_now : List Held) (old new : Sinks) : Type 0 where
   pub items : List Item
-  pub are : AreItems contents settings output (EndsWith made_now) (name ∷ []) made items
-  pub holds : (first : List Item) → AreHeld settings held first → Holds size settings (first ++ items) held_now old new
+  pub are : AreItems contents manner (EndsWith made_now) (name ∷ []) made items
+  pub holds : (first : List Item) → AreHeld Apart manner.belongs held first → Holds Apart size manner.belongs (first ++ items) held_now old new
+
+-- the end of the pages of the file of this name, k of which were read, is held behind these items, and the run goes on;
+-- or the run ends there
+abbrev pub EndsWithPages : Result Unit Status → ℕ → Manner → List ℕ → PagesEnd → ℕ → List Item → List Held → Sinks → Sinks → Type 0
+EndsWithPages (Ok done) size manner name end k items held_now old new =
+    Holds Apart size manner.belongs (items ++ items_at_end name end k) held_now old new
+EndsWithPages (Err s) size manner name end k items held_now old new = EndsWithFile name end k s items old new
+
+-- the status of a run that ends with the pages of a file that end so: it is theirs, or what was held couldn't be carried
+-- out; where that couldn't be written there was something to be said of the file
+pub record EndsBecause (end : PagesEnd) (s : Status) : Type 0 where
+  pub which : (s ≡ status_of end) ⊎ IsHalt s
+  pub unwritten : s ≡ status.Unwritten → (status_of end ≡ status.Refused) ⊎ (status_of end ≡ status.Unread)
+
+-- the run goes on behind the pages of a file that end so, or it ends there
+abbrev pub GoesOnAfter : Result Unit Status → PagesEnd → Type 0
+GoesOnAfter (Ok done) end = status_of end ≡ status.Done
+GoesOnAfter (Err s) end = EndsBecause end s
+
+-- a file was traced: its items are carried out or held, and its documents are counted; or the run ends there, whatever
+-- files come behind it and whichever items are those of what was held; and where a document couldn't be written no more
+-- was read than its batch
+abbrev pub EndsFile : Result Unit Status → ℕ → Manner → List ℕ → List (List ℕ) → List (List ℕ) → List Held → List Held → Source → Source → Sinks → Sinks → Type 0
+EndsFile (Ok done) size manner name made made_now held held_now source source_now old new =
+    TracesFile size (told_contents source.files) manner name made made_now held held_now old new
+EndsFile (Err s) size manner name made made_now held held_now source source_now old new =
+    (names : List (List ℕ)) (first : List Item) → AreHeld Apart manner.belongs held first
+    → IsOutcomeBehind s first (told_contents source.files) manner (name ∷ names) made source source_now old new
+    × (s ≡ status.Unwritten → IsOnePass size first (told_contents source.files) manner (name ∷ names) made source source_now old new)

@@ -3,12 +3,12 @@ use Rattle.std.specs.Prelude.{◌≡◌, ◌⊎◌, ℕ, List, [], ◌∷◌}
 use Rattle.run_output.specs.Messages.{not_opened}
 use Rattle.run_output.specs.declared.status.Status.{Status}
 use Rattle.run_output.specs.declared.status.Status.TheVariants as status
-use Rattle.file_trace.specs.Items.{Item}
-use Rattle.file_trace.specs.Outcome.{AreCarriedOut, HasEnded, Sinks}
+use Rattle.page_batches.specs.Items.{Item}
+use Rattle.page_batches.specs.Outcome.{AreCarriedOut, HasEnded, IsHalt, Sinks}
 
 -- the run ends where the file of this name can't be opened: these items, which were held, are carried out, and
 -- that is said; or they are carried out as far as the status says
 abbrev pub EndsUnopened : List ℕ → Status → List Item → Sinks → Sinks → Type 0
 EndsUnopened name s items old new =
     ((s ≡ status.Unread) × AreCarriedOut items (not_opened name ∷ []) old new)
-    ⊎ (((s ≡ status.Unwritten) ⊎ (s ≡ status.OutOfMemory)) × HasEnded s items old new)
+    ⊎ (IsHalt s × HasEnded s items old new)

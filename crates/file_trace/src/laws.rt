@@ -1,22 +1,27 @@
 //! What follows from the definitions alone.
-ghost use Rattle.std.specs.Prelude.{◌≡◌, ℕ, List, Option, Some};
+ghost use Rattle.std.specs.Prelude.{◌≡◌, ℕ, Bool, List, Option, Some};
 ghost use Rattle.pt_base.specs.Files.{Contents};
-ghost use Rattle.pt_base.specs.declared.settings.Settings.{Settings};
-ghost use Rattle.page_trace.specs.Offered.{IsOffered};
-ghost use Rattle.file_trace.specs.Items.{AreItems, Item, Nothing};
+ghost use Rattle.pt_base.specs.declared.settings.Backend.{Backend};
+ghost use Rattle.page_batches.specs.Items.{Item};
+ghost use Rattle.file_trace.specs.Items.{AreItems, Nothing};
+ghost use Rattle.file_trace.specs.Manner.{HasTexts, manner_by};
 
-/// Whatever the files hold, there is a list of what a run is to write.
-pub fn files_have_items()
-    ensures { (contents : Option Contents) (settings : Settings) (output : Option (List ℕ))
-        (names made : List (List ℕ)) → IsOffered settings
-        → (items : List Item) × AreItems contents settings output Nothing names made items }
+use page_workers::job::PageJob;
+
+/// Whatever the files hold, there is a list of what a run is to write, where a text belongs to each page.
+pub fn files_have_items<J: PageJob>(job: &J)
+    ensures { (level : ℕ) (invert : Bool) (output : Option (List ℕ)) (backend : Backend)
+        → HasTexts (manner_by level invert output backend (J.belongs job.now))
+        → (contents : Option Contents) (names made : List (List ℕ)) → (items : List Item)
+        × AreItems contents (manner_by level invert output backend (J.belongs job.now)) Nothing names made items }
 {}
 
-/// Where it is told what the files hold there is only one such list: it is a function of that, of the settings
-/// and of the names.
-pub fn items_are_one()
-    ensures { (contents : Contents) (settings : Settings) (output : Option (List ℕ))
-        (names made : List (List ℕ)) (items others : List Item)
-        → AreItems (Some contents) settings output Nothing names made items
-        → AreItems (Some contents) settings output Nothing names made others → items ≡ others }
+/// Where it is told what the files hold there is only one such list: it is a function of that, of how pages are read
+/// and documents named, and of the names.
+pub fn items_are_one<J: PageJob>(job: &J)
+    ensures { (level : ℕ) (invert : Bool) (output : Option (List ℕ)) (backend : Backend)
+        (contents : Contents) (names made : List (List ℕ)) (items others : List Item)
+        → AreItems (Some contents) (manner_by level invert output backend (J.belongs job.now)) Nothing names made items
+        → AreItems (Some contents) (manner_by level invert output backend (J.belongs job.now)) Nothing names made others
+        → items ≡ others }
 {}

@@ -4,7 +4,8 @@ use Rattle.pt_base.specs.Counts.{Rose}
 use Rattle.pt_base.specs.Files.{Contents}
 use Rattle.pt_base.specs.declared.settings.Settings.{Settings}
 use Rattle.page_trace.specs.Document.{CanWrite}
-use Rattle.run_output.specs.Messages.{out_of_memory}
+use Rattle.run_output.specs.Messages.{not_opened, out_of_memory}
+use Rattle.run_output.specs.Parts.{Part}
 use Rattle.run_output.specs.Names.{dash}
 use Rattle.run_output.specs.Status.{code_of}
 use Rattle.run_output.specs.declared.status.Status.{Status}
@@ -12,20 +13,27 @@ use Rattle.run_output.specs.declared.status.Status.TheVariants as status
 use Rattle.command_asks.specs.Asked.{CanBeDone}
 use Rattle.command_asks.specs.declared.ask.Ask.{Ask}
 use Rattle.command_asks.specs.declared.ask.Ask.TheVariants as asks
-use Rattle.file_trace.specs.Items.{AreItems, IsAbsent, Item, Nothing, told_contents}
-use Rattle.file_trace.specs.Items.Item.{Doc, Missing, Note, Stop}
-use Rattle.file_trace.specs.Outcome.{AreCarriedOut, GoesOn, HasEnded, IsOutcome, Sinks, Source}
-use Rattle.file_trace.specs.Progress.{OutputCount}
+use Rattle.page_batches.specs.Items.{Doc, GoesOn, Item}
+use Rattle.page_batches.specs.Items.Item.{Missing, Note, Stop, Write}
+use Rattle.page_batches.specs.Outcome.{AreCarriedOut, HasEnded, Sinks}
+use Rattle.file_trace.specs.Items.{AreItems, IsAbsent, Nothing, told_contents}
+use Rattle.file_trace.specs.Manner.{HasTexts, Manner}
+use Rattle.file_trace.specs.Outcome.{IsOutcome, Source}
+use Rattle.file_trace.proofs.Closing.{AllEnd, AllEnd-front, alone_end, carried_closed, items_end, nothing_ends}
 use Rattle.file_trace.proofs.Exists.{items_found}
 use Rattle.file_trace.proofs.Joining.{items_behind}
 use Rattle.page_demo.proofs.Found.{demo_found}
-use Rattle.potrace_main.specs.Run.{AreItemsOf, EndsMissing, EndsRefused, FailureCount, IsComplete, IsMissing, IsOutcomeOf, IsRun, names_of}
+use Rattle.potrace_main.specs.Run.{AreItemsOf, EndsMissing, EndsRefused, FailureCount, IsComplete, IsMissing, IsOutcomeOf, IsRun, OutputsMove, RefusesWords, manner_under, names_of}
 use Rattle.potrace_main.specs.Usage.{help_text, version_text}
+
+-- what the tracer's law says: each page has a document, under settings under which one is written
+abbrev pub HaveDocuments : Type 0
+HaveDocuments = (settings : Settings) → CanWrite settings → (output : Option (List ℕ)) → HasTexts (manner_under settings output)
 
 -- a run doesn't go on after a refusal
 no_stop : (before : List Item) (message : List ℕ) → GoesOn (before ++ Stop message ∷ []) → ⊥
 no_stop [] message h = h
-no_stop (Doc name text ∷ before) message h = no_stop before message h
+no_stop (Write part ∷ before) message h = no_stop before message h
 no_stop (Note note ∷ before) message h = no_stop before message h
 no_stop (Stop other ∷ before) message h = h
 no_stop (Missing name ∷ before) message h = h
@@ -33,7 +41,7 @@ no_stop (Missing name ∷ before) message h = h
 -- nor after a file that isn't there
 no_missing : (before : List Item) (name : List ℕ) → GoesOn (before ++ Missing name ∷ []) → ⊥
 no_missing [] name h = h
-no_missing (Doc document text ∷ before) name h = no_missing before name h
+no_missing (Write part ∷ before) name h = no_missing before name h
 no_missing (Note note ∷ before) name h = no_missing before name h
 no_missing (Stop other ∷ before) name h = h
 no_missing (Missing other ∷ before) name h = h
@@ -58,45 +66,45 @@ no_both : (items : List Item) → EndsRefused items → EndsMissing items → �
 no_both items (before, message, is) (others, name, are) = one_last before others message name (sym is ∙ are)
 
 -- the items of files in front of one that isn't there
-missing_items : (contents : Option Contents) (settings : Settings) (output : Option (List ℕ)) (front back : List (List ℕ)) (name : List ℕ) (before : List Item) → IsAbsent contents name → GoesOn before
-    → AreItems contents settings output Nothing front [] before → AreItems contents settings output Nothing (front ++ name ∷ back) [] (before ++ Missing name ∷ [])
-missing_items contents settings output front back name before absent goes are =
-    items_behind contents settings output Nothing Nothing (name ∷ back) (Missing name ∷ []) on front [] before goes are where
-      on : (made : List (List ℕ)) (items : List Item) → GoesOn items → Nothing made items → AreItems contents settings output Nothing (name ∷ back) made (items ++ Missing name ∷ [])
+missing_items : (contents : Option Contents) (manner : Manner) (front back : List (List ℕ)) (name : List ℕ) (before : List Item) → IsAbsent contents name → GoesOn before
+    → AreItems contents manner Nothing front [] before → AreItems contents manner Nothing (front ++ name ∷ back) [] (before ++ Missing name ∷ [])
+missing_items contents manner front back name before absent goes are =
+    items_behind contents manner Nothing Nothing (name ∷ back) (Missing name ∷ []) on front [] before goes are where
+      on : (made : List (List ℕ)) (items : List Item) → GoesOn items → Nothing made items → AreItems contents manner Nothing (name ∷ back) made (items ++ Missing name ∷ [])
       on made items goes_on none = inl (absent, ap (λ l. l ++ Missing name ∷ []) none)
 
 -- what there was to write, and the status where no device failed
-abbrev pub Completes : Option Contents → Settings → Option (List ℕ) → List (List ℕ) → Status → ℕ → ℕ → ℕ → ℕ → Type 0
-Completes contents settings output names s read read_now written written_now =
-    (items : List Item) × AreItems contents settings output Nothing names [] items × ((Rose read read_now → ⊥) → (Rose written written_now → ⊥) → IsComplete s items)
+abbrev pub Completes : Option Contents → Manner → List (List ℕ) → Status → ℕ → ℕ → ℕ → ℕ → Type 0
+Completes contents manner names s read read_now written written_now =
+    (items : List Item) × AreItems contents manner Nothing names [] items × ((Rose read read_now → ⊥) → (Rose written written_now → ⊥) → IsComplete s items)
 
-pub files_complete : (s : Status) (settings : Settings) → CanWrite settings → (output : Option (List ℕ)) (names : List (List ℕ)) (source now : Source) (a b : Sinks)
-    → IsOutcome s (told_contents source.files) settings output names [] source now a b → OutputCount s a.outs.faults b.outs.faults b.is_open
-    → Completes (told_contents source.files) settings output names s source.faults now.faults a.outs.faults b.outs.faults
-files_complete status.Done settings can output names source now a b (items, are, done, opens) w =
+pub files_complete : (s : Status) (manner : Manner) → HasTexts manner → (names : List (List ℕ)) (source now : Source) (a b : Sinks)
+    → IsOutcome s manner names source now a b
+    → Completes (told_contents source.files) manner names s source.faults now.faults a.outs.faults b.outs.faults
+files_complete status.Done manner can names source now a b (items, are, done, opens) =
     (items, are, λ _ _. record { all = λ _. inl refl; refusal = λ r. absurd (never_refused items done.goes_on r); missing = λ m. absurd (never_missing items done.goes_on m) })
-files_complete status.BadWords settings can output names source now a b (items, are, ended) w = absurd ended
-files_complete status.Refused settings can output names source now a b r w =
+files_complete status.BadWords manner can names source now a b (items, are, ended) = absurd ended
+files_complete status.Refused manner can names source now a b r =
     let items : List Item = r.before ++ Stop r.message ∷ [] in
     let refusal : EndsRefused items = (r.before, r.message, refl) in
     (items, r.all, λ _ _. record { all = λ goes. absurd (never_refused items goes refusal); refusal = λ _. inl refl; missing = λ m. absurd (no_both items refusal m) })
-files_complete status.Unwritten settings can output names source now a b (items, are, u) w = (items, are, λ _ no_write. absurd (no_write w))
-files_complete status.OutOfMemory settings can output names source now a b (items, are, o) w =
+files_complete status.Unwritten manner can names source now a b (items, are, u) = (items, are, λ _ no_write. absurd (no_write u.rose))
+files_complete status.OutOfMemory manner can names source now a b (items, are, o) =
     (items, are, λ _ _. record { all = λ _. inr refl; refusal = λ _. inr refl; missing = λ _. inr refl })
-files_complete status.Unread settings can output names source now a b (inr u) w =
-    let items = items_found (told_contents source.files) settings can output names [] in
+files_complete status.Unread manner can names source now a b (inr u) =
+    let items = items_found (told_contents source.files) manner can names [] in
     (items.0, items.1, λ no_read _. absurd (no_read u.rose))
-files_complete status.Unread settings can output names source now a b (inl u) w = by_cause u.cause where
+files_complete status.Unread manner can names source now a b (inl u) = by_cause u.cause where
   by_cause : IsAbsent (told_contents source.files) u.name ⊎ Rose source.faults now.faults
-      → Completes (told_contents source.files) settings output names status.Unread source.faults now.faults a.outs.faults b.outs.faults
+      → Completes (told_contents source.files) manner names status.Unread source.faults now.faults a.outs.faults b.outs.faults
   by_cause (inr rose) =
-      let items = items_found (told_contents source.files) settings can output names [] in
+      let items = items_found (told_contents source.files) manner can names [] in
       (items.0, items.1, λ no_read _. absurd (no_read rose))
   by_cause (inl absent) =
-      let are = missing_items (told_contents source.files) settings output u.front u.reached.back u.name u.before absent u.done.goes_on u.items in
+      let are = missing_items (told_contents source.files) manner u.front u.reached.back u.name u.before absent u.done.goes_on u.items in
       let missing : EndsMissing (u.before ++ Missing u.name ∷ []) = (u.before, u.name, refl) in (
         u.before ++ Missing u.name ∷ [],
-        subst (λ ns. AreItems (told_contents source.files) settings output Nothing ns [] (u.before ++ Missing u.name ∷ [])) (sym u.reached.listed) are,
+        subst (λ ns. AreItems (told_contents source.files) manner Nothing ns [] (u.before ++ Missing u.name ∷ [])) (sym u.reached.listed) are,
         λ _ _. record {
           all = λ goes. absurd (never_missing (u.before ++ Missing u.name ∷ []) goes missing);
           refusal = λ r. absurd (no_both (u.before ++ Missing u.name ∷ []) r missing);
@@ -105,31 +113,32 @@ files_complete status.Unread settings can output names source now a b (inl u) w 
       )
 
 -- one text is written, or not
-text_complete : (s : Status) (text : List ℕ) (written written_now : ℕ) (ready : Bool) (a b : Sinks) → HasEnded s (Doc dash text ∷ []) a b → OutputCount s written written_now ready
-    → (Rose written written_now → ⊥) → IsComplete s (Doc dash text ∷ [])
-text_complete status.Done text written written_now ready a b done w no_write =
+text_complete : (s : Status) (text : List ℕ) (a b : Sinks) → HasEnded s (Doc dash text ∷ []) a b
+    → (Rose a.outs.faults b.outs.faults → ⊥) → IsComplete s (Doc dash text ∷ [])
+text_complete status.Done text a b done no_write =
     let goes : GoesOn (Doc dash text ∷ []) = tt in
     record { all = λ _. inl refl; refusal = λ r. absurd (never_refused (Doc dash text ∷ []) goes r); missing = λ m. absurd (never_missing (Doc dash text ∷ []) goes m) }
-text_complete status.BadWords text written written_now ready a b ended w no_write = absurd ended
-text_complete status.Refused text written written_now ready a b r w no_write =
+text_complete status.BadWords text a b ended no_write = absurd ended
+text_complete status.Refused text a b r no_write =
     let goes : GoesOn (Doc dash text ∷ []) = tt in absurd (never_refused (Doc dash text ∷ []) goes (r.before, r.message, r.split))
-text_complete status.Unread text written written_now ready a b ended w no_write = absurd ended
-text_complete status.Unwritten text written written_now ready a b u w no_write = absurd (no_write w)
-text_complete status.OutOfMemory text written written_now ready a b o w no_write = record { all = λ _. inr refl; refusal = λ _. inr refl; missing = λ _. inr refl }
+text_complete status.Unread text a b ended no_write = absurd ended
+text_complete status.Unwritten text a b u no_write = absurd (no_write u.rose)
+text_complete status.OutOfMemory text a b o no_write = record { all = λ _. inr refl; refusal = λ _. inr refl; missing = λ _. inr refl }
 
-pub run_complete : (ask : Ask) (s : Status) (source now : Source) (a b : Sinks) → CanBeDone ask → IsRun ask s source now a b
+pub run_complete : HaveDocuments → (ask : Ask) (s : Status) (source now : Source) (a b : Sinks) → CanBeDone ask → IsRun ask s source now a b
     → (items : List Item) × AreItemsOf ask (told_contents source.files) items × ((Rose source.faults now.faults → ⊥) → (Rose a.outs.faults b.outs.faults → ⊥) → IsComplete s items)
-run_complete asks.Help s source now a b can ran = (_, refl, λ _ no_write. text_complete s help_text _ _ _ a b ran.outcome ran.output no_write)
-run_complete asks.Version s source now a b can ran = (_, refl, λ _ no_write. text_complete s version_text _ _ _ a b ran.outcome ran.output no_write)
-run_complete (asks.Demo pages workers settings) s source now a b can ran =
-    let (text, is, ended) = ran.outcome in (_, (text, is, refl), λ _ no_write. text_complete s text _ _ _ a b ended ran.output no_write)
-run_complete (asks.Files names output workers settings) s source now a b can ran = files_complete s settings can.0.document output names source now a b ran.outcome ran.output
+run_complete law asks.Help s source now a b can ran = (_, refl, λ _ no_write. text_complete s help_text a b ran.outcome no_write)
+run_complete law asks.Version s source now a b can ran = (_, refl, λ _ no_write. text_complete s version_text a b ran.outcome no_write)
+run_complete law (asks.Demo pages workers settings) s source now a b can ran =
+    let (text, is, ended) = ran.outcome in (_, (text, is, refl), λ _ no_write. text_complete s text a b ended no_write)
+run_complete law (asks.Files names output workers settings) s source now a b can ran =
+    files_complete s (manner_under settings output) (law settings can.0.document output) names source now a b ran.outcome
 
 -- a status of an input that fails has its cause
-unread_cause : (settings : Settings) (output : Option (List ℕ)) (names : List (List ℕ)) (source now : Source) (a b : Sinks) → IsOutcome status.Unread (told_contents source.files) settings output names [] source now a b
+unread_cause : (manner : Manner) (names : List (List ℕ)) (source now : Source) (a b : Sinks) → IsOutcome status.Unread manner names source now a b
     → Rose source.faults now.faults ⊎ IsMissing names (told_contents source.files)
-unread_cause settings output names source now a b (inr u) = inl u.rose
-unread_cause settings output names source now a b (inl u) = by_cause u.cause where
+unread_cause manner names source now a b (inr u) = inl u.rose
+unread_cause manner names source now a b (inl u) = by_cause u.cause where
   by_cause : IsAbsent (told_contents source.files) u.name ⊎ Rose source.faults now.faults → Rose source.faults now.faults ⊎ IsMissing names (told_contents source.files)
   by_cause (inl absent) = inr (u.name, u.front, u.reached.back, u.reached.listed, absent)
   by_cause (inr rose) = inl rose
@@ -141,14 +150,14 @@ run_unread asks.Version s source now a b ran is = absurd (subst (λ t. HasEnded 
 run_unread (asks.Demo pages workers settings) s source now a b ran is =
     let (text, demo, ended) = ran.outcome in absurd (subst (λ t. HasEnded t (Doc dash text ∷ []) a b) is ended)
 run_unread (asks.Files names output workers settings) s source now a b ran is =
-    unread_cause settings output names source now a b (subst (λ t. IsOutcome t (told_contents source.files) settings output names [] source now a b) is ran.outcome)
+    unread_cause (manner_under settings output) names source now a b (subst (λ t. IsOutcome t (manner_under settings output) names source now a b) is ran.outcome)
 
 -- where the first file isn't there
-only_missing : (contents : Option Contents) (settings : Settings) (output : Option (List ℕ)) (name : List ℕ) (names : List (List ℕ)) (items : List Item) → IsAbsent contents name
-    → AreItems contents settings output Nothing (name ∷ names) [] items → items ≡ Missing name ∷ []
-only_missing None settings output name names items absent are = absurd absent
-only_missing (Some contents) settings output name names items absent (inl (none, is)) = is
-only_missing (Some contents) settings output name names items absent (inr (raws, ending, (bytes, held, pages), are)) =
+only_missing : (contents : Option Contents) (manner : Manner) (name : List ℕ) (names : List (List ℕ)) (items : List Item) → IsAbsent contents name
+    → AreItems contents manner Nothing (name ∷ names) [] items → items ≡ Missing name ∷ []
+only_missing None manner name names items absent are = absurd absent
+only_missing (Some contents) manner name names items absent (inl (none, is)) = is
+only_missing (Some contents) manner name names items absent (inr (raws, ending, (bytes, held, pages), are)) =
     absurd (let e : None ≡ Some bytes = sym absent ∙ held in cc)
 
 not_stop : (name : List ℕ) (before : List Item) (message : List ℕ) → Missing name ∷ [] ≡ before ++ Stop message ∷ [] → ⊥
@@ -156,22 +165,22 @@ not_stop name [] message e = cc
 not_stop name (item ∷ []) message e = cc
 not_stop name (item ∷ other ∷ before) message e = cc
 
-not_document : (name : List ℕ) (before : List Item) (document text : List ℕ) (after : List Item) → Missing name ∷ [] ≡ before ++ Doc document text ∷ after → ⊥
-not_document name [] document text after e = cc
-not_document name (item ∷ []) document text after e = cc
-not_document name (item ∷ other ∷ before) document text after e = cc
+not_document : (name : List ℕ) (before : List Item) (part : Part) (after : List Item) → Missing name ∷ [] ≡ before ++ Write part ∷ after → ⊥
+not_document name [] part after e = cc
+not_document name (item ∷ []) part after e = cc
+not_document name (item ∷ other ∷ before) part after e = cc
 
-first_absent : (s : Status) (settings : Settings) (output : Option (List ℕ)) (name : List ℕ) (names : List (List ℕ)) (source now : Source) (a b : Sinks) → IsAbsent (told_contents source.files) name
-    → IsOutcome s (told_contents source.files) settings output (name ∷ names) [] source now a b → (s ≡ status.Unread) ⊎ (s ≡ status.OutOfMemory)
-first_absent status.Done settings output name names source now a b absent (items, are, done, opens) =
-    absurd (subst GoesOn (only_missing (told_contents source.files) settings output name names items absent are) done.goes_on)
-first_absent status.BadWords settings output name names source now a b absent (items, are, ended) = absurd ended
-first_absent status.Refused settings output name names source now a b absent r =
-    absurd (not_stop name r.before r.message (sym (only_missing (told_contents source.files) settings output name names (r.before ++ Stop r.message ∷ []) absent r.all)))
-first_absent status.Unread settings output name names source now a b absent u = inl refl
-first_absent status.Unwritten settings output name names source now a b absent (items, are, u) =
-    absurd (not_document name u.before u.name u.text u.after (sym (only_missing (told_contents source.files) settings output name names items absent are) ∙ u.split))
-first_absent status.OutOfMemory settings output name names source now a b absent o = inr refl
+first_absent : (s : Status) (manner : Manner) (name : List ℕ) (names : List (List ℕ)) (source now : Source) (a b : Sinks) → IsAbsent (told_contents source.files) name
+    → IsOutcome s manner (name ∷ names) source now a b → (s ≡ status.Unread) ⊎ (s ≡ status.OutOfMemory)
+first_absent status.Done manner name names source now a b absent (items, are, done, opens) =
+    absurd (subst GoesOn (only_missing (told_contents source.files) manner name names items absent are) done.goes_on)
+first_absent status.BadWords manner name names source now a b absent (items, are, ended) = absurd ended
+first_absent status.Refused manner name names source now a b absent r =
+    absurd (not_stop name r.before r.message (sym (only_missing (told_contents source.files) manner name names (r.before ++ Stop r.message ∷ []) absent r.all)))
+first_absent status.Unread manner name names source now a b absent u = inl refl
+first_absent status.Unwritten manner name names source now a b absent (items, are, u) =
+    absurd (not_document name u.before u.part u.after (sym (only_missing (told_contents source.files) manner name names items absent are) ∙ u.split))
+first_absent status.OutOfMemory manner name names source now a b absent o = inr refl
 
 pub run_absent : (ask : Ask) (s : Status) (name : List ℕ) (names : List (List ℕ)) (source now : Source) (a b : Sinks) → IsRun ask s source now a b → names_of ask ≡ name ∷ names
     → IsAbsent (told_contents source.files) name → (s ≡ status.Unread) ⊎ (s ≡ status.OutOfMemory)
@@ -179,42 +188,68 @@ run_absent asks.Help s name names source now a b ran is absent = absurd (let e :
 run_absent asks.Version s name names source now a b ran is absent = absurd (let e : [] ≡ name ∷ names = is in cc)
 run_absent (asks.Demo pages workers settings) s name names source now a b ran is absent = absurd (let e : [] ≡ name ∷ names = is in cc)
 run_absent (asks.Files listed output workers settings) s name names source now a b ran is absent =
-    first_absent s settings output name names source now a b absent (subst (λ ns. IsOutcome s (told_contents source.files) settings output ns [] source now a b) is ran.outcome)
+    first_absent s (manner_under settings output) name names source now a b absent (subst (λ ns. IsOutcome s (manner_under settings output) ns source now a b) is ran.outcome)
 
 -- memory ran out while the words were read
-pub out_at_once : (ask : Ask) (source : Source) (a b : Sinks) → CanBeDone ask → AreCarriedOut [] (out_of_memory ∷ []) a b → IsOutcomeOf ask status.OutOfMemory source source a b
-out_at_once asks.Help source a b can done = record { before = []; after = Doc dash help_text ∷ []; split = refl; done = done }
-out_at_once asks.Version source a b can done = record { before = []; after = Doc dash version_text ∷ []; split = refl; done = done }
-out_at_once (asks.Demo pages workers settings) source a b can done =
+pub out_at_once : HaveDocuments → (ask : Ask) (source : Source) (a b : Sinks) → CanBeDone ask → AreCarriedOut [] (out_of_memory ∷ []) a b → IsOutcomeOf ask status.OutOfMemory source source a b
+out_at_once law asks.Help source a b can done = record { before = []; after = Doc dash help_text ∷ []; split = refl; done = done }
+out_at_once law asks.Version source a b can done = record { before = []; after = Doc dash version_text ∷ []; split = refl; done = done }
+out_at_once law (asks.Demo pages workers settings) source a b can done =
     let (text, is) = demo_found pages settings can.0.document in (text, is, record { before = []; after = Doc dash text ∷ []; split = refl; done = done })
-out_at_once (asks.Files names output workers settings) source a b can done =
-    let items = items_found (told_contents source.files) settings can.0.document output names [] in
+out_at_once law (asks.Files names output workers settings) source a b can done =
+    let items = items_found (told_contents source.files) (manner_under settings output) (law settings can.0.document output) names [] in
     (items.0, items.1, record { before = []; after = items.0; split = refl; done = done })
 
--- what the calls of the outputs answered, by the outcome
-ended_failed : (s : Status) (items : List Item) (a b : Sinks) → HasEnded s items a b → FailureCount s a.outs.failures b.outs.failures
-ended_failed status.Done items a b done = done.went
-ended_failed status.BadWords items a b ended = absurd ended
-ended_failed status.Refused items a b r = r.done.went
-ended_failed status.Unread items a b ended = absurd ended
-ended_failed status.Unwritten items a b u = u.failed
-ended_failed status.OutOfMemory items a b o = o.done.went
+-- How the outputs moved, by the outcome.
 
-files_failed : (s : Status) (settings : Settings) (output : Option (List ℕ)) (names : List (List ℕ)) (source now : Source) (a b : Sinks)
-    → IsOutcome s (told_contents source.files) settings output names [] source now a b → FailureCount s a.outs.failures b.outs.failures
-files_failed status.Done settings output names source now a b (items, are, done, opens) = done.went
-files_failed status.BadWords settings output names source now a b (items, are, ended) = absurd ended
-files_failed status.Refused settings output names source now a b r = r.done.went
-files_failed status.Unread settings output names source now a b (inl u) = u.done.went
-files_failed status.Unread settings output names source now a b (inr u) = u.done.went
-files_failed status.Unwritten settings output names source now a b (items, are, u) = u.failed
-files_failed status.OutOfMemory settings output names source now a b (items, are, o) = o.done.went
+carried_moves : (items : List Item) (last : List (List ℕ)) (a b : Sinks) → AllEnd items → a.is_open ≡ false → AreCarriedOut items last a b
+    → (b.outs.faults ≡ a.outs.faults) × (b.is_open ≡ false) × (b.outs.failures.count ≡ a.outs.failures.count)
+carried_moves items last a b all closed done = let (steady, shut) = carried_closed items last a b done all closed in (steady, shut, done.went)
 
-pub run_failed : (ask : Ask) (s : Status) (source now : Source) (a b : Sinks) → IsOutcomeOf ask s source now a b → FailureCount s a.outs.failures b.outs.failures
-run_failed asks.Help s source now a b ended = ended_failed s (Doc dash help_text ∷ []) a b ended
-run_failed asks.Version s source now a b ended = ended_failed s (Doc dash version_text ∷ []) a b ended
-run_failed (asks.Demo pages workers settings) s source now a b (text, is, ended) = ended_failed s (Doc dash text ∷ []) a b ended
-run_failed (asks.Files names output workers settings) s source now a b outcome = files_failed s settings output names source now a b outcome
+ended_moves : (s : Status) (items : List Item) (a b : Sinks) → AllEnd items → a.is_open ≡ false → HasEnded s items a b → OutputsMove s a b
+ended_moves status.Done items a b all closed done = carried_moves items [] a b all closed done
+ended_moves status.BadWords items a b all closed ended = absurd ended
+ended_moves status.Refused items a b all closed r = carried_moves r.before (r.message ∷ []) a b (AllEnd-front r.before (Stop r.message ∷ []) (subst AllEnd r.split all)) closed r.done
+ended_moves status.Unread items a b all closed ended = absurd ended
+ended_moves status.Unwritten items a b all closed u = (u.rose, u.failed)
+ended_moves status.OutOfMemory items a b all closed o = carried_moves o.before (out_of_memory ∷ []) a b (AllEnd-front o.before o.after (subst AllEnd o.split all)) closed o.done
+
+files_move : (s : Status) (manner : Manner) (names : List (List ℕ)) (source now : Source) (a b : Sinks) → a.is_open ≡ false
+    → IsOutcome s manner names source now a b → OutputsMove s a b
+files_move s manner names source now a b closed outcome = by_status s outcome where
+  told : Option Contents
+  told = told_contents source.files
+
+  whole : (items : List Item) → AreItems told manner Nothing names [] items → AllEnd items
+  whole items are = items_end told manner Nothing nothing_ends names [] items are
+
+  by_status : (s : Status) → IsOutcome s manner names source now a b → OutputsMove s a b
+  by_status status.Done (items, are, done, opens) = carried_moves items [] a b (whole items are) closed done
+  by_status status.BadWords (items, are, ended) = absurd ended
+  by_status status.Refused r =
+      carried_moves r.before (r.message ∷ []) a b (AllEnd-front r.before (Stop r.message ∷ []) (whole (r.before ++ Stop r.message ∷ []) r.all)) closed r.done
+  by_status status.Unread (inl u) =
+      carried_moves u.before (not_opened u.name ∷ []) a b (items_end told manner Nothing nothing_ends u.front [] u.before u.items) closed u.done
+  by_status status.Unread (inr u) =
+      carried_moves u.before _ a b
+      (items_end told manner _ (alone_end manner u.name u.raws) u.front [] u.before u.items) closed u.done
+  by_status status.Unwritten (items, are, u) = (u.rose, u.failed)
+  by_status status.OutOfMemory (items, are, o) = ended_moves status.OutOfMemory items a b (whole items are) closed o
+
+pub run_moves : (ask : Ask) (s : Status) (source now : Source) (a b : Sinks) → a.is_open ≡ false → IsOutcomeOf ask s source now a b → OutputsMove s a b
+run_moves asks.Help s source now a b closed ended = ended_moves s (Doc dash help_text ∷ []) a b (refl, tt) closed ended
+run_moves asks.Version s source now a b closed ended = ended_moves s (Doc dash version_text ∷ []) a b (refl, tt) closed ended
+run_moves (asks.Demo pages workers settings) s source now a b closed (text, is, ended) = ended_moves s (Doc dash text ∷ []) a b (refl, tt) closed ended
+run_moves (asks.Files names output workers settings) s source now a b closed outcome = files_move s (manner_under settings output) names source now a b closed outcome
+
+-- words that are refused move nothing
+pub refused_moves : (s : Status) (a b : Sinks) → a.is_open ≡ false → RefusesWords s a b → OutputsMove s a b
+refused_moves status.BadWords a b closed refused = carried_moves [] _ a b tt closed refused
+refused_moves status.OutOfMemory a b closed refused = carried_moves [] _ a b tt closed refused
+refused_moves status.Done a b closed refused = absurd refused
+refused_moves status.Refused a b closed refused = absurd refused
+refused_moves status.Unread a b closed refused = absurd refused
+refused_moves status.Unwritten a b closed refused = absurd refused
 
 -- Statuses and their codes.
 
@@ -257,24 +292,33 @@ code_one status.OutOfMemory status.Unread e = absurd (omega (arith, e))
 code_one status.OutOfMemory status.Unwritten e = absurd (omega (arith, e))
 
 -- the outputs' count rises only at that status, and no document stays open at another
-pub written_rose : (s : Status) (before now : ℕ) (ready : Bool) → OutputCount s before now ready → s ≡ status.Unwritten → Rose before now
-written_rose s before now ready w is = subst (λ t. OutputCount t before now ready) is w
+pub rose_by : (s : Status) (a b : Sinks) → OutputsMove s a b → s ≡ status.Unwritten → Rose a.outs.faults b.outs.faults
+rose_by s a b moves is = (subst (λ t. OutputsMove t a b) is moves).0
 
-pub rose_unwritten : (s : Status) (before now : ℕ) (ready : Bool) → OutputCount s before now ready → before < now → s ≡ status.Unwritten
-rose_unwritten status.Unwritten before now ready w less = refl
-rose_unwritten status.Done before now ready w less = absurd (omega (arith, w.0, less))
-rose_unwritten status.BadWords before now ready w less = absurd (omega (arith, w.0, less))
-rose_unwritten status.Refused before now ready w less = absurd (omega (arith, w.0, less))
-rose_unwritten status.Unread before now ready w less = absurd (omega (arith, w.0, less))
-rose_unwritten status.OutOfMemory before now ready w less = absurd (omega (arith, w.0, less))
+pub unwritten_by : (s : Status) (a b : Sinks) → OutputsMove s a b → a.outs.faults < b.outs.faults → s ≡ status.Unwritten
+unwritten_by status.Unwritten a b moves less = refl
+unwritten_by status.Done a b moves less = absurd (omega (arith, moves.0, less))
+unwritten_by status.BadWords a b moves less = absurd (omega (arith, moves.0, less))
+unwritten_by status.Refused a b moves less = absurd (omega (arith, moves.0, less))
+unwritten_by status.Unread a b moves less = absurd (omega (arith, moves.0, less))
+unwritten_by status.OutOfMemory a b moves less = absurd (omega (arith, moves.0, less))
 
-pub closed_else : (s : Status) (before now : ℕ) (ready : Bool) → OutputCount s before now ready → s ≢ status.Unwritten → ready ≡ false
-closed_else status.Unwritten before now ready w other = absurd (other refl)
-closed_else status.Done before now ready w other = w.1
-closed_else status.BadWords before now ready w other = w.1
-closed_else status.Refused before now ready w other = w.1
-closed_else status.Unread before now ready w other = w.1
-closed_else status.OutOfMemory before now ready w other = w.1
+pub closed_else : (s : Status) (a b : Sinks) → OutputsMove s a b → s ≢ status.Unwritten → b.is_open ≡ false
+closed_else status.Unwritten a b moves other = absurd (other refl)
+closed_else status.Done a b moves other = moves.1
+closed_else status.BadWords a b moves other = moves.1
+closed_else status.Refused a b moves other = moves.1
+closed_else status.Unread a b moves other = moves.1
+closed_else status.OutOfMemory a b moves other = moves.1
+
+-- what the calls of the outputs answered
+pub failed_by : (s : Status) (a b : Sinks) → OutputsMove s a b → FailureCount s a.outs.failures b.outs.failures
+failed_by status.Unwritten a b moves = moves.1
+failed_by status.Done a b moves = moves.2
+failed_by status.BadWords a b moves = moves.2
+failed_by status.Refused a b moves = moves.2
+failed_by status.Unread a b moves = moves.2
+failed_by status.OutOfMemory a b moves = moves.2
 
 -- what is asked for isn't refused
 pub never_refuses : (ask : Ask) (source now : Source) (a b : Sinks) → IsRun ask status.BadWords source now a b → ⊥

@@ -4,12 +4,14 @@
 pub mod Usage
 -- What the top call promises.
 --   IsCodeOf: the exit status is the code of a status of which this holds
+--   manner_under: the manner in which files become documents under some settings
 --   AreItemsOf: what a run is to write that is asked for this
 --   IsOutcomeOf: what a run has done that was asked for this
 --   names_of: the files that a run may open
 --   IsMissing: one of these files isn't there
 --   RefusesWords: words were refused
 --   FailureCount: what the calls of the outputs answered
+--   OutputsMove: how the outputs moved
 --   EndsRefused: the last of the items is a refusal
 --   EndsMissing: the last of the items is a file that isn't there
 --   IsComplete: what the status is where no device failed

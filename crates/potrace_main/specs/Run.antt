@@ -1,7 +1,9 @@
 -- What the top call promises.
-use Rattle.std.specs.Prelude.{◌≡◌, ℕ, ◌*◌, ◌⊎◌, List, [], ◌∷◌, ◌++◌, Option}
+use Rattle.std.specs.Prelude.{◌≡◌, ℕ, ◌*◌, ◌⊎◌, false, List, [], ◌∷◌, ◌++◌, Option}
+use Rattle.pt_base.specs.Counts.{Rose}
 use Rattle.pt_base.specs.Failures.{Failures, after_err}
 use Rattle.pt_base.specs.Files.{Contents}
+use Rattle.pt_base.specs.declared.settings.Settings.{Settings}
 use Rattle.run_output.specs.Messages.{bad_words, out_of_memory}
 use Rattle.run_output.specs.Names.{dash}
 use Rattle.run_output.specs.Status.{code_of}
@@ -9,11 +11,15 @@ use Rattle.run_output.specs.declared.status.Status.{Status}
 use Rattle.run_output.specs.declared.status.Status.TheVariants as status
 use Rattle.command_asks.specs.declared.ask.Ask.{Ask}
 use Rattle.command_asks.specs.declared.ask.Ask.TheVariants as asks
-use Rattle.file_trace.specs.Items.{AreItems, IsAbsent, Item, Nothing, told_contents}
-use Rattle.file_trace.specs.Items.Item.{Doc, Missing, Stop}
+use Rattle.page_batches.specs.Items.{Doc, GoesOn, Item}
+use Rattle.page_batches.specs.Items.Item.{Missing, Stop}
+use Rattle.page_batches.specs.Outcome.{AreCarriedOut, HasEnded, Sinks}
+use Rattle.file_trace.specs.Items.{AreItems, IsAbsent, Nothing, told_contents}
+use Rattle.file_trace.specs.Manner.{Manner, manner_by}
 use Rattle.file_trace.specs.OnePass.{IsOnePass}
-use Rattle.file_trace.specs.Outcome.{AreCarriedOut, GoesOn, HasEnded, IsOutcome, OpensFirst, Sinks, Source}
-use Rattle.file_trace.specs.Progress.{InputCount, OutputCount}
+use Rattle.file_trace.specs.Outcome.{IsOutcome, OpensFirst, Source}
+use Rattle.file_trace.specs.Progress.{InputCount}
+use Rattle.page_trace.specs.Document.{IsDocument}
 use Rattle.page_demo.specs.Line.{IsDemoText}
 use Rattle.potrace_main.specs.Usage.{help_text, version_text}
 
@@ -21,19 +27,24 @@ use Rattle.potrace_main.specs.Usage.{help_text, version_text}
 abbrev pub IsCodeOf : ℕ → (Status → Type 0) → Type 0
 IsCodeOf code P = (s : Status) × (code ≡ code_of s) × P s
 
+-- the manner in which files become documents under some settings: a page's text is its document
+abbrev pub manner_under : Settings → Option (List ℕ) → Manner
+manner_under settings output =
+    manner_by settings.level settings.invert output settings.backend (λ page text. IsDocument page settings text)
+
 -- what a run is to write that is asked for this
 abbrev pub AreItemsOf : Ask → Option Contents → List Item → Type 0
 AreItemsOf asks.Help contents items = items ≡ Doc dash help_text ∷ []
 AreItemsOf asks.Version contents items = items ≡ Doc dash version_text ∷ []
 AreItemsOf (asks.Demo pages workers settings) contents items = (text : List ℕ) × IsDemoText pages settings text × (items ≡ Doc dash text ∷ [])
-AreItemsOf (asks.Files names output workers settings) contents items = AreItems contents settings output Nothing names [] items
+AreItemsOf (asks.Files names output workers settings) contents items = AreItems contents (manner_under settings output) Nothing names [] items
 
 -- what a run has done that was asked for this
 abbrev pub IsOutcomeOf : Ask → Status → Source → Source → Sinks → Sinks → Type 0
 IsOutcomeOf asks.Help s source source_now old new = HasEnded s (Doc dash help_text ∷ []) old new
 IsOutcomeOf asks.Version s source source_now old new = HasEnded s (Doc dash version_text ∷ []) old new
 IsOutcomeOf (asks.Demo pages workers settings) s source source_now old new = (text : List ℕ) × IsDemoText pages settings text × HasEnded s (Doc dash text ∷ []) old new
-IsOutcomeOf (asks.Files names output workers settings) s source source_now old new = IsOutcome s (told_contents source.files) settings output names [] source source_now old new
+IsOutcomeOf (asks.Files names output workers settings) s source source_now old new = IsOutcome s (manner_under settings output) names source source_now old new
 
 -- the files that a run may open
 abbrev pub names_of : Ask → List (List ℕ)
@@ -61,6 +72,12 @@ abbrev pub FailureCount : Status → Failures → Failures → Type 0
 FailureCount status.Unwritten old new = new ≡ after_err old
 FailureCount s old new = new.count ≡ old.count
 
+-- how the outputs moved: where a document couldn't be written their count of faults rose, and one call failed, the last
+-- one; else no call failed, the count stayed, and no document is open
+abbrev pub OutputsMove : Status → Sinks → Sinks → Type 0
+OutputsMove status.Unwritten old new = Rose old.outs.faults new.outs.faults × (new.outs.failures ≡ after_err old.outs.failures)
+OutputsMove s old new = (new.outs.faults ≡ old.outs.faults) × (new.is_open ≡ false) × (new.outs.failures.count ≡ old.outs.failures.count)
+
 -- the last of the items is a refusal
 abbrev pub EndsRefused : List Item → Type 0
 EndsRefused items = (before : List Item) × (message : List ℕ) × (items ≡ before ++ Stop message ∷ [])
@@ -83,12 +100,11 @@ IsOnePassOf asks.Help source source_now old new = Unit {0}
 IsOnePassOf asks.Version source source_now old new = Unit {0}
 IsOnePassOf (asks.Demo pages workers settings) source source_now old new = Unit {0}
 IsOnePassOf (asks.Files names output workers settings) source source_now old new =
-    IsOnePass (2 * workers) [] (told_contents source.files) settings output names [] source source_now old new
+    IsOnePass (2 * workers) [] (told_contents source.files) (manner_under settings output) names [] source source_now old new
 
 -- all that a run does that is asked for this
 pub record IsRun (ask : Ask) (s : Status) (source source_now : Source) (old new : Sinks) : Type 0 where
   pub outcome : IsOutcomeOf ask s source source_now old new
   pub opened : OpensFirst (names_of ask) source source_now
   pub input : InputCount s source.faults source_now.faults
-  pub output : OutputCount s old.outs.faults new.outs.faults new.is_open
   pub one_pass : s ≡ status.Unwritten → IsOnePassOf ask source source_now old new

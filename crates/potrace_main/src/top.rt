@@ -9,27 +9,35 @@ ghost use Rattle.run_output.specs.declared.status.Status.{Status};
 ghost use Rattle.page_demo.specs.Line.{IsDemoText};
 ghost use Rattle.command_asks.specs.Asked.{CanBeDone, IsAsked};
 ghost use Rattle.command_asks.specs.declared.ask.Ask.{Ask};
-ghost use Rattle.file_trace.specs.Items.{IsAbsent, Item, told_contents};
-ghost use Rattle.file_trace.specs.Items.Item.{Doc};
-ghost use Rattle.file_trace.specs.Outcome.{HasEnded, OpensFirst, sinks_of, source_of};
-ghost use Rattle.file_trace.specs.Progress.{InputCount, OutputCount};
-ghost use Rattle.potrace_main.specs.Run.{AreItemsOf, FailureCount, IsCodeOf, IsComplete, IsMissing, IsOnePassOf, IsOutcomeOf, IsRun, RefusesWords, names_of};
+ghost use Rattle.page_batches.specs.Desks.{Keeps, sinks_at};
+ghost use Rattle.page_batches.specs.Items.{Doc, Item};
+ghost use Rattle.page_batches.specs.Outcome.{HasEnded, sinks_of};
+ghost use Rattle.file_trace.specs.Items.{IsAbsent, told_contents};
+ghost use Rattle.file_trace.specs.Outcome.{OpensFirst, source_of};
+ghost use Rattle.file_trace.specs.Progress.{InputCount};
+ghost use Rattle.potrace_main.specs.Run.{AreItemsOf, FailureCount, IsCodeOf, IsComplete, IsMissing, IsOnePassOf, IsOutcomeOf, IsRun, OutputsMove, RefusesWords, names_of};
 
 use crate::usage::{help_text, version_text};
 use command_asks::ask::{Ask, WordFault};
 use command_asks::words::settings_of;
 use command_words::name::Name;
 use file_trace::files::trace_files;
-use file_trace::text::write_text;
+use file_trace::task::Task;
+use page_batches::desk::Desk;
+use page_batches::plan::Plan;
 use page_demo::demo::demo_text;
+use page_documents::job::DocumentJob;
+use page_trace::laws::pages_have_documents;
 use pt_base::gate::Gate;
 use pt_base::inputs::Inputs;
 use pt_base::settings::Settings;
 use pt_base::sink::{Outputs, Sink};
 use run_output::message::{say_bad_words, say_out_of_memory};
+use run_output::part::Binding;
 use run_output::status::Status;
 use std::alloc::Global;
 use std::thread::Threads;
+use threshold_map::level::Level;
 
 /// Does all that the words ask for, and answers the exit status.
 ///
@@ -105,7 +113,9 @@ pub fn run<R: Threads + Sync, I: Inputs, O: Outputs, E: Sink, G: Gate + Sync>(
     // No document stays open but for a fault of the outputs.
     ensures closed { result ≢ code_of Status.Unwritten → O.is_ready outs.new ≡ false }
 {
-    answer(rt, alloc, words, inputs, outs, errs, gate).code()
+    pages_have_documents();
+    let mut desk = Desk { outs, errs };
+    answer(rt, alloc, words, inputs, &mut desk, gate).code()
 }
 
 /// Does all that the words ask for.
@@ -114,81 +124,86 @@ fn answer<R: Threads + Sync, I: Inputs, O: Outputs, E: Sink, G: Gate + Sync>(
     alloc: Global,
     words: &[String],
     inputs: &mut I,
-    outs: &mut O,
-    errs: &mut E,
+    desk: &mut Desk<O, E>,
     gate: &G,
 ) -> Status
-    requires closed { O.is_ready outs.old ≡ false }
-    requires ready { E.is_ready errs.old ≡ true }
+    requires closed { O.is_ready desk.old.outs.now ≡ false }
+    requires ready { E.is_ready desk.old.errs.now ≡ true }
     ensures ran { (ask : Ask) → IsAsked (map string_bytes words.now) ask → IsRun ask result
         (source_of I.Inputs inputs.old) (source_of I.Inputs inputs.new)
-        (sinks_of O.Sink E.Sink outs.old errs.old) (sinks_of O.Sink E.Sink outs.new errs.new) }
+        (sinks_at O.Sink E.Sink desk.old) (sinks_at O.Sink E.Sink desk.new) }
     ensures bad_words { result ≡ Status.BadWords → (ask : Ask) → IsAsked (map string_bytes words.now) ask → ⊥ }
     ensures refused { ((ask : Ask) → IsAsked (map string_bytes words.now) ask → ⊥)
         → (inputs.new ≡ inputs.old) × RefusesWords result
-        (sinks_of O.Sink E.Sink outs.old errs.old) (sinks_of O.Sink E.Sink outs.new errs.new) }
+        (sinks_at O.Sink E.Sink desk.old) (sinks_at O.Sink E.Sink desk.new) }
     ensures input { InputCount result (I.faults inputs.old) (I.faults inputs.new) }
-    ensures output { OutputCount result (O.faults outs.old) (O.faults outs.new)
-        (O.is_ready outs.new) }
-    ensures failed { FailureCount result (O.failures outs.old) (O.failures outs.new) }
+    ensures output { OutputsMove result (sinks_at O.Sink E.Sink desk.old) (sinks_at O.Sink E.Sink desk.new) }
+    ensures keeps { Keeps O.Sink E.Sink desk.old desk.new }
 {
     match settings_of(alloc, words) {
-        Ok(ask) => carry_out(rt, alloc, ask, inputs, outs, errs, gate),
+        Ok(ask) => carry_out(rt, alloc, ask, inputs, desk, gate),
         Err(WordFault::Bad) => {
-            say_bad_words(errs);
+            say_bad_words(desk.errs);
             Status::BadWords
         }
         Err(WordFault::NoMemory) => {
-            say_out_of_memory(errs);
+            pages_have_documents();
+            say_out_of_memory(desk.errs);
             Status::OutOfMemory
         }
     }
 }
 
 /// Does what is asked for.
-fn carry_out<R: Threads + Sync, I: Inputs, O: Outputs, E: Sink, G: Gate + Sync>(
-    rt: &R,
+fn carry_out<'a, R: Threads + Sync, I: Inputs, O: Outputs, E: Sink, G: Gate + Sync>(
+    rt: &'a R,
     alloc: Global,
     ask: Ask,
     inputs: &mut I,
-    outs: &mut O,
-    errs: &mut E,
-    gate: &G,
+    desk: &mut Desk<O, E>,
+    gate: &'a G,
 ) -> Status
     requires possible { CanBeDone ask }
-    requires closed { O.is_ready outs.old ≡ false }
-    requires ready { E.is_ready errs.old ≡ true }
+    requires closed { O.is_ready desk.old.outs.now ≡ false }
+    requires ready { E.is_ready desk.old.errs.now ≡ true }
     ensures ran { IsRun ask result
         (source_of I.Inputs inputs.old) (source_of I.Inputs inputs.new)
-        (sinks_of O.Sink E.Sink outs.old errs.old) (sinks_of O.Sink E.Sink outs.new errs.new) }
+        (sinks_at O.Sink E.Sink desk.old) (sinks_at O.Sink E.Sink desk.new) }
+    ensures keeps { Keeps O.Sink E.Sink desk.old desk.new }
 {
     match ask {
-        Ask::Help => write_text(outs, errs, help_text()),
-        Ask::Version => write_text(outs, errs, version_text()),
+        Ask::Help => desk.write_text(help_text()),
+        Ask::Version => desk.write_text(version_text()),
         Ask::Demo {
             pages,
             workers,
             settings,
-        } => write_demo(rt, alloc, pages, workers, settings, outs, errs, gate),
+        } => write_demo(rt, alloc, pages, workers, settings, desk, gate),
         Ask::Files {
             names,
             output,
             workers,
             settings,
         } => {
-            let output = text_of(&output);
-            trace_files(
-                rt,
+            let job = DocumentJob::new(settings);
+            job.has_documents();
+            let plan = Plan {
+                threads: rt,
                 alloc,
-                settings,
+                job: &job,
+                binding: Binding::Apart,
                 workers,
-                output,
-                names.as_slice(),
-                inputs,
-                outs,
-                errs,
                 gate,
-            )
+            };
+            let output = text_of(&output);
+            let task = Task {
+                plan,
+                level: Level::from_micro(settings.level),
+                invert: settings.invert,
+                output,
+                backend: settings.backend,
+            };
+            trace_files(&task, names.as_slice(), inputs, desk)
         }
     }
 }
@@ -200,26 +215,24 @@ fn write_demo<R: Threads + Sync, O: Outputs, E: Sink, G: Gate + Sync>(
     pages: u32,
     workers: u32,
     settings: Settings,
-    outs: &mut O,
-    errs: &mut E,
+    desk: &mut Desk<O, E>,
     gate: &G,
 ) -> Status
     requires some_worker { 1 ≤ workers }
     requires most_workers { workers ≤ 64 }
     requires offered { IsOffered settings }
     requires traced { CanTrace settings }
-    requires closed { O.is_ready outs.old ≡ false }
-    requires ready { E.is_ready errs.old ≡ true }
+    requires closed { O.is_ready desk.old.outs.now ≡ false }
+    requires ready { E.is_ready desk.old.errs.now ≡ true }
     ensures ended { (text : List ℕ) × IsDemoText pages settings text
         × HasEnded result (Doc dash text ∷ [])
-        (sinks_of O.Sink E.Sink outs.old errs.old) (sinks_of O.Sink E.Sink outs.new errs.new) }
-    ensures output { OutputCount result (O.faults outs.old) (O.faults outs.new)
-        (O.is_ready outs.new) }
+        (sinks_at O.Sink E.Sink desk.old) (sinks_at O.Sink E.Sink desk.new) }
+    ensures keeps { Keeps O.Sink E.Sink desk.old desk.new }
 {
     match demo_text(rt, alloc, pages, workers, settings, gate) {
-        Ok(text) => write_text(outs, errs, &text),
+        Ok(text) => desk.write_text(&text),
         Err(_) => {
-            say_out_of_memory(errs);
+            say_out_of_memory(desk.errs);
             Status::OutOfMemory
         }
     }

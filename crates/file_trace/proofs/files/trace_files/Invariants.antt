@@ -1,8 +1,10 @@
-use Rattle.std.proofs.Common.{◌≡◌, ◌<◌, ◌≤◌, ◌+◌, ◌*◌, length, min, take, false, true, option_map}
+use Rattle.std.proofs.Common.{◌≡◌, ◌≤◌, ◌+◌, ◌*◌, length, min, take}
 use Rattle.pt_base.specs.Counts.{last_count}
-use Rattle.file_trace.specs.Held.{pages_held}
+use Rattle.page_batches.specs.Desks.{Keeps, sinks_at}
 use Rattle.file_trace.specs.Items.{told_contents}
-use Rattle.file_trace.specs.Outcome.{OpensFirst, sinks_of, source_of}
+use Rattle.file_trace.specs.Outcome.{OpensFirst, source_of}
+use Rattle.file_trace.specs.Progress.{CanHold}
+use Rattle.file_trace.specs.Tasks.{manner_of}
 use Rattle.file_trace.proofs.Running.{AreDone}
 use Rattle.file_trace.proofs.files.trace_files.Given as goal
 
@@ -13,15 +15,13 @@ invariant-loop-name g l =
     let outs = g.O.Sink in
     let errs = g.E.Sink in
     record {
-      done : AreDone (2 * l.workers) (told_contents (inputs.files l.fn.inputs)) l.settings (option_map (λ s. s.now) l.output) (take l.name-index l.names) l.made l.batch
-          (sinks_of outs errs l.fn.outs l.fn.errs) (sinks_of outs errs l.outs l.errs);
+      done : AreDone (2 * l.task.plan.workers) (told_contents (inputs.files l.fn.inputs)) (manner_of g.J.PageJob l.task) (take l.name-index l.names) l.made l.batch
+          (sinks_at outs errs l.fn.desk) (sinks_at outs errs l.desk);
       within : l.name-index ≤ length l.names;
-      not_full : pages_held l.batch < 2 * l.workers;
+      going : CanHold outs errs (2 * l.task.plan.workers) l.desk l.batch;
       openings : inputs.openings l.inputs ≡ min (inputs.openings l.fn.inputs + l.name-index) last_count;
       opened : OpensFirst l.names (source_of inputs l.fn.inputs) (source_of inputs l.inputs);
       contents : told_contents (inputs.files l.inputs) ≡ told_contents (inputs.files l.fn.inputs);
       input : inputs.faults l.inputs ≡ inputs.faults l.fn.inputs;
-      output : outs.faults l.outs ≡ outs.faults l.fn.outs;
-      closed : outs.is_ready l.outs ≡ false;
-      ready : errs.is_ready l.errs ≡ true;
+      keeps : Keeps outs errs l.fn.desk l.desk;
     }

@@ -1,5 +1,7 @@
+use Rattle.file_trace.specs.Manner.{manner_by}
 use Rattle.file_trace.proofs.Exists.{items_found}
 use Rattle.file_trace.proofs.laws.files_have_items.Goals as goal
 
 pub returns : goal.returns
-returns c = λ contents settings output names made offered. items_found contents settings offered.document output names made
+returns g c = λ level invert output backend texts contents names made.
+    items_found contents (manner_by level invert output backend (g.J.PageJob.belongs c.args.job.now)) texts names made

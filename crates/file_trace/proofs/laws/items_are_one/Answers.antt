@@ -1,8 +1,11 @@
 use Rattle.std.proofs.Common.{◌∙◌, sym}
 use Rattle.file_trace.specs.Items.{Nothing}
+use Rattle.file_trace.specs.Manner.{manner_by}
 use Rattle.file_trace.proofs.OneItems.{one_list}
 use Rattle.file_trace.proofs.laws.items_are_one.Goals as goal
 
+-- a page has one text
 pub returns : goal.returns
-returns c = λ contents settings output names made.
-    one_list contents settings output Nothing (λ made one other a b. a ∙ sym b) names made
+returns g c = λ level invert output backend contents names made.
+    one_list contents (manner_by level invert output backend (g.J.PageJob.belongs c.args.job.now)) (g.met.J.PageJob.one_text c.args.job.now) Nothing
+    (λ made one other a b. a ∙ sym b) names made

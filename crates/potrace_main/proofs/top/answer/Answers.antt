@@ -4,8 +4,8 @@ use Rattle.run_output.specs.Messages.{bad_words, out_of_memory}
 use Rattle.run_output.specs.declared.status.Status.TheVariants as status
 use Rattle.command_asks.proofs.OneAsk.{one_ask}
 use Rattle.command_asks.proofs.Possible.{possible}
-use Rattle.file_trace.proofs.Carrying.{only_said}
-use Rattle.potrace_main.proofs.Completing.{never_refuses, out_at_once, run_failed}
+use Rattle.page_batches.proofs.Carrying.{only_said}
+use Rattle.potrace_main.proofs.Completing.{never_refuses, out_at_once, refused_moves, run_moves}
 use Rattle.potrace_main.proofs.top.answer.Goals as goal
 
 -- what the words ask for is done
@@ -18,23 +18,22 @@ returns-in-Ok-clause-bad_words g c = λ is ask asked. never_refuses c.in-Ok.ask 
 pub returns-in-Ok-clause-refused : goal.returns-in-Ok-clause-refused
 returns-in-Ok-clause-refused g c = λ none. absurd (none c.in-Ok.ask c.in-Ok.ensures.ok)
 
-pub returns-in-Ok-clause-failed : goal.returns-in-Ok-clause-failed
-returns-in-Ok-clause-failed g c = run_failed c.in-Ok.ask c.carry_out.result _ _ _ _ c.carry_out.ensures.ran.outcome
+pub returns-in-Ok-clause-output : goal.returns-in-Ok-clause-output
+returns-in-Ok-clause-output g c = run_moves c.in-Ok.ask c.carry_out.result _ _ _ _ c.requires.closed c.carry_out.ensures.ran.outcome
 
 -- the words ask for nothing
 pub returns-in-Err-Bad-clause-refused : goal.returns-in-Err-Bad-clause-refused
-returns-in-Err-Bad-clause-refused g c = λ none. (refl, only_said bad_words _ _ refl (record { said = c.say_bad_words.ensures.said; given_up = c.say_bad_words.ensures.given_up; never_falls = c.say_bad_words.ensures.never_falls }))
+returns-in-Err-Bad-clause-refused g c = λ none. (refl, only_said bad_words _ _ (record { outs = refl; opened = refl }) (record { said = c.say_bad_words.ensures.said; given_up = c.say_bad_words.ensures.given_up; never_falls = c.say_bad_words.ensures.never_falls }))
 
 -- memory ran out while they were read
 pub returns-in-Err-NoMemory-clause-ran : goal.returns-in-Err-NoMemory-clause-ran
 returns-in-Err-NoMemory-clause-ran g c = λ ask asked. record {
-  outcome = out_at_once ask _ _ _ (possible (map string_bytes c.args.words.now) ask asked)
-      (only_said out_of_memory _ _ refl (record { said = c.say_out_of_memory.ensures.said; given_up = c.say_out_of_memory.ensures.given_up; never_falls = c.say_out_of_memory.ensures.never_falls }));
+  outcome = out_at_once (λ settings can output page is. c.pages_have_documents.ensures page settings is can) ask _ _ _ (possible (map string_bytes c.args.words.now) ask asked)
+      (only_said out_of_memory _ _ (record { outs = refl; opened = refl }) (record { said = c.say_out_of_memory.ensures.said; given_up = c.say_out_of_memory.ensures.given_up; never_falls = c.say_out_of_memory.ensures.never_falls }));
   opened = inl (refl, refl);
   input = tt;
-  output = (refl, c.requires.closed);
   one_pass = λ e. absurd (let no : status.OutOfMemory ≡ status.Unwritten = e in cc);
 }
 
 pub returns-in-Err-NoMemory-clause-refused : goal.returns-in-Err-NoMemory-clause-refused
-returns-in-Err-NoMemory-clause-refused g c = λ none. (refl, only_said out_of_memory _ _ refl (record { said = c.say_out_of_memory.ensures.said; given_up = c.say_out_of_memory.ensures.given_up; never_falls = c.say_out_of_memory.ensures.never_falls }))
+returns-in-Err-NoMemory-clause-refused g c = λ none. (refl, only_said out_of_memory _ _ (record { outs = refl; opened = refl }) (record { said = c.say_out_of_memory.ensures.said; given_up = c.say_out_of_memory.ensures.given_up; never_falls = c.say_out_of_memory.ensures.never_falls }))

@@ -1,13 +1,10 @@
 use Rattle.potrace_main.proofs.top.carry_out.Goals as goal
 
--- files are traced
-pub returns-in-Files : goal.returns-in-Files
-returns-in-Files g c = record {
-  ran = rw c.in-Files.is (record {
-    outcome = rw (c.text_of-output.ensures, c.as_slice.ensures) at c.trace_files.ensures.outcome;
-    opened = rw c.as_slice.ensures at c.trace_files.ensures.opened;
-    input = c.trace_files.ensures.input;
-    output = c.trace_files.ensures.output;
-    one_pass = rw (c.text_of-output.ensures, c.as_slice.ensures) at c.trace_files.ensures.one_pass;
-  });
-}
+-- files are read, and their pages traced
+pub returns-in-Files-clause-ran : goal.returns-in-Files-clause-ran
+returns-in-Files-clause-ran g c = rw c.in-Files.is (record {
+  outcome = rw (c.text_of-output.ensures, c.as_slice.ensures, c.from_micro.ensures, c.new-job.ensures) at c.trace_files.ensures.outcome;
+  opened = rw c.as_slice.ensures at c.trace_files.ensures.opened;
+  input = c.trace_files.ensures.input;
+  one_pass = λ is. rw (c.text_of-output.ensures, c.as_slice.ensures, c.from_micro.ensures, c.new-job.ensures) at c.trace_files.ensures.one_pass is;
+})

@@ -1,29 +1,23 @@
-use Rattle.std.proofs.Common.{◌∙◌, ap, inl, inr, map, sym}
+use Rattle.std.proofs.Common.{◌∙◌, ap, inl, inr, map, rules, sym}
 use Rattle.std.specs.Prelude.{string_bytes}
+use Rattle.pt_base.specs.Counts.{Rose}
 use Rattle.run_output.specs.Status.{code_of}
 use Rattle.command_asks.proofs.Possible.{possible}
-use Rattle.potrace_main.proofs.Completing.{closed_else, code_one, rose_unwritten, run_absent, run_complete, run_unread, written_rose}
+use Rattle.potrace_main.proofs.Completing.{code_one, run_absent, run_complete, run_unread}
 use Rattle.potrace_main.proofs.top.run.Goals as goal
-
-pub returns-clause-outcome : goal.returns-clause-outcome
-returns-clause-outcome g c = λ ask asked. (c.answer.result, c.code.ensures, (c.answer.ensures.ran ask asked).outcome)
 
 pub returns-clause-complete : goal.returns-clause-complete
 returns-clause-complete g c = λ ask asked.
-    let all = run_complete ask c.answer.result _ _ _ _ (possible (map string_bytes c.args.words.now) ask asked) (c.answer.ensures.ran ask asked) in
-    (all.0, all.1, λ no_read no_write. (c.answer.result, c.code.ensures, all.2 no_read no_write))
+    let all = run_complete (λ settings can output page is. c.pages_have_documents.ensures page settings is can) ask c.answer.result _ _ _ _ (possible (map string_bytes c.args.words.now) ask asked) (c.answer.ensures.ran ask asked) in
+    (all.0, all.1, λ no_read no_write.
+    let none : Rose (g.O.Sink.faults c.args.outs.now) (g.O.Sink.faults c.answer.new.desk.outs.now) → ⊥ = search rules in
+    (c.answer.result, c.code.ensures, all.2 no_read none))
 
 pub returns-clause-bad_words : goal.returns-clause-bad_words
 returns-clause-bad_words g c = λ is. c.answer.ensures.bad_words (code_one c.answer.result _ (sym c.code.ensures ∙ is))
 
-pub returns-clause-refused : goal.returns-clause-refused
-returns-clause-refused g c = λ none. let refused = c.answer.ensures.refused none in (refused.0, (c.answer.result, c.code.ensures, refused.1))
-
 pub returns-clause-opened : goal.returns-clause-opened
 returns-clause-opened g c = λ ask asked. (c.answer.ensures.ran ask asked).opened
-
-pub returns-clause-one_pass : goal.returns-clause-one_pass
-returns-clause-one_pass g c = λ ask asked is. (c.answer.ensures.ran ask asked).one_pass (code_one c.answer.result _ (sym c.code.ensures ∙ is))
 
 pub returns-clause-unread : goal.returns-clause-unread
 returns-clause-unread g c = λ ask asked is.
@@ -38,15 +32,3 @@ returns-clause-absent g c = λ ask name names asked listed absent.
 
 pub returns-clause-read : goal.returns-clause-read
 returns-clause-read g c = (c.answer.result, c.code.ensures, c.answer.ensures.input)
-
-pub returns-clause-unwritten : goal.returns-clause-unwritten
-returns-clause-unwritten g c = λ is. written_rose c.answer.result _ _ _ c.answer.ensures.output (code_one c.answer.result _ (sym c.code.ensures ∙ is))
-
-pub returns-clause-unwritten_always : goal.returns-clause-unwritten_always
-returns-clause-unwritten_always g c = λ less. c.code.ensures ∙ ap code_of (rose_unwritten c.answer.result _ _ _ c.answer.ensures.output less)
-
-pub returns-clause-failed : goal.returns-clause-failed
-returns-clause-failed g c = (c.answer.result, c.code.ensures, c.answer.ensures.failed)
-
-pub returns-clause-closed : goal.returns-clause-closed
-returns-clause-closed g c = λ other. closed_else c.answer.result _ _ _ c.answer.ensures.output (λ is. other (c.code.ensures ∙ ap code_of is))

@@ -1,7 +1,7 @@
 use Rattle.std.proofs.Common.{[], ◌∷◌, refl}
 use Rattle.run_output.specs.Names.{dash}
-use Rattle.file_trace.specs.Items.Item.{Doc}
-use Rattle.file_trace.proofs.Keeping.{memory_out}
+use Rattle.page_batches.specs.Items.{Doc}
+use Rattle.page_batches.proofs.Carrying.{memory_out}
 use Rattle.page_demo.proofs.Found.{demo_found}
 use Rattle.potrace_main.proofs.top.write_demo.Goals as goal
 
@@ -9,4 +9,4 @@ use Rattle.potrace_main.proofs.top.write_demo.Goals as goal
 pub returns-in-Err-clause-ended : goal.returns-in-Err-clause-ended
 returns-in-Err-clause-ended g c =
     let (text, is) = demo_found c.args.pages c.args.settings c.requires.offered.document in
-    (text, is, memory_out (Doc dash text ∷ []) _ _ refl (record { said = c.say_out_of_memory.ensures.said; given_up = c.say_out_of_memory.ensures.given_up; never_falls = c.say_out_of_memory.ensures.never_falls }))
+    (text, is, memory_out (Doc dash text ∷ []) _ _ (record { outs = refl; opened = refl }) (record { said = c.say_out_of_memory.ensures.said; given_up = c.say_out_of_memory.ensures.given_up; never_falls = c.say_out_of_memory.ensures.never_falls }))

@@ -1,0 +1,35 @@
+-- The manner in which files become documents.
+use Rattle.std.specs.Prelude.{◌≡◌, ℕ, Bool, List, Option}
+use Rattle.pt_base.specs.declared.settings.Backend.{Backend}
+use Rattle.bit_image.specs.Page.{IsPage, Page as Pixels}
+use Rattle.bitmap_input.specs.Raw.{Raw, shown}
+use Rattle.run_output.specs.Names.{base_name}
+
+-- how pages are read, how documents are named, and which texts belong to a page
+pub record Manner : Type 1 where
+  pub level : ℕ
+  pub invert : Bool
+  pub output : Option (List ℕ)
+  pub backend : Backend
+  pub belongs : Pixels → List ℕ → Type 0
+
+-- the manner of these
+abbrev pub manner_by : ℕ → Bool → Option (List ℕ) → Backend → (Pixels → List ℕ → Type 0) → Manner
+manner_by level invert output backend belongs =
+    record { level = level; invert = invert; output = output; backend = backend; belongs = belongs }
+
+-- the page that is read of a raw one
+abbrev pub shown_by : Manner → Raw → Pixels
+shown_by manner raw = shown manner.level manner.invert raw
+
+-- the name by which all documents of the file of this name go
+abbrev pub base_by : Manner → List ℕ → List ℕ
+base_by manner name = base_name manner.output manner.backend name
+
+-- a text belongs to each page
+abbrev pub HasTexts : Manner → Type 0
+HasTexts manner = (page : Pixels) → IsPage page → (text : List ℕ) × manner.belongs page text
+
+-- and only one
+abbrev pub HasOneText : Manner → Type 0
+HasOneText manner = (page : Pixels) (text other : List ℕ) → manner.belongs page text → manner.belongs page other → text ≡ other

@@ -1,0 +1,26 @@
+//! What stays the same through a run over files.
+ghost use Rattle.std.specs.Prelude.{◌≡◌};
+ghost use Rattle.run_output.specs.declared.part.Binding.{Binding};
+
+use page_batches::plan::Plan;
+use page_workers::job::PageJob;
+use pt_base::gate::Gate;
+use pt_base::settings::Backend;
+use std::thread::Threads;
+use threshold_map::level::Level;
+
+/// What is done with the pages of files, how these are read, and how documents are named.
+#[derive(Drop)]
+pub struct Task<'a, 'b, R: Threads + Sync, J: PageJob + Sync, G: Gate + Sync> {
+    /// What is done with a page, and by how many workers.
+    pub plan: Plan<'a, R, J, G>,
+    /// Up to which brightness a pixel is black.
+    pub level: Level,
+    /// Whether each pixel is inverted.
+    pub invert: bool,
+    /// The name of all documents, where one is given. Else they are named after their files.
+    pub output: Option<&'b str>,
+    /// What documents are: their names end so.
+    pub backend: Backend,
+    ghost apart: { plan.binding ≡ Binding.Apart },
+}
