@@ -6,7 +6,8 @@ use Rattle.bitmap_input.specs.Cut.Ending.{End, Trailing, Refused}
 use Rattle.bitmap_input.specs.Raw.{Raw}
 use Rattle.page_batches.specs.Items.{Item, is_open_behind}
 use Rattle.page_batches.specs.Items.Item.{Missing, Note, Stop, Write}
-use Rattle.page_batches.specs.Outcome.{AreCarriedOut, Sinks}
+use Rattle.page_batches.specs.Outcome.{AreCarriedOut}
+use Rattle.run_output.specs.Told.{Sinks}
 use Rattle.file_trace.specs.Items.{AreItems, ArePageItems, Nothing, Rest}
 use Rattle.file_trace.specs.Manner.{Manner, base_by}
 

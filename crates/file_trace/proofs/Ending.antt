@@ -19,12 +19,13 @@ use Rattle.run_output.specs.declared.part.Binding.TheVariants.{Apart}
 use Rattle.page_batches.specs.Held.{AreHeld, Held, LeavesBatch}
 use Rattle.page_batches.specs.Items.{Item}
 use Rattle.page_batches.specs.Items.Item.{Stop}
-use Rattle.page_batches.specs.Outcome.{AreCarriedOut, HasEnded, IsHalt, IsMessage, Sinks}
+use Rattle.page_batches.specs.Outcome.{AreCarriedOut, HasEnded, IsHalt}
+use Rattle.run_output.specs.Told.{IsMessage, Sinks, Source}
 use Rattle.page_batches.proofs.Carrying.{GoesOn-behind, IsSaying, carried_on, ended_more, ended_on, memory_out, only_said}
 use Rattle.page_batches.proofs.Holding.{ended_behind, halts_by, holds_goes_on}
 use Rattle.file_trace.specs.Items.{AreItems, IsAbsent, Nothing, told_contents}
 use Rattle.file_trace.specs.Manner.{HasTexts, Manner, base_by}
-use Rattle.file_trace.specs.Outcome.{HoldsBytes, IsOutcomeBehind, IsUnopened, IsUnread, OpensUpTo, ReadsFileNear, ReadsNear, Source, opened_name}
+use Rattle.file_trace.specs.Outcome.{HoldsBytes, IsOutcomeBehind, IsUnopened, IsUnread, OpensUpTo, ReadsFileNear, ReadsNear, opened_name}
 use Rattle.file_trace.specs.Progress.{EndsWithFile, Halts, InputCount, Traces, TracesFile, docs, end_message, status_of}
 use Rattle.file_trace.specs.Unopened.{EndsUnopened}
 use Rattle.file_trace.specs.declared.pages.PagesEnd.{PagesEnd}

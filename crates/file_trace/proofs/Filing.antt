@@ -25,7 +25,8 @@ use Rattle.run_output.specs.declared.part.Binding.TheVariants.{Apart}
 use Rattle.page_batches.specs.Held.{AreHeld, Held, Holds}
 use Rattle.page_batches.specs.Items.{Item}
 use Rattle.page_batches.specs.Items.Item.{Note, Stop}
-use Rattle.page_batches.specs.Outcome.{HasEnded, IsHalt, Sinks}
+use Rattle.page_batches.specs.Outcome.{HasEnded, IsHalt}
+use Rattle.run_output.specs.Told.{Sinks}
 use Rattle.page_batches.proofs.Carrying.{ended_more}
 use Rattle.page_batches.proofs.Holding.{holds_on}
 use Rattle.file_trace.specs.Items.{AreItems, ArePageItems, HoldsPages, Nothing, Rest, told_contents, too_many}

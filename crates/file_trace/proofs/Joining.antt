@@ -14,13 +14,14 @@ use Rattle.run_output.specs.declared.part.Binding.TheVariants.{Apart}
 use Rattle.page_batches.specs.Held.{AreHeld, Held, Holds}
 use Rattle.page_batches.specs.Items.{GoesOn, Item, page_count}
 use Rattle.page_batches.specs.Items.Item.{Stop}
-use Rattle.page_batches.specs.Outcome.{AreCarriedOut, HasEnded, Sinks}
+use Rattle.page_batches.specs.Outcome.{AreCarriedOut, HasEnded}
+use Rattle.run_output.specs.Told.{Sinks, Source}
 use Rattle.page_batches.proofs.Carrying.{GoesOn-append, GoesOn-behind, carried_on, ended_on, unwritten_as, unwritten_on}
 use Rattle.page_batches.proofs.Holding.{holds_goes_on, page_count-append}
 use Rattle.file_trace.specs.Items.{AreItems, ArePageItems, IsAbsent, Nothing, Rest}
 use Rattle.file_trace.specs.Manner.{Manner, base_by}
 use Rattle.file_trace.specs.OnePass.{IfReadsTo, IsOnePass, batch_end}
-use Rattle.file_trace.specs.Outcome.{IsOutcomeBehind, OpensUpTo, Source}
+use Rattle.file_trace.specs.Outcome.{IsOutcomeBehind, OpensUpTo}
 use Rattle.file_trace.specs.Progress.{EndsWith}
 use Rattle.file_trace.proofs.OnePass.{batch_end_behind}
 

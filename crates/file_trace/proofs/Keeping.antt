@@ -9,10 +9,10 @@ use Rattle.run_output.specs.declared.status.Status.TheVariants as status
 use Rattle.page_batches.specs.Desks.{Keeps}
 use Rattle.page_batches.specs.Held.{EndsHolding, Held}
 use Rattle.page_batches.specs.Items.{Item}
-use Rattle.page_batches.specs.Outcome.{HasEnded, Sinks}
+use Rattle.page_batches.specs.Outcome.{HasEnded}
+use Rattle.run_output.specs.Told.{Sinks, Source}
 use Rattle.page_batches.specs.declared.desk.Desk.{Desk}
-use Rattle.file_trace.specs.Outcome.{Source}
-use Rattle.file_trace.specs.Progress.{StaysIn, Takes}
+use Rattle.file_trace.specs.Progress.{OpensNoFile, TakesBytes}
 use Rattle.file_trace.proofs.Reading.{contents_taken, name_taken}
 
 -- the same desk, after one call and another
@@ -26,7 +26,7 @@ keeps_on of_outs of_errs x y z first next = record {
 }
 
 -- bytes were taken of the opened file
-pub stays_taken : (old new : Reader) (start before now : Source) → StaysIn start before → Takes old before new now → StaysIn start now
+pub stays_taken : (old new : Reader) (start before now : Source) → OpensNoFile start before → TakesBytes old before new now → OpensNoFile start now
 stays_taken old new start before now stays takes = record {
   openings = takes.openings ∙ stays.openings;
   name = name_taken old new before.files now.files takes.needed ∙ stays.name;

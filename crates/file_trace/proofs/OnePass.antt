@@ -7,12 +7,12 @@ use Rattle.run_output.specs.declared.part.Binding.TheVariants.{Apart}
 use Rattle.page_batches.specs.Held.{AreHeld, Held, Holds, pages_held}
 use Rattle.page_batches.specs.Items.{Doc, Item, page_count}
 use Rattle.page_batches.specs.Items.Item.{Write}
-use Rattle.page_batches.specs.Outcome.{IsUnwritten, Sinks}
+use Rattle.page_batches.specs.Outcome.{IsUnwritten}
+use Rattle.run_output.specs.Told.{Sinks, Source}
 use Rattle.page_batches.proofs.Carrying.{unwritten_as, unwritten_more, unwritten_on}
 use Rattle.page_batches.proofs.Holding.{page_count-append, page_count-held, split_on}
 use Rattle.file_trace.specs.Items.{AreItems, Nothing}
 use Rattle.file_trace.specs.Manner.{Manner}
-use Rattle.file_trace.specs.Outcome.{Source}
 use Rattle.file_trace.specs.OnePass.{IfReadsTo, IsOnePass, batch_end}
 use Rattle.file_trace.specs.Progress.{IsInBatch, IsInPart}
 

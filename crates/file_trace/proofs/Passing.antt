@@ -9,12 +9,13 @@ use Rattle.run_output.specs.declared.part.Binding.TheVariants.{Apart}
 use Rattle.page_batches.specs.Held.{AreHeld, Held, pages_held}
 use Rattle.page_batches.specs.Items.{GoesOn, Item, page_count}
 use Rattle.page_batches.specs.Items.Item.{Missing, Stop}
-use Rattle.page_batches.specs.Outcome.{HasEnded, IsUnwritten, Sinks}
+use Rattle.page_batches.specs.Outcome.{HasEnded, IsUnwritten}
+use Rattle.run_output.specs.Told.{Sinks, Source}
 use Rattle.page_batches.proofs.Holding.{page_count-held}
 use Rattle.file_trace.specs.Items.{IsAbsent, told_contents}
 use Rattle.file_trace.specs.Manner.{HasTexts, Manner, base_by}
 use Rattle.file_trace.specs.OnePass.{IfReadsTo, IsOnePass}
-use Rattle.file_trace.specs.Outcome.{LeavesBehind, Source, opened_name}
+use Rattle.file_trace.specs.Outcome.{LeavesBehind, opened_name}
 use Rattle.file_trace.specs.Progress.{EndsWithFile, Halts, IsInPart, Traces, docs, end_message, status_of}
 use Rattle.file_trace.specs.Unopened.{EndsUnopened}
 use Rattle.file_trace.specs.declared.pages.PagesEnd.{PagesEnd}

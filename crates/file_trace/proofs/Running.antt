@@ -8,13 +8,14 @@ use Rattle.run_output.specs.declared.status.Status.TheVariants as status
 use Rattle.run_output.specs.declared.part.Binding.TheVariants.{Apart}
 use Rattle.page_batches.specs.Held.{AreHeld, Held, Holds, pages_held}
 use Rattle.page_batches.specs.Items.{Item}
-use Rattle.page_batches.specs.Outcome.{AreCarriedOut, HasEnded, IsHalt, IsUnwritten, Sinks}
+use Rattle.page_batches.specs.Outcome.{AreCarriedOut, HasEnded, IsHalt, IsUnwritten}
+use Rattle.run_output.specs.Told.{Sinks, Source}
 use Rattle.page_batches.proofs.Carrying.{carried_on, ended_on}
 use Rattle.page_batches.proofs.Holding.{all_held, holds_goes_on, holds_on}
 use Rattle.file_trace.specs.Items.{AreItems, Nothing}
 use Rattle.file_trace.specs.Manner.{Manner}
 use Rattle.file_trace.specs.OnePass.{IsOnePass}
-use Rattle.file_trace.specs.Outcome.{IsOutcomeBehind, OpensFirst, Source, opened_name}
+use Rattle.file_trace.specs.Outcome.{IsOutcomeBehind, OpensFirst, opened_name}
 use Rattle.file_trace.specs.Progress.{EndsWith, TracesFile}
 use Rattle.file_trace.proofs.Ending.{outcome_of_halt}
 use Rattle.file_trace.proofs.Joining.{items_join, one_pass_on, outcome_on}

@@ -21,7 +21,8 @@ use Rattle.run_output.proofs.Naming.{made_with-in}
 use Rattle.run_output.specs.declared.part.Binding.TheVariants.{Apart}
 use Rattle.page_batches.specs.Held.{AreHeld, Held, Holds, pages_held}
 use Rattle.page_batches.specs.Items.{Doc, Item}
-use Rattle.page_batches.specs.Outcome.{HasEnded, Sinks}
+use Rattle.page_batches.specs.Outcome.{HasEnded}
+use Rattle.run_output.specs.Told.{Sinks}
 use Rattle.page_batches.proofs.Holding.{all_held, ended_behind, holds_on}
 use Rattle.file_trace.specs.Manner.{Manner}
 use Rattle.file_trace.specs.Outcome.{BeginsSettled, BeginsWith, LeavesBehind, ReadsNear, is_later}

@@ -21,8 +21,6 @@ pub mod Tasks
 --   AreItems: the items of files in order, and what follows them
 pub mod Items
 -- What a run has done, against the items that it was to write.
---   Source: the inputs
---   source_of: what inputs tell
 --   OpensUpTo: the file of this name is the last one that was asked for
 --   opened_name: the name of the opened file, where that is told and a file is opened
 --   OpensFirst: nothing was opened; or the first of these files were
@@ -60,8 +58,8 @@ pub mod OnePass
 --   CanRead: a file is opened, and the reader stands in it
 --   EndsReading: the reading of pages ended for this reason
 --   Answered: the next page was read, or none was for this reason
---   Takes: bytes were taken of the opened file, and no file was opened
---   StaysIn: no file was opened
+--   TakesBytes: bytes were taken of the opened file, and no file was opened
+--   OpensNoFile: no file was opened
 --   CanHold: what is held waits for the pages of a file
 --   IsAtStart: a file was opened, and nothing is read of it
 --   AsksFor: the file of this name was asked for

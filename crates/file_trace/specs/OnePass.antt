@@ -6,10 +6,11 @@ use Rattle.pt_base.specs.Files.{Contents}
 use Rattle.bitmap_input.specs.Cut.Ending.{End}
 use Rattle.bitmap_input.specs.Raw.{Raw}
 use Rattle.page_batches.specs.Items.{GoesOn, Item, page_count}
-use Rattle.page_batches.specs.Outcome.{IsUnwritten, Sinks}
+use Rattle.page_batches.specs.Outcome.{IsUnwritten}
+use Rattle.run_output.specs.Told.{Sinks, Source}
 use Rattle.file_trace.specs.Items.{AreItems, ArePageItems, Nothing}
 use Rattle.file_trace.specs.Manner.{Manner, base_by}
-use Rattle.file_trace.specs.Outcome.{LeavesBehind, OpensUpTo, Source}
+use Rattle.file_trace.specs.Outcome.{LeavesBehind, OpensUpTo}
 
 -- in batches of so many pages, how many pages there are up to the end of the batch behind k whole documents
 abbrev pub batch_end : ℕ → ℕ → ℕ

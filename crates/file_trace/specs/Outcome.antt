@@ -17,26 +17,10 @@ use Rattle.run_output.specs.declared.status.Status.{Status}
 use Rattle.run_output.specs.declared.status.Status.TheVariants as status
 use Rattle.page_batches.specs.Items.{Item}
 use Rattle.page_batches.specs.Items.Item.{Stop}
-use Rattle.page_batches.specs.Outcome.{AreCarriedOut, HasEnded, Sinks}
+use Rattle.page_batches.specs.Outcome.{AreCarriedOut, HasEnded}
+use Rattle.run_output.specs.Told.{Sinks, Source}
 use Rattle.file_trace.specs.Items.{AreItems, ArePageItems, IsAbsent, Nothing, told_contents}
 use Rattle.file_trace.specs.Manner.{Manner, base_by}
-
--- the inputs: the files that they tell, whether one is opened, how many openings there were, and their count
--- of faults
-pub record Source : Type 0 where
-  pub files : Option Files
-  pub is_opened : Bool
-  pub openings : ℕ
-  pub faults : ℕ
-
--- what inputs tell
-abbrev pub source_of : {A : Type 0} → InputGhosts A → A → Source
-source_of of_inputs inputs = record {
-  files = of_inputs.files inputs;
-  is_opened = of_inputs.is_opened inputs;
-  openings = of_inputs.openings inputs;
-  faults = of_inputs.faults inputs;
-}
 
 -- the file of this name is the last one that was asked for: those in front of it were opened before, each
 -- once and in order

@@ -23,11 +23,12 @@ use Rattle.run_output.specs.declared.status.Status.TheVariants as status
 use Rattle.page_batches.specs.Items.{Doc, Item, page_count}
 use Rattle.page_batches.specs.Items.Item.{Note}
 use Rattle.page_batches.specs.Held.{AreHeld, Held, Holds, Waits}
-use Rattle.page_batches.specs.Outcome.{AreCarriedOut, HasEnded, IsHalt, IsUnwritten, Sinks}
+use Rattle.page_batches.specs.Outcome.{AreCarriedOut, HasEnded, IsHalt, IsUnwritten}
+use Rattle.run_output.specs.Told.{Sinks, Source}
 use Rattle.page_batches.specs.declared.desk.Desk.{Desk}
 use Rattle.file_trace.specs.Items.{AreItems, Rest, told_contents, too_many}
 use Rattle.file_trace.specs.Manner.{Manner, shown_by}
-use Rattle.file_trace.specs.Outcome.{BeginsWith, IsOutcomeBehind, LeavesBehind, ReadsNear, Source, StopsReading, is_later, opened_name}
+use Rattle.file_trace.specs.Outcome.{BeginsWith, IsOutcomeBehind, LeavesBehind, ReadsNear, StopsReading, is_later, opened_name}
 use Rattle.file_trace.specs.OnePass.{IsOnePass}
 use Rattle.file_trace.specs.declared.pages.PagesEnd.{PagesEnd}
 use Rattle.file_trace.specs.declared.pages.PagesEnd.TheVariants as why
@@ -131,12 +132,12 @@ Answered (Ok page) manner old before new now =
 Answered (Err end) manner old before new now = EndsReading end old before new now × (end ≢ why.TooMany)
 
 -- bytes were taken of the opened file, as far as what stands ahead needs them, and no file was opened
-pub record Takes (old : Reader) (before : Source) (new : Reader) (now : Source) : Type 0 where
+pub record TakesBytes (old : Reader) (before : Source) (new : Reader) (now : Source) : Type 0 where
   pub needed : TakesNeeded old before.files new now.files
   pub openings : now.openings ≡ before.openings
 
 -- no file was opened: the opened one is the one that was, and the files hold what they held
-pub record StaysIn (old new : Source) : Type 0 where
+pub record OpensNoFile (old new : Source) : Type 0 where
   pub openings : new.openings ≡ old.openings
   pub name : opened_name new.files ≡ opened_name old.files
   pub contents : told_contents new.files ≡ told_contents old.files

@@ -4,7 +4,8 @@ use Rattle.run_output.specs.Messages.{not_opened}
 use Rattle.run_output.specs.declared.status.Status.{Status}
 use Rattle.run_output.specs.declared.status.Status.TheVariants as status
 use Rattle.page_batches.specs.Items.{Item}
-use Rattle.page_batches.specs.Outcome.{AreCarriedOut, HasEnded, IsHalt, Sinks}
+use Rattle.page_batches.specs.Outcome.{AreCarriedOut, HasEnded, IsHalt}
+use Rattle.run_output.specs.Told.{Sinks}
 
 -- the run ends where the file of this name can't be opened: these items, which were held, are carried out, and
 -- that is said; or they are carried out as far as the status says

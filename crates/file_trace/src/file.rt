@@ -7,7 +7,7 @@ ghost use Rattle.page_batches.specs.Held.{AreHeld};
 ghost use Rattle.page_batches.specs.Items.{Item};
 ghost use Rattle.page_batches.specs.Outcome.{IsHalt, ended_with};
 ghost use Rattle.file_trace.specs.Manner.{HasTexts};
-ghost use Rattle.file_trace.specs.Outcome.{source_of};
+ghost use Rattle.run_output.specs.Told.{source_of};
 ghost use Rattle.file_trace.specs.Progress.{AsksFor, CanHold, EndsFile, EndsWithPages, GoesOnAfter, InputCount, status_of};
 ghost use Rattle.file_trace.specs.declared.pages.PagesEnd.{PagesEnd};
 ghost use Rattle.file_trace.specs.Tasks.{manner_of};

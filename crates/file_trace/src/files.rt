@@ -5,7 +5,8 @@ ghost use Rattle.page_batches.specs.Desks.{Keeps, sinks_at};
 ghost use Rattle.file_trace.specs.Items.{told_contents};
 ghost use Rattle.file_trace.specs.Manner.{HasTexts};
 ghost use Rattle.file_trace.specs.OnePass.{IsOnePass};
-ghost use Rattle.file_trace.specs.Outcome.{IsOutcome, OpensFirst, source_of};
+ghost use Rattle.file_trace.specs.Outcome.{IsOutcome, OpensFirst};
+ghost use Rattle.run_output.specs.Told.{source_of};
 ghost use Rattle.file_trace.specs.Progress.{InputCount};
 ghost use Rattle.file_trace.specs.Tasks.{manner_of};
 

@@ -8,8 +8,8 @@ ghost use Rattle.page_batches.specs.Held.{AreHeld, EndsHolding, pages_held};
 ghost use Rattle.page_batches.specs.Items.{Doc, Item};
 ghost use Rattle.page_batches.specs.Outcome.{IsHalt};
 ghost use Rattle.file_trace.specs.Manner.{HasTexts};
-ghost use Rattle.file_trace.specs.Outcome.{source_of};
-ghost use Rattle.file_trace.specs.Progress.{Answered, CanHold, CanRead, EndsPages, EndsReading, FaultsBy, IsAtStart, StaysIn, Takes};
+ghost use Rattle.run_output.specs.Told.{source_of};
+ghost use Rattle.file_trace.specs.Progress.{Answered, CanHold, CanRead, EndsPages, EndsReading, FaultsBy, IsAtStart, OpensNoFile, TakesBytes};
 ghost use Rattle.file_trace.specs.Tasks.{manner_of};
 
 use crate::task::Task;
@@ -71,7 +71,7 @@ pub(crate) fn trace_pages<R: Threads + Sync, J: PageJob + Sync, G: Gate + Sync, 
         (I.files inputs.old) (I.files inputs.new) batch.old batch.new
         (sinks_at O.Sink E.Sink desk.old) (sinks_at O.Sink E.Sink desk.new) }
     ensures going { OnOk result (CanHold O.Sink E.Sink (2 * task.now.plan.workers) desk.new batch.new) }
-    ensures stays { StaysIn (source_of I.Inputs inputs.old) (source_of I.Inputs inputs.new) }
+    ensures stays { OpensNoFile (source_of I.Inputs inputs.old) (source_of I.Inputs inputs.new) }
     ensures input { IfOk result (λ traced. FaultsBy traced.end (I.faults inputs.old) (I.faults inputs.new)) }
     ensures keeps { Keeps O.Sink E.Sink desk.old desk.new }
 {
@@ -131,7 +131,7 @@ fn read_next<R: Threads + Sync, J: PageJob + Sync, G: Gate + Sync, I: Inputs>(
     requires can { CanRead reader.old (source_of I.Inputs inputs.old) }
     ensures answer { Answered result (manner_of J.PageJob task.now) reader.old (source_of I.Inputs inputs.old)
         reader.new (source_of I.Inputs inputs.new) }
-    ensures takes { Takes reader.old (source_of I.Inputs inputs.old) reader.new (source_of I.Inputs inputs.new) }
+    ensures takes { TakesBytes reader.old (source_of I.Inputs inputs.old) reader.new (source_of I.Inputs inputs.new) }
 {
     let next = match reader.next(task.plan.alloc, inputs, &task.level, task.invert) {
         Ok(next) => next,
@@ -154,7 +154,7 @@ fn end_after_most<R: Threads + Sync, J: PageJob + Sync, G: Gate + Sync, I: Input
     requires can { CanRead reader.old (source_of I.Inputs inputs.old) }
     ensures ends { EndsReading result reader.old (source_of I.Inputs inputs.old)
         reader.new (source_of I.Inputs inputs.new) }
-    ensures takes { Takes reader.old (source_of I.Inputs inputs.old) reader.new (source_of I.Inputs inputs.new) }
+    ensures takes { TakesBytes reader.old (source_of I.Inputs inputs.old) reader.new (source_of I.Inputs inputs.new) }
 {
     match read_next(task, reader, inputs) {
         Ok(_page) => PagesEnd::TooMany,

@@ -11,7 +11,8 @@ use Rattle.run_output.specs.declared.part.Binding.{Binding}
 use Rattle.run_output.specs.declared.part.Binding.TheVariants.{Apart, Together}
 use Rattle.page_batches.specs.Items.{Item, is_open_behind}
 use Rattle.page_batches.specs.Items.Item.{Note, Write}
-use Rattle.page_batches.specs.Outcome.{AreCarriedOut, IsMessage, IsUnwritten, Sinks}
+use Rattle.page_batches.specs.Outcome.{AreCarriedOut, IsUnwritten}
+use Rattle.run_output.specs.Told.{IsMessage, Sinks}
 use Rattle.page_batches.specs.Entries.{AreInOrder, held_by, items_by, pages_among}
 use Rattle.page_batches.specs.Held.{AreHeld, AreInTurn, Held, is_open_held, pages_held}
 use Rattle.page_batches.specs.Held.Held.{End, Message, Page}

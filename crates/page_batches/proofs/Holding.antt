@@ -11,7 +11,8 @@ use Rattle.page_batches.specs.Held.{AreHeld, AreInTurn, Held, Holds, EndsHolding
 use Rattle.page_batches.specs.Held.Held.{End, Message, Page}
 use Rattle.page_batches.specs.Items.{GoesOn, Item, end_items, page_count, pages_in}
 use Rattle.page_batches.specs.Items.Item.{Missing, Note, Stop, Write}
-use Rattle.page_batches.specs.Outcome.{AreCarriedOut, HasEnded, IsHalt, Sinks, ended_with}
+use Rattle.page_batches.specs.Outcome.{AreCarriedOut, HasEnded, IsHalt, ended_with}
+use Rattle.run_output.specs.Told.{Sinks}
 use Rattle.page_batches.proofs.Carrying.{GoesOn-append, carried_on, ended_on, nothing_done}
 
 -- which text belongs to a page

@@ -2,7 +2,7 @@
 use Rattle.std.specs.Prelude.{◌≡◌, ◌≤◌, true}
 use Rattle.pt_base.specs.declared.sink.Sink.{Ghosts as SinkGhosts}
 use Rattle.page_batches.specs.declared.desk.Desk.{Desk}
-use Rattle.page_batches.specs.Outcome.{Sinks, sinks_of}
+use Rattle.run_output.specs.Told.{Sinks, sinks_of}
 
 -- what a desk tells
 abbrev pub sinks_at : {A B : Type 0} → SinkGhosts A → SinkGhosts B → Desk A B → Sinks

@@ -9,7 +9,8 @@ use Rattle.run_output.specs.declared.status.Status.{Status}
 use Rattle.run_output.specs.declared.status.Status.TheVariants as status
 use Rattle.page_batches.specs.Items.{Item, page_count}
 use Rattle.page_batches.specs.Items.Item.{Note, Write}
-use Rattle.page_batches.specs.Outcome.{AreCarriedOut, HasEnded, Sinks}
+use Rattle.page_batches.specs.Outcome.{AreCarriedOut, HasEnded}
+use Rattle.run_output.specs.Told.{Sinks}
 
 -- one thing that is held: a page, with the name of its document and how many pages of its file came before; the
 -- end of a document of so many pages, and what is said then; or a message

@@ -10,11 +10,6 @@
 --   notes: the messages of the items after which the run goes on
 pub mod Items
 -- What a run has done, against the items that it was to do.
---   Told: what a sink tells
---   told_of
---   Sinks: the outputs and the sink for messages
---   sinks_of: what they tell
---   IsMessage: a message was said
 --   AreSaid: the messages were said, one after another
 --   AreFronts: each of these texts is a front of its message
 --   AreCarriedOut: the items are carried out, and their messages were said

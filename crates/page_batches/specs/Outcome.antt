@@ -1,43 +1,14 @@
 -- What a run has done, against the items that it was to do.
 use Rattle.std.specs.Prelude.{◌≡◌, ℕ, ◌≤◌, ◌⊎◌, Bool, List, [], ◌∷◌, ◌++◌, length, take, Option, Result, Ok, Err}
 use Rattle.pt_base.specs.Counts.{Rose}
-use Rattle.pt_base.specs.Documents.{Documents, IsSaid}
-use Rattle.pt_base.specs.Failures.{Failures, StopsAtFailure, after_err}
-use Rattle.pt_base.specs.declared.sink.Sink.{Ghosts as SinkGhosts}
+use Rattle.pt_base.specs.Failures.{after_err}
 use Rattle.run_output.specs.Messages.{not_written, out_of_memory}
 use Rattle.run_output.specs.Parts.{IsCutIn, Part}
+use Rattle.run_output.specs.Told.{IsMessage, Sinks, Told}
 use Rattle.run_output.specs.declared.status.Status.{Status}
 use Rattle.run_output.specs.declared.status.Status.TheVariants as status
 use Rattle.page_batches.specs.Items.{GoesOn, Item, is_open_behind, notes, with_items}
 use Rattle.page_batches.specs.Items.Item.{Stop, Write}
-
--- what a sink tells: its documents, its count of faults, and what its calls answered
-pub record Told : Type 0 where
-  pub documents : Option Documents
-  pub faults : ℕ
-  pub failures : Failures
-
-abbrev pub told_of : {A : Type 0} → SinkGhosts A → A → Told
-told_of of_sink sink =
-    record { documents = of_sink.documents sink; faults = of_sink.faults sink; failures = of_sink.failures sink }
-
--- the outputs, whether a document is open there, and the sink for messages
-pub record Sinks : Type 0 where
-  pub outs : Told
-  pub is_open : Bool
-  pub errs : Told
-
--- what outputs and a sink for messages tell
-abbrev pub sinks_of : {A B : Type 0} → SinkGhosts A → SinkGhosts B → A → B → Sinks
-sinks_of of_outs of_errs outs errs =
-    record { outs = told_of of_outs outs; is_open = of_outs.is_ready outs; errs = told_of of_errs errs }
-
--- a message was said: it is whole, or the count of faults rose and a front of it stands there; and no call failed, or
--- one did and it was the last, so that the rest of the message was given up
-pub record IsMessage (message : List ℕ) (old new : Told) : Type 0 where
-  pub said : IsSaid old.documents new.documents old.faults new.faults message
-  pub given_up : StopsAtFailure old.failures new.failures
-  pub never_falls : old.faults ≤ new.faults
 
 -- these messages were said, one after another
 abbrev pub AreSaid : Told → Told → List (List ℕ) → Type 0

@@ -15,10 +15,11 @@ use Rattle.command_asks.specs.declared.ask.Ask.{Ask}
 use Rattle.command_asks.specs.declared.ask.Ask.TheVariants as asks
 use Rattle.page_batches.specs.Items.{Doc, GoesOn, Item}
 use Rattle.page_batches.specs.Items.Item.{Missing, Note, Stop, Write}
-use Rattle.page_batches.specs.Outcome.{AreCarriedOut, HasEnded, Sinks}
+use Rattle.page_batches.specs.Outcome.{AreCarriedOut, HasEnded}
+use Rattle.run_output.specs.Told.{Sinks, Source}
 use Rattle.file_trace.specs.Items.{AreItems, IsAbsent, Nothing, told_contents}
 use Rattle.file_trace.specs.Manner.{HasTexts, Manner}
-use Rattle.file_trace.specs.Outcome.{IsOutcome, Source}
+use Rattle.file_trace.specs.Outcome.{IsOutcome}
 use Rattle.file_trace.proofs.Closing.{AllEnd, AllEnd-front, alone_end, carried_closed, items_end, nothing_ends}
 use Rattle.file_trace.proofs.Exists.{items_found}
 use Rattle.file_trace.proofs.Joining.{items_behind}

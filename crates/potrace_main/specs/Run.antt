@@ -13,11 +13,12 @@ use Rattle.command_asks.specs.declared.ask.Ask.{Ask}
 use Rattle.command_asks.specs.declared.ask.Ask.TheVariants as asks
 use Rattle.page_batches.specs.Items.{Doc, GoesOn, Item}
 use Rattle.page_batches.specs.Items.Item.{Missing, Stop}
-use Rattle.page_batches.specs.Outcome.{AreCarriedOut, HasEnded, Sinks}
+use Rattle.page_batches.specs.Outcome.{AreCarriedOut, HasEnded}
+use Rattle.run_output.specs.Told.{Sinks, Source}
 use Rattle.file_trace.specs.Items.{AreItems, IsAbsent, Nothing, told_contents}
 use Rattle.file_trace.specs.Manner.{Manner, manner_by}
 use Rattle.file_trace.specs.OnePass.{IsOnePass}
-use Rattle.file_trace.specs.Outcome.{IsOutcome, OpensFirst, Source}
+use Rattle.file_trace.specs.Outcome.{IsOutcome, OpensFirst}
 use Rattle.file_trace.specs.Progress.{InputCount}
 use Rattle.page_trace.specs.Document.{IsDocument}
 use Rattle.page_demo.specs.Line.{IsDemoText}

@@ -11,9 +11,10 @@ ghost use Rattle.command_asks.specs.Asked.{CanBeDone, IsAsked};
 ghost use Rattle.command_asks.specs.declared.ask.Ask.{Ask};
 ghost use Rattle.page_batches.specs.Desks.{Keeps, sinks_at};
 ghost use Rattle.page_batches.specs.Items.{Doc, Item};
-ghost use Rattle.page_batches.specs.Outcome.{HasEnded, sinks_of};
+ghost use Rattle.page_batches.specs.Outcome.{HasEnded};
+ghost use Rattle.run_output.specs.Told.{sinks_of, source_of};
 ghost use Rattle.file_trace.specs.Items.{IsAbsent, told_contents};
-ghost use Rattle.file_trace.specs.Outcome.{OpensFirst, source_of};
+ghost use Rattle.file_trace.specs.Outcome.{OpensFirst};
 ghost use Rattle.file_trace.specs.Progress.{InputCount};
 ghost use Rattle.potrace_main.specs.Run.{AreItemsOf, FailureCount, IsCodeOf, IsComplete, IsMissing, IsOnePassOf, IsOutcomeOf, IsRun, OutputsMove, RefusesWords, names_of};
 

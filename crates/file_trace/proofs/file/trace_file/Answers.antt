@@ -2,7 +2,7 @@ use Rattle.std.proofs.Common.{◌≡◌, ◌∙◌, ◌∷◌, ◌*◌, Err, ap,
 use Rattle.pt_base.specs.Files.{Lacks}
 use Rattle.run_output.specs.declared.status.Status.TheVariants as status
 use Rattle.file_trace.specs.Items.{told_contents}
-use Rattle.file_trace.specs.Outcome.{source_of}
+use Rattle.run_output.specs.Told.{source_of}
 use Rattle.file_trace.specs.Progress.{InputCount}
 use Rattle.file_trace.specs.Tasks.{manner_of}
 use Rattle.file_trace.proofs.Counting.{faults_from, input_by, rose_by}

@@ -2,7 +2,7 @@ use Rattle.std.proofs.Common.{◌≡◌, ◌∙◌, ◌*◌, [], length, inl, re
 use Rattle.std.proofs.lemmas.List.{take_all}
 use Rattle.run_output.specs.declared.status.Status.TheVariants as status
 use Rattle.file_trace.specs.Items.{told_contents}
-use Rattle.file_trace.specs.Outcome.{source_of}
+use Rattle.run_output.specs.Told.{source_of}
 use Rattle.file_trace.specs.Tasks.{manner_of}
 use Rattle.file_trace.proofs.Counting.{input_from}
 use Rattle.file_trace.proofs.Ending.{ends_at_once, halts_in, input_of_halt}

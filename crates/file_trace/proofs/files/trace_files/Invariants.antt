@@ -2,7 +2,8 @@ use Rattle.std.proofs.Common.{◌≡◌, ◌≤◌, ◌+◌, ◌*◌, length, mi
 use Rattle.pt_base.specs.Counts.{last_count}
 use Rattle.page_batches.specs.Desks.{Keeps, sinks_at}
 use Rattle.file_trace.specs.Items.{told_contents}
-use Rattle.file_trace.specs.Outcome.{OpensFirst, source_of}
+use Rattle.file_trace.specs.Outcome.{OpensFirst}
+use Rattle.run_output.specs.Told.{source_of}
 use Rattle.file_trace.specs.Progress.{CanHold}
 use Rattle.file_trace.specs.Tasks.{manner_of}
 use Rattle.file_trace.proofs.Running.{AreDone}

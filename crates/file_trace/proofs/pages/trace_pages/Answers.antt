@@ -1,6 +1,6 @@
 use Rattle.std.proofs.Common.{◌≡◌, ◌∙◌, true, false, ap, refl, sym, arith}
 use Rattle.run_output.proofs.Naming.{next_name-made_with}
-use Rattle.file_trace.specs.Outcome.{source_of}
+use Rattle.run_output.specs.Told.{source_of}
 use Rattle.file_trace.specs.Tasks.{manner_of}
 use Rattle.file_trace.proofs.Counting.{faults_from}
 use Rattle.file_trace.proofs.Keeping.{ended_by, keeps_on, stays_taken}

@@ -2,8 +2,8 @@ use Rattle.std.proofs.Common.{◌≡◌, ◌≤◌, ◌*◌, ◌-◌, true}
 use Rattle.pt_base.specs.Files.{unread}
 use Rattle.bitmap_input.specs.Reading.{AtEnd}
 use Rattle.page_batches.specs.Desks.{Keeps, sinks_at}
-use Rattle.file_trace.specs.Outcome.{source_of}
-use Rattle.file_trace.specs.Progress.{CanHold, StaysIn}
+use Rattle.run_output.specs.Told.{source_of}
+use Rattle.file_trace.specs.Progress.{CanHold, OpensNoFile}
 use Rattle.file_trace.specs.Tasks.{manner_of}
 use Rattle.file_trace.proofs.Tracing.{IsTraced}
 use Rattle.file_trace.proofs.pages.trace_pages.Given as goal
@@ -21,7 +21,7 @@ invariant-loop-pages g l =
       going : CanHold outs errs (2 * l.task.plan.workers) l.desk l.batch;
       opened : inputs.is_opened l.inputs ≡ true;
       at_end : l.reader.ended ≡ true → AtEnd (inputs.files l.inputs);
-      stays : StaysIn (source_of inputs l.fn.inputs) (source_of inputs l.inputs);
+      stays : OpensNoFile (source_of inputs l.fn.inputs) (source_of inputs l.inputs);
       input : inputs.faults l.inputs ≡ inputs.faults l.fn.inputs;
       keeps : Keeps outs errs l.fn.desk l.desk;
     }
