@@ -1,5 +1,5 @@
 -- What a run has done, against the items that it was to do.
-use Rattle.std.specs.Prelude.{◌≡◌, ℕ, ◌≤◌, ◌⊎◌, Bool, List, [], ◌∷◌, ◌++◌, length, take, Option, Result, Ok, Err}
+use Rattle.std.specs.Prelude.{◌≡◌, ℕ, ◌≤◌, ◌⊎◌, List, [], ◌∷◌, ◌++◌, length, take, Result, Ok, Err}
 use Rattle.pt_base.specs.Counts.{Rose}
 use Rattle.pt_base.specs.Failures.{after_err}
 use Rattle.run_output.specs.Messages.{not_written, out_of_memory}
