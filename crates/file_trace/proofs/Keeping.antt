@@ -12,7 +12,7 @@ use Rattle.page_batches.specs.Items.{Item}
 use Rattle.page_batches.specs.Outcome.{HasEnded, Sinks}
 use Rattle.page_batches.specs.declared.desk.Desk.{Desk}
 use Rattle.file_trace.specs.Outcome.{Source}
-use Rattle.file_trace.specs.Progress.{StaysIn, Takes}
+use Rattle.file_trace.specs.Progress.{StaysIn, TakesFrom}
 use Rattle.file_trace.proofs.Reading.{contents_taken, name_taken}
 
 -- the same desk, after one call and another
@@ -26,7 +26,7 @@ keeps_on of_outs of_errs x y z first next = record {
 }
 
 -- bytes were taken of the opened file
-pub stays_taken : (old new : Reader) (start before now : Source) → StaysIn start before → Takes old before new now → StaysIn start now
+pub stays_taken : (old new : Reader) (start before now : Source) → StaysIn start before → TakesFrom old before new now → StaysIn start now
 stays_taken old new start before now stays takes = record {
   openings = takes.openings ∙ stays.openings;
   name = name_taken old new before.files now.files takes.needed ∙ stays.name;

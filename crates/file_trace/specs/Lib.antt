@@ -60,7 +60,7 @@ pub mod OnePass
 --   CanRead: a file is opened, and the reader stands in it
 --   EndsReading: the reading of pages ended for this reason
 --   Answered: the next page was read, or none was for this reason
---   Takes: bytes were taken of the opened file, and no file was opened
+--   TakesFrom: bytes were taken of the opened file, and no file was opened
 --   StaysIn: no file was opened
 --   CanHold: what is held waits for the pages of a file
 --   IsAtStart: a file was opened, and nothing is read of it

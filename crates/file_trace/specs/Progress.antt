@@ -131,7 +131,7 @@ Answered (Ok page) manner old before new now =
 Answered (Err end) manner old before new now = EndsReading end old before new now × (end ≢ why.TooMany)
 
 -- bytes were taken of the opened file, as far as what stands ahead needs them, and no file was opened
-pub record Takes (old : Reader) (before : Source) (new : Reader) (now : Source) : Type 0 where
+pub record TakesFrom (old : Reader) (before : Source) (new : Reader) (now : Source) : Type 0 where
   pub needed : TakesNeeded old before.files new now.files
   pub openings : now.openings ≡ before.openings
 

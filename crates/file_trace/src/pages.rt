@@ -9,7 +9,7 @@ ghost use Rattle.page_batches.specs.Items.{Doc, Item};
 ghost use Rattle.page_batches.specs.Outcome.{IsHalt};
 ghost use Rattle.file_trace.specs.Manner.{HasTexts};
 ghost use Rattle.file_trace.specs.Outcome.{source_of};
-ghost use Rattle.file_trace.specs.Progress.{Answered, CanHold, CanRead, EndsPages, EndsReading, FaultsBy, IsAtStart, StaysIn, Takes};
+ghost use Rattle.file_trace.specs.Progress.{Answered, CanHold, CanRead, EndsPages, EndsReading, FaultsBy, IsAtStart, StaysIn, TakesFrom};
 ghost use Rattle.file_trace.specs.Tasks.{manner_of};
 
 use crate::task::Task;
@@ -138,7 +138,7 @@ fn read_next<R: Threads + Sync, J: PageJob + Sync, G: Gate + Sync, I: Inputs>(
     requires can { CanRead reader.old (source_of I.Inputs inputs.old) }
     ensures answer { Answered result (manner_of J.PageJob task.now) reader.old (source_of I.Inputs inputs.old)
         reader.new (source_of I.Inputs inputs.new) }
-    ensures takes { Takes reader.old (source_of I.Inputs inputs.old) reader.new (source_of I.Inputs inputs.new) }
+    ensures takes { TakesFrom reader.old (source_of I.Inputs inputs.old) reader.new (source_of I.Inputs inputs.new) }
 {
     let next = match reader.next(task.plan.alloc, inputs, &task.level, task.invert) {
         Ok(next) => next,
@@ -161,7 +161,7 @@ fn end_after_most<R: Threads + Sync, J: PageJob + Sync, G: Gate + Sync, I: Input
     requires can { CanRead reader.old (source_of I.Inputs inputs.old) }
     ensures ends { EndsReading result reader.old (source_of I.Inputs inputs.old)
         reader.new (source_of I.Inputs inputs.new) }
-    ensures takes { Takes reader.old (source_of I.Inputs inputs.old) reader.new (source_of I.Inputs inputs.new) }
+    ensures takes { TakesFrom reader.old (source_of I.Inputs inputs.old) reader.new (source_of I.Inputs inputs.new) }
 {
     match read_next(task, reader, inputs) {
         Ok(_page) => PagesEnd::TooMany,
