@@ -32,7 +32,14 @@ use std::thread::Threads;
 
 /// Opens a file and reads its pages into the batch, which is carried out where it is full. An `Err` says how
 /// the run ends in this file: whole pages in front of that are traced and written first.
-pub(crate) fn trace_file<R: Threads + Sync, J: PageJob + Sync, G: Gate + Sync, I: Inputs, O: Outputs, E: Sink>(
+pub(crate) fn trace_file<
+    R: Threads + Sync,
+    J: PageJob + Sync,
+    G: Gate + Sync,
+    I: Inputs,
+    O: Outputs,
+    E: Sink,
+>(
     task: &Task<R, J, G>,
     name: &str,
     made: &mut Made,

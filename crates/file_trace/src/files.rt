@@ -27,12 +27,14 @@ use std::thread::Threads;
 
 /// Reads the files in order, each opened once, by batches of twice as many pages as there are workers, and
 /// writes a document for each page: its text under the task's job.
-pub fn trace_files<R: Threads + Sync, J: PageJob + Sync, G: Gate + Sync, I: Inputs, O: Outputs, E: Sink>(
-    task: &Task<R, J, G>,
-    names: &[Name],
-    inputs: &mut I,
-    desk: &mut Desk<O, E>,
-) -> Status
+pub fn trace_files<
+    R: Threads + Sync,
+    J: PageJob + Sync,
+    G: Gate + Sync,
+    I: Inputs,
+    O: Outputs,
+    E: Sink,
+>(task: &Task<R, J, G>, names: &[Name], inputs: &mut I, desk: &mut Desk<O, E>) -> Status
     requires texts { HasTexts (manner_of J.PageJob task.now) }
     requires closed { O.is_ready desk.old.outs.now ≡ false }
     requires ready { E.is_ready desk.old.errs.now ≡ true }

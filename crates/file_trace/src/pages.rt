@@ -55,7 +55,14 @@ pub(crate) struct Traced {
 /// Reads the pages of the opened file into the batch, each with the name of its document, which
 /// comes after those of the documents made before. A batch that is full is carried out. An `Err`
 /// says how the run ends there: that is said.
-pub(crate) fn trace_pages<R: Threads + Sync, J: PageJob + Sync, G: Gate + Sync, I: Inputs, O: Outputs, E: Sink>(
+pub(crate) fn trace_pages<
+    R: Threads + Sync,
+    J: PageJob + Sync,
+    G: Gate + Sync,
+    I: Inputs,
+    O: Outputs,
+    E: Sink,
+>(
     task: &Task<R, J, G>,
     base: &str,
     made: &Made,

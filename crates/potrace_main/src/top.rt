@@ -1,8 +1,6 @@
 //! The top call: all that the program does.
 ghost use Rattle.std.specs.Prelude.{◌≡◌, ◌≢◌, ◌<◌, ◌≤◌, ◌⊎◌, ◌∷◌, ℕ, List, [], true, false, map, option_map, string_bytes};
 ghost use Rattle.pt_base.specs.Counts.{Rose};
-ghost use Rattle.page_trace.specs.Document.{CanTrace};
-ghost use Rattle.page_trace.specs.Offered.{IsOffered};
 ghost use Rattle.run_output.specs.Names.{dash};
 ghost use Rattle.run_output.specs.Status.{code_of};
 ghost use Rattle.run_output.specs.declared.status.Status.{Status};
@@ -219,10 +217,7 @@ fn write_demo<R: Threads + Sync, O: Outputs, E: Sink, G: Gate + Sync>(
     desk: &mut Desk<O, E>,
     gate: &G,
 ) -> Status
-    requires some_worker { 1 ≤ workers }
-    requires most_workers { workers ≤ 64 }
-    requires offered { IsOffered settings }
-    requires traced { CanTrace settings }
+    requires possible { CanBeDone (Ask.Demo pages workers settings) }
     requires closed { O.is_ready desk.old.outs.now ≡ false }
     requires ready { E.is_ready desk.old.errs.now ≡ true }
     ensures ended { (text : List ℕ) × IsDemoText pages settings text

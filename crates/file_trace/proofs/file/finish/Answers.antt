@@ -30,14 +30,20 @@ returns-in-Ok-clause-going g c = record {
 -- memory ran out
 pub returns-in-Err-clause-ended : goal.returns-in-Err-clause-ended
 returns-in-Err-clause-ended g c = λ first are.
-    inr (inr refl, memory_out first _ _ (record { outs = refl; opened = refl })
-    (record { said = c.say_out_of_memory.ensures.said; given_up = c.say_out_of_memory.ensures.given_up; never_falls = c.say_out_of_memory.ensures.never_falls }))
+    inr (
+      inr refl,
+      memory_out first _ _ (record { outs = refl; opened = refl })
+          (record { said = c.say_out_of_memory.ensures.said; given_up = c.say_out_of_memory.ensures.given_up; never_falls = c.say_out_of_memory.ensures.never_falls }),
+    )
 
 -- memory ran out
 pub returns-in-Fault-NoMemory-clause-ended : goal.returns-in-Fault-NoMemory-clause-ended
 returns-in-Fault-NoMemory-clause-ended g c = λ first are.
-    inr (inr refl, memory_out first _ _ (record { outs = refl; opened = refl })
-    (record { said = c.say_out_of_memory-in-Fault-NoMemory.ensures.said; given_up = c.say_out_of_memory-in-Fault-NoMemory.ensures.given_up; never_falls = c.say_out_of_memory-in-Fault-NoMemory.ensures.never_falls }))
+    inr (
+      inr refl,
+      memory_out first _ _ (record { outs = refl; opened = refl })
+          (record { said = c.say_out_of_memory-in-Fault-NoMemory.ensures.said; given_up = c.say_out_of_memory-in-Fault-NoMemory.ensures.given_up; never_falls = c.say_out_of_memory-in-Fault-NoMemory.ensures.never_falls }),
+    )
 
 -- all that was held is carried out, and the end is said
 pub returns-in-Ok-carry_out-clause-ended : goal.returns-in-Ok-carry_out-clause-ended

@@ -5,7 +5,7 @@ use Rattle.run_output.specs.declared.status.Status.TheVariants as status
 use Rattle.command_asks.proofs.OneAsk.{one_ask}
 use Rattle.command_asks.proofs.Possible.{possible}
 use Rattle.page_batches.proofs.Carrying.{only_said}
-use Rattle.potrace_main.proofs.Completing.{never_refuses, out_at_once, refused_moves, run_moves}
+use Rattle.potrace_main.proofs.Completing.{never_refuses, out_at_once, run_moves}
 use Rattle.potrace_main.proofs.top.answer.Goals as goal
 
 -- what the words ask for is done

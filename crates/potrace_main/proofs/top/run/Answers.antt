@@ -8,10 +8,13 @@ use Rattle.potrace_main.proofs.top.run.Goals as goal
 
 pub returns-clause-complete : goal.returns-clause-complete
 returns-clause-complete g c = λ ask asked.
-    let all = run_complete (λ settings can output page is. c.pages_have_documents.ensures page settings is can) ask c.answer.result _ _ _ _ (possible (map string_bytes c.args.words.now) ask asked) (c.answer.ensures.ran ask asked) in
-    (all.0, all.1, λ no_read no_write.
-    let none : Rose (g.O.Sink.faults c.args.outs.now) (g.O.Sink.faults c.answer.new.desk.outs.now) → ⊥ = search rules in
-    (c.answer.result, c.code.ensures, all.2 no_read none))
+    let all = run_complete (λ settings can output page is. c.pages_have_documents.ensures page settings is can) ask c.answer.result _ _ _ _ (possible (map string_bytes c.args.words.now) ask asked) (c.answer.ensures.ran ask asked) in (
+      all.0,
+      all.1,
+      λ no_read no_write.
+          let none : Rose (g.O.Sink.faults c.args.outs.now) (g.O.Sink.faults c.answer.new.desk.outs.now) → ⊥ = search rules in
+          (c.answer.result, c.code.ensures, all.2 no_read none),
+    )
 
 pub returns-clause-bad_words : goal.returns-clause-bad_words
 returns-clause-bad_words g c = λ is. c.answer.ensures.bad_words (code_one c.answer.result _ (sym c.code.ensures ∙ is))

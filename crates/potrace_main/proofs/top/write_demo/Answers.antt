@@ -8,5 +8,5 @@ use Rattle.potrace_main.proofs.top.write_demo.Goals as goal
 -- memory ran out before the text was made
 pub returns-in-Err-clause-ended : goal.returns-in-Err-clause-ended
 returns-in-Err-clause-ended g c =
-    let (text, is) = demo_found c.args.pages c.args.settings c.requires.offered.document in
+    let (text, is) = demo_found c.args.pages c.args.settings c.requires.possible.0.document in
     (text, is, memory_out (Doc dash text ∷ []) _ _ (record { outs = refl; opened = refl }) (record { said = c.say_out_of_memory.ensures.said; given_up = c.say_out_of_memory.ensures.given_up; never_falls = c.say_out_of_memory.ensures.never_falls }))
