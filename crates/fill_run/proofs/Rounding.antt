@@ -1,5 +1,5 @@
 -- A page comes back from the points text of its paths.
-use Rattle.std.proofs.Common.{◌≡◌, ℕ, ◌<◌, ◌≤◌, List, length, inl, inr, refl, sym, subst, arith}
+use Rattle.std.proofs.Common.{◌≡◌, ℕ, ◌≤◌, List, length, inl, inr, refl, sym, subst, arith}
 use Rattle.bit_image.specs.Page.{Page}
 use Rattle.bit_image.specs.PbmText.{pbm_text}
 use Rattle.run_output.specs.Told.{Sinks, Source}

@@ -128,9 +128,9 @@ few_paths page policy paths is_page d =
     let fits = Fits-page page is_page in
     few_from page policy (image_of page) paths page.width page.height (page.width * page.height) fits d
     (λ x y first.
-        let at = fits x y first.black in
-        let rows : suc y * page.width ≤ page.height * page.width = mul-le (suc y) page.width page.height page.width at.1 (omega arith) in
-        omega arith)
+    let at = fits x y first.black in
+    let rows : suc y * page.width ≤ page.height * page.width = mul-le (suc y) page.width page.height page.width at.1 (omega arith) in
+    omega arith)
 
 -- ---- the page
 
@@ -147,8 +147,8 @@ traced page policy all is_page d =
     let most : w * h ≤ LONGEST_SIDE * LONGEST_SIDE = mul-le w h LONGEST_SIDE LONGEST_SIDE (omega (arith, is_page.most_width)) (omega (arith, is_page.most_height)) in
     let count : length all ≤ w * h = few_paths page policy all is_page d in
     let small : All (IsToldPath w h) all = λ k path below.
-        (let inside_most = rows_le h w (λ y. count_below w (λ x. inside (at k path).points x y)) (λ y. count_below-le w (λ x. inside (at k path).points x y)) in
-        told_path w h (at k path) (on k path below) (omega (arith, area k path below, inside_most, most))) in
+    (let inside_most = rows_le h w (λ y. count_below w (λ x. inside (at k path).points x y)) (λ y. count_below-le w (λ x. inside (at k path).points x y)) in
+    told_path w h (at k path) (on k path below) (omega (arith, area k path below, inside_most, most))) in
     record {
       width = w;
       height = h;
@@ -166,10 +166,10 @@ traced page policy all is_page d =
           sym (page_of-image_of page is_page)
           ∙ page_of-same w h (image_of page) (filled.even_odd (kept 0 all)) is_page.some_width is_page.most_width is_page.some_height is_page.most_height
           (λ x y hx hy.
-              even_odd page policy (image_of page) all d x y
-              ∙ is_odd-count (λ path. inside path.points x y) all
-              ∙ sym (odd_kept w h x y all hx hy area)
-              ∙ sym (is_odd-count (λ path. inside path.points x y) (kept 0 all)));
+          even_odd page policy (image_of page) all d x y
+          ∙ is_odd-count (λ path. inside path.points x y) all
+          ∙ sym (odd_kept w h x y all hx hy area)
+          ∙ sym (is_odd-count (λ path. inside path.points x y) (kept 0 all)));
     }
   where
     at : ℕ → Path → Path

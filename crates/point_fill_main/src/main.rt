@@ -16,11 +16,5 @@ fn main(rt: HostRuntime) -> ExitCode {
     };
     let mut inputs = FileInputs::new(&rt);
     let mut outs = FileOutputs::new(&rt);
-    ExitCode::from(fill_run(
-        rt.alloc(),
-        &words,
-        &mut inputs,
-        &mut outs,
-        &mut errs,
-    ))
+    ExitCode::from(fill_run(rt.alloc(), &words, &mut inputs, &mut outs, &mut errs))
 }

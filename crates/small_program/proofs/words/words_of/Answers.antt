@@ -14,8 +14,11 @@ returns-in-Err-2-clause-says g c =
 -- memory ran out
 pub returns-in-Err-behind_name-clause-says : goal.returns-in-Err-behind_name-clause-says
 returns-in-Err-behind_name-clause-says g c =
-    inr (refl, record {
-      said = c.say_line-in-Err-behind_name.ensures.said;
-      given_up = c.say_line-in-Err-behind_name.ensures.given_up;
-      never_falls = c.say_line-in-Err-behind_name.ensures.never_falls;
-    })
+    inr (
+      refl,
+      record {
+        said = c.say_line-in-Err-behind_name.ensures.said;
+        given_up = c.say_line-in-Err-behind_name.ensures.given_up;
+        never_falls = c.say_line-in-Err-behind_name.ensures.never_falls;
+      },
+    )
