@@ -9,7 +9,7 @@ use Rattle.bit_image.specs.Page.{IsPage, Page as Pixels}
 use Rattle.bitmap_input.specs.declared.fault.InFault.{InFault}
 use Rattle.bitmap_input.specs.declared.fault.InFault.TheVariants as fault
 use Rattle.bitmap_input.specs.Cut.{Cut, is_by_end}
-use Rattle.bitmap_input.specs.Cut.Cut.{TakesBytes, Stops}
+use Rattle.bitmap_input.specs.Cut.Cut.{Takes, Stops}
 use Rattle.bitmap_input.specs.Cut.{Ending}
 use Rattle.bitmap_input.specs.Front.{front, page_at}
 use Rattle.bitmap_input.specs.Front.Answer.{Page}
@@ -46,7 +46,7 @@ unread-with_read (Some files) n rest h = unread_after files.opened n rest h
 
 -- whether a cut is by the end stays where bytes are added to what it leaves
 is_by_end-with_more : {A : Type 0} (more : List ℕ) (c : Cut A) → is_by_end (with_more more c) ≡ is_by_end c
-is_by_end-with_more more (TakesBytes e x rest) = refl
+is_by_end-with_more more (Takes e x rest) = refl
 is_by_end-with_more more (Stops e ending) = refl
 
 -- the bytes behind the used ones and then behind the skipped ones
