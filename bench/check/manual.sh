@@ -1,11 +1,11 @@
 #!/usr/bin/env bash
-# Tries the manual page: it must be well-formed, and each of its examples must work as it stands.
+# Tries the manual pages: they must be well-formed, and each of their examples must work as it stands.
 #
-# usage: bench/check/manual.sh [PROGRAM]
+# usage: bench/check/manual.sh [PROGRAM [FILLER]]
 #
-# The examples are taken from docs/potrace.1 and run one after another in a folder with the pages that they name; the
-# documents that they speak of must then be there and be read by a parser. The batch queue is played by the shell.
-# PROGRAM is ours, and is built if it isn't given. It needs Debian's packages mandoc, man-db, imagemagick and
+# The examples are taken from docs/potrace.1 and docs/point_fill.1 and run one after another in a folder with the pages that
+# they name; the documents that they speak of must then be there and be read by a parser. The batch queue is played by the
+# shell. PROGRAM and FILLER are ours, and are built if they aren't given. It needs Debian's packages mandoc, man-db, imagemagick and
 # poppler-utils, and python3. It is no part of the gate.
 set -euo pipefail
 
@@ -14,7 +14,8 @@ for tool in mandoc man convert pdftoppm python3 find xargs split; do
   command -v "$tool" >/dev/null || { echo "manual: $tool is missing" >&2; exit 2; }
 done
 program=$(readlink -f "${1:-$top/potrace}")
-manual=$top/docs/potrace.1
+filler=$(readlink -f "${2:-$top/point_fill}")
+manuals=("$top/docs/potrace.1" "$top/docs/point_fill.1")
 work=$(mktemp -d)
 trap 'rm -rf "$work"' EXIT
 
@@ -23,26 +24,30 @@ fail() {
   exit 1
 }
 
-mandoc -T lint "$manual" >"$work/said" 2>&1 || true
-man --warnings -E UTF-8 -l "$manual" >/dev/null 2>>"$work/said"
-[ ! -s "$work/said" ] || { cat "$work/said" >&2; fail "the manual page isn't well-formed"; }
+for manual in "${manuals[@]}"; do
+  mandoc -T lint "$manual" >"$work/said" 2>&1 || true
+  man --warnings -E UTF-8 -l "$manual" >/dev/null 2>>"$work/said"
+  [ ! -s "$work/said" ] || { cat "$work/said" >&2; fail "$manual isn't well-formed"; }
+done
 
 # Each example is a line behind .Dl, or the lines between .Bd and .Ed; a line with a zero byte ends one.
-python3 - "$manual" >"$work/examples" <<'END'
+python3 - "${manuals[@]}" >"$work/examples" <<'END'
 import re
 import sys
 
-with open(sys.argv[1], encoding="utf-8") as file:
-    section = file.read().split(".Sh EXAMPLES\n")[1].split("\n.Sh ")[0]
-for line, block in re.findall(r"^\.Dl (.*)$|^\.Bd .*\n((?:.*\n)*?)\.Ed$", section, re.M):
-    text = (line or block).replace("\\(aq", "'").replace("\\en", "\\n").rstrip("\n")
-    assert "\\(" not in text, text
-    print(text, end="\n\0\n")
+for name in sys.argv[1:]:
+    with open(name, encoding="utf-8") as file:
+        section = file.read().split(".Sh EXAMPLES\n")[1].split("\n.Sh ")[0]
+    for line, block in re.findall(r"^\.Dl (.*)$|^\.Bd .*\n((?:.*\n)*?)\.Ed$", section, re.M):
+        text = (line or block).replace("\\(aq", "'").replace("\\en", "\\n").rstrip("\n")
+        assert "\\(" not in text, text
+        print(text, end="\n\0\n")
 END
 
 mkdir "$work/bin" "$work/at" "$work/at/scans"
 cd "$work/at"
 ln -s "$program" "$work/bin/potrace"
+ln -s "$filler" "$work/bin/point_fill"
 printf '#!/bin/sh\nexec sh\n' >"$work/bin/batch"
 chmod +x "$work/bin/batch"
 PATH=$work/bin:$PATH
@@ -103,4 +108,5 @@ for name in sys.argv[1:]:
     if not shapes:
         sys.exit(f"manual: {name} has no shape")
 END
-echo "the manual page is well-formed; its $count examples work, and their ${#documents[@]} documents are read"
+cmp scan.pbm back.pbm || fail "the page doesn't come back"
+echo "${#manuals[@]} manual pages are well-formed; their $count examples work, and ${#documents[@]} documents are read"
