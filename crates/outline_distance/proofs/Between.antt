@@ -8,9 +8,9 @@ use Rattle.pt_base.specs.declared.point.Point.{Point}
 use Rattle.pt_base.proofs.Sizes.{product_most}
 use Rattle.pt_base.proofs.Terms.{same_value}
 use Rattle.pt_base.proofs.Terms.Term.{num, plus, less, times}
-use Rattle.polygon_optimal.specs.Polygon.{IsPolygon}
 use Rattle.vertex_adjust.specs.Vertex.{AreVertices, segment_end_of}
-use Rattle.page_trace.proofs.Segments.{segment_at}
+use Rattle.outline_distance.specs.Polygons.{IsAnyPolygon}
+use Rattle.outline_distance.proofs.Sides.{possible_at}
 use Rattle.outline_distance.specs.Distance.{IsCloseTo, PassesBy, divided, multiple, point_place}
 use Rattle.outline_distance.proofs.Edges.{segment_edge}
 use Rattle.outline_distance.proofs.Sides.{first_end, second_end, side_passes}
@@ -60,13 +60,13 @@ side_close before after here there a b c d u v e f g h =
     (product_most (pos after) (v -ℤ pos 1024 *ℤ b) after 512 (omega arith) g) refl)
 
 pub side_near_edge : (points : List Point) (at : List ℕ) (vertices : List Point) (k before after : ℕ)
-    → IsClosedWalk points → IsPolygon points at → AreVertices points at vertices → k < length at → 1 ≤ before + after
+    → IsClosedWalk points → IsAnyPolygon points at → AreVertices points at vertices → k < length at → 1 ≤ before + after
     → (i : ℕ) × (slice_index at k ≤ i) × (i < segment_end_of points at k) × (here : ℕ) × (there : ℕ) × (here + there ≡ before + after)
     × IsCloseTo ((before + after) * 1536) (divided before after (point_at vertices k) (point_at vertices (k + 1)))
     (divided here there (point_place (point_at points i)) (point_place (point_at points (i + 1))))
 side_near_edge points at vertices k before after closed polygon are within some =
-    let segment = segment_at points at k polygon within in
-    let m = segment_edge points (slice_index at k) (segment_end_of points at k) (before + after) after closed segment.possible some (omega arith) in
+    let segment = possible_at points at k polygon within in
+    let m = segment_edge points (slice_index at k) (segment_end_of points at k) (before + after) after closed segment some (omega arith) in
     let a = first_end points at vertices k are within in
     let b = second_end points at vertices k are within in
     let next : suc m.at ≡ m.at + 1 = omega arith in
@@ -247,7 +247,7 @@ way_between h t a b c d some first second = record {
 }
 
 pub edge_passes : (points : List Point) (at : List ℕ) (vertices : List Point) (k i here there : ℕ)
-    → IsClosedWalk points → IsPolygon points at → AreVertices points at vertices
+    → IsClosedWalk points → IsAnyPolygon points at → AreVertices points at vertices
     → k < length at → slice_index at k ≤ i → i < segment_end_of points at k → 1 ≤ here + there
     → PassesBy ((here + there) * 1536) (multiple (here + there) (point_at vertices k)) (multiple (here + there) (point_at vertices (k + 1)))
     (divided here there (point_place (point_at points i)) (point_place (point_at points (i + 1))))

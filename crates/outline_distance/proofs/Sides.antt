@@ -1,5 +1,5 @@
 -- The sides of an outline of corners, and the path's points that each of them stands for.
-use Rattle.std.proofs.Common.{◌≡◌, ℕ, zero, suc, ◌+◌, ◌*◌, ◌%◌, ◌<◌, ◌≤◌, ℤ, pos, negsuc, ◌+ℤ◌, ◌-ℤ◌, ◌*ℤ◌, ◌⊎◌, inl, inr, List, [], ◌∷◌, length, refl, sym, ap, ◌∙◌, subst, true, false, arith}
+use Rattle.std.proofs.Common.{◌≡◌, ℕ, zero, suc, ◌+◌, ◌-◌, ◌*◌, ◌%◌, ◌<◌, ◌≤◌, ℤ, pos, negsuc, ◌+ℤ◌, ◌-ℤ◌, ◌*ℤ◌, ◌⊎◌, inl, inr, List, [], ◌∷◌, length, refl, sym, ap, ◌∙◌, subst, true, false, arith}
 use Rattle.std.proofs.lemmas.Bool.{lt-ltb, le-ltb, cases_lt}
 use Rattle.std.proofs.lemmas.Int.{ints}
 use Rattle.std.proofs.Math.Nat.{mod-eq_of_lt, mod_self}
@@ -9,10 +9,13 @@ use Rattle.pt_base.specs.Floor.{floor_of}
 use Rattle.pt_base.specs.declared.point.Point.{Point}
 use Rattle.pt_base.proofs.Sizes.{product_most}
 use Rattle.straight_paths.proofs.Cyclic.{lap_on}
-use Rattle.polygon_optimal.specs.Polygon.{IsPolygon, IsSegment}
+use Rattle.straight_paths.specs.Straight.{IsPossible}
+use Rattle.polygon_optimal.specs.Polygon.{IsSegment}
+use Rattle.polygon_optimal.proofs.Vertices.{vertices_below}
+use Rattle.outline_distance.specs.Polygons.{IsAnyPolygon}
 use Rattle.vertex_adjust.specs.Vertex.{AreVertices, segment_end_of}
 use Rattle.corner_smooth.specs.Corner.{middle_of}
-use Rattle.page_trace.proofs.Segments.{segment_at, starts_at_zero, starts_somewhere}
+use Rattle.page_trace.proofs.Segments.{round_segment_at, segment_at, starts_somewhere}
 use Rattle.outline_distance.specs.Distance.{IsCloseTo, PassesBy, DividesBy, point_place}
 use Rattle.outline_distance.proofs.Vertices.{vertex_near}
 use Rattle.outline_distance.proofs.Ways.{near_way, weighed, together}
@@ -52,17 +55,33 @@ module _ (points : List Point) (at : List ℕ) (vertices : List Point) (k : ℕ)
         subst (λ (p : Point). P p ((k + 1) % length vertices)) (sym point) (subst (λ (n : ℕ). P (point_at points (slice_index at 0)) n) (sym rest) (vertex_near points at vertices 0 are (omega arith)))
   ]
 
+-- ---- a polygon's segments are possible, and it has a vertex
+
+pub possible_at : (points : List Point) (at : List ℕ) (k : ℕ) → IsAnyPolygon points at → k < length at
+    → IsPossible points (slice_index at k) (segment_end_of points at k)
+possible_at points at k (inl polygon) within = (segment_at points at k polygon within).possible
+possible_at points at k (inr polygon) within = round_segment_at points at k polygon within
+
+some_index : (points : List Point) (at : List ℕ) → 0 < length points → IsAnyPolygon points at → 1 ≤ length at
+some_index points [] some (inl polygon) = absurd (starts_somewhere (length points) (IsSegment points) some polygon)
+some_index points [] some (inr polygon) = polygon.some
+some_index points (i ∷ rest) some polygon = omega arith
+
+low_at : (points : List Point) (at : List ℕ) (k : ℕ) → 0 < length points → IsAnyPolygon points at → k < length at → slice_index at k ≤ length points
+low_at points at k some (inl polygon) within = (let below = vertices_below points at polygon k 0 within in omega arith)
+low_at points at k some (inr polygon) within = (let below = polygon.within k 0 within in omega arith)
+
 -- ---- a side passes the points that it stands for
 
 pub side_passes : (points : List Point) (at : List ℕ) (vertices : List Point) (k i : ℕ)
-    → IsClosedWalk points → IsPolygon points at → AreVertices points at vertices
+    → IsClosedWalk points → IsAnyPolygon points at → AreVertices points at vertices
     → k < length at → slice_index at k ≤ i → i ≤ segment_end_of points at k
     → PassesBy 1536 (point_at vertices k) (point_at vertices (k + 1)) (point_place (point_at points i))
 side_passes points at vertices k i closed polygon are within from to =
-    let segment = segment_at points at k polygon within in
+    let segment = possible_at points at k polygon within in
     way_passes (point_at points (slice_index at k)) (point_at points (segment_end_of points at k)) (point_at points i)
     (point_at vertices k) (point_at vertices (k + 1)) 512
-    (near_way points (slice_index at k) (segment_end_of points at k) i closed segment.possible from to)
+    (near_way points (slice_index at k) (segment_end_of points at k) i closed segment from to)
     (first_end points at vertices k are within) (second_end points at vertices k are within)
 
 -- ---- near its middle there is one of them
@@ -76,12 +95,12 @@ sum_close : (a b u v c : ℤ) → unsigned_abs (u -ℤ pos 1024 *ℤ a) ≤ 512 
 sum_close a b u v c f g h = omega (arith, ints)
 
 pub joint_near : (points : List Point) (at : List ℕ) (vertices : List Point) (k : ℕ)
-    → IsClosedWalk points → IsPolygon points at → AreVertices points at vertices → k < length at
+    → IsClosedWalk points → IsAnyPolygon points at → AreVertices points at vertices → k < length at
     → (i : ℕ) × (slice_index at k ≤ i) × (i ≤ segment_end_of points at k)
     × IsCloseTo 1536 (middle_of (point_at vertices k) (point_at vertices (k + 1))) (point_place (point_at points i))
 joint_near points at vertices k closed polygon are within =
-    let segment = segment_at points at k polygon within in
-    let m = segment_middle points (slice_index at k) (segment_end_of points at k) closed segment.possible in
+    let segment = possible_at points at k polygon within in
+    let m = segment_middle points (slice_index at k) (segment_end_of points at k) closed segment in
     let a = first_end points at vertices k are within in
     let b = second_end points at vertices k are within in (
       m.at,
@@ -97,14 +116,17 @@ joint_near points at vertices k closed polygon are within =
 
 -- ---- each point of the path has a side
 
-begins_at_zero : (points : List Point) (at : List ℕ) → 0 < length points → IsPolygon points at → slice_index at 0 ≡ 0
-begins_at_zero points [] some polygon = absurd (starts_somewhere (length points) (IsSegment points) some polygon)
-begins_at_zero points (i ∷ rest) some polygon = starts_at_zero (length points) i rest (IsSegment points) polygon
+-- the same point, or the one a lap on
+abbrev HasSide : List Point → List ℕ → ℕ → Type 0
+HasSide points at i = (k : ℕ) × (k < length at) × (j : ℕ) × (point_at points j ≡ point_at points i)
+    × (slice_index at k ≤ j) × (j ≤ segment_end_of points at k)
 
-abbrev pub HasSide : List Point → List ℕ → ℕ → Type 0
-HasSide points at i = (k : ℕ) × (k < length at) × (slice_index at k ≤ i) × (i ≤ segment_end_of points at k)
+module _ (points : List Point) (at : List ℕ) (i : ℕ) (inside : i < length points) where
+  last_end : (k : ℕ) → k < length at → suc k ≡ length at → segment_end_of points at k ≡ length points + slice_index at 0
+  last_end k within last =
+      let test : nat_lt (k + 1) (length at) ≡ false = le-ltb (k + 1) (length at) (omega arith) in
+      rw test refl
 
-module _ (points : List Point) (at : List ℕ) (i : ℕ) (inside : i < length points) (begin : slice_index at 0 ≡ 0) where
   before_end : (k : ℕ) → k < length at → (suc k ≡ length at) ⊎ (i < slice_index at (suc k)) → i ≤ segment_end_of points at k
   before_end k within next = elim (cases_lt (k + 1) (length at)) [
     | inl more ↦
@@ -113,30 +135,38 @@ module _ (points : List Point) (at : List ℕ) (i : ℕ) (inside : i < length po
         let e : suc k ≡ k + 1 = omega arith in
         let same = ap (slice_index at) e in
         elim next [ inl last ↦ absurd (omega arith) | inr less ↦ omega arith ]
-    | inr last ↦
-        let test : nat_lt (k + 1) (length at) ≡ false = le-ltb (k + 1) (length at) last in
-        let end : segment_end_of points at k ≡ length points + slice_index at 0 = rw test refl in
-        omega arith
+    | inr last ↦ omega (arith, last_end k within (omega arith))
   ]
 
-  find : (n : ℕ) → n ≤ length at → 1 ≤ length at → (n ≡ length at) ⊎ (i < slice_index at n) → HasSide points at i
-  find zero h some next = elim next [ inl whole ↦ absurd (omega arith) | inr less ↦ absurd (omega arith) ]
-  find (suc n) h some next = elim (cases_lt i (slice_index at n)) [
-    | inl less ↦ find n (omega arith) some (inr less)
-    | inr from ↦ (n, (omega arith), from, before_end n (omega arith) next)
+  -- a point before the first vertex lies on the last segment
+  early : (k : ℕ) → suc k ≡ length at → slice_index at k ≤ length points → i < slice_index at 0 → HasSide points at i
+  early k last low before =
+      (k, (omega arith), i + length points, lap_on points i, (omega arith), omega (arith, last_end k (omega arith) last))
+
+  find : (n : ℕ) → n ≤ length at → slice_index at 0 ≤ i → 1 ≤ length at → (n ≡ length at) ⊎ (i < slice_index at n) → HasSide points at i
+  find zero h begun some next = elim next [ inl whole ↦ absurd (omega arith) | inr less ↦ absurd (omega arith) ]
+  find (suc n) h begun some next = elim (cases_lt i (slice_index at n)) [
+    | inl less ↦ find n (omega arith) begun some (inr less)
+    | inr from ↦ (n, (omega arith), i, refl, from, before_end n (omega arith) next)
   ]
 
-some_index : (points : List Point) (at : List ℕ) → 0 < length points → IsPolygon points at → 1 ≤ length at
-some_index points [] some polygon = absurd (starts_somewhere (length points) (IsSegment points) some polygon)
-some_index points (i ∷ rest) some polygon = omega arith
+side_of : (points : List Point) (at : List ℕ) (i : ℕ) → 0 < length points → IsAnyPolygon points at → i < length points → HasSide points at i
+side_of points at i some polygon inside =
+    elim (cases_lt i (slice_index at 0)) [
+      | inl before ↦
+          let one = some_index points at some polygon in
+          early points at i inside (length at - 1) (omega arith) (low_at points at (length at - 1) some polygon (omega arith)) before
+      | inr begun ↦ find points at i inside (length at) (omega arith) begun (some_index points at some polygon) (inl refl)
+    ]
 
 pub point_near : (points : List Point) (at : List ℕ) (vertices : List Point) (i : ℕ)
-    → IsClosedWalk points → IsPolygon points at → AreVertices points at vertices → i < length points
+    → IsClosedWalk points → IsAnyPolygon points at → AreVertices points at vertices → i < length points
     → (k : ℕ) × (k < length vertices) × PassesBy 1536 (point_at vertices k) (point_at vertices (k + 1)) (point_place (point_at points i))
 point_near points at vertices i closed polygon are inside =
     let some : 0 < length points = omega (arith, closed.least) in
-    let side = find points at i inside (begins_at_zero points at some polygon) (length at) (omega arith) (some_index points at some polygon) (inl refl) in
-    (side.0, omega (arith, side.1, are.count), side_passes points at vertices side.0 i closed polygon are side.1 side.2 side.3)
+    let (k, within, j, same, from, to) = side_of points at i some polygon inside in
+    let P : Point → Type 0 = λ p. PassesBy 1536 (point_at vertices k) (point_at vertices (k + 1)) (point_place p) in
+    (k, omega (arith, within, are.count), subst P same (side_passes points at vertices k j closed polygon are within from to))
 
 -- ---- near each place of a side there is one of the points that it stands for
 
@@ -160,12 +190,12 @@ place_close r p a b c u v f g h =
     omega arith
 
 pub place_near : (points : List Point) (at : List ℕ) (vertices : List Point) (k before after : ℕ)
-    → IsClosedWalk points → IsPolygon points at → AreVertices points at vertices → k < length at → 1 ≤ before + after
+    → IsClosedWalk points → IsAnyPolygon points at → AreVertices points at vertices → k < length at → 1 ≤ before + after
     → (i : ℕ) × (slice_index at k ≤ i) × (i ≤ segment_end_of points at k)
     × DividesBy 2048 before after (point_at vertices k) (point_at vertices (k + 1)) (point_place (point_at points i))
 place_near points at vertices k before after closed polygon are within some =
-    let segment = segment_at points at k polygon within in
-    let m = segment_place points (slice_index at k) (segment_end_of points at k) (before + after) after closed segment.possible some (omega arith) in
+    let segment = possible_at points at k polygon within in
+    let m = segment_place points (slice_index at k) (segment_end_of points at k) (before + after) after closed segment some (omega arith) in
     let a = first_end points at vertices k are within in
     let b = second_end points at vertices k are within in (
       m.at,

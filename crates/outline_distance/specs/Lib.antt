@@ -8,3 +8,6 @@
 --   divided: the place that divides the way from a to b as `after` to `before`, times both together
 --   eightfold_middle: eight times the middle of a curve: its place at half its parameter
 pub mod Distance
+-- Polygons that outlines may go round.
+--   IsAnyPolygon: the points are the vertices of a polygon through the first point, or of a cyclic one
+pub mod Polygons

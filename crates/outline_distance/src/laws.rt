@@ -6,7 +6,6 @@ ghost use Rattle.pt_base.specs.declared.piece.Piece.TheVariants.{Corner, Curve};
 ghost use Rattle.pt_base.specs.declared.piece.Piece.{Piece};
 ghost use Rattle.pt_base.specs.declared.settings.Settings.{Settings};
 ghost use Rattle.straight_paths.specs.Straight.{IsPossible, IsNear, offset_of};
-ghost use Rattle.polygon_optimal.specs.Polygon.{IsPolygon};
 ghost use Rattle.corner_smooth.specs.Corner.{control_of, middle_of, piece_of, pieces_of};
 ghost use Rattle.vertex_adjust.specs.Vertex.{AreVertices, segment_end_of};
 ghost use Rattle.curve_join.specs.Bends.{bends_of};
@@ -16,6 +15,7 @@ ghost use Rattle.curve_join.specs.Join.{MayJoin, cubic_at};
 ghost use Rattle.curve_join.specs.Outline.{Outline, is_curve, piece_at, vertex};
 ghost use Rattle.curve_join.specs.Vector.{way_of};
 ghost use Rattle.page_trace.specs.Trace.{IsOutlineOf};
+ghost use Rattle.outline_distance.specs.Polygons.{IsAnyPolygon};
 ghost use Rattle.outline_distance.specs.Distance.{DividesBy, IsCloseTo, LinePassesBy, PassesBy, divided, eightfold_middle, multiple, point_place};
 
 /// Each vertex is at most half a pixel from its point of the path.
@@ -41,7 +41,7 @@ pub fn segments_pass_by()
 /// a half pixels.
 pub fn sides_pass_by()
     ensures { (points : List Point) (at : List ℕ) (vertices : List Point) (k i : ℕ)
-        → IsClosedWalk points → IsPolygon points at → AreVertices points at vertices
+        → IsClosedWalk points → IsAnyPolygon points at → AreVertices points at vertices
         → k < length at → slice_index at k ≤ i → i ≤ segment_end_of points at k
         → PassesBy 1536 (point_at vertices k) (point_at vertices (k + 1)) (point_place (point_at points i)) }
 {}
@@ -49,7 +49,7 @@ pub fn sides_pass_by()
 /// Halfway between two neighbouring vertices a point of the path is at most one and a half pixels away.
 pub fn joints_are_close()
     ensures { (points : List Point) (at : List ℕ) (vertices : List Point) (k : ℕ)
-        → IsClosedWalk points → IsPolygon points at → AreVertices points at vertices → k < length at
+        → IsClosedWalk points → IsAnyPolygon points at → AreVertices points at vertices → k < length at
         → (i : ℕ) × (slice_index at k ≤ i) × (i ≤ segment_end_of points at k)
         × IsCloseTo 1536 (middle_of (point_at vertices k) (point_at vertices (k + 1))) (point_place (point_at points i)) }
 {}
@@ -57,7 +57,7 @@ pub fn joints_are_close()
 /// Each point of a path is at most one and a half pixels from the outline of corners at its vertices.
 pub fn points_are_close_to_outlines()
     ensures { (points : List Point) (at : List ℕ) (vertices : List Point) (i : ℕ)
-        → IsClosedWalk points → IsPolygon points at → AreVertices points at vertices → i < length points
+        → IsClosedWalk points → IsAnyPolygon points at → AreVertices points at vertices → i < length points
         → (k : ℕ) × (k < length vertices) × PassesBy 1536 (point_at vertices k) (point_at vertices (k + 1)) (point_place (point_at points i)) }
 {}
 
@@ -95,7 +95,7 @@ pub fn joints_are_halfway()
 /// Each place of the outline of corners is at most two pixels from a point of the path, which its side stands for.
 pub fn places_of_sides_are_close()
     ensures { (points : List Point) (at : List ℕ) (vertices : List Point) (k before after : ℕ)
-        → IsClosedWalk points → IsPolygon points at → AreVertices points at vertices → k < length at → 1 ≤ before + after
+        → IsClosedWalk points → IsAnyPolygon points at → AreVertices points at vertices → k < length at → 1 ≤ before + after
         → (i : ℕ) × (slice_index at k ≤ i) × (i ≤ segment_end_of points at k)
         × DividesBy 2048 before after (point_at vertices k) (point_at vertices (k + 1)) (point_place (point_at points i)) }
 {}
@@ -104,7 +104,7 @@ pub fn places_of_sides_are_close()
 /// its side stands for.
 pub fn places_of_sides_are_close_to_edges()
     ensures { (points : List Point) (at : List ℕ) (vertices : List Point) (k before after : ℕ)
-        → IsClosedWalk points → IsPolygon points at → AreVertices points at vertices → k < length at → 1 ≤ before + after
+        → IsClosedWalk points → IsAnyPolygon points at → AreVertices points at vertices → k < length at → 1 ≤ before + after
         → (i : ℕ) × (slice_index at k ≤ i) × (i < segment_end_of points at k) × (here : ℕ) × (there : ℕ) × (here + there ≡ before + after)
         × IsCloseTo ((before + after) * 1536) (divided before after (point_at vertices k) (point_at vertices (k + 1)))
         (divided here there (point_place (point_at points i)) (point_place (point_at points (i + 1)))) }
@@ -113,7 +113,7 @@ pub fn places_of_sides_are_close_to_edges()
 /// Each place of an edge of the path is at most one and a half pixels from the side that stands for the edge.
 pub fn edges_pass_by_sides()
     ensures { (points : List Point) (at : List ℕ) (vertices : List Point) (k i here there : ℕ)
-        → IsClosedWalk points → IsPolygon points at → AreVertices points at vertices
+        → IsClosedWalk points → IsAnyPolygon points at → AreVertices points at vertices
         → k < length at → slice_index at k ≤ i → i < segment_end_of points at k → 1 ≤ here + there
         → PassesBy ((here + there) * 1536) (multiple (here + there) (point_at vertices k)) (multiple (here + there) (point_at vertices (k + 1)))
         (divided here there (point_place (point_at points i)) (point_place (point_at points (i + 1)))) }

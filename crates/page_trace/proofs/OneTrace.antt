@@ -14,6 +14,8 @@ use Rattle.path_decompose.specs.Decomposition.{kept}
 use Rattle.path_decompose.proofs.Unique.{one_decomposition}
 use Rattle.polygon_optimal.specs.Polygon.{total_penalty}
 use Rattle.polygon_optimal.proofs.Best.{one_best}
+use Rattle.cyclic_optimal.specs.Cyclic.{round_penalty}
+use Rattle.cyclic_optimal.proofs.OneLeast.{one_cyclic}
 use Rattle.pt_base.specs.declared.point.Point.{Point}
 use Rattle.vertex_adjust.proofs.Single.{vertices_one}
 use Rattle.corner_smooth.specs.Corner.{pieces_of}
@@ -27,7 +29,7 @@ use Rattle.dxf_geojson.specs.GeoJsonText.{geojson_text}
 use Rattle.path_tree.specs.Groups.{groups_of}
 use Rattle.outline_check.specs.Printed.{IsPrinted}
 use Rattle.outline_check.proofs.Written.{one_text}
-use Rattle.page_trace.specs.Trace.{ArePaths, AreVerticesOf, HasPolygons, IsOutlineOf, IsOutlineWith, IsPolygonOf, IsTrace, tolerance_of}
+use Rattle.page_trace.specs.Trace.{ArePaths, AreVerticesOf, HasPolygons, IsOutlineOf, IsOutlineWith, IsPolygonOf, IsPolygonWith, IsTrace, tolerance_of}
 use Rattle.page_trace.specs.Document.{IsDocumentUnder, IsTextUnder}
 
 pub one_list_of_paths : (page : Page) (settings : Settings) (paths others : List Path) → ArePaths page settings paths → ArePaths page settings others → paths ≡ others
@@ -36,21 +38,27 @@ one_list_of_paths page settings paths others these those =
     ∙ ap (kept settings.turd) (one_decomposition page settings.policy (image_of page) these.all those.all these.decomposed those.decomposed)
     ∙ sym those.no_speckles
 
-one_polygon : (path : Path) (polygon other : Polygon) → IsPolygonOf path polygon → IsPolygonOf path other → polygon ≡ other
-one_polygon path polygon other this that =
-    let at = one_best path.points polygon.at other.at this.best that.best in
-    let cost = this.cost ∙ ap (total_penalty path.points) at ∙ sym that.cost in
-    ap (λ v. record polygon { at = v }) at ∙ ap (λ v. record other { cost = v }) cost
+same_polygon : (polygon other : Polygon) → polygon.at ≡ other.at → polygon.cost ≡ other.cost → polygon ≡ other
+same_polygon polygon other at cost = ap (λ v. record polygon { at = v }) at ∙ ap (λ v. record other { cost = v }) cost
 
-one_list_of_polygons : (paths : List Path) (polygons others : List Polygon) → AllZip IsPolygonOf paths polygons → AllZip IsPolygonOf paths others → polygons ≡ others
-one_list_of_polygons [] [] [] these those = refl
-one_list_of_polygons [] [] (other ∷ others) these those = absurd those
-one_list_of_polygons [] (polygon ∷ polygons) others these those = absurd these
-one_list_of_polygons (path ∷ paths) [] others these those = absurd these
-one_list_of_polygons (path ∷ paths) (polygon ∷ polygons) [] these those = absurd those
-one_list_of_polygons (path ∷ paths) (polygon ∷ polygons) (other ∷ others) these those =
-    ap (λ p. p ∷ polygons) (one_polygon path polygon other these.0 those.0)
-    ∙ ap (λ ps. other ∷ ps) (one_list_of_polygons paths polygons others these.1 those.1)
+one_polygon : (cyclic : Bool) (path : Path) (polygon other : Polygon) → IsPolygonWith cyclic path polygon → IsPolygonWith cyclic path other → polygon ≡ other
+one_polygon true path polygon other this that =
+    let at = one_cyclic path.points polygon.at other.at this.best that.best in
+    same_polygon polygon other at (this.cost ∙ ap (round_penalty path.points) at ∙ sym that.cost)
+one_polygon false path polygon other this that =
+    let at = one_best path.points polygon.at other.at this.best that.best in
+    same_polygon polygon other at (this.cost ∙ ap (total_penalty path.points) at ∙ sym that.cost)
+
+one_list_of_polygons : (settings : Settings) (paths : List Path) (polygons others : List Polygon) → AllZip (IsPolygonOf settings) paths polygons
+    → AllZip (IsPolygonOf settings) paths others → polygons ≡ others
+one_list_of_polygons settings [] [] [] these those = refl
+one_list_of_polygons settings [] [] (other ∷ others) these those = absurd those
+one_list_of_polygons settings [] (polygon ∷ polygons) others these those = absurd these
+one_list_of_polygons settings (path ∷ paths) [] others these those = absurd these
+one_list_of_polygons settings (path ∷ paths) (polygon ∷ polygons) [] these those = absurd those
+one_list_of_polygons settings (path ∷ paths) (polygon ∷ polygons) (other ∷ others) these those =
+    ap (λ p. p ∷ polygons) (one_polygon settings.cyclic path polygon other these.0 those.0)
+    ∙ ap (λ ps. other ∷ ps) (one_list_of_polygons settings paths polygons others these.1 those.1)
 
 same_trace : (t o : Trace) → t.width ≡ o.width → t.height ≡ o.height → t.paths ≡ o.paths → t.polygons ≡ o.polygons → t.vertices ≡ o.vertices
     → t.outlines ≡ o.outlines → t.groups ≡ o.groups → t ≡ o
@@ -69,8 +77,8 @@ same_paths page settings trace other this that = one_list_of_paths page settings
 same_polygons : (page : Page) (settings : Settings) (trace other : Trace) → HasPolygons page settings trace → HasPolygons page settings other
     → trace.polygons ≡ other.polygons
 same_polygons page settings trace other this that =
-    one_list_of_polygons other.paths trace.polygons other.polygons
-    (subst (λ ps. AllZip IsPolygonOf ps trace.polygons) (same_paths page settings trace other this that) this.polygons) that.polygons
+    one_list_of_polygons settings other.paths trace.polygons other.polygons
+    (subst (λ ps. AllZip (IsPolygonOf settings) ps trace.polygons) (same_paths page settings trace other this that) this.polygons) that.polygons
 
 one_list_of_vertices : (traced : List (Path × Polygon)) (lists others : List (List Point)) → AllZip AreVerticesOf traced lists → AllZip AreVerticesOf traced others
     → lists ≡ others

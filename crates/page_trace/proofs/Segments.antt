@@ -1,5 +1,5 @@
--- The segments of a best polygon, as runs of its path.
-use Rattle.std.proofs.Common.{◌≡◌, ℕ, zero, suc, ◌+◌, ◌<◌, ◌≤◌, List, [], ◌∷◌, ◌++◌, length, get_or, refl, ◌∙◌, subst, true, false, inl, inr, arith, length-append, add-one}
+-- The segments of a path's polygon, as runs of the path.
+use Rattle.std.proofs.Common.{◌≡◌, ℕ, zero, suc, ◌+◌, ◌<◌, ◌≤◌, Bool, List, [], ◌∷◌, ◌++◌, length, get_or, refl, ◌∙◌, subst, true, false, inl, inr, arith, length-append, add-one}
 use Rattle.std.specs.List.{All}
 use Rattle.std.proofs.lemmas.List.Elements.{All-head, All-tail}
 use Rattle.std.specs.Prelude.{nat_lt, slice_index}
@@ -8,6 +8,12 @@ use Rattle.pt_base.specs.declared.point.Point.{Point}
 use Rattle.least_walk.specs.LeastWalk.{IsWalk, Step, steps_from, walk_from}
 use Rattle.least_walk.proofs.Going.{length-steps_from}
 use Rattle.polygon_optimal.specs.Polygon.{IsSegment}
+use Rattle.straight_paths.specs.Straight.{IsPossible}
+use Rattle.cyclic_optimal.specs.Cyclic.{IsCyclicPolygon}
+use Rattle.cyclic_optimal.proofs.Vertices.{two_vertices}
+use Rattle.pt_base.specs.declared.path.Path.{Path}
+use Rattle.pt_base.specs.declared.polygon.Polygon.{Polygon}
+use Rattle.page_trace.specs.Trace.{IsPolygonWith}
 use Rattle.vertex_adjust.specs.Vertex.{IsPolygonAlong, IsSegmentOf, segment_end_of}
 
 -- step number k leads from index number k to the one after it
@@ -100,3 +106,65 @@ rises_by size from (next ∷ others) rises =
 pub as_many_at_most : (size : ℕ) (is_allowed : ℕ → ℕ → Type 0) (at : List ℕ) → IsWalk size is_allowed (walk_from at size) → length at ≤ size
 as_many_at_most size is_allowed [] walk = omega arith
 as_many_at_most size is_allowed (i ∷ rest) walk = (let rises = rises_by size i rest walk.rises in omega arith)
+
+-- where a segment of a cyclic polygon ends
+round_end_is : (points : List Point) (i : ℕ) (rest : List ℕ) (k : ℕ) → k < suc (length rest)
+    → get_or (rest ++ (i + length points) ∷ []) k 0 ≡ segment_end_of points (i ∷ rest) k
+round_end_is points i rest k within = elim (cases_lt (k + 1) (suc (length rest))) [
+  | inl h ↦
+      let test : nat_lt (k + 1) (suc (length rest)) ≡ true = lt-ltb (k + 1) (suc (length rest)) h in
+      rw (test, add-one) (get_or-within rest (i + length points) k (omega arith))
+  | inr h ↦
+      let test : nat_lt (k + 1) (suc (length rest)) ≡ false = le-ltb (k + 1) (suc (length rest)) h in
+      rw test (get_or-last rest (i + length points) k (omega arith) ∙ omega arith)
+]
+
+pub round_segment_at : (points : List Point) (at : List ℕ) (k : ℕ) → IsCyclicPolygon points at → k < length at
+    → IsPossible points (slice_index at k) (segment_end_of points at k)
+round_segment_at points [] k polygon within = absurd (omega arith)
+round_segment_at points (i ∷ rest) k polygon within =
+    let d : Step = record { from = 0; to = 0 } in
+    let n : ℕ = i + length points in
+    let count : length (steps_from i (rest ++ n ∷ [])) ≡ suc (length rest)
+    = length-steps_from i (rest ++ n ∷ []) ∙ omega (arith, length-append rest (n ∷ [])) in
+    let P : Step → Type 0 = λ step. IsPossible points step.from step.to in
+    let step = subst P (step_at i rest n k d within) (polygon.possible k d (omega arith)) in
+    let Q : ℕ → Type 0 = λ j. IsPossible points (get_or (i ∷ rest) k 0) j in
+    subst Q (round_end_is points i rest k within) step
+
+pub is_round_polygon : (points : List Point) (at : List ℕ) → IsCyclicPolygon points at → IsPolygonAlong points at
+is_round_polygon points [] polygon = absurd (omega (arith, polygon.some))
+is_round_polygon points (i ∷ rest) polygon = record {
+  some = omega arith;
+  segments = λ k within. run k within (round_segment_at points (i ∷ rest) k polygon within);
+} where
+  run : (k : ℕ) → k < suc (length rest) → IsPossible points (slice_index (i ∷ rest) k) (segment_end_of points (i ∷ rest) k) → IsSegmentOf points (i ∷ rest) k
+  run k within possible = record {
+    starts = polygon.within k 0 within;
+    onwards = possible.rises;
+    steps = possible.short;
+    lap = omega (arith, possible.leaves_three);
+  }
+
+-- such a polygon has no more vertices than the path has points
+round_at_most : (points : List Point) (at : List ℕ) → IsCyclicPolygon points at → length at ≤ length points
+round_at_most points [] polygon = omega arith
+round_at_most points (i ∷ rest) polygon =
+    let rises : All (λ (s : Step). s.from < s.to) (steps_from i (rest ++ (i + length points) ∷ []))
+    = λ k d below. (polygon.possible k d below).rises in
+    (let most = rises_by (i + length points) i rest rises in omega arith)
+
+-- of either kind
+pub along_path : (cyclic : Bool) (path : Path) (polygon : Polygon) → 0 < length path.points → IsPolygonWith cyclic path polygon
+    → IsPolygonAlong path.points polygon.at
+along_path true path polygon some is = is_round_polygon path.points polygon.at is.best.is_polygon
+along_path false path polygon some is = is_polygon path.points polygon.at some is.best.is_walk
+
+pub two_at_least : (cyclic : Bool) (path : Path) (polygon : Polygon) → 0 < length path.points → IsPolygonWith cyclic path polygon
+    → 2 ≤ length polygon.at
+two_at_least true path polygon some is = two_vertices path.points polygon.at is.best.is_polygon
+two_at_least false path polygon some is = two_segments path.points polygon.at some is.best.is_walk
+
+pub few_at_most : (cyclic : Bool) (path : Path) (polygon : Polygon) → IsPolygonWith cyclic path polygon → length polygon.at ≤ length path.points
+few_at_most true path polygon is = round_at_most path.points polygon.at is.best.is_polygon
+few_at_most false path polygon is = as_many_at_most (length path.points) (IsSegment path.points) polygon.at is.best.is_walk

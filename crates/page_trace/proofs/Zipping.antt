@@ -1,4 +1,4 @@
--- The best polygons of some paths, and of one more; and their vertices.
+-- The polygons of some paths, and of one more; and their vertices.
 use Rattle.std.proofs.Common.{◌≡◌, ℕ, ◌+◌, ◌<◌, List, [], ◌∷◌, ◌++◌, length, get_or, take, zip, refl, sym, ap, ◌∙◌, subst, arith, add-one}
 use Rattle.std.specs.List.{AllZip}
 use Rattle.std.proofs.lemmas.Slice.Zip.{AllZip-long, all_zipped_more}
@@ -6,29 +6,19 @@ use Rattle.std.proofs.Math.Seq.{take-suc}
 use Rattle.pt_base.specs.declared.path.Path.{Path}
 use Rattle.pt_base.specs.declared.polygon.Polygon.{Polygon}
 use Rattle.pt_base.specs.declared.point.Point.{Point}
-use Rattle.polygon_optimal.specs.Polygon.{IsBestPolygon, total_penalty}
+use Rattle.pt_base.specs.declared.settings.Settings.{Settings}
 use Rattle.page_trace.specs.Trace.{AreVerticesOf, IsPolygonOf}
-
-abbrev IsPolygonOver : Polygon → List Point → Type 0
-IsPolygonOver polygon points = IsBestPolygon points polygon.at × (polygon.cost ≡ total_penalty points polygon.at)
-
--- the best polygon of a path's points is that of the path
-pub polygon_of : (path : Path) (points : List Point) (polygon : Polygon) → points ≡ path.points → IsBestPolygon points polygon.at
-    → polygon.cost ≡ total_penalty points polygon.at → IsPolygonOf path polygon
-polygon_of path points polygon same best cost =
-    let over = subst (IsPolygonOver polygon) same (best, cost) in
-    record { best = over.0; cost = over.1 }
 
 -- the first paths, and the next one
 taken : (paths : List Path) (i : ℕ) (path : Path) → i < length paths → path ≡ get_or paths i path → take i paths ++ path ∷ [] ≡ take (i + 1) paths
 taken paths i path below is = ap (λ p. take i paths ++ p ∷ []) is ∙ sym (take-suc paths i path below) ∙ ap (λ n. take n paths) (sym (add-one i))
 
 -- one more path has its polygon
-pub polygons_more : (paths : List Path) (i : ℕ) (path : Path) (polygons more : List Polygon) (best : Polygon) → i < length paths → path ≡ get_or paths i path
-    → AllZip IsPolygonOf (take i paths) polygons → IsPolygonOf path best → more ≡ polygons ++ best ∷ [] → AllZip IsPolygonOf (take (i + 1) paths) more
-polygons_more paths i path polygons more best below is so_far of_path pushed =
-    subst (λ ps. AllZip IsPolygonOf ps more) (taken paths i path below is)
-    (subst (AllZip IsPolygonOf (take i paths ++ path ∷ [])) (sym pushed) (all_zipped_more IsPolygonOf (take i paths) polygons path best so_far of_path))
+pub polygons_more : (settings : Settings) (paths : List Path) (i : ℕ) (path : Path) (polygons more : List Polygon) (best : Polygon) → i < length paths → path ≡ get_or paths i path
+    → AllZip (IsPolygonOf settings) (take i paths) polygons → IsPolygonOf settings path best → more ≡ polygons ++ best ∷ [] → AllZip (IsPolygonOf settings) (take (i + 1) paths) more
+polygons_more settings paths i path polygons more best below is so_far of_path pushed =
+    subst (λ ps. AllZip (IsPolygonOf settings) ps more) (taken paths i path below is)
+    (subst (AllZip (IsPolygonOf settings) (take i paths ++ path ∷ [])) (sym pushed) (all_zipped_more (IsPolygonOf settings) (take i paths) polygons path best so_far of_path))
 
 -- one more pair
 zip-more : {A B : Type 0} (xs : List A) (ys : List B) (x : A) (y : B) → length xs ≡ length ys → zip (xs ++ x ∷ []) (ys ++ y ∷ []) ≡ zip xs ys ++ (x, y) ∷ []
@@ -38,12 +28,12 @@ zip-more (a ∷ xs) [] x y same = absurd (omega arith)
 zip-more (a ∷ xs) (b ∷ ys) x y same = ap (λ ps. (a, b) ∷ ps) (zip-more xs ys x y (omega arith))
 
 -- one more path and its polygon have their vertices
-pub vertices_more : (paths : List Path) (i : ℕ) (path : Path) (polygons more : List Polygon) (best : Polygon) (lists longer : List (List Point)) (vertices : List Point)
-    → i < length paths → path ≡ get_or paths i path → AllZip IsPolygonOf (take i paths) polygons → more ≡ polygons ++ best ∷ []
+pub vertices_more : (settings : Settings) (paths : List Path) (i : ℕ) (path : Path) (polygons more : List Polygon) (best : Polygon) (lists longer : List (List Point)) (vertices : List Point)
+    → i < length paths → path ≡ get_or paths i path → AllZip (IsPolygonOf settings) (take i paths) polygons → more ≡ polygons ++ best ∷ []
     → AllZip AreVerticesOf (zip (take i paths) polygons) lists → AreVerticesOf (path, best) vertices → longer ≡ lists ++ vertices ∷ []
     → AllZip AreVerticesOf (zip (take (i + 1) paths) more) longer
-vertices_more paths i path polygons more best lists longer vertices below is of_paths pushed so_far of_both pushed' =
-    let same : length (take i paths) ≡ length polygons = omega (arith, AllZip-long IsPolygonOf (take i paths) polygons of_paths) in
+vertices_more settings paths i path polygons more best lists longer vertices below is of_paths pushed so_far of_both pushed' =
+    let same : length (take i paths) ≡ length polygons = omega (arith, AllZip-long (IsPolygonOf settings) (take i paths) polygons of_paths) in
     let pairs : zip (take i paths) polygons ++ (path, best) ∷ [] ≡ zip (take (i + 1) paths) more =
     sym (zip-more (take i paths) polygons path best same) ∙ ap (λ ps. zip ps (polygons ++ best ∷ [])) (taken paths i path below is)
     ∙ ap (λ qs. zip (take (i + 1) paths) qs) (sym pushed) in

@@ -1,7 +1,10 @@
 -- What is traced of a page.
 --   ArePaths: These are the page's paths which are no speckles
---   IsPolygonOf: the polygon is the best one of a path, with the penalty of all its segments
---   HasPolygons: the trace has the page's sides, its paths, and the best polygon of each
+--   IsPolygonThrough: the polygon is the best one of a path through its first point
+--   IsPolygonRound: the polygon is the least one of a path over all starting points
+--   IsPolygonWith: which polygon a path gets
+--   IsPolygonOf
+--   HasPolygons: the trace has the page's sides, its paths, and the polygon of each that is asked for
 --   AreVerticesOf: they are the adjusted vertices of a path's polygon
 --   tolerance_of: how far a joined curve may be off, in units of 1/1024 pixel, rounded down
 --   IsOutlineWith: these pieces go round the vertices

@@ -13,6 +13,7 @@ use Rattle.path_decompose.specs.Decomposition.{IsDecomposition, kept}
 use Rattle.path_decompose.specs.Sums.{IsEvenOdd, IsEdgesOnce}
 use Rattle.path_tree.specs.Groups.{groups_of}
 use Rattle.polygon_optimal.specs.Polygon.{IsBestPolygon, total_penalty}
+use Rattle.cyclic_optimal.specs.Cyclic.{IsLeastCyclic, round_penalty}
 use Rattle.vertex_adjust.specs.Vertex.{AreVertices}
 use Rattle.corner_smooth.specs.Corner.{pieces_of}
 use Rattle.curve_join.specs.Choice.{IsBestJoin}
@@ -27,17 +28,30 @@ pub record ArePaths (page : Page) (settings : Settings) (paths : List Path) : Ty
   pub edges_once : IsEdgesOnce (image_of page) all
   pub no_speckles : paths ≡ kept settings.turd all
 
--- the polygon is the best one of a path, with the penalty of all its segments
-pub record IsPolygonOf (path : Path) (polygon : Polygon) : Type 0 where
+-- the polygon is the best one of a path through its first point, with the penalty of all its segments
+pub record IsPolygonThrough (path : Path) (polygon : Polygon) : Type 0 where
   pub best : IsBestPolygon path.points polygon.at
   pub cost : polygon.cost ≡ total_penalty path.points polygon.at
 
--- the trace has the page's sides, its paths, and the best polygon of each
+-- the polygon is the least one of a path over all starting points, with the penalty of all its segments
+pub record IsPolygonRound (path : Path) (polygon : Polygon) : Type 0 where
+  pub best : IsLeastCyclic path.points polygon.at
+  pub cost : polygon.cost ≡ round_penalty path.points polygon.at
+
+-- which polygon a path gets: one that may begin at any of its points, or one that begins at the first
+abbrev pub IsPolygonWith : Bool → Path → Polygon → Type 0
+IsPolygonWith true path polygon = IsPolygonRound path polygon
+IsPolygonWith false path polygon = IsPolygonThrough path polygon
+
+abbrev pub IsPolygonOf : Settings → Path → Polygon → Type 0
+IsPolygonOf settings path polygon = IsPolygonWith settings.cyclic path polygon
+
+-- the trace has the page's sides, its paths, and the polygon of each that is asked for
 pub record HasPolygons (page : Page) (settings : Settings) (trace : Trace) : Type 0 where
   pub width : trace.width ≡ page.width
   pub height : trace.height ≡ page.height
   pub paths : ArePaths page settings trace.paths
-  pub polygons : AllZip IsPolygonOf trace.paths trace.polygons
+  pub polygons : AllZip (IsPolygonOf settings) trace.paths trace.polygons
 
 -- they are the adjusted vertices of a path's polygon
 abbrev pub AreVerticesOf : Path × Polygon → List Point → Type 0

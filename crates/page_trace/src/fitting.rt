@@ -1,4 +1,4 @@
-//! The best polygons of paths, with their adjusted vertices.
+//! The polygons of paths, with their adjusted vertices.
 ghost use Rattle.std.specs.Prelude.{◌≤◌, ◌+◌, ◌^◌, All, IfOk, zip, length};
 ghost use Rattle.std.specs.List.{AllZip};
 ghost use Rattle.pt_base.specs.ClosedWalk.{IsClosedWalk};
@@ -6,17 +6,18 @@ ghost use Rattle.pt_base.specs.OnPage.{AreOnPage};
 ghost use Rattle.corner_smooth.specs.Corner.{IsNearWidePage};
 ghost use Rattle.page_trace.specs.Trace.{AreVerticesOf, IsPolygonOf};
 
-use polygon_optimal::optimal::polygon_by;
+use crate::polygons::polygon_of;
 use prefix_moments::moments::Moments;
 use pt_base::fault::NoMemory;
 use pt_base::path::Path;
 use pt_base::point::Point;
 use pt_base::polygon::Polygon;
 use pt_base::sequence::Sequence;
+use pt_base::settings::Settings;
 use std::alloc::Global;
 use vertex_adjust::vertices::adjust_by;
 
-/// The best polygon of each path, and its adjusted vertices.
+/// The polygon of each path, and its adjusted vertices.
 #[derive(Drop)]
 pub(crate) struct Fitted {
     pub polygons: Vec<Polygon>,
@@ -26,10 +27,14 @@ pub(crate) struct Fitted {
 /// Fits polygons to all paths.
 //
 // What is measured of one path is given back before the next one.
-pub(crate) fn fit_all(alloc: Global, paths: &[Path]) -> Result<Fitted, NoMemory>
+pub(crate) fn fit_all(
+    alloc: Global,
+    paths: &[Path],
+    settings: &Settings,
+) -> Result<Fitted, NoMemory>
     requires closed { All (λ path. IsClosedWalk path.points) paths.now }
     requires on_page { All (λ path. AreOnPage path.points) paths.now }
-    ensures polygons { IfOk result (λ all. AllZip IsPolygonOf paths.now all.polygons.items) }
+    ensures polygons { IfOk result (λ all. AllZip (IsPolygonOf settings.now) paths.now all.polygons.items) }
     ensures vertices { IfOk result
         (λ all. AllZip AreVerticesOf (zip paths.now all.polygons.items) all.vertices.items) }
     ensures near { IfOk result (λ all. All (All IsNearWidePage) all.vertices.items) }
@@ -39,18 +44,22 @@ pub(crate) fn fit_all(alloc: Global, paths: &[Path]) -> Result<Fitted, NoMemory>
     let mut polygons = Vec::with_capacity(alloc, paths.len())?;
     let mut vertices = Vec::with_capacity(alloc, paths.len())?;
     for path in paths {
-        let (best, adjusted) = fit(alloc, path)?;
+        let (best, adjusted) = fit(alloc, path, settings)?;
         polygons.push(best)?;
         vertices.push(adjusted)?;
     }
     Ok(Fitted { polygons, vertices })
 }
 
-/// The best polygon of a path, and its adjusted vertices: the path is summed up once for both.
-fn fit(alloc: Global, path: &Path) -> Result<(Polygon, Sequence<Point>), NoMemory>
+/// The polygon of a path, and its adjusted vertices: the path is summed up once for both.
+fn fit(
+    alloc: Global,
+    path: &Path,
+    settings: &Settings,
+) -> Result<(Polygon, Sequence<Point>), NoMemory>
     requires closed { IsClosedWalk path.now.points }
     requires on_page { AreOnPage path.now.points }
-    ensures polygon { IfOk result (λ both. IsPolygonOf path.now both.0) }
+    ensures polygon { IfOk result (λ both. IsPolygonOf settings.now path.now both.0) }
     ensures vertices { IfOk result (λ both. AreVerticesOf (path.now, both.0) both.1) }
     ensures near { IfOk result (λ both. All IsNearWidePage both.1) }
     ensures some { IfOk result (λ both. 2 ≤ length both.1) }
@@ -58,7 +67,7 @@ fn fit(alloc: Global, path: &Path) -> Result<(Polygon, Sequence<Point>), NoMemor
 {
     let points = path.points.as_slice();
     let moments = Moments::of(alloc, points)?;
-    let best = polygon_by(alloc, points, &moments)?;
+    let best = polygon_of(alloc, path, &moments, settings)?;
     let adjusted = adjust_by(alloc, points, &moments, &best)?;
     Ok((best, adjusted))
 }

@@ -17,7 +17,7 @@ use pt_base::settings::Settings;
 use pt_base::trace::Trace;
 use std::alloc::Global;
 
-/// The paths of a page that are no speckles, the best polygon of each, its adjusted vertices, the
+/// The paths of a page that are no speckles, the polygon of each, its adjusted vertices, the
 /// outline round them, whose curves are joined where the settings ask for it, and the shapes with their
 /// holes.
 pub fn trace(alloc: Global, page: &Bitmap, settings: &Settings) -> Result<Trace, NoMemory>
@@ -25,7 +25,7 @@ pub fn trace(alloc: Global, page: &Bitmap, settings: &Settings) -> Result<Trace,
     ensures { IfOk result (λ trace. IsTrace page.now settings.now trace) }
 {
     let paths = kept_paths(alloc, page, settings)?;
-    let Fitted { polygons, vertices } = fit_all(alloc, &paths)?;
+    let Fitted { polygons, vertices } = fit_all(alloc, &paths, settings)?;
     let outlines = all_outlines(alloc, &vertices, settings)?;
     let groups = group(alloc, &paths)?;
     Ok(Trace {
@@ -39,7 +39,7 @@ pub fn trace(alloc: Global, page: &Bitmap, settings: &Settings) -> Result<Trace,
     })
 }
 
-/// The paths of a page that are no speckles, and the best polygon of each, with nothing else.
+/// The paths of a page that are no speckles, and the polygon of each, with nothing else.
 pub(crate) fn polygons_alone(
     alloc: Global,
     page: &Bitmap,
@@ -51,7 +51,7 @@ pub(crate) fn polygons_alone(
     ensures on_page { IfOk result (λ trace. All (λ path. AreOnPage path.points) trace.paths) }
 {
     let paths = kept_paths(alloc, page, settings)?;
-    let polygons = best_polygons(alloc, &paths)?;
+    let polygons = best_polygons(alloc, &paths, settings)?;
     Ok(Trace {
         width: page.width(),
         height: page.height(),

@@ -4,6 +4,7 @@ mod beside_plain;
 mod best;
 mod certificates;
 mod chain;
+mod cyclic;
 mod greatest;
 mod least;
 mod longest;

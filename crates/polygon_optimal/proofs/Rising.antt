@@ -10,7 +10,7 @@ use Rattle.straight_paths.proofs.Pieces.{rest_of, without_first}
 use Rattle.polygon_optimal.specs.Lasts.{HasLasts, AreRising}
 
 -- a possible segment stays so without its first step
-later_possible : (points : List Point) (i j : ℕ) → IsPossible points i j → i + 1 < j → IsPossible points (i + 1) j
+pub later_possible : (points : List Point) (i j : ℕ) → IsPossible points i j → i + 1 < j → IsPossible points (i + 1) j
 later_possible points i j possible rises =
     let n = length points in
     let start : ℕ = i + (n - 1) in

@@ -1,4 +1,5 @@
-//! The best polygon among all lists of vertices, by the criteria word for word, in whole numbers.
+//! The best polygon among all lists of vertices, by the criteria word for word, in whole numbers: of those through a
+//! path's first point, and of all.
 ghost use Rattle.std.specs.Prelude.{◌≤◌, ◌<◌, length};
 
 use page_samples::plain::is_possible;
@@ -31,6 +32,32 @@ pub(super) fn best(points: &[Point]) -> (u32, u64)
     (vertices, cost)
 }
 
+/// The vertices of the best polygon that may begin at any point, a bit for each, and its penalty.
+pub(super) fn best_round(points: &[Point]) -> (u32, u64)
+    requires { length points.now ≤ 24 }
+{
+    let costs = segments(points);
+    let size = points.len();
+    let mut vertices = 0u32;
+    let mut cost = 0;
+    for list in 1..1u32 << size {
+        let fewer = list.count_ones() < vertices.count_ones();
+        if vertices == 0 || fewer || list.count_ones() == vertices.count_ones() {
+            if let Some(total) = total_round(&costs, size, list) {
+                if vertices == 0
+                    || fewer
+                    || total < cost
+                    || total == cost && is_lower(list, vertices)
+                {
+                    vertices = list;
+                    cost = total;
+                }
+            }
+        }
+    }
+    (vertices, cost)
+}
+
 /// Whether a list of vertices is lower than another one of as many: it has the first one in which they
 /// differ.
 fn is_lower(list: u32, other: u32) -> bool {
@@ -40,7 +67,7 @@ fn is_lower(list: u32, other: u32) -> bool {
 }
 
 /// The penalty of a polygon's segments together, where each of them is possible.
-fn total(costs: &[[Option<u64>; 25]; 25], size: usize, list: u32) -> Option<u64>
+fn total(costs: &[[Option<u64>; 49]; 25], size: usize, list: u32) -> Option<u64>
     requires { size ≤ 24 }
 {
     let mut total = 0u64;
@@ -54,14 +81,30 @@ fn total(costs: &[[Option<u64>; 25]; 25], size: usize, list: u32) -> Option<u64>
     Some(total)
 }
 
-/// The penalties of the possible segments.
-fn segments(points: &[Point]) -> [[Option<u64>; 25]; 25]
+/// The same of a polygon that begins at any point: its last segment leads from the last vertex to the first one again.
+fn total_round(costs: &[[Option<u64>; 49]; 25], size: usize, list: u32) -> Option<u64>
+    requires { size ≤ 24 }
+{
+    let first = list.trailing_zeros() as usize;
+    let mut total = 0u64;
+    let mut from = first;
+    for to in first + 1..first + size + 1 {
+        if from < 25 && to < 49 && (to == first + size || to < size && list >> to & 1 == 1) {
+            total = total.wrapping_add(costs[from][to]?);
+            from = to;
+        }
+    }
+    Some(total)
+}
+
+/// The penalties of the possible segments, also of those that lead past the path's end.
+fn segments(points: &[Point]) -> [[Option<u64>; 49]; 25]
     requires { length points.now ≤ 24 }
 {
-    let mut costs = [[None; 25]; 25];
+    let mut costs = [[None; 49]; 25];
     let size = points.len();
     for i in 0..size {
-        for j in i + 1..size + 1 {
+        for j in i + 1..i + size {
             if is_possible(points, i, j) {
                 costs[i][j] = Some(penalty(points, i, j));
             }

@@ -38,7 +38,7 @@ fn is_best(alloc: Global, points: &[Point]) -> Result<bool, Fail> {
 }
 
 /// A bit for each index below 32.
-fn bits_of(at: &[u32]) -> u32 {
+pub(super) fn bits_of(at: &[u32]) -> u32 {
     let mut bits = 0u32;
     for index in at {
         bits |= 1u32.wrapping_shl(*index);

@@ -1,0 +1,122 @@
+//! Where the least cyclic polygon begins.
+//!
+//! No segment from point k or before reaches past the longest one from k. So each cyclic polygon has a vertex among
+//! the points after k up to there, the window after k, and it is enough to look at the ways once round from these few
+//! points.
+ghost use Rattle.std.specs.Prelude.{◌≡◌, ℕ, ◌+◌, ◌<◌, ◌≤◌, length, IfOk};
+ghost use Rattle.pt_base.specs.ClosedWalk.{IsClosedWalk};
+ghost use Rattle.pt_base.specs.OnPage.{AreOnPage};
+ghost use Rattle.straight_paths.specs.Straight.{IsPossible};
+ghost use Rattle.least_walk.specs.Suffix.{IsFewestFrom};
+ghost use Rattle.cyclic_optimal.specs.First.{IsFirstVertex};
+ghost use Rattle.cyclic_optimal.specs.Fronts.{IsBestAmong, IsBestFrom};
+
+use crate::fans::all_fans;
+use crate::fronts::{best_by, tops};
+use crate::leaps::{all_leaps, nexts};
+use crate::sides::Sides;
+use crate::windows::{narrowest, sparsest};
+use prefix_moments::moments::Moments;
+use pt_base::fault::NoMemory;
+use pt_base::point::Point;
+use std::alloc::Global;
+
+/// A window of at most so many points is looked through as it stands. There is one behind each corner.
+const FEW: usize = 3;
+
+/// The number of segments of a way once round, and what they count: 2^32 times their penalties together, and the
+/// number of the first of its points after the path's end.
+#[derive(Clone, Copy)]
+pub(crate) struct Best {
+    pub count: usize,
+    pub worth: u128,
+}
+
+/// The first vertex of the least cyclic polygon.
+//
+// A path without any corner has wide windows alone. There it is worth while to look for one with few points at which
+// a polygon of fewest segments can begin, and to write down the penalties that all searches from there ask for.
+pub(crate) fn first_vertex(
+    alloc: Global,
+    points: &[Point],
+    moments: &Moments,
+) -> Result<u32, NoMemory>
+    requires closed { IsClosedWalk points.now }
+    requires on_page { AreOnPage points.now }
+    requires moments { moments.now ≡ points.now }
+    ensures first { IfOk result (IsFirstVertex points.now) }
+    ensures point { IfOk result (λ first. first < length points.now) }
+{
+    let sides = Sides::of(alloc, points, moments)?;
+    let narrow = narrowest(&sides);
+    let last = sides.last(narrow);
+    if last - narrow <= FEW {
+        return first_after(alloc, &sides, narrow);
+    }
+    let count = fewest_among(alloc, &sides, narrow + 1, last + 1)?;
+    let nexts = nexts(alloc, &all_leaps(alloc, &sides, count.saturating_sub(1))?)?;
+    let sparse = sparsest(alloc, &sides, &nexts, narrow)?;
+    let fans = all_fans(alloc, &sides, &nexts)?;
+    first_after(alloc, &sides.with_fans(fans), sparse)
+}
+
+/// The first vertex of the least cyclic polygon, by the window after this point.
+fn first_after(alloc: Global, sides: &Sides, point: usize) -> Result<u32, NoMemory>
+    requires point { point < length sides.now.moments.now }
+    requires within { (j : ℕ) → IsPossible sides.now.moments.now point j
+        → j < length sides.now.moments.now }
+    ensures first { IfOk result (IsFirstVertex sides.now.moments.now) }
+    ensures point { IfOk result (λ first. first < length sides.now.moments.now) }
+{
+    let best = best_among(alloc, sides, point + 1, sides.last(point) + 1)?;
+    Ok((best.worth % (1 << 32)) as u32)
+}
+
+/// The best way once round from one of the points from `low` to before `high`.
+fn best_among(alloc: Global, sides: &Sides, low: usize, high: usize) -> Result<Best, NoMemory>
+    requires some { low < high }
+    requires within { high ≤ length sides.now.moments.now }
+    ensures { IfOk result (IsBestAmong sides.now.moments.now low high) }
+{
+    let fewest = fewest_among(alloc, sides, low, high)?;
+    // No way yet: any of the fewest segments is better.
+    let mut best = Best {
+        count: fewest + 1,
+        worth: 0,
+    };
+    for start in low..high {
+        let ways = tops(alloc, sides, start)?;
+        if ways.len() <= fewest + 1 {
+            best = better(best, best_by(alloc, sides, start, &ways)?);
+        }
+    }
+    Ok(best)
+}
+
+/// The fewest segments of a way once round from one of the points from `low` to before `high`.
+fn fewest_among(alloc: Global, sides: &Sides, low: usize, high: usize) -> Result<usize, NoMemory>
+    requires some { low < high }
+    requires within { high ≤ length sides.now.moments.now }
+    ensures some { IfOk result (λ count. (s : ℕ) × (low ≤ s) × (s < high)
+        × IsFewestFrom (s + length sides.now.moments.now) (IsPossible sides.now.moments.now) s count) }
+{
+    let mut fewest = tops(alloc, sides, low)?.len() - 1;
+    for start in low + 1..high {
+        fewest = fewest.min(tops(alloc, sides, start)?.len() - 1);
+    }
+    Ok(fewest)
+}
+
+/// The one of fewer segments, or of as many that count less; of two that tie the former.
+fn better(best: Best, next: Best) -> Best
+    ensures fewer { next.count < best.count → result ≡ next }
+    ensures more { best.count < next.count → result ≡ best }
+    ensures lower { next.count ≡ best.count → next.worth < best.worth → result ≡ next }
+    ensures kept { next.count ≡ best.count → best.worth ≤ next.worth → result ≡ best }
+{
+    if next.count < best.count || (next.count == best.count && next.worth < best.worth) {
+        next
+    } else {
+        best
+    }
+}

@@ -1,0 +1,197 @@
+//! Cyclic polygons beside a search over all lists of vertices, and beside the best polygons from each starting point.
+
+use crate::tests::best::best_round;
+use crate::tests::polygons::bits_of;
+use bit_image::bitmap::Bitmap;
+use cyclic_optimal::cyclic::cyclic_polygon;
+use page_samples::pages::{drawn, noise, numbered};
+use page_samples::shapes::{Shape, shaped};
+use path_decompose::decomposition::decompose;
+use polygon_optimal::optimal::polygon;
+use pt_base::closed_walk::is_closed_walk;
+use pt_base::fault::NoMemory;
+use pt_base::path::Path;
+use pt_base::point::Point;
+use pt_base::policy::Policy;
+use std::alloc::Global;
+use std::test::Fail;
+
+/// A page with one path; the vertices of its cyclic polygon and their penalty; and how many segments the best polygon
+/// through its first point has.
+const ROWS: [(&[&str], &[u32], u128, usize); 4] = [
+    // Twelve pixels round a middle. Each penalty is 323.
+    (&[".##.", "####", "####", ".##."], &[3, 7, 11, 15], 1292, 5),
+    // The lists 0 2 4 and 1 3 5 tie.
+    (&["##"], &[0, 2, 4], 294, 3),
+    (&["#"], &[0, 1, 2, 3], 0, 4),
+    (&["###", "###"], &[0, 2, 5, 7], 0, 4),
+];
+
+#[test]
+fn worked_paths(rt: HostRuntime) -> Result<(), Fail> {
+    for (rows, at, cost, through) in ROWS {
+        let page = drawn(rt.alloc(), rows)?;
+        for path in decompose(rt.alloc(), &page, Policy::Minority)? {
+            let found = polygons_of(rt.alloc(), path.points.as_slice())?;
+            let same = found.0.as_slice() == at;
+            assert_eq!(rt; (same, found.1, found.2), (true, cost, through), "{rows:?}");
+        }
+    }
+    Ok(())
+}
+
+/// The vertices of the cyclic polygon and their penalty, and how many segments the best one through the first point
+/// has.
+fn polygons_of(alloc: Global, points: &[Point]) -> Result<(Vec<u32>, u128, usize), Fail> {
+    if !is_closed_walk(points) {
+        return Ok((Vec::new(alloc), 0, 0));
+    }
+    let found = cyclic_polygon(alloc, points)?;
+    let through = polygon(alloc, points)?;
+    Ok((
+        Vec::from_slice(alloc, found.at.as_slice())?,
+        found.cost,
+        through.at.as_slice().len(),
+    ))
+}
+
+#[test]
+fn best_of_all_rounds(rt: HostRuntime) -> Result<(), Fail> {
+    let mut found = 0u32;
+    for number in 0..512 {
+        let page = numbered(rt.alloc(), number)?;
+        for policy in [Policy::Left, Policy::Right] {
+            for path in decompose(rt.alloc(), &page, policy)? {
+                let best = is_best_round(rt.alloc(), path.points.as_slice())?;
+                assert!(rt; best, "page {number}");
+                found = found.wrapping_add(1);
+            }
+        }
+    }
+    assert_eq!(rt; found, 1570);
+    Ok(())
+}
+
+/// Whether the cyclic polygon of a path is the best one of all lists of vertices.
+fn is_best_round(alloc: Global, points: &[Point]) -> Result<bool, Fail> {
+    if 24 < points.len() || !is_closed_walk(points) {
+        return Ok(false);
+    }
+    let polygon = cyclic_polygon(alloc, points)?;
+    let (vertices, cost) = best_round(points);
+    Ok(bits_of(polygon.at.as_slice()) == vertices && polygon.cost == u128::from(cost))
+}
+
+/// A shape, the page's side, and how many paths there are. Discs have no corner, so that their windows are wide.
+const SHAPES: [(Shape, usize, u32); 7] = [
+    (
+        Shape::Stairs {
+            rows: 3,
+            columns: 7,
+        },
+        60,
+        1,
+    ),
+    (
+        Shape::Band {
+            rows: 5,
+            columns: 13,
+            high: 90,
+        },
+        80,
+        1,
+    ),
+    (Shape::Comb { width: 2 }, 26, 1),
+    (Shape::Disc, 20, 1),
+    (Shape::Disc, 45, 1),
+    (Shape::Disc, 100, 1),
+    (Shape::Nest { width: 3 }, 40, 7),
+];
+
+#[test]
+fn least_of_all_starts(rt: HostRuntime) -> Result<(), Fail> {
+    for (shape, side, paths) in SHAPES {
+        let page = shaped(rt.alloc(), side, shape)?;
+        let found = least_paths(rt.alloc(), &page)?;
+        assert_eq!(rt; found, (paths, paths), "{shape:?} on a page of {side}");
+    }
+    Ok(())
+}
+
+#[test]
+fn least_on_pages_of_noise(rt: HostRuntime) -> Result<(), Fail> {
+    for seed in 0..8 {
+        let page = noise(rt.alloc(), 40, 32, seed)?;
+        let found = least_paths(rt.alloc(), &page)?;
+        assert_eq!(rt; (20 < found.0, found.0), (true, found.1), "seed {seed}");
+    }
+    Ok(())
+}
+
+/// How many paths a page has, and of how many the cyclic polygon is the least of all starting points.
+fn least_paths(alloc: Global, page: &Bitmap) -> Result<(u32, u32), Fail> {
+    let (mut paths, mut least) = (0u32, 0u32);
+    for path in decompose(alloc, page, Policy::Minority)? {
+        paths = paths.wrapping_add(1);
+        least = least.wrapping_add(u32::from(is_least(alloc, &path)?));
+    }
+    Ok((paths, least))
+}
+
+/// Whether the cyclic polygon of a path is the least of those that the best polygon from each point is.
+fn is_least(alloc: Global, path: &Path) -> Result<bool, Fail> {
+    let points = path.points.as_slice();
+    if !is_closed_walk(points) {
+        return Ok(false);
+    }
+    let found = cyclic_polygon(alloc, points)?;
+    let least = least_of_starts(alloc, points)?;
+    Ok(found.at.as_slice() == least.at.as_slice() && found.cost == least.cost)
+}
+
+/// A polygon, by the numbers of its vertices in the path.
+#[derive(Drop)]
+struct Found {
+    at: Vec<u32>,
+    cost: u128,
+}
+
+/// The first best one of the polygons from each point.
+fn least_of_starts(alloc: Global, points: &[Point]) -> Result<Found, Fail> {
+    let mut least = from_start(alloc, points, 0)?;
+    for start in 1..points.len() {
+        let next = from_start(alloc, points, start)?;
+        if next.at.len() < least.at.len()
+            || next.at.len() == least.at.len() && next.cost < least.cost
+        {
+            least = next;
+        }
+    }
+    Ok(least)
+}
+
+/// The best polygon of the path turned to this point.
+fn from_start(alloc: Global, points: &[Point], start: usize) -> Result<Found, Fail> {
+    let turned = turned(alloc, points, start)?;
+    let mut at = Vec::new(alloc);
+    if !is_closed_walk(&turned) {
+        return Ok(Found { at, cost: 0 });
+    }
+    let found = polygon(alloc, &turned)?;
+    for index in found.at.as_slice() {
+        at.push(index.wrapping_add(start as u32))?;
+    }
+    Ok(Found {
+        at,
+        cost: found.cost,
+    })
+}
+
+/// The points from this one on, and then those before it.
+fn turned(alloc: Global, points: &[Point], start: usize) -> Result<Vec<Point>, NoMemory> {
+    let mut turned = Vec::new(alloc);
+    for k in 0..points.len() {
+        turned.push(points[k.wrapping_add(start) % points.len()])?;
+    }
+    Ok(turned)
+}
