@@ -1,11 +1,11 @@
 #!/usr/bin/env bash
 # Tries the manual pages: they must be well-formed, and each of their examples must work as it stands.
 #
-# usage: bench/check/manual.sh [PROGRAM [FILLER]]
+# usage: bench/check/manual.sh [PROGRAM [FILLER [CHECKER]]]
 #
-# The examples are taken from docs/potrace.1 and docs/point_fill.1 and run one after another in a folder with the pages that
-# they name; the documents that they speak of must then be there and be read by a parser. The batch queue is played by the
-# shell. PROGRAM and FILLER are ours, and are built if they aren't given. It needs Debian's packages mandoc, man-db, imagemagick and
+# The examples are taken from docs/potrace.1, docs/point_fill.1 and docs/outline_check.1 and run one after another in a folder
+# with the pages that they name; the documents that they speak of must then be there and be read by a parser. The batch queue
+# is played by the shell. PROGRAM, FILLER and CHECKER are ours, and are built if they aren't given. It needs Debian's packages mandoc, man-db, imagemagick and
 # poppler-utils, and python3. It is no part of the gate.
 set -euo pipefail
 
@@ -15,7 +15,8 @@ for tool in mandoc man convert pdftoppm python3 find xargs split; do
 done
 program=$(readlink -f "${1:-$top/potrace}")
 filler=$(readlink -f "${2:-$top/point_fill}")
-manuals=("$top/docs/potrace.1" "$top/docs/point_fill.1")
+checker=$(readlink -f "${3:-$top/outline_check}")
+manuals=("$top/docs/potrace.1" "$top/docs/point_fill.1" "$top/docs/outline_check.1")
 work=$(mktemp -d)
 trap 'rm -rf "$work"' EXIT
 
@@ -48,6 +49,7 @@ mkdir "$work/bin" "$work/at" "$work/at/scans"
 cd "$work/at"
 ln -s "$program" "$work/bin/potrace"
 ln -s "$filler" "$work/bin/point_fill"
+ln -s "$checker" "$work/bin/outline_check"
 printf '#!/bin/sh\nexec sh\n' >"$work/bin/batch"
 chmod +x "$work/bin/batch"
 PATH=$work/bin:$PATH
@@ -108,5 +110,6 @@ for name in sys.argv[1:]:
     if not shapes:
         sys.exit(f"manual: {name} has no shape")
 END
+grep -q '^right ' verdict || fail "the certificates aren't right"
 cmp scan.pbm back.pbm || fail "the page doesn't come back"
 echo "${#manuals[@]} manual pages are well-formed; their $count examples work, and ${#documents[@]} documents are read"
