@@ -59,7 +59,8 @@ pub fn document(alloc: Global, page: &Bitmap, settings: &Settings) -> Result<Vec
         }
         Backend::Proofs => {
             let trace = polygons_alone(alloc, page, settings)?;
-            proofs(alloc, &trace)
+            let text = proofs(alloc, &trace)?;
+            Ok(text)
         }
         Backend::Svg => {
             let trace = trace(alloc, page, settings)?;
