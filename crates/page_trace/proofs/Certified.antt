@@ -25,20 +25,20 @@ all_in_page width height paths corners = λ k d below i e within. (let corner = 
 
 -- polygons that begin at the first point are best ones
 through_first : (cyclic : Bool) (path : Path) (polygon : Polygon) → cyclic ≡ false → IsPolygonWith cyclic path polygon → IsBestPolygon path.points polygon.at
-through_first true path polygon no is = absurd (let e : true ≡ false = no in cc)
-through_first false path polygon no is = is.best
+through_first true path polygon first is = absurd (let e : true ≡ false = first in cc)
+through_first false path polygon first is = is.best
 
 all_through_first : (settings : Settings) (paths : List Path) (polygons : List Polygon) → settings.cyclic ≡ false → AllZip (IsPolygonOf settings) paths polygons
     → AllZip (λ (p : Path) (q : Polygon). IsBestPolygon p.points q.at) paths polygons
-all_through_first settings [] [] no are = are
-all_through_first settings [] (q ∷ qs) no are = are
-all_through_first settings (p ∷ ps) [] no are = are
-all_through_first settings (p ∷ ps) (q ∷ qs) no are = (through_first settings.cyclic p q no are.0, all_through_first settings ps qs no are.1)
+all_through_first settings [] [] first are = are
+all_through_first settings [] (q ∷ qs) first are = are
+all_through_first settings (p ∷ ps) [] first are = are
+all_through_first settings (p ∷ ps) (q ∷ qs) first are = (through_first settings.cyclic p q first are.0, all_through_first settings ps qs first are.1)
 
 pub right_document : (page : Page) (settings : Settings) (trace : Trace) (text : List ℕ) → IsPage page → settings.cyclic ≡ false → HasPolygons page settings trace
     → length trace.paths < 2 ^ 32 → All (λ (p : Path). IsClosedWalk p.points) trace.paths
     → All (λ (p : Path). All (IsInPage page.width page.height) p.points) trace.paths → IsPrinted trace text → (n : ℕ) × IsVerdict text (Right n)
-right_document page settings trace text is_page no has few closed inside printed =
+right_document page settings trace text is_page first has few closed inside printed =
     let wide = sym has.width in
     let high = sym has.height in
     let P : ℕ → Type 0 = λ width. All (λ (p : Path). All (IsInPage width page.height) p.points) trace.paths in
@@ -47,5 +47,5 @@ right_document page settings trace text is_page no has few closed inside printed
       right_text trace text
           (subst (λ n. 1 ≤ n) wide is_page.some_width) (subst (λ n. n ≤ LONGEST_SIDE) wide is_page.most_width)
           (subst (λ n. 1 ≤ n) high is_page.some_height) (subst (λ n. n ≤ LONGEST_SIDE) high is_page.most_height)
-          few closed (subst Q high (subst P wide inside)) (all_through_first settings trace.paths trace.polygons no has.polygons) printed,
+          few closed (subst Q high (subst P wide inside)) (all_through_first settings trace.paths trace.polygons first has.polygons) printed,
     )

@@ -22,10 +22,10 @@ proofs-requires-clause-polygons c =
 first_alone : (backend : Backend) (settings : Settings) → backend ≡ Proofs → CanWriteUnder backend settings → settings.cyclic ≡ false
 first_alone backend settings is can = subst (λ (b : Backend). CanWriteUnder b settings) is can
 
-pub returns-in-Proofs-clause-certified : goal.returns-in-Proofs-clause-certified
-returns-in-Proofs-clause-certified c = λ is.
+pub returns-in_ok-text-in-Proofs-clause-certified : goal.returns-in_ok-text-in-Proofs-clause-certified
+returns-in_ok-text-in-Proofs-clause-certified c = λ is.
     let trace = c.in_ok-trace-in-Proofs.trace in
     let known = c.in_ok-trace-in-Proofs.ensures in
     let settings = c.args.settings.now in
-    right_document c.args.page.now settings trace c.in_ok-text.text.items known.page (first_alone settings.backend settings is c.requires)
-    known.polygons known.few known.closed known.inside c.in_ok-text.ensures
+    right_document c.args.page.now settings trace c.in_ok-text-in-Proofs.text.items known.page (first_alone settings.backend settings is c.requires)
+    known.polygons known.few known.closed known.inside c.in_ok-text-in-Proofs.ensures
