@@ -120,10 +120,11 @@ for line, wanted, unwanted in CASES:
     check("bash on a terminal", line, offered_on(bash, line, b"\t"), wanted if " " in wanted else wanted[-3:], unwanted)
 print(f"bash on a terminal: {len(CASES)} lines completed")
 
-said = subprocess.run(["bash", "-c", f". '{FOLDER}/point_fill.bash'; complete -p point_fill"], capture_output=True, text=True, check=True)
-if said.stdout != "complete -W '' point_fill\n":
-    sys.exit(f"completions: bash offers for point_fill: {said.stdout}")
-print("bash: point_fill is offered no word")
+for name in ("point_fill", "outline_check"):
+    said = subprocess.run(["bash", "-c", f". '{FOLDER}/{name}.bash'; complete -p {name}"], capture_output=True, text=True, check=True)
+    if said.stdout != f"complete -W '' {name}\n":
+        sys.exit(f"completions: bash offers for {name}: {said.stdout}")
+    print(f"bash: {name} is offered no word")
 
 zsh = on_terminal(["zsh", "-f", "-i"])
 setup = f"PS1='ready> '; fpath=('{FOLDER}' $fpath); autoload -U compinit; compinit -u -d ./dump; setopt no_beep no_list_ambiguous; zstyle ':completion:*' menu no\n"

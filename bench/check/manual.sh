@@ -1,12 +1,19 @@
 #!/usr/bin/env bash
 # Tries the manual pages: they must be well-formed, and each of their examples must work as it stands.
 #
-# usage: bench/check/manual.sh [PROGRAM [FILLER]]
+# usage: bench/check/manual.sh [PROGRAM [FILLER [CHECKER]]]
 #
+<<<<<<< HEAD
 # The examples are taken from docs/potrace.1 and docs/point_fill.1 and run one after another in a folder with the pages that
 # they name; the documents that they speak of must then be there and be read by a parser. The batch queue, and the host
 # that ssh reaches, are played by the shell. PROGRAM and FILLER are ours, and are built if they aren't given. It needs Debian's packages mandoc,
 # man-db, imagemagick, poppler-utils, parallel and rsync, and python3. It is no part of the gate.
+=======
+# The examples are taken from docs/potrace.1, docs/point_fill.1 and docs/outline_check.1 and run one after another in a folder
+# with the pages that they name; the documents that they speak of must then be there and be read by a parser. The batch queue
+# is played by the shell. PROGRAM, FILLER and CHECKER are ours, and are built if they aren't given. It needs Debian's packages mandoc, man-db, imagemagick and
+# poppler-utils, and python3. It is no part of the gate.
+>>>>>>> f8cf384e6304d4f6acebb1029f778293ffaac013
 set -euo pipefail
 
 top=$(cd "$(dirname "$(readlink -f "${BASH_SOURCE[0]}")")/../.." && pwd)
@@ -15,7 +22,8 @@ for tool in mandoc man convert pdftoppm python3 find xargs parallel rsync; do
 done
 program=$(readlink -f "${1:-$top/potrace}")
 filler=$(readlink -f "${2:-$top/point_fill}")
-manuals=("$top/docs/potrace.1" "$top/docs/point_fill.1")
+checker=$(readlink -f "${3:-$top/outline_check}")
+manuals=("$top/docs/potrace.1" "$top/docs/point_fill.1" "$top/docs/outline_check.1")
 work=$(mktemp -d)
 trap 'rm -rf "$work"' EXIT
 
@@ -48,6 +56,7 @@ mkdir "$work/bin" "$work/at" "$work/at/scans" "$work/host"
 cd "$work/at"
 ln -s "$program" "$work/bin/potrace"
 ln -s "$filler" "$work/bin/point_fill"
+<<<<<<< HEAD
 cat >"$work/bin/ssh" <<END
 #!/bin/sh
 # Behind the host's name stands a command, for a shell in the host's home.
@@ -64,6 +73,11 @@ range=${1#--array=}
 for task in $(seq "${range%-*}" "${range#*-}"); do SLURM_ARRAY_TASK_ID=$task sh -c "$3" || exit; done
 END
 chmod +x "$work/bin/ssh" "$work/bin/sbatch"
+=======
+ln -s "$checker" "$work/bin/outline_check"
+printf '#!/bin/sh\nexec sh\n' >"$work/bin/batch"
+chmod +x "$work/bin/batch"
+>>>>>>> f8cf384e6304d4f6acebb1029f778293ffaac013
 PATH=$work/bin:$PATH
 
 python3 "$top/bench/pages.py" scan 400 300 >scan.pbm
@@ -123,5 +137,6 @@ for name in sys.argv[1:]:
     if not shapes:
         sys.exit(f"manual: {name} has no shape")
 END
+grep -q '^right ' verdict || fail "the certificates aren't right"
 cmp scan.pbm back.pbm || fail "the page doesn't come back"
 echo "${#manuals[@]} manual pages are well-formed; their $count examples work, and ${#documents[@]} documents are read"

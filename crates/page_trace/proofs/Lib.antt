@@ -4,3 +4,4 @@ pub mod OneTrace
 pub mod Segments
 pub mod Zipping
 pub mod Joining
+pub mod Certified

@@ -1,7 +1,10 @@
 //! The document of a page: all that a backend is stands here, but the suffix of its documents' names.
-ghost use Rattle.std.specs.Prelude.{◌≡◌, IfNone, IfOk, IfSome};
+ghost use Rattle.std.specs.Prelude.{◌≡◌, ℕ, IfNone, IfOk, IfSome};
+ghost use Rattle.outline_check.specs.Verdicts.{IsVerdict};
+ghost use Rattle.outline_check.specs.declared.verdict.Verdict.TheVariants.{Right};
 ghost use Rattle.page_trace.specs.Document.{CanWrite, IsDocument, backend_word};
 ghost use Rattle.pt_base.specs.declared.settings.Backend.{Backend};
+ghost use Rattle.pt_base.specs.declared.settings.Backend.TheVariants.{Proofs};
 
 use crate::paths::kept_paths;
 use crate::tracing::{polygons_alone, trace};
@@ -39,7 +42,11 @@ pub fn backend_of(word: &str) -> Option<Backend>
 /// `Proofs` no vertex is moved.
 pub fn document(alloc: Global, page: &Bitmap, settings: &Settings) -> Result<Vec<u8>, NoMemory>
     requires { CanWrite settings.now }
-    ensures { IfOk result (λ text. IsDocument page.now settings.now text.items) }
+    ensures document { IfOk result (λ text. IsDocument page.now settings.now text.items) }
+
+    // Certificates are right, as their checker says.
+    ensures certified { IfOk result (λ text. settings.now.backend ≡ Proofs
+        → (paths : ℕ) × IsVerdict text.items (Right paths)) }
 {
     match settings.backend {
         Backend::Points => {
@@ -52,7 +59,8 @@ pub fn document(alloc: Global, page: &Bitmap, settings: &Settings) -> Result<Vec
         }
         Backend::Proofs => {
             let trace = polygons_alone(alloc, page, settings)?;
-            proofs(alloc, &trace)
+            let text = proofs(alloc, &trace)?;
+            Ok(text)
         }
         Backend::Svg => {
             let trace = trace(alloc, page, settings)?;

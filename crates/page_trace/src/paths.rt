@@ -1,8 +1,10 @@
 //! The paths of a page that are no speckles.
-ghost use Rattle.std.specs.Prelude.{◌<◌, ◌≤ℤ◌, ◌^◌, All, IfOk, length, pos};
+ghost use Rattle.std.specs.Prelude.{◌<◌, ◌≤ℤ◌, ◌^◌, All, IfOk, OnOk, length, pos};
+ghost use Rattle.bit_image.specs.Page.{IsPage};
 ghost use Rattle.path_decompose.specs.Bounds.{IsCornerOf};
 ghost use Rattle.pt_base.specs.ClosedWalk.{IsClosedWalk, point_at};
 ghost use Rattle.pt_base.specs.OnPage.{AreOnPage};
+ghost use Rattle.outline_check.specs.Texts.{IsInPage};
 ghost use Rattle.page_trace.specs.Trace.{ArePaths};
 
 use bit_image::bitmap::Bitmap;
@@ -26,6 +28,9 @@ pub(crate) fn kept_paths(
     ensures starts { IfOk result
         (λ paths. All (λ path. pos 1 ≤ℤ (point_at path.points 0).y) paths.items) }
     ensures few { IfOk result (λ paths. length paths.items < 2 ^ 32) }
+    ensures inside { IfOk result (λ paths. All (λ path.
+        All (IsInPage page.now.width page.now.height) path.points) paths.items) }
+    ensures page { OnOk result (IsPage page.now) }
 {
     let paths = decompose_above(alloc, page, settings.policy, settings.turd)?;
     // The proof reads here how long the page's sides are at most.

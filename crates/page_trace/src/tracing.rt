@@ -1,5 +1,7 @@
 //! The trace of a page.
-ghost use Rattle.std.specs.Prelude.{◌≡◌, [], All, IfOk};
+ghost use Rattle.std.specs.Prelude.{◌≡◌, ◌<◌, ◌^◌, [], All, IfOk, OnOk, length};
+ghost use Rattle.bit_image.specs.Page.{IsPage};
+ghost use Rattle.outline_check.specs.Texts.{IsInPage};
 ghost use Rattle.pt_base.specs.ClosedWalk.{IsClosedWalk};
 ghost use Rattle.pt_base.specs.OnPage.{AreOnPage};
 ghost use Rattle.page_trace.specs.Document.{CanTrace};
@@ -49,6 +51,10 @@ pub(crate) fn polygons_alone(
     ensures no_groups { IfOk result (λ trace. trace.groups ≡ []) }
     ensures closed { IfOk result (λ trace. All (λ path. IsClosedWalk path.points) trace.paths) }
     ensures on_page { IfOk result (λ trace. All (λ path. AreOnPage path.points) trace.paths) }
+    ensures few { IfOk result (λ trace. length trace.paths < 2 ^ 32) }
+    ensures inside { IfOk result (λ trace. All (λ path.
+        All (IsInPage page.now.width page.now.height) path.points) trace.paths) }
+    ensures page { OnOk result (IsPage page.now) }
 {
     let paths = kept_paths(alloc, page, settings)?;
     let polygons = best_polygons(alloc, &paths, settings)?;

@@ -2,6 +2,7 @@
 use Rattle.std.proofs.Common.{◌≤◌, ◌*◌, arith}
 use Rattle.std.proofs.lemmas.Nat.{mul-le}
 use Rattle.pt_base.specs.declared.limits.TheConstants.{LONGEST_SIDE}
+use Rattle.page_trace.proofs.Certified.{all_in_page}
 use Rattle.page_trace.proofs.Kept.{all_on_page, all_wider}
 use Rattle.page_trace.proofs.paths.kept_paths.Goals as goal
 
@@ -26,3 +27,7 @@ returns-clause-few c =
     let page = c.width.ensures.page in
     let pixels : c.args.page.now.width * c.args.page.now.height ≤ LONGEST_SIDE * LONGEST_SIDE = mul-le _ _ _ _ page.most_width page.most_height in
     omega (arith, pixels, c.in_ok-paths.ensures.few)
+
+pub returns-clause-inside : goal.returns-clause-inside
+returns-clause-inside c =
+    all_in_page c.args.page.now.width c.args.page.now.height c.in_ok-paths.paths.items c.in_ok-paths.ensures.corners
