@@ -3,17 +3,11 @@
 #
 # usage: bench/check/manual.sh [PROGRAM [FILLER [CHECKER]]]
 #
-<<<<<<< HEAD
-# The examples are taken from docs/potrace.1 and docs/point_fill.1 and run one after another in a folder with the pages that
-# they name; the documents that they speak of must then be there and be read by a parser. The batch queue, and the host
-# that ssh reaches, are played by the shell. PROGRAM and FILLER are ours, and are built if they aren't given. It needs Debian's packages mandoc,
-# man-db, imagemagick, poppler-utils, parallel and rsync, and python3. It is no part of the gate.
-=======
 # The examples are taken from docs/potrace.1, docs/point_fill.1 and docs/outline_check.1 and run one after another in a folder
-# with the pages that they name; the documents that they speak of must then be there and be read by a parser. The batch queue
-# is played by the shell. PROGRAM, FILLER and CHECKER are ours, and are built if they aren't given. It needs Debian's packages mandoc, man-db, imagemagick and
-# poppler-utils, and python3. It is no part of the gate.
->>>>>>> f8cf384e6304d4f6acebb1029f778293ffaac013
+# with the pages that they name; the documents that they speak of must then be there and be read by a parser. The batch queue,
+# and the host that ssh reaches, are played by the shell. PROGRAM, FILLER and CHECKER are ours, and are built if they aren't
+# given. It needs Debian's packages mandoc, man-db, imagemagick, poppler-utils, parallel and rsync, and python3. It is no
+# part of the gate.
 set -euo pipefail
 
 top=$(cd "$(dirname "$(readlink -f "${BASH_SOURCE[0]}")")/../.." && pwd)
@@ -56,7 +50,7 @@ mkdir "$work/bin" "$work/at" "$work/at/scans" "$work/host"
 cd "$work/at"
 ln -s "$program" "$work/bin/potrace"
 ln -s "$filler" "$work/bin/point_fill"
-<<<<<<< HEAD
+ln -s "$checker" "$work/bin/outline_check"
 cat >"$work/bin/ssh" <<END
 #!/bin/sh
 # Behind the host's name stands a command, for a shell in the host's home.
@@ -73,11 +67,6 @@ range=${1#--array=}
 for task in $(seq "${range%-*}" "${range#*-}"); do SLURM_ARRAY_TASK_ID=$task sh -c "$3" || exit; done
 END
 chmod +x "$work/bin/ssh" "$work/bin/sbatch"
-=======
-ln -s "$checker" "$work/bin/outline_check"
-printf '#!/bin/sh\nexec sh\n' >"$work/bin/batch"
-chmod +x "$work/bin/batch"
->>>>>>> f8cf384e6304d4f6acebb1029f778293ffaac013
 PATH=$work/bin:$PATH
 
 python3 "$top/bench/pages.py" scan 400 300 >scan.pbm
