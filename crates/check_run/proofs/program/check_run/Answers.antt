@@ -1,4 +1,4 @@
-use Rattle.std.proofs.Common.{sym, ◌∙◌}
+use Rattle.std.proofs.Common.{sym, ◌∙◌, codes}
 use Rattle.run_output.specs.Told.{sinks_of, source_of}
 use Rattle.check_run.proofs.Checked.{best_where_done}
 use Rattle.check_run.proofs.program.check_run.Goals as goal
@@ -6,5 +6,5 @@ use Rattle.check_run.proofs.program.check_run.Goals as goal
 pub returns-clause-best : goal.returns-clause-best
 returns-clause-best g c = λ zero text width height paths tells reads.
     best_where_done (source_of g.I.Inputs c.args.inputs.now) (source_of g.I.Inputs c.run.new.inputs) text width height paths tells reads
-    _ (sinks_of g.O.Sink g.E.Sink c.args.outs.now c.args.errs.now) (sinks_of g.O.Sink g.E.Sink c.run.new.outs c.run.new.errs)
+    (codes "outline_check") (sinks_of g.O.Sink g.E.Sink c.args.outs.now c.args.errs.now) (sinks_of g.O.Sink g.E.Sink c.run.new.outs c.run.new.errs)
     c.run.result (sym c.code.ensures ∙ zero) c.run.ensures.outcome
