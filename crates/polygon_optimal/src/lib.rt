@@ -13,4 +13,4 @@
 pub mod laws;
 pub mod optimal;
 mod search;
-mod segments;
+pub mod segments;

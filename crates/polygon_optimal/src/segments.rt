@@ -46,7 +46,7 @@ impl<'a> Segments<'a> {
 }
 
 /// For each point of a walk, where the longest segment from it leads.
-fn lasts(alloc: Global, points: &[Point]) -> Result<Vec<u32>, NoMemory>
+pub fn lasts(alloc: Global, points: &[Point]) -> Result<Vec<u32>, NoMemory>
     requires closed { IsClosedWalk points.now }
     requires on_page { AreOnPage points.now }
     ensures { IfOk result (λ lasts. HasLasts points.now lasts.items) }
