@@ -1,13 +1,22 @@
 -- Penalties written down one by one.
-use Rattle.std.proofs.Common.{◌≡◌, ℕ, ◌+◌, ◌<◌, List, [], ◌∷◌, ◌++◌, length, length-append, get_or, ap, sym, ◌∙◌, subst, inl, inr, arith}
+use Rattle.std.proofs.Common.{◌≡◌, ℕ, ◌+◌, ◌-◌, ◌<◌, ◌≤◌, List, Option, None, Some, [], ◌∷◌, ◌++◌, length, length-append, get_or, ap, sym, ◌∙◌, subst, inl, inr, arith}
 use Rattle.std.proofs.Math.ListN.{get_or-append}
 use Rattle.std.proofs.Math.Seq.{get_or-append_seam}
 use Rattle.std.proofs.lemmas.Bool.{cases_lt}
-use Rattle.std.specs.Prelude.{slice_index}
+use Rattle.std.specs.Prelude.{IfNone, IfSome, slice_index}
 use Rattle.pt_base.specs.declared.point.Point.{Point}
 use Rattle.polygon_optimal.specs.Polygon.{penalty_of}
 use Rattle.cyclic_optimal.specs.Fans.{HasFans, IsFanOf}
 use Rattle.cyclic_optimal.specs.declared.fans.Fan.{Fan}
+
+-- what holds of something holds of what it is
+pub some_is : {A : Type 0} (P : A → Type 0) (option : Option A) (a : A) → option ≡ Some a → IfSome option P → P a
+some_is P option a is holds = subst (λ o. IfSome o P) is holds
+
+-- what follows where there is nothing
+pub where_none : {A P Q : Type 0} (option : Option A) → (P → Q) → IfNone option P → IfNone option Q
+where_none None so is = so is
+where_none (Some a) so is = tt
 
 module _ (points : List Point) where
   -- the penalties of the segments from point i to point `first`, and so on to before `to`; or none
@@ -34,6 +43,13 @@ module _ (points : List Point) where
               ap (slice_index (penalties ++ penalty ∷ [])) here ∙ get_or-append_seam penalties penalty [] 0 ∙ is ∙ ap (penalty_of points i) at
         ];
       })
+
+  -- a penalty of a fan
+  pub fan_penalty : (i j penalty : ℕ) (fan : Fan) → IsFanOf points i fan → fan.first ≤ j → j < fan.first + length fan.penalties.items
+      → penalty ≡ slice_index fan.penalties.items (j - fan.first) → penalty ≡ penalty_of points i j
+  fan_penalty i j penalty fan is above below written =
+      let at : fan.first + (j - fan.first) ≡ j = omega arith in
+      written ∙ is (j - fan.first) (omega arith) ∙ ap (penalty_of points i) at
 
   -- one more fan
   pub fans_more : (fans more : List Fan) (fan : Fan) → more ≡ fans ++ fan ∷ [] → IsFanOf points (length fans) fan → HasFans points fans

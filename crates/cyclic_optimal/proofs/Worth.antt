@@ -55,24 +55,17 @@ module _ (points : List Point) where
       ]
 
   -- a penalty that reaches a limit's upper digits
-  dear : (limit most penalty : ℕ) → most ≡ min (limit / 2 ^ 32) (2 ^ 56 - 1) + 1 → most ≤ penalty → penalty < 2 ^ 56 → limit ≤ penalty * 2 ^ 32
-  dear limit most penalty is reached small =
+  pub dear : AreOnPage points → (i j limit most : ℕ) → most ≡ min (limit / 2 ^ 32) (2 ^ 56 - 1) + 1
+      → ((p : ℕ) → IsPenalty points i j p → most ≤ p) → limit ≤ penalty_of points i j * 2 ^ 32
+  dear on_page i j limit most is reached =
       let whole = div-add-mod limit (2 ^ 32) in
       let part : limit % 2 ^ 32 < 2 ^ 32 = mod-lt limit (omega arith) in
-      omega arith
+      omega (arith, reached (penalty_of points i j) (penalty_is points i j), penalty_most points on_page i j)
 
-  pub worth_not_below : AreOnPage points → (i j limit most : ℕ) → i < length points → most ≡ min (limit / 2 ^ 32) (2 ^ 56 - 1) + 1
-      → ((p : ℕ) → IsPenalty points i j p → most ≤ p) → limit ≤ worth_of points i j
-  worth_not_below on_page i j limit most low is reached =
-      let all = dear limit most (penalty_of points i j) is (reached (penalty_of points i j) (penalty_is points i j)) (penalty_most points on_page i j) in
-      omega (arith, worth_in i j low)
-
-  pub worth_not_below_on : AreOnPage points → (i j limit most : ℕ) → length points ≤ i → i < j → most ≡ min (limit / 2 ^ 32) (2 ^ 56 - 1) + 1
-      → ((p : ℕ) → IsPenalty points (i - length points) (j - length points) p → most ≤ p) → limit ≤ worth_of points i j
-  worth_not_below_on on_page i j limit most high rises is reached =
+  pub worth_not_below_on : (i j limit : ℕ) → length points ≤ i → i < j
+      → limit ≤ penalty_of points (i - length points) (j - length points) * 2 ^ 32 → limit ≤ worth_of points i j
+  worth_not_below_on i j limit high rises reached =
       let q : ℕ = penalty_of points (i - length points) (j - length points) in
-      let all = dear limit most q is (reached q (penalty_is points (i - length points) (j - length points)))
-      (penalty_most points on_page (i - length points) (j - length points)) in
       omega (arith, worth_found_on i j q high rises (penalty_is points (i - length points) (j - length points)))
 
   pub last_in : (i d : ℕ) → IsFarthest points i d → IsLongest points i (i + d)

@@ -1,5 +1,5 @@
 //! The penalties of the segments from each point, written down for as many searches as ask for them.
-ghost use Rattle.std.specs.Prelude.{◌≡◌, ◌+◌, ◌<◌, ◌≤◌, length, IfOk};
+ghost use Rattle.std.specs.Prelude.{◌≡◌, ◌+◌, ◌-◌, ◌<◌, ◌≤◌, length, slice_index, IfOk, IfSome};
 ghost use Rattle.cyclic_optimal.specs.Fans.{HasFans, IsFanOf};
 
 use crate::sides::Sides;
@@ -15,6 +15,20 @@ pub(crate) struct Fan {
     /// Where the first segment leads; the others lead to the points after it, one by one.
     pub(crate) first: usize,
     pub(crate) penalties: Vec<u64>,
+}
+
+impl Fan {
+    /// The penalty of the segment to point `j`, where it is written down.
+    pub(crate) fn penalty(&self, j: usize) -> Option<u64>
+        ensures { IfSome result (λ penalty. (self.now.first ≤ j)
+            × (j < self.now.first + length self.now.penalties.items)
+            × (penalty ≡ slice_index self.now.penalties.items (j - self.now.first))) }
+    {
+        if j < self.first {
+            return None;
+        }
+        self.penalties.get(j - self.first).copied()
+    }
 }
 
 /// The fan of each point, from the segment to `nexts` to the longest one.

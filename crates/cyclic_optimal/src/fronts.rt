@@ -5,11 +5,13 @@
 //!                                                 can stand after each. A front ends with the farthest
 //!                                                 point from s, and begins with the farthest backwards.
 //! ```
-ghost use Rattle.std.specs.Prelude.{◌≡◌, ℕ, ◌+◌, ◌-◌, ◌*◌, ◌<◌, ◌≤◌, ◌^◌, length, IfOk};
+ghost use Rattle.std.specs.Prelude.{◌≡◌, ℕ, ◌+◌, ◌-◌, ◌*◌, ◌<◌, ◌≤◌, ◌^◌, length, IfOk, IfSome};
 ghost use Rattle.straight_paths.specs.Straight.{IsPossible};
 ghost use Rattle.least_walk.specs.Suffix.{IsFewestFrom};
+ghost use Rattle.cyclic_optimal.specs.Fans.{IsFanOf, first_lap};
 ghost use Rattle.cyclic_optimal.specs.Fronts.{AreTops, IsBestFrom, IsFrontOf, IsLeastBy, worth_of};
 
+use crate::fans::Fan;
 use crate::first::Best;
 use crate::sides::Sides;
 use pt_base::fault::NoMemory;
@@ -138,18 +140,21 @@ fn cheapest(sides: &Sides, i: usize, later: &Front) -> u128
 {
     let begin = later.low.max(i + 1);
     let beyond = (sides.last(i) + 1).min(later.low + later.least.len());
+    let fan = sides.fan(i);
     let mut cheapest = NONE;
     for j in begin..beyond {
-        cheapest = lower(sides, i, j, later.least[j - later.low], cheapest);
+        cheapest = lower(sides, fan, i, j, later.least[j - later.low], cheapest);
     }
     cheapest
 }
 
 /// What the way by the segment from point `i` to point `j` counts, where the rest counts so much; or `best`, where
 /// that is no more.
-fn lower(sides: &Sides, i: usize, j: usize, rest: u128, best: u128) -> u128
+fn lower(sides: &Sides, fan: Option<&Fan>, i: usize, j: usize, rest: u128, best: u128) -> u128
     requires point { i < 2 * length sides.now.moments.now }
     requires possible { IsPossible sides.now.moments.now i j }
+    requires fan { IfSome fan (λ fan. IsFanOf sides.now.moments.now
+        (first_lap (length sides.now.moments.now) i) fan.now) }
     requires most { rest < best → rest ≤ 2 ^ 120 }
     ensures lower { worth_of sides.now.moments.now i j + rest < best
         → result ≡ worth_of sides.now.moments.now i j + rest }
@@ -158,8 +163,7 @@ fn lower(sides: &Sides, i: usize, j: usize, rest: u128, best: u128) -> u128
     if best <= rest {
         return best;
     }
-    // Where even the penalty is too high, no root is taken.
-    let Some(worth) = sides.worth_below(i, j, best - rest) else {
+    let Some(worth) = sides.worth_below(fan, i, j, best - rest) else {
         return best;
     };
     best.min(worth + rest)

@@ -5,7 +5,7 @@ ghost use Rattle.pt_base.specs.OnPage.{AreOnPage};
 ghost use Rattle.straight_paths.specs.Straight.{IsPossible};
 ghost use Rattle.prefix_moments.specs.Sums.{IsPenalty};
 ghost use Rattle.polygon_optimal.specs.Polygon.{penalty_of};
-ghost use Rattle.cyclic_optimal.specs.Fans.{HasFans};
+ghost use Rattle.cyclic_optimal.specs.Fans.{HasFans, IsFanOf, first_lap};
 ghost use Rattle.cyclic_optimal.specs.Fronts.{IsLongest, worth_of};
 
 use crate::fans::Fan;
@@ -77,56 +77,67 @@ impl<'a> Sides<'a> {
         }
     }
 
+    /// The fan of point `i`, in the first lap or in the second, where it has one.
+    pub(crate) fn fan(&self, i: usize) -> Option<&Fan>
+        requires { i < 2 * length self.now.moments.now }
+        ensures { IfSome result (λ fan. IsFanOf self.now.moments.now
+            (first_lap (length self.now.moments.now) i) fan.now) }
+    {
+        if i < self.size {
+            self.fans.get(i)
+        } else {
+            self.fans.get(i - self.size)
+        }
+    }
+
     /// What the segment from point `i` to point `j` counts; or nothing, where its penalty alone reaches a limit.
-    //
-    // The penalty is compared before it is worked out, so no root is taken of one that is too high.
-    pub(crate) fn worth_below(&self, i: usize, j: usize, limit: u128) -> Option<u128>
+    pub(crate) fn worth_below(
+        &self,
+        fan: Option<&Fan>,
+        i: usize,
+        j: usize,
+        limit: u128,
+    ) -> Option<u128>
         requires start { i < 2 * length self.now.moments.now }
         requires possible { IsPossible self.now.moments.now i j }
+        requires fan { IfSome fan (λ fan. IsFanOf self.now.moments.now
+            (first_lap (length self.now.moments.now) i) fan.now) }
         ensures some { IfSome result (λ worth. worth ≡ worth_of self.now.moments.now i j) }
         ensures most { IfSome result (λ worth. worth < 2 ^ 89) }
         ensures none { IfNone result (limit ≤ worth_of self.now.moments.now i j) }
     {
-        let most = (limit / (1 << 32)).min((1 << 56) - 1) as u64 + 1;
         if i < self.size {
-            let Some(penalty) = self.penalty_below(i as u32, j as u32, most) else {
+            let Some(penalty) = self.penalty_below(fan, i as u32, j as u32, limit) else {
                 return None;
             };
             Some(u128::from(penalty) * (1 << 32) + j.saturating_sub(self.size) as u128)
         } else {
             let (from, to) = ((i - self.size) as u32, (j - self.size) as u32);
-            let Some(penalty) = self.penalty_below(from, to, most) else {
+            let Some(penalty) = self.penalty_below(fan, from, to, limit) else {
                 return None;
             };
             Some(u128::from(penalty) * (1 << 32))
         }
     }
 
-    /// The penalty of the segment from point `i` of the first lap to point `j`; or perhaps nothing, where it reaches a
-    /// limit.
-    fn penalty_below(&self, i: u32, j: u32, limit: u64) -> Option<u64>
+    /// The penalty of the segment from point `i` of the first lap to point `j`; or perhaps nothing, where what it
+    /// counts reaches a limit.
+    //
+    // What isn't written down is compared before it is worked out, so no root is taken of a penalty that is too high.
+    fn penalty_below(&self, fan: Option<&Fan>, i: u32, j: u32, limit: u128) -> Option<u64>
         requires start { i < length self.now.moments.now }
         requires possible { IsPossible self.now.moments.now i j }
-        requires limit { limit ≤ 2 ^ 56 }
+        requires fan { IfSome fan (λ fan. IsFanOf self.now.moments.now i fan.now) }
         ensures some { IfSome result (λ penalty. IsPenalty self.now.moments.now i j penalty) }
         ensures most { IfSome result (λ penalty. penalty < 2 ^ 56) }
-        ensures none { IfNone result ((penalty : ℕ)
-            → IsPenalty self.now.moments.now i j penalty → limit ≤ penalty) }
+        ensures none { IfNone result (limit ≤ penalty_of self.now.moments.now i j * 2 ^ 32) }
     {
-        match self.written(i as usize, j as usize) {
-            Some(penalty) => Some(penalty),
-            None => self.moments.penalty_below(i, j, limit),
+        if let Some(fan) = fan {
+            if let Some(penalty) = fan.penalty(j as usize) {
+                return Some(penalty);
+            }
         }
-    }
-
-    /// The penalty of the segment from point `i` to point `j`, where it is written down.
-    fn written(&self, i: usize, j: usize) -> Option<u64>
-        ensures { IfSome result (λ penalty. penalty ≡ penalty_of self.now.moments.now i j) }
-    {
-        let fan = self.fans.get(i)?;
-        if j < fan.first {
-            return None;
-        }
-        fan.penalties.get(j - fan.first).copied()
+        let most = (limit / (1 << 32)).min((1 << 56) - 1) as u64 + 1;
+        self.moments.penalty_below(i, j, most)
     }
 }
