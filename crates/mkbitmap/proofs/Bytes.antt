@@ -1,11 +1,11 @@
 -- Bytes of eight pixels each.
-use Rattle.std.proofs.Common.{◌≡◌, ℕ, zero, suc, ◌+◌, ◌-◌, ◌*◌, ◌/◌, ◌^◌, ◌<◌, ◌≤◌, Bool, true, false, List, map, length, get_or, refl, arith, sym, ap, ◌∙◌}
+use Rattle.std.proofs.Common.{◌≡◌, ℕ, zero, suc, ◌+◌, ◌-◌, ◌*◌, ◌/◌, ◌^◌, ◌<◌, ◌≤◌, Bool, true, false, List, map, length, get_or, refl, arith, ap, ◌∙◌}
 use Rattle.std.proofs.lemmas.List.FromFn.{fill_by_all}
 use Rattle.std.proofs.Math.Nat.{pow-le-pow_right}
 use Rattle.std.specs.Prelude.{cond}
 use Rattle.std.specs.List.{range_with_len}
 use Rattle.std.proofs.Math.Path.{fun_ext}
-use Rattle.bit_image.specs.PbmText.{worth, byte_from, row_text}
+use Rattle.bit_image.specs.PbmText.{byte_from, row_text}
 use Rattle.mkbitmap.specs.Packing.{bit, bits_value, byte_of, padded}
 
 bit-most : (b : Bool) → bit b ≤ 1
@@ -37,14 +37,14 @@ bit_cond : (b : Bool) → bit b ≡ cond b 1 0
 bit_cond true = refl
 bit_cond false = refl
 
+zero_added : (x : ℕ) → x + 0 ≡ x
+zero_added x = omega arith
+
 -- the same byte as the text's
 byte_of-is : (black : ℕ → Bool) (x : ℕ) → byte_of black x ≡ byte_from black x
 unfolding byte_of
 byte_of-is black x =
     omega (arith, ap (λ k. bit (black k)) (zero_added x), bit_cond (black x), bit_cond (black (x + 1)), bit_cond (black (x + 2)), bit_cond (black (x + 3)), bit_cond (black (x + 4)), bit_cond (black (x + 5)), bit_cond (black (x + 6)), bit_cond (black (x + 7)))
-
-zero_added : (x : ℕ) → x + 0 ≡ x
-zero_added x = omega arith
 
 pub packed : (black : ℕ → Bool) (width : ℕ) (row : List ℕ) → length row ≡ (width + 7) / 8
     → ((k : ℕ) → k < (width + 7) / 8 → get_or row k 0 ≡ byte_of (padded width black) (8 * k)) → row ≡ row_text width (padded width black)

@@ -1,10 +1,10 @@
 -- The rows of the larger page from the reliefs that are held.
-use Rattle.std.proofs.Common.{◌≡◌, ℕ, zero, suc, ◌+◌, ◌-◌, ◌*◌, ◌/◌, ◌%◌, ◌<◌, ◌≤◌, min, Bool, true, false, List, [], length, get_or, map, refl, arith, sym, ap, ◌∙◌, inl, inr}
-use Rattle.std.specs.Prelude.{◌⊎◌, ◌&&◌, if◌then◌else◌, nat_eq, nat_le, nat_lt}
+use Rattle.std.proofs.Common.{◌≡◌, ℕ, ◌+◌, ◌-◌, ◌*◌, ◌<◌, ◌≤◌, Bool, true, false, List, length, get_or, arith, sym, ap, ◌∙◌, inl, inr}
+use Rattle.std.specs.Prelude.{◌&&◌, if◌then◌else◌, nat_eq, nat_le, nat_lt}
 use Rattle.bit_image.specs.PbmText.{row_text}
 use Rattle.std.proofs.Math.Path.{fun_ext}
 use Rattle.std.proofs.lemmas.Nat.{mul-le}
-use Rattle.std.proofs.lemmas.Bool.{cases_lt, lt-ltb, le-ltb}
+use Rattle.std.proofs.lemmas.Bool.{cases_lt, le-ltb}
 use Rattle.std.proofs.lemmas.List.{get_or_past}
 use Rattle.mkbitmap.specs.Box.{Gray, box_count, box_area, box_sum}
 use Rattle.mkbitmap.specs.Relief.{raised_by, raised_of}
@@ -38,7 +38,7 @@ held_most page f reliefs u room holds wide raised x =
       | inl within ↦
           let most : raised_of page f.radius x (before_within f.height u) ≤ 512 * page.white
           = raised_of-most page f.radius x (before_within f.height u) (rw holds.white (holds.bright x (before_within f.height u)))
-              (omega (arith, within, holds.width)) (omega (arith, room.some_rows, holds.height)) in
+          (omega (arith, within, holds.width)) (omega (arith, room.some_rows, holds.height)) in
           rw (raised x within) (omega (arith, most, holds.white, room.white))
       | inr past ↦ rw (get_or_past reliefs x 0 (omega (arith, wide, past))) (omega arith)
     ]
@@ -51,10 +51,10 @@ column_is page f times y p upper lower follows some pairs part up low x within =
     let u : f.pairs - 1 ≡ after_of times y = omega (arith, pairs) in
     let above : get_or upper x 0 ≡ raised_of page f.radius x (before_within page.height (after_of times y))
     = ap (λ l. get_or l x 0) up ∙ follows.upper some x within ∙ ap (λ k. raised_of page f.radius x (before_within f.height k)) u
-        ∙ ap (λ h. raised_of page f.radius x (before_within h (after_of times y))) (sym follows.holds.height) in
+    ∙ ap (λ h. raised_of page f.radius x (before_within h (after_of times y))) (sym follows.holds.height) in
     let below : get_or lower x 0 ≡ raised_of page f.radius x (before_within page.height (after_of times y + 1))
     = ap (λ l. get_or l x 0) low ∙ follows.lower some x within ∙ ap (λ k. raised_of page f.radius x (before_within f.height k)) pairs
-        ∙ ap (λ h. raised_of page f.radius x (before_within h (after_of times y + 1))) (sym follows.holds.height) in
+    ∙ ap (λ h. raised_of page f.radius x (before_within h (after_of times y + 1))) (sym follows.holds.height) in
     λ i. mix (2 * times) (part i) (above i) (below i)
 
 padded_same : (width : ℕ) (black other : ℕ → Bool) → ((X : ℕ) → X < width → black X ≡ other X) → (X : ℕ) → padded width black X ≡ padded width other X

@@ -1,6 +1,6 @@
 -- Going along a page row by row.
-use Rattle.std.proofs.Common.{◌≡◌, ℕ, zero, suc, ◌+◌, ◌-◌, ◌*◌, ◌/◌, ◌%◌, ◌<◌, ◌≤◌, min, List, [], length, get_or, set, refl, arith, sym, ap, ◌∙◌, inl, inr}
-use Rattle.std.specs.Prelude.{◌⊎◌, if◌then◌else◌, nat_eq}
+use Rattle.std.proofs.Common.{◌≡◌, ℕ, suc, ◌+◌, ◌-◌, ◌*◌, ◌/◌, ◌%◌, ◌<◌, ◌≤◌, min, List, [], length, get_or, set, arith, sym, ap, ◌∙◌, inl, inr}
+use Rattle.std.specs.Prelude.{if◌then◌else◌, nat_eq}
 use Rattle.std.proofs.lemmas.Nat.{div-add-mod', mod_below, mul-le}
 use Rattle.std.proofs.lemmas.Bool.{cases_lt, cases_eq}
 use Rattle.std.proofs.lemmas.List.{get_or-set_same, get_or-set_other, get_or_past, get_or_default}
@@ -8,7 +8,7 @@ use Rattle.mkbitmap.specs.Box.{Gray, sum_between, box_from, box_end, box_count, 
 use Rattle.mkbitmap.specs.Relief.{raised_by, raised_of}
 use Rattle.mkbitmap.specs.Follows.{HasRoom, HoldsRows, AreRaised, SameSetup, first_held}
 use Rattle.mkbitmap.specs.declared.filter.Filter.{Filter}
-use Rattle.mkbitmap.proofs.Adding.{sum-grown, sum-first, sum-most, sum-same}
+use Rattle.mkbitmap.proofs.Adding.{sum-first, sum-most, sum-same}
 
 -- two rows of which fewer than n stand between don't share a slot
 apart : (n j t : ℕ) → 1 ≤ n → j < t → t < j + n → j % n ≡ t % n → ⊥
@@ -93,8 +93,8 @@ pub row_raised : (page : Gray) (f : Filter) → HasRoom f → HoldsRows page f �
     → f.taken ≡ min f.height (f.pairs + f.radius + 1) → (x : ℕ) → x < f.width → (s columns : List ℕ) (v rows : ℕ)
     → s ≡ get_or f.ring.items (f.pairs % (2 * f.radius + 1)) [] → columns ≡ f.columns.items → rows ≡ f.taken - (f.pairs - f.radius)
     → v ≡ (if nat_eq f.radius 0 then 256 * get_or s x 0 + 128 * f.white
-      else raised_by (get_or s x 0) (sum_between (λ a. get_or columns a 0) (box_from f.radius x) (box_end f.radius (length columns) x))
-      (box_count f.radius (length columns) x * rows) f.white)
+    else raised_by (get_or s x 0) (sum_between (λ a. get_or columns a 0) (box_from f.radius x) (box_end f.radius (length columns) x))
+    (box_count f.radius (length columns) x * rows) f.white)
     → v ≡ raised_of page f.radius x f.pairs
 row_raised page f room holds due ready x within s columns v rows is same count value =
     let wide : length columns ≡ page.width = ap length same ∙ room.columns ∙ sym holds.width in
@@ -102,14 +102,14 @@ row_raised page f room holds due ready x within s columns v rows is same count v
     = ap (λ l. get_or l x 0) is ∙ holds.held f.pairs (omega arith) (omega (arith, ready)) x within in
     let column : (a : ℕ) → box_from f.radius x ≤ a → a < box_end f.radius (length columns) x → get_or columns a 0 ≡ column_sum page f.radius f.pairs a
     = λ a l r.
-        let inside : a < f.width = omega (arith, wide, holds.width, r) in
-        let low : first_held f ≡ box_from f.radius f.pairs = omega (arith, due) in
-        let end : f.taken ≡ box_end f.radius page.height f.pairs = omega (arith, ready, holds.height) in
-        ap (λ l. get_or l a 0) same ∙ holds.sums a inside ∙ ap (λ k. sum_between (page.sample a) k f.taken) low
-        ∙ ap (λ k. sum_between (page.sample a) (box_from f.radius f.pairs) k) end in
+    let inside : a < f.width = omega (arith, wide, holds.width, r) in
+    let low : first_held f ≡ box_from f.radius f.pairs = omega (arith, due) in
+    let end : f.taken ≡ box_end f.radius page.height f.pairs = omega (arith, ready, holds.height) in
+    ap (λ l. get_or l a 0) same ∙ holds.sums a inside ∙ ap (λ k. sum_between (page.sample a) k f.taken) low
+    ∙ ap (λ k. sum_between (page.sample a) (box_from f.radius f.pairs) k) end in
     let sum : sum_between (λ a. get_or columns a 0) (box_from f.radius x) (box_end f.radius (length columns) x) ≡ box_sum page f.radius x f.pairs
     = sum-same (λ a. get_or columns a 0) (column_sum page f.radius f.pairs) (box_from f.radius x) (box_end f.radius (length columns) x) column
-        ∙ ap (λ n. sum_between (column_sum page f.radius f.pairs) (box_from f.radius x) (box_end f.radius n x)) wide in
+    ∙ ap (λ n. sum_between (column_sum page f.radius f.pairs) (box_from f.radius x) (box_end f.radius n x)) wide in
     let high : rows ≡ box_count f.radius page.height f.pairs = omega (arith, count, ready, holds.height) in
     let area : box_count f.radius (length columns) x * rows ≡ box_area page f.radius x f.pairs
     = ap (λ n. box_count f.radius n x * rows) wide ∙ ap (λ n. box_count f.radius page.width x * n) high in

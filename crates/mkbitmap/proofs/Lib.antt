@@ -7,3 +7,4 @@ pub mod Following
 pub mod Lifting
 pub mod Enlarging
 pub mod Mixing
+pub mod Examples

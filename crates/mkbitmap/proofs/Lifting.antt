@@ -1,13 +1,13 @@
 -- Reliefs raised, so that they aren't negative.
-use Rattle.std.proofs.Common.{◌≡◌, ℕ, zero, suc, ◌+◌, ◌-◌, ◌*◌, ◌/◌, ◌%◌, ◌<◌, ◌≤◌, min, Bool, true, false, refl, arith, sym, ap, ◌∙◌, ℤ, pos, negsuc, ◌+ℤ◌, ◌-ℤ◌, ◌*ℤ◌, neg_ℤ, inl, inr}
-use Rattle.std.specs.Prelude.{◌⊎◌, if◌then◌else◌, nat_eq, nat_le, int_le}
+use Rattle.std.proofs.Common.{◌≡◌, ℕ, ◌+◌, ◌-◌, ◌*◌, ◌/◌, ◌%◌, ◌<◌, ◌≤◌, min, Bool, true, false, arith, sym, ap, ◌∙◌, ℤ, pos, negsuc, ◌+ℤ◌, ◌-ℤ◌, ◌*ℤ◌, inl, inr}
+use Rattle.std.specs.Prelude.{if◌then◌else◌, nat_eq, nat_le}
 use Rattle.std.proofs.lemmas.Int.{ints}
-use Rattle.std.proofs.lemmas.Nat.{div-mul-add, mod-mul-add, div-add-mod', mod_below, mul-le}
-use Rattle.std.proofs.lemmas.Bool.{cases_lt, le-leb, lt-leb}
+use Rattle.std.proofs.lemmas.Nat.{div-mul-add, div-add-mod', mod_below, mul-le}
+use Rattle.std.proofs.lemmas.Bool.{cases_lt}
 use Rattle.pt_base.specs.Floor.{floor_of}
 use Rattle.mkbitmap.specs.Box.{Gray, box_from, box_end, box_count, box_area, column_sum, box_sum}
 use Rattle.mkbitmap.specs.Relief.{relief_by, relief_of, raised_by, raised_of}
-use Rattle.mkbitmap.specs.Enlarged.{centre_of, centre_before, behind_of, clamped, relief_near, mixed, is_black, after_of, distance_behind, before_within, mix, mixed_column, mixed_raised, dark_limit, need}
+use Rattle.mkbitmap.specs.Enlarged.{centre_of, centre_before, behind_of, clamped, relief_near, mixed, is_black, after_of, distance_behind, before_within, mixed_raised, dark_limit, need}
 use Rattle.mkbitmap.proofs.Mixing.{times_less, mixture, mixed_by, black_by}
 use Rattle.mkbitmap.proofs.Adding.{sum-most}
 
@@ -127,7 +127,7 @@ near-is page radius u v x y bright wide high at_x at_y =
     let here : relief_near page radius x y ≡ relief_of page radius (before_within page.width u) (before_within page.height v)
     = ap (λ a. relief_of page radius a (clamped page.height y)) at_x ∙ ap (λ b. relief_of page radius (before_within page.width u) b) at_y in
     let is : relief_of page radius (before_within page.width u) (before_within page.height v) +ℤ pos (128 * page.white)
-        ≡ pos (raised_of page radius (before_within page.width u) (before_within page.height v))
+    ≡ pos (raised_of page radius (before_within page.width u) (before_within page.height v))
     = raised_of-is page radius (before_within page.width u) (before_within page.height v) bright (omega (arith, wide)) (omega (arith, high)) in
     here ∙ omega (arith, ints, is)
 
@@ -149,27 +149,27 @@ mixed-is page radius t X Y bright wide high some =
     let c = near-is page radius (after_of t X) (after_of t Y + 1) (centre_before t X) (centre_before t Y +ℤ pos 1) bright wide high x0 y1 in
     let d = near-is page radius (after_of t X + 1) (after_of t Y + 1) (centre_before t X +ℤ pos 1) (centre_before t Y +ℤ pos 1) bright wide high x1 y1 in
     let whole = mixed_by (2 * t - distance_behind t X) (distance_behind t X) (2 * t - distance_behind t Y) (distance_behind t Y)
-        (raised_of page radius (before_within page.width (after_of t X)) (before_within page.height (after_of t Y)))
-        (raised_of page radius (before_within page.width (after_of t X + 1)) (before_within page.height (after_of t Y)))
-        (raised_of page radius (before_within page.width (after_of t X)) (before_within page.height (after_of t Y + 1)))
-        (raised_of page radius (before_within page.width (after_of t X + 1)) (before_within page.height (after_of t Y + 1))) (128 * page.white) in
+    (raised_of page radius (before_within page.width (after_of t X)) (before_within page.height (after_of t Y)))
+    (raised_of page radius (before_within page.width (after_of t X + 1)) (before_within page.height (after_of t Y)))
+    (raised_of page radius (before_within page.width (after_of t X)) (before_within page.height (after_of t Y + 1)))
+    (raised_of page radius (before_within page.width (after_of t X + 1)) (before_within page.height (after_of t Y + 1))) (128 * page.white) in
     let px : 2 * t - distance_behind t X + distance_behind t X ≡ 2 * t = omega (arith, p) in
     let py : 2 * t - distance_behind t Y + distance_behind t Y ≡ 2 * t = omega (arith, q) in
     let k : 128 * page.white * (2 * t - distance_behind t X + distance_behind t X) * (2 * t - distance_behind t Y + distance_behind t Y) ≡ 128 * page.white * (2 * t) * (2 * t)
     = λ i. 128 * page.white * px i * py i in
     let all : mixed page radius t X Y
-        ≡ mixture (pos (2 * t - distance_behind t X)) (pos (distance_behind t X)) (pos (2 * t - distance_behind t Y)) (pos (distance_behind t Y))
-        (pos (raised_of page radius (before_within page.width (after_of t X)) (before_within page.height (after_of t Y))) -ℤ pos (128 * page.white))
-        (pos (raised_of page radius (before_within page.width (after_of t X + 1)) (before_within page.height (after_of t Y))) -ℤ pos (128 * page.white))
-        (pos (raised_of page radius (before_within page.width (after_of t X)) (before_within page.height (after_of t Y + 1))) -ℤ pos (128 * page.white))
-        (pos (raised_of page radius (before_within page.width (after_of t X + 1)) (before_within page.height (after_of t Y + 1))) -ℤ pos (128 * page.white))
+    ≡ mixture (pos (2 * t - distance_behind t X)) (pos (distance_behind t X)) (pos (2 * t - distance_behind t Y)) (pos (distance_behind t Y))
+    (pos (raised_of page radius (before_within page.width (after_of t X)) (before_within page.height (after_of t Y))) -ℤ pos (128 * page.white))
+    (pos (raised_of page radius (before_within page.width (after_of t X + 1)) (before_within page.height (after_of t Y))) -ℤ pos (128 * page.white))
+    (pos (raised_of page radius (before_within page.width (after_of t X)) (before_within page.height (after_of t Y + 1))) -ℤ pos (128 * page.white))
+    (pos (raised_of page radius (before_within page.width (after_of t X + 1)) (before_within page.height (after_of t Y + 1))) -ℤ pos (128 * page.white))
     = λ i. mixture (gx i) (fx i) (gy i) (fy i) (a i) (b i) (c i) (d i) in
     ap (λ z. z +ℤ pos (128 * page.white * (2 * t) * (2 * t))) all
     ∙ ap (λ n. mixture (pos (2 * t - distance_behind t X)) (pos (distance_behind t X)) (pos (2 * t - distance_behind t Y)) (pos (distance_behind t Y))
-        (pos (raised_of page radius (before_within page.width (after_of t X)) (before_within page.height (after_of t Y))) -ℤ pos (128 * page.white))
-        (pos (raised_of page radius (before_within page.width (after_of t X + 1)) (before_within page.height (after_of t Y))) -ℤ pos (128 * page.white))
-        (pos (raised_of page radius (before_within page.width (after_of t X)) (before_within page.height (after_of t Y + 1))) -ℤ pos (128 * page.white))
-        (pos (raised_of page radius (before_within page.width (after_of t X + 1)) (before_within page.height (after_of t Y + 1))) -ℤ pos (128 * page.white)) +ℤ pos n) (sym k)
+    (pos (raised_of page radius (before_within page.width (after_of t X)) (before_within page.height (after_of t Y))) -ℤ pos (128 * page.white))
+    (pos (raised_of page radius (before_within page.width (after_of t X + 1)) (before_within page.height (after_of t Y))) -ℤ pos (128 * page.white))
+    (pos (raised_of page radius (before_within page.width (after_of t X)) (before_within page.height (after_of t Y + 1))) -ℤ pos (128 * page.white))
+    (pos (raised_of page radius (before_within page.width (after_of t X + 1)) (before_within page.height (after_of t Y + 1))) -ℤ pos (128 * page.white)) +ℤ pos n) (sym k)
     ∙ whole
 
 -- a pixel is black where its mixture, raised, is within the limit

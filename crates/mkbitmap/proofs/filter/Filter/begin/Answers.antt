@@ -1,5 +1,4 @@
-use Rattle.std.proofs.Common.{rules, ◌≡◌, ℕ, ◌+◌, ◌-◌, ◌≤◌, ◌<◌, arith, ap, sym, ◌∙◌, refl}
-use Rattle.mkbitmap.specs.Follows.{HasRoom, HoldsRows, Follows, AreRaised, SameSetup}
+use Rattle.std.proofs.Common.{◌≡◌, ◌+◌, ◌-◌, arith, ap, ◌∙◌}
 use Rattle.mkbitmap.specs.Enlarged.{before_within}
 use Rattle.mkbitmap.proofs.Following.{carried, same_twice}
 use Rattle.mkbitmap.proofs.filter.Filter.begin.Goals as goal

@@ -1,6 +1,6 @@
-use Rattle.std.proofs.Common.{rules, ◌≡◌, ℕ, ◌+◌, ◌-◌, ◌≤◌, ◌<◌, min, arith, ap, sym, ◌∙◌, refl}
+use Rattle.std.proofs.Common.{◌≡◌, ◌+◌, ◌-◌, ◌≤◌, min, arith, ap, sym, ◌∙◌}
 use Rattle.mkbitmap.specs.Box.{sum_between}
-use Rattle.mkbitmap.specs.Follows.{HasRoom, HoldsRows, Follows, AreRaised, SameSetup, first_held}
+use Rattle.mkbitmap.specs.Follows.{first_held}
 use Rattle.mkbitmap.specs.Enlarged.{before_within}
 use Rattle.mkbitmap.proofs.Following.{carried}
 use Rattle.mkbitmap.proofs.filter.Filter.finish.Goals as goal

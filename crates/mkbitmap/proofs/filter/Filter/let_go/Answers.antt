@@ -1,10 +1,8 @@
-use Rattle.std.proofs.Common.{rules, ◌≡◌, ℕ, ◌+◌, ◌*◌, ◌≤◌, ◌<◌, length, get_or, min, [], ◌-◌, ◌%◌, arith, ap, sym, ◌∙◌, List, inl, inr}
+use Rattle.std.proofs.Common.{◌≡◌, ◌+◌, ◌*◌, ◌<◌, length, get_or, [], ◌-◌, ◌%◌, arith, ap, ◌∙◌, inl, inr}
 use Rattle.std.proofs.lemmas.Bool.{cases_lt}
 use Rattle.std.proofs.lemmas.Nat.{mod_below}
 use Rattle.std.proofs.lemmas.List.{with_items_is, get_or_past}
-use Rattle.mkbitmap.specs.Box.{Gray, sum_between}
-use Rattle.mkbitmap.specs.Follows.{HasRoom, HoldsRows, first_held}
-use Rattle.mkbitmap.proofs.Following.{slot_is, held_bright, first_goes}
+use Rattle.mkbitmap.proofs.Following.{slot_is, first_goes}
 use Rattle.mkbitmap.proofs.filter.Filter.let_go.Goals as goal
 
 pub leave-requires-clause-within : goal.leave-requires-clause-within
@@ -35,7 +33,7 @@ returns-clause-holds c = λ page holds.
     let below : (f.pairs - f.radius) % c.len.result < length f.ring.items = omega (arith, modulo, room.slots) in
     let is : c.samples.result.now ≡ get_or f.ring.items ((f.pairs - f.radius) % (2 * f.radius + 1)) []
     = c.samples.ensures ∙ slot_is f.ring.items ((f.pairs - f.radius) % c.len.result) c.index.result.now below c.index.ensures
-        ∙ ap (λ n. get_or f.ring.items ((f.pairs - f.radius) % n) []) slots in
+    ∙ ap (λ n. get_or f.ring.items ((f.pairs - f.radius) % n) []) slots in
     let size : length c.leave.new.columns ≡ f.columns.len = c.leave.ensures.length ∙ c.deref_mut.ensures.len in
     record {
       width = holds.width;

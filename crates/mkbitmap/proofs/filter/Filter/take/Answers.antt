@@ -1,8 +1,8 @@
-use Rattle.std.proofs.Common.{rules, ◌≡◌, ℕ, suc, ◌+◌, ◌*◌, ◌≤◌, ◌<◌, length, get_or, min, [], ◌-◌, ◌%◌, arith, ap, sym, ◌∙◌, List}
+use Rattle.std.proofs.Common.{◌≡◌, suc, ◌+◌, ◌*◌, ◌≤◌, ◌<◌, length, get_or, min, ◌-◌, ◌%◌, arith, ap, sym, ◌∙◌}
 use Rattle.std.proofs.lemmas.Nat.{mul-le, mod_below}
 use Rattle.std.proofs.lemmas.List.{length-set, with_items_is}
-use Rattle.mkbitmap.specs.Box.{Gray, sum_between}
-use Rattle.mkbitmap.specs.Follows.{IsAlong, HasRoom, Follows, HoldsRows, IsRow, SameSetup, first_held}
+use Rattle.mkbitmap.specs.Box.{sum_between}
+use Rattle.mkbitmap.specs.Follows.{first_held}
 use Rattle.mkbitmap.proofs.Adding.{sum-grown}
 use Rattle.mkbitmap.proofs.Following.{held_next, slot_next, slot_is, sums_small}
 use Rattle.mkbitmap.proofs.filter.Filter.take.Goals as goal
