@@ -10,21 +10,24 @@ use Rattle.bitmap_input.specs.Cut.Cut.{Takes, Stops}
 use Rattle.bitmap_input.specs.Parts.{spaces}
 use Rattle.bitmap_input.specs.Front.{Magic, magic, sides, maxval}
 use Rattle.bitmap_input.specs.Samples.{plain_sample}
+use Rattle.bitmap_input.specs.declared.channels.Channels.{Channels}
 use Rattle.bitmap_input.specs.declared.channels.Channels.TheVariants.{Gray, Color}
 use Rattle.bitmap_input.specs.Front.Magic.{PlainBits, RawBits, PlainSamples, RawSamples, Picture}
 use Rattle.bitmap_input.specs.Header.{magic_of}
 use Rattle.bitmap_input.specs.Reading.{Held, Same, StopsBy, Reads}
 use Rattle.bitmap_input.specs.Reading.Cause.{Says}
-use Rattle.bitmap_input.specs.GrayRows.{gray_kind, gray_magic, header_end, gray_header_behind, gray_header, gray_row, ChecksKind}
+use Rattle.bitmap_input.specs.GrayRows.{gray_alone, gray_kind, gray_magic, header_end, gray_header_behind, gray_header, gray_row, ChecksKind}
 use Rattle.bitmap_input.proofs.Appending.{Stays, stays_bind, stop_stays, take_stays, magic_stays, space_stays, spaces_stay, sides_stay, maxval_stays, times_stay, plain_sample_stays, raw_samples_row_stays}
 use Rattle.bitmap_input.proofs.Needing.{needs_none}
 use Rattle.bitmap_input.proofs.Telling.{stand, not_true}
 
+gray_alone_stays : (plain : Bool) (c : Channels) → Stays (gray_alone plain c)
+gray_alone_stays plain Gray = take_stays false plain
+gray_alone_stays plain Color = stop_stays false (Refused UnknownFormat)
+
 gray_kind_stays : (m : Magic) → Stays (gray_kind m)
-gray_kind_stays (PlainSamples Gray) = take_stays false true
-gray_kind_stays (RawSamples Gray) = take_stays false false
-gray_kind_stays (PlainSamples Color) = stop_stays false (Refused UnknownFormat)
-gray_kind_stays (RawSamples Color) = stop_stays false (Refused UnknownFormat)
+gray_kind_stays (PlainSamples c) = gray_alone_stays true c
+gray_kind_stays (RawSamples c) = gray_alone_stays false c
 gray_kind_stays PlainBits = stop_stays false (Refused UnknownFormat)
 gray_kind_stays RawBits = stop_stays false (Refused UnknownFormat)
 gray_kind_stays Picture = stop_stays false (Refused UnknownFormat)
@@ -37,7 +40,7 @@ header_end_stays true = take_stays false []
 header_end_stays false = space_stays
 
 -- the check of the format as a step that reads nothing
-pub reads_kind : (format : Format) {held : Held} {files : Option Files} {result : Result Bool Stop} → ChecksKind format result
+pub reads_kind : (format : Format) {held : Held} {files : Option Files} {result : Result Bool Stop} → ChecksKind (gray_kind (magic_of format)) result
     → Reads Same (gray_kind (magic_of format)) held files result held files
 reads_kind format {held = held} {files = files} {result = Ok plain} is =
     record {

@@ -11,8 +11,9 @@ use Rattle.bitmap_input.specs.Cut.Cut.{Takes, Stops}
 use Rattle.bitmap_input.specs.Parts.{is_zero, is_empty, longest, is_digit, is_space, run_length, gap_length, value, missing, run_of, spaces, gap, some_gap, number, number_behind_gap, space, block, times}
 use Rattle.bitmap_input.specs.Front.{Magic, magic, magic_behind, magic_of_name, magic_named, sides, checked, maxval, checked_maxval, greatest_maxval}
 use Rattle.bitmap_input.specs.Samples.{samples_in, samples, grouped, plain_sample, is_wide, sample_bytes, raw_samples_row}
+use Rattle.bitmap_input.specs.declared.channels.Channels.{Channels}
 use Rattle.bitmap_input.specs.declared.channels.Channels.TheVariants.{Gray, Color}
-use Rattle.bitmap_input.specs.GrayRows.{gray_kind, gray_magic, header_end, gray_header, gray_header_behind, gray_row}
+use Rattle.bitmap_input.specs.GrayRows.{gray_alone, gray_kind, gray_magic, header_end, gray_header, gray_header_behind, gray_row}
 
 -- it is taken or refused
 abbrev pub Goes : {A : Type 0} → Cut A → Type 0
@@ -81,11 +82,13 @@ goes_header_end : (plain : Bool) (bytes : List ℕ) → Goes (header_end plain b
 goes_header_end true bytes = tt
 goes_header_end false bytes = goes_space bytes
 
+goes_gray_alone : (plain : Bool) (c : Channels) (bytes : List ℕ) → Goes (gray_alone plain c bytes)
+goes_gray_alone plain Gray bytes = tt
+goes_gray_alone plain Color bytes = tt
+
 goes_kind : (m : Magic) (bytes : List ℕ) → Goes (gray_kind m bytes)
-goes_kind (PlainSamples Gray) bytes = tt
-goes_kind (RawSamples Gray) bytes = tt
-goes_kind (PlainSamples Color) bytes = tt
-goes_kind (RawSamples Color) bytes = tt
+goes_kind (PlainSamples c) bytes = goes_gray_alone true c bytes
+goes_kind (RawSamples c) bytes = goes_gray_alone false c bytes
 goes_kind PlainBits bytes = tt
 goes_kind RawBits bytes = tt
 goes_kind Picture bytes = tt

@@ -9,20 +9,22 @@ use Rattle.bitmap_input.specs.Parts.{spaces, space, times}
 use Rattle.bitmap_input.specs.Front.{Magic, magic, sides, maxval, greatest_maxval}
 use Rattle.bitmap_input.specs.Front.Magic.{PlainBits, RawBits, PlainSamples, RawSamples, Picture}
 use Rattle.bitmap_input.specs.Samples.{plain_sample, raw_samples_row}
+use Rattle.bitmap_input.specs.declared.channels.Channels.{Channels}
 use Rattle.bitmap_input.specs.declared.channels.Channels.TheVariants.{Gray, Color}
-use Rattle.bitmap_input.specs.Header.{magic_of}
 use Rattle.bitmap_input.specs.Reading.{cause_of}
 use Rattle.bitmap_input.specs.Reading.Cause.{Says}
 use Rattle.bitmap_input.specs.declared.stop.Stop.{Stop}
-use Rattle.bitmap_input.specs.declared.header.Format.{Format}
 use Rattle.bitmap_input.specs.declared.gray_rows.GrayHeader.{GrayHeader}
+
+-- samples of gray are known here, and those of colours are not
+abbrev pub gray_alone : Bool → Channels → List ℕ → Cut Bool
+gray_alone plain Gray rest = Takes false plain rest
+gray_alone plain Color rest = Stops false (Refused UnknownFormat)
 
 -- whether a gray page is plain; every other format is unknown here
 abbrev pub gray_kind : Magic → List ℕ → Cut Bool
-gray_kind (PlainSamples Gray) rest = Takes false true rest
-gray_kind (RawSamples Gray) rest = Takes false false rest
-gray_kind (PlainSamples Color) rest = Stops false (Refused UnknownFormat)
-gray_kind (RawSamples Color) rest = Stops false (Refused UnknownFormat)
+gray_kind (PlainSamples c) rest = gray_alone true c rest
+gray_kind (RawSamples c) rest = gray_alone false c rest
 gray_kind PlainBits rest = Stops false (Refused UnknownFormat)
 gray_kind RawBits rest = Stops false (Refused UnknownFormat)
 gray_kind Picture rest = Stops false (Refused UnknownFormat)
@@ -56,8 +58,8 @@ abbrev pub gray_row : Bool → ℕ → ℕ → List ℕ → Cut (List ℕ)
 gray_row true white width bytes = times plain_sample width bytes
 gray_row false white width bytes = raw_samples_row Gray white width bytes
 
--- the format is that of a gray page or not
-abbrev pub ChecksKind : Format → Result Bool Stop → Type 0
-ChecksKind format (Ok plain) = (bytes : List ℕ) → gray_kind (magic_of format) bytes ≡ Takes false plain bytes
-ChecksKind format (Err stop) =
-    (ending : Ending) × (cause_of stop ≡ Says ending) × ((bytes : List ℕ) → gray_kind (magic_of format) bytes ≡ Stops false ending)
+-- the format is that of a gray page, plain or not, or it isn't
+abbrev pub ChecksKind : (List ℕ → Cut Bool) → Result Bool Stop → Type 0
+ChecksKind kind (Ok plain) = (bytes : List ℕ) → kind bytes ≡ Takes false plain bytes
+ChecksKind kind (Err stop) =
+    (ending : Ending) × (cause_of stop ≡ Says ending) × ((bytes : List ℕ) → kind bytes ≡ Stops false ending)

@@ -269,6 +269,7 @@ pub mod Behind
 --   IsAnswer: the reader's answer is the one that the bytes give, at this level and inverted or not
 pub mod Reader
 -- A gray page row by row.
+--   gray_alone: samples of gray are known here, and those of colours are not
 --   gray_kind: whether a gray page is plain; every other format is unknown here
 --   gray_magic: the magic of a gray page
 --   header_end: the one byte of whitespace that ends a raw page's header
@@ -276,7 +277,7 @@ pub mod Reader
 --   gray_header: the header of a gray page that is the first of its file
 --   lowered: a sample, given as no more than a raw one can be
 --   gray_row: the samples of a row
---   ChecksKind: the format is that of a gray page or not
+--   ChecksKind: the format is that of a gray page, plain or not, or it isn't
 pub mod GrayRows
 -- The reader of a gray page, and what its answers say of the file.
 --   GraySource: the bytes at hand, the head, how many rows were given, and whether a call failed

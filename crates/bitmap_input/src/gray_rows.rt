@@ -4,7 +4,8 @@ ghost use Rattle.bitmap_input.specs.Reading.{Reads, Any, Same, Leaves, TakesNone
 ghost use Rattle.bitmap_input.specs.Parts.{times};
 ghost use Rattle.bitmap_input.specs.Samples.{samples_in, samples, plain_sample, sample_bytes, raw_samples_row};
 ghost use Rattle.bitmap_input.specs.declared.channels.Channels.TheVariants as channels;
-ghost use Rattle.bitmap_input.specs.GrayRows.{ChecksKind, gray_magic, header_end, gray_header, gray_header_behind, lowered};
+ghost use Rattle.bitmap_input.specs.Header.{magic_of};
+ghost use Rattle.bitmap_input.specs.GrayRows.{ChecksKind, gray_alone, gray_kind, gray_magic, header_end, gray_header, gray_header_behind, lowered};
 
 use crate::channels::Channels;
 use crate::fault::InFault;
@@ -28,16 +29,25 @@ pub(crate) struct GrayHeader {
     pub(crate) white: u32,
 }
 
+/// Whether a page of such samples is plain, where they are gray.
+fn check_gray(channels: Channels, plain: bool) -> Result<bool, Stop>
+    ensures checks { ChecksKind (gray_alone plain channels) result }
+    ensures free { TakesNone result }
+{
+    match channels {
+        Channels::Gray => Ok(plain),
+        Channels::Color => Err(Stop::Fault(InFault::UnknownFormat)),
+    }
+}
+
 /// Whether a gray page of this format is plain.
 fn kind_of(format: Format) -> Result<bool, Stop>
-    ensures checks { ChecksKind format result }
+    ensures checks { ChecksKind (gray_kind (magic_of format)) result }
     ensures free { TakesNone result }
 {
     match format {
-        Format::PlainSamples(Channels::Gray) => Ok(true),
-        Format::RawSamples(Channels::Gray) => Ok(false),
-        Format::PlainSamples(Channels::Color) => Err(Stop::Fault(InFault::UnknownFormat)),
-        Format::RawSamples(Channels::Color) => Err(Stop::Fault(InFault::UnknownFormat)),
+        Format::PlainSamples(channels) => check_gray(channels, true),
+        Format::RawSamples(channels) => check_gray(channels, false),
         Format::PlainBits => Err(Stop::Fault(InFault::UnknownFormat)),
         Format::RawBits => Err(Stop::Fault(InFault::UnknownFormat)),
         Format::Picture => Err(Stop::Fault(InFault::UnknownFormat)),

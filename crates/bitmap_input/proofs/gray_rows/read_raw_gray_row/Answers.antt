@@ -1,4 +1,4 @@
-use Rattle.std.proofs.Common.{◌≡◌, ℕ, ◌∙◌, ap, sym, false, List, length, rules}
+use Rattle.std.proofs.Common.{◌≡◌, ◌*◌, arith, ℕ, ◌∙◌, ap, sym, false, List, length, rules}
 use Rattle.std.proofs.lemmas.Result.{err_from_is_err_and}
 use Rattle.bitmap_input.specs.Cut.Cut.{Takes}
 use Rattle.bitmap_input.specs.Samples.{samples_in, samples, grouped, is_wide}
@@ -23,4 +23,5 @@ returns-clause-reads g c =
 pub unpack-requires : goal.unpack-requires
 unpack-requires g c =
     let same : length c.read_block.new.row ≡ length c.args.line.now = search rules in
-    record { whole = rw c.is_wide.ensures (samples-length (is_wide c.args.white) (samples_in Gray * length c.args.row.now) c.read_block.new.row (same ∙ c.requires.whole)) }
+    let long = samples-length (is_wide c.args.white) (samples_in Gray * length c.args.row.now) c.read_block.new.row (same ∙ c.requires.whole) in
+    record { whole = rw c.is_wide.ensures (omega (arith, long)) }
