@@ -1,12 +1,12 @@
 -- The header of a gray page, read part by part.
-use Rattle.std.proofs.Common.{◌≡◌, refl, ℕ, Bool, true, false, List, [], ◌++◌, ap, sym, ◌∙◌, subst, Option, Result, Ok, Err, append-nil}
+use Rattle.std.proofs.Common.{refl, ℕ, Bool, true, false, [], ◌++◌, ap, sym, ◌∙◌, subst, Option, Result, Ok, Err, append-nil}
 use Rattle.pt_base.specs.Files.{Files}
 use Rattle.bitmap_input.specs.declared.stop.Stop.{Stop}
 use Rattle.bitmap_input.specs.declared.header.Format.{Format}
-use Rattle.bitmap_input.specs.Cut.{Cut, is_by_end, ◌>>=◌}
+use Rattle.bitmap_input.specs.Cut.{◌>>=◌}
 use Rattle.bitmap_input.specs.Cut.Kind.{UnknownFormat}
 use Rattle.bitmap_input.specs.Cut.Ending.{Refused}
-use Rattle.bitmap_input.specs.Cut.Cut.{Takes, Stops}
+use Rattle.bitmap_input.specs.Cut.Cut.{Takes}
 use Rattle.bitmap_input.specs.Parts.{spaces}
 use Rattle.bitmap_input.specs.Front.{Magic, magic, sides, maxval}
 use Rattle.bitmap_input.specs.Samples.{plain_sample}

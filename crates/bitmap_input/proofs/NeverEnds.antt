@@ -1,7 +1,7 @@
 -- Parts that are taken or refused: the pages of a file don't end in them.
-use Rattle.std.proofs.Common.{◌≡◌, ◌*◌, ℕ, zero, suc, Bool, true, false, ◌||◌, List, [], ◌∷◌, length, take, drop, ap, subst, sym, cond}
-use Rattle.std.specs.Prelude.{if◌then◌else◌, nat_eq, nat_lt}
-use Rattle.bitmap_input.specs.Cut.{Kind, Ending, Cut, after, ◌>>=◌}
+use Rattle.std.proofs.Common.{◌*◌, ℕ, zero, suc, Bool, true, false, ◌||◌, List, [], ◌∷◌, length, take, drop}
+use Rattle.std.specs.Prelude.{if◌then◌else◌, nat_lt}
+use Rattle.bitmap_input.specs.Cut.{Kind, Cut, after, ◌>>=◌}
 use Rattle.std.proofs.Common.{Option, Some, None}
 use Rattle.pt_base.specs.declared.limits.TheConstants.{LONGEST_SIDE}
 use Rattle.bitmap_input.specs.Cut.Kind.{BadHeader, BadRaster, TooLong, ZeroSide, TooLarge, Truncated}
@@ -9,8 +9,8 @@ use Rattle.bitmap_input.specs.Front.Magic.{PlainBits, RawBits, PlainSamples, Raw
 use Rattle.bitmap_input.specs.Cut.Ending.{End, Trailing, Refused}
 use Rattle.bitmap_input.specs.Cut.Cut.{Takes, Stops}
 use Rattle.bitmap_input.specs.Parts.{is_zero, is_empty, longest, is_digit, is_space, run_length, gap_length, value, missing, run_of, spaces, gap, some_gap, number, number_behind_gap, space, block, times}
-use Rattle.bitmap_input.specs.Front.{Magic, magic, magic_behind, magic_of_name, magic_named, sides, checked, maxval, checked_maxval, greatest_maxval}
-use Rattle.bitmap_input.specs.Samples.{samples_in, samples, grouped, plain_sample, is_wide, sample_bytes, raw_samples_row}
+use Rattle.bitmap_input.specs.Front.{Magic, magic, magic_of_name, magic_named, sides, checked, maxval, checked_maxval, greatest_maxval}
+use Rattle.bitmap_input.specs.Samples.{samples_in, samples, grouped, plain_sample, is_wide, sample_bytes}
 use Rattle.bitmap_input.specs.declared.channels.Channels.{Channels}
 use Rattle.bitmap_input.specs.declared.channels.Channels.TheVariants.{Gray, Color}
 use Rattle.bitmap_input.specs.GrayRows.{gray_alone, gray_kind, gray_magic, header_end, gray_header, gray_header_behind, gray_row}

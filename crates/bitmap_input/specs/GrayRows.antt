@@ -1,6 +1,6 @@
 -- A gray page row by row (Netpbm's format page "pgm"): its header, which is that of a file's first page,
 -- and then one row after another.
-use Rattle.std.specs.Prelude.{◌≡◌, ℕ, Bool, true, false, List, [], map, min, Result, Ok, Err}
+use Rattle.std.specs.Prelude.{◌≡◌, ℕ, Bool, true, false, List, [], min, Result, Ok, Err}
 use Rattle.bitmap_input.specs.Cut.{Ending, Cut, ◌>>=◌}
 use Rattle.bitmap_input.specs.Cut.Kind.{UnknownFormat}
 use Rattle.bitmap_input.specs.Cut.Ending.{Refused}

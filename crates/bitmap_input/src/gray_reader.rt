@@ -8,8 +8,8 @@ ghost use Rattle.bitmap_input.specs.GrayReader.{gray_at_start, GivesHead, GivesR
 
 use crate::channels::Channels;
 use crate::fault::InFault;
-use crate::header::GREATEST_MAXVAL;
 use crate::gray_rows::{read_gray_header, read_plain_gray_row, read_raw_gray_row};
+use crate::header::GREATEST_MAXVAL;
 use crate::samples::row_bytes;
 use crate::stop::Stop;
 use crate::window::Window;

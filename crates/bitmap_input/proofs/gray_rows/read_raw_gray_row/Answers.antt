@@ -1,4 +1,4 @@
-use Rattle.std.proofs.Common.{◌≡◌, ◌*◌, arith, ℕ, ◌∙◌, ap, sym, false, List, length, rules}
+use Rattle.std.proofs.Common.{◌≡◌, ◌*◌, arith, ◌∙◌, ap, sym, false, length, rules}
 use Rattle.std.proofs.lemmas.Result.{err_from_is_err_and}
 use Rattle.bitmap_input.specs.Cut.Cut.{Takes}
 use Rattle.bitmap_input.specs.Samples.{samples_in, samples, grouped, is_wide}
