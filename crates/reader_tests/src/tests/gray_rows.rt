@@ -1,4 +1,6 @@
 //! Gray pages that are read row by row.
+ghost use Rattle.std.specs.Prelude.{◌≤◌};
+
 use crate::tests::answers::{ended, file};
 use bitmap_input::gray_reader::GrayReader;
 use pt_base::inputs::Inputs;
@@ -81,11 +83,11 @@ fn pages_row_by_row(rt: HostRuntime) -> Result<(), Fail> {
 
 /// A page, the read that fails where each gives a byte, and the rows before.
 const FAILING: [(&[u8], u64, &str); 4] = [
-    (b"P5 1 2 9\n\x01\x02", 0, "read fault"),
-    (b"P5 1 2 9\n\x01\x02", 9, "1 2 9/read fault"),
-    (b"P5 1 2 9\n\x01\x02", 10, "1 2 9/ 1/read fault"),
+    (b"P5 1 2 9\n\x01\x02", 1, "read fault"),
+    (b"P5 1 2 9\n\x01\x02", 10, "1 2 9/read fault"),
+    (b"P5 1 2 9\n\x01\x02", 11, "1 2 9/ 1/read fault"),
     // Where a last number may go on, its end is asked for.
-    (b"P2 1 1 9 1", 10, "1 1 9/read fault"),
+    (b"P2 1 1 9 1", 11, "1 1 9/read fault"),
 ];
 
 #[test]
