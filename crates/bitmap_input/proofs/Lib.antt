@@ -35,3 +35,7 @@ pub mod Answering
 pub mod Longest
 pub mod Files
 pub mod Sided
+pub mod GrayHeading
+pub mod Gathering
+pub mod NeverEnds
+pub mod GrayAnswers

@@ -268,3 +268,28 @@ pub mod Behind
 --   IsCauseOf: the fault is what the bytes say
 --   IsAnswer: the reader's answer is the one that the bytes give, at this level and inverted or not
 pub mod Reader
+-- A gray page row by row.
+--   gray_alone: samples of gray are known here, and those of colours are not
+--   gray_kind: whether a gray page is plain; every other format is unknown here
+--   gray_magic: the magic of a gray page
+--   header_end: the one byte of whitespace that ends a raw page's header
+--   gray_header_behind: what follows the magic in the header
+--   gray_header: the header of a gray page that is the first of its file
+--   lowered: a sample, given as no more than a raw one can be
+--   gray_row: the samples of a row
+--   ChecksKind: the format is that of a gray page, plain or not, or it isn't
+pub mod GrayRows
+-- The reader of a gray page, and what its answers say of the file.
+--   GraySource: the bytes at hand, the head, how many rows were given, and whether a call failed
+--   gray_at_start: a reader before the first byte of a file
+--   held_of: the bytes at hand
+--   IsCutSo: bytes were taken as far as this part needs them, and are cut so
+--   GivesHead: the head was given
+--   GivesRow: the next row was given
+--   Refuses: the part is refused
+--   FailsToRead: a read failed
+--   TellsPart, RefusesPart: with this rest of the file the part has this value, or is refused
+--   TellsHead, TellsRow: the head, or the next row, is this one
+--   IfKind, IfRefused: this holds of the kind, where the cause or the answer is a refusal
+--   IsNoFault: the pages end, and no page is refused
+pub mod GrayReader

@@ -105,6 +105,17 @@ abbrev pub Counts : {X : Type 0} → Result X Stop → ℕ → ℕ → Type 0
 Counts (Ok x) before now = now ≡ before
 Counts (Err s) before now = CountsBy (cause_of s) before now
 
+-- memory isn't wanting
+abbrev pub HasMemory : Cause → Type 0
+HasMemory (Says ending) = Unit {0}
+HasMemory Device = Unit {0}
+HasMemory Memory = ⊥
+
+-- the same of a step, which takes none
+abbrev pub TakesNone : {X : Type 0} → Result X Stop → Type 0
+TakesNone (Ok x) = Unit {0}
+TakesNone (Err s) = HasMemory (cause_of s)
+
 -- how a step leaves the inputs, by what is told of them: the file stays opened, and none was opened
 -- anew; the count of faults rose where a read failed, and else it is the same
 pub record Leaves {A X : Type 0} (told : Ghosts A) (result : Result X Stop) (before now : A) : Type 0 where

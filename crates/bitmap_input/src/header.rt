@@ -1,6 +1,6 @@
 //! The header of a page: its magic, its sides and its sample for white.
 ghost use Rattle.std.specs.Prelude.{◌≡◌, ℕ, ◌≤◌, true, false, IfOk, if◌then◌else◌, option_map};
-ghost use Rattle.bitmap_input.specs.Reading.{Reads, Any, Same, Leaves};
+ghost use Rattle.bitmap_input.specs.Reading.{Reads, Any, Same, Leaves, HasMemory, TakesNone, cause_of};
 ghost use Rattle.bitmap_input.specs.Parts.{space};
 ghost use Rattle.bitmap_input.specs.Front.{magic, magic_named, magic_behind, sides, maxval};
 ghost use Rattle.bitmap_input.specs.Header.{magic_of, IsFormat, IsSides, Checks, ChecksMaxval};
@@ -41,7 +41,8 @@ pub(crate) struct Sides {
 
 /// No known magic stands where one is due.
 fn no_magic(later: bool) -> Stop
-    ensures { result ≡ (if later then Stop.Trailing else Stop.Fault InFault.UnknownFormat) }
+    ensures stop { result ≡ (if later then Stop.Trailing else Stop.Fault InFault.UnknownFormat) }
+    ensures free { HasMemory (cause_of result) }
 {
     if later {
         Stop::Trailing
@@ -77,6 +78,7 @@ fn read_magic_behind<I: Inputs>(
     ensures reads { Reads IsFormat (magic_behind later first) window.old
         (I.files inputs.old) result window.new (I.files inputs.new) }
     ensures leaves { Leaves I.Inputs result inputs.old inputs.new }
+    ensures free { TakesNone result }
 {
     match window.look(inputs) {
         Look::Byte(second) => {
@@ -101,6 +103,7 @@ pub(crate) fn read_magic<I: Inputs>(
     ensures reads { Reads IsFormat (magic later) window.old (I.files inputs.old) result window.new
         (I.files inputs.new) }
     ensures leaves { Leaves I.Inputs result inputs.old inputs.new }
+    ensures free { TakesNone result }
 {
     match window.look(inputs) {
         Look::Byte(first) => {
@@ -124,6 +127,7 @@ pub(crate) fn skip_space<I: Inputs>(window: &mut Window, inputs: &mut I) -> Resu
     ensures reads { Reads Any space window.old (I.files inputs.old) result window.new
         (I.files inputs.new) }
     ensures leaves { Leaves I.Inputs result inputs.old inputs.new }
+    ensures free { TakesNone result }
 {
     match window.look(inputs) {
         Look::Byte(byte) => {
@@ -142,6 +146,7 @@ pub(crate) fn skip_space<I: Inputs>(window: &mut Window, inputs: &mut I) -> Resu
 /// The two numbers as the sides of a page.
 pub(crate) fn check(width: u32, height: u32) -> Result<Sides, Stop>
     ensures checks { Checks width height result }
+    ensures free { TakesNone result }
     ensures width { IfOk result (λ s. (1 ≤ s.width) × (s.width ≤ LONGEST_SIDE)) }
     ensures height { IfOk result (λ s. (1 ≤ s.height) × (s.height ≤ LONGEST_SIDE)) }
 {
@@ -160,6 +165,7 @@ pub(crate) fn read_sides<I: Inputs>(window: &mut Window, inputs: &mut I) -> Resu
     ensures reads { Reads IsSides sides window.old (I.files inputs.old) result window.new
         (I.files inputs.new) }
     ensures leaves { Leaves I.Inputs result inputs.old inputs.new }
+    ensures free { TakesNone result }
     ensures width { IfOk result (λ s. (1 ≤ s.width) × (s.width ≤ LONGEST_SIDE)) }
     ensures height { IfOk result (λ s. (1 ≤ s.height) × (s.height ≤ LONGEST_SIDE)) }
 {
@@ -171,6 +177,7 @@ pub(crate) fn read_sides<I: Inputs>(window: &mut Window, inputs: &mut I) -> Resu
 /// The number as the sample for white.
 fn check_maxval(white: u32) -> Result<u32, Stop>
     ensures checks { ChecksMaxval white result }
+    ensures free { TakesNone result }
     ensures range { IfOk result (λ white. (1 ≤ white) × (white ≤ GREATEST_MAXVAL)) }
 {
     if white == 0 || white > GREATEST_MAXVAL {
@@ -185,6 +192,7 @@ pub(crate) fn read_maxval<I: Inputs>(window: &mut Window, inputs: &mut I) -> Res
     ensures reads { Reads Same maxval window.old (I.files inputs.old) result window.new
         (I.files inputs.new) }
     ensures leaves { Leaves I.Inputs result inputs.old inputs.new }
+    ensures free { TakesNone result }
     ensures range { IfOk result (λ white. (1 ≤ white) × (white ≤ GREATEST_MAXVAL)) }
 {
     let white = read_number_behind_gap(window, inputs, Part::Header)?;

@@ -20,6 +20,8 @@ mod body;
 mod channels;
 mod extent;
 pub mod fault;
+pub mod gray_reader;
+mod gray_rows;
 mod header;
 pub mod laws;
 pub mod next;

@@ -1,6 +1,6 @@
 //! Decimal numbers of a header and of a plain raster.
 ghost use Rattle.std.specs.Prelude.{◌≡◌, ℕ, ◌≤◌, true, false, suc, List, ◌∷◌};
-ghost use Rattle.bitmap_input.specs.Reading.{Reads, Any, cause_of_fault, Leaves};
+ghost use Rattle.bitmap_input.specs.Reading.{Reads, Any, cause_of_fault, Leaves, HasMemory, TakesNone};
 ghost use Rattle.bitmap_input.specs.Reading.Cause.{Says};
 ghost use Rattle.bitmap_input.specs.Cut.Ending.{Refused};
 ghost use Rattle.bitmap_input.specs.Parts.{is_digit, some_gap, number, number_behind_gap};
@@ -27,7 +27,8 @@ pub(crate) enum Part {
 impl Part {
     /// What another byte than a digit or a gap's means here.
     fn fault(self) -> InFault
-        ensures { cause_of_fault result ≡ Says (Refused (kind_at self)) }
+        ensures cause { cause_of_fault result ≡ Says (Refused (kind_at self)) }
+        ensures free { HasMemory (cause_of_fault result) }
     {
         match self {
             Part::Header => InFault::BadHeader,
@@ -48,6 +49,7 @@ fn read_digits<I: Inputs>(window: &mut Window, inputs: &mut I) -> Result<u32, St
     ensures reads { Reads IsCapped digits window.old (I.files inputs.old) result window.new
         (I.files inputs.new) }
     ensures leaves { Leaves I.Inputs result inputs.old inputs.new }
+    ensures free { TakesNone result }
 {
     let mut value = 0;
     let mut n = 0;
@@ -74,6 +76,7 @@ fn read_number<I: Inputs>(window: &mut Window, inputs: &mut I, part: Part) -> Re
     ensures reads { Reads IsCapped (number (kind_at part)) window.old
         (I.files inputs.old) result window.new (I.files inputs.new) }
     ensures leaves { Leaves I.Inputs result inputs.old inputs.new }
+    ensures free { TakesNone result }
 {
     match window.look(inputs) {
         Look::Byte(byte) => {
@@ -94,6 +97,7 @@ fn skip_gap<I: Inputs>(window: &mut Window, inputs: &mut I, part: Part) -> Resul
     ensures reads { Reads Any (some_gap (kind_at part)) window.old
         (I.files inputs.old) result window.new (I.files inputs.new) }
     ensures leaves { Leaves I.Inputs result inputs.old inputs.new }
+    ensures free { TakesNone result }
 {
     match window.look(inputs) {
         Look::Byte(byte) => match behind(Run::Gap, byte) {
@@ -115,6 +119,7 @@ pub(crate) fn read_number_behind_gap<I: Inputs>(
     ensures reads { Reads IsCapped (number_behind_gap (kind_at part)) window.old
         (I.files inputs.old) result window.new (I.files inputs.new) }
     ensures leaves { Leaves I.Inputs result inputs.old inputs.new }
+    ensures free { TakesNone result }
 {
     skip_gap(window, inputs, part)?;
     read_number(window, inputs, part)

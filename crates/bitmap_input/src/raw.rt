@@ -2,7 +2,7 @@
 ghost use Rattle.std.specs.Prelude.{◌≡◌, ◌<◌, true, length, take, map};
 ghost use Rattle.bit_image.specs.Image.{differ};
 ghost use Rattle.bit_image.specs.Page.{Page, SameSides, image_of};
-ghost use Rattle.bitmap_input.specs.Reading.{Reads, Leaves};
+ghost use Rattle.bitmap_input.specs.Reading.{Reads, Leaves, TakesNone};
 ghost use Rattle.bitmap_input.specs.Parts.{block, times};
 ghost use Rattle.bitmap_input.specs.Front.{raw_row};
 ghost use Rattle.bitmap_input.specs.Raw.{row_bytes, unpacked};
@@ -25,6 +25,7 @@ pub(crate) fn read_block<I: Inputs>(
     ensures reads { Reads (λ _ bytes. bytes ≡ row.new) (block (length row.old)) window.old
         (I.files inputs.old) result window.new (I.files inputs.new) }
     ensures leaves { Leaves I.Inputs result inputs.old inputs.new }
+    ensures free { TakesNone result }
 {
     let mut done = 0;
     while done < row.len() {

@@ -1,6 +1,6 @@
 //! Runs of whitespace and of comments.
 ghost use Rattle.std.specs.Prelude.{◌≡◌, ℕ, true, false, suc, List, ◌∷◌, MatchOption, IsTrue, ◌↔◌};
-ghost use Rattle.bitmap_input.specs.Reading.{Reads, Any, Leaves};
+ghost use Rattle.bitmap_input.specs.Reading.{Reads, Any, Leaves, TakesNone};
 ghost use Rattle.bitmap_input.specs.Parts.{is_space};
 ghost use Rattle.bitmap_input.specs.Run.{length_of, part_of, Continues};
 
@@ -66,6 +66,7 @@ pub(crate) fn skip<I: Inputs>(window: &mut Window, inputs: &mut I, run: Run) -> 
     ensures reads { Reads Any (part_of run) window.old (I.files inputs.old) result window.new
         (I.files inputs.new) }
     ensures leaves { Leaves I.Inputs result inputs.old inputs.new }
+    ensures free { TakesNone result }
 {
     let mut run = run;
     let mut n = 0;

@@ -139,7 +139,7 @@ pub(crate) fn read_plain_sample_rows<I: Inputs>(
 }
 
 /// Whether each sample is two bytes.
-fn is_wide(white: u32) -> bool
+pub(crate) fn is_wide(white: u32) -> bool
     ensures { result ≡ is_wide white }
 {
     white > 255
@@ -156,7 +156,7 @@ pub(crate) fn row_bytes(channels: Channels, width: u32, white: u32) -> usize
 
 /// A sample of a row, where all are wide or none is.
 #[inline(always)]
-fn sample_at(row: &[u8], wide: bool, i: usize) -> u32
+pub(crate) fn sample_at(row: &[u8], wide: bool, i: usize) -> u32
     requires { i < length (samples wide row.now) }
     ensures value { result ≡ get_or (samples wide row.now) i 0 }
     ensures most { result ≤ GREATEST_MAXVAL }

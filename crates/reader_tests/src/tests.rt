@@ -6,5 +6,6 @@ mod bmp;
 mod bmp_refusals;
 mod color;
 mod gray;
+mod gray_rows;
 mod pages;
 mod rows;

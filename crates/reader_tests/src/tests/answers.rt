@@ -71,7 +71,7 @@ fn answers(
 }
 
 /// Inputs with one file.
-fn file(alloc: Global, bytes: &[u8], most: u32, fails: &[InCall]) -> Result<MemInputs, Fail>
+pub(super) fn file(alloc: Global, bytes: &[u8], most: u32, fails: &[InCall]) -> Result<MemInputs, Fail>
     requires { 1 ≤ most }
 {
     let file = NamedBytes {
@@ -81,7 +81,7 @@ fn file(alloc: Global, bytes: &[u8], most: u32, fails: &[InCall]) -> Result<MemI
     Ok(MemInputs::new(vec![in alloc; file]?, most, Vec::from_slice(alloc, fails)?))
 }
 
-fn ended(mut text: String, end: &str) -> Result<String, Fail> {
+pub(super) fn ended(mut text: String, end: &str) -> Result<String, Fail> {
     text.push_str(end)?;
     Ok(text)
 }

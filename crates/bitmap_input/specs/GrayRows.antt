@@ -1,0 +1,65 @@
+-- A gray page row by row (Netpbm's format page "pgm"): its header, which is that of a file's first page,
+-- and then one row after another.
+use Rattle.std.specs.Prelude.{◌≡◌, ℕ, Bool, true, false, List, [], min, Result, Ok, Err}
+use Rattle.bitmap_input.specs.Cut.{Ending, Cut, ◌>>=◌}
+use Rattle.bitmap_input.specs.Cut.Kind.{UnknownFormat}
+use Rattle.bitmap_input.specs.Cut.Ending.{Refused}
+use Rattle.bitmap_input.specs.Cut.Cut.{Takes, Stops}
+use Rattle.bitmap_input.specs.Parts.{spaces, space, times}
+use Rattle.bitmap_input.specs.Front.{Magic, magic, sides, maxval, greatest_maxval}
+use Rattle.bitmap_input.specs.Front.Magic.{PlainBits, RawBits, PlainSamples, RawSamples, Picture}
+use Rattle.bitmap_input.specs.Samples.{plain_sample, raw_samples_row}
+use Rattle.bitmap_input.specs.declared.channels.Channels.{Channels}
+use Rattle.bitmap_input.specs.declared.channels.Channels.TheVariants.{Gray, Color}
+use Rattle.bitmap_input.specs.Reading.{cause_of}
+use Rattle.bitmap_input.specs.Reading.Cause.{Says}
+use Rattle.bitmap_input.specs.declared.stop.Stop.{Stop}
+use Rattle.bitmap_input.specs.declared.gray_rows.GrayHeader.{GrayHeader}
+
+-- samples of gray are known here, and those of colours are not
+abbrev pub gray_alone : Bool → Channels → List ℕ → Cut Bool
+gray_alone plain Gray rest = Takes false plain rest
+gray_alone plain Color rest = Stops false (Refused UnknownFormat)
+
+-- whether a gray page is plain; every other format is unknown here
+abbrev pub gray_kind : Magic → List ℕ → Cut Bool
+gray_kind (PlainSamples c) rest = gray_alone true c rest
+gray_kind (RawSamples c) rest = gray_alone false c rest
+gray_kind PlainBits rest = Stops false (Refused UnknownFormat)
+gray_kind RawBits rest = Stops false (Refused UnknownFormat)
+gray_kind Picture rest = Stops false (Refused UnknownFormat)
+
+-- the magic of a gray page
+abbrev pub gray_magic : List ℕ → Cut Bool
+gray_magic bytes = magic false bytes >>= gray_kind
+
+-- the one byte of whitespace that ends a raw page's header
+abbrev pub header_end : Bool → List ℕ → Cut (List ℕ)
+header_end true rest = Takes false [] rest
+header_end false rest = space rest
+
+-- what follows the magic in the header
+abbrev pub gray_header_behind : Bool → List ℕ → Cut GrayHeader
+gray_header_behind plain bytes =
+    sides bytes >>= λ s rest. maxval rest >>= λ white rest. header_end plain rest >>= λ _ rest.
+    Takes false (record { plain = plain; width = s.0; height = s.1; white = white }) rest
+
+-- the header of a gray page that is the first of its file
+abbrev pub gray_header : List ℕ → Cut GrayHeader
+gray_header bytes =
+    spaces bytes >>= λ _ rest. gray_magic rest >>= λ plain rest. gray_header_behind plain rest
+
+-- a plain sample may be any number; it is given as no more than a raw one can be
+abbrev pub lowered : ℕ → ℕ
+lowered v = min v greatest_maxval
+
+-- the samples of a row
+abbrev pub gray_row : Bool → ℕ → ℕ → List ℕ → Cut (List ℕ)
+gray_row true white width bytes = times plain_sample width bytes
+gray_row false white width bytes = raw_samples_row Gray white width bytes
+
+-- the format is that of a gray page, plain or not, or it isn't
+abbrev pub ChecksKind : (List ℕ → Cut Bool) → Result Bool Stop → Type 0
+ChecksKind kind (Ok plain) = (bytes : List ℕ) → kind bytes ≡ Takes false plain bytes
+ChecksKind kind (Err stop) =
+    (ending : Ending) × (cause_of stop ≡ Says ending) × ((bytes : List ℕ) → kind bytes ≡ Stops false ending)

@@ -1,0 +1,179 @@
+//! A gray page row by row: its header, and the samples of one row.
+ghost use Rattle.std.specs.Prelude.{◌≡◌, ℕ, ◌+◌, ◌*◌, ◌<◌, ◌≤◌, true, false, length, map, min, IfOk};
+ghost use Rattle.bitmap_input.specs.Reading.{Reads, Any, Same, Leaves, TakesNone};
+ghost use Rattle.bitmap_input.specs.Parts.{times};
+ghost use Rattle.bitmap_input.specs.Samples.{samples_in, samples, plain_sample, sample_bytes, raw_samples_row};
+ghost use Rattle.bitmap_input.specs.declared.channels.Channels.TheVariants as channels;
+ghost use Rattle.bitmap_input.specs.Header.{magic_of};
+ghost use Rattle.bitmap_input.specs.GrayRows.{ChecksKind, gray_alone, gray_kind, gray_magic, header_end, gray_header, gray_header_behind, lowered};
+
+use crate::channels::Channels;
+use crate::fault::InFault;
+use crate::header::{Format, GREATEST_MAXVAL, read_magic, read_maxval, read_sides, skip_space};
+use crate::number::{Part, read_number_behind_gap};
+use crate::raw::read_block;
+use crate::run::{Run, skip};
+use crate::samples::{is_wide, sample_at};
+use crate::stop::Stop;
+use crate::window::Window;
+use pt_base::inputs::Inputs;
+use pt_base::limits::LONGEST_SIDE;
+
+/// The header of a gray page.
+#[derive(Clone, Copy, Debug)]
+pub(crate) struct GrayHeader {
+    pub(crate) plain: bool,
+    pub(crate) width: u32,
+    pub(crate) height: u32,
+    /// The sample that is white.
+    pub(crate) white: u32,
+}
+
+/// Whether a page of such samples is plain, where they are gray.
+fn check_gray(channels: Channels, plain: bool) -> Result<bool, Stop>
+    ensures checks { ChecksKind (gray_alone plain channels) result }
+    ensures free { TakesNone result }
+{
+    match channels {
+        Channels::Gray => Ok(plain),
+        Channels::Color => Err(Stop::Fault(InFault::UnknownFormat)),
+    }
+}
+
+/// Whether a gray page of this format is plain.
+fn kind_of(format: Format) -> Result<bool, Stop>
+    ensures checks { ChecksKind (gray_kind (magic_of format)) result }
+    ensures free { TakesNone result }
+{
+    match format {
+        Format::PlainSamples(channels) => check_gray(channels, true),
+        Format::RawSamples(channels) => check_gray(channels, false),
+        Format::PlainBits => Err(Stop::Fault(InFault::UnknownFormat)),
+        Format::RawBits => Err(Stop::Fault(InFault::UnknownFormat)),
+        Format::Picture => Err(Stop::Fault(InFault::UnknownFormat)),
+    }
+}
+
+/// The magic of a gray page: whether it is plain.
+fn read_gray_kind<I: Inputs>(window: &mut Window, inputs: &mut I) -> Result<bool, Stop>
+    requires { I.is_opened inputs.old ≡ true }
+    ensures reads { Reads Same gray_magic window.old (I.files inputs.old) result window.new
+        (I.files inputs.new) }
+    ensures leaves { Leaves I.Inputs result inputs.old inputs.new }
+    ensures free { TakesNone result }
+{
+    let format = read_magic(window, inputs, false)?;
+    kind_of(format)
+}
+
+/// Goes on behind the byte that ends a raw page's header.
+fn end_header<I: Inputs>(window: &mut Window, inputs: &mut I, plain: bool) -> Result<(), Stop>
+    requires { I.is_opened inputs.old ≡ true }
+    ensures reads { Reads Any (header_end plain) window.old (I.files inputs.old) result window.new
+        (I.files inputs.new) }
+    ensures leaves { Leaves I.Inputs result inputs.old inputs.new }
+    ensures free { TakesNone result }
+{
+    if plain {
+        Ok(())
+    } else {
+        skip_space(window, inputs)
+    }
+}
+
+/// What follows the magic in a gray page's header.
+fn read_behind_kind<I: Inputs>(
+    window: &mut Window,
+    inputs: &mut I,
+    plain: bool,
+) -> Result<GrayHeader, Stop>
+    requires { I.is_opened inputs.old ≡ true }
+    ensures reads { Reads Same (gray_header_behind plain) window.old (I.files inputs.old) result
+        window.new (I.files inputs.new) }
+    ensures leaves { Leaves I.Inputs result inputs.old inputs.new }
+    ensures free { TakesNone result }
+    ensures width { IfOk result (λ h. (1 ≤ h.width) × (h.width ≤ LONGEST_SIDE)) }
+    ensures height { IfOk result (λ h. (1 ≤ h.height) × (h.height ≤ LONGEST_SIDE)) }
+    ensures white { IfOk result (λ h. (1 ≤ h.white) × (h.white ≤ GREATEST_MAXVAL)) }
+{
+    let sides = read_sides(window, inputs)?;
+    let white = read_maxval(window, inputs)?;
+    end_header(window, inputs, plain)?;
+    Ok(GrayHeader {
+        plain,
+        width: sides.width,
+        height: sides.height,
+        white,
+    })
+}
+
+/// The header of a gray page, which is the first page of its file.
+pub(crate) fn read_gray_header<I: Inputs>(
+    window: &mut Window,
+    inputs: &mut I,
+) -> Result<GrayHeader, Stop>
+    requires { I.is_opened inputs.old ≡ true }
+    ensures reads { Reads Same gray_header window.old (I.files inputs.old) result window.new
+        (I.files inputs.new) }
+    ensures leaves { Leaves I.Inputs result inputs.old inputs.new }
+    ensures free { TakesNone result }
+    ensures width { IfOk result (λ h. (1 ≤ h.width) × (h.width ≤ LONGEST_SIDE)) }
+    ensures height { IfOk result (λ h. (1 ≤ h.height) × (h.height ≤ LONGEST_SIDE)) }
+    ensures white { IfOk result (λ h. (1 ≤ h.white) × (h.white ≤ GREATEST_MAXVAL)) }
+{
+    skip(window, inputs, Run::Space)?;
+    let plain = read_gray_kind(window, inputs)?;
+    read_behind_kind(window, inputs, plain)
+}
+
+/// The samples of a row of bytes.
+fn unpack(line: &[u8], wide: bool, row: &mut [u16])
+    requires whole { length (samples wide line.now) ≡ length row.old }
+    ensures { row.new ≡ samples wide line.now }
+{
+    for x in 0..row.len() {
+        row[x] = sample_at(line, wide, x) as u16;
+    }
+}
+
+/// One row of a raw gray page, with room for its bytes.
+pub(crate) fn read_raw_gray_row<I: Inputs>(
+    window: &mut Window,
+    inputs: &mut I,
+    white: u32,
+    line: &mut [u8],
+    row: &mut [u16],
+) -> Result<(), Stop>
+    requires opened { I.is_opened inputs.old ≡ true }
+    requires whole { length line.old ≡ sample_bytes white (samples_in channels.Gray * length row.old) }
+    ensures reads { Reads (λ _ values. row.new ≡ values) (raw_samples_row channels.Gray white (length row.old)) window.old
+        (I.files inputs.old) result window.new (I.files inputs.new) }
+    ensures leaves { Leaves I.Inputs result inputs.old inputs.new }
+    ensures free { TakesNone result }
+    ensures same_room { length row.new ≡ length row.old }
+{
+    read_block(window, inputs, line)?;
+    unpack(line, is_wide(white), row);
+    Ok(())
+}
+
+/// One row of a plain gray page. A sample above 65535 is given as 65535.
+pub(crate) fn read_plain_gray_row<I: Inputs>(
+    window: &mut Window,
+    inputs: &mut I,
+    row: &mut [u16],
+) -> Result<(), Stop>
+    requires opened { I.is_opened inputs.old ≡ true }
+    ensures reads { Reads (λ _ values. row.new ≡ map lowered values)
+        (times plain_sample (length row.old)) window.old
+        (I.files inputs.old) result window.new (I.files inputs.new) }
+    ensures leaves { Leaves I.Inputs result inputs.old inputs.new }
+    ensures free { TakesNone result }
+    ensures same_room { length row.new ≡ length row.old }
+{
+    for x in 0..row.len() {
+        let sample = read_number_behind_gap(window, inputs, Part::Raster)?;
+        row[x] = sample.min(GREATEST_MAXVAL) as u16;
+    }
+    Ok(())
+}

@@ -1,0 +1,81 @@
+-- The rows of the larger page from the reliefs that are held.
+use Rattle.std.proofs.Common.{◌≡◌, ℕ, ◌+◌, ◌-◌, ◌*◌, ◌<◌, ◌≤◌, Bool, true, false, List, length, get_or, arith, sym, ap, ◌∙◌, inl, inr}
+use Rattle.std.specs.Prelude.{◌&&◌, if◌then◌else◌, nat_eq, nat_le, nat_lt}
+use Rattle.bit_image.specs.PbmText.{row_text}
+use Rattle.std.proofs.Math.Path.{fun_ext}
+use Rattle.std.proofs.lemmas.Nat.{mul-le}
+use Rattle.std.proofs.lemmas.Bool.{cases_lt, le-ltb}
+use Rattle.std.proofs.lemmas.List.{get_or_past}
+use Rattle.mkbitmap.specs.Box.{Gray, box_count, box_area, box_sum}
+use Rattle.mkbitmap.specs.Relief.{raised_by, raised_of}
+use Rattle.mkbitmap.specs.Enlarged.{after_of, distance_behind, before_within, mix, mixed_column, mixed_raised, dark}
+use Rattle.mkbitmap.specs.Packing.{padded}
+use Rattle.mkbitmap.specs.Follows.{HasRoom, HoldsRows, Follows, AreRaised}
+use Rattle.mkbitmap.specs.declared.filter.Filter.{Filter}
+use Rattle.mkbitmap.proofs.Raising.{raised-most}
+
+-- a box has a pixel
+area_some : (page : Gray) (radius x y : ℕ) → x < page.width → y < page.height → 0 < box_area page radius x y
+area_some page radius x y in_row in_page =
+    let one : 1 * 1 ≤ box_count radius page.width x * box_count radius page.height y = mul-le 1 1 _ _ (omega arith) (omega arith) in
+    omega (arith, one)
+
+relief_by_most : (t : Bool) (sample sum area white : ℕ) → 0 < area → sample ≤ white
+    → (if t then 256 * sample + 128 * white else raised_by sample sum area white) ≤ 512 * white
+relief_by_most true sample sum area white some most = omega arith
+relief_by_most false sample sum area white some most = raised-most sample sum area white some most
+
+raised_of-most : (page : Gray) (radius x y : ℕ) → page.sample x y ≤ page.white → x < page.width → y < page.height
+    → raised_of page radius x y ≤ 512 * page.white
+raised_of-most page radius x y bright in_row in_page =
+    relief_by_most (nat_eq radius 0) (page.sample x y) (box_sum page radius x y) (box_area page radius x y) page.white (area_some page radius x y in_row in_page) bright
+
+-- the reliefs that are held fit
+pub held_most : (page : Gray) (f : Filter) (reliefs : List ℕ) (u : ℕ) → HasRoom f → HoldsRows page f → length reliefs ≡ f.width
+    → AreRaised page f reliefs (before_within f.height u) → (x : ℕ) → get_or reliefs x 0 ≤ 33553920
+held_most page f reliefs u room holds wide raised x =
+    elim (cases_lt x f.width) [
+      | inl within ↦
+          let most : raised_of page f.radius x (before_within f.height u) ≤ 512 * page.white
+          = raised_of-most page f.radius x (before_within f.height u) (rw holds.white (holds.bright x (before_within f.height u)))
+          (omega (arith, within, holds.width)) (omega (arith, room.some_rows, holds.height)) in
+          rw (raised x within) (omega (arith, most, holds.white, room.white))
+      | inr past ↦ rw (get_or_past reliefs x 0 (omega (arith, wide, past))) (omega arith)
+    ]
+
+-- a column of the page above and below a row of the larger page
+pub column_is : (page : Gray) (f : Filter) (times y p : ℕ) (upper lower : List ℕ) → Follows page f → 1 ≤ f.pairs → f.pairs ≡ after_of times y + 1
+    → p ≡ distance_behind times y → upper ≡ f.upper.items → lower ≡ f.lower.items → (x : ℕ) → x < f.width
+    → mix (2 * times) p (get_or upper x 0) (get_or lower x 0) ≡ mixed_column page f.radius times y x
+column_is page f times y p upper lower follows some pairs part up low x within =
+    let u : f.pairs - 1 ≡ after_of times y = omega (arith, pairs) in
+    let above : get_or upper x 0 ≡ raised_of page f.radius x (before_within page.height (after_of times y))
+    = ap (λ l. get_or l x 0) up ∙ follows.upper some x within ∙ ap (λ k. raised_of page f.radius x (before_within f.height k)) u
+    ∙ ap (λ h. raised_of page f.radius x (before_within h (after_of times y))) (sym follows.holds.height) in
+    let below : get_or lower x 0 ≡ raised_of page f.radius x (before_within page.height (after_of times y + 1))
+    = ap (λ l. get_or l x 0) low ∙ follows.lower some x within ∙ ap (λ k. raised_of page f.radius x (before_within f.height k)) pairs
+    ∙ ap (λ h. raised_of page f.radius x (before_within h (after_of times y + 1))) (sym follows.holds.height) in
+    λ i. mix (2 * times) (part i) (above i) (below i)
+
+padded_same : (width : ℕ) (black other : ℕ → Bool) → ((X : ℕ) → X < width → black X ≡ other X) → (X : ℕ) → padded width black X ≡ padded width other X
+padded_same width black other same X =
+    elim (cases_lt X width) [
+      | inl within ↦ ap (λ t. nat_lt X width && t) (same X within)
+      | inr past ↦
+          let none : nat_lt X width ≡ false = le-ltb X width past in
+          ap (λ t. t && black X) none ∙ sym (ap (λ t. t && other X) none)
+    ]
+
+-- the same row
+pub packed_same : (width : ℕ) (black other : ℕ → Bool) → ((X : ℕ) → X < width → black X ≡ other X) → row_text width (padded width black) ≡ row_text width (padded width other)
+packed_same width black other same =
+    ap (λ (p : ℕ → Bool). row_text width p) (fun_ext (padded_same width black other same))
+
+-- whether a pixel is dark by the mixed columns
+pub dark_is : (page : Gray) (radius times limit y X : ℕ) (columns : List ℕ)
+    → ((u : ℕ) → u < page.width + 2 → get_or columns u 0 ≡ mixed_column page radius times y (before_within page.width u))
+    → after_of times X + 1 < page.width + 2 → dark columns times limit X ≡ nat_le (mixed_raised page radius times X y) limit
+dark_is page radius times limit y X columns is within =
+    let left = is (after_of times X) (omega (arith, within)) in
+    let right = is (after_of times X + 1) within in
+    λ i. nat_le (mix (2 * times) (distance_behind times X) (left i) (right i)) limit

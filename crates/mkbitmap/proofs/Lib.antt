@@ -1,0 +1,10 @@
+pub mod Adding
+pub mod Raising
+pub mod Filling
+pub mod Placing
+pub mod Bytes
+pub mod Following
+pub mod Lifting
+pub mod Enlarging
+pub mod Mixing
+pub mod Examples

@@ -1,0 +1,11 @@
+use Rattle.std.proofs.Common.{◌≡◌, ◌-◌}
+use Rattle.mkbitmap.specs.Enlarged.{dark}
+use Rattle.mkbitmap.specs.Packing.{bits_value, padded}
+use Rattle.mkbitmap.specs.Place.{IsPlaceOf}
+use Rattle.mkbitmap.proofs.enlarge.byte_at.Given as goal
+
+abbrev pub invariant-loop-x : goal.invariant-loop-x
+invariant-loop-x l = record {
+  place : IsPlaceOf l.times l.x l.place;
+  value : l.byte ≡ bits_value (padded l.end (dark l.mixed l.times l.limit)) l.column (l.x - l.column);
+}

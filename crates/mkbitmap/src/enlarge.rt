@@ -1,0 +1,138 @@
+//! The rows of the larger page.
+ghost use Rattle.std.specs.Prelude.{◌≡◌, ℕ, ◌+◌, ◌-◌, ◌*◌, ◌/◌, ◌≤◌, ◌<◌, length, get_or, nat_le};
+ghost use Rattle.mkbitmap.specs.Enlarged.{before_within, mix, dark};
+ghost use Rattle.mkbitmap.specs.Packing.{bit, byte_of, padded};
+ghost use Rattle.mkbitmap.specs.Place.{IsPlaceOf};
+ghost use Rattle.mkbitmap.specs.declared.limits.TheConstants.{GREATEST_TIMES};
+ghost use Rattle.pt_base.specs.declared.limits.TheConstants.{LONGEST_SIDE};
+ghost use Rattle.bit_image.specs.PbmText.{row_text};
+
+/// Mixes the reliefs above and below a row of the larger page. The columns of the page are those from
+/// 1 on; before and behind them stand the first one and the last one once more.
+pub(crate) fn mix_row(upper: &[u32], lower: &[u32], part: u32, whole: u32, mixed: &mut [u32])
+    requires some { 0 < length upper.now }
+    requires same { length lower.now ≡ length upper.now }
+    requires room { length mixed.old ≡ length upper.now + 2 }
+    requires part { part < whole }
+    requires whole { whole ≤ 16 }
+    requires upper { (x : ℕ) → get_or upper.now x 0 ≤ 33553920 }
+    requires lower { (x : ℕ) → get_or lower.now x 0 ≤ 33553920 }
+    ensures same_room { length mixed.new ≡ length mixed.old }
+    ensures value { (u : ℕ) → u < length mixed.old → get_or mixed.new u 0
+        ≡ mix whole part (get_or upper.now (before_within (length upper.now) u) 0)
+        (get_or lower.now (before_within (length upper.now) u) 0) }
+{
+    let width = upper.len();
+    for u in 0..mixed.len() {
+        let x = u.saturating_sub(1).min(width - 1);
+        mixed[u] = (whole - part) * upper[x] + part * lower[x];
+    }
+}
+
+/// Where the centre of a pixel of the larger page lies among those of the page.
+#[derive(Clone, Copy, Debug)]
+pub(crate) struct Place {
+    /// The first centre behind it, counted from 0: as many columns, or rows, are before it.
+    pub(crate) after: u32,
+    /// How far it is behind the one before, in units of which a pixel of the page has twice as many as
+    /// it is enlarged times.
+    pub(crate) part: u32,
+}
+
+impl Place {
+    /// The place of a column or of a row of the larger page.
+    pub(crate) fn of(times: u32, column: u32) -> Place
+        requires least { 1 ≤ times }
+        requires most { times ≤ GREATEST_TIMES }
+        requires column { column ≤ LONGEST_SIDE }
+        ensures { IsPlaceOf times column result }
+    {
+        let twice = 2 * column + 1 + times;
+        Place {
+            after: twice / (2 * times),
+            part: twice % (2 * times),
+        }
+    }
+
+    /// The place of the next one.
+    fn next(self, times: u32) -> Place
+        requires least { 1 ≤ times }
+        requires most { times ≤ GREATEST_TIMES }
+        requires after { self.after ≤ 65536 }
+        requires part { self.part < 2 * times }
+        ensures { (X : ℕ) → IsPlaceOf times X self → IsPlaceOf times (X + 1) result }
+    {
+        if self.part + 2 < 2 * times {
+            Place {
+                after: self.after,
+                part: self.part + 2,
+            }
+        } else {
+            Place {
+                after: self.after + 1,
+                part: self.part + 2 - 2 * times,
+            }
+        }
+    }
+}
+
+/// Whether the mixture of two neighbours is dark enough.
+fn is_dark(mixed: &[u32], after: u32, part: u32, whole: u32, limit: u64) -> bool
+    requires within { after + 1 < length mixed.now }
+    requires part { part < whole }
+    requires whole { whole ≤ 16 }
+    ensures { result ≡ nat_le (mix whole part (get_or mixed.now after 0)
+        (get_or mixed.now (after + 1) 0)) limit }
+{
+    let left = u64::from(whole - part) * u64::from(mixed[after as usize]);
+    let right = u64::from(part) * u64::from(mixed[after as usize + 1]);
+    left + right <= limit
+}
+
+/// What the pixel in a column adds to its byte. The row has no pixels from `end` on.
+fn pixel(mixed: &[u32], place: Place, times: u32, limit: u64, x: u32, end: u32) -> u32
+    requires least { 1 ≤ times }
+    requires most { times ≤ GREATEST_TIMES }
+    requires place { IsPlaceOf times x place }
+    requires columns { end + 2 * times ≤ times * length mixed.now }
+    ensures value { result ≡ bit (padded end (dark mixed.now times limit) x) }
+    ensures most { result ≤ 1 }
+{
+    if x < end && is_dark(mixed, place.after, place.part, 2 * times, limit) {
+        1
+    } else {
+        0
+    }
+}
+
+/// Eight pixels of a row of the larger page as a byte, from a column on. The row has no pixels from
+/// `end` on.
+fn byte_at(mixed: &[u32], times: u32, limit: u64, column: u32, end: u32) -> u8
+    requires least { 1 ≤ times }
+    requires most { times ≤ GREATEST_TIMES }
+    requires column { column ≤ LONGEST_SIDE }
+    requires columns { end + 2 * times ≤ times * length mixed.now }
+    ensures { result ≡ byte_of (padded end (dark mixed.now times limit)) column }
+{
+    let mut place = Place::of(times, column);
+    let mut byte = 0;
+    for x in column..column + 8 {
+        byte = 2 * byte + pixel(mixed, place, times, limit, x, end);
+        place = place.next(times);
+    }
+    byte as u8
+}
+
+/// A row of the larger page, packed.
+pub(crate) fn pack_row(mixed: &[u32], times: u32, limit: u64, end: u32, row: &mut [u8])
+    requires least { 1 ≤ times }
+    requires most { times ≤ GREATEST_TIMES }
+    requires end { end ≤ LONGEST_SIDE }
+    requires columns { end + 2 * times ≤ times * length mixed.now }
+    requires room { length row.old ≡ (end + 7) / 8 }
+    ensures { row.new ≡ row_text end (padded end (dark mixed.now times limit)) }
+{
+    for k in 0..row.len() {
+        row[k] = byte_at(mixed, times, limit, 8 * k as u32, end);
+    }
+}

@@ -1,0 +1,130 @@
+//! How far the samples of a row stand out from the mean of the boxes around them.
+ghost use Rattle.std.specs.Prelude.{◌≡◌, ℕ, ◌+◌, ◌-◌, ◌*◌, ◌≤◌, ◌<◌, length, get_or, if◌then◌else◌, nat_eq};
+ghost use Rattle.mkbitmap.specs.Box.{sum_between, box_from, box_end, box_count};
+ghost use Rattle.mkbitmap.specs.Relief.{raised_by};
+ghost use Rattle.mkbitmap.specs.declared.limits.TheConstants.{GREATEST_RADIUS};
+
+/// The relief of a sample, raised, where the box around it has this sum and so many pixels.
+fn raised(sample: u32, sum: u32, area: u32, white: u32) -> u32
+    requires some { 0 < area }
+    requires area { area ≤ 16641 }
+    requires white { white ≤ 65535 }
+    requires sample { sample ≤ white }
+    requires sum { sum ≤ area * white }
+    ensures value { result ≡ raised_by sample sum area white }
+    ensures most { result ≤ 512 * white }
+{
+    let above = u64::from(area) * u64::from(sample + white) - u64::from(sum);
+    (256 * above / u64::from(area)) as u32
+}
+
+/// The sum with the one of this column, where there is one.
+fn with_column(columns: &[u32], at: usize, sum: u32) -> u32
+    requires { sum + get_or columns.now at 0 < 4294967296 }
+    ensures { result ≡ sum + get_or columns.now at 0 }
+{
+    if at < columns.len() {
+        sum + columns[at]
+    } else {
+        sum
+    }
+}
+
+/// The sum of the columns of a box, from that of the box one column to its left.
+fn slid(columns: &[u32], x: usize, radius: usize, sum: u32) -> u32
+    requires column { x < length columns.now }
+    requires radius { radius ≤ GREATEST_RADIUS }
+    requires columns { (a : ℕ) → get_or columns.now a 0 ≤ 8454015 }
+    requires sum { sum
+        ≡ sum_between (λ a. get_or columns.now a 0) (x - (radius + 1)) (x + radius) }
+    ensures { result
+        ≡ sum_between (λ a. get_or columns.now a 0) (x - radius) (x + radius + 1) }
+{
+    let grown = with_column(columns, x + radius, sum);
+    if radius < x {
+        grown - columns[x - radius - 1]
+    } else {
+        grown
+    }
+}
+
+/// The reliefs, raised, of the samples of a row, from the sums of the columns over the rows of the boxes.
+fn raise_by_boxes(
+    columns: &[u32],
+    samples: &[u16],
+    rows: u32,
+    radius: usize,
+    white: u32,
+    relief: &mut [u32],
+)
+    requires whole { length samples.now ≡ length columns.now }
+    requires room { length relief.old ≡ length columns.now }
+    requires some { 0 < rows }
+    requires rows { rows ≤ 129 }
+    requires radius { radius ≤ GREATEST_RADIUS }
+    requires white { white ≤ 65535 }
+    requires samples { (x : ℕ) → get_or samples.now x 0 ≤ white }
+    requires columns { (x : ℕ) → get_or columns.now x 0 ≤ rows * white }
+    ensures same_room { length relief.new ≡ length relief.old }
+    ensures value { (x : ℕ) → x < length columns.now → get_or relief.new x 0
+        ≡ raised_by (get_or samples.now x 0)
+        (sum_between (λ a. get_or columns.now a 0) (box_from radius x)
+        (box_end radius (length columns.now) x))
+        (box_count radius (length columns.now) x * rows) white }
+{
+    let width = columns.len();
+    let mut sum = 0;
+    for x in 0..radius {
+        sum = with_column(columns, x, sum);
+    }
+    for x in 0..width {
+        sum = slid(columns, x, radius, sum);
+        let across = (x + radius + 1).min(width) - x.saturating_sub(radius);
+        relief[x] = raised(samples[x] as u32, sum, across as u32 * rows, white);
+    }
+}
+
+/// The samples of a row as reliefs, raised, where boxes are no larger than pixels.
+fn raise_plainly(samples: &[u16], white: u32, relief: &mut [u32])
+    requires room { length relief.old ≡ length samples.now }
+    requires white { white ≤ 65535 }
+    ensures same_room { length relief.new ≡ length relief.old }
+    ensures value { (x : ℕ) → x < length samples.now
+        → get_or relief.new x 0 ≡ 256 * get_or samples.now x 0 + 128 * white }
+{
+    for x in 0..samples.len() {
+        relief[x] = 256 * samples[x] as u32 + 128 * white;
+    }
+}
+
+/// The reliefs, raised, of the samples of a row, from the sums of the columns over the rows of the boxes.
+pub(crate) fn raise_row(
+    columns: &[u32],
+    samples: &[u16],
+    rows: u32,
+    radius: usize,
+    white: u32,
+    relief: &mut [u32],
+)
+    requires whole { length samples.now ≡ length columns.now }
+    requires room { length relief.old ≡ length columns.now }
+    requires some { 0 < rows }
+    requires rows { rows ≤ 129 }
+    requires radius { radius ≤ GREATEST_RADIUS }
+    requires white { white ≤ 65535 }
+    requires samples { (x : ℕ) → get_or samples.now x 0 ≤ white }
+    requires columns { (x : ℕ) → get_or columns.now x 0 ≤ rows * white }
+    ensures same_room { length relief.new ≡ length relief.old }
+    ensures value { (x : ℕ) → x < length columns.now → get_or relief.new x 0
+        ≡ (if nat_eq radius 0 then 256 * get_or samples.now x 0 + 128 * white
+        else raised_by (get_or samples.now x 0)
+        (sum_between (λ a. get_or columns.now a 0) (box_from radius x)
+        (box_end radius (length columns.now) x))
+        (box_count radius (length columns.now) x * rows) white) }
+{
+    if radius == 0 {
+        raise_plainly(samples, white, relief);
+    } else {
+        raise_by_boxes(columns, samples, rows, radius, white, relief);
+    }
+}
