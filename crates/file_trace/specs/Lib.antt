@@ -19,6 +19,7 @@ pub mod Tasks
 --   AreEndItems: what follows the documents of a file that ends like this
 --   ArePageItems: the items of the pages of a file, and what follows them
 --   AreItems: the items of files in order, and what follows them
+--   AreWhole: each part of the items is a whole document
 pub mod Items
 -- What a run has done, against the items that it was to write.
 --   OpensUpTo: the file of this name is the last one that was asked for

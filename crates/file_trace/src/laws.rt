@@ -3,7 +3,7 @@ ghost use Rattle.std.specs.Prelude.{◌≡◌, ℕ, Bool, List, Option, Some};
 ghost use Rattle.pt_base.specs.Files.{Contents};
 ghost use Rattle.pt_base.specs.declared.settings.Backend.{Backend};
 ghost use Rattle.page_batches.specs.Items.{Item};
-ghost use Rattle.file_trace.specs.Items.{AreItems, Nothing};
+ghost use Rattle.file_trace.specs.Items.{AreItems, AreWhole, Nothing};
 ghost use Rattle.file_trace.specs.Manner.{HasTexts, manner_by};
 
 use page_workers::job::PageJob;
@@ -24,4 +24,12 @@ pub fn items_are_one<J: PageJob>(job: &J)
         → AreItems (Some contents) (manner_by level invert output backend (J.belongs job.now)) Nothing names made items
         → AreItems (Some contents) (manner_by level invert output backend (J.belongs job.now)) Nothing names made others
         → items ≡ others }
+{}
+
+/// Each document of such a list is one part: it is written whole, or cut off.
+pub fn documents_are_whole<J: PageJob>(job: &J)
+    ensures { (level : ℕ) (invert : Bool) (output : Option (List ℕ)) (backend : Backend)
+        (contents : Option Contents) (names made : List (List ℕ)) (items : List Item)
+        → AreItems contents (manner_by level invert output backend (J.belongs job.now)) Nothing names made items
+        → AreWhole items }
 {}

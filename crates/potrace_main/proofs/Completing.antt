@@ -17,10 +17,10 @@ use Rattle.page_batches.specs.Items.{Doc, GoesOn, Item}
 use Rattle.page_batches.specs.Items.Item.{Missing, Note, Stop, Write}
 use Rattle.page_batches.specs.Outcome.{AreCarriedOut, HasEnded}
 use Rattle.run_output.specs.Told.{Sinks, Source}
-use Rattle.file_trace.specs.Items.{AreItems, IsAbsent, Nothing, told_contents}
+use Rattle.file_trace.specs.Items.{AreItems, AreWhole, IsAbsent, Nothing, told_contents}
 use Rattle.file_trace.specs.Manner.{HasTexts, Manner}
 use Rattle.file_trace.specs.Outcome.{IsOutcome}
-use Rattle.file_trace.proofs.Closing.{AllEnd, AllEnd-front, alone_end, carried_closed, items_end, nothing_ends}
+use Rattle.file_trace.proofs.Closing.{AreWhole-front, alone_end, carried_closed, items_end, nothing_ends}
 use Rattle.file_trace.proofs.Exists.{items_found}
 use Rattle.file_trace.proofs.Joining.{items_behind}
 use Rattle.page_demo.proofs.Found.{demo_found}
@@ -203,17 +203,17 @@ out_at_once law (asks.Files names output workers settings) source a b can done =
 
 -- How the outputs moved, by the outcome.
 
-carried_moves : (items : List Item) (last : List (List ℕ)) (a b : Sinks) → AllEnd items → a.is_open ≡ false → AreCarriedOut items last a b
+carried_moves : (items : List Item) (last : List (List ℕ)) (a b : Sinks) → AreWhole items → a.is_open ≡ false → AreCarriedOut items last a b
     → (b.outs.faults ≡ a.outs.faults) × (b.is_open ≡ false) × (b.outs.failures.count ≡ a.outs.failures.count)
 carried_moves items last a b all closed done = let (steady, shut) = carried_closed items last a b done all closed in (steady, shut, done.went)
 
-ended_moves : (s : Status) (items : List Item) (a b : Sinks) → AllEnd items → a.is_open ≡ false → HasEnded s items a b → OutputsMove s a b
+ended_moves : (s : Status) (items : List Item) (a b : Sinks) → AreWhole items → a.is_open ≡ false → HasEnded s items a b → OutputsMove s a b
 ended_moves status.Done items a b all closed done = carried_moves items [] a b all closed done
 ended_moves status.BadWords items a b all closed ended = absurd ended
-ended_moves status.Refused items a b all closed r = carried_moves r.before (r.message ∷ []) a b (AllEnd-front r.before (Stop r.message ∷ []) (subst AllEnd r.split all)) closed r.done
+ended_moves status.Refused items a b all closed r = carried_moves r.before (r.message ∷ []) a b (AreWhole-front r.before (Stop r.message ∷ []) (subst AreWhole r.split all)) closed r.done
 ended_moves status.Unread items a b all closed ended = absurd ended
 ended_moves status.Unwritten items a b all closed u = (u.rose, u.failed)
-ended_moves status.OutOfMemory items a b all closed o = carried_moves o.before (out_of_memory ∷ []) a b (AllEnd-front o.before o.after (subst AllEnd o.split all)) closed o.done
+ended_moves status.OutOfMemory items a b all closed o = carried_moves o.before (out_of_memory ∷ []) a b (AreWhole-front o.before o.after (subst AreWhole o.split all)) closed o.done
 
 files_move : (s : Status) (manner : Manner) (names : List (List ℕ)) (source now : Source) (a b : Sinks) → a.is_open ≡ false
     → IsOutcome s manner names source now a b → OutputsMove s a b
@@ -221,14 +221,14 @@ files_move s manner names source now a b closed outcome = by_status s outcome wh
   told : Option Contents
   told = told_contents source.files
 
-  whole : (items : List Item) → AreItems told manner Nothing names [] items → AllEnd items
+  whole : (items : List Item) → AreItems told manner Nothing names [] items → AreWhole items
   whole items are = items_end told manner Nothing nothing_ends names [] items are
 
   by_status : (s : Status) → IsOutcome s manner names source now a b → OutputsMove s a b
   by_status status.Done (items, are, done, opens) = carried_moves items [] a b (whole items are) closed done
   by_status status.BadWords (items, are, ended) = absurd ended
   by_status status.Refused r =
-      carried_moves r.before (r.message ∷ []) a b (AllEnd-front r.before (Stop r.message ∷ []) (whole (r.before ++ Stop r.message ∷ []) r.all)) closed r.done
+      carried_moves r.before (r.message ∷ []) a b (AreWhole-front r.before (Stop r.message ∷ []) (whole (r.before ++ Stop r.message ∷ []) r.all)) closed r.done
   by_status status.Unread (inl u) =
       carried_moves u.before (not_opened u.name ∷ []) a b (items_end told manner Nothing nothing_ends u.front [] u.before u.items) closed u.done
   by_status status.Unread (inr u) =
