@@ -179,7 +179,7 @@ fn from_start(alloc: Global, points: &[Point], start: usize) -> Result<Found, Fa
     }
     let found = polygon(alloc, &turned)?;
     for index in found.at.as_slice() {
-        at.push(index.wrapping_add(start as u32))?;
+        at.push(index.wrapping_add((start % (1 << 32)) as u32))?;
     }
     Ok(Found {
         at,
