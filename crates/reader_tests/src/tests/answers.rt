@@ -71,7 +71,12 @@ fn answers(
 }
 
 /// Inputs with one file.
-pub(super) fn file(alloc: Global, bytes: &[u8], most: u32, fails: &[InCall]) -> Result<MemInputs, Fail>
+pub(super) fn file(
+    alloc: Global,
+    bytes: &[u8],
+    most: u32,
+    fails: &[InCall],
+) -> Result<MemInputs, Fail>
     requires { 1 ≤ most }
 {
     let file = NamedBytes {

@@ -29,9 +29,7 @@ fn rows(alloc: Global, bytes: &[u8], most: u32, fails: &[InCall]) -> Result<Stri
         Ok(head) => head,
         Err(fault) => return ended(text, format!(in alloc; "{fault}")?.as_str()),
     };
-    text.push_str(
-        format!(in alloc; "{} {} {}", head.width, head.height, head.maxval)?.as_str(),
-    )?;
+    text.push_str(format!(in alloc; "{} {} {}", head.width, head.height, head.maxval)?.as_str())?;
     let mut row = vec![in alloc; 0u16; head.width as usize]?;
     for _y in 0..head.height {
         match reader.row(&mut inputs, &mut row) {
