@@ -225,14 +225,19 @@ module _ (d m e : Offset) (a : ℤ) (right : pos 0 ≤ℤ d.x) (up : pos 0 ≤�
     (here : IsAcross (d.x +ℤ d.y) a) (middle : IsAcross (d.x +ℤ d.y) (a +ℤ cross_of d m)) (end : IsAcross (d.x +ℤ d.y) (a +ℤ cross_of d e)) where
   h0 : pos 0 ≤ℤ a
   h0 = here.0
+
   h1 : a ≤ℤ (d.x +ℤ d.y)
   h1 = here.1
+
   m0 : pos 0 ≤ℤ (a +ℤ cross_of d m)
   m0 = middle.0
+
   m1 : (a +ℤ cross_of d m) ≤ℤ (d.x +ℤ d.y)
   m1 = middle.1
+
   e0 : pos 0 ≤ℤ (a +ℤ cross_of d e)
   e0 = end.0
+
   e1 : (a +ℤ cross_of d e) ≤ℤ (d.x +ℤ d.y)
   e1 = end.1
 
@@ -297,22 +302,22 @@ module _ (d m e : Offset) (a : ℤ) (right : pos 0 ≤ℤ d.x) (up : pos 0 ≤�
         | inr y ↦ is_up d.x d.y m.x m.y right (omega (arith, ints)) y (omega (arith, ints, m1, h0))
       ]) far before)
       (λ l. by_lt_z m.y (pos 0)
-        (λ n. along_row (elim far [
-          | inl x ↦ is_right d.x d.y m.x m.y up (omega (arith, ints)) x (omega (arith, ints, m0, h1))
-          | inr y ↦ absurd (omega (arith, ints))
-        ]) far before)
-        (λ n. by_lt_z e.x m.x
-          (λ o. along_column (elim before [
-            | inl x ↦ absurd (omega (arith, ints))
-            | inr y ↦ is_up d.x d.y (e.x -ℤ m.x) (e.y -ℤ m.y) right (omega (arith, ints)) (omega (arith, ints)) (rw k (omega (arith, ints, m0, e1)))
-          ]) far before)
-          (λ o. by_lt_z e.y m.y
-            (λ q. along_row (elim before [
-              | inl x ↦ is_right d.x d.y (e.x -ℤ m.x) (e.y -ℤ m.y) up (omega (arith, ints)) (omega (arith, ints)) (rw k (omega (arith, ints, m1, e0)))
-              | inr y ↦ absurd (omega (arith, ints))
-            ]) far before)
-            (λ q. near_between d m e a some (omega (arith, ints)) (omega (arith, ints))
-              (elim far [ inl x ↦ omega (arith, ints) | inr y ↦ omega (arith, ints) ]) here middle end))))
+      (λ n. along_row (elim far [
+        | inl x ↦ is_right d.x d.y m.x m.y up (omega (arith, ints)) x (omega (arith, ints, m0, h1))
+        | inr y ↦ absurd (omega (arith, ints))
+      ]) far before)
+      (λ n. by_lt_z e.x m.x
+      (λ o. along_column (elim before [
+        | inl x ↦ absurd (omega (arith, ints))
+        | inr y ↦ is_up d.x d.y (e.x -ℤ m.x) (e.y -ℤ m.y) right (omega (arith, ints)) (omega (arith, ints)) (rw k (omega (arith, ints, m0, e1)))
+      ]) far before)
+      (λ o. by_lt_z e.y m.y
+      (λ q. along_row (elim before [
+        | inl x ↦ is_right d.x d.y (e.x -ℤ m.x) (e.y -ℤ m.y) up (omega (arith, ints)) (omega (arith, ints)) (rw k (omega (arith, ints, m1, e0)))
+        | inr y ↦ absurd (omega (arith, ints))
+      ]) far before)
+      (λ q. near_between d m e a some (omega (arith, ints)) (omega (arith, ints))
+      (elim far [ inl x ↦ omega (arith, ints) | inr y ↦ omega (arith, ints) ]) here middle end))))
 
   not_far : (P : Type 0) → (IsFar → P) → (m.x ≤ℤ pos 1 → m.y ≤ℤ pos 1 → P) → P
   not_far P far near = by_lt_z (pos 1) m.x (λ l. far (inl (omega (arith, ints)))) (λ l. by_lt_z (pos 1) m.y (λ n. far (inr (omega (arith, ints)))) (λ n. near l n))
@@ -325,7 +330,7 @@ module _ (d m e : Offset) (a : ℤ) (right : pos 0 ≤ℤ d.x) (up : pos 0 ≤�
   near_in_quarter =
       not_far (IsNear m e)
       (λ far. not_before (IsNear m e) (λ before. by_cases far before)
-        (λ l n. near_end m e (omega (arith, ints), omega (arith, ints)) (omega (arith, ints), omega (arith, ints))))
+      (λ l n. near_end m e (omega (arith, ints), omega (arith, ints)) (omega (arith, ints), omega (arith, ints))))
       (λ l n. small_is_near m e (record { x = omega (arith, ints); y = omega (arith, ints) }))
 
 -- ---- in any quarter

@@ -72,10 +72,10 @@ module _ (f : ℕ → ℤ) (s r : ℕ) (c : ℤ) (along : (t : ℕ) → t ≤ r 
       let a = takes.least in
       let b = takes.greatest in
       let wider = λ (z : ℤ) (in_old : IsFromTo old.least old.greatest z).
-          let least = in_old.least in
-          let most = in_old.most in
-          let w : IsFromTo new.least new.greatest z = record { least = omega (arith, ints); most = omega (arith, ints) } in
-          w in
+      let least = in_old.least in
+      let most = in_old.most in
+      let w : IsFromTo new.least new.greatest z = record { least = omega (arith, ints); most = omega (arith, ints) } in
+      w in
       elim (cases_lt s k) [
         | inl later ↦
             let e : s + (k - s) ≡ k = omega arith in

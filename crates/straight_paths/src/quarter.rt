@@ -114,4 +114,3 @@ fn signed(sign: i64, number: i64) -> i64
 {
     sign * number
 }
-
