@@ -65,7 +65,14 @@ const CHECKED: &[(&str, &str, u8, &[&str], &str)] = &[
 #[test]
 fn runs_of_the_checker(rt: HostRuntime) -> Result<(), Fail> {
     for (words, input, status, documents, said) in CHECKED {
-        let same = ends_so(rt.alloc(), words, input.as_bytes(), *status, documents, said)?;
+        let same = ends_so(
+            rt.alloc(),
+            words,
+            input.as_bytes(),
+            *status,
+            documents,
+            said,
+        )?;
         assert!(rt; same, "{input}");
     }
     Ok(())
