@@ -4,6 +4,16 @@
 //! pixel's left side, and follows the edges between black and white pixels until it comes to its
 //! first edge again. The pixels inside are then inverted, and the next path starts from what is
 //! black now, until the page is white.
+//!
+//! ```rust
+//! use path_decompose::decomposition::decompose_above;
+//! use pt_base::policy::Policy;
+//!
+//! // The paths of a page, but for those with two pixels inside or less.
+//! for path in decompose_above(alloc, &page, Policy::Minority, 2)? {
+//!     let (sign, area, points) = (path.sign, path.area, path.points.as_slice());
+//! }
+//! ```
 #![tactic(auto)]
 
 pub mod decomposition;
