@@ -41,12 +41,19 @@ def built_other(name, program=None):
     return os.path.abspath(program)
 
 
-def timed(words, page=os.devnull, document=os.devnull):
-    """What one run takes, from a page to a document."""
+def timed(words, page=os.devnull, document=os.devnull, watch=None):
+    """What one run takes, from a page to a document.
+
+    `watch` is called with the process's number a hundred times a second; where it is left out nothing looks on.
+    """
     with open(page, "rb") as source, open(document, "wb") as sink:
         start = time.monotonic()
         process = subprocess.Popen(words, stdin=source, stdout=sink)
-        _, status, usage = os.wait4(process.pid, 0)
+        ended, status, usage = os.wait4(process.pid, os.WNOHANG if watch else 0)
+        while not ended:
+            watch(process.pid)
+            time.sleep(0.01)
+            ended, status, usage = os.wait4(process.pid, os.WNOHANG)
         seconds = time.monotonic() - start
     process.returncode = os.waitstatus_to_exitcode(status)
     if process.returncode:

@@ -44,6 +44,8 @@ cat >"$work/raw.py" <<'END'
 import re
 import sys
 
+import pages
+
 data, words, at = sys.stdin.buffer.read(), [], 0
 kind = data[:2].decode()
 plain, samples = kind in ("P1", "P2", "P3"), 3 if kind in ("P3", "P6") else 1
@@ -59,18 +61,14 @@ if kind == "P1":
 else:
     values = [int(v) for v in re.sub(rb"#[^\n\r]*[\n\r]", b" ", rest).split()] if plain else list(rest[1:])
     bits = [2 * sum(values[k:k + samples]) <= samples * white for k in range(0, width * height * samples, samples)]
-out = b"P4\n%d %d\n" % (width, height)
-for row in range(height):
-    text = "".join("01"[b] for b in bits[row * width:(row + 1) * width]) + "0" * (-width % 8)
-    out += int(text, 2).to_bytes(len(text) // 8, "big")
-sys.stdout.buffer.write(out)
+pages.write(sys.stdout.buffer, width, height, (bits[row * width:(row + 1) * width] for row in range(height)))
 END
 
 count=0
 for page in "${pages[@]}"; do
   want=$page
   if [ "$(head -c 2 "$page")" != P4 ]; then
-    python3 "$work/raw.py" <"$page" >"$work/want"
+    PYTHONPATH=$top/bench python3 "$work/raw.py" <"$page" >"$work/want"
     want=$work/want
   fi
   for policy in black white left right minority majority; do

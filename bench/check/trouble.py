@@ -9,6 +9,7 @@ for the workers' case, and 4 GB of memory for the longest texts. As root it trie
 the user 65534.
 """
 import collections
+import io
 import os
 import resource
 import shutil
@@ -18,6 +19,9 @@ import sys
 import tempfile
 import threading
 
+sys.path.insert(0, os.path.dirname(os.path.dirname(os.path.realpath(__file__))))
+from pages import write as write_page
+
 LIMIT = 120  # seconds for a run
 
 Ran = collections.namedtuple("Ran", "status out said")
@@ -25,9 +29,10 @@ Ran = collections.namedtuple("Ran", "status out said")
 
 def black(width, height):
     """A black page, raw, and its polygons text."""
-    page = b"P4 %d %d\n" % (width, height) + b"\xff" * (-(-width // 8) * height)
+    page = io.BytesIO()
+    write_page(page, width, height, [b"\xff" * (-(-width // 8))] * height)
     around = (width * height, 2 * (width + height), height, width + height, 2 * height + width)
-    return page, b"polygons %d %d 1\n+ %d %d 4 0: 0 %d %d %d\n" % (width, height, *around)
+    return page.getvalue(), b"polygons %d %d 1\n+ %d %d 4 0: 0 %d %d %d\n" % (width, height, *around)
 
 
 POLYGONS = ["-b", "polygons", "-t", "0"]
