@@ -92,6 +92,9 @@ fn behind(header: &Header) -> u32
 }
 
 /// A BMP picture, behind its magic, at a level and inverted or not.
+//
+// Memory for the page is taken after all checks of its header, masks and places, so a hostile header takes none.
+// Bytes that are passed over, up to 4 GiB, take none either.
 pub(crate) fn read_bmp<I: Inputs>(
     alloc: Global,
     window: &mut Window,

@@ -15,6 +15,10 @@ use pt_base::inputs::Inputs;
 
 /// A number is cut here where it is larger: it is too large for a side, for the sample for white and for a
 /// sample of a black pixel either way.
+//
+// A run of digits may have a million digits. A gray sample above 65,535 is white at every level, and so is a colour
+// of which one sample is above 196,605, three times that. So the cut changes no answer, and no definition knows of
+// it.
 pub(crate) const CAP: u32 = 200000;
 
 /// A part of a page, to which a number belongs.

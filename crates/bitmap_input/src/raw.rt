@@ -39,6 +39,8 @@ pub(crate) fn read_block<I: Inputs>(
 }
 
 /// Makes row `y` that of packed bytes, inverted or not.
+//
+// It is put and then inverted, so that there is no second kind of `put_bytes`.
 pub(crate) fn place_row(page: &mut Bitmap, y: u32, bytes: &[u8], invert: bool)
     requires row { y < page.old.height }
     requires whole { length bytes.now ≡ row_bytes page.old.width }

@@ -45,6 +45,9 @@ impl Shading {
 }
 
 /// The brightness of the brightest pixel that is black, as the sum of its samples.
+//
+// It is found once for a page. The colours of a BMP have no such limit: the product with the level is the same for
+// each pixel, and the three loads of a colour cost more than it does.
 pub(crate) fn brightest_black(level: &Level, channels: Channels, white: u32) -> u32
     requires some { 1 ≤ white }
     requires most { white ≤ GREATEST_MAXVAL }

@@ -36,6 +36,13 @@ pub(crate) struct Best {
 //
 // A path without any corner has wide windows alone. There it is worth while to look for one with few points at which
 // a polygon of fewest segments can begin, and to write down the penalties that all searches from there ask for.
+//
+// The window after the first point could hold thousands of points on a long straight side. The narrowest holds two or
+// three behind each corner. On a disc with a radius of 2,000 pixels it holds 32, of which polygons of fewest segments
+// begin at 29; the sparsest has 15 such points. Where so many longest segments lead tells which points these are, by
+// two passes over the points for each binary digit of the number of segments. Tried and left: halving the window by
+// lower bounds, which saved nothing; and lower bounds by two passes over the whole window, which leave fewer searches
+// but look at more pairs themselves. The price: reaches and sums are made twice, and fans take up to 32 megabytes.
 pub(crate) fn first_vertex(
     alloc: Global,
     points: &[Point],

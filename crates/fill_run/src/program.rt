@@ -37,7 +37,8 @@ impl Task for FillTask {
     fn reply(&self, alloc: Global, text: Vec<u8>) -> Result<Reply, NoMemory> {
         match fill(alloc, &text) {
             Ok(page) => {
-                // The text makes room for its page's.
+                // The text makes room for its page's, which is as large as the page, and the points may be far larger
+                // than both. So there is at most the text and the page at any time, or the page and its own text.
                 drop(text);
                 let reply = pbm(alloc, &page)?;
                 Ok(Reply::Right(reply))

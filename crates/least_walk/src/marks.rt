@@ -7,6 +7,10 @@ ghost use Rattle.least_walk.specs.Places.{KeepsToFewest, MarksOnward};
 use crate::steps::Steps;
 
 /// Marks the indices that walks of fewest steps go through.
+//
+// The other way to know them is to find the fewest steps to each index as well as from it; with a table that tells
+// only where a step may lead at most, that would try steps from indices that no such walk goes through. The price is
+// a byte for each index, and tests of steps that a search from the end alone wouldn't make.
 pub(crate) fn fill_marks<S: Steps>(steps: &S, counts: &[u32], marks: &mut [bool])
     requires count_places { length counts.now ≡ S.size_of steps.now + 1 }
     requires mark_places { length marks.old ≡ S.size_of steps.now + 1 }

@@ -32,6 +32,9 @@ pub struct Walk {
 // 3. `costs` and `nexts`: the cheapest of the steps that keep to the fewest, and of several the
 //    shortest.
 // 4. The walk goes from 0 on by `nexts`.
+//
+// In one pass each step that improves the count so far would have to be priced; in two only those are that keep to
+// the fewest from their index. The price: a step that ties in its count may be tested twice.
 pub fn least<S: Steps>(alloc: Global, steps: &S) -> Result<Walk, NoMemory>
     ensures least { IfOk result (λ walk. IsLeast (S.size_of steps.now) (S.is_allowed steps.now)
         (S.cost_of steps.now) (walk_from walk.at (S.size_of steps.now))) }
@@ -54,7 +57,8 @@ pub fn least<S: Steps>(alloc: Global, steps: &S) -> Result<Walk, NoMemory>
 
 /// The least walk, by what is known of each index that walks of fewest steps go through.
 ///
-/// For those who know more of their steps than `Steps` says, and find this faster than `least` does.
+/// For those who know more of their steps than `Steps` says, and find this faster than `least` does. There is none
+/// yet.
 pub fn walk_by<S: Steps>(
     alloc: Global,
     steps: &S,

@@ -33,6 +33,9 @@ impl Window {
 }
 
 /// The windows after no step, after one, and so on up to the fewest number of steps.
+//
+// `least` doesn't go by them: a window has its ends alone, and in a table of any steps an index between them need not
+// be on a walk of fewest steps. Where the steps are segments of a path each is, and the search of polygons does so.
 pub fn windows<S: Steps>(alloc: Global, steps: &S) -> Result<Vec<Window>, NoMemory>
     ensures { IfOk result
         (λ windows. AreWindows (S.size_of steps.now) (S.is_allowed steps.now) windows.items) }

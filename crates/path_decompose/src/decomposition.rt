@@ -80,6 +80,10 @@ pub fn decompose_above(
 }
 
 /// The paths of a page above a limit, where there is one.
+//
+// What is left of the page has no border of white words around it, which would spare the walk the tests for the
+// page's sides: a model in C showed no difference on pages of text and dithered ones, and up to a quarter on a
+// checkerboard, at the price of a form of the page of its own.
 fn found(
     alloc: Global,
     page: &Bitmap,

@@ -14,6 +14,11 @@ use bit_image::bitmap::Bitmap;
 /// Each line's row is inverted from the line to one column, the same for all. So a pixel left of that column
 /// is inverted once for each line on its left, and one further right once for each line on its right. As a
 /// row has an even number of lines, either both are odd or none is.
+//
+// The column is that of the path's start, as in the C program. Most shapes are narrow, so that this is a word or two
+// for each line; and it needs no order. In order, what lies between the two lines of a pair could be inverted once,
+// and the area would be the sum of these spans; but to sort them took an eighth to a quarter of the time on the pages
+// of bench/runs/2026-11-27/spans.txt, and on none of them, a comb and a spiral of 4096 pixels among them, did it pay.
 pub fn invert(page: &mut Bitmap, lines: &[Upright], column: u32)
     requires on_page { All (λ (line : Upright). (line.x ≤ page.old.width) × (line.y < page.old.height))
         lines.now }

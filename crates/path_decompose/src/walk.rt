@@ -21,6 +21,11 @@ use turn_policies::heading::Dir;
 use turn_policies::rule::turned_at;
 
 /// Walks once round the boundary that starts at the first black pixel, pixel (x, y), and notes it down.
+//
+// The area inside is that of the columns of the upright lines that it goes up, less those that it goes down: the
+// shoelace formula of surveyors. For that it has to be known which side of each line is inside, which is proved step
+// by step: a turn to the left keeps the pixel on the left, one to the right the pixel on the right, and straight on
+// both pixels are as they were. The columns are summed up here, where the heading is known.
 pub fn walk_round(
     page: &Bitmap,
     x: u32,
@@ -91,7 +96,9 @@ fn step(
         x: x as i32,
         y: y as i32,
     })?;
-    // Each heading has code of its own, so that the processor foresees the turns better.
+    // Each heading has code of its own, so that the processor foresees the turns better: in a model of the walk that
+    // took a fifth less on a page of text than a look at the heading for each end and each pixel, and a table with no
+    // branches was no faster (bench/runs/2026-11-27/spans.txt).
     match heading {
         Dir::North => {
             trail.lines.push(Upright { x, y })?;

@@ -13,6 +13,9 @@ use std::alloc::Global;
 use straight_paths::reach::Reach;
 
 /// The segments of a closed walk's polygons, and their penalties.
+//
+// Of a possible segment each shorter one from the same point is possible too, so one number for each point, where its
+// longest segment leads, decides every step. The `Reach` itself, 24 bytes a point, is given back before the search.
 #[derive(Drop)]
 pub(crate) struct Segments<'a> {
     pub(crate) moments: &'a Moments,

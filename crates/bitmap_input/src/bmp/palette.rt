@@ -30,6 +30,8 @@ fn is_black(tone: &Tone, colors: u32, size: u32, palette: &[u8], i: u32) -> bool
 }
 
 /// Fills the table of which colours of a palette are black pixels.
+//
+// It is one of bools and not of bits: one load and no shift a pixel.
 fn fill_table(tone: &Tone, colors: u32, size: u32, palette: &[u8], table: &mut [bool])
     requires few { colors ≤ 256 }
     requires some { 3 ≤ size }
