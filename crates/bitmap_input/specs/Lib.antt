@@ -43,7 +43,7 @@ pub mod Sets
 --   bits_of: the eight pixels of a byte, the most significant bit first
 --   unpacked: the pixels of a row of bytes
 --   is_dark: whether an entry is a black pixel at a level, in millionths, before any inversion
---   black: whether an entry is a black pixel at a level, in millionths
+--   black: whether an entry is a black pixel at a level, in millionths, on a page that is then inverted or not
 --   picture_of: the image of a raw page
 --   shown: the page of a raw page, at a level and inverted or not
 --   IsShown: the bitmap is the page that the raw page shows, at a level and inverted or not
@@ -210,7 +210,7 @@ pub mod Header
 --   IsWhole: the bytes up to the end of the header with its masks
 --   HasInfo: the fields up to the end of the header without its masks are there
 --   bits_in: the bits of a pixel
---   IsKnownDepth: the depth of pixels of so many bits, stored in this way, or none
+--   IsKnownDepth: the depth of pixels of so many bits, stored in this way, or none where they aren't read
 --   IsMostColors: pixels of this depth are numbers of so many colours, or are colours themselves
 --   IsDepth: the pixels of the header have this depth, or are of a kind that isn't read
 --   IsHeader: what the program keeps of a header
@@ -238,7 +238,7 @@ pub mod Shading
 --   with_pixels: the image with these pixels in row y, from column x on, one after another
 --   with_row: the image with these as the first pixels of row y
 --   with_rows: the image with these rows, the first one below row y, and the others downwards
---   with_placed: the image with these rows, of which the one with number i, and those after it
+--   with_placed: the image with these rows, of which the one with number i, and those after it, stand where they are placed
 pub mod Raster
 -- Bytes that are passed over.
 --   passed_over: n bytes are passed over, or all where there are fewer

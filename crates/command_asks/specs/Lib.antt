@@ -4,13 +4,13 @@
 --   NamesPolicy: the value of `-z` names this policy
 --   IsWholeOr: n is the default where there is no value; else the value is the whole number n, in a range
 --   IsWholeOf: there is a value, and it is the whole number n, in a range
---   IsMicroOr: n is the default where there is no value; else the value is a decimal number of n millionths
+--   IsMicroOr: n is the default where there is no value; else the value is a decimal number of n millionths, at most so many
 --   CertifiesFirst: certificates are of polygons through their paths' first points alone
 --   GivesSettings: the options give these settings
 --   AreProper: no file name is empty, and standard input is named at most once
 --   inputs_of: the files to be read
 --   AsksDemo: made-up pages are to be traced
---   AsksFiles: files are to be traced
+--   AsksFiles: files are to be traced, where no made-up pages are
 --   AsksOf: what the options and files ask for
 --   Asks: what words that come to this ask for
 --   IsAsked: the words ask for this

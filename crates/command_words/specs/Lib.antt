@@ -14,7 +14,7 @@
 --   faults_of_words: the faults that `clap` may find in the words
 pub mod Command
 -- What the words give, option by option.
---   Given: the value of each option that stands in the words, whether a flag does, and the file names
+--   Given: the value of each option that stands in the words, whether a flag does, and the file names in order
 --   is_set: the flag of this name stands in the words
 --   given_of: what the rows that `clap` found give
 pub mod Given

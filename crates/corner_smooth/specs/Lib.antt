@@ -4,12 +4,12 @@
 --   signed_area_of: the cross product of the ways from the first place to the two others
 --   area_of: twice the area of the triangle of a vertex and its neighbours
 --   grid_distance_of: how far two places are from each other, along the columns and along the rows
---   sharpness_by: Selinger's alpha, for a triangle of this doubled area whose neighbours of the
+--   sharpness_by: Selinger's alpha, for a triangle of this doubled area whose neighbours of the vertex are at this distance
 --   sharpness_of: that of a vertex and its neighbours
 --   is_corner: the sharpness is at least so many millionths
 --   al_of: the sharpness in units of 1/65536, rounded down, but no less than 0.55 and no more than 1
 --   middle_of: halfway between two places, rounded down
---   part_of: the coordinate that lies (65536 + al) / 131072 of the way from one to another
+--   part_of: the coordinate that lies (65536 + al) / 131072 of the way from one to another, rounded down
 --   control_of: the curve's control between a neighbour and the vertex
 --   curve_of: the curve at a vertex, of this roundness
 --   piece_of: the piece at a vertex between two others

@@ -60,12 +60,12 @@ pub mod Cubic
 --   first_bend: a run's first and last bend, and all but the last
 --   last_bend
 --   inner_bends
---   GoesRound: a curve that turns in this sense
+--   GoesRound: a curve that turns in this sense, and still does as seen from the polygon's side that comes before a run
 --   sense_at: the sense in which a run turns
 --   tangents_at: from a run's start to its first vertex, and from its last vertex to its end
 --   meeting_at
 --   triangle_at: the doubled area of a run's ends and the place where its tangents meet
---   area_from: a bend's share of ten times the doubled area between a run that starts here
+--   area_from: a bend's share of ten times the doubled area between a run that starts here and its chord
 --   total_area
 --   area_at
 --   alpha_at
@@ -77,7 +77,7 @@ pub mod Cubic
 --   gap_of: how far the curve is from that side there, times the side's length
 --   FollowsSide: the curve touches the side but for the tolerance, and between its ends
 --   not_below_zero
---   excess_of: how much farther out from its chord a piece goes than the joined curve
+--   excess_of: how much farther out from its chord a piece goes than the joined curve, times the chord's length
 --   CoversPiece: the curve covers the piece, but for the tolerance
 --   side_penalty
 --   piece_penalty
@@ -88,7 +88,7 @@ pub mod Join
 --   IsRun: pieces number i up to before j may become one
 --   run_penalty: the penalty of it, which a single piece doesn't have
 --   run_piece: what they become
---   cut_pieces: the pieces that a cut leaves, which lists where each run begins and
+--   cut_pieces: the pieces that a cut leaves, which lists where each run begins and where the last one ends
 --   IsBestJoin: these pieces are what the best cut leaves
 --   IsLastRun: no run that begins here goes on beyond this number
 pub mod Choice
@@ -99,7 +99,7 @@ pub mod Choice
 pub mod Costs
 -- Halves of a stretch of a quadratic.
 --   middle_value: four times its value in the middle
---   IsFirstHalf: four times its coefficients on the first half
+--   IsFirstHalf: four times its coefficients on the first half, and on the second
 --   IsSecondHalf: the same on the second half
 --   IsHalf: the second half if it is above 0 in the middle, and else the first
 pub mod Halves

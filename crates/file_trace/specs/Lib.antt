@@ -22,7 +22,7 @@ pub mod Tasks
 --   AreWhole: each part of the items is a whole document
 pub mod Items
 -- What a run has done, against the items that it was to write.
---   OpensUpTo: the file of this name is the last one that was asked for
+--   OpensUpTo: the file of this name is listed, and there were as many openings as there are files up to it
 --   opened_name: the name of the opened file, where that is told and a file is opened
 --   OpensFirst: nothing was opened; or the first of these files were
 --   IsUnopened: a file can't be opened

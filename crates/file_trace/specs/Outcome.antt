@@ -22,8 +22,8 @@ use Rattle.run_output.specs.Told.{Sinks, Source}
 use Rattle.file_trace.specs.Items.{AreItems, ArePageItems, IsAbsent, Nothing, told_contents}
 use Rattle.file_trace.specs.Manner.{Manner, base_by}
 
--- the file of this name is the last one that was asked for: those in front of it were opened before, each
--- once and in order
+-- the file of this name is listed, and there were as many openings as there are files up to it. Which names these
+-- had isn't said
 pub record OpensUpTo (names : List (List ℕ)) (name : List ℕ) (front : List (List ℕ)) (openings openings_now : ℕ) : Type 0 where
   pub back : List (List ℕ)
   pub listed : names ≡ front ++ name ∷ back

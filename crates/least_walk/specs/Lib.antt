@@ -33,7 +33,7 @@ pub mod Suffix
 --   MarksOnward: the steps from i that keep to the fewest lead to marked indices
 pub mod Places
 -- Windows: where walks of fewest steps stand after so many steps.
---   IsWindow: the window goes from the least to the greatest index
---   AreWindows: there is one window for each number of steps
+--   IsWindow: the window goes from the least to the greatest index at which walks of fewest steps stand after c steps
+--   AreWindows: there is one window for each number of steps, from none to the fewest that a walk has
 --   AreNone: all windows are empty
 pub mod Windows

@@ -41,15 +41,15 @@ pub mod Texts
 --   IsEntry: the text of a value stands at the front, and no digit behind it
 pub mod Entries
 -- Lines: the texts of values, and a line feed.
---   IsEntryLine: the values stand at the front, and then a line feed
+--   IsEntryLine: the values stand at the front, and then a line feed and the rest
 --   IsSomeLine: so they do, and there is one at least
 pub mod LineTexts
 -- A path with its certificate in a text.
 --   certified_of: the path and its certificate, without the place
---   IsGroup: the three lines stand at the front
+--   IsGroup: the three lines stand at the front, and then the rest
 pub mod Groups
 -- The first line of a certificates' text.
---   IsHead: the line stands at the front
+--   IsHead: the line stands at the front, and then the rest
 pub mod Heads
 -- What the checker says of a text.
 --   IsGood: the points are a closed walk, and the rest is the certificate of its best polygon

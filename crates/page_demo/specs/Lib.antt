@@ -13,7 +13,7 @@ pub mod Generator
 --   with_bars: an image with the pixels of the first bars inverted, of one after another
 --   picture: the image of a page
 --   picture_page: the page that is made from a state on
---   pages_from: so many pages, each made from where the one before ended
+--   pages_from: so many pages, each made from where the one before ended, 172 draws on
 pub mod Picture
 -- The text of the demo.
 --   line_text: the line of a trace whose document has so many bytes

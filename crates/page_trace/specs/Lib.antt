@@ -1,7 +1,7 @@
 -- What is traced of a page.
 --   ArePaths: These are the page's paths which are no speckles
---   IsPolygonThrough: the polygon is the best one of a path through its first point
---   IsPolygonRound: the polygon is the least one of a path over all starting points
+--   IsPolygonThrough: the polygon is the best one of a path through its first point, with the penalty of all its segments
+--   IsPolygonRound: the polygon is the least one of a path over all starting points, with the penalty of all its segments
 --   IsPolygonWith: which polygon a path gets
 --   IsPolygonOf
 --   HasPolygons: the trace has the page's sides, its paths, and the polygon of each that is asked for

@@ -15,7 +15,7 @@ pub mod Line
 pub mod Walk
 -- The pixels inside a path, by the even-odd rule of vector graphics (Selinger, "Potrace", 2003.
 --   line_at: the line between corners (x, y) and (u, v), which are one step apart
---   line_between: the line between two points that are one step apart (no path has a coordinate below
+--   line_between: the line between two points that are one step apart (no path has a coordinate below 0)
 --   lines_to: the lines from each point to the next, and from the last one to `end`
 --   lines_of: the lines of a path
 --   is_crossed: on the way along row y from the left into pixel (x, y) the line is crossed
@@ -36,22 +36,22 @@ pub mod Bounds
 --   column_down: the column of an edge that goes down
 pub mod Trail
 -- The search for the pixel where the next path starts.
---   IsWhiteThrough: on a page of this width the rows above pixel (x, y) are white
+--   IsWhiteThrough: on a page of this width the rows above pixel (x, y) are white, and so is its own row up to it
 --   IsStart: the first black pixel, or none where all is white
 pub mod Start
 -- The decomposition of a page into paths (Selinger, "Potrace", 2003, section 2.1.1).
 --   sign_at: the sign of a path that starts at pixel (x, y)
---   path_of: the path of this sign, with so many pixels inside
+--   path_of: the path of this sign, with so many pixels inside, through these points
 --   inverted: the image with the pixels inside a path inverted
 --   IsNextPath: The path that comes next where the page has become the image b
 --   IsDecomposed: these paths come, one after another, where the page has become the image b
 --   IsDecomposition: the paths of a page under a policy
 --   kept: the paths that are no speckles
---   is_large: so many pixels are more than the limit
+--   is_large: so many pixels are more than the limit, where there is one
 --   is_above: the path has more pixels inside than the limit, where there is one
 --   above: the paths above the limit, in order
 pub mod Decomposition
 -- What the paths of a page come to together.
 --   IsEvenOdd: a pixel is black exactly where it is inside an odd number of the paths
---   IsEdgesOnce: the paths run once along each line between a black and a white pixel
+--   IsEdgesOnce: the paths run once along each line between a black and a white pixel, and along no other line
 pub mod Sums

@@ -5,7 +5,7 @@
 --   is_round: the path is one of plus sign, and the other one's start is inside it
 --   no_path: a path that is no path, which stands for those that aren't in a list
 --   path_at: the path of this number
---   last_round: the last of the first n paths that is of plus sign
+--   last_round: the last of the first n paths that is of plus sign and has the start of the given one inside
 --   parent_of: the parent of a path
 --   holder_of: the path in whose shape this one bounds a hole
 --   is_number: it is this number
@@ -25,11 +25,11 @@ pub mod Holders
 -- The starts of the paths of minus sign, and which paths have them inside.
 --   place_at: where a pixel, or the upright line at its left, stands in the order of the rows
 --   path_start: the start of path number i
---   starts_from: the starts of those of these paths that are of minus sign
+--   starts_from: the starts of those of these paths that are of minus sign, where the first one has number i
 --   place_of_line: the place of a line, where it is upright and stands in a row that is asked for
 --   places_of: the places of the upright ones of these lines in the rows that are asked for
 --   is_place_in: the place stands in row y
---   is_passed: on the way along its row from the left into a pixel a line is passed
+--   is_passed: on the way along its row from the left into a pixel a line is passed, by the places of both
 --   is_in_span: a place is one from `low` on and before `high`
 --   marked: the list with path i for each later path whose start passes a test
 --   is_in: the path is one of plus sign, and the pixel of this place is inside it

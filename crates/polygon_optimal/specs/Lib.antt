@@ -1,14 +1,14 @@
 -- The best polygon of a path (Selinger, "Potrace.
 --   IsSegment: a polygon's segment may lead from point i to point j
 --   penalty_of: the penalty of the segment from point i to point j
---   IsPolygon: the points with these numbers, in order
+--   IsPolygon: the points with these numbers, in order, are the vertices of a polygon through the first point
 --   total_penalty: the penalties of a polygon's segments together
 --   IsBestPolygon: they are the vertices of the best polygon
 pub mod Polygon
 -- How far the segments of a polygon reach.
 --   IsLast: the longest segment from point i leads to point `last`
 --   HasLasts: for each point, the list has where the longest segment from it leads
---   LeadsOn: a segment of a path of so many points leads onwards, not beyond its end
+--   LeadsOn: a segment of a path of so many points leads onwards, not beyond its end, and isn't too long
 --   AreRising: no segment reaches farther than the longest one from the next point
 --   IsUpToLast: the segment from point i to point j goes no farther than the longest one
 pub mod Lasts
@@ -19,7 +19,7 @@ pub mod Lasts
 pub mod OnePenalty
 -- What the search for a path's best polygon knows of its points.
 --   AreFalling: from each later point no more segments are left than from an earlier one
---   AreFarthest: the farthest points after no segment, after one, and so on
+--   AreFarthest: the farthest points after no segment, after one, and so on to `most`
 --   IsBegin: the first point after i from which one segment fewer is left
 --   slot_of: where the cost of the best way from point k is kept
 --   HasSlots: each point up to the end has its slot in the list

@@ -14,7 +14,7 @@ pub mod Usage
 --   OutputsMove: how the outputs moved
 --   EndsRefused: the last of the items is a refusal
 --   EndsMissing: the last of the items is a file that isn't there
---   IsComplete: what the status is where no device failed
+--   IsComplete: what the status is where no device failed, unless memory ran out
 --   IsOnePassOf: no more was read than the batch of a document that couldn't be written
 --   IsRun: all that a run does that is asked for this
 pub mod Run

@@ -23,5 +23,5 @@ pub mod Input
 --   PutsText: a text is written, or its document is cut off
 --   PutsReply: a reply is put out
 --   HasDone: what a run has done that ends so
---   IsProgramRun: all that a run does
+--   IsProgramRun: all that a run does that is given so many words and ends so
 pub mod Outcome

@@ -1,7 +1,7 @@
 -- Straight subpaths and possible segments (Selinger, "Potrace.
 --   offset_of: how far the second point is from the first
 --   IsWithin: the whole number is from -q to q
---   IsNear: the half-line from the origin through `end` comes within 1 of `middle`
+--   IsNear: the half-line from the origin through `end` comes within 1 of `middle`, in both coordinates
 --   Takes: one of the first `count` steps of the path is this one
 --   east
 --   north
@@ -22,12 +22,12 @@ pub mod Straight
 --   IsProper: the borders are short, and `high` lies to the left of `low`
 --   IsSound
 --   lead_of: 1 where the first number is positive, or is 0 and the second is positive
---   low_of: of the square within 1 of the way's end, the corner that is farthest to the right
+--   low_of: of the square within 1 of the way's end, the corner that is farthest to the right, seen from the start of the way
 --   high_of: and the corner that is farthest to the left
 --   IsSmall: the way ends within 1 of its start
 --   IsInside: the way lies strictly inside of the borders
---   HoldsNear: the cone holds exactly the half-lines from the path's start that come near its next
---   IsClear: from the path's start, each point of its first `count` steps is near the half-line
+--   HoldsNear: the cone holds exactly the half-lines from the path's start that come near its next `count` points
+--   IsClear: from the path's start, each point of its first `count` steps is near the half-line through each later one
 pub mod Cones
 -- Corners of a closed path, and the straight runs between them.
 --   step_from: the step that leaves the path's point number k
@@ -40,9 +40,9 @@ pub mod Corners
 --   last_of: the last index of the two laps that matters
 --   IsAtPlace: an index of the two laps, and its place in one lap
 --   way_along: the way from the path's start to its point number k
---   IsClearUpTo: of the path's first `most` steps, the cones from its start hold for exactly the
+--   IsClearUpTo: of the path's first `most` steps, the cones from its start hold for exactly the first `count`
 --   IsClearBefore: of the steps from an index on, up to the limit and to this end
---   IsStraightFor: of the steps from point i on, up to the limit
+--   IsStraightFor: of the steps from point i on, up to the limit, exactly the first `count` are straight
 --   AreStraight: for each point, how many steps from there on are straight
 --   IsNext: `index` is where this step is taken next, as far as a last index can tell
 --   IsAhead

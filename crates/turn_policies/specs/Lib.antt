@@ -14,18 +14,18 @@ pub mod Boundary
 --   IsCorner: both coordinates are 0 to 32767, so the corner lies on a page or not far beyond
 pub mod Corner
 -- The colour in the majority around a corner (the potrace manual page.
---   behind: the pixel r columns to the left of, and r rows below
+--   behind: the pixel r columns to the left of, and r rows below, the one that a corner is the lower left of
 --   count_below: how many of the first n numbers pass a test
 --   sum_below: the sum over the first n numbers
 --   is_rim: place (i, j) of a square of that side lies on its rim
---   black_in_ring: Ring r around a corner is the rim of the square of side 2r with the corner at its
+--   black_in_ring: Ring r around a corner is the rim of the square of side 2r with the corner at its middle
 --   white_in_ring: and how many are white
 --   is_more: whether black is more than white
---   major: the first of the rings 2, 3 and 4 with more of one colour decides
+--   major: the first of the rings 2, 3 and 4 with more of one colour decides, and after three ties it is not black
 pub mod Majority
 -- Which way a path turns at a corner (Selinger, "Potrace", 2003, sections 2.1.1 and 2.1.2.
 --   goes_right: whether a policy turns right where the pixels ahead leave a choice
---   turn_of: the turn by whether the pixels ahead on the left and on the right are black
+--   turn_of: the turn by whether the pixels ahead on the left and on the right are black, and by the policy's choice
 --   turn: where a path that comes to corner (x, y) goes on
 --   next: the edge that follows an edge of a path
 pub mod Turn
