@@ -51,7 +51,7 @@ pub mod Raw
 -- The sides of a page.
 --   checked: both sides are in range
 pub mod Sides
--- The header of a BMP picture (Microsoft's "Bitmap Storage": BITMAPFILEHEADER.
+-- The header of a BMP picture.
 --   byte_at: the byte at a place
 --   two_at: the number of two bytes from a place on
 --   four_at: the number of four bytes from a place on

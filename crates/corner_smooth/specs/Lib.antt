@@ -1,4 +1,4 @@
--- Corners and curves at the vertices of an outline (Selinger, "Potrace.
+-- Corners and curves at the vertices of an outline.
 --   IsInReach: the coordinate is on a page with sides of 32767 pixels, or at most half a pixel off it
 --   IsNearWidePage: both coordinates are
 --   signed_area_of: the cross product of the ways from the first place to the two others

@@ -36,7 +36,7 @@ pub mod Bends
 --   IsFirstLeast: u is at most n, f is nowhere less up to n, and before u it is greater
 --   least_at: this u
 pub mod Least
--- One cubic curve in place of several (Selinger, "Potrace.
+-- One cubic curve in place of several.
 --   led: the place to which a part of a way leads
 --   turn_of: the cross product of both tangents
 --   meeting_of: where the tangents meet, if they turn in this sense
@@ -54,7 +54,7 @@ pub mod Least
 --   touching_part: the part of the curve that goes most in this direction, in 64ths
 --   touching_of: where a line in this direction touches the curve
 pub mod Cubic
--- Which neighbouring curves may be joined, and at which penalty (Selinger, "Potrace.
+-- Which neighbouring curves may be joined, and at which penalty.
 --   no_way: the bend that a list without any is said to have
 --   no_bend
 --   first_bend: a run's first and last bend, and all but the last

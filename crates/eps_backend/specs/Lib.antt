@@ -1,4 +1,4 @@
--- The text of a page as Encapsulated PostScript (PostScript Language Reference, third edition.
+-- The text of a page as Encapsulated PostScript.
 --   line_text: a line from one point to another, by its step
 --   curve_text: a curve, whose two controls and end are relative to its beginning
 --   piece_text: a piece that begins at `from`

@@ -1,4 +1,4 @@
--- Unit edges of the grid without a direction, each between two pixels (Selinger, "Potrace".
+-- Unit edges of the grid without a direction, each between two pixels.
 --   Line: `upright x y` is the left side of pixel (x, y), and `level x y` is its lower side
 --   same_line: the two are one line
 --   is_edge: the line has a black pixel on one of its sides and a white one on the other
@@ -13,7 +13,7 @@ pub mod Line
 --   IsRoundTrip: The edges go once round in the image, under a policy and on a path of that sign
 --   IsBoundaryWalk: the points are where the edges of such a round begin
 pub mod Walk
--- The pixels inside a path, by the even-odd rule of vector graphics (Selinger, "Potrace", 2003.
+-- The pixels inside a path, by the even-odd rule of vector graphics.
 --   line_at: the line between corners (x, y) and (u, v), which are one step apart
 --   line_between: the line between two points that are one step apart (no path has a coordinate below 0)
 --   lines_to: the lines from each point to the next, and from the last one to `end`

@@ -1,4 +1,4 @@
--- The best polygon of a path (Selinger, "Potrace.
+-- The best polygon of a path.
 --   IsSegment: a polygon's segment may lead from point i to point j
 --   penalty_of: the penalty of the segment from point i to point j
 --   IsPolygon: the points with these numbers, in order, are the vertices of a polygon through the first point

@@ -1,4 +1,4 @@
--- Straight subpaths and possible segments (Selinger, "Potrace.
+-- Straight subpaths and possible segments.
 --   offset_of: how far the second point is from the first
 --   IsWithin: the whole number is from -q to q
 --   IsNear: the half-line from the origin through `end` comes within 1 of `middle`, in both coordinates

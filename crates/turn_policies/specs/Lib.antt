@@ -23,7 +23,7 @@ pub mod Corner
 --   is_more: whether black is more than white
 --   major: the first of the rings 2, 3 and 4 with more of one colour decides, and after three ties it is not black
 pub mod Majority
--- Which way a path turns at a corner (Selinger, "Potrace", 2003, sections 2.1.1 and 2.1.2.
+-- Which way a path turns at a corner.
 --   goes_right: whether a policy turns right where the pixels ahead leave a choice
 --   turn_of: the turn by whether the pixels ahead on the left and on the right are black, and by the policy's choice
 --   turn: where a path that comes to corner (x, y) goes on
