@@ -68,6 +68,9 @@ fn format_named(first: u8, second: u8) -> Option<Format>
 }
 
 /// The second byte of a magic, behind the first one.
+//
+// It is asked for whatever the first one is, since a magic of which fewer than two bytes are there is cut short: so a
+// failed read here is a read fault, and not an unknown format.
 fn read_magic_behind<I: Inputs>(
     window: &mut Window,
     inputs: &mut I,

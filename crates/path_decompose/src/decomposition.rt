@@ -22,7 +22,8 @@ use pt_base::policy::Policy;
 use pt_base::sequence::Sequence;
 use std::alloc::Global;
 
-/// All paths of a page, in the order in which they are found.
+/// All paths of a page, in the order in which they are found. There are at most as many as pixels, so 32 bits count
+/// them.
 pub fn decompose(alloc: Global, page: &Bitmap, policy: Policy) -> Result<Vec<Path>, NoMemory>
     ensures decomposed { IfOk result (λ paths. IsDecomposition page.now policy paths.items) }
 
