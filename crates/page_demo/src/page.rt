@@ -30,6 +30,8 @@ pub(crate) fn next_pages(
     generator: &mut Generator,
 ) -> Result<Vec<Bitmap>, NoMemory>
     ensures count { IfOk result (λ pages. vec_len pages ≡ count) }
+
+    // They are the first pages, and however many more are made, these are made from where the generator stands then.
     ensures pages { IfOk result (λ pages. (more : ℕ)
         → pages_from (count + more) generator.old ≡ pages.items ++ pages_from more generator.new) }
 {

@@ -62,7 +62,8 @@ fn in_units(coordinate: i32) -> i64
     1024 * i64::from(coordinate)
 }
 
-/// How far the place (`x`, `y`) lies from a line.
+/// How far the place (`x`, `y`) lies from a line, in units of 1/4096 of 1/1024 pixel: above 0 on the side to which the
+/// line's normal points.
 fn distance(line: &Line, x: i64, y: i64) -> i64
     requires line { IsOverWidePage line.now }
     requires x { unsigned_abs x ≤ 2 ^ 25 }
