@@ -1,7 +1,7 @@
 -- Straight subpaths and possible segments.
 --   offset_of: how far the second point is from the first
 --   IsWithin: the whole number is from -q to q
---   IsNear: the half-line from the origin through `end` comes within 1 of `middle`, in both coordinates
+--   IsNear: the half-line from the origin through `end` comes within 1 of `middle`
 --   Takes: one of the first `count` steps of the path is this one
 --   east
 --   north
