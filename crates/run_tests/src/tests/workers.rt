@@ -35,38 +35,38 @@ fn too_many_pages(alloc: Global) -> Result<Vec<u8>, Fail> {
 }
 
 /// The first 65,536 pages are written.
-fn expect_limit(rt: &impl Abort, done: &Done) {
+fn expect_limit(rt: &impl Abort, words: &str, done: &Done) {
     let said = b"potrace: -: page 65537: too many pages\n".as_slice();
     assert_eq!(rt;
         (done.status, done.outs.count(), done.errs.text()),
-        (2, 65_536, said)
+        (2, 65_536, said),
+        "{words}"
     );
     let page = (b"-".as_slice(), b"points 1 1 0\n".as_slice(), true);
     for i in 0..65_536 {
-        assert!(rt; document_at(&done.outs, i) == Some(page), "document {i}");
+        assert!(rt; document_at(&done.outs, i) == Some(page), "{words}: document {i}");
     }
 }
 
-#[test]
-fn pages_up_to_the_limit_by_one(rt: HostRuntime) -> Result<(), Fail> {
-    let input = too_many_pages(rt.alloc())?;
-    let case = Case {
-        words: "-b points --workers 1",
-        input: &input,
-        ..PLAIN
-    };
-    expect_limit(&rt, &case.done(&rt, rt.alloc(), &NoGate)?);
-    Ok(())
-}
+/// Words that ask for some number of workers.
+const WORKERS: [&str; 4] = [
+    "-b points --workers 1",
+    "-b points --workers 2",
+    "-b points --workers 7",
+    "-b points --workers 64",
+];
 
 #[test]
-fn pages_up_to_the_limit_by_most(rt: HostRuntime) -> Result<(), Fail> {
+fn pages_up_to_the_limit_by_any_number_of_workers(rt: HostRuntime) -> Result<(), Fail> {
     let input = too_many_pages(rt.alloc())?;
-    let case = Case {
-        words: "-b points --workers 64",
-        input: &input,
-        ..PLAIN
-    };
-    expect_limit(&rt, &case.done(&rt, rt.alloc(), &NoGate)?);
+    for words in WORKERS {
+        let case = Case {
+            words,
+            input: &input,
+            ..PLAIN
+        };
+        let done = case.done(&rt, rt.alloc(), &NoGate)?;
+        expect_limit(&rt, words, &done);
+    }
     Ok(())
 }
