@@ -19,6 +19,7 @@ ghost use Rattle.polygon_optimal.specs.Search.{AreFalling, AreFarthest, HasCheap
 
 use crate::segments::Segments;
 use least_walk::walk::Walk;
+use prefix_moments::start::Start;
 use pt_base::fault::NoMemory;
 use pt_base::sequence::Sequence;
 use std::alloc::Global;
@@ -221,17 +222,18 @@ fn cheapest_from(segments: &Segments, from: u32, begin: u32, guess: u32, costs: 
 {
     let last = segments.lasts[from as usize];
     let to = guess.max(begin).min(last);
-    let cost = u128::from(segments.moments.penalty(from, to)) + costs[slot(to as usize)];
+    let start = Start::at(segments.moments, from);
+    let cost = u128::from(start.penalty(to)) + costs[slot(to as usize)];
     let tried = Onward { cost, next: to };
     // A nearer one that costs as much is better.
     let bound = Onward {
         cost: cost + 1,
         next: to,
     };
-    let nearer = cheaper_in(segments, from, begin, to, costs, bound);
+    let nearer = cheaper_in(segments, &start, begin, to, costs, bound);
     cheaper_in(
         segments,
-        from,
+        &start,
         to + 1,
         last + 1,
         costs,
@@ -255,24 +257,24 @@ fn lower(nearer: Onward, tried: Onward) -> Onward
 /// or `best`, where none of them is cheaper.
 fn cheaper_in(
     segments: &Segments,
-    from: u32,
+    start: &Start,
     begin: u32,
     end: u32,
     costs: &[u128],
     best: Onward,
 ) -> Onward
-    requires from { from < length segments.now.moments.now }
-    requires onwards { from < begin }
+    requires start { start.now.moments.now ≡ segments.now.moments.now }
+    requires onwards { start.now.from < begin }
     requires ordered { begin ≤ end }
-    requires ends { end ≤ slice_index segments.now.lasts.items from + 1 }
+    requires ends { end ≤ slice_index segments.now.lasts.items start.now.from + 1 }
     requires slots { HasSlots (length segments.now.moments.now) costs.now }
     ensures { IsCheaperIn
-        (λ k. penalty_of segments.now.moments.now from k + slice_index costs.now (slot_of k))
+        (λ k. penalty_of segments.now.moments.now start.now.from k + slice_index costs.now (slot_of k))
         begin end best result }
 {
     let mut cheapest = best;
     for to in begin..end {
-        cheapest = cheaper(segments, from, to, costs[slot(to as usize)], cheapest);
+        cheapest = cheaper(segments, start, to, costs[slot(to as usize)], cheapest);
     }
     cheapest
 }
@@ -280,19 +282,19 @@ fn cheaper_in(
 /// The segment to this point, from which the rest costs so much, where it is cheaper than `best`.
 //
 // Where the rest alone isn't cheaper, the segment isn't looked at.
-fn cheaper(segments: &Segments, from: u32, to: u32, rest: u128, best: Onward) -> Onward
-    requires from { from < length segments.now.moments.now }
-    requires onwards { from < to }
-    requires reached { to ≤ slice_index segments.now.lasts.items from }
-    ensures cheaper { penalty_of segments.now.moments.now from to + rest < best.cost
-        → (result.cost ≡ penalty_of segments.now.moments.now from to + rest) × (result.next ≡ to) }
-    ensures same { best.cost ≤ penalty_of segments.now.moments.now from to + rest → result ≡ best }
+fn cheaper(segments: &Segments, start: &Start, to: u32, rest: u128, best: Onward) -> Onward
+    requires start { start.now.moments.now ≡ segments.now.moments.now }
+    requires onwards { start.now.from < to }
+    requires reached { to ≤ slice_index segments.now.lasts.items start.now.from }
+    ensures cheaper { penalty_of segments.now.moments.now start.now.from to + rest < best.cost
+        → (result.cost ≡ penalty_of segments.now.moments.now start.now.from to + rest) × (result.next ≡ to) }
+    ensures same { best.cost ≤ penalty_of segments.now.moments.now start.now.from to + rest → result ≡ best }
 {
     if best.cost <= rest {
         return best;
     }
-    let limit = (best.cost - rest).min(1 << 56) as u64;
-    match segments.moments.penalty_below(from, to, limit) {
+    let limit = (best.cost - rest).min(1 << 24) as u64;
+    match start.penalty_below(to, limit) {
         Some(penalty) => Onward {
             cost: u128::from(penalty) + rest,
             next: to,
