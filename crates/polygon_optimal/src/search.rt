@@ -31,8 +31,8 @@ const SLOTS: usize = 1 << 16;
 /// A segment to go on by.
 #[derive(Clone, Copy)]
 struct Onward {
-    /// What the polygon costs from this segment on to the end.
-    cost: u128,
+    /// What the polygon costs from this segment on to the end: less than 2^56.
+    cost: u64,
     /// Where the segment leads.
     next: u32,
 }
@@ -58,7 +58,7 @@ pub(crate) fn least_by_windows(alloc: Global, segments: &Segments) -> Result<Wal
 {
     let places = segments.lasts.len() + 1;
     let mut counts = vec![in alloc; 0u32; places]?;
-    let mut costs = vec![in alloc; 0u128; places.min(SLOTS)]?;
+    let mut costs = vec![in alloc; 0u64; places.min(SLOTS)]?;
     let mut nexts = vec![in alloc; 0u32; places]?;
     fill_counts(segments, &mut counts);
     let farthest = farthest(alloc, segments, &counts)?;
@@ -71,7 +71,7 @@ fn walk_along(
     alloc: Global,
     segments: &Segments,
     counts: &[u32],
-    cost: u128,
+    cost: u64,
     nexts: &[u32],
 ) -> Result<Walk, NoMemory>
     requires count_places { length counts.now ≡ length segments.now.moments.now + 1 }
@@ -103,7 +103,7 @@ fn walk_along(
     Ok(Walk {
         at: Sequence::from_vec(at),
         count,
-        cost,
+        cost: u128::from(cost),
     })
 }
 
@@ -156,7 +156,7 @@ fn fill_costs(
     segments: &Segments,
     counts: &[u32],
     farthest: &[u32],
-    costs: &mut [u128],
+    costs: &mut [u64],
     nexts: &mut [u32],
 )
     requires count_places { length counts.now ≡ length segments.now.moments.now + 1 }
@@ -209,13 +209,13 @@ fn begin_from(counts: &[u32], from: usize, later: u32) -> u32
 //
 // The segment to where the best one from the next point leads is mostly the best here too, or nearly. So it
 // comes first, and hardly any of the others is better: they are refused without a root.
-fn cheapest_from(segments: &Segments, from: u32, begin: u32, guess: u32, costs: &[u128]) -> Onward
+fn cheapest_from(segments: &Segments, from: u32, begin: u32, guess: u32, costs: &[u64]) -> Onward
     requires from { from < length segments.now.moments.now }
     requires onwards { from < begin }
     requires some { begin ≤ slice_index segments.now.lasts.items from }
     requires slots { HasSlots (length segments.now.moments.now) costs.now }
     requires small { (k : ℕ) → begin ≤ k → k ≤ slice_index segments.now.lasts.items from
-        → slice_index costs.now (slot_of k) < 2 ^ 88 }
+        → slice_index costs.now (slot_of k) < 2 ^ 56 }
     ensures { HasCheapest
         (λ k. penalty_of segments.now.moments.now from k + slice_index costs.now (slot_of k))
         begin (slice_index segments.now.lasts.items from + 1) result }
@@ -223,7 +223,7 @@ fn cheapest_from(segments: &Segments, from: u32, begin: u32, guess: u32, costs: 
     let last = segments.lasts[from as usize];
     let to = guess.max(begin).min(last);
     let start = Start::at(segments.moments, from);
-    let cost = u128::from(start.penalty(to)) + costs[slot(to as usize)];
+    let cost = start.penalty(to) + costs[slot(to as usize)];
     let tried = Onward { cost, next: to };
     // A nearer one that costs as much is better.
     let bound = Onward {
@@ -260,7 +260,7 @@ fn cheaper_in(
     start: &Start,
     begin: u32,
     end: u32,
-    costs: &[u128],
+    costs: &[u64],
     best: Onward,
 ) -> Onward
     requires start { start.now.moments.now ≡ segments.now.moments.now }
@@ -282,7 +282,7 @@ fn cheaper_in(
 /// The segment to this point, from which the rest costs so much, where it is cheaper than `best`.
 //
 // Where the rest alone isn't cheaper, the segment isn't looked at.
-fn cheaper(segments: &Segments, start: &Start, to: u32, rest: u128, best: Onward) -> Onward
+fn cheaper(segments: &Segments, start: &Start, to: u32, rest: u64, best: Onward) -> Onward
     requires start { start.now.moments.now ≡ segments.now.moments.now }
     requires onwards { start.now.from < to }
     requires reached { to ≤ slice_index segments.now.lasts.items start.now.from }
@@ -293,10 +293,10 @@ fn cheaper(segments: &Segments, start: &Start, to: u32, rest: u128, best: Onward
     if best.cost <= rest {
         return best;
     }
-    let limit = (best.cost - rest).min(1 << 24) as u64;
+    let limit = (best.cost - rest).min(1 << 24);
     match start.penalty_below(to, limit) {
         Some(penalty) => Onward {
-            cost: u128::from(penalty) + rest,
+            cost: penalty + rest,
             next: to,
         },
         None => best,

@@ -10,7 +10,7 @@ returns-in-Some-clause-cheaper c = λ lower.
     let from = c.args.start.now.from in
     let P : List Point → Type 0 = λ points. IsPenalty points from c.args.to c.in-Some.penalty in
     let is = penalty_is_one c.args.segments.now.moments.now from c.args.to c.in-Some.penalty (subst P c.requires.start c.in-Some.ensures.some) in
-    (omega (arith, c.from.ensures, is), refl)
+    (omega (arith, is), refl)
 
 pub returns-in-Some-clause-same : goal.returns-in-Some-clause-same
 returns-in-Some-clause-same c = λ dear.
