@@ -1,11 +1,13 @@
 -- How small the penalties of a polygon's segments are.
-use Rattle.std.proofs.Common.{◌≡◌, ℕ, zero, suc, ◌+◌, ◌-◌, ◌*◌, ◌/◌, ◌<◌, ◌≤◌, ℤ, ◌*ℤ◌, List, [], ◌∷◌, ◌++◌, length, All, arith}
+use Rattle.std.proofs.Common.{◌≡◌, ℕ, zero, suc, ◌+◌, ◌-◌, ◌*◌, ◌/◌, ◌<◌, ◌≤◌, ◌^◌, ℤ, ◌*ℤ◌, List, [], ◌∷◌, ◌++◌, length, All, arith}
 use Rattle.std.proofs.lemmas.Int.{ints}
 use Rattle.std.proofs.lemmas.List.Elements.{All-head, All-tail}
 use Rattle.std.proofs.lemmas.List.Sums.{sum_by-cons}
 use Rattle.std.specs.Prelude.{sum_by, unsigned_abs}
 use Rattle.pt_base.specs.ClosedWalk.{IsClosedWalk}
 use Rattle.pt_base.specs.declared.point.Point.{Point}
+use Rattle.std.proofs.lemmas.Nat.{mul-le}
+use Rattle.pt_base.specs.declared.limits.TheConstants.{MOST_STEPS}
 use Rattle.pt_base.proofs.Roots.{root_below}
 use Rattle.pt_base.proofs.Sizes.{product_most}
 use Rattle.prefix_moments.specs.Sums.{IsPenalty, sum_of, spread_of, chord_cross_of}
@@ -37,6 +39,21 @@ possible_most points i j penalty walk possible is =
     let mean = mean_most (unsigned_abs (spread_of points i j)) (j - i + 1) (steps * steps) (possible_spread points i j walk possible) in
     let below : penalty < 256 * steps + 1 = root_below (65536 * unsigned_abs (spread_of points i j) / (j - i + 1)) penalty (256 * steps + 1) is (omega arith) in
     omega arith
+
+-- a segment has so few steps that neither takes much room
+pub possible_small : (points : List Point) (i j : ℕ) → IsClosedWalk points → IsPossible points i j → unsigned_abs (spread_of points i j) < 2 ^ 48
+possible_small points i j walk possible =
+    let steps : ℕ = j - i in
+    let square = mul-le steps steps MOST_STEPS MOST_STEPS possible.short possible.short in
+    omega (
+      arith,
+      possible_spread points i j walk possible,
+      mul-le (steps + 1) (steps * steps) (MOST_STEPS + 1) (MOST_STEPS * MOST_STEPS) (omega (arith, possible.short)) square,
+    )
+
+pub possible_cheap : (points : List Point) (i j : ℕ) → IsClosedWalk points → IsPossible points i j → penalty_of points i j < 2 ^ 24
+possible_cheap points i j walk possible =
+    omega (arith, possible.short, possible_most points i j (penalty_of points i j) walk possible (penalty_is points i j))
 
 -- and those of the segments from a point to the end together for each step up to there
 steps_most : (points : List Point) → IsClosedWalk points → (from : ℕ) (others : List ℕ)

@@ -19,6 +19,7 @@ ghost use Rattle.polygon_optimal.specs.Search.{AreFalling, AreFarthest, HasCheap
 
 use crate::segments::Segments;
 use least_walk::walk::Walk;
+use prefix_moments::start::Start;
 use pt_base::fault::NoMemory;
 use pt_base::sequence::Sequence;
 use std::alloc::Global;
@@ -34,8 +35,8 @@ const SLOTS: usize = 1 << 16;
 // which 64 bits would hold; but the search adds them by the contract of `least`.
 #[derive(Clone, Copy)]
 struct Onward {
-    /// What the polygon costs from this segment on to the end.
-    cost: u128,
+    /// What the polygon costs from this segment on to the end: less than 2^56.
+    cost: u64,
     /// Where the segment leads.
     next: u32,
 }
@@ -61,7 +62,7 @@ pub(crate) fn least_by_windows(alloc: Global, segments: &Segments) -> Result<Wal
 {
     let places = segments.lasts.len() + 1;
     let mut counts = vec![in alloc; 0u32; places]?;
-    let mut costs = vec![in alloc; 0u128; places.min(SLOTS)]?;
+    let mut costs = vec![in alloc; 0u64; places.min(SLOTS)]?;
     let mut nexts = vec![in alloc; 0u32; places]?;
     fill_counts(segments, &mut counts);
     let farthest = farthest(alloc, segments, &counts)?;
@@ -74,7 +75,7 @@ fn walk_along(
     alloc: Global,
     segments: &Segments,
     counts: &[u32],
-    cost: u128,
+    cost: u64,
     nexts: &[u32],
 ) -> Result<Walk, NoMemory>
     requires count_places { length counts.now ≡ length segments.now.moments.now + 1 }
@@ -106,7 +107,7 @@ fn walk_along(
     Ok(Walk {
         at: Sequence::from_vec(at),
         count,
-        cost,
+        cost: u128::from(cost),
     })
 }
 
@@ -163,7 +164,7 @@ fn fill_costs(
     segments: &Segments,
     counts: &[u32],
     farthest: &[u32],
-    costs: &mut [u128],
+    costs: &mut [u64],
     nexts: &mut [u32],
 )
     requires count_places { length counts.now ≡ length segments.now.moments.now + 1 }
@@ -216,30 +217,31 @@ fn begin_from(counts: &[u32], from: usize, later: u32) -> u32
 //
 // The segment to where the best one from the next point leads is mostly the best here too, or nearly. So it
 // comes first, and hardly any of the others is better: they are refused without a root.
-fn cheapest_from(segments: &Segments, from: u32, begin: u32, guess: u32, costs: &[u128]) -> Onward
+fn cheapest_from(segments: &Segments, from: u32, begin: u32, guess: u32, costs: &[u64]) -> Onward
     requires from { from < length segments.now.moments.now }
     requires onwards { from < begin }
     requires some { begin ≤ slice_index segments.now.lasts.items from }
     requires slots { HasSlots (length segments.now.moments.now) costs.now }
     requires small { (k : ℕ) → begin ≤ k → k ≤ slice_index segments.now.lasts.items from
-        → slice_index costs.now (slot_of k) < 2 ^ 88 }
+        → slice_index costs.now (slot_of k) < 2 ^ 56 }
     ensures { HasCheapest
         (λ k. penalty_of segments.now.moments.now from k + slice_index costs.now (slot_of k))
         begin (slice_index segments.now.lasts.items from + 1) result }
 {
     let last = segments.lasts[from as usize];
     let to = guess.max(begin).min(last);
-    let cost = u128::from(segments.moments.penalty(from, to)) + costs[slot(to as usize)];
+    let start = Start::at(segments.moments, from);
+    let cost = start.penalty(to) + costs[slot(to as usize)];
     let tried = Onward { cost, next: to };
     // A nearer one that costs as much is better.
     let bound = Onward {
         cost: cost + 1,
         next: to,
     };
-    let nearer = cheaper_in(segments, from, begin, to, costs, bound);
+    let nearer = cheaper_in(segments, &start, begin, to, costs, bound);
     cheaper_in(
         segments,
-        from,
+        &start,
         to + 1,
         last + 1,
         costs,
@@ -263,24 +265,24 @@ fn lower(nearer: Onward, tried: Onward) -> Onward
 /// or `best`, where none of them is cheaper.
 fn cheaper_in(
     segments: &Segments,
-    from: u32,
+    start: &Start,
     begin: u32,
     end: u32,
-    costs: &[u128],
+    costs: &[u64],
     best: Onward,
 ) -> Onward
-    requires from { from < length segments.now.moments.now }
-    requires onwards { from < begin }
+    requires start { start.now.moments.now ≡ segments.now.moments.now }
+    requires onwards { start.now.from < begin }
     requires ordered { begin ≤ end }
-    requires ends { end ≤ slice_index segments.now.lasts.items from + 1 }
+    requires ends { end ≤ slice_index segments.now.lasts.items start.now.from + 1 }
     requires slots { HasSlots (length segments.now.moments.now) costs.now }
     ensures { IsCheaperIn
-        (λ k. penalty_of segments.now.moments.now from k + slice_index costs.now (slot_of k))
+        (λ k. penalty_of segments.now.moments.now start.now.from k + slice_index costs.now (slot_of k))
         begin end best result }
 {
     let mut cheapest = best;
     for to in begin..end {
-        cheapest = cheaper(segments, from, to, costs[slot(to as usize)], cheapest);
+        cheapest = cheaper(segments, start, to, costs[slot(to as usize)], cheapest);
     }
     cheapest
 }
@@ -288,21 +290,21 @@ fn cheaper_in(
 /// The segment to this point, from which the rest costs so much, where it is cheaper than `best`.
 //
 // Where the rest alone isn't cheaper, the segment isn't looked at.
-fn cheaper(segments: &Segments, from: u32, to: u32, rest: u128, best: Onward) -> Onward
-    requires from { from < length segments.now.moments.now }
-    requires onwards { from < to }
-    requires reached { to ≤ slice_index segments.now.lasts.items from }
-    ensures cheaper { penalty_of segments.now.moments.now from to + rest < best.cost
-        → (result.cost ≡ penalty_of segments.now.moments.now from to + rest) × (result.next ≡ to) }
-    ensures same { best.cost ≤ penalty_of segments.now.moments.now from to + rest → result ≡ best }
+fn cheaper(segments: &Segments, start: &Start, to: u32, rest: u64, best: Onward) -> Onward
+    requires start { start.now.moments.now ≡ segments.now.moments.now }
+    requires onwards { start.now.from < to }
+    requires reached { to ≤ slice_index segments.now.lasts.items start.now.from }
+    ensures cheaper { penalty_of segments.now.moments.now start.now.from to + rest < best.cost
+        → (result.cost ≡ penalty_of segments.now.moments.now start.now.from to + rest) × (result.next ≡ to) }
+    ensures same { best.cost ≤ penalty_of segments.now.moments.now start.now.from to + rest → result ≡ best }
 {
     if best.cost <= rest {
         return best;
     }
-    let limit = (best.cost - rest).min(1 << 56) as u64;
-    match segments.moments.penalty_below(from, to, limit) {
+    let limit = (best.cost - rest).min(1 << 24);
+    match start.penalty_below(to, limit) {
         Some(penalty) => Onward {
-            cost: u128::from(penalty) + rest,
+            cost: penalty + rest,
             next: to,
         },
         None => best,

@@ -1,7 +1,8 @@
 //! The segments that a polygon may have, as steps from one point of its path to another.
-ghost use Rattle.std.specs.Prelude.{◌≡◌, ℕ, ◌+◌, ◌<◌, ◌≤◌, ◌^◌, List, length, slice_index, IfOk};
+ghost use Rattle.std.specs.Prelude.{◌≡◌, ℕ, ◌+◌, ◌<◌, ◌≤◌, ◌^◌, List, length, slice_index, unsigned_abs, IfOk};
 ghost use Rattle.pt_base.specs.ClosedWalk.{IsClosedWalk};
 ghost use Rattle.pt_base.specs.OnPage.{AreOnPage};
+ghost use Rattle.prefix_moments.specs.Sums.{spread_of};
 ghost use Rattle.polygon_optimal.specs.Polygon.{penalty_of};
 ghost use Rattle.polygon_optimal.specs.Lasts.{AreRising, IsLast, HasLasts, LeadsOn, IsUpToLast};
 
@@ -27,6 +28,10 @@ pub(crate) struct Segments<'a> {
     ghost places: { length lasts.items ≡ length moments.now },
     ghost onwards: { (i : ℕ) → i < length moments.now
         → LeadsOn (length moments.now) i (slice_index lasts.items i) },
+    ghost small: { (i j : ℕ) → i < length moments.now → IsUpToLast lasts.items i j
+        → unsigned_abs (spread_of moments.now i j) < 2 ^ 48 },
+    ghost cheap: { (i j : ℕ) → i < length moments.now → IsUpToLast lasts.items i j
+        → penalty_of moments.now i j < 2 ^ 24 },
     ghost rising: { AreRising (length moments.now) lasts.items },
 }
 

@@ -8,7 +8,7 @@ use Rattle.pt_base.specs.declared.limits.TheConstants.{LONGEST_SIDE, MOST_STEPS}
 use Rattle.pt_base.proofs.Sizes.{back, long_back, product_most}
 
 -- the value of a difference
-difference_back : (a b s : ℤ) → unsigned_abs a < 2 ^ 62 → unsigned_abs b < 2 ^ 62 → b ≡ s
+pub difference_back : (a b s : ℤ) → unsigned_abs a < 2 ^ 62 → unsigned_abs b < 2 ^ 62 → b ≡ s
     → to_z w64 (of_z w64 (to_z w64 (of_z w64 a) -ℤ to_z w64 (of_z w64 b))) ≡ a -ℤ s
 difference_back a b s h k e =
     rw (back a (omega arith), back b (omega arith), back (a -ℤ b) (omega (arith, ints))) (ap (λ n. a -ℤ n) e)

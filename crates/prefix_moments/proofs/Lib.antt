@@ -1,3 +1,4 @@
+pub mod Cornered
 pub mod Examples
 pub mod Fitting
 pub mod Integers
@@ -5,3 +6,4 @@ pub mod Prefixes
 pub mod Rows
 pub mod Summing
 pub mod Totals
+pub mod Wrapping

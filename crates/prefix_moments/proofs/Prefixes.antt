@@ -92,7 +92,7 @@ next_prefix at k p r q on_page ep eq x y xx xy yy =
     (xy ∙ rw (ep, eq) (long s.xy z.x z.y n.xy here.left here.bottom))
     (yy ∙ rw (ep, eq) (long s.yy z.y z.y n.yy here.bottom here.bottom)))
 
-sum_same : (f g : ℕ → ℤ) (count : ℕ) → ((k : ℕ) → f k ≡ g k) → sum_of f count ≡ sum_of g count
+pub sum_same : (f g : ℕ → ℤ) (count : ℕ) → ((k : ℕ) → f k ≡ g k) → sum_of f count ≡ sum_of g count
 sum_same f g zero e = refl
 sum_same f g (suc count) e = omega (arith, ints, sum_same f g count e, e count)
 

@@ -23,6 +23,19 @@ between_is : (r a b : ℤ) → pos 0 ≤ℤ a → a ≤ℤ pos LONGEST_SIDE → 
     → r ≡ to_z w32 (of_z w32 b) -ℤ to_z w32 (of_z w32 a) → r ≡ b -ℤ a
 between_is r a b al ah bl bh e = omega (arith, ints)
 
+-- how far the last point of a segment lies from the first
+pub right_is : (points : List Point) (i j : ℕ) (first last : Point) (right : ℤ) → IsOnPage first → IsOnPage last
+    → first ≡ point_at points i → last ≡ point_at points j → right ≡ to_z w32 (of_z w32 last.x) -ℤ to_z w32 (of_z w32 first.x) → right ≡ right_of points i j
+right_is points i j first last right pf pl ef el er =
+    between_is right first.x last.x pf.left pf.right pl.left pl.right er
+    ∙ ap (λ v. v.x -ℤ first.x) el ∙ ap (λ v. (point_at points j).x -ℤ v.x) ef
+
+pub above_is : (points : List Point) (i j : ℕ) (first last : Point) (above : ℤ) → IsOnPage first → IsOnPage last
+    → first ≡ point_at points i → last ≡ point_at points j → above ≡ to_z w32 (of_z w32 last.y) -ℤ to_z w32 (of_z w32 first.y) → above ≡ above_of points i j
+above_is points i j first last above pf pl ef el ea =
+    between_is above first.y last.y pf.bottom pf.top pl.bottom pl.top ea
+    ∙ ap (λ v. v.y -ℤ first.y) el ∙ ap (λ v. (point_at points j).y -ℤ v.y) ef
+
 -- what a call of `spread` on a segment's sums gives
 pub total_from : (points : List Point) (i j : ℕ) (s : Sums) (first last : Point) (right above t : ℤ)
     → IsOnPage first → IsOnPage last → first ≡ point_at points i → last ≡ point_at points j → s ≡ sums_of points i j
@@ -31,13 +44,8 @@ pub total_from : (points : List Point) (i j : ℕ) (s : Sums) (first last : Poin
     → t ≡ spread_by (to_z w64 (of_z w64 s.xx)) (to_z w64 (of_z w64 s.xy)) (to_z w64 (of_z w64 s.yy)) (to_z w64 (of_z w64 right)) (to_z w64 (of_z w64 above))
     → t ≡ spread_of points i j
 total_from points i j s first last right above t pf pl ef el es fxx fxy fyy hr ha er ea et =
-    let r : right ≡ right_of points i j =
-    between_is right first.x last.x pf.left pf.right pl.left pl.right er
-    ∙ ap (λ v. v.x -ℤ first.x) el ∙ ap (λ v. (point_at points j).x -ℤ v.x) ef in
-    let a : above ≡ above_of points i j =
-    between_is above first.y last.y pf.bottom pf.top pl.bottom pl.top ea
-    ∙ ap (λ v. v.y -ℤ first.y) el ∙ ap (λ v. (point_at points j).y -ℤ v.y) ef in
-    total_is points i j s right above t es r a
+    total_is points i j s right above t es
+    (right_is points i j first last right pf pl ef el er) (above_is points i j first last above pf pl ef el ea)
     (rw (to_z-of_z w64 s.xx fxx, to_z-of_z w64 s.xy fxy, to_z-of_z w64 s.yy fyy, back right (omega arith), back above (omega arith)) at et)
 
 -- the total isn't below zero

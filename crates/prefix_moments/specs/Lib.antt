@@ -21,5 +21,6 @@ pub mod Sums
 --   points_of: the points whose sums a table holds
 --   offsets_of: the sums of offsets from (x, y), for `count` points
 --   spread_by: the sum of the squared cross products of some offsets with one offset
+--   spread_from: the sum of the squared differences between some points' cross products with one offset and a number
 --   IsTable: row number k has the sums over the first k points, for one lap round the path
 pub mod Table

@@ -95,6 +95,13 @@ offsets_of r count x y = record {
 abbrev pub spread_by : ℤ → ℤ → ℤ → ℤ → ℤ → ℤ
 spread_by xx xy yy right above = ((above *ℤ above) *ℤ xx -ℤ pos 2 *ℤ ((right *ℤ above) *ℤ xy)) +ℤ (right *ℤ right) *ℤ yy
 
+-- the sum of the squared differences between some points' cross products with one offset and a number, by the sums of
+-- these points' coordinates
+abbrev pub spread_from : Raw → ℤ → ℤ → ℤ → ℤ → ℤ
+spread_from r count right above number =
+    ((above *ℤ (above *ℤ r.xx -ℤ (right *ℤ r.xy) *ℤ pos 2)) +ℤ (right *ℤ right) *ℤ r.yy)
+    +ℤ number *ℤ (count *ℤ number -ℤ (above *ℤ r.x -ℤ right *ℤ r.y) *ℤ pos 2)
+
 -- row number k has the sums over the first k points, for one lap round the path
 pub record IsTable (points : List Point) (rows : List Prefix) : Type 0 where
   pub some : 0 < length points

@@ -7,4 +7,5 @@
 pub mod moments;
 mod prefix;
 mod raw;
+pub mod start;
 pub mod sums;

@@ -61,7 +61,7 @@ impl Moments {
     }
 
     /// Point number `k`, in the first lap or in the second.
-    fn place(&self, k: u32) -> Point
+    pub(crate) fn place(&self, k: u32) -> Point
         requires { k < 2 * length self.now }
         ensures value { result ≡ point_at self.now k }
         ensures on_page { IsOnPage result }
@@ -83,7 +83,7 @@ impl Moments {
     }
 
     /// The sums over the first `k` points, in the first lap or in the second.
-    fn row(&self, k: usize) -> Prefix
+    pub(crate) fn row(&self, k: usize) -> Prefix
         requires { k ≤ 2 * length self.now }
         ensures value { result ≡ prefix_of self.now k }
         ensures on_page { AreOnPage self.now }
@@ -172,7 +172,7 @@ fn in_lap(k: usize, points: usize) -> usize
 }
 
 /// How far one coordinate lies from another.
-fn between(from: i32, to: i32) -> i64
+pub(crate) fn between(from: i32, to: i32) -> i64
     requires from_low { pos 0 ≤ℤ from }
     requires from_high { from ≤ℤ pos LONGEST_SIDE }
     requires to_low { pos 0 ≤ℤ to }

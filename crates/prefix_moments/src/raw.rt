@@ -1,6 +1,7 @@
 //! Sums of coordinates as they stand.
-ghost use Rattle.std.specs.Prelude.{◌≡◌, ◌+◌, ◌*◌, ◌<◌, ◌≤◌, ◌^◌, ℕ, ◌-ℤ◌, ◌*ℤ◌, unsigned_abs, pos};
-ghost use Rattle.prefix_moments.specs.Table.{spread_by};
+ghost use Rattle.std.specs.Prelude.{◌≡◌, ◌+◌, ◌*◌, ◌<◌, ◌≤◌, ◌^◌, ℕ, ◌+ℤ◌, ◌-ℤ◌, ◌*ℤ◌, unsigned_abs, pos};
+ghost use Rattle.std.specs.Int.{int_wrap, w64};
+ghost use Rattle.prefix_moments.specs.Table.{spread_by, spread_from};
 
 use pt_base::limits::{LONGEST_SIDE, MOST_STEPS};
 
@@ -62,6 +63,35 @@ pub(crate) fn spread(xx: i64, xy: i64, yy: i64, right: i64, above: i64) -> i128
 {
     wide(offset_product(above, above), xx) - 2 * wide(offset_product(right, above), xy)
         + wide(offset_product(right, right), yy)
+}
+
+/// The sum of the squared differences of the cross products from a number, of `count` points with these sums; as much
+/// of it as fits in 64 bits.
+pub(crate) fn wrapped_spread(sums: Raw, count: i64, right: i64, above: i64, number: i64) -> i64
+    ensures { result ≡ int_wrap w64 (spread_from sums count right above number) }
+{
+    let mixed = right.wrapping_mul(sums.xy).wrapping_mul(2);
+    let squares = above
+        .wrapping_mul(above.wrapping_mul(sums.xx).wrapping_sub(mixed))
+        .wrapping_add(right.wrapping_mul(right).wrapping_mul(sums.yy));
+    let products = above
+        .wrapping_mul(sums.x)
+        .wrapping_sub(right.wrapping_mul(sums.y));
+    let rest = count
+        .wrapping_mul(number)
+        .wrapping_sub(products.wrapping_mul(2));
+    squares.wrapping_add(number.wrapping_mul(rest))
+}
+
+/// The cross product of a place with an offset.
+pub(crate) fn crossed(x: i64, y: i64, right: i64, above: i64) -> i64
+    requires x { unsigned_abs x ≤ LONGEST_SIDE }
+    requires y { unsigned_abs y ≤ LONGEST_SIDE }
+    requires right { unsigned_abs right ≤ LONGEST_SIDE }
+    requires above { unsigned_abs above ≤ LONGEST_SIDE }
+    ensures { result ≡ x *ℤ above -ℤ y *ℤ right }
+{
+    offset_product(x, above) - offset_product(y, right)
 }
 
 /// The product of two offsets of one point.

@@ -6,4 +6,4 @@ use Rattle.polygon_optimal.proofs.search.cheaper_in.Given as goal
 
 abbrev pub invariant-loop-to : goal.invariant-loop-to
 invariant-loop-to l =
-    IsCheaperIn (λ k. penalty_of l.segments.moments.now l.from k + slice_index l.costs (slot_of k)) l.begin l.to l.fn.best l.cheapest
+    IsCheaperIn (λ k. penalty_of l.segments.moments.now l.start.from k + slice_index l.costs (slot_of k)) l.begin l.to l.fn.best l.cheapest

@@ -6,7 +6,6 @@ use Rattle.least_walk.specs.Suffix.{HasNexts, IsLeastCost}
 use Rattle.least_walk.proofs.Filling.{nexts_more, nexts_same}
 use Rattle.least_walk.proofs.Places.{place_at_start}
 use Rattle.polygon_optimal.specs.Lasts.{IsUpToLast}
-use Rattle.polygon_optimal.specs.OnePenalty.{penalty_most}
 use Rattle.polygon_optimal.specs.Polygon.{penalty_of}
 use Rattle.polygon_optimal.specs.Search.{IsBegin, slot_of}
 use Rattle.polygon_optimal.proofs.Counting.{next_most, none_left}
@@ -59,10 +58,10 @@ cheapest_from-onward-requires-clause-some c =
     let place = place_in_window size lasts s.onwards s.rising counts c.requires.fewest c.requires.falling c.args.farthest.now c.requires.farthest
     i within c.if-from-farthest.true in
     window_reached size lasts s.onwards s.rising counts c.requires.fewest c.requires.falling (penalty_of s.moments.now) s.few
-    (λ i j below up. penalty_most s.moments.now s.on_page i j)
+    s.cheap
     later.whole i c.begin_from-begin.result below place begin later.are
 
--- and no way on from there costs as much as 2^88
+-- and no way on from there costs as much as 2^56
 pub cheapest_from-onward-requires-clause-small : goal.cheapest_from-onward-requires-clause-small
 cheapest_from-onward-requires-clause-small c =
     let s = c.args.segments.now in
@@ -82,9 +81,9 @@ cheapest_from-onward-requires-clause-small c =
     let kept_there : (k : ℕ) → c.begin_from-begin.result ≤ k → k < slice_index lasts i + 1 → slice_index c.loop-from.costs (slot_of k) ≡ slice_index later.whole k =
     λ k above near. later.kept k (omega (arith, begin.above)) (omega (arith, on.within)) (omega (arith, begin.above, on.short, on.beyond)) in
     λ k above near.
-    subst (λ n. n < 2 ^ 88) (sym (kept_there k above (omega arith)))
+    subst (λ n. n < 2 ^ 56) (sym (kept_there k above (omega arith)))
     (costs_small size lasts s.onwards s.rising counts c.requires.fewest c.requires.falling (penalty_of s.moments.now) s.few
-    (λ i j below up. penalty_most s.moments.now s.on_page i j)
+    s.cheap
     later.whole i c.begin_from-begin.result below place begin later.are k above near)
 
 pub loop-from-preserved-then-from-farthest : goal.loop-from-preserved-then-from-farthest
@@ -107,7 +106,7 @@ loop-from-preserved-then-from-farthest c =
     λ k above near. later.kept k (omega (arith, begin.above)) (omega (arith, on.within)) (omega (arith, begin.above, on.short, on.beyond)) in
     let nexts = subst (λ n. HasNexts size (IsUpToLast lasts) (penalty_of s.moments.now) n c.loop-from.nexts) low c.loop-from.invariant.nexts in
     let (cost, next) = best_onward size lasts s.onwards s.rising counts c.requires.fewest c.requires.falling (penalty_of s.moments.now) s.few
-    (λ i j below up. penalty_most s.moments.now s.on_page i j)
+    s.cheap
     later.whole i c.begin_from-begin.result below place begin later.are c.cheapest_from-onward.result
     (cheapest_same (λ k. penalty_of s.moments.now i k + slice_index c.loop-from.costs (slot_of k)) (λ k. penalty_of s.moments.now i k + slice_index later.whole k)
     c.begin_from-begin.result (slice_index lasts i + 1) c.cheapest_from-onward.result

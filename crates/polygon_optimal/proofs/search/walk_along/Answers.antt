@@ -51,5 +51,5 @@ returns c =
       least = walk;
       starts = steps ∙ step_count-walk_from starts size;
       count = steps;
-      cost = total_cost-least size is_allowed (penalty_of s.moments.now) (starts ++ size ∷ []) walk c.args.cost c.requires.cost;
+      cost = c.from.ensures ∙ total_cost-least size is_allowed (penalty_of s.moments.now) (starts ++ size ∷ []) walk c.args.cost c.requires.cost;
     })

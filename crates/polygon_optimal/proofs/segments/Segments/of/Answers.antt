@@ -3,8 +3,9 @@ use Rattle.pt_base.specs.ClosedWalk.{IsClosedWalk}
 use Rattle.pt_base.specs.OnPage.{AreOnPage}
 use Rattle.pt_base.specs.declared.point.Point.{Point}
 use Rattle.polygon_optimal.specs.Lasts.{HasLasts}
-use Rattle.polygon_optimal.proofs.Reaching.{leads_on}
+use Rattle.polygon_optimal.proofs.Reaching.{leads_on, segment_up_to}
 use Rattle.polygon_optimal.proofs.Rising.{lasts_rise}
+use Rattle.polygon_optimal.proofs.Small.{possible_small, possible_cheap}
 use Rattle.polygon_optimal.proofs.segments.Segments.of.Goals as goal
 
 -- what is known of the walk is known of the one that was summed up
@@ -22,5 +23,7 @@ invariant_of-result c =
       on_page = subst AreOnPage same c.requires.on_page;
       places = has.places;
       onwards = leads_on points lasts has;
+      small = λ i j below up. possible_small points i j closed (segment_up_to points lasts has i j up).possible;
+      cheap = λ i j below up. possible_cheap points i j closed (segment_up_to points lasts has i j up).possible;
       rising = lasts_rise points lasts has;
     }

@@ -1,0 +1,109 @@
+//! The segments from one point of a path.
+ghost use Rattle.std.specs.Prelude.{◌≡◌, ℕ, ◌+◌, ◌-◌, ◌*◌, ◌<◌, ◌≤◌, ◌^◌, pos, unsigned_abs, length, IfSome, IfNone};
+ghost use Rattle.pt_base.specs.ClosedWalk.{point_at};
+ghost use Rattle.pt_base.specs.OnPage.{IsOnPage};
+ghost use Rattle.prefix_moments.specs.Sums.{spread_of, IsPenalty};
+ghost use Rattle.prefix_moments.specs.Table.{prefix_of};
+
+use crate::moments::{Moments, between};
+use crate::prefix::Prefix;
+use crate::raw::{crossed, wrapped_spread};
+use pt_base::limits::MOST_STEPS;
+use pt_base::point::Point;
+use pt_base::root::isqrt;
+
+/// The segments from one point of a path, for whoever asks for many of them: what these have in common is looked up
+/// once.
+#[derive(Clone, Copy)]
+pub struct Start<'a> {
+    pub moments: &'a Moments,
+    /// The point's number.
+    pub from: u32,
+    place: Point,
+    /// The sums over the points before it.
+    before: Prefix,
+    ghost point: { from < length moments.now },
+    ghost place_is: { place ≡ point_at moments.now from },
+    ghost before_is: { before ≡ prefix_of moments.now from },
+    ghost on_page: { IsOnPage place },
+}
+
+impl<'a> Start<'a> {
+    /// The segments from point number `from`.
+    pub fn at(moments: &'a Moments, from: u32) -> Start<'a>
+        requires { from < length moments.now }
+        ensures moments { result.moments.now ≡ moments.now }
+        ensures from { result.from ≡ from }
+    {
+        Start {
+            moments,
+            from,
+            place: moments.place(from),
+            before: moments.row(from as usize),
+        }
+    }
+
+    /// The penalty of the segment to point number `to`, whose squared cross products together are as small as those
+    /// of a possible segment.
+    pub fn penalty(&self, to: u32) -> u64
+        requires onwards { self.now.from < to }
+        requires steps { to - self.now.from ≤ MOST_STEPS }
+        requires lap { to - self.now.from ≤ length self.now.moments.now }
+        requires small { unsigned_abs (spread_of self.now.moments.now self.now.from to) < 2 ^ 48 }
+        ensures { IsPenalty self.now.moments.now self.now.from to result }
+    {
+        isqrt(u128::from(65536 * self.total(to) / u64::from(to - self.from + 1)))
+    }
+
+    /// The same penalty, where it is below a limit; no root is taken where it isn't.
+    pub fn penalty_below(&self, to: u32, limit: u64) -> Option<u64>
+        requires onwards { self.now.from < to }
+        requires steps { to - self.now.from ≤ MOST_STEPS }
+        requires lap { to - self.now.from ≤ length self.now.moments.now }
+        requires small { unsigned_abs (spread_of self.now.moments.now self.now.from to) < 2 ^ 48 }
+        requires limit { limit ≤ 2 ^ 24 }
+        ensures some { IfSome result (λ penalty. IsPenalty self.now.moments.now self.now.from to penalty) }
+        ensures below { IfSome result (λ penalty. penalty < limit) }
+        ensures none { IfNone result ((penalty : ℕ)
+            → IsPenalty self.now.moments.now self.now.from to penalty → limit ≤ penalty) }
+    {
+        let total = 65536 * self.total(to);
+        let count = u64::from(to - self.from + 1);
+        if square(limit) * count <= total {
+            return None;
+        }
+        Some(isqrt(u128::from(total / count)))
+    }
+
+    /// The sum of the squared cross products of the points up to point number `to`.
+    fn total(&self, to: u32) -> u64
+        requires onwards { self.now.from < to }
+        requires steps { to - self.now.from ≤ MOST_STEPS }
+        requires lap { to - self.now.from ≤ length self.now.moments.now }
+        requires small { unsigned_abs (spread_of self.now.moments.now self.now.from to) < 2 ^ 48 }
+        ensures value { result ≡ unsigned_abs (spread_of self.now.moments.now self.now.from to) }
+        ensures most { result < 2 ^ 48 }
+    {
+        let sums = self.moments.row(to as usize + 1).minus(self.before).raw();
+        let last = self.moments.place(to);
+        let right = between(self.place.x, last.x);
+        let above = between(self.place.y, last.y);
+        let start = crossed(
+            i64::from(self.place.x),
+            i64::from(self.place.y),
+            right,
+            above,
+        );
+        let total = wrapped_spread(sums, i64::from(to - self.from + 1), right, above, start);
+        total as u64
+    }
+}
+
+/// A limit's square.
+fn square(limit: u64) -> u64
+    requires { limit ≤ 2 ^ 24 }
+    ensures value { result ≡ limit * limit }
+    ensures most { result ≤ 2 ^ 48 }
+{
+    limit * limit
+}
