@@ -103,3 +103,8 @@ pub mod Costs
 --   IsSecondHalf: the same on the second half
 --   IsHalf: the second half if it is above 0 in the middle, and else the first
 pub mod Halves
+-- What the search for the best cut of an outline knows of the ways on from its pieces.
+--   IsUpTo: the first way on doesn't come behind the second
+--   paid: a way on, with the penalty of its first run
+--   AreLeastCosts: at each index from `low` to the end stands what the least way to go on from there costs
+pub mod Search
