@@ -16,58 +16,53 @@ use Rattle.bitmap_input.specs.Reader.{IfSays}
 use Rattle.bitmap_input.specs.declared.fault.InFault.{InFault}
 use Rattle.bitmap_input.specs.declared.fault.InFault.TheVariants as fault
 use Rattle.run_output.specs.Messages.{page_line, trailing_line}
-use Rattle.run_output.specs.Names.{made_with}
-use Rattle.run_output.specs.Made.{most_pages}
+use Rattle.run_output.specs.Names.{next_name}
+use Rattle.run_output.specs.Made.{Past, most_pages, past_file}
 use Rattle.run_output.specs.declared.status.Status.{Status}
 use Rattle.run_output.specs.declared.status.Status.TheVariants as status
-use Rattle.run_output.proofs.Naming.{length-made_with, made_with-in}
-use Rattle.run_output.specs.declared.part.Binding.TheVariants.{Apart}
 use Rattle.page_batches.specs.Held.{AreHeld, Held, Holds}
-use Rattle.page_batches.specs.Items.{Item}
-use Rattle.page_batches.specs.Items.Item.{Note, Stop}
+use Rattle.page_batches.specs.Items.{Item, end_items}
+use Rattle.page_batches.specs.Items.Item.{Stop}
 use Rattle.page_batches.specs.Outcome.{HasEnded, IsHalt}
 use Rattle.run_output.specs.Told.{Sinks}
 use Rattle.page_batches.proofs.Carrying.{ended_more}
 use Rattle.page_batches.proofs.Holding.{holds_on}
-use Rattle.file_trace.specs.Items.{AreItems, ArePageItems, HoldsPages, Nothing, Rest, told_contents, too_many}
+use Rattle.file_trace.specs.Items.{AreItems, ArePageItems, FileEnds, HoldsPages, Nothing, PagesAlone, Rest, told_contents, too_many}
 use Rattle.file_trace.specs.Manner.{HasTexts, Manner, base_by}
 use Rattle.file_trace.specs.Outcome.{BeginsWith, is_later}
-use Rattle.file_trace.specs.Progress.{AreTraced, EndsWith, Halts, Traces, TracesFile, docs, end_message, items_at_end, status_of}
+use Rattle.file_trace.specs.Progress.{AreTraced, EndsWith, Halts, Traces, TracesFile, end_message, items_at_end, status_of, text_items}
 use Rattle.file_trace.specs.declared.pages.PagesEnd.{PagesEnd}
 use Rattle.file_trace.specs.declared.pages.PagesEnd.TheVariants as why
-use Rattle.file_trace.proofs.Exists.{AreShown, items_found, page_items_found, pages_found}
+use Rattle.file_trace.proofs.Exists.{AreShown, file_pages_found, items_found, pages_found}
 use Rattle.file_trace.proofs.Paging.{pages_on}
 
--- the items of a file are the documents of its first pages and what follows those
-pub pages_docs : (manner : Manner) (name base : List ℕ) (ending : Ending) (F : Rest) (raws more : List Raw) (texts : List (List ℕ)) (pages k : ℕ) (made mid : List (List ℕ)) (after : List Item)
-    → AreTraced manner raws texts → k ≡ pages + length raws → length raws + length made ≤ most_pages → mid ≡ made_with base (length raws) made
-    → ArePageItems manner name base ending F more k mid after → ArePageItems manner name base ending F (raws ++ more) pages made (docs base made texts ++ after)
-pages_docs manner name base ending F [] more [] pages k made mid after t count few same h =
-    let P : ℕ → Type 0 = λ n. ArePageItems manner name base ending F more n made after in
-    let Q : List (List ℕ) → Type 0 = λ m. ArePageItems manner name base ending F more k m after in
-    subst P (omega (arith, count)) (subst Q same h)
-pages_docs manner name base ending F (raw ∷ raws) more (text ∷ texts) pages k made mid after t count few same h =
+-- the items of a file are those of its first pages and what follows those
+pub first_pages : (manner : Manner) (name base : List ℕ) (Behind : ℕ → Rest) (raws more : List Raw) (texts : List (List ℕ)) (pages k : ℕ) (past : Past) (after : List Item)
+    → AreTraced manner raws texts → k ≡ pages + length raws → k + past.pages ≤ most_pages
+    → ArePageItems manner name base Behind more k past after → ArePageItems manner name base Behind (raws ++ more) pages past (text_items manner base past pages texts ++ after)
+first_pages manner name base Behind [] more [] pages k past after t count few h =
+    let P : ℕ → Type 0 = λ n. ArePageItems manner name base Behind more n past after in subst P (omega (arith, count)) h
+first_pages manner name base Behind (raw ∷ raws) more (text ∷ texts) pages k past after t count few h =
     inl (
-      omega (arith, few),
+      omega (arith, count, few),
       (
         text,
-        docs base (base ∷ made) texts ++ after,
+        text_items manner base past (suc pages) texts ++ after,
         t.0,
         refl,
-        pages_docs manner name base ending F raws more texts (suc pages) k (base ∷ made) mid after t.1 (omega (arith, count)) (omega (arith, few))
-            (same ∙ sym (made_with-in base (length raws) made)) h,
+        first_pages manner name base Behind raws more texts (suc pages) k past after t.1 (omega (arith, count)) few h,
       ),
     )
-pages_docs manner name base ending F [] more (text ∷ texts) pages k made mid after t count few same h = absurd t
-pages_docs manner name base ending F (raw ∷ raws) more [] pages k made mid after t count few same h = absurd t
+first_pages manner name base Behind [] more (text ∷ texts) pages k past after t count few h = absurd t
+first_pages manner name base Behind (raw ∷ raws) more [] pages k past after t count few h = absurd t
 
 -- the items of a file with these pages alone
-pub docs_alone : (manner : Manner) (name base : List ℕ) (made : List (List ℕ)) (raws : List Raw) (texts : List (List ℕ)) → AreTraced manner raws texts → length raws + length made ≤ most_pages
-    → ArePageItems manner name base End Nothing raws 0 made (docs base made texts)
-docs_alone manner name base made raws texts traced few =
-    let items = pages_docs manner name base End Nothing raws [] texts 0 (length raws) made (made_with base (length raws) made) [] traced (omega arith) few refl refl in
-    subst (λ (rs : List Raw). ArePageItems manner name base End Nothing rs 0 made (docs base made texts)) (append-nil raws)
-    (subst (λ (l : List Item). ArePageItems manner name base End Nothing (raws ++ []) 0 made l) (append-nil (docs base made texts)) items)
+pub pages_alone : (manner : Manner) (name base : List ℕ) (past : Past) (raws : List Raw) (texts : List (List ℕ)) → AreTraced manner raws texts → length raws + past.pages ≤ most_pages
+    → ArePageItems manner name base PagesAlone raws 0 past (text_items manner base past 0 texts)
+pages_alone manner name base past raws texts traced few =
+    let items = first_pages manner name base PagesAlone raws [] texts 0 (length raws) past [] traced (omega arith) few refl in
+    subst (λ (rs : List Raw). ArePageItems manner name base PagesAlone rs 0 past (text_items manner base past 0 texts)) (append-nil raws)
+    (subst (λ (l : List Item). ArePageItems manner name base PagesAlone (raws ++ []) 0 past l) (append-nil (text_items manner base past 0 texts)) items)
 
 -- the pages that were found in the file's bytes are those of the file
 
@@ -131,17 +126,17 @@ fault_text-kind : (f : InFault) (kind : Kind) → cause_of_fault f ≡ Says (Ref
 fault_text-kind f kind e = ap cause_text e
 
 -- these are pages of the file of this name, and the texts of their documents; `rest` is what follows them
-pub record HasRead (contents : Option Contents) (manner : Manner) (name : List ℕ) (made : List (List ℕ)) : Type 0 where
+pub record HasRead (contents : Option Contents) (manner : Manner) (name : List ℕ) (past : Past) : Type 0 where
   pub raws : List Raw
   pub texts : List (List ℕ)
-  pub few : length raws + length made ≤ most_pages
+  pub few : length raws + past.pages ≤ most_pages
   pub traced : AreTraced manner raws texts
   pub rest : Option (List ℕ)
   pub holds : (more : List Raw) (ending : Ending) → IfSome rest (λ left. FilePages (is_later false raws) left more ending) → HoldsPages contents name (raws ++ more) ending
 
-abbrev pub read_by_tracing : (size : ℕ) (contents : Option Contents) (manner : Manner) (name base : List ℕ) (made : List (List ℕ)) (start now : Option Files) (held held_now : List Held) (a b : Sinks) (k : ℕ) (end : PagesEnd)
-    → HasBytes contents name (unread start) → Traces size manner base made start now held held_now a b k end → HasRead contents manner name made
-read_by_tracing size contents manner name base made start now held held_now a b k end has t = record {
+abbrev pub read_by_tracing : (size : ℕ) (contents : Option Contents) (manner : Manner) (name base : List ℕ) (past : Past) (start now : Option Files) (held held_now : List Held) (a b : Sinks) (k : ℕ) (end : PagesEnd)
+    → HasBytes contents name (unread start) → Traces size manner base past start now held held_now a b k end → HasRead contents manner name past
+read_by_tracing size contents manner name base past start now held held_now a b k end has t = record {
   raws = t.raws;
   texts = t.texts;
   few = omega (arith, t.count, t.few);
@@ -151,18 +146,18 @@ read_by_tracing size contents manner name base made start now held held_now a b 
 }
 
 -- the same base name, spelled otherwise
-pub traced_named : (size : ℕ) (manner : Manner) (base other : List ℕ) (made : List (List ℕ)) (start now : Option Files) (held held_now : List Held) (a b : Sinks) (k : ℕ) (end : PagesEnd) → base ≡ other
-    → Traces size manner base made start now held held_now a b k end → Traces size manner other made start now held held_now a b k end
-traced_named size manner base other made start now held held_now a b k end same t = subst (λ (name : List ℕ). Traces size manner name made start now held held_now a b k end) same t
+pub traced_named : (size : ℕ) (manner : Manner) (base other : List ℕ) (past : Past) (start now : Option Files) (held held_now : List Held) (a b : Sinks) (k : ℕ) (end : PagesEnd) → base ≡ other
+    → Traces size manner base past start now held held_now a b k end → Traces size manner other past start now held held_now a b k end
+traced_named size manner base other past start now held held_now a b k end same t = subst (λ (name : List ℕ). Traces size manner name past start now held held_now a b k end) same t
 
-pub halts_named : (s : Status) (size : ℕ) (manner : Manner) (base other : List ℕ) (made : List (List ℕ)) (start now : Option Files) (held : List Held) (a b : Sinks) → base ≡ other
-    → Halts s size manner base made start now held a b → Halts s size manner other made start now held a b
-halts_named s size manner base other made start now held a b same t = subst (λ (name : List ℕ). Halts s size manner name made start now held a b) same t
+pub halts_named : (s : Status) (size : ℕ) (manner : Manner) (base other : List ℕ) (past : Past) (start now : Option Files) (held : List Held) (a b : Sinks) → base ≡ other
+    → Halts s size manner base past start now held a b → Halts s size manner other past start now held a b
+halts_named s size manner base other past start now held a b same t = subst (λ (name : List ℕ). Halts s size manner name past start now held a b) same t
 
 -- the reading halted at a document that couldn't be written
-pub halts_unwritten : (s : Status) (size : ℕ) (manner : Manner) (base : List ℕ) (made : List (List ℕ)) (start now : Option Files) (held : List Held) (a b : Sinks) → s ≡ status.Unwritten
-    → Halts s size manner base made start now held a b → Halts status.Unwritten size manner base made start now held a b
-halts_unwritten s size manner base made start now held a b is t = subst (λ (v : Status). Halts v size manner base made start now held a b) is t
+pub halts_unwritten : (s : Status) (size : ℕ) (manner : Manner) (base : List ℕ) (past : Past) (start now : Option Files) (held : List Held) (a b : Sinks) → s ≡ status.Unwritten
+    → Halts s size manner base past start now held a b → Halts status.Unwritten size manner base past start now held a b
+halts_unwritten s size manner base past start now held a b is t = subst (λ (v : Status). Halts v size manner base past start now held a b) is t
 
 -- the same where the reading halted
 pub record IsBehind (contents : Option Contents) (name : List ℕ) (raws : List Raw) : Type 0 where
@@ -176,69 +171,82 @@ behind_pages (Some contents) name all raws (bytes, held, is) begins =
     let (left, b) = subst (λ (o : Option (List ℕ)). IfSome o (λ bs. (left : List ℕ) × BeginsWith false bs raws left)) is begins in
     record { rest = Some left; holds = λ more ending pages. (bytes, held, pages_on false bytes raws left more ending b pages) }
 
-abbrev pub read_by_halting : (size : ℕ) (contents : Option Contents) (s : Status) (manner : Manner) (name base : List ℕ) (made : List (List ℕ)) (start now : Option Files) (held : List Held) (a b : Sinks)
-    → HasBytes contents name (unread start) → Halts s size manner base made start now held a b → HasRead contents manner name made
-read_by_halting size contents s manner name base made start now held a b has t =
+abbrev pub read_by_halting : (size : ℕ) (contents : Option Contents) (s : Status) (manner : Manner) (name base : List ℕ) (past : Past) (start now : Option Files) (held : List Held) (a b : Sinks)
+    → HasBytes contents name (unread start) → Halts s size manner base past start now held a b → HasRead contents manner name past
+read_by_halting size contents s manner name base past start now held a b has t =
     let behind = behind_pages contents name (unread start) t.raws has t.begins in
     record { raws = t.raws; texts = t.texts; few = t.few; traced = t.traced; rest = behind.rest; holds = behind.holds }
 
-module _ (contents : Option Contents) (manner : Manner) (name : List ℕ) (made : List (List ℕ)) where
+module _ (contents : Option Contents) (manner : Manner) (name : List ℕ) (past : Past) where
   abbrev base : List ℕ
   base = base_by manner name
 
   -- the items of the file, and of what follows it
-  listed : (F : Rest) (r : HasRead contents manner name made) (k : ℕ) → k ≡ length r.raws → (more : List Raw) (ending : Ending) (after : List Item)
+  listed : (F : Rest) (r : HasRead contents manner name past) (k : ℕ) → k ≡ length r.raws → (more : List Raw) (ending : Ending) (after : List Item)
       → IfSome r.rest (λ left. FilePages (is_later false r.raws) left more ending)
-      → ArePageItems manner name base ending F more k (made_with base k made) after
-      → (raws : List Raw) × (ending : Ending) × HoldsPages contents name raws ending × ArePageItems manner name base ending F raws 0 made (docs base made r.texts ++ after)
+      → ArePageItems manner name base (FileEnds manner name base ending F) more k past after
+      → (raws : List Raw) × (ending : Ending) × HoldsPages contents name raws ending
+      × ArePageItems manner name base (FileEnds manner name base ending F) raws 0 past (text_items manner base past 0 r.texts ++ after)
   listed F r k count more ending after pages follow = (
     r.raws ++ more,
     ending,
     r.holds more ending pages,
-    pages_docs manner name base ending F r.raws more r.texts 0 k made (made_with base k made) after r.traced (omega (arith, count)) r.few (ap (λ n. made_with base n made) count) follow,
+    first_pages manner name base (FileEnds manner name base ending F) r.raws more r.texts 0 k past after r.traced (omega (arith, count)) (let few = r.few in omega (arith, count, few)) follow,
   )
 
   -- the items of the file and of those behind it, behind the first ones, as far as the status says
   abbrev EndsFile : Status → List Item → List (List ℕ) → Sinks → Sinks → Type 0
-  EndsFile s first names a c = (items : List Item) × AreItems contents manner Nothing (name ∷ names) made items × HasEnded s (first ++ items) a c
+  EndsFile s first names a c = (items : List Item) × AreItems contents manner Nothing (name ∷ names) past items × HasEnded s (first ++ items) a c
 
   abbrev Behind : List (List ℕ) → Rest
   Behind names = AreItems contents manner Nothing names
 
   -- the documents of its first pages, and then items of the rest of it and of the files behind it
-  pub items_after : HasTexts manner → (names : List (List ℕ)) (r : HasRead contents manner name made)
-      → (after : List Item) × AreItems contents manner Nothing (name ∷ names) made (docs base made r.texts ++ after)
+  pub items_after : HasTexts manner → (names : List (List ℕ)) (r : HasRead contents manner name past)
+      → (after : List Item) × AreItems contents manner Nothing (name ∷ names) past (text_items manner base past 0 r.texts ++ after)
   items_after can names r =
       let k = length r.raws in
       let left = pages_found manner (is_later false r.raws) r.rest in
-      let behind = page_items_found manner can name base left.ending (Behind names) (λ m. items_found contents manner can names m) left.raws left.shows k (made_with base k made) in
+      let behind = file_pages_found manner can name base left.ending (Behind names) (λ m. items_found contents manner can names m) left.raws left.shows k past in
       (behind.0, inr (listed (Behind names) r k refl left.raws left.ending behind.0 left.pages behind.1))
 
   -- the run ends within the file
-  pub file_halts : HasTexts manner → (s : Status) → IsHalt s → (first : List Item) (names : List (List ℕ)) (a c : Sinks) (r : HasRead contents manner name made)
-      → HasEnded s (first ++ docs base made r.texts) a c → EndsFile s first names a c
+  pub file_halts : HasTexts manner → (s : Status) → IsHalt s → (first : List Item) (names : List (List ℕ)) (a c : Sinks) (r : HasRead contents manner name past)
+      → HasEnded s (first ++ text_items manner base past 0 r.texts) a c → EndsFile s first names a c
   file_halts can s which first names a c r ended =
       let (after, are) = items_after can names r in (
-        docs base made r.texts ++ after,
+        text_items manner base past 0 r.texts ++ after,
         are,
-        subst (λ l. HasEnded s l a c) (append_assoc first (docs base made r.texts) after) (ended_more s which (first ++ docs base made r.texts) after a c ended),
+        subst (λ l. HasEnded s l a c) (append_assoc first (text_items manner base past 0 r.texts) after) (ended_more s which (first ++ text_items manner base past 0 r.texts) after a c ended),
       )
 
   module _ (size : ℕ) (start now : Option Files) (k : ℕ) (held held_mid : List Held) (a b : Sinks) (has : HasBytes contents name (unread start)) where
     -- its pages were read, and the reading ended so
     abbrev TracedTo : PagesEnd → Type 0
-    TracedTo end = Traces size manner base made start now held held_mid a b k end
+    TracedTo end = Traces size manner base past start now held held_mid a b k end
 
-    abbrev read_of : (end : PagesEnd) → TracedTo end → HasRead contents manner name made
-    read_of end t = read_by_tracing size contents manner name base made start now held held_mid a b k end has t
+    abbrev read_of : (end : PagesEnd) → TracedTo end → HasRead contents manner name past
+    read_of end t = read_by_tracing size contents manner name base past start now held held_mid a b k end has t
+
+    -- what was made behind the file
+    abbrev behind_file : Past
+    behind_file = past_file manner.binding base k past
+
+    -- its end's items, and none behind them
+    ends_alone : (messages : List (List ℕ))
+        → (rest : List Item) × (end_items manner.binding (next_name base past.made) k messages ≡ end_items manner.binding (next_name base past.made) k messages ++ rest)
+        × EndsWith behind_file behind_file rest
+    ends_alone messages = ([], sym (append-nil (end_items manner.binding (next_name base past.made) k messages)), (refl, refl))
 
     -- the items of the file, where the run goes on behind it
     items_of : (end : PagesEnd) (t : TracedTo end) → status_of end ≡ status.Done
         → (raws : List Raw) × (ending : Ending) × HoldsPages contents name raws ending
-        × ArePageItems manner name base ending (EndsWith (made_with base k made)) raws 0 made (docs base made t.texts ++ items_at_end name end k)
-    items_of why.End t done = listed (EndsWith (made_with base k made)) (read_of why.End t) k t.count [] End [] (pages_end _ End t.rest t.ends) (refl, refl)
+        × ArePageItems manner name base (FileEnds manner name base ending (EndsWith behind_file)) raws 0 past (text_items manner base past 0 t.texts ++ items_at_end manner name base past end k)
+    items_of why.End t done =
+        listed (EndsWith behind_file) (read_of why.End t) k t.count [] End (items_at_end manner name base past why.End k) (pages_end _ End t.rest t.ends) (ends_alone [])
     items_of why.Trailing t done =
-        listed (EndsWith (made_with base k made)) (read_of why.Trailing t) k t.count [] Trailing (Note (trailing_line name k) ∷ []) (pages_end _ Trailing t.rest t.ends) ([], refl, (refl, refl))
+        listed (EndsWith behind_file) (read_of why.Trailing t) k t.count [] Trailing (items_at_end manner name base past why.Trailing k) (pages_end _ Trailing t.rest t.ends)
+        (ends_alone (trailing_line name k ∷ []))
     items_of why.TooMany t done = absurd (let no : status.Refused ≡ status.Done = done in cc)
     items_of (why.Fault fault.ReadFault) t done = absurd (let no : status.Unread ≡ status.Done = done in cc)
     items_of (why.Fault fault.NoMemory) t done = absurd (let no : status.OutOfMemory ≡ status.Done = done in cc)
@@ -246,18 +254,21 @@ module _ (contents : Option Contents) (manner : Manner) (name : List ℕ) (made 
 
     -- the run goes on behind the file
     pub file_goes_on : (end : PagesEnd) → TracedTo end → (held_now : List Held) (c : Sinks)
-        → ((left : List Item) → AreHeld Apart manner.belongs held_mid left → Holds Apart size manner.belongs (left ++ items_at_end name end k) held_now b c) → status_of end ≡ status.Done
-        → TracesFile size contents manner name made (made_with base k made) held held_now a c
-    file_goes_on end t held_now c behind done = record {
-      items = docs base made t.texts ++ items_at_end name end k;
-      are = inr (items_of end t done);
-      holds = λ first are. subst (λ l. Holds Apart size manner.belongs l held_now a c) (append_assoc first (docs base made t.texts) (items_at_end name end k))
-          (holds_on Apart size manner.belongs (first ++ docs base made t.texts) (items_at_end name end k) held_mid held_now a b c (t.holds first are) behind);
-    }
+        → ((left : List Item) → AreHeld manner.binding manner.belongs held_mid left
+        → Holds manner.binding size manner.belongs (left ++ items_at_end manner name base past end k) held_now b c) → status_of end ≡ status.Done
+        → TracesFile size contents manner name past behind_file held held_now a c
+    file_goes_on end t held_now c behind done =
+        let last = items_at_end manner name base past end k in
+        record {
+          items = text_items manner base past 0 t.texts ++ last;
+          are = inr (items_of end t done);
+          holds = λ first are. subst (λ l. Holds manner.binding size manner.belongs l held_now a c) (append_assoc first (text_items manner base past 0 t.texts) last)
+              (holds_on manner.binding size manner.belongs (first ++ text_items manner base past 0 t.texts) last held_mid held_now a b c (t.holds first are) behind);
+        }
 
-    -- the documents of its pages, and a refusal
+    -- its pages, and a refusal
     abbrev AreRefused : List (List ℕ) → List (List ℕ) → List ℕ → Type 0
-    AreRefused names texts message = AreItems contents manner Nothing (name ∷ names) made (docs base made texts ++ Stop message ∷ [])
+    AreRefused names texts message = AreItems contents manner Nothing (name ∷ names) past (text_items manner base past 0 texts ++ Stop message ∷ [])
 
     pub refused_items : (f : InFault) → status_of (why.Fault f) ≡ status.Refused → (names : List (List ℕ)) (t : TracedTo (why.Fault f))
         → AreRefused names t.texts (end_message name (why.Fault f) k)
@@ -275,5 +286,4 @@ module _ (contents : Option Contents) (manner : Manner) (name : List ℕ) (made 
         let (raw, used, here) = t.ends in
         let page = page_found manner raw used (is_later false t.raws) t.rest here in
         let message = page_line name (k + 1) too_many in
-        let full : most_pages ≤ length (made_with base k made) = omega (arith, t.full refl, length-made_with base k made) in
-        inr (listed (Behind names) (read_of why.TooMany t) k t.count (raw ∷ page.raws) page.ending (Stop message ∷ []) page.pages (inr (full, refl)))
+        inr (listed (Behind names) (read_of why.TooMany t) k t.count (raw ∷ page.raws) page.ending (Stop message ∷ []) page.pages (inr (t.full refl, refl)))

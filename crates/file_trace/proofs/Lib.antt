@@ -3,6 +3,7 @@ pub mod Counting
 pub mod Ending
 pub mod Exists
 pub mod Filing
+pub mod Finishing
 pub mod OnePass
 pub mod Joining
 pub mod Keeping

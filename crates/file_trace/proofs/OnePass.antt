@@ -3,9 +3,10 @@ use Rattle.std.proofs.Common.{◌≡◌, ◌≤◌, ◌<◌, ℕ, ◌+◌, ◌*�
 use Rattle.std.proofs.lemmas.Nat.{div_below, le-div}
 use Rattle.pt_base.specs.Counts.{Rose}
 use Rattle.pt_base.specs.Files.{Contents}
-use Rattle.run_output.specs.declared.part.Binding.TheVariants.{Apart}
 use Rattle.page_batches.specs.Held.{AreHeld, Held, Holds, pages_held}
-use Rattle.page_batches.specs.Items.{Doc, Item, page_count}
+use Rattle.run_output.specs.Made.{Past}
+use Rattle.run_output.specs.Parts.{Part}
+use Rattle.page_batches.specs.Items.{Item, page_count, pages_in}
 use Rattle.page_batches.specs.Items.Item.{Write}
 use Rattle.page_batches.specs.Outcome.{IsUnwritten}
 use Rattle.run_output.specs.Told.{Sinks, Source}
@@ -29,7 +30,7 @@ before_last (r ∷ read) (x ∷ before) after last item e =
     let here = page_count-append (x ∷ []) before in
     let there = page_count-append (r ∷ []) read in omega (arith, less, one, here, there)
 
--- the batch in which the k-th document is ends with this one
+-- the batch in which the k-th page is ends with this one
 batch_end_least : (size k batches : ℕ) → 0 < size → batches * size ≤ k → batches * size + size ≤ batch_end size k
 batch_end_least size k batches some least =
     let n : batches ≤ k / size = le-div batches k size some least in
@@ -59,11 +60,11 @@ batch_end_behind size k batches some =
           let rest = div-add-mod' k size in
           let small : k % size < size = mod-lt k some in omega (arith, rest, small)
 
--- what was read, and then a document, and what is held with it fills a batch: one of these couldn't be written
-pub batch_halts : (size : ℕ) (manner : Manner) (read : List Item) (name text : List ℕ) (held : List Held) (a b c : Sinks) → (h : Holds Apart size manner.belongs read held a b)
-    → ((left : List Item) → AreHeld Apart manner.belongs held left → IsUnwritten (left ++ Doc name text ∷ []) b c) → pages_held held + 1 ≡ size → IsInBatch size (read ++ Doc name text ∷ []) a c
-batch_halts size manner read name text held a b c h behind full =
-    let more : List Item = Doc name text ∷ [] in
+-- what was read, and then a page, and what is held with it fills a batch: a part of these couldn't be written
+pub batch_halts : (size : ℕ) (manner : Manner) (read : List Item) (page : Part) (held : List Held) (a b c : Sinks) → pages_in page.begins page.ends ≡ 1 → (h : Holds manner.binding size manner.belongs read held a b)
+    → ((left : List Item) → AreHeld manner.binding manner.belongs held left → IsUnwritten (left ++ Write page ∷ []) b c) → pages_held held + 1 ≡ size → IsInBatch size (read ++ Write page ∷ []) a c
+batch_halts size manner read page held a b c one h behind full =
+    let more : List Item = Write page ∷ [] in
     let u = behind h.left h.are_held in
     let (v, e) = unwritten_on h.done (h.left ++ more) a b c h.carried u in
     let split = split_on h.done h.left read more h.split in
@@ -71,29 +72,29 @@ batch_halts size manner read name text held a b c h behind full =
     let before = ap page_count (d ∙ e) ∙ page_count-append h.done u.before in
     let all = ap page_count split ∙ page_count-append h.done (h.left ++ more) in
     let last = page_count-append h.left more in
-    let held_is = page_count-held Apart manner.belongs held h.left h.are_held in
-    let less = before_last read w.before w.after (Doc name text) (Write w.part) w.split in
+    let held_is = page_count-held manner.binding manner.belongs held h.left h.are_held in
+    let less = before_last read w.before w.after (Write page) (Write w.part) w.split in
     let sum = page_count-append read more in
-    record { unwritten = w; batches = h.batches; behind = omega (arith, before, h.whole); within = omega (arith, less, sum); full = omega (arith, all, last, held_is, h.whole, full) }
+    record { unwritten = w; batches = h.batches; behind = omega (arith, before, h.whole); within = omega (arith, less, sum, one); full = omega (arith, all, last, held_is, h.whole, full, one) }
 
--- what was read, and what is held of it fills no batch: one document of that couldn't be written
-pub part_halts : (size : ℕ) (manner : Manner) (read : List Item) (held : List Held) (a b c : Sinks) → (h : Holds Apart size manner.belongs read held a b)
-    → ((left : List Item) → AreHeld Apart manner.belongs held left → IsUnwritten left b c) → pages_held held < size → IsInPart size read a c
+-- what was read, and what is held of it fills no batch: a part of that couldn't be written
+pub part_halts : (size : ℕ) (manner : Manner) (read : List Item) (held : List Held) (a b c : Sinks) → (h : Holds manner.binding size manner.belongs read held a b)
+    → ((left : List Item) → AreHeld manner.binding manner.belongs held left → IsUnwritten left b c) → pages_held held < size → IsInPart size read a c
 part_halts size manner read held a b c h behind few =
     let u = behind h.left h.are_held in
     let (v, e) = unwritten_on h.done h.left a b c h.carried u in
     let (w, d) = unwritten_as read (h.done ++ h.left) a c h.split v in
     let before = ap page_count (d ∙ e) ∙ page_count-append h.done u.before in
     let all = ap page_count h.split ∙ page_count-append h.done h.left in
-    let held_is = page_count-held Apart manner.belongs held h.left h.are_held in
+    let held_is = page_count-held manner.binding manner.belongs held h.left h.are_held in
     record { unwritten = w; batches = h.batches; behind = omega (arith, before, h.whole); most = omega (arith, all, held_is, h.whole, few) }
 
-module _ (size : ℕ) (some : 0 < size) (first : List Item) (contents : Option Contents) (manner : Manner) (names made : List (List ℕ)) (source source_now : Source) (a c : Sinks) where
+module _ (size : ℕ) (some : 0 < size) (first : List Item) (contents : Option Contents) (manner : Manner) (names : List (List ℕ)) (past : Past) (source source_now : Source) (a c : Sinks) where
   abbrev Passes : Type 0
-  Passes = IsOnePass size first contents manner names made source source_now a c
+  Passes = IsOnePass size first contents manner names past source source_now a c
 
   -- the run ended within items that fill no batch, and no document is behind them
-  pub pass_of_part : (read last items : List Item) → AreItems contents manner Nothing names made items → IsInPart size read a c
+  pub pass_of_part : (read last items : List Item) → AreItems contents manner Nothing names past items → IsInPart size read a c
       → first ++ items ≡ read ++ last → page_count last ≡ 0 → Passes
   pass_of_part read last items are p split none =
       let (v, e) = unwritten_more read last a c p.unwritten in
@@ -104,7 +105,7 @@ module _ (size : ℕ) (some : 0 < size) (first : List Item) (contents : Option C
       record { items = items; are = are; unwritten = w; no_farther = λ steady enough. absurd (omega (arith, enough, least, all, none, p.most)) }
 
   -- an input failed
-  pub pass_of_rise : (read more items : List Item) → AreItems contents manner Nothing names made items → IsUnwritten read a c
+  pub pass_of_rise : (read more items : List Item) → AreItems contents manner Nothing names past items → IsUnwritten read a c
       → first ++ items ≡ read ++ more → Rose source.faults source_now.faults → Passes
   pass_of_rise read more items are u split rose =
       let (v, e) = unwritten_more read more a c u in
@@ -112,8 +113,8 @@ module _ (size : ℕ) (some : 0 < size) (first : List Item) (contents : Option C
       record { items = items; are = are; unwritten = w; no_farther = λ steady enough. absurd (steady rose) }
 
   -- the run ended with a whole batch
-  pub pass_of_batch : (read more items : List Item) → AreItems contents manner Nothing names made items → (p : IsInBatch size read a c)
-      → first ++ items ≡ read ++ more → IfReadsTo (page_count read) first contents manner names made source source_now → Passes
+  pub pass_of_batch : (read more items : List Item) → AreItems contents manner Nothing names past items → (p : IsInBatch size read a c)
+      → first ++ items ≡ read ++ more → IfReadsTo (page_count read) first contents manner names past source source_now → Passes
   pass_of_batch read more items are p split reads =
       let (v, e) = unwritten_more read more a c p.unwritten in
       let (w, d) = unwritten_as (first ++ items) (read ++ more) a c split v in
@@ -124,5 +125,5 @@ module _ (size : ℕ) (some : 0 < size) (first : List Item) (contents : Option C
         items = items;
         are = are;
         unwritten = w;
-        no_farther = λ steady enough. subst (λ n. IfReadsTo n first contents manner names made source source_now) same reads;
+        no_farther = λ steady enough. subst (λ n. IfReadsTo n first contents manner names past source source_now) same reads;
       }

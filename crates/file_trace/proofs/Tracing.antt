@@ -13,20 +13,19 @@ use Rattle.bitmap_input.specs.Front.Answer.{Page}
 use Rattle.bitmap_input.specs.FilePages.{next_begins}
 use Rattle.bitmap_input.specs.Reading.{Moves}
 use Rattle.bitmap_input.specs.Reader.{Reader, ReadFails, ahead as reader_ahead, at_start, is_later as reader_is_later}
-use Rattle.run_output.specs.Names.{made_with, next_name}
-use Rattle.run_output.specs.Made.{most_pages}
+use Rattle.run_output.specs.Made.{Past, most_pages, page_name}
+use Rattle.run_output.specs.Parts.{page_part}
 use Rattle.run_output.specs.declared.status.Status.{Status}
 use Rattle.run_output.specs.declared.status.Status.TheVariants as status
-use Rattle.run_output.proofs.Naming.{made_with-in}
-use Rattle.run_output.specs.declared.part.Binding.TheVariants.{Apart}
 use Rattle.page_batches.specs.Held.{AreHeld, Held, Holds, pages_held}
-use Rattle.page_batches.specs.Items.{Doc, Item}
+use Rattle.page_batches.specs.Items.{Item}
 use Rattle.page_batches.specs.Outcome.{HasEnded}
 use Rattle.run_output.specs.Told.{Sinks}
-use Rattle.page_batches.proofs.Holding.{all_held, ended_behind, holds_on}
+use Rattle.page_batches.proofs.Holding.{all_held, ended_behind, holds_on, pages_in-page}
+use Rattle.file_trace.specs.Items.{page_item}
 use Rattle.file_trace.specs.Manner.{Manner}
 use Rattle.file_trace.specs.Outcome.{BeginsSettled, BeginsWith, LeavesBehind, ReadsNear, is_later}
-use Rattle.file_trace.specs.Progress.{AreTraced, EndsBy, Halts, HasUnread, IsInBatch, ReadsPage, Settles, TakesNeeded, Traces, ahead, docs}
+use Rattle.file_trace.specs.Progress.{AreTraced, EndsBy, Halts, HasUnread, IsInBatch, ReadsPage, Settles, TakesNeeded, Traces, ahead, text_items}
 use Rattle.file_trace.specs.declared.pages.PagesEnd.{PagesEnd}
 use Rattle.file_trace.specs.declared.pages.PagesEnd.TheVariants as why
 use Rattle.file_trace.proofs.OnePass.{batch_halts}
@@ -35,7 +34,7 @@ use Rattle.file_trace.proofs.Reading.{first_taken, unread-with_read}
 
 -- the first k pages were read; of what was held before and their documents, which have these texts, the first
 -- are carried out, and the others are held; the reader stands behind the pages
-pub record IsTraced (size : ℕ) (manner : Manner) (base : List ℕ) (made : List (List ℕ)) (bytes : Option (List ℕ)) (reader : Reader) (files : Option Files) (held held_now : List Held) (old new : Sinks) (k : ℕ) : Type 0 where
+pub record IsTraced (size : ℕ) (manner : Manner) (base : List ℕ) (past : Past) (bytes : Option (List ℕ)) (reader : Reader) (files : Option Files) (held held_now : List Held) (old new : Sinks) (k : ℕ) : Type 0 where
   pub raws : List Raw
   pub texts : List (List ℕ)
   pub taken : List ℕ
@@ -45,14 +44,14 @@ pub record IsTraced (size : ℕ) (manner : Manner) (base : List ℕ) (made : Lis
   pub told : IfSome bytes (λ all. (rest : List ℕ) × (all ≡ taken ++ rest) × (unread files ≡ Some rest))
   pub settled : reader.ended ≡ false → (tail : List ℕ) → BeginsSettled false (taken ++ tail) raws (reader_ahead reader tail)
   pub near : IfSome bytes (λ all. (behind : List ℕ) × (rest : List ℕ) × LeavesBehind false all raws behind × (unread files ≡ Some rest) × (length behind ≤ length rest + 65536))
-  pub holds : (first : List Item) → AreHeld Apart manner.belongs held first → Holds Apart size manner.belongs (first ++ docs base made texts) held_now old new
+  pub holds : (first : List Item) → AreHeld manner.binding manner.belongs held first → Holds manner.binding size manner.belongs (first ++ text_items manner base past 0 texts) held_now old new
   pub counted : reader.pages ≡ k
   pub going_on : reader.over ≡ false
 
 -- nothing is traced yet
-pub none_traced : (size : ℕ) (manner : Manner) (base : List ℕ) (made : List (List ℕ)) (files : Option Files) (held : List Held) (a : Sinks)
-    → IsTraced size manner base made (unread files) at_start files held held a a 0
-none_traced size manner base made files held a = record {
+pub none_traced : (size : ℕ) (manner : Manner) (base : List ℕ) (past : Past) (files : Option Files) (held : List Held) (a : Sinks)
+    → IsTraced size manner base past (unread files) at_start files held held a a 0
+none_traced size manner base past files held a = record {
   raws = [];
   texts = [];
   taken = [];
@@ -62,7 +61,7 @@ none_traced size manner base made files held a = record {
   told = all_left (unread files);
   settled = λ _ tail. refl;
   near = all_near (unread files);
-  holds = λ first are. rw (append-nil first) (all_held Apart size manner.belongs held first a are);
+  holds = λ first are. rw (append-nil first) (all_held manner.binding size manner.belongs held first a are);
   counted = refl;
   going_on = refl;
 } where
@@ -179,13 +178,13 @@ near_end (Some all) reader after files now taken raws later (behind, rest, leave
       by_ended true ended = unmoved (t.moves.stopped ended).0
       by_ended false going = by_needed going t.needed.undecided
 
--- the document of one text more
-docs-more : (base : List ℕ) (made : List (List ℕ)) (texts : List (List ℕ)) (text : List ℕ)
-    → docs base made (texts ++ text ∷ []) ≡ docs base made texts ++ Doc (next_name base (made_with base (length texts) made)) text ∷ []
-docs-more base made [] text = refl
-docs-more base made (t ∷ texts) text =
-    ap (λ l. Doc (next_name base made) t ∷ l) (docs-more base (base ∷ made) texts text
-    ∙ ap (λ m. docs base (base ∷ made) texts ++ Doc (next_name base m) text ∷ []) (made_with-in base (length texts) made))
+-- the page of one text more
+text_items-more : (manner : Manner) (base : List ℕ) (past : Past) (pages k : ℕ) (texts : List (List ℕ)) (text : List ℕ) → k ≡ pages + length texts
+    → text_items manner base past pages (texts ++ text ∷ []) ≡ text_items manner base past pages texts ++ page_item manner base past k text ∷ []
+text_items-more manner base past pages k [] text count =
+    let same : pages ≡ k = omega (arith, count) in ap (λ (n : ℕ). page_item manner base past n text ∷ []) same
+text_items-more manner base past pages k (t ∷ texts) text count =
+    ap (λ (l : List Item). page_item manner base past pages t ∷ l) (text_items-more manner base past (suc pages) k texts text (omega (arith, count)))
 
 -- a text for each page
 pub traced_length : (manner : Manner) (raws : List Raw) (texts : List (List ℕ)) → AreTraced manner raws texts → length raws ≡ length texts
@@ -194,22 +193,21 @@ traced_length manner (raw ∷ raws) (text ∷ texts) t = ap suc (traced_length m
 traced_length manner [] (text ∷ texts) t = absurd t
 traced_length manner (raw ∷ raws) [] t = absurd t
 
--- the items before, and then the documents of one text more
-items_more : (base : List ℕ) (made : List (List ℕ)) (first : List Item) (texts : List (List ℕ)) (text : List ℕ) (k : ℕ) → k ≡ length texts
-    → (first ++ docs base made texts) ++ Doc (next_name base (made_with base k made)) text ∷ [] ≡ first ++ docs base made (texts ++ text ∷ [])
-items_more base made first texts text k count =
-    append_assoc first (docs base made texts) (Doc (next_name base (made_with base k made)) text ∷ [])
-    ∙ ap (λ n. first ++ (docs base made texts ++ Doc (next_name base (made_with base n made)) text ∷ [])) count
-    ∙ ap (λ l. first ++ l) (sym (docs-more base made texts text))
+-- the items before, and then the page of one text more
+items_more : (manner : Manner) (base : List ℕ) (past : Past) (first : List Item) (texts : List (List ℕ)) (text : List ℕ) (k : ℕ) → k ≡ length texts
+    → (first ++ text_items manner base past 0 texts) ++ page_item manner base past k text ∷ [] ≡ first ++ text_items manner base past 0 (texts ++ text ∷ [])
+items_more manner base past first texts text k count =
+    append_assoc first (text_items manner base past 0 texts) (page_item manner base past k text ∷ [])
+    ∙ ap (λ l. first ++ l) (sym (text_items-more manner base past 0 k texts text (omega (arith, count))))
 
 -- one page more is read, and what has to be done of its document is held or carried out
-pub one_more : (size : ℕ) (manner : Manner) (base : List ℕ) (made : List (List ℕ)) (bytes : Option (List ℕ)) (old new : Reader) (before after : Option Files) (held mid_held held_now : List Held) (a b c : Sinks) (k : ℕ) (page : Pixels) (text : List ℕ)
-    → IsTraced size manner base made bytes old before held mid_held a b k → ReadsPage manner old before page new after → manner.belongs page text
-    → ((left : List Item) → AreHeld Apart manner.belongs mid_held left → Holds Apart size manner.belongs (left ++ Doc (next_name base (made_with base k made)) text ∷ []) held_now b c)
-    → IsTraced size manner base made bytes new after held held_now a c (k + 1)
-one_more size manner base made bytes old new before after held mid_held held_now a b c k page text t p is_text holds =
+pub one_more : (size : ℕ) (manner : Manner) (base : List ℕ) (past : Past) (bytes : Option (List ℕ)) (old new : Reader) (before after : Option Files) (held mid_held held_now : List Held) (a b c : Sinks) (k : ℕ) (page : Pixels) (text : List ℕ)
+    → IsTraced size manner base past bytes old before held mid_held a b k → ReadsPage manner old before page new after → manner.belongs page text
+    → ((left : List Item) → AreHeld manner.binding manner.belongs mid_held left → Holds manner.binding size manner.belongs (left ++ page_item manner base past k text ∷ []) held_now b c)
+    → IsTraced size manner base past bytes new after held held_now a c (k + 1)
+one_more size manner base past bytes old new before after held mid_held held_now a b c k page text t p is_text holds =
     let later = later_is old t.raws k t.counted t.count in
-    let doc = Doc (next_name base (made_with base k made)) text in
+    let doc = page_item manner base past k text in
     record {
       raws = t.raws ++ p.raw ∷ [];
       texts = t.texts ++ text ∷ [];
@@ -220,8 +218,8 @@ one_more size manner base made bytes old new before after held mid_held held_now
       told = told_more bytes before after t.taken p.more old.ended new.ended p.moves t.told;
       settled = settled_more manner t.taken old new before after page t.raws later t.settled p;
       near = near_more manner bytes old new before after page t.raws later t.begins p;
-      holds = λ first are. subst (λ l. Holds Apart size manner.belongs l held_now a c) (items_more base made first t.texts text k (t.count ∙ traced_length manner t.raws t.texts t.traced))
-          (holds_on Apart size manner.belongs (first ++ docs base made t.texts) (doc ∷ []) mid_held held_now a b c (t.holds first are) holds);
+      holds = λ first are. subst (λ l. Holds manner.binding size manner.belongs l held_now a c) (items_more manner base past first t.texts text k (t.count ∙ traced_length manner t.raws t.texts t.traced))
+          (holds_on manner.binding size manner.belongs (first ++ text_items manner base past 0 t.texts) (doc ∷ []) mid_held held_now a b c (t.holds first are) holds);
       counted = omega (arith, p.counted, t.counted);
       going_on = p.going_on;
     }
@@ -238,12 +236,12 @@ no_less [] raw = λ e. cc
 no_less (first ∷ raws) raw = λ e. cc
 
 -- one page more is read, and what was held with it couldn't be carried out
-pub halted : (s : Status) (size : ℕ) (manner : Manner) (base : List ℕ) (made : List (List ℕ)) (start : Option Files) (old new : Reader) (before after : Option Files) (held mid_held : List Held) (a b c : Sinks) (k : ℕ) (page : Pixels) (text : List ℕ)
-    → IsTraced size manner base made (unread start) old before held mid_held a b k → ReadsPage manner old before page new after → manner.belongs page text
-    → ((left : List Item) → AreHeld Apart manner.belongs mid_held left → HasEnded s (left ++ Doc (next_name base (made_with base k made)) text ∷ []) b c)
-    → k + length made < most_pages → (s ≡ status.Unwritten → pages_held mid_held + 1 ≡ size) → Halts s size manner base made start after held a c
-halted s size manner base made start old new before after held mid_held a b c k page text t p is_text ended few full =
-    let doc = Doc (next_name base (made_with base k made)) text in
+pub halted : (s : Status) (size : ℕ) (manner : Manner) (base : List ℕ) (past : Past) (start : Option Files) (old new : Reader) (before after : Option Files) (held mid_held : List Held) (a b c : Sinks) (k : ℕ) (page : Pixels) (text : List ℕ)
+    → IsTraced size manner base past (unread start) old before held mid_held a b k → ReadsPage manner old before page new after → manner.belongs page text
+    → ((left : List Item) → AreHeld manner.binding manner.belongs mid_held left → HasEnded s (left ++ page_item manner base past k text ∷ []) b c)
+    → k + past.pages < most_pages → (s ≡ status.Unwritten → pages_held mid_held + 1 ≡ size) → Halts s size manner base past start after held a c
+halted s size manner base past start old new before after held mid_held a b c k page text t p is_text ended few full =
+    let doc = page_item manner base past k text in
     let later = later_is old t.raws k t.counted t.count in
     let begins = begins_more (unread start) (ahead old before) (ahead new after) t.raws p.raw p.used (reader_is_later old) later t.begins p.told in
     record {
@@ -254,17 +252,18 @@ halted s size manner base made start old new before after held mid_held a b c k 
       begins = just_begins (unread start) (ahead new after) (t.raws ++ p.raw ∷ []) begins;
       some = no_less t.raws p.raw;
       near = near_more manner (unread start) old new before after page t.raws later t.begins p;
-      in_batch = λ is first are. subst (λ l. IsInBatch size l a c) (items_more base made first t.texts text k (t.count ∙ traced_length manner t.raws t.texts t.traced))
-          (batch_halts size manner (first ++ docs base made t.texts) (next_name base (made_with base k made)) text mid_held a b c (t.holds first are)
+      in_batch = λ is first are. subst (λ l. IsInBatch size l a c) (items_more manner base past first t.texts text k (t.count ∙ traced_length manner t.raws t.texts t.traced))
+          (batch_halts size manner (first ++ text_items manner base past 0 t.texts) (page_part manner.binding (page_name manner.binding base past.made k) k text) mid_held a b c
+          (pages_in-page manner.binding (page_name manner.binding base past.made k) k text) (t.holds first are)
           (λ left held. subst (λ v. HasEnded v (left ++ doc ∷ []) b c) is (ended left held)) (full is));
-      ended = λ first are. subst (λ l. HasEnded s l a c) (items_more base made first t.texts text k (t.count ∙ traced_length manner t.raws t.texts t.traced))
-          (ended_behind s Apart size manner.belongs (first ++ docs base made t.texts) (doc ∷ []) mid_held a b c (t.holds first are) ended);
+      ended = λ first are. subst (λ l. HasEnded s l a c) (items_more manner base past first t.texts text k (t.count ∙ traced_length manner t.raws t.texts t.traced))
+          (ended_behind s manner.binding size manner.belongs (first ++ text_items manner base past 0 t.texts) (doc ∷ []) mid_held a b c (t.holds first are) ended);
     }
 
 -- a read failed behind the pages that were read
-unread_more : (size : ℕ) (manner : Manner) (base : List ℕ) (made : List (List ℕ)) (start : Option Files) (reader after : Reader) (files now : Option Files) (held held_now : List Held) (a b : Sinks) (k : ℕ)
-    → (t : IsTraced size manner base made (unread start) reader files held held_now a b k) → ReadFails reader files after now → HasUnread t.raws start now
-unread_more size manner base made start reader after files now held held_now a b k t fails =
+unread_more : (size : ℕ) (manner : Manner) (base : List ℕ) (past : Past) (start : Option Files) (reader after : Reader) (files now : Option Files) (held held_now : List Held) (a b : Sinks) (k : ℕ)
+    → (t : IsTraced size manner base past (unread start) reader files held held_now a b k) → ReadFails reader files after now → HasUnread t.raws start now
+unread_more size manner base past start reader after files now held held_now a b k t fails =
     let was : reader.ended ≡ false = still_going reader.ended after.ended (λ e. (fails.moves.stopped e).1) fails.going_on in
     record {
       taken = t.taken ++ fails.more;
@@ -277,12 +276,12 @@ unread_more size manner base made start reader after files now held held_now a b
     }
 
 -- no page more is read
-pub no_more : (size : ℕ) (manner : Manner) (base : List ℕ) (made : List (List ℕ)) (start : Option Files) (reader after : Reader) (files files_now : Option Files) (held held_now : List Held) (a b : Sinks) (k : ℕ) (end : PagesEnd)
-    → IsTraced size manner base made (unread start) reader files held held_now a b k
+pub no_more : (size : ℕ) (manner : Manner) (base : List ℕ) (past : Past) (start : Option Files) (reader after : Reader) (files files_now : Option Files) (held held_now : List Held) (a b : Sinks) (k : ℕ) (end : PagesEnd)
+    → IsTraced size manner base past (unread start) reader files held held_now a b k
     → EndsBy (reader_is_later reader) (ahead reader files) end → (end ≡ why.Fault fault.ReadFault → ReadFails reader files after files_now) → TakesNeeded reader files after files_now
-    → k + length made ≤ most_pages → (end ≡ why.TooMany → most_pages ≤ k + length made)
-    → Traces size manner base made start files_now held held_now a b k end
-no_more size manner base made start reader after files files_now held held_now a b k end t ends fails takes few full = record {
+    → k + past.pages ≤ most_pages → (end ≡ why.TooMany → most_pages ≤ k + past.pages)
+    → Traces size manner base past start files_now held held_now a b k end
+no_more size manner base past start reader after files files_now held held_now a b k end t ends fails takes few full = record {
   raws = t.raws;
   texts = t.texts;
   count = t.count;
@@ -292,7 +291,7 @@ no_more size manner base made start reader after files files_now held held_now a
   begins = t.begins;
   ends = subst (λ l. EndsBy l (ahead reader files) end) (later_is reader t.raws k t.counted t.count) ends;
   full = full;
-  unread = λ e. unread_more size manner base made start reader after files files_now held held_now a b k t (fails e);
+  unread = λ e. unread_more size manner base past start reader after files files_now held held_now a b k t (fails e);
   near = near_end (unread start) reader after files files_now t.taken t.raws (later_is reader t.raws k t.counted t.count) t.near t.told t.settled takes;
   holds = t.holds;
 }

@@ -1,5 +1,5 @@
 -- The manner in which files become documents.
---   Manner: how pages are read, how documents are named, and which texts belong to a page
+--   Manner: how pages are read, how documents are named and pages bound, and which texts belong to a page
 --   manner_by: the manner of these
 --   shown_by: the page that is read of a raw one
 --   base_by: the name by which all documents of a file go
@@ -16,8 +16,11 @@ pub mod Tasks
 --   HoldsPages: the file of this name holds these pages, and ends so
 --   Rest: how a list of items goes on
 --   Nothing: nothing follows
---   AreEndItems: what follows the documents of a file that ends like this
+--   PagesAlone: nothing follows the pages of a file
+--   page_item: the page of this text, as a part of its document
+--   AreEndItems: what follows the pages of a file that ends like this
 --   ArePageItems: the items of the pages of a file, and what follows them
+--   FileEnds: what follows the pages of a file that ends like this, and then what follows the file
 --   AreItems: the items of files in order, and what follows them
 --   AreWhole: each part of the items is a whole document
 pub mod Items
@@ -47,7 +50,7 @@ pub mod Outcome
 pub mod OnePass
 -- How far the reading of a file has come.
 --   AreTraced: these are the texts of these pages, in order
---   docs: the items of the documents of these texts
+--   text_items: the items of pages of these texts
 --   ahead: the bytes that the reader has still to read pages from, where they are told
 --   Settles: this page stands there, not by the end of the bytes
 --   ReadsPage: the next page of what is ahead was read
@@ -61,7 +64,7 @@ pub mod OnePass
 --   Answered: the next page was read, or none was for this reason
 --   TakesBytes: bytes were taken of the opened file, and no file was opened
 --   OpensNoFile: no file was opened
---   CanHold: what is held waits for the pages of a file
+--   CanHold: what is held waits for a page of a file
 --   IsAtStart: a file was opened, and nothing is read of it
 --   AsksFor: the file of this name was asked for
 --   HasUnread: a read failed behind these pages
@@ -73,7 +76,8 @@ pub mod OnePass
 --   items_at_end: the items of the end of a file
 --   end_message: what is said where the run ends with the pages of a file
 --   EndsWithFile: the run ends with the pages of a file
---   EndsWith: nothing follows, and these are the base names of the documents so far
+--   RunsOut: memory ran out before any items were carried out
+--   EndsWith: nothing follows, and this was made so far
 --   TracesFile: the items of a file are carried out or held
 --   EndsWithPages: the end of a file's pages is held, or the run ends there
 --   EndsBecause: the status of a run that ends with the pages of a file

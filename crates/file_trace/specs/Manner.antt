@@ -4,19 +4,21 @@ use Rattle.pt_base.specs.declared.settings.Backend.{Backend}
 use Rattle.bit_image.specs.Page.{IsPage, Page as Pixels}
 use Rattle.bitmap_input.specs.Raw.{Raw, shown}
 use Rattle.run_output.specs.Names.{base_name}
+use Rattle.run_output.specs.declared.part.Binding.{Binding}
 
--- how pages are read, how documents are named, and which texts belong to a page
+-- how pages are read, how documents are named and the pages of a file bound, and which texts belong to a page
 pub record Manner : Type 1 where
   pub level : ℕ
   pub invert : Bool
   pub output : Option (List ℕ)
   pub backend : Backend
+  pub binding : Binding
   pub belongs : Pixels → List ℕ → Type 0
 
 -- the manner of these
-abbrev pub manner_by : ℕ → Bool → Option (List ℕ) → Backend → (Pixels → List ℕ → Type 0) → Manner
-manner_by level invert output backend belongs =
-    record { level = level; invert = invert; output = output; backend = backend; belongs = belongs }
+abbrev pub manner_by : ℕ → Bool → Option (List ℕ) → Backend → Binding → (Pixels → List ℕ → Type 0) → Manner
+manner_by level invert output backend binding belongs =
+    record { level = level; invert = invert; output = output; backend = backend; binding = binding; belongs = belongs }
 
 -- the page that is read of a raw one
 abbrev pub shown_by : Manner → Raw → Pixels

@@ -5,13 +5,13 @@ use Rattle.pt_base.specs.Counts.{Rose, last_count}
 use Rattle.pt_base.specs.Files.{Contents, Files}
 use Rattle.pt_base.specs.declared.inputs.Inputs.{Ghosts as InputGhosts}
 use Rattle.bitmap_input.specs.Cut.{is_by_end}
-use Rattle.bitmap_input.specs.Cut.Ending.{End}
 use Rattle.bitmap_input.specs.FaultText.{cause_text}
 use Rattle.bitmap_input.specs.Raw.{Raw}
 use Rattle.bitmap_input.specs.Reading.Cause.{Device}
 use Rattle.bitmap_input.specs.Front.{front, page_at}
 use Rattle.bitmap_input.specs.Front.Answer.{Page}
 use Rattle.bitmap_input.specs.FilePages.{next_begins}
+use Rattle.run_output.specs.Made.{Past, no_past}
 use Rattle.run_output.specs.Messages.{not_opened, page_line}
 use Rattle.run_output.specs.declared.status.Status.{Status}
 use Rattle.run_output.specs.declared.status.Status.TheVariants as status
@@ -19,7 +19,7 @@ use Rattle.page_batches.specs.Items.{Item}
 use Rattle.page_batches.specs.Items.Item.{Stop}
 use Rattle.page_batches.specs.Outcome.{AreCarriedOut, HasEnded}
 use Rattle.run_output.specs.Told.{Sinks, Source}
-use Rattle.file_trace.specs.Items.{AreItems, ArePageItems, IsAbsent, Nothing, told_contents}
+use Rattle.file_trace.specs.Items.{AreItems, ArePageItems, IsAbsent, Nothing, PagesAlone, told_contents}
 use Rattle.file_trace.specs.Manner.{Manner, base_by}
 
 -- the file of this name is listed, and there were as many openings as there are files up to it. Which names these
@@ -44,14 +44,14 @@ OpensFirst names source source_now =
 
 -- a file can't be opened: it isn't there, or a device failed. The first items, and all items of the files in
 -- front of it, are carried out, and its message is the last one.
-pub record IsUnopened (first : List Item) (contents : Option Contents) (manner : Manner) (names made : List (List ℕ)) (source source_now : Source) (old new : Sinks) : Type 0 where
+pub record IsUnopened (first : List Item) (contents : Option Contents) (manner : Manner) (names : List (List ℕ)) (past : Past) (source source_now : Source) (old new : Sinks) : Type 0 where
   pub name : List ℕ
   pub front : List (List ℕ)
   pub before : List Item
   pub reached : OpensUpTo names name front source.openings source_now.openings
   pub closed : source_now.is_opened ≡ false
   pub cause : IsAbsent contents name ⊎ Rose source.faults source_now.faults
-  pub items : AreItems contents manner Nothing front made before
+  pub items : AreItems contents manner Nothing front past before
   pub done : AreCarriedOut (first ++ before) (not_opened name ∷ []) old new
 
 -- the first pages of the bytes are these, and `rest` is what follows them
@@ -92,9 +92,9 @@ abbrev pub HoldsBytes : Option Contents → List ℕ → List ℕ → List ℕ �
 HoldsBytes None name taken rest = Unit {0}
 HoldsBytes (Some contents) name taken rest = get contents name ≡ Some (taken ++ rest)
 
--- a read failed: the first items, all items of the files in front of the opened one, and the documents of its
+-- a read failed: the first items, all items of the files in front of the opened one, and the parts that are its
 -- pages that had been taken whole, are carried out, and the message of the page behind them is the last one
-pub record IsUnread (first : List Item) (contents : Option Contents) (manner : Manner) (names made : List (List ℕ)) (source source_now : Source) (old new : Sinks) : Type 0 where
+pub record IsUnread (first : List Item) (contents : Option Contents) (manner : Manner) (names : List (List ℕ)) (past : Past) (source source_now : Source) (old new : Sinks) : Type 0 where
   pub name : List ℕ
   pub front : List (List ℕ)
   pub taken : List ℕ
@@ -107,7 +107,7 @@ pub record IsUnread (first : List Item) (contents : Option Contents) (manner : M
   pub rose : Rose source.faults source_now.faults
   pub stops : StopsReading taken raws
   pub items : AreItems contents manner
-      (λ made items. ArePageItems manner name (base_by manner name) End Nothing raws 0 made items) front made before
+      (λ past items. ArePageItems manner name (base_by manner name) PagesAlone raws 0 past items) front past before
   pub done : AreCarriedOut (first ++ before) (page_line name (length raws + 1) (cause_text Device) ∷ []) old new
 
 -- of these bytes, which begin with these pages, the `rest` ones are unread: no more than 65,536 were taken behind those
@@ -122,10 +122,10 @@ abbrev pub ReadsFileNear : Option Contents → List ℕ → List Raw → List �
 ReadsFileNear None name raws rest = Unit {0}
 ReadsFileNear (Some contents) name raws rest = (bytes : List ℕ) × (get contents name ≡ Some bytes) × ReadsNear bytes raws rest
 
--- a page is refused: the first items, all items of the files in front of the opened one, and the documents of its pages
+-- a page is refused: the first items, all items of the files in front of the opened one, and the parts that are its pages
 -- in front of that page are carried out, and its message is the last one. No other file was opened, and this one is
 -- read no farther than that decides, but for 65,536 bytes.
-pub record IsStopped (first : List Item) (contents : Option Contents) (manner : Manner) (names made : List (List ℕ)) (source source_now : Source) (old new : Sinks) : Type 0 where
+pub record IsStopped (first : List Item) (contents : Option Contents) (manner : Manner) (names : List (List ℕ)) (past : Past) (source source_now : Source) (old new : Sinks) : Type 0 where
   pub name : List ℕ
   pub front : List (List ℕ)
   pub raws : List Raw
@@ -136,23 +136,22 @@ pub record IsStopped (first : List Item) (contents : Option Contents) (manner : 
   pub opened : IfSome source_now.files (λ files. files.opened ≡ Some (record { name = name; rest = rest }))
   pub near : ReadsFileNear contents name raws rest
   pub items : AreItems contents manner
-      (λ made items. ArePageItems manner name (base_by manner name) End Nothing raws 0 made items) front made before
-  pub all : AreItems contents manner Nothing names made (before ++ Stop message ∷ [])
+      (λ past items. ArePageItems manner name (base_by manner name) PagesAlone raws 0 past items) front past before
+  pub all : AreItems contents manner Nothing names past (before ++ Stop message ∷ [])
   pub done : AreCarriedOut (first ++ before) (message ∷ []) old new
 
--- what was done of these first items and those of the files of these names, after documents with these base
--- names
-abbrev pub IsOutcomeBehind : Status → List Item → Option Contents → Manner → List (List ℕ) → List (List ℕ) → Source → Source → Sinks → Sinks → Type 0
-IsOutcomeBehind status.Unread first contents manner names made source source_now old new =
-    IsUnopened first contents manner names made source source_now old new ⊎ IsUnread first contents manner names made source source_now old new
-IsOutcomeBehind status.Done first contents manner names made source source_now old new =
-    (items : List Item) × AreItems contents manner Nothing names made items × HasEnded status.Done (first ++ items) old new
+-- what was done of these first items and those of the files of these names, after what was made before
+abbrev pub IsOutcomeBehind : Status → List Item → Option Contents → Manner → List (List ℕ) → Past → Source → Source → Sinks → Sinks → Type 0
+IsOutcomeBehind status.Unread first contents manner names past source source_now old new =
+    IsUnopened first contents manner names past source source_now old new ⊎ IsUnread first contents manner names past source source_now old new
+IsOutcomeBehind status.Done first contents manner names past source source_now old new =
+    (items : List Item) × AreItems contents manner Nothing names past items × HasEnded status.Done (first ++ items) old new
     × (source_now.openings ≡ min (source.openings + length names) last_count)
-IsOutcomeBehind status.Refused first contents manner names made source source_now old new =
-    IsStopped first contents manner names made source source_now old new
-IsOutcomeBehind s first contents manner names made source source_now old new =
-    (items : List Item) × AreItems contents manner Nothing names made items × HasEnded s (first ++ items) old new
+IsOutcomeBehind status.Refused first contents manner names past source source_now old new =
+    IsStopped first contents manner names past source source_now old new
+IsOutcomeBehind s first contents manner names past source source_now old new =
+    (items : List Item) × AreItems contents manner Nothing names past items × HasEnded s (first ++ items) old new
 
 -- what was done of the items of the files of these names
 abbrev pub IsOutcome : Status → Manner → List (List ℕ) → Source → Source → Sinks → Sinks → Type 0
-IsOutcome s manner names source source_now old new = IsOutcomeBehind s [] (told_contents source.files) manner names [] source source_now old new
+IsOutcome s manner names source source_now old new = IsOutcomeBehind s [] (told_contents source.files) manner names no_past source source_now old new

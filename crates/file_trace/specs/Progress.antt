@@ -1,5 +1,5 @@
 -- How far the tracing of a file has come: its first pages are traced.
-use Rattle.std.specs.Prelude.{◌≡◌, ◌≢◌, ◌⊎◌, ℕ, ◌+◌, ◌*◌, ◌<◌, ◌≤◌, Bool, false, true, List, [], ◌∷◌, ◌++◌, length, drop, Option, Some, IfSome, option_map, Result, Ok, Err}
+use Rattle.std.specs.Prelude.{◌≡◌, ◌≢◌, ◌⊎◌, ℕ, suc, ◌+◌, ◌*◌, ◌<◌, ◌≤◌, Bool, false, true, List, [], ◌∷◌, ◌++◌, length, drop, Option, Some, IfSome, option_map, Result, Ok, Err}
 use Rattle.pt_base.specs.Counts.{Rose, next_count}
 use Rattle.pt_base.specs.declared.sink.Sink.{Ghosts as SinkGhosts}
 use Rattle.pt_base.specs.Files.{Contents, Files, unread}
@@ -16,17 +16,16 @@ use Rattle.bitmap_input.specs.Reading.{AreNeeded, AtEnd, Moves, cause_of_fault}
 use Rattle.bitmap_input.specs.Reader.{IfSays, ReadFails, Reader, ahead as reader_ahead, at_start, is_later as reader_is_later}
 use Rattle.run_output.specs.Messages.{page_line, trailing_line}
 use Rattle.run_output.specs.Names.{next_name}
-use Rattle.run_output.specs.Made.{most_pages}
-use Rattle.run_output.specs.declared.part.Binding.TheVariants.{Apart}
+use Rattle.run_output.specs.Made.{Past, most_pages}
+use Rattle.run_output.specs.declared.part.Binding.{Binding}
 use Rattle.run_output.specs.declared.status.Status.{Status}
 use Rattle.run_output.specs.declared.status.Status.TheVariants as status
-use Rattle.page_batches.specs.Items.{Doc, Item, page_count}
-use Rattle.page_batches.specs.Items.Item.{Note}
+use Rattle.page_batches.specs.Items.{Item, end_items, page_count}
 use Rattle.page_batches.specs.Held.{AreHeld, Held, Holds, Waits}
 use Rattle.page_batches.specs.Outcome.{AreCarriedOut, HasEnded, IsHalt, IsUnwritten}
 use Rattle.run_output.specs.Told.{Sinks, Source}
 use Rattle.page_batches.specs.declared.desk.Desk.{Desk}
-use Rattle.file_trace.specs.Items.{AreItems, Rest, told_contents, too_many}
+use Rattle.file_trace.specs.Items.{AreItems, Rest, page_item, told_contents, too_many}
 use Rattle.file_trace.specs.Manner.{Manner, shown_by}
 use Rattle.file_trace.specs.Outcome.{BeginsWith, IsOutcomeBehind, LeavesBehind, ReadsNear, StopsReading, is_later, opened_name}
 use Rattle.file_trace.specs.OnePass.{IsOnePass}
@@ -41,10 +40,10 @@ AreTraced manner (raw ∷ raws) (text ∷ texts) = manner.belongs (shown_by mann
 AreTraced manner [] (text ∷ texts) = ⊥
 AreTraced manner (raw ∷ raws) [] = ⊥
 
--- the items of the documents of these texts, with this base name, after documents with these
-abbrev pub docs : List ℕ → List (List ℕ) → List (List ℕ) → List Item
-docs base made [] = []
-docs base made (text ∷ texts) = Doc (next_name base made) text ∷ docs base (base ∷ made) texts
+-- the items of pages of these texts, behind so many of their file, whose documents have this base name
+abbrev pub text_items : Manner → List ℕ → Past → ℕ → List (List ℕ) → List Item
+text_items manner base past pages [] = []
+text_items manner base past pages (text ∷ texts) = page_item manner base past pages text ∷ text_items manner base past (suc pages) texts
 
 -- the bytes that the reader has still to read pages from, where they are told
 abbrev pub ahead : Reader → Option Files → Option (List ℕ)
@@ -142,9 +141,9 @@ pub record OpensNoFile (old new : Source) : Type 0 where
   pub name : opened_name new.files ≡ opened_name old.files
   pub contents : told_contents new.files ≡ told_contents old.files
 
--- what is held waits for the pages of a file, and messages can be said
-pub record CanHold {A B : Type 0} (of_outs : SinkGhosts A) (of_errs : SinkGhosts B) (size : ℕ) (desk : Desk A B) (held : List Held) : Type 0 where
-  pub waits : Waits Apart size 0 (of_outs.is_ready desk.outs.now) held
+-- what is held waits for a page of a file behind so many, and messages can be said
+pub record CanHold {A B : Type 0} (of_outs : SinkGhosts A) (of_errs : SinkGhosts B) (b : Binding) (size pages : ℕ) (desk : Desk A B) (held : List Held) : Type 0 where
+  pub waits : Waits b size pages (of_outs.is_ready desk.outs.now) held
   pub ready : of_errs.is_ready desk.errs.now ≡ true
 
 -- a file was opened, and nothing is read of it
@@ -165,21 +164,21 @@ pub record HasUnread (raws : List Raw) (before now : Option Files) : Type 0 wher
   pub stops : StopsReading taken raws
   pub told : IfSome (unread before) (λ bytes. (rest : List ℕ) × (bytes ≡ taken ++ rest) × (unread now ≡ Some rest))
 
--- k pages were read, after documents with these base names, and then the reading ended so; of what was held
--- before and the documents of these pages, the first are carried out, and the others are held
-pub record Traces (size : ℕ) (manner : Manner) (base : List ℕ) (made : List (List ℕ)) (before now : Option Files) (held held_now : List Held) (old new : Sinks) (k : ℕ) (end : PagesEnd) : Type 0 where
+-- k pages were read, after what was made before, and then the reading ended so; of what was held before and these
+-- pages, the first are carried out, and the others are held
+pub record Traces (size : ℕ) (manner : Manner) (base : List ℕ) (past : Past) (before now : Option Files) (held held_now : List Held) (old new : Sinks) (k : ℕ) (end : PagesEnd) : Type 0 where
   pub raws : List Raw
   pub texts : List (List ℕ)
   pub count : k ≡ length raws
-  pub few : k + length made ≤ most_pages
+  pub few : k + past.pages ≤ most_pages
   pub traced : AreTraced manner raws texts
   pub rest : Option (List ℕ)
   pub begins : IfSome (unread before) (λ all. (left : List ℕ) × (rest ≡ Some left) × BeginsWith false all raws left)
   pub ends : EndsBy (is_later false raws) rest end
-  pub full : end ≡ why.TooMany → most_pages ≤ k + length made
+  pub full : end ≡ why.TooMany → most_pages ≤ k + past.pages
   pub near : IfSome (unread before) (λ all. (left : List ℕ) × (unread now ≡ Some left) × ReadsNear all raws left)
   pub unread : end ≡ why.Fault fault.ReadFault → HasUnread raws before now
-  pub holds : (first : List Item) → AreHeld Apart manner.belongs held first → Holds Apart size manner.belongs (first ++ docs base made texts) held_now old new
+  pub holds : (first : List Item) → AreHeld manner.binding manner.belongs held first → Holds manner.binding size manner.belongs (first ++ text_items manner base past 0 texts) held_now old new
 
 -- a document couldn't be written: behind whole batches, and the items hold one batch more at most
 pub record IsInPart (size : ℕ) (items : List Item) (old new : Sinks) : Type 0 where
@@ -196,30 +195,32 @@ pub record IsInBatch (size : ℕ) (items : List Item) (old new : Sinks) : Type 0
   pub within : page_count unwritten.before < page_count items
   pub full : page_count items ≡ batches * size + size
 
--- some pages were read, after documents with these base names; what was held before and the documents of these
--- pages were carried out as far as the status says. Where one of them couldn't be written it is one of a batch that
--- ends with them, and at most 65,536 bytes behind them were taken.
-pub record Halts (s : Status) (size : ℕ) (manner : Manner) (base : List ℕ) (made : List (List ℕ)) (before now : Option Files) (held : List Held) (old new : Sinks) : Type 0 where
+-- some pages were read, after what was made before; what was held before and these pages were carried out as far as the
+-- status says. Where a part couldn't be written it is one of a batch that ends with them, and at most 65,536 bytes
+-- behind them were taken.
+pub record Halts (s : Status) (size : ℕ) (manner : Manner) (base : List ℕ) (past : Past) (before now : Option Files) (held : List Held) (old new : Sinks) : Type 0 where
   pub raws : List Raw
   pub texts : List (List ℕ)
-  pub few : length raws + length made ≤ most_pages
+  pub few : length raws + past.pages ≤ most_pages
   pub traced : AreTraced manner raws texts
   pub begins : IfSome (unread before) (λ all. (left : List ℕ) × BeginsWith false all raws left)
-  pub ended : (first : List Item) → AreHeld Apart manner.belongs held first → HasEnded s (first ++ docs base made texts) old new
+  pub ended : (first : List Item) → AreHeld manner.binding manner.belongs held first → HasEnded s (first ++ text_items manner base past 0 texts) old new
   pub some : raws ≢ []
-  pub in_batch : s ≡ status.Unwritten → (first : List Item) → AreHeld Apart manner.belongs held first → IsInBatch size (first ++ docs base made texts) old new
+  pub in_batch : s ≡ status.Unwritten → (first : List Item) → AreHeld manner.binding manner.belongs held first → IsInBatch size (first ++ text_items manner base past 0 texts) old new
   pub near : IfSome (unread before) (λ all. (behind : List ℕ) × (rest : List ℕ) × LeavesBehind false all raws behind × (unread now ≡ Some rest) × (length behind ≤ length rest + 65536))
 
 -- the reading of pages ended: with the file's pages, or within a batch that couldn't be carried out
-abbrev pub EndsPages : Result Traced Status → ℕ → Manner → List ℕ → List (List ℕ) → Option Files → Option Files → List Held → List Held → Sinks → Sinks → Type 0
-EndsPages (Ok traced) size manner base made before now held held_now old new =
-    Traces size manner base made before now held held_now old new traced.pages traced.end
-EndsPages (Err s) size manner base made before now held held_now old new = IsHalt s × Halts s size manner base made before now held old new
+abbrev pub EndsPages : Result Traced Status → ℕ → Manner → List ℕ → Past → Option Files → Option Files → List Held → List Held → Sinks → Sinks → Type 0
+EndsPages (Ok traced) size manner base past before now held held_now old new =
+    Traces size manner base past before now held held_now old new traced.pages traced.end
+EndsPages (Err s) size manner base past before now held held_now old new = IsHalt s × Halts s size manner base past before now held old new
 
--- the items of the end of a file of this name whose k pages end so: a note, or none
-abbrev pub items_at_end : List ℕ → PagesEnd → ℕ → List Item
-items_at_end name why.Trailing k = Note (trailing_line name k) ∷ []
-items_at_end name end k = []
+-- the items of the end of a file of this name whose k pages end so, where the run goes on: its documents have this base
+-- name
+abbrev pub items_at_end : Manner → List ℕ → List ℕ → Past → PagesEnd → ℕ → List Item
+items_at_end manner name base past why.End k = end_items manner.binding (next_name base past.made) k []
+items_at_end manner name base past why.Trailing k = end_items manner.binding (next_name base past.made) k (trailing_line name k ∷ [])
+items_at_end manner name base past end k = []
 
 -- what is said where the run ends with the pages of the file of this name, k of which were read
 abbrev pub end_message : List ℕ → PagesEnd → ℕ → List ℕ
@@ -234,23 +235,27 @@ EndsWithFile name end k s items old new =
     ((s ≡ status_of end) × (s ≢ status.Done) × (s ≢ status.OutOfMemory) × AreCarriedOut items (end_message name end k ∷ []) old new)
     ⊎ (((s ≡ status.Unwritten) ⊎ (s ≡ status.OutOfMemory)) × HasEnded s items old new)
 
--- nothing follows, and these are the base names of the documents so far
-abbrev pub EndsWith : List (List ℕ) → Rest
-EndsWith made made_now items = (made_now ≡ made) × (items ≡ [])
+-- memory ran out before any of the items that were to be carried out, whichever they are
+abbrev pub RunsOut : Status → Sinks → Sinks → Type 0
+RunsOut s old new = (s ≡ status.OutOfMemory) × ((items : List Item) → HasEnded status.OutOfMemory items old new)
+
+-- nothing follows, and this was made so far
+abbrev pub EndsWith : Past → Rest
+EndsWith past past_now items = (past_now ≡ past) × (items ≡ [])
 
 -- these are the items of the file of this name, and the run goes on behind them; of what was held before and
 -- them the first are carried out, and the others are held
-pub record TracesFile (size : ℕ) (contents : Option Contents) (manner : Manner) (name : List ℕ) (made made_now : List (List ℕ)) (held held_now : List Held) (old new : Sinks) : Type 0 where
+pub record TracesFile (size : ℕ) (contents : Option Contents) (manner : Manner) (name : List ℕ) (past past_now : Past) (held held_now : List Held) (old new : Sinks) : Type 0 where
   pub items : List Item
-  pub are : AreItems contents manner (EndsWith made_now) (name ∷ []) made items
-  pub holds : (first : List Item) → AreHeld Apart manner.belongs held first → Holds Apart size manner.belongs (first ++ items) held_now old new
+  pub are : AreItems contents manner (EndsWith past_now) (name ∷ []) past items
+  pub holds : (first : List Item) → AreHeld manner.binding manner.belongs held first → Holds manner.binding size manner.belongs (first ++ items) held_now old new
 
 -- the end of the pages of the file of this name, k of which were read, is held behind these items, and the run goes on;
 -- or the run ends there
-abbrev pub EndsWithPages : Result Unit Status → ℕ → Manner → List ℕ → PagesEnd → ℕ → List Item → List Held → Sinks → Sinks → Type 0
-EndsWithPages (Ok done) size manner name end k items held_now old new =
-    Holds Apart size manner.belongs (items ++ items_at_end name end k) held_now old new
-EndsWithPages (Err s) size manner name end k items held_now old new = EndsWithFile name end k s items old new
+abbrev pub EndsWithPages : Result Unit Status → ℕ → Manner → List ℕ → List ℕ → Past → PagesEnd → ℕ → List Item → List Held → Sinks → Sinks → Type 0
+EndsWithPages (Ok done) size manner name base past end k items held_now old new =
+    Holds manner.binding size manner.belongs (items ++ items_at_end manner name base past end k) held_now old new
+EndsWithPages (Err s) size manner name base past end k items held_now old new = EndsWithFile name end k s items old new
 
 -- the status of a run that ends with the pages of a file that end so: it is theirs, or what was held couldn't be carried
 -- out; where that couldn't be written there was something to be said of the file
@@ -266,10 +271,10 @@ GoesOnAfter (Err s) end = EndsBecause end s
 -- a file was traced: its items are carried out or held, and its documents are counted; or the run ends there, whatever
 -- files come behind it and whichever items are those of what was held; and where a document couldn't be written no more
 -- was read than its batch
-abbrev pub EndsFile : Result Unit Status → ℕ → Manner → List ℕ → List (List ℕ) → List (List ℕ) → List Held → List Held → Source → Source → Sinks → Sinks → Type 0
-EndsFile (Ok done) size manner name made made_now held held_now source source_now old new =
-    TracesFile size (told_contents source.files) manner name made made_now held held_now old new
-EndsFile (Err s) size manner name made made_now held held_now source source_now old new =
-    (names : List (List ℕ)) (first : List Item) → AreHeld Apart manner.belongs held first
-    → IsOutcomeBehind s first (told_contents source.files) manner (name ∷ names) made source source_now old new
-    × (s ≡ status.Unwritten → IsOnePass size first (told_contents source.files) manner (name ∷ names) made source source_now old new)
+abbrev pub EndsFile : Result Unit Status → ℕ → Manner → List ℕ → Past → Past → List Held → List Held → Source → Source → Sinks → Sinks → Type 0
+EndsFile (Ok done) size manner name past past_now held held_now source source_now old new =
+    TracesFile size (told_contents source.files) manner name past past_now held held_now old new
+EndsFile (Err s) size manner name past past_now held held_now source source_now old new =
+    (names : List (List ℕ)) (first : List Item) → AreHeld manner.binding manner.belongs held first
+    → IsOutcomeBehind s first (told_contents source.files) manner (name ∷ names) past source source_now old new
+    × (s ≡ status.Unwritten → IsOnePass size first (told_contents source.files) manner (name ∷ names) past source source_now old new)

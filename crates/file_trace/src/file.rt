@@ -1,14 +1,14 @@
 //! A whole file: opened, its pages read and held by batches, and how it ended said.
-ghost use Rattle.std.specs.Prelude.{◌≡◌, ◌*◌, ◌⊎◌, List, OnOk};
-ghost use Rattle.run_output.specs.declared.part.Binding.{Binding};
+ghost use Rattle.std.specs.Prelude.{◌≡◌, ◌*◌, ◌⊎◌, ◌++◌, List, IfErr, OnOk, option_map};
+ghost use Rattle.run_output.specs.Names.{next_name};
 ghost use Rattle.run_output.specs.declared.status.Status.{Status};
 ghost use Rattle.page_batches.specs.Desks.{Keeps, sinks_at};
-ghost use Rattle.page_batches.specs.Held.{AreHeld};
-ghost use Rattle.page_batches.specs.Items.{Item};
+ghost use Rattle.page_batches.specs.Held.{AreHeld, Holds, end_held, end_notes};
+ghost use Rattle.page_batches.specs.Items.{Item, end_items};
 ghost use Rattle.page_batches.specs.Outcome.{IsHalt, ended_with};
 ghost use Rattle.file_trace.specs.Manner.{HasTexts};
 ghost use Rattle.run_output.specs.Told.{source_of};
-ghost use Rattle.file_trace.specs.Progress.{AsksFor, CanHold, EndsFile, EndsWithPages, GoesOnAfter, InputCount, status_of};
+ghost use Rattle.file_trace.specs.Progress.{AsksFor, CanHold, EndsFile, EndsWithPages, GoesOnAfter, InputCount, RunsOut, status_of};
 ghost use Rattle.file_trace.specs.declared.pages.PagesEnd.{PagesEnd};
 ghost use Rattle.file_trace.specs.Tasks.{manner_of};
 ghost use Rattle.file_trace.specs.Unopened.{EndsUnopened};
@@ -20,14 +20,16 @@ use bitmap_input::reader::PageReader;
 use page_batches::batch::Batch;
 use page_batches::desk::Desk;
 use page_workers::job::PageJob;
+use pt_base::fault::NoMemory;
 use pt_base::gate::Gate;
 use pt_base::inputs::Inputs;
 use pt_base::sink::{Outputs, Sink};
 use run_output::made::Made;
 use run_output::message::{say_not_opened, say_of_page, say_out_of_memory};
-use run_output::names::base_name;
+use run_output::names::{base_name, document_name};
 use run_output::part::Binding;
 use run_output::status::Status;
+use std::alloc::Global;
 use std::thread::Threads;
 
 /// Opens a file and reads its pages into the batch, which is carried out where it is full. An `Err` says how
@@ -49,12 +51,13 @@ pub(crate) fn trace_file<
     desk: &mut Desk<O, E>,
 ) -> Result<(), Status>
     requires texts { HasTexts (manner_of J.PageJob task.now) }
-    requires going { CanHold O.Sink E.Sink (2 * task.now.plan.workers) desk.old batch.old }
+    requires going { CanHold O.Sink E.Sink task.now.plan.binding (2 * task.now.plan.workers) 0 desk.old batch.old }
     ensures traced { EndsFile result (2 * task.now.plan.workers) (manner_of J.PageJob task.now) name.now
         made.old made.new batch.old batch.new
         (source_of I.Inputs inputs.old) (source_of I.Inputs inputs.new)
         (sinks_at O.Sink E.Sink desk.old) (sinks_at O.Sink E.Sink desk.new) }
-    ensures going { OnOk result (CanHold O.Sink E.Sink (2 * task.now.plan.workers) desk.new batch.new) }
+    ensures going { OnOk result (CanHold O.Sink E.Sink task.now.plan.binding (2 * task.now.plan.workers) 0
+        desk.new batch.new) }
     ensures asked { AsksFor name.now (source_of I.Inputs inputs.old) (source_of I.Inputs inputs.new) }
     ensures input { InputCount (ended_with result) (I.faults inputs.old) (I.faults inputs.new) }
     ensures keeps { Keeps O.Sink E.Sink desk.old desk.new }
@@ -73,11 +76,11 @@ pub(crate) fn trace_file<
         Err(status) => return Err(status),
     };
     let pages = traced.pages;
-    match finish(task, name, traced, batch, desk) {
+    match finish(task, name, &base, made, traced, batch, desk) {
         Ok(()) => {}
         Err(status) => return Err(status),
     }
-    match made.add(base, pages) {
+    match made.add(base, task.plan.binding.documents_in(pages), pages) {
         Ok(()) => Ok(()),
         Err(_) => {
             say_out_of_memory(desk.errs);
@@ -94,8 +97,9 @@ fn end_unopened<R: Threads + Sync, J: PageJob + Sync, G: Gate + Sync, O: Outputs
     batch: &mut Batch,
     desk: &mut Desk<O, E>,
 ) -> Status
-    requires going { CanHold O.Sink E.Sink (2 * task.now.plan.workers) desk.old batch.old }
-    ensures ends { (first : List Item) → AreHeld Binding.Apart (J.belongs task.now.plan.job.now) batch.old first
+    requires going { CanHold O.Sink E.Sink task.now.plan.binding (2 * task.now.plan.workers) 0 desk.old batch.old }
+    ensures ends { (first : List Item)
+        → AreHeld task.now.plan.binding (J.belongs task.now.plan.job.now) batch.old first
         → EndsUnopened name.now result first
         (sinks_at O.Sink E.Sink desk.old) (sinks_at O.Sink E.Sink desk.new) }
     ensures status { (result ≡ Status.Unread) ⊎ IsHalt result }
@@ -110,36 +114,33 @@ fn end_unopened<R: Threads + Sync, J: PageJob + Sync, G: Gate + Sync, O: Outputs
     }
 }
 
-/// Holds what is to be said of the end of a file's pages. Where the run ends there, all that is held is carried
-/// out first, but for want of memory.
+/// Holds what is to be done at the end of a file's pages, whose documents have this base name. Where the run ends
+/// there, all that is held is carried out first, but for want of memory.
 fn finish<R: Threads + Sync, J: PageJob + Sync, G: Gate + Sync, O: Outputs, E: Sink>(
     task: &Task<R, J, G>,
     name: &str,
+    base: &str,
+    made: &Made,
     traced: Traced,
     batch: &mut Batch,
     desk: &mut Desk<O, E>,
 ) -> Result<(), Status>
-    requires going { CanHold O.Sink E.Sink (2 * task.now.plan.workers) desk.old batch.old }
-    ensures ended { (first : List Item) → AreHeld Binding.Apart (J.belongs task.now.plan.job.now) batch.old first
+    requires going { CanHold O.Sink E.Sink task.now.plan.binding (2 * task.now.plan.workers) traced.pages
+        desk.old batch.old }
+    ensures ended { (first : List Item)
+        → AreHeld task.now.plan.binding (J.belongs task.now.plan.job.now) batch.old first
         → EndsWithPages result (2 * task.now.plan.workers) (manner_of J.PageJob task.now) name.now
-        traced.end traced.pages first batch.new
+        base.now made.now traced.end traced.pages first batch.new
         (sinks_at O.Sink E.Sink desk.old) (sinks_at O.Sink E.Sink desk.new) }
     ensures because { GoesOnAfter result traced.end }
-    ensures going { OnOk result (CanHold O.Sink E.Sink (2 * task.now.plan.workers) desk.new batch.new) }
+    ensures going { OnOk result (CanHold O.Sink E.Sink task.now.plan.binding (2 * task.now.plan.workers) 0
+        desk.new batch.new) }
     ensures keeps { Keeps O.Sink E.Sink desk.old desk.new }
 {
     let pages = traced.pages;
     let (status, text) = match traced.end {
-        PagesEnd::End => return Ok(()),
-        PagesEnd::Trailing => {
-            return match batch.hold_end(task.plan.alloc, Binding::Apart, name, pages, Some(name)) {
-                Ok(()) => Ok(()),
-                Err(_) => {
-                    say_out_of_memory(desk.errs);
-                    Err(Status::OutOfMemory)
-                }
-            };
-        }
+        PagesEnd::End => return hold_end(task, base, made, pages, None, batch, desk),
+        PagesEnd::Trailing => return hold_end(task, base, made, pages, Some(name), batch, desk),
         PagesEnd::TooMany => (Status::Refused, "too many pages"),
         PagesEnd::Fault(InFault::NoMemory) => {
             say_out_of_memory(desk.errs);
@@ -153,6 +154,72 @@ fn finish<R: Threads + Sync, J: PageJob + Sync, G: Gate + Sync, O: Outputs, E: S
             Err(status)
         }
         Err(status) => Err(status),
+    }
+}
+
+/// Holds the end of a file of so many pages, whose documents have this base name. Where `trailing` is its name, bytes
+/// follow its pages that begin none. An `Err` says that the run ends for want of memory: that is said.
+fn hold_end<R: Threads + Sync, J: PageJob + Sync, G: Gate + Sync, O: Outputs, E: Sink>(
+    task: &Task<R, J, G>,
+    base: &str,
+    made: &Made,
+    pages: u32,
+    trailing: Option<&str>,
+    batch: &mut Batch,
+    desk: &mut Desk<O, E>,
+) -> Result<(), Status>
+    requires going { CanHold O.Sink E.Sink task.now.plan.binding (2 * task.now.plan.workers) pages
+        desk.old batch.old }
+    ensures held { OnOk result ((first : List Item)
+        → AreHeld task.now.plan.binding (J.belongs task.now.plan.job.now) batch.old first
+        → Holds task.now.plan.binding (2 * task.now.plan.workers) (J.belongs task.now.plan.job.now)
+        (first ++ end_items task.now.plan.binding (next_name base.now made.now.made) pages
+        (end_notes (option_map (λ s. s.now) trailing.entry) pages)) batch.new
+        (sinks_at O.Sink E.Sink desk.old) (sinks_at O.Sink E.Sink desk.new)) }
+    ensures going { OnOk result (CanHold O.Sink E.Sink task.now.plan.binding (2 * task.now.plan.workers) 0
+        desk.new batch.new) }
+    ensures out { IfErr result (λ status. RunsOut status
+        (sinks_at O.Sink E.Sink desk.old) (sinks_at O.Sink E.Sink desk.new)) }
+    ensures keeps { Keeps O.Sink E.Sink desk.old desk.new }
+{
+    match push_end(
+        task.plan.alloc,
+        task.plan.binding,
+        base,
+        made,
+        pages,
+        trailing,
+        batch,
+    ) {
+        Ok(()) => Ok(()),
+        Err(_) => {
+            say_out_of_memory(desk.errs);
+            Err(Status::OutOfMemory)
+        }
+    }
+}
+
+/// Holds the end of a file of so many pages, with the name of its document where they are bound together.
+fn push_end(
+    alloc: Global,
+    binding: Binding,
+    base: &str,
+    made: &Made,
+    pages: u32,
+    trailing: Option<&str>,
+    batch: &mut Batch,
+) -> Result<(), NoMemory>
+    ensures held { OnOk result (batch.new ≡ batch.old ++ end_held binding (next_name base.now made.now.made) pages
+        (end_notes (option_map (λ s. s.now) trailing.entry) pages)) }
+{
+    match binding {
+        Binding::Apart => batch.hold_end(alloc, Binding::Apart, base, pages, trailing),
+        Binding::Together => {
+            let Ok(name) = document_name(alloc, base, made.count(base) + 1) else {
+                return Err(NoMemory);
+            };
+            batch.hold_end(alloc, Binding::Together, &name, pages, trailing)
+        }
     }
 }
 

@@ -1,5 +1,6 @@
 //! The files of a run, one after another.
 ghost use Rattle.std.specs.Prelude.{◌≡◌, ◌*◌, [], false, true};
+ghost use Rattle.run_output.specs.Made.{no_past};
 ghost use Rattle.run_output.specs.declared.status.Status.{Status};
 ghost use Rattle.page_batches.specs.Desks.{Keeps, sinks_at};
 ghost use Rattle.file_trace.specs.Items.{told_contents};
@@ -44,7 +45,7 @@ pub fn trace_files<
     ensures opened { OpensFirst names.now
         (source_of I.Inputs inputs.old) (source_of I.Inputs inputs.new) }
     ensures one_pass { result ≡ Status.Unwritten → IsOnePass (2 * task.now.plan.workers) []
-        (told_contents (I.files inputs.old)) (manner_of J.PageJob task.now) names.now []
+        (told_contents (I.files inputs.old)) (manner_of J.PageJob task.now) names.now no_past
         (source_of I.Inputs inputs.old) (source_of I.Inputs inputs.new)
         (sinks_at O.Sink E.Sink desk.old) (sinks_at O.Sink E.Sink desk.new) }
     ensures input { InputCount result (I.faults inputs.old) (I.faults inputs.new) }

@@ -1,11 +1,13 @@
 //! The pages of the opened file, read one after another, and held by batches.
-ghost use Rattle.std.specs.Prelude.{◌≡◌, ◌+◌, ◌*◌, ◌++◌, ◌∷◌, ◌<◌, [], List, ℕ, IfErr, IfOk, OnOk};
+ghost use Rattle.std.specs.Prelude.{◌≡◌, ◌+◌, ◌*◌, ◌++◌, ◌∷◌, ◌<◌, [], List, ℕ, suc, IfErr, IfOk, OnOk};
 ghost use Rattle.run_output.specs.Names.{document_name};
-ghost use Rattle.run_output.specs.declared.part.Binding.{Binding};
+ghost use Rattle.run_output.specs.Made.{documents_before};
+ghost use Rattle.run_output.specs.Parts.{page_part};
 ghost use Rattle.run_output.specs.declared.status.Status.{Status};
 ghost use Rattle.page_batches.specs.Desks.{Keeps, sinks_at};
 ghost use Rattle.page_batches.specs.Held.{AreHeld, EndsHolding, pages_held};
-ghost use Rattle.page_batches.specs.Items.{Doc, Item};
+ghost use Rattle.page_batches.specs.Items.{Item};
+ghost use Rattle.page_batches.specs.Items.Item.{Write};
 ghost use Rattle.page_batches.specs.Outcome.{IsHalt};
 ghost use Rattle.file_trace.specs.Manner.{HasTexts};
 ghost use Rattle.run_output.specs.Told.{source_of};
@@ -72,18 +74,19 @@ pub(crate) fn trace_pages<
     desk: &mut Desk<O, E>,
 ) -> Result<Traced, Status>
     requires texts { HasTexts (manner_of J.PageJob task.now) }
-    requires going { CanHold O.Sink E.Sink (2 * task.now.plan.workers) desk.old batch.old }
+    requires going { CanHold O.Sink E.Sink task.now.plan.binding (2 * task.now.plan.workers) 0 desk.old batch.old }
     requires start { IsAtStart reader.old (source_of I.Inputs inputs.old) }
     ensures traced { EndsPages result (2 * task.now.plan.workers) (manner_of J.PageJob task.now) base.now made.now
         (I.files inputs.old) (I.files inputs.new) batch.old batch.new
         (sinks_at O.Sink E.Sink desk.old) (sinks_at O.Sink E.Sink desk.new) }
-    ensures going { OnOk result (CanHold O.Sink E.Sink (2 * task.now.plan.workers) desk.new batch.new) }
+    ensures going { IfOk result (λ traced. CanHold O.Sink E.Sink task.now.plan.binding (2 * task.now.plan.workers)
+        traced.pages desk.new batch.new) }
     ensures stays { OpensNoFile (source_of I.Inputs inputs.old) (source_of I.Inputs inputs.new) }
     ensures input { IfOk result (λ traced. FaultsBy traced.end (I.faults inputs.old) (I.faults inputs.new)) }
     ensures keeps { Keeps O.Sink E.Sink desk.old desk.new }
 {
     let first = made.count(base);
-    let room = MOST_PAGES - made.total();
+    let room = MOST_PAGES - made.pages();
     let mut pages = 0;
     while pages < room {
         let page = match read_next(task, reader, inputs) {
@@ -111,18 +114,23 @@ fn hold_page<R: Threads + Sync, J: PageJob + Sync, G: Gate + Sync, O: Outputs, E
     desk: &mut Desk<O, E>,
 ) -> Result<(), Status>
     requires room { first + before < 4294967295 }
-    requires going { CanHold O.Sink E.Sink (2 * task.now.plan.workers) desk.old batch.old }
-    ensures held { (items : List Item) → AreHeld Binding.Apart (J.belongs task.now.plan.job.now) batch.old items
+    requires going { CanHold O.Sink E.Sink task.now.plan.binding (2 * task.now.plan.workers) before
+        desk.old batch.old }
+    ensures held { (items : List Item)
+        → AreHeld task.now.plan.binding (J.belongs task.now.plan.job.now) batch.old items
         → (text : List ℕ) → J.belongs task.now.plan.job.now page text
-        → EndsHolding result Binding.Apart (2 * task.now.plan.workers) (J.belongs task.now.plan.job.now)
-        (items ++ Doc (document_name base.now (first + before + 1)) text ∷ []) batch.new
+        → EndsHolding result task.now.plan.binding (2 * task.now.plan.workers) (J.belongs task.now.plan.job.now)
+        (items ++ Write (page_part task.now.plan.binding
+        (document_name base.now (first + documents_before task.now.plan.binding before + 1)) before text) ∷ []) batch.new
         (sinks_at O.Sink E.Sink desk.old) (sinks_at O.Sink E.Sink desk.new) }
     ensures halts { IfErr result (λ status. IsHalt status
         × (status ≡ Status.Unwritten → pages_held batch.old + 1 ≡ 2 * task.now.plan.workers)) }
-    ensures going { OnOk result (CanHold O.Sink E.Sink (2 * task.now.plan.workers) desk.new batch.new) }
+    ensures going { OnOk result (CanHold O.Sink E.Sink task.now.plan.binding (2 * task.now.plan.workers) (suc before)
+        desk.new batch.new) }
     ensures keeps { Keeps O.Sink E.Sink desk.old desk.new }
 {
-    let Ok(name) = document_name(task.plan.alloc, base, first + before + 1) else {
+    let number = first + task.plan.binding.documents_before(before) + 1;
+    let Ok(name) = document_name(task.plan.alloc, base, number) else {
         say_out_of_memory(desk.errs);
         return Err(Status::OutOfMemory);
     };

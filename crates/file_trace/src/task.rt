@@ -1,7 +1,4 @@
 //! What stays the same through a run over files.
-ghost use Rattle.std.specs.Prelude.{◌≡◌};
-ghost use Rattle.run_output.specs.declared.part.Binding.{Binding};
-
 use page_batches::plan::Plan;
 use page_workers::job::PageJob;
 use pt_base::gate::Gate;
@@ -22,5 +19,4 @@ pub struct Task<'a, 'b, R: Threads + Sync, J: PageJob + Sync, G: Gate + Sync> {
     pub output: Option<&'b str>,
     /// What documents are: their names end so.
     pub backend: Backend,
-    ghost apart: { plan.binding ≡ Binding.Apart },
 }

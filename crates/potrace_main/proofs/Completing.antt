@@ -4,9 +4,11 @@ use Rattle.pt_base.specs.Counts.{Rose}
 use Rattle.pt_base.specs.Files.{Contents}
 use Rattle.pt_base.specs.declared.settings.Settings.{Settings}
 use Rattle.page_trace.specs.Document.{CanWrite}
+use Rattle.run_output.specs.Made.{Past, no_past}
 use Rattle.run_output.specs.Messages.{not_opened, out_of_memory}
 use Rattle.run_output.specs.Parts.{Part}
 use Rattle.run_output.specs.Names.{dash}
+use Rattle.run_output.specs.declared.part.Binding.TheVariants.{Apart}
 use Rattle.run_output.specs.Status.{code_of}
 use Rattle.run_output.specs.declared.status.Status.{Status}
 use Rattle.run_output.specs.declared.status.Status.TheVariants as status
@@ -68,16 +70,16 @@ no_both items (before, message, is) (others, name, are) = one_last before others
 
 -- the items of files in front of one that isn't there
 missing_items : (contents : Option Contents) (manner : Manner) (front back : List (List ℕ)) (name : List ℕ) (before : List Item) → IsAbsent contents name → GoesOn before
-    → AreItems contents manner Nothing front [] before → AreItems contents manner Nothing (front ++ name ∷ back) [] (before ++ Missing name ∷ [])
+    → AreItems contents manner Nothing front no_past before → AreItems contents manner Nothing (front ++ name ∷ back) no_past (before ++ Missing name ∷ [])
 missing_items contents manner front back name before absent goes are =
-    items_behind contents manner Nothing Nothing (name ∷ back) (Missing name ∷ []) on front [] before goes are where
-      on : (made : List (List ℕ)) (items : List Item) → GoesOn items → Nothing made items → AreItems contents manner Nothing (name ∷ back) made (items ++ Missing name ∷ [])
-      on made items goes_on none = inl (absent, ap (λ l. l ++ Missing name ∷ []) none)
+    items_behind contents manner Nothing Nothing (name ∷ back) (Missing name ∷ []) on front no_past before goes are where
+      on : (past : Past) (items : List Item) → GoesOn items → Nothing past items → AreItems contents manner Nothing (name ∷ back) past (items ++ Missing name ∷ [])
+      on past items goes_on none = inl (absent, ap (λ l. l ++ Missing name ∷ []) none)
 
 -- what there was to write, and the status where no device failed
 abbrev pub Completes : Option Contents → Manner → List (List ℕ) → Status → ℕ → ℕ → ℕ → ℕ → Type 0
 Completes contents manner names s read read_now written written_now =
-    (items : List Item) × AreItems contents manner Nothing names [] items × ((Rose read read_now → ⊥) → (Rose written written_now → ⊥) → IsComplete s items)
+    (items : List Item) × AreItems contents manner Nothing names no_past items × ((Rose read read_now → ⊥) → (Rose written written_now → ⊥) → IsComplete s items)
 
 pub files_complete : (s : Status) (manner : Manner) → HasTexts manner → (names : List (List ℕ)) (source now : Source) (a b : Sinks)
     → IsOutcome s manner names source now a b
@@ -93,19 +95,19 @@ files_complete status.Unwritten manner can names source now a b (items, are, u) 
 files_complete status.OutOfMemory manner can names source now a b (items, are, o) =
     (items, are, λ _ _. record { all = λ _. inr refl; refusal = λ _. inr refl; missing = λ _. inr refl })
 files_complete status.Unread manner can names source now a b (inr u) =
-    let items = items_found (told_contents source.files) manner can names [] in
+    let items = items_found (told_contents source.files) manner can names no_past in
     (items.0, items.1, λ no_read _. absurd (no_read u.rose))
 files_complete status.Unread manner can names source now a b (inl u) = by_cause u.cause where
   by_cause : IsAbsent (told_contents source.files) u.name ⊎ Rose source.faults now.faults
       → Completes (told_contents source.files) manner names status.Unread source.faults now.faults a.outs.faults b.outs.faults
   by_cause (inr rose) =
-      let items = items_found (told_contents source.files) manner can names [] in
+      let items = items_found (told_contents source.files) manner can names no_past in
       (items.0, items.1, λ no_read _. absurd (no_read rose))
   by_cause (inl absent) =
       let are = missing_items (told_contents source.files) manner u.front u.reached.back u.name u.before absent u.done.goes_on u.items in
       let missing : EndsMissing (u.before ++ Missing u.name ∷ []) = (u.before, u.name, refl) in (
         u.before ++ Missing u.name ∷ [],
-        subst (λ ns. AreItems (told_contents source.files) manner Nothing ns [] (u.before ++ Missing u.name ∷ [])) (sym u.reached.listed) are,
+        subst (λ ns. AreItems (told_contents source.files) manner Nothing ns no_past (u.before ++ Missing u.name ∷ [])) (sym u.reached.listed) are,
         λ _ _. record {
           all = λ goes. absurd (never_missing (u.before ++ Missing u.name ∷ []) goes missing);
           refusal = λ r. absurd (no_both (u.before ++ Missing u.name ∷ []) r missing);
@@ -155,7 +157,7 @@ run_unread (asks.Files names output workers settings) s source now a b ran is =
 
 -- where the first file isn't there
 only_missing : (contents : Option Contents) (manner : Manner) (name : List ℕ) (names : List (List ℕ)) (items : List Item) → IsAbsent contents name
-    → AreItems contents manner Nothing (name ∷ names) [] items → items ≡ Missing name ∷ []
+    → AreItems contents manner Nothing (name ∷ names) no_past items → items ≡ Missing name ∷ []
 only_missing None manner name names items absent are = absurd absent
 only_missing (Some contents) manner name names items absent (inl (none, is)) = is
 only_missing (Some contents) manner name names items absent (inr (raws, ending, (bytes, held, pages), are)) =
@@ -198,7 +200,7 @@ out_at_once law asks.Version source a b can done = record { before = []; after =
 out_at_once law (asks.Demo pages workers settings) source a b can done =
     let (text, is) = demo_found pages settings can.0.document in (text, is, record { before = []; after = Doc dash text ∷ []; split = refl; done = done })
 out_at_once law (asks.Files names output workers settings) source a b can done =
-    let items = items_found (told_contents source.files) (manner_under settings output) (law settings can.0.document output) names [] in
+    let items = items_found (told_contents source.files) (manner_under settings output) (law settings can.0.document output) names no_past in
     (items.0, items.1, record { before = []; after = items.0; split = refl; done = done })
 
 -- How the outputs moved, by the outcome.
@@ -215,14 +217,14 @@ ended_moves status.Unread items a b all closed ended = absurd ended
 ended_moves status.Unwritten items a b all closed u = (u.rose, u.failed)
 ended_moves status.OutOfMemory items a b all closed o = carried_moves o.before (out_of_memory ∷ []) a b (AreWhole-front o.before o.after (subst AreWhole o.split all)) closed o.done
 
-files_move : (s : Status) (manner : Manner) (names : List (List ℕ)) (source now : Source) (a b : Sinks) → a.is_open ≡ false
+files_move : (s : Status) (manner : Manner) → manner.binding ≡ Apart → (names : List (List ℕ)) (source now : Source) (a b : Sinks) → a.is_open ≡ false
     → IsOutcome s manner names source now a b → OutputsMove s a b
-files_move s manner names source now a b closed outcome = by_status s outcome where
+files_move s manner apart names source now a b closed outcome = by_status s outcome where
   told : Option Contents
   told = told_contents source.files
 
-  whole : (items : List Item) → AreItems told manner Nothing names [] items → AreWhole items
-  whole items are = items_end told manner Nothing nothing_ends names [] items are
+  whole : (items : List Item) → AreItems told manner Nothing names no_past items → AreWhole items
+  whole items are = items_end told manner apart Nothing nothing_ends names no_past items are
 
   by_status : (s : Status) → IsOutcome s manner names source now a b → OutputsMove s a b
   by_status status.Done (items, are, done, opens) = carried_moves items [] a b (whole items are) closed done
@@ -230,10 +232,10 @@ files_move s manner names source now a b closed outcome = by_status s outcome wh
   by_status status.Refused r =
       carried_moves r.before (r.message ∷ []) a b (AreWhole-front r.before (Stop r.message ∷ []) (whole (r.before ++ Stop r.message ∷ []) r.all)) closed r.done
   by_status status.Unread (inl u) =
-      carried_moves u.before (not_opened u.name ∷ []) a b (items_end told manner Nothing nothing_ends u.front [] u.before u.items) closed u.done
+      carried_moves u.before (not_opened u.name ∷ []) a b (items_end told manner apart Nothing nothing_ends u.front no_past u.before u.items) closed u.done
   by_status status.Unread (inr u) =
       carried_moves u.before _ a b
-      (items_end told manner _ (alone_end manner u.name u.raws) u.front [] u.before u.items) closed u.done
+      (items_end told manner apart _ (alone_end manner apart u.name u.raws) u.front no_past u.before u.items) closed u.done
   by_status status.Unwritten (items, are, u) = (u.rose, u.failed)
   by_status status.OutOfMemory (items, are, o) = ended_moves status.OutOfMemory items a b (whole items are) closed o
 
@@ -241,7 +243,7 @@ pub run_moves : (ask : Ask) (s : Status) (source now : Source) (a b : Sinks) →
 run_moves asks.Help s source now a b closed ended = ended_moves s (Doc dash help_text ∷ []) a b (refl, tt) closed ended
 run_moves asks.Version s source now a b closed ended = ended_moves s (Doc dash version_text ∷ []) a b (refl, tt) closed ended
 run_moves (asks.Demo pages workers settings) s source now a b closed (text, is, ended) = ended_moves s (Doc dash text ∷ []) a b (refl, tt) closed ended
-run_moves (asks.Files names output workers settings) s source now a b closed outcome = files_move s (manner_under settings output) names source now a b closed outcome
+run_moves (asks.Files names output workers settings) s source now a b closed outcome = files_move s (manner_under settings output) refl names source now a b closed outcome
 
 -- words that are refused move nothing
 pub refused_moves : (s : Status) (a b : Sinks) → a.is_open ≡ false → RefusesWords s a b → OutputsMove s a b

@@ -4,9 +4,11 @@ use Rattle.pt_base.specs.Counts.{Rose}
 use Rattle.pt_base.specs.Failures.{Failures, after_err}
 use Rattle.pt_base.specs.Files.{Contents}
 use Rattle.pt_base.specs.declared.settings.Settings.{Settings}
+use Rattle.run_output.specs.Made.{no_past}
 use Rattle.run_output.specs.Messages.{bad_words, out_of_memory}
 use Rattle.run_output.specs.Names.{dash}
 use Rattle.run_output.specs.Status.{code_of}
+use Rattle.run_output.specs.declared.part.Binding.TheVariants.{Apart}
 use Rattle.run_output.specs.declared.status.Status.{Status}
 use Rattle.run_output.specs.declared.status.Status.TheVariants as status
 use Rattle.command_asks.specs.declared.ask.Ask.{Ask}
@@ -31,14 +33,14 @@ IsCodeOf code P = (s : Status) × (code ≡ code_of s) × P s
 -- the manner in which files become documents under some settings: a page's text is its document
 abbrev pub manner_under : Settings → Option (List ℕ) → Manner
 manner_under settings output =
-    manner_by settings.level settings.invert output settings.backend (λ page text. IsDocument page settings text)
+    manner_by settings.level settings.invert output settings.backend Apart (λ page text. IsDocument page settings text)
 
 -- what a run is to write that is asked for this
 abbrev pub AreItemsOf : Ask → Option Contents → List Item → Type 0
 AreItemsOf asks.Help contents items = items ≡ Doc dash help_text ∷ []
 AreItemsOf asks.Version contents items = items ≡ Doc dash version_text ∷ []
 AreItemsOf (asks.Demo pages workers settings) contents items = (text : List ℕ) × IsDemoText pages settings text × (items ≡ Doc dash text ∷ [])
-AreItemsOf (asks.Files names output workers settings) contents items = AreItems contents (manner_under settings output) Nothing names [] items
+AreItemsOf (asks.Files names output workers settings) contents items = AreItems contents (manner_under settings output) Nothing names no_past items
 
 -- what a run has done that was asked for this
 abbrev pub IsOutcomeOf : Ask → Status → Source → Source → Sinks → Sinks → Type 0
@@ -101,7 +103,7 @@ IsOnePassOf asks.Help source source_now old new = Unit {0}
 IsOnePassOf asks.Version source source_now old new = Unit {0}
 IsOnePassOf (asks.Demo pages workers settings) source source_now old new = Unit {0}
 IsOnePassOf (asks.Files names output workers settings) source source_now old new =
-    IsOnePass (2 * workers) [] (told_contents source.files) (manner_under settings output) names [] source source_now old new
+    IsOnePass (2 * workers) [] (told_contents source.files) (manner_under settings output) names no_past source source_now old new
 
 -- all that a run does that is asked for this
 pub record IsRun (ask : Ask) (s : Status) (source source_now : Source) (old new : Sinks) : Type 0 where

@@ -5,7 +5,7 @@ use Rattle.std.specs.List.{sum_by}
 use Rattle.std.specs.Str.{bytes_eq}
 use Rattle.std.proofs.lemmas.List.Sums.{count_by-le-length, sum_by-append, sum_by-cons, sum_by-take-le}
 use Rattle.std.proofs.lemmas.Slice.Eq.{bytes_eq-Decides}
-use Rattle.run_output.specs.Made.{documents_of, made_by}
+use Rattle.run_output.specs.Made.{Past, documents_of, made_by}
 use Rattle.run_output.specs.Names.{count_of, document_name, made_with, next_name}
 use Rattle.run_output.specs.declared.made.FileMade.{FileMade}
 
@@ -67,7 +67,7 @@ documents_all base [] = refl
 documents_all base (file ∷ files) =
     let rest = documents_all base files in
     let one = sum_by-cons (documents_of base) file files in
-    let both = sum_by-append (λ x. cond (bytes_eq x base) 1 0) (made_by files) (replicate file.pages (string_bytes file.base)) in
+    let both = sum_by-append (λ x. cond (bytes_eq x base) 1 0) (made_by files) (replicate file.documents (string_bytes file.base)) in
     omega (arith, rest, one, both)
 
 -- the documents of the first files are at most all
@@ -79,10 +79,17 @@ documents_most base files i =
     omega (arith, some, all, most)
 
 -- the documents of one file more
-pub made_by_push : (files : List FileMade) (file : FileMade) → made_by (files ++ file ∷ []) ≡ made_with (string_bytes file.base) file.pages (made_by files)
-made_by_push [] file = sym (append-nil (replicate file.pages (string_bytes file.base))) ∙ replicate-append (string_bytes file.base) file.pages []
+pub made_by_push : (files : List FileMade) (file : FileMade) → made_by (files ++ file ∷ []) ≡ made_with (string_bytes file.base) file.documents (made_by files)
+made_by_push [] file = sym (append-nil (replicate file.documents (string_bytes file.base))) ∙ replicate-append (string_bytes file.base) file.documents []
 made_by_push (f ∷ files) file =
-    let more : List (List ℕ) = replicate f.pages (string_bytes f.base) in
-    ap (λ l. l ++ more) (made_by_push files file ∙ sym (replicate-append (string_bytes file.base) file.pages (made_by files)))
-    ∙ append_assoc (replicate file.pages (string_bytes file.base)) (made_by files) more
-    ∙ replicate-append (string_bytes file.base) file.pages (made_by files ++ more)
+    let more : List (List ℕ) = replicate f.documents (string_bytes f.base) in
+    ap (λ l. l ++ more) (made_by_push files file ∙ sym (replicate-append (string_bytes file.base) file.documents (made_by files)))
+    ∙ append_assoc (replicate file.documents (string_bytes file.base)) (made_by files) more
+    ∙ replicate-append (string_bytes file.base) file.documents (made_by files ++ more)
+
+-- the same documents, and as many pages
+pub same_past : (past other : Past) → past.made ≡ other.made → past.pages ≡ other.pages → past ≡ other
+same_past past other made pages =
+    ap (λ (m : List (List ℕ)). at m past.pages) made ∙ ap (λ (n : ℕ). at other.made n) pages where
+      at : List (List ℕ) → ℕ → Past
+      at m n = record { made = m; pages = n }

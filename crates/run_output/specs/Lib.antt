@@ -26,8 +26,15 @@ pub mod Names
 --   not_written: a document couldn't be written
 --   trailing_line: the bytes after so many pages of a file begin no page
 pub mod Messages
--- The documents that were made, file by file.
+-- What a run made, file by file: documents, and their pages.
 --   most_pages: how many pages a run accepts
+--   Past: what was made
+--   no_past: nothing was made
+--   past_with: so many documents more, of so many pages
+--   documents_in: how many documents a file of so many pages has
+--   documents_before: how many documents of its file come before that of a page
+--   page_name: the name of the document of a page
+--   past_file: a file of so many pages more
 --   made_by: the base names of the documents of these files
 --   documents_of: how many documents of a file have this base name
 pub mod Made

@@ -1,7 +1,7 @@
-//! Which documents were made: how many of each base name.
-ghost use Rattle.std.specs.Prelude.{◌≡◌, ◌+◌, ◌≤◌, [], OnErr, OnOk, length, string_bytes};
-ghost use Rattle.run_output.specs.Made.{documents_of, most_pages};
-ghost use Rattle.run_output.specs.Names.{count_of, made_with};
+//! What was made: how many documents of each base name, and how many pages these have.
+ghost use Rattle.std.specs.Prelude.{◌≡◌, ◌+◌, ◌≤◌, OnErr, OnOk, string_bytes};
+ghost use Rattle.run_output.specs.Made.{documents_of, most_pages, no_past, past_with};
+ghost use Rattle.run_output.specs.Names.{count_of};
 
 use pt_base::fault::NoMemory;
 use std::alloc::Global;
@@ -11,7 +11,7 @@ use std::marker::Model;
 #[derive(Debug, Drop)]
 struct FileMade {
     base: String,
-    pages: u32,
+    documents: u32,
 }
 
 impl FileMade {
@@ -20,56 +20,57 @@ impl FileMade {
         ensures { result ≡ documents_of base.now self.now }
     {
         if self.base.as_str() == base {
-            self.pages
+            self.documents
         } else {
             0
         }
     }
 }
 
-/// The documents that were made so far. Contracts see the base name of each, the last one first.
+/// The documents that were made so far, and how many pages were read for them. Contracts see the base name of each
+/// document, the last one first, and the pages.
 ///
 /// There is an entry for each file, so a name is looked for once a file and not once a page.
 #[derive(Debug, Drop)]
 pub struct Made {
     files: Vec<FileMade>,
-    total: u32,
+    pages: u32,
 }
 
 impl Model for Made {
-    ghost use Rattle.std.specs.Prelude.{◌≡◌, ◌≤◌, ℕ, List, length};
-    ghost use Rattle.run_output.specs.Made.{made_by};
+    ghost use Rattle.std.specs.Prelude.{◌≤◌, length};
+    ghost use Rattle.run_output.specs.Made.{Past, made_by};
 
-    ghost Value = { List (List ℕ) };
+    ghost Value = { Past };
 
-    ghost view = { λ made. made_by made.files.items };
+    ghost view = { λ all. record { made = made_by all.files.items; pages = all.pages } };
 
-    ghost invariant = { λ made. (length (made_by made.files.items) ≡ made.total) × (made.total ≤ 65536) };
+    ghost invariant = { λ all. (length (made_by all.files.items) ≤ all.pages) × (all.pages ≤ 65536) };
 }
 
 impl Made {
     /// No document was made.
     pub fn new(alloc: Global) -> Made
-        ensures { result ≡ [] }
+        ensures { result ≡ no_past }
     {
         Made {
             files: Vec::new(alloc),
-            total: 0,
+            pages: 0,
         }
     }
 
-    /// How many documents were made.
-    pub fn total(&self) -> u32
-        ensures value { result ≡ length self.now }
+    /// How many pages were read.
+    pub fn pages(&self) -> u32
+        ensures value { result ≡ self.now.pages }
         ensures few { result ≤ most_pages }
     {
-        self.total
+        self.pages
     }
 
-    /// How many of them have this base name.
+    /// How many documents have this base name.
     pub fn count(&self, base: &str) -> u32
-        ensures value { result ≡ count_of base.now self.now }
-        ensures few { result ≤ length self.now }
+        ensures value { result ≡ count_of base.now self.now.made }
+        ensures few { result ≤ most_pages }
     {
         let mut count = 0;
         for file in &self.files {
@@ -78,14 +79,15 @@ impl Made {
         count
     }
 
-    /// Adds the documents of a file.
-    pub fn add(&mut self, base: String, pages: u32) -> Result<(), NoMemory>
-        requires { pages + length self.old ≤ most_pages }
-        ensures added { OnOk result (self.new ≡ made_with (string_bytes base) pages self.old) }
+    /// Adds so many documents of a file, which have so many pages.
+    pub fn add(&mut self, base: String, documents: u32, pages: u32) -> Result<(), NoMemory>
+        requires few { documents ≤ pages }
+        requires room { pages + self.old.pages ≤ most_pages }
+        ensures added { OnOk result (self.new ≡ past_with (string_bytes base) documents pages self.old) }
         ensures same { OnErr result (self.new ≡ self.old) }
     {
-        self.files.push(FileMade { base, pages })?;
-        self.total += pages;
+        self.files.push(FileMade { base, documents })?;
+        self.pages += pages;
         Ok(())
     }
 }

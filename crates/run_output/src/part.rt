@@ -5,6 +5,7 @@
 ghost use Rattle.std.specs.Prelude.{◌≡◌, ◌≤◌, suc, [], true, false, not, map, OnOk, OnErr};
 ghost use Rattle.pt_base.specs.Counts.{Rose};
 ghost use Rattle.pt_base.specs.Failures.{after_err};
+ghost use Rattle.run_output.specs.Made.{documents_before, documents_in};
 ghost use Rattle.run_output.specs.Parts.{IsCutIn, begun, end_part, ended, is_begun, is_first_page, page_part, part_in_pieces, prolog_before, with_part};
 ghost use Rattle.run_output.specs.declared.part.Binding.{Binding};
 
@@ -18,6 +19,31 @@ use pt_base::sink::Outputs;
 pub enum Binding {
     Apart,
     Together,
+}
+
+impl Binding {
+    /// How many documents a file of so many pages has.
+    pub fn documents_in(self, pages: u32) -> u32
+        ensures value { result ≡ documents_in self pages }
+        ensures few { result ≤ pages }
+    {
+        match self {
+            Binding::Apart => pages,
+            Binding::Together if pages == 0 => 0,
+            Binding::Together => 1,
+        }
+    }
+
+    /// How many documents of its file come before that of a page, which so many pages of the file come before.
+    pub fn documents_before(self, pages: u32) -> u32
+        ensures value { result ≡ documents_before self pages }
+        ensures few { result ≤ pages }
+    {
+        match self {
+            Binding::Apart => pages,
+            Binding::Together => 0,
+        }
+    }
 }
 
 /// What stands before all pages that are bound together.

@@ -1,6 +1,7 @@
 use Rattle.std.proofs.Common.{◌≡◌, ◌∙◌, ◌∷◌, ◌*◌, Err, ap, refl, subst, arith}
 use Rattle.pt_base.specs.Files.{Lacks}
 use Rattle.run_output.specs.declared.status.Status.TheVariants as status
+use Rattle.page_batches.specs.Desks.{sinks_at}
 use Rattle.file_trace.specs.Items.{told_contents}
 use Rattle.run_output.specs.Told.{source_of}
 use Rattle.file_trace.specs.Progress.{InputCount}
@@ -8,6 +9,7 @@ use Rattle.file_trace.specs.Tasks.{manner_of}
 use Rattle.file_trace.proofs.Counting.{faults_from, input_by, rose_by}
 use Rattle.file_trace.proofs.Ending.{ends_at_once, ends_behind, file_ends, file_halted, input_count, input_of_halt, input_unopened, unopened_by, unopened_ends}
 use Rattle.file_trace.proofs.Filing.{file_goes_on, halts_named, halts_unwritten, has_bytes, traced_named}
+use Rattle.file_trace.proofs.Finishing.{end_named}
 use Rattle.file_trace.proofs.Keeping.{keeps_on}
 use Rattle.file_trace.proofs.Passing.{pass_ended, pass_halted, pass_unopened}
 use Rattle.file_trace.proofs.Reading.{contents_through, contents_unopened, name-with_file, no_name}
@@ -121,10 +123,12 @@ returns-in-Ok-add-clause-traced g c =
     let start = g.I.Inputs.files c.open.new.self in
     let there : Lacks told c.args.name.now → ⊥ = λ lacking. let clash = c.in-Ok.ensures.absent.1 lacking in cc in
     let traced = traced_named _ manner _ _ _ _ _ _ _ _ _ _ _ (c.deref.ensures ∙ c.in-Ok-base_name.ensures) c.in-Ok-trace_pages.ensures.traced in
-    rw (c.in-Ok-add.ensures.added, c.in-Ok-base_name.ensures)
+    rw (c.in-Ok-add.ensures.added, c.documents_in.ensures.value, c.in-Ok-base_name.ensures)
     (file_goes_on (told_contents told) manner c.args.name.now c.args.made.now _ start (g.I.Inputs.files c.trace_pages.new.inputs) c.in-Ok-trace_pages.traced.pages
     c.args.batch.now c.trace_pages.new.batch _ _ (has_bytes told start c.args.name.now c.in-Ok.ensures.file there) c.in-Ok-trace_pages.traced.end traced c.finish.new.batch _
-    c.in-Ok-finish.ensures.ended c.in-Ok-finish.ensures.because)
+    (end_named _ manner c.args.name.now _ _ c.args.made.now c.in-Ok-trace_pages.traced.end c.in-Ok-trace_pages.traced.pages c.trace_pages.new.batch c.finish.new.batch
+    (sinks_at g.O.Sink g.E.Sink c.trace_pages.new.desk) (sinks_at g.O.Sink g.E.Sink c.finish.new.desk) (c.deref-2.ensures ∙ c.in-Ok-base_name.ensures) (λ left are. c.in-Ok-finish.ensures.ended left are))
+    c.in-Ok-finish.ensures.because)
 
 pub returns-in-Ok-add-clause-asked : goal.returns-in-Ok-add-clause-asked
 returns-in-Ok-add-clause-asked g c = record {
@@ -153,7 +157,9 @@ returns-in-Err-add-clause-traced g c = λ names first are.
       ends_behind _ (told_contents told) manner c.requires.texts c.args.name.now c.args.made.now _ c.args.batch.now c.finish.new.batch _ _ _
           (file_goes_on (told_contents told) manner c.args.name.now c.args.made.now _ start (g.I.Inputs.files c.trace_pages.new.inputs) c.in-Ok-trace_pages.traced.pages
           c.args.batch.now c.trace_pages.new.batch _ _ (has_bytes told start c.args.name.now c.in-Ok.ensures.file there) c.in-Ok-trace_pages.traced.end traced c.finish.new.batch _
-          c.in-Ok-finish.ensures.ended c.in-Ok-finish.ensures.because)
+          (end_named _ manner c.args.name.now _ _ c.args.made.now c.in-Ok-trace_pages.traced.end c.in-Ok-trace_pages.traced.pages c.trace_pages.new.batch c.finish.new.batch
+          (sinks_at g.O.Sink g.E.Sink c.trace_pages.new.desk) (sinks_at g.O.Sink g.E.Sink c.finish.new.desk) (c.deref-2.ensures ∙ c.in-Ok-base_name.ensures) (λ left are. c.in-Ok-finish.ensures.ended left are))
+          c.in-Ok-finish.ensures.because)
           (record { outs = refl; opened = refl })
           (record { said = c.say_out_of_memory-in-Err-add.ensures.said; given_up = c.say_out_of_memory-in-Err-add.ensures.given_up; never_falls = c.say_out_of_memory-in-Err-add.ensures.never_falls })
           names first are,
@@ -173,5 +179,5 @@ returns-in-Err-add-clause-keeps g c =
     (record { outs = refl; errs = refl; ready = c.say_out_of_memory-in-Err-add.ensures.stays_ready; never_falls = omega arith })
 
 -- a file's pages are as many as a run accepts
-pub add-requires : goal.add-requires
-add-requires g c = c.in-Ok-trace_pages.ensures.traced.few
+pub add-requires-clause-room : goal.add-requires-clause-room
+add-requires-clause-room g c = c.in-Ok-trace_pages.ensures.traced.few

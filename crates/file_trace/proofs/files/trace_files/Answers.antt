@@ -1,5 +1,6 @@
-use Rattle.std.proofs.Common.{◌≡◌, ◌∙◌, ◌*◌, [], length, inl, refl, arith}
+use Rattle.std.proofs.Common.{◌≡◌, ◌∙◌, ◌*◌, [], length, inl, refl, sym, arith}
 use Rattle.std.proofs.lemmas.List.{take_all}
+use Rattle.run_output.specs.Made.{no_past}
 use Rattle.run_output.specs.declared.status.Status.TheVariants as status
 use Rattle.file_trace.specs.Items.{told_contents}
 use Rattle.run_output.specs.Told.{source_of}
@@ -7,7 +8,7 @@ use Rattle.file_trace.specs.Tasks.{manner_of}
 use Rattle.file_trace.proofs.Counting.{input_from}
 use Rattle.file_trace.proofs.Ending.{ends_at_once, halts_in, input_of_halt}
 use Rattle.file_trace.proofs.Keeping.{keeps_on}
-use Rattle.file_trace.proofs.Running.{all_done, ends_after, ends_in, none_done, one_done, openings_more, opens_to, passes_after, passes_in}
+use Rattle.file_trace.proofs.Running.{all_done, ends_after, ends_in, none_begun, none_done, one_done, openings_more, opens_to, passes_after, passes_in}
 use Rattle.file_trace.proofs.files.trace_files.Goals as goal
 
 -- no file is done yet
@@ -15,7 +16,7 @@ pub loop-name-init : goal.loop-name-init
 loop-name-init g c = record {
   done = rw (c.new-made.ensures, c.new-batch.ensures) (none_done _ (told_contents (g.I.Inputs.files c.args.inputs.now)) (manner_of g.J.PageJob c.args.task.now) _);
   within = omega arith;
-  going = record { waits = rw c.new-batch.ensures (record { few = omega (arith, c.args.task.now.plan.some_worker); turn = tt; next = c.requires.closed }); ready = c.requires.ready };
+  going = record { waits = rw c.new-batch.ensures (record { few = omega (arith, c.args.task.now.plan.some_worker); turn = tt; next = c.requires.closed ∙ sym (none_begun c.args.task.now.plan.binding) }); ready = c.requires.ready };
   openings = (let most = g.met.I.Inputs.openings_counted c.args.inputs.now in omega (arith, most));
   opened = inl (refl, refl);
   contents = refl;
@@ -43,7 +44,7 @@ loop-name-preserved g c =
 -- memory ran out before the first file
 pub returns-in_default : goal.returns-in_default
 returns-in_default g c = record {
-  outcome = ends_at_once (told_contents (g.I.Inputs.files c.args.inputs.now)) (manner_of g.J.PageJob c.args.task.now) c.requires.texts c.args.names.now [] _ _ (record { outs = refl; opened = refl })
+  outcome = ends_at_once (told_contents (g.I.Inputs.files c.args.inputs.now)) (manner_of g.J.PageJob c.args.task.now) c.requires.texts c.args.names.now no_past _ _ (record { outs = refl; opened = refl })
       (record { said = c.say_out_of_memory.ensures.said; given_up = c.say_out_of_memory.ensures.given_up; never_falls = c.say_out_of_memory.ensures.never_falls }) [];
   opened = inl (refl, refl);
   one_pass = λ is. absurd (let no : status.OutOfMemory ≡ status.Unwritten = is in cc);
@@ -72,10 +73,9 @@ returns-in-Err g c =
 pub returns-in-Ok-carry_out : goal.returns-in-Ok-carry_out
 returns-in-Ok-carry_out g c =
     let all : c.loop-name.name-index ≡ length c.args.names.now = omega (arith, c.loop-name.invariant.within, c.loop-name-test.false) in
-    let ended = rw c.args.task.now.apart at c.in-Ok-carry_out.ensures.ended in
     record {
       outcome = all_done _ _ (manner_of g.J.PageJob c.args.task.now) _ _ _ (source_of g.I.Inputs c.args.inputs.now) (source_of g.I.Inputs c.loop-name.inputs) _ _ _
-          (rw (take_all c.loop-name.name-index c.args.names.now c.loop-name-test.false) at c.loop-name.invariant.done) ended (rw all at c.loop-name.invariant.openings);
+          (rw (take_all c.loop-name.name-index c.args.names.now c.loop-name-test.false) at c.loop-name.invariant.done) c.in-Ok-carry_out.ensures.ended (rw all at c.loop-name.invariant.openings);
       opened = c.loop-name.invariant.opened;
       one_pass = λ is. absurd (let no : status.Done ≡ status.Unwritten = is in cc);
       input = c.loop-name.invariant.input;
@@ -86,13 +86,12 @@ returns-in-Ok-carry_out g c =
 pub returns : goal.returns
 returns g c =
     let done = rw (take_all c.loop-name.name-index c.args.names.now c.loop-name-test.false) at c.loop-name.invariant.done in
-    let ended = rw c.args.task.now.apart at c.in-Err-carry_out.ensures.ended in
     let which = halts_in c.in-Err-carry_out.status _ _ _ _ _ c.in-Err-carry_out.ensures.left in
     record {
-      outcome = ends_after c.in-Err-carry_out.status which _ _ (manner_of g.J.PageJob c.args.task.now) _ _ _ _ _ _ _ _ done ended;
+      outcome = ends_after c.in-Err-carry_out.status which _ _ (manner_of g.J.PageJob c.args.task.now) _ _ _ _ _ _ _ _ done c.in-Err-carry_out.ensures.ended;
       opened = c.loop-name.invariant.opened;
       one_pass = λ is.
-          passes_after (2 * c.args.task.now.plan.workers) (omega (arith, c.args.task.now.plan.some_worker)) _ (manner_of g.J.PageJob c.args.task.now) _ _ _ _ _ _ _ _ done c.loop-name.invariant.going.waits.few (rw is at ended);
+          passes_after (2 * c.args.task.now.plan.workers) (omega (arith, c.args.task.now.plan.some_worker)) _ (manner_of g.J.PageJob c.args.task.now) _ _ _ _ _ _ _ _ done c.loop-name.invariant.going.waits.few (rw is at c.in-Err-carry_out.ensures.ended);
       input = input_of_halt c.in-Err-carry_out.status which _ _;
       keeps = keeps_on _ _ _ _ _ c.loop-name.invariant.keeps c.carry_out.ensures.keeps;
     }

@@ -19,7 +19,7 @@ invariant-loop-name g l =
       done : AreDone (2 * l.task.plan.workers) (told_contents (inputs.files l.fn.inputs)) (manner_of g.J.PageJob l.task) (take l.name-index l.names) l.made l.batch
           (sinks_at outs errs l.fn.desk) (sinks_at outs errs l.desk);
       within : l.name-index ≤ length l.names;
-      going : CanHold outs errs (2 * l.task.plan.workers) l.desk l.batch;
+      going : CanHold outs errs l.task.plan.binding (2 * l.task.plan.workers) 0 l.desk l.batch;
       openings : inputs.openings l.inputs ≡ min (inputs.openings l.fn.inputs + l.name-index) last_count;
       opened : OpensFirst l.names (source_of inputs l.fn.inputs) (source_of inputs l.inputs);
       contents : told_contents (inputs.files l.inputs) ≡ told_contents (inputs.files l.fn.inputs);

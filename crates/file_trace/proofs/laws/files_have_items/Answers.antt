@@ -3,5 +3,5 @@ use Rattle.file_trace.proofs.Exists.{items_found}
 use Rattle.file_trace.proofs.laws.files_have_items.Goals as goal
 
 pub returns : goal.returns
-returns g c = λ level invert output backend texts contents names made.
-    items_found contents (manner_by level invert output backend (g.J.PageJob.belongs c.args.job.now)) texts names made
+returns g c = λ level invert output backend binding texts contents names past.
+    items_found contents (manner_by level invert output backend binding (g.J.PageJob.belongs c.args.job.now)) texts names past

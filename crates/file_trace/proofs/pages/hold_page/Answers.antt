@@ -9,4 +9,4 @@ returns-in_default-clause-held g c = λ items are text is. memory_out _ _ _ (rec
 
 -- the page is held
 pub returns-clause-held : goal.returns-clause-held
-returns-clause-held g c = rw (c.args.task.now.apart, c.in-Ok.ensures) at c.hold_page.ensures.held
+returns-clause-held g c = rw (c.in-Ok.ensures, c.documents_before.ensures.value) at c.hold_page.ensures.held

@@ -1,4 +1,5 @@
-use Rattle.std.proofs.Common.{◌≡◌, ◌∙◌, true, false, ap, refl, sym, arith}
+use Rattle.std.proofs.Common.{◌≡◌, suc, ◌+◌, ◌∙◌, true, false, ap, refl, sym, arith}
+use Rattle.run_output.specs.Made.{documents_before}
 use Rattle.run_output.proofs.Naming.{next_name-made_with}
 use Rattle.run_output.specs.Told.{source_of}
 use Rattle.file_trace.specs.Tasks.{manner_of}
@@ -21,13 +22,14 @@ loop-pages-init g c = record {
 
 pub loop-pages-preserved : goal.loop-pages-preserved
 loop-pages-preserved g c =
-    let named = next_name-made_with c.args.base.now c.count-first.result c.loop-pages.pages c.args.made.now c.count-first.ensures.value in
+    let named = next_name-made_with c.args.base.now c.count-first.result (documents_before c.args.task.now.plan.binding c.loop-pages.pages) c.args.made.now.made c.count-first.ensures.value in
     let document = c.requires.texts c.in-Ok.page c.in-Ok.ensures.answer.1 in
+    let same : suc c.loop-pages.pages ≡ c.loop-pages.pages + 1 = omega arith in
     record {
       most = omega arith;
       traced = one_more _ (manner_of g.J.PageJob c.args.task.now) _ _ _ _ _ _ _ _ _ _ _ _ _ _ _ _ c.loop-pages.invariant.traced c.in-Ok.ensures.answer.0 document.1
           (λ left are. rw named (c.in-Ok-hold_page.ensures.held left are document.0 document.1));
-      going = c.in-Ok-hold_page.ensures.going;
+      going = rw same at c.in-Ok-hold_page.ensures.going;
       opened = c.in-Ok.ensures.answer.3;
       at_end = c.in-Ok.ensures.answer.4;
       stays = stays_taken _ _ (source_of g.I.Inputs c.args.inputs.now) (source_of g.I.Inputs c.loop-pages.inputs) (source_of g.I.Inputs c.read_next.new.inputs)
@@ -39,7 +41,7 @@ loop-pages-preserved g c =
 -- a page more is read, and what was held with it isn't carried out
 pub returns-in-Err-hold_page-clause-traced : goal.returns-in-Err-hold_page-clause-traced
 returns-in-Err-hold_page-clause-traced g c =
-    let named = next_name-made_with c.args.base.now c.count-first.result c.loop-pages.pages c.args.made.now c.count-first.ensures.value in
+    let named = next_name-made_with c.args.base.now c.count-first.result (documents_before c.args.task.now.plan.binding c.loop-pages.pages) c.args.made.now.made c.count-first.ensures.value in
     let document = c.requires.texts c.in-Ok.page c.in-Ok.ensures.answer.1 in (
       c.in-Err-hold_page.ensures.halts.0,
       halted _ _ (manner_of g.J.PageJob c.args.task.now) _ _ _ _ _ _ _ _ _ _ _ _ _ _ _ c.loop-pages.invariant.traced c.in-Ok.ensures.answer.0 document.1

@@ -18,7 +18,7 @@ invariant-loop-pages g l =
       most : l.pages ≤ l.room;
       traced : IsTraced (2 * l.task.plan.workers) (manner_of g.J.PageJob l.task) l.base l.made (unread (inputs.files l.fn.inputs)) l.reader (inputs.files l.inputs) l.fn.batch l.batch
           (sinks_at outs errs l.fn.desk) (sinks_at outs errs l.desk) l.pages;
-      going : CanHold outs errs (2 * l.task.plan.workers) l.desk l.batch;
+      going : CanHold outs errs l.task.plan.binding (2 * l.task.plan.workers) l.pages l.desk l.batch;
       opened : inputs.is_opened l.inputs ≡ true;
       at_end : l.reader.ended ≡ true → AtEnd (inputs.files l.inputs);
       stays : OpensNoFile (source_of inputs l.fn.inputs) (source_of inputs l.inputs);
