@@ -7,4 +7,5 @@ pub mod Following
 pub mod Lifting
 pub mod Enlarging
 pub mod Mixing
+pub mod Order
 pub mod Examples

@@ -1,10 +1,10 @@
 //! The filter, which goes along a page and holds no more rows of it than a box has.
-ghost use Rattle.std.specs.Prelude.{◌≡◌, ℕ, ◌+◌, ◌*◌, ◌/◌, ◌≤◌, ◌<◌, length, get_or, min, [], IfOk, vec_len};
+ghost use Rattle.std.specs.Prelude.{◌≡◌, ℕ, ◌+◌, ◌*◌, ◌/◌, ◌≤◌, ◌<◌, length, get_or, min, nat_eq, nat_lt, [], IfOk, vec_len};
 ghost use Rattle.pt_base.specs.declared.limits.TheConstants.{LONGEST_SIDE};
 ghost use Rattle.mkbitmap.specs.Box.{Gray};
 ghost use Rattle.mkbitmap.specs.Enlarged.{after_of, is_black, dark_limit};
 ghost use Rattle.mkbitmap.specs.Packing.{padded};
-ghost use Rattle.mkbitmap.specs.declared.limits.TheConstants.{GREATEST_RADIUS, GREATEST_TIMES};
+ghost use Rattle.mkbitmap.specs.declared.limits.TheConstants.{GREATEST_LEVEL, GREATEST_RADIUS, GREATEST_TIMES};
 ghost use Rattle.bit_image.specs.PbmText.{row_text};
 ghost use Rattle.mkbitmap.specs.Follows.{IsAlong, HasRoom, HoldsRows, AreRaised, Follows, IsRow, SameSetup, first_held};
 
@@ -70,7 +70,7 @@ fn blank_slots(alloc: Global, count: usize, width: usize) -> Result<Vec<Slot>, N
 /// The greatest mixture, raised, of a black pixel, at a level in millionths.
 pub fn limit(white: u16, times: u32, level: u32) -> u64
     requires times { times ≤ GREATEST_TIMES }
-    requires level { level ≤ 1000000 }
+    requires level { level ≤ GREATEST_LEVEL }
     ensures { result ≡ dark_limit white times level }
 {
     let squares = u64::from(white) * u64::from(times * times);
@@ -263,6 +263,26 @@ impl Filter {
     {
         self.copy_down();
         self.pairs += 1;
+    }
+
+    /// Whether another row is to be taken before it goes on by a row of the page.
+    pub fn wants_row(&self) -> bool
+        requires { HasRoom self.now }
+        ensures { result ≡ nat_lt self.now.taken
+            (min self.now.height (self.now.pairs + self.now.radius + 1)) }
+    {
+        let end = self.pairs as usize + self.radius + 1;
+        (self.taken as usize) < end.min(self.height as usize)
+    }
+
+    /// Whether the reliefs are those that a row of the larger page lies between.
+    pub fn is_ready(&self, y: u32, times: u32) -> bool
+        requires least { 1 ≤ times }
+        requires most { times ≤ GREATEST_TIMES }
+        requires row { y ≤ LONGEST_SIDE }
+        ensures { result ≡ nat_eq self.now.pairs (after_of times y + 1) }
+    {
+        self.pairs == Place::of(times, y).after + 1
     }
 
     /// Goes on by a row of the page: the lower reliefs become the upper ones.

@@ -1,5 +1,5 @@
 //! Laws of the larger page.
-ghost use Rattle.std.specs.Prelude.{◌≡◌, ℕ, ◌≤◌, ◌+◌, min, nat_le};
+ghost use Rattle.std.specs.Prelude.{◌≡◌, ℕ, ◌≤◌, ◌<◌, ◌+◌, ◌*◌, min, nat_le};
 ghost use Rattle.mkbitmap.specs.Box.{Gray};
 ghost use Rattle.mkbitmap.specs.Enlarged.{is_black, mixed_raised, dark_limit, need, after_of};
 
@@ -17,4 +17,23 @@ pub fn black_is_within_a_limit()
 pub fn needed_rows_are_those_of_two_boxes()
     ensures { (height radius times Y : ℕ) → 1 ≤ times → 1 ≤ height
         → need height radius times Y + 1 ≡ min height (after_of times Y + radius + 1) }
+{}
+
+/// A row of the larger page is mixed of no earlier rows than one above it, and of none behind the last one.
+pub fn rows_are_mixed_in_order()
+    ensures rises { (times X Y : ℕ) → 1 ≤ times → X ≤ Y → after_of times X ≤ after_of times Y }
+    ensures ends { (height times Y : ℕ) → 1 ≤ times → Y < times * height
+        → after_of times Y ≤ height }
+{}
+
+/// So it needs no fewer rows of the page, and never more than there are.
+pub fn rows_need_more_and_more()
+    ensures rises { (height radius times X Y : ℕ) → 1 ≤ times → 1 ≤ height → X ≤ Y
+        → need height radius times X ≤ need height radius times Y }
+    ensures ends { (height radius times Y : ℕ) → 1 ≤ times → 1 ≤ height
+        → need height radius times Y < height }
+
+    // The last row needs all of them.
+    ensures last { (height radius times Y : ℕ) → 1 ≤ times → 1 ≤ height
+        → Y + 1 ≡ times * height → need height radius times Y + 1 ≡ height }
 {}

@@ -1,0 +1,8 @@
+-- What the words ask for.
+--   filter_command: the command as `clap` reads it
+--   option_text: the value of an option, or what stands for it where it is left out
+--   GivesSetup: the options give this setup
+--   CanFilter: a setup that a page can be filtered with
+--   AsksFilter: what `clap` found in the words asks for this
+--   IsFilterAsked: the words ask for this
+pub mod Asked

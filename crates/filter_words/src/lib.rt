@@ -1,0 +1,7 @@
+//! What the words of `mkbitmap` ask for: how the program is used, or how a page is filtered.
+#![tactic(auto)]
+
+pub mod ask;
+mod command;
+pub mod laws;
+pub mod setup;
