@@ -30,9 +30,8 @@ const SLOTS: usize = 1 << 16;
 
 /// A segment to go on by.
 //
-// What it costs has 128 bits, as in `least`: the contract of `Steps` allows a penalty to 2^56, so a sum of 2^31 of
-// them needs 87 bits. Those of a polygon are together at most 256 for each step of its path (`penalties_are_small`),
-// which 64 bits would hold; but the search adds them by the contract of `least`.
+// What it costs has 64 bits, where `least` takes 128: the contract of `Steps` allows a penalty to 2^56, so a sum of 2^31
+// of them needs 87 bits; but the penalty of a possible segment is below 2^24.
 #[derive(Clone, Copy)]
 struct Onward {
     /// What the polygon costs from this segment on to the end: less than 2^56.
@@ -149,8 +148,8 @@ fn farthest(alloc: Global, segments: &Segments, counts: &[u32]) -> Result<Vec<u3
 // Points of one slot are farther apart than a segment is long. So when a point is looked at, each of those
 // that a segment leads to has its slot for itself.
 //
-// A cost takes 16 bytes, and a list of one for each point of a long path is memory that is used for the first time,
-// which takes longer than the search; so one MiB does for any path. The price: a mask for each cost, and a proof that
+// A cost takes 8 bytes, and a list of one for each point of a long path is memory that is used for the first time,
+// which takes longer than the search; so half a MiB does for any path. The price: a mask for each cost, and a proof that
 // speaks of a list of all costs that isn't there (`AreKept`).
 fn slot(point: usize) -> usize
     ensures { result ≡ slot_of point }

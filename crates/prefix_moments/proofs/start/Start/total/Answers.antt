@@ -1,4 +1,4 @@
-use Rattle.std.proofs.Common.{◌≡◌, ◌+◌, ◌-◌, ◌*ℤ◌, ◌-ℤ◌, ◌≤ℤ◌, ℤ, pos, w64, to_z, of_z, refl, ap, ◌∙◌, arith}
+use Rattle.std.proofs.Common.{◌≡◌, ◌+◌, ◌-◌, ◌*ℤ◌, ◌-ℤ◌, ◌≤ℤ◌, pos, w64, to_z, of_z, refl, ap, ◌∙◌, arith}
 use Rattle.std.proofs.lemmas.Int.{ints, to_z-of_z}
 use Rattle.std.specs.Prelude.{unsigned_abs}
 use Rattle.pt_base.specs.ClosedWalk.{point_at}
