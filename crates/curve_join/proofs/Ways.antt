@@ -10,15 +10,15 @@ use Rattle.least_walk.proofs.Going.{total_cost-cons}
 use Rattle.least_walk.proofs.Onward.{fewest_onward, least_onward}
 use Rattle.curve_join.specs.Choice.{run_penalty}
 use Rattle.curve_join.specs.Join.{penalty_at}
-use Rattle.curve_join.specs.Search.{AreLeastCosts, IsUpTo, paid}
+use Rattle.curve_join.specs.Search.{AreLeastCosts, IsNotBehind, paid}
 use Rattle.curve_join.specs.declared.bend.Bend.{Bend}
 use Rattle.curve_join.specs.declared.search.WayOn.{WayOn}
 
 -- the order of ways on
-pub up_to_itself : (a : WayOn) → IsUpTo a a
+pub up_to_itself : (a : WayOn) → IsNotBehind a a
 up_to_itself a = record { count = omega arith; cost = λ e. omega arith; next = λ e f. omega arith }
 
-pub up_to_through : (a b c : WayOn) → IsUpTo a b → IsUpTo b c → IsUpTo a c
+pub up_to_through : (a b c : WayOn) → IsNotBehind a b → IsNotBehind b c → IsNotBehind a c
 up_to_through a b c ab bc =
     let first = ab.count in
     let second = bc.count in
@@ -34,7 +34,7 @@ up_to_through a b c ab bc =
     }
 
 -- what comes behind without its penalty does with it
-pub up_to_paid : (a b : WayOn) (penalty : ℕ) → IsUpTo a b → IsUpTo a (paid penalty b)
+pub up_to_paid : (a b : WayOn) (penalty : ℕ) → IsNotBehind a b → IsNotBehind a (paid penalty b)
 up_to_paid a b penalty is =
     let first = is.count in
     record {
@@ -75,14 +75,14 @@ IsWay size is_allowed cost counts costs i best =
 -- and none by the step to the next index, or by one to `to` or farther, comes before it
 pub record IsBestTo (size : ℕ) (is_allowed : ℕ → ℕ → Type 0) (cost : ℕ → ℕ → ℕ) (counts costs : List ℕ) (i to : ℕ) (best : WayOn) : Type 0 where
   pub way : IsWay size is_allowed cost counts costs i best
-  pub least : (k : ℕ) → i < k → (k ≡ i + 1) ⊎ (to ≤ k) → k ≤ size → is_allowed i k → IsUpTo best (way_to cost counts costs i k)
+  pub least : (k : ℕ) → i < k → (k ≡ i + 1) ⊎ (to ≤ k) → k ≤ size → is_allowed i k → IsNotBehind best (way_to cost counts costs i k)
 
 module _ (size : ℕ) (is_allowed : ℕ → ℕ → Type 0) (cost : ℕ → ℕ → ℕ) where
   -- one more step
   pub best_more : (counts costs : List ℕ) (i k to : ℕ) (way best better : WayOn) → i < k → k ≤ size → k + 1 ≡ to
       → way.count ≡ slice_index counts k + 1 → way.cost ≡ slice_index costs k → way.next ≡ k
-      → (better ≡ best) ⊎ (is_allowed i way.next × (better ≡ paid (cost i way.next) way)) → IsUpTo better best
-      → (is_allowed i way.next → IsUpTo better (paid (cost i way.next) way))
+      → (better ≡ best) ⊎ (is_allowed i way.next × (better ≡ paid (cost i way.next) way)) → IsNotBehind better best
+      → (is_allowed i way.next → IsNotBehind better (paid (cost i way.next) way))
       → IsBestTo size is_allowed cost counts costs i to best → IsBestTo size is_allowed cost counts costs i k better
   best_more counts costs i k to way best better above within next count_is cost_is next_is one before run so_far =
       let there : paid (cost i way.next) way ≡ way_to cost counts costs i k =
@@ -99,8 +99,8 @@ module _ (size : ℕ) (is_allowed : ℕ → ℕ → Type 0) (cost : ℕ → ℕ 
             | yes farther ↦ up_to_through better best (way_to cost counts costs i j) before (so_far.least j j_above (inr (omega arith)) j_within allowed)
             | no near ↦
                 let here : k ≡ j = omega arith in
-                let Q : ℕ → Type 0 = λ m. IsUpTo better (way_to cost counts costs i m) in
-                subst Q here (subst (IsUpTo better) there (run (subst (is_allowed i) (sym (next_is ∙ here)) allowed)))
+                let Q : ℕ → Type 0 = λ m. IsNotBehind better (way_to cost counts costs i m) in
+                subst Q here (subst (IsNotBehind better) there (run (subst (is_allowed i) (sym (next_is ∙ here)) allowed)))
           ]
         ];
       }
@@ -124,7 +124,7 @@ module _ (size : ℕ) (is_allowed : ℕ → ℕ → Type 0) (cost : ℕ → ℕ 
     cost_is : best.cost ≡ slice_index costs best.next + cost i best.next
     cost_is = ap (λ (w : WayOn). w.cost) is.way.3
 
-    least : (k : ℕ) → i < k → k ≤ size → is_allowed i k → IsUpTo best (way_to cost counts costs i k)
+    least : (k : ℕ) → i < k → k ≤ size → is_allowed i k → IsNotBehind best (way_to cost counts costs i k)
     least k above k_within k_allowed = elim (dec_lt (i + 1) k) [
       | yes far ↦ is.least k above (inr (omega arith)) k_within k_allowed
       | no next ↦ is.least k above (inl (omega arith)) k_within k_allowed

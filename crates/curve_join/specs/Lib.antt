@@ -95,6 +95,7 @@ pub mod Choice
 -- Runs lead onwards, and their penalties are small.
 --   slice_most: a part of a list isn't longer than from where to where it goes
 --   goes_up
+--   ends_soon: no run has more than 64 pieces
 --   penalty_most
 pub mod Costs
 -- Halves of a stretch of a quadratic.
@@ -104,7 +105,7 @@ pub mod Costs
 --   IsHalf: the second half if it is above 0 in the middle, and else the first
 pub mod Halves
 -- What the search for the best cut of an outline knows of the ways on from its pieces.
---   IsUpTo: the first way on doesn't come behind the second
+--   IsNotBehind: the first way on doesn't come behind the second
 --   paid: a way on, with the penalty of its first run
 --   AreLeastCosts: at each index from `low` to the end stands what the least way to go on from there costs
 pub mod Search

@@ -5,7 +5,7 @@ use Rattle.curve_join.specs.declared.search.WayOn.{WayOn}
 
 -- the first way on doesn't come behind the second: by its number of runs, then by what they cost, then by where the
 -- first of them ends
-pub record IsUpTo (a b : WayOn) : Type 0 where
+pub record IsNotBehind (a b : WayOn) : Type 0 where
   pub count : a.count ≤ b.count
   pub cost : a.count ≡ b.count → a.cost ≤ b.cost
   pub next : a.count ≡ b.count → a.cost ≡ b.cost → a.next ≤ b.next

@@ -3,14 +3,18 @@
 //! The best way on from a piece goes by one run to a later piece, and on from there by the best way from that one. So
 //! the ways on are found from the end down, all that is asked of one in one go: how many runs it has, what they cost,
 //! and where the first of them ends.
-ghost use Rattle.std.specs.Prelude.{◌≡◌, ◌+◌, ◌<◌, ◌≤◌, ◌^◌, ◌⊎◌, true, false, length, slice_index, IfOk};
+ghost use Rattle.std.specs.Prelude.{◌≡◌, ◌+◌, ◌<◌, ◌≤◌, ◌^◌, ◌⊎◌, true, false, length, slice_index, slice_range, All, IfOk};
 ghost use Rattle.least_walk.specs.LeastWalk.{IsLeast, walk_from};
 ghost use Rattle.least_walk.specs.Suffix.{HasCosts, HasFewest, HasNexts, IsFewestFrom, IsLeastCost, IsLeastNext};
-ghost use Rattle.curve_join.specs.Choice.{IsRun, run_penalty};
-ghost use Rattle.curve_join.specs.Search.{AreLeastCosts, IsUpTo, paid};
+ghost use Rattle.curve_join.specs.Bends.{IsSmall};
+ghost use Rattle.curve_join.specs.Choice.{IsLastRun, IsRun, run_penalty};
+ghost use Rattle.curve_join.specs.Join.{GoesRound, first_bend, sense_at};
+ghost use Rattle.curve_join.specs.Search.{AreLeastCosts, IsNotBehind, paid};
 
-use crate::run::joined_run;
+use crate::bend::Bend;
+use crate::run::{joined_round, round_count};
 use crate::runs::Runs;
+use crate::sense::Sense;
 use least_walk::walk::{Walk, walk_by};
 use pt_base::fault::NoMemory;
 use std::alloc::Global;
@@ -29,8 +33,8 @@ pub(crate) struct WayOn {
 impl WayOn {
     /// Whether it comes before another one: it has fewer runs, or as many that cost less, or else a shorter first one.
     fn is_before(self, other: WayOn) -> bool
-        ensures before { result ≡ true → IsUpTo self other }
-        ensures not { result ≡ false → IsUpTo other self }
+        ensures before { result ≡ true → IsNotBehind self other }
+        ensures not { result ≡ false → IsNotBehind other self }
     {
         if self.count != other.count {
             return self.count < other.count;
@@ -98,11 +102,25 @@ fn best_from(runs: &Runs, from: u32, counts: &[u32], costs: &[u128]) -> WayOn
     ensures next { IsLeastNext (length runs.now.bends.items) (IsRun runs.now.tol runs.now.bends.items)
         (run_penalty runs.now.bends.items) from result.next }
 {
+    let last = last_from(&runs.bends, from as usize);
     let mut best = way_by(counts, costs, from + 1);
-    for to in (from + 2..runs.lasts[from as usize] + 1).rev() {
+    for to in (from + 2..last + 1).rev() {
         best = better(runs, from, way_by(counts, costs, to), best);
     }
     best
+}
+
+/// Where the pieces no longer go round as a run does that begins here, or where a run would be too long.
+fn last_from(bends: &[Bend], from: usize) -> u32
+    requires small { All IsSmall bends.now }
+    requires most { length bends.now ≤ 2 ^ 31 }
+    requires within { from < length bends.now }
+    ensures { IsLastRun bends.now from result }
+{
+    let end = bends.len().min(from + 64);
+    let run = &bends[from..end];
+    let count = round_count(Sense::of(run[0].turn), run[0].arrives, run);
+    (from + count.max(1)) as u32
 }
 
 /// The way on by a run that ends here, without that run's penalty.
@@ -127,19 +145,23 @@ fn way_by(counts: &[u32], costs: &[u128], to: u32) -> WayOn
 fn better(runs: &Runs, from: u32, way: WayOn, best: WayOn) -> WayOn
     requires from { from < length runs.now.bends.items }
     requires onwards { from + 1 < way.next }
-    requires within { way.next ≤ slice_index runs.now.lasts.items from }
+    requires within { way.next ≤ length runs.now.bends.items }
+    requires few { way.next ≤ from + 64 }
+    requires round { All (GoesRound (sense_at (slice_range runs.now.bends.items from way.next))
+        (first_bend (slice_range runs.now.bends.items from way.next)).arrives)
+        (slice_range runs.now.bends.items from way.next) }
     requires small { way.cost < 2 ^ 88 }
     ensures one { (result ≡ best) ⊎ (IsRun runs.now.tol runs.now.bends.items from way.next
         × (result ≡ paid (run_penalty runs.now.bends.items from way.next) way)) }
-    ensures best { IsUpTo result best }
+    ensures best { IsNotBehind result best }
     ensures run { IsRun runs.now.tol runs.now.bends.items from way.next
-        → IsUpTo result (paid (run_penalty runs.now.bends.items from way.next) way) }
+        → IsNotBehind result (paid (run_penalty runs.now.bends.items from way.next) way) }
 {
     if !way.is_before(best) {
         return best;
     }
     let run = &runs.bends[from as usize..way.next as usize];
-    let Some((_, penalty)) = joined_run(runs.tol, run) else {
+    let Some((_, penalty)) = joined_round(runs.tol, run) else {
         return best;
     };
     let way = WayOn {

@@ -57,8 +57,7 @@ pub fn least<S: Steps>(alloc: Global, steps: &S) -> Result<Walk, NoMemory>
 
 /// The least walk, by what is known of each index that walks of fewest steps go through.
 ///
-/// For those who know more of their steps than `Steps` says, and find this faster than `least` does. There is none
-/// yet.
+/// For those who know more of their steps than `Steps` says, and find this faster than `least` does.
 pub fn walk_by<S: Steps>(
     alloc: Global,
     steps: &S,

@@ -1,16 +1,12 @@
-use Rattle.std.proofs.Common.{◌≡◌, ℕ, ◌+◌, ◌-◌, ◌<◌, List, length, get_or, inl, inr, refl, sym, ◌∙◌, subst, arith}
-use Rattle.std.proofs.lemmas.List.{get_or_default}
+use Rattle.std.proofs.Common.{◌≡◌, ℕ, ◌+◌, ◌-◌, length, inl, inr, refl, sym, subst, arith}
 use Rattle.std.specs.Prelude.{slice_index}
 use Rattle.least_walk.proofs.Cheapest.{cost_below}
 use Rattle.least_walk.proofs.Going.{fewest_below}
 use Rattle.curve_join.proofs.Ways.{best_more, cost_there, fewest_there, next_there, penalty_alone, up_to_itself, way_is, way_to}
-use Rattle.curve_join.specs.Choice.{IsRun, run_penalty}
+use Rattle.curve_join.specs.Choice.{IsLastRun, IsRun, run_penalty}
 use Rattle.curve_join.specs.Costs.{penalty_most}
-use Rattle.curve_join.specs.Search.{IsUpTo}
+use Rattle.curve_join.specs.Search.{IsNotBehind}
 use Rattle.curve_join.proofs.search.best_from.Goals as goal
-
-last_there : (lasts : List ℕ) (i last : ℕ) → i < length lasts → last ≡ get_or lasts i last → last ≡ slice_index lasts i
-last_there lasts i last below is = is ∙ get_or_default lasts i last 0 below
 
 -- there are no more runs left than pieces
 pub way_by-best-requires-clause-few : goal.way_by-best-requires-clause-few
@@ -21,12 +17,6 @@ way_by-best-requires-clause-few c =
     let fewest = c.requires.fewest next (omega arith) (omega (arith, c.requires.from)) in
     omega (arith, runs.most, fewest_below (length bends) (IsRun runs.tol bends) next (slice_index c.args.counts.now next) fewest)
 
-pub overflow_step-to : goal.overflow_step-to
-overflow_step-to c =
-    let runs = c.args.runs.now in
-    let last = runs.ends c.args.from c.requires.from in
-    omega (arith, last_there runs.lasts.items c.args.from c.index.result.now (omega (arith, runs.places, c.requires.from)) c.index.ensures, last.within, runs.most)
-
 -- the nearest piece is the best way on if there is no other
 pub loop-to-init : goal.loop-to-init
 loop-to-init c =
@@ -35,7 +25,7 @@ loop-to-init c =
     let from = c.args.from in
     let best = c.way_by-best.result in
     let is = c.way_by-best.ensures in
-    let last = runs.ends from c.requires.from in
+    let last = subst (λ b. IsLastRun b c.args.from c.last_from-last.result) c.deref.ensures.value c.last_from-last.ensures in
     let alone : (k : ℕ) → k ≡ from + 1 → run_penalty bends from k ≡ 0 = λ k e. penalty_alone bends from k e in
     let next : (k : ℕ) → k ≡ from + 1 → best ≡ way_to (run_penalty bends) c.args.counts.now c.args.costs.now from k =
     λ k e.
@@ -44,18 +34,25 @@ loop-to-init c =
     record {
       way = (omega (arith, is.next), omega (arith, is.next, c.requires.from), inl is.next, next best.next is.next);
       least = λ k above seen within allowed. elim seen [
-        | inl nearest ↦ subst (IsUpTo best) (next k nearest) (up_to_itself best)
-        | inr far ↦ absurd (omega (arith, last.all runs.tol k allowed, last_there runs.lasts.items c.args.from c.index.result.now (omega (arith, runs.places, c.requires.from)) c.index.ensures))
+        | inl nearest ↦ subst (IsNotBehind best) (next k nearest) (up_to_itself best)
+        | inr far ↦
+            absurd (omega (arith, last.all runs.tol k allowed))
       ];
     }
+
+pub overflow_step-to : goal.overflow_step-to
+overflow_step-to c =
+    let runs = c.args.runs.now in
+    let last = subst (λ b. IsLastRun b c.args.from c.last_from-last.result) c.deref.ensures.value c.last_from-last.ensures in
+    omega (arith, last.within, runs.most)
 
 pub way_by-requires-clause-few : goal.way_by-requires-clause-few
 way_by-requires-clause-few c =
     let runs = c.args.runs.now in
     let bends = runs.bends.items in
     let to = c.loop-to.to - 1 in
-    let last = runs.ends c.args.from c.requires.from in
-    let fewest = c.requires.fewest to (omega arith) (omega (arith, last_there runs.lasts.items c.args.from c.index.result.now (omega (arith, runs.places, c.requires.from)) c.index.ensures, last.within)) in
+    let last = subst (λ b. IsLastRun b c.args.from c.last_from-last.result) c.deref.ensures.value c.last_from-last.ensures in
+    let fewest = c.requires.fewest to (omega arith) (omega (arith, last.within)) in
     omega (arith, runs.most, fewest_below (length bends) (IsRun runs.tol bends) to (slice_index c.args.counts.now to) fewest)
 
 -- and they cost less than 2^88
@@ -64,8 +61,8 @@ better-best-requires-clause-small c =
     let runs = c.args.runs.now in
     let bends = runs.bends.items in
     let to = c.loop-to.to - 1 in
-    let last = runs.ends c.args.from c.requires.from in
-    let spent = c.requires.costs to (omega arith) (omega (arith, last_there runs.lasts.items c.args.from c.index.result.now (omega (arith, runs.places, c.requires.from)) c.index.ensures, last.within)) in
+    let last = subst (λ b. IsLastRun b c.args.from c.last_from-last.result) c.deref.ensures.value c.last_from-last.ensures in
+    let spent = c.requires.costs to (omega arith) (omega (arith, last.within)) in
     omega (
       arith,
       c.way_by.ensures.cost,
@@ -73,15 +70,35 @@ better-best-requires-clause-small c =
           (λ i j below allowed. penalty_most runs.tol bends i j runs.tolerance allowed) to (slice_index c.args.costs.now to) spent,
     )
 
+pub better-best-requires-clause-within : goal.better-best-requires-clause-within
+better-best-requires-clause-within c =
+    let bends = c.args.runs.now.bends.items in
+    let last = subst (λ b. IsLastRun b c.args.from c.last_from-last.result) c.deref.ensures.value c.last_from-last.ensures in
+    omega (arith, last.within, last.few, c.way_by.ensures.next)
+
+pub better-best-requires-clause-few : goal.better-best-requires-clause-few
+better-best-requires-clause-few c =
+    let bends = c.args.runs.now.bends.items in
+    let last = subst (λ b. IsLastRun b c.args.from c.last_from-last.result) c.deref.ensures.value c.last_from-last.ensures in
+    omega (arith, last.within, last.few, c.way_by.ensures.next)
+
+pub better-best-requires-clause-round : goal.better-best-requires-clause-round
+better-best-requires-clause-round c =
+    let runs = c.args.runs.now in
+    let bends = runs.bends.items in
+    let last = subst (λ b. IsLastRun b c.args.from c.last_from-last.result) c.deref.ensures.value c.last_from-last.ensures in
+    let next = c.way_by.ensures.next in
+    last.round c.way_by.result.next (omega arith) (omega arith)
+
 pub loop-to-preserved : goal.loop-to-preserved
 loop-to-preserved c =
     let runs = c.args.runs.now in
     let bends = runs.bends.items in
-    let last = runs.ends c.args.from c.requires.from in
+    let last = subst (λ b. IsLastRun b c.args.from c.last_from-last.result) c.deref.ensures.value c.last_from-last.ensures in
     let is = c.way_by.ensures in
     let one = c.better-best.ensures in
     best_more (length bends) (IsRun runs.tol bends) (run_penalty bends) c.args.counts.now c.args.costs.now c.args.from (c.loop-to.to - 1) c.loop-to.to
-    c.way_by.result c.loop-to.best c.better-best.result (omega arith) (omega (arith, last_there runs.lasts.items c.args.from c.index.result.now (omega (arith, runs.places, c.requires.from)) c.index.ensures, last.within)) (omega arith)
+    c.way_by.result c.loop-to.best c.better-best.result (omega arith) (omega (arith, last.within)) (omega arith)
     is.count is.cost is.next one.one one.best one.run c.loop-to.invariant
 
 pub returns-clause-count : goal.returns-clause-count
