@@ -1,0 +1,9 @@
+pub mod Standing
+pub mod Giving
+pub mod Drawing
+pub mod Cutting
+pub mod Working
+pub mod Breaking
+pub mod Taking
+pub mod Running
+pub mod Heading

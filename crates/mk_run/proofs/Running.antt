@@ -1,0 +1,268 @@
+-- How a run ends, by what was read of the page and what was written.
+use Rattle.std.proofs.Common.{◌≡◌, ◌≢◌, ℕ, zero, suc, ◌+◌, ◌-◌, ◌*◌, ◌≤◌, ◌<◌, ◌⊎◌, ◌&&◌, inl, inr, Bool, true, false, List, [], ◌∷◌, ◌++◌, length, refl, ap, sym, ◌∙◌, subst, arith, codes, nat_eq, if◌then◌else◌, append_assoc, append-nil, length-append, Option}
+use Rattle.pt_base.specs.Counts.{Rose, next_count}
+use Rattle.pt_base.specs.Documents.{Documents}
+use Rattle.pt_base.specs.Failures.{after_err}
+use Rattle.pt_base.specs.Files.{Files, Lacks}
+use Rattle.bitmap_input.specs.Cut.{Cut, Kind, is_by_end}
+use Rattle.bitmap_input.specs.Cut.Ending.{Refused}
+use Rattle.bitmap_input.specs.Cut.Cut.{Takes, Stops}
+use Rattle.bitmap_input.specs.FaultText.{kind_text}
+use Rattle.bitmap_input.specs.GrayReader.{FailsToRead, GraySource, Refuses}
+use Rattle.mk_run.specs.Header.{PageHeader, page_header}
+use Rattle.bitmap_input.specs.Reading.{AtEnd, Cause, CountsBy}
+use Rattle.bitmap_input.specs.Reading.Cause.{Says, Device, Memory}
+use Rattle.bitmap_input.proofs.GrayHeading.{gray_row_stays}
+use Rattle.bitmap_input.proofs.Telling.{not_true}
+use Rattle.run_output.specs.Messages.{file_line, program_line}
+use Rattle.run_output.specs.Names.{dash}
+use Rattle.run_output.specs.Told.{IsMessage, Sinks, Source, Told}
+use Rattle.small_program.specs.Input.{HasInput, HasTaken, TellsInput}
+use Rattle.small_program.specs.Outcome.{OnlySays, TakesInput, Writes}
+use Rattle.small_program.specs.declared.ending.Ending.{Ending}
+use Rattle.small_program.specs.declared.ending.Ending.TheVariants as ending
+use Rattle.small_program.proofs.Taking.{is_not_missing, one_input}
+use Rattle.filter_words.specs.declared.setup.Setup.{Setup}
+use Rattle.mk_run.specs.Head.{StandsBehindHead}
+use Rattle.mk_run.specs.Outcome.{HasFiltered, HasHead, IsPageRun, LeavesOpen, filter_name, page_says, rows_behind}
+use Rattle.mk_run.specs.Put.{IsCutAt}
+use Rattle.mk_run.specs.Result.{result_text}
+use Rattle.mk_run.specs.Rows.{LeavesRows, cut_row, fits_result, head_ending, page_ending, row_before, settled_rows, standing}
+use Rattle.mk_run.specs.Work.{GivesRows, StopsBehind, header_of}
+use Rattle.mk_run.proofs.Cutting.{cut_of_more}
+use Rattle.mk_run.proofs.Giving.{header_stays}
+use Rattle.mk_run.proofs.Standing.{cut_stays, leaves_weaken, none_settled, settled_is, standing_is}
+use Rattle.mk_run.proofs.Taking.{all_of_taken, taken_on}
+
+-- How the bytes say that a run ends.
+
+same_numbers : (a b : ℕ) → a ≡ b → nat_eq a b ≡ true
+same_numbers a b same = grind (arith, same)
+
+other_numbers : (a b : ℕ) → a < b → nat_eq a b ≡ false
+other_numbers a b less = grind (arith, less)
+
+module _ (setup : Setup) (bytes : List ℕ) (e : Bool) (header : PageHeader) (rest : List ℕ) (head : page_header bytes ≡ Takes e header rest) where
+  ending_by : (fits whole : Bool) → fits_result setup header.width header.height ≡ fits → nat_eq (length (rows_behind header rest)) header.height ≡ whole
+      → page_ending setup bytes ≡ (if fits && whole then ending.Done else ending.Refused)
+  ending_by fits whole a b = ap (head_ending setup) head
+      ∙ ap (λ (t : Bool). if t && nat_eq (length (rows_behind header rest)) header.height then ending.Done else ending.Refused) a
+      ∙ ap (λ (t : Bool). if fits && t then ending.Done else ending.Refused) b
+
+  all_rows : fits_result setup header.width header.height ≡ true → length (rows_behind header rest) ≡ header.height → page_ending setup bytes ≡ ending.Done
+  all_rows fits all = ending_by true true fits (same_numbers _ _ all)
+
+  few_rows : fits_result setup header.width header.height ≡ true → length (rows_behind header rest) < header.height → page_ending setup bytes ≡ ending.Refused
+  few_rows fits few = ending_by true false fits (other_numbers _ _ few)
+
+  pub too_large : fits_result setup header.width header.height ≡ false → page_ending setup bytes ≡ ending.Refused
+  too_large large = ending_by false (nat_eq (length (rows_behind header rest)) header.height) large refl
+
+-- the outputs weren't called, or well
+pub not_unwritten : (end : Ending) (old new : Sinks) → new.outs.faults ≡ old.outs.faults → old.outs.faults < new.outs.faults → end ≡ ending.Unwritten
+not_unwritten end old new same less = absurd (omega (arith, same, less))
+
+-- the header stands there, and these rows behind it, with what is behind what was taken
+record StandsSo (header : PageHeader) (bytes : List ℕ) (rows : List (List ℕ)) (left : List ℕ) (ended : Bool) : Type 0 where
+  by_end : Bool
+  rest : List ℕ
+  head : page_header bytes ≡ Takes by_end header rest
+  may : by_end ≡ true → ended ≡ true
+  leaves : LeavesRows ended (cut_row header) rest rows left
+
+module _ (source mid : Source) (reader : GraySource) (stands : StandsBehindHead source reader mid) where
+  page_stands : (new : GraySource) (now : Option Files) (rows : List (List ℕ)) → (gives : GivesRows reader mid.files rows new now) → (tail : List ℕ) → (new.ended ≡ true → tail ≡ [])
+      → StandsSo (header_of reader) ((stands.taken ++ gives.more) ++ tail) rows (new.bytes ++ tail) new.ended
+  page_stands new now rows gives tail none =
+      let empty : reader.ended ≡ true → gives.more ++ tail ≡ [] = λ ended.
+      let (no_more, now_ended) = gives.moves.stopped ended in ap (λ (l : List ℕ). l ++ tail) no_more ∙ none now_ended in
+      let (e, may, head) = stands.head (gives.more ++ tail) empty in
+      record {
+        by_end = e;
+        rest = reader.bytes ++ (gives.more ++ tail);
+        head = ap page_header (append_assoc stands.taken gives.more tail) ∙ head;
+        may = λ h. (gives.moves.stopped (may h)).1;
+        leaves = subst (λ (l : List ℕ). LeavesRows new.ended (cut_row (header_of reader)) l rows (new.bytes ++ tail)) (append_assoc reader.bytes gives.more tail) (gives.leaves tail none);
+      }
+
+  module _ (setup : Setup) (now : Source) (old new : Sinks) (fits : fits_result setup reader.head.width reader.head.height ≡ true)
+      (openings : now.openings ≡ mid.openings) where
+    opened_once : now.openings ≡ next_count source.openings
+    opened_once = openings ∙ stands.opened
+
+    -- all rows were read, and the document was written
+    pub run_done : (after : GraySource) (rows : List (List ℕ)) → GivesRows reader mid.files rows after now.files → (after.ended ≡ true → AtEnd now.files)
+        → length rows ≡ reader.head.height → now.faults ≡ mid.faults → Writes (result_text setup (header_of reader) rows) old new
+        → IsPageRun setup ending.Done source now old new
+    run_done after rows gives at_end all steady writes =
+        let header = header_of reader in
+        let taken = taken_on source.files mid.files now.files stands.taken gives.more reader.ended after.ended stands.has gives.moves in
+        let (more, has, none) = all_of_taken source.files now.files (stands.taken ++ gives.more) after.ended taken at_end in
+        let bytes = (stands.taken ++ gives.more) ++ more in
+        let so = page_stands after now.files rows gives more none in
+        let same : rows_behind header so.rest ≡ rows = standing_is after.ended (cut_row header) so.rest rows _ header.height 0 (omega (arith, all)) so.leaves ∙ append-nil rows in
+        let whole : length (rows_behind header so.rest) ≡ header.height = ap length same ∙ all in
+        record {
+          outcome = (
+            bytes,
+            record { opened = opened_once; steady = steady ∙ stands.steady; has = has },
+            record {
+              header = header;
+              rest = so.rest;
+              head = record { by_end = so.by_end; head = so.head; fits = fits };
+              all = whole;
+              writes = subst (λ (l : List (List ℕ)). Writes (result_text setup header l) old new) (sym same) writes;
+            },
+          );
+          missing = λ lacks. absurd (is_not_missing source.files bytes has lacks);
+          complete = λ others tells still_in still_out.
+              inl (sym (ap (page_ending setup) (one_input source.files bytes others has tells) ∙ all_rows setup bytes so.by_end header so.rest so.head fits whole));
+          unwritten = not_unwritten ending.Done old new writes.steady;
+        }
+
+    -- the next row is refused
+    pub run_refused : (after : GraySource) (kind : Kind) (last : ℕ) → (stop : StopsBehind (Says (Refused kind)) last reader mid.files after now.files) → (after.ended ≡ true → AtEnd now.files)
+        → now.faults ≡ mid.faults → LeavesOpen (result_text setup (header_of reader) stop.rows) (page_says (kind_text kind)) old new
+        → IsPageRun setup ending.Refused source now old new
+    run_refused after kind last stop at_end steady leaves =
+        let header = header_of reader in
+        let rows = stop.rows in
+        let m = stop.mid in
+        let gives = stop.gives in
+        let stops : Refuses (cut_row (header_of m)) kind m stop.at after now.files = stop.stops in
+        let cut = stops.cut in
+        let first = taken_on source.files mid.files stop.at stands.taken gives.more reader.ended m.ended stands.has gives.moves in
+        let taken = taken_on source.files stop.at now.files (stands.taken ++ gives.more) cut.more m.ended after.ended first cut.moves in
+        let (more, has, none) = all_of_taken source.files now.files ((stands.taken ++ gives.more) ++ cut.more) after.ended taken at_end in
+        let bytes = ((stands.taken ++ gives.more) ++ cut.more) ++ more in
+        let empty : m.ended ≡ true → cut.more ++ more ≡ [] = λ ended. let (no_more, now_ended) = cut.moves.stopped ended in ap (λ (l : List ℕ). l ++ more) no_more ∙ none now_ended in
+        let so = page_stands m stop.at rows gives (cut.more ++ more) empty in
+        let head : page_header bytes ≡ Takes so.by_end header so.rest = ap page_header (append_assoc (stands.taken ++ gives.more) cut.more more) ∙ so.head in
+        let left : List ℕ = m.bytes ++ (cut.more ++ more) in
+        let same_head : header_of m ≡ header = header_stays reader m mid.files stop.at rows gives in
+        let part = cut_row header in
+        let ends : cut_row (header_of m) ((m.bytes ++ cut.more) ++ more) ≡ Stops stops.by_end (Refused kind) =
+        cut_stays (cut_row (header_of m)) (gray_row_stays m.plain m.head.maxval m.head.width) (m.bytes ++ cut.more) more _ after.ended cut.is cut.settled none in
+        let refused : part left ≡ Stops stops.by_end (Refused kind) =
+        ap part (sym (append_assoc m.bytes cut.more more)) ∙ ap (λ (h : PageHeader). cut_row h ((m.bytes ++ cut.more) ++ more)) (sym same_head) ∙ ends in
+        let tall : m.head.height ≡ header.height = ap (λ (h : PageHeader). h.height) same_head in
+        let few : length rows < header.height = omega (arith, stop.few, tall, gives.given) in
+        let k : ℕ = header.height - suc (length rows) in
+        let none_behind : standing part (suc k) left ≡ [] = ap (λ (c : Cut (List ℕ)). row_before (λ (l : List ℕ). standing part k l) c) refused in
+        let same : rows_behind header so.rest ≡ rows =
+        standing_is m.ended part so.rest rows left header.height (suc k) (omega (arith, few)) so.leaves ∙ ap (λ (l : List (List ℕ)). rows ++ l) none_behind ∙ append-nil rows in
+        let short : length (rows_behind header so.rest) < header.height = omega (arith, few, ap length same) in
+        record {
+          outcome = (
+            bytes,
+            record { opened = opened_once; steady = steady ∙ stands.steady; has = has },
+            inr (record {
+              header = header;
+              rest = so.rest;
+              left = left;
+              by_end = stops.by_end;
+              kind = kind;
+              head = record { by_end = so.by_end; head = head; fits = fits };
+              few = short;
+              rows = subst (λ (l : List (List ℕ)). LeavesRows true part so.rest l left) (sym same) (leaves_weaken m.ended true part so.rest rows left (λ _. refl) so.leaves);
+              refused = refused;
+              leaves = subst (λ (l : List (List ℕ)). LeavesOpen (result_text setup header l) (page_says (kind_text kind)) old new) (sym same) leaves;
+            }),
+          );
+          missing = λ lacks. absurd (is_not_missing source.files bytes has lacks);
+          complete = λ others tells still_in still_out.
+              inl (sym (ap (page_ending setup) (one_input source.files bytes others has tells) ∙ few_rows setup bytes so.by_end header so.rest head fits short));
+          unwritten = not_unwritten ending.Refused old new leaves.steady;
+        }
+
+    -- a read failed within the next row
+    pub run_unread : (after : GraySource) (last : ℕ) → (stop : StopsBehind Device last reader mid.files after now.files)
+        → Rose source.faults now.faults → LeavesOpen (result_text setup (header_of reader) stop.rows) (page_says (codes "read fault")) old new
+        → IsPageRun setup ending.Unread source now old new
+    run_unread after last stop rose leaves =
+        let header = header_of reader in
+        let rows = stop.rows in
+        let m = stop.mid in
+        let gives = stop.gives in
+        let stops : FailsToRead (cut_row (header_of m)) m stop.at after now.files = stop.stops in
+        let first = taken_on source.files mid.files stop.at stands.taken gives.more reader.ended m.ended stands.has gives.moves in
+        let taken = taken_on source.files stop.at now.files (stands.taken ++ gives.more) stops.more m.ended after.ended first stops.moves in
+        let going : m.ended ≡ true → ⊥ = λ ended. not_true (sym stops.going_on ∙ (stops.moves.stopped ended).1) in
+        let so = page_stands m stop.at rows gives stops.more (λ ended. absurd (going ended)) in
+        let same_head : header_of m ≡ header = header_stays reader m mid.files stop.at rows gives in
+        let part = cut_row header in
+        let left : List ℕ = m.bytes ++ stops.more in
+        let ends : is_by_end (part left) ≡ true = ap (λ (h : PageHeader). is_by_end (cut_row h left)) (sym same_head) ∙ stops.by_end in
+        let tall : m.head.height ≡ header.height = ap (λ (h : PageHeader). h.height) same_head in
+        let few : length rows < header.height = omega (arith, stop.few, tall, gives.given) in
+        let not_by_end : so.by_end ≡ false = is_false so.by_end (λ h. going (so.may h)) in
+        let settled : LeavesRows false part so.rest rows left = leaves_weaken m.ended false part so.rest rows left (λ h. absurd (going h)) so.leaves in
+        let same : settled_rows part header.height so.rest ≡ rows =
+        settled_is part so.rest rows left header.height (header.height - length rows) (omega (arith, few)) settled
+        ∙ ap (λ (l : List (List ℕ)). rows ++ l) (none_settled part left (header.height - length rows) ends) ∙ append-nil rows in
+        record {
+          outcome = inr (
+            (stands.taken ++ gives.more) ++ stops.more,
+            record { opened = opened_once; rose = rose; has = taken },
+            inr (record {
+              header = header;
+              rest = so.rest;
+              head = subst (λ (b : Bool). page_header ((stands.taken ++ gives.more) ++ stops.more) ≡ Takes b header so.rest) not_by_end so.head;
+              fits = fits;
+              few = omega (arith, few, ap length same);
+              leaves = subst (λ (l : List (List ℕ)). LeavesOpen (result_text setup header l) (page_says (codes "read fault")) old new) (sym same) leaves;
+            }),
+          );
+          missing = λ lacks. refl;
+          complete = λ others tells still_in still_out. absurd (still_in rose);
+          unwritten = not_unwritten ending.Unread old new leaves.steady;
+        }
+      where
+        is_false : (b : Bool) → (b ≡ true → ⊥) → b ≡ false
+        is_false true h = absurd (h refl)
+        is_false false h = refl
+
+    -- the document couldn't be written
+    pub run_unwritten : (after : GraySource) (rows : List (List ℕ)) → GivesRows reader mid.files rows after now.files → (after.ended ≡ true → AtEnd now.files) → length after.bytes ≤ 65536
+        → length rows ≤ reader.head.height → 1 ≤ setup.times → 1 ≤ reader.head.height → now.faults ≡ mid.faults
+        → IsCutAt setup (header_of reader) rows old.outs.documents new.outs.documents → Rose old.outs.faults new.outs.faults → new.outs.failures ≡ after_err old.outs.failures
+        → IsMessage (file_line filter_name dash (codes "write fault")) old.errs new.errs
+        → IsPageRun setup ending.Unwritten source now old new
+    run_unwritten after rows gives at_end within few some tall steady cut rose failed says =
+        let header = header_of reader in
+        let taken = taken_on source.files mid.files now.files stands.taken gives.more reader.ended after.ended stands.has gives.moves in
+        let (more, has, none) = all_of_taken source.files now.files (stands.taken ++ gives.more) after.ended taken at_end in
+        let bytes = (stands.taken ++ gives.more) ++ more in
+        let so = page_stands after now.files rows gives more none in
+        let near = page_stands after now.files rows gives [] (λ _. refl) in
+        let behind : List (List ℕ) = standing (cut_row header) (header.height - length rows) (after.bytes ++ more) in
+        let same : rows_behind header so.rest ≡ rows ++ behind = standing_is after.ended (cut_row header) so.rest rows _ header.height (header.height - length rows) (omega (arith, few)) so.leaves in
+        record {
+          outcome = record {
+            taken = stands.taken ++ gives.more;
+            more = more;
+            header = header;
+            rest = so.rest;
+            read = rows;
+            takes = record { opened = opened_once; steady = steady ∙ stands.steady; has = has };
+            has = taken;
+            head = record { by_end = so.by_end; head = so.head; fits = fits };
+            cut = rw same (cut_of_more setup header some tall rows behind old.outs.documents new.outs.documents cut);
+            place = cut;
+            near = record {
+              ended = after.ended;
+              by_end = near.by_end;
+              rest = near.rest;
+              left = after.bytes ++ [];
+              head = ap page_header (sym (append-nil (stands.taken ++ gives.more))) ∙ near.head;
+              leaves = near.leaves;
+              near = omega (arith, within, ap length (append-nil after.bytes));
+            };
+            rose = rose;
+            failed = failed;
+            says = says;
+          };
+          missing = λ lacks. absurd (is_not_missing source.files bytes has lacks);
+          complete = λ others tells still_in still_out. absurd (still_out rose);
+          unwritten = λ less. refl;
+        }

@@ -1,0 +1,33 @@
+use Rattle.std.proofs.Common.{◌≡◌, ℕ, ◌+◌, ◌-◌, ◌≤◌, true, List, length}
+use Rattle.bitmap_input.specs.Reading.{AtEnd}
+use Rattle.mkbitmap.specs.Enlarged.{after_of, need}
+use Rattle.mkbitmap.specs.Follows.{SameSetup}
+use Rattle.run_output.specs.Told.{told_of}
+use Rattle.mk_run.specs.Put.{GoesWell, PutsRows, need_of}
+use Rattle.mk_run.specs.Work.{GivesRows, HasRooms, IsAtWork, header_of}
+use Rattle.mk_run.proofs.put.put_rows.Given as goal
+
+-- the rows above this one are written
+abbrev pub invariant-loop-y : goal.invariant-loop-y
+invariant-loop-y g l =
+    let inputs = g.I.Inputs in
+    let outs = g.O.Sink in
+    let entry = l.fn in
+    record {
+      opened : inputs.is_opened l.inputs ≡ true;
+      ready : outs.is_ready l.outs ≡ true;
+      at_end : l.reader.ended ≡ true → AtEnd (inputs.files l.inputs);
+      within : length l.reader.bytes ≤ 65536;
+      rooms : HasRooms l.setup l.filter.width l.rooms;
+      steady : inputs.faults l.inputs ≡ inputs.faults entry.inputs;
+      openings : inputs.openings l.inputs ≡ inputs.openings entry.inputs;
+      went : GoesWell (told_of outs entry.outs) (told_of outs l.outs);
+      setup : SameSetup entry.filter l.filter;
+      none : l.y ≡ 0 → (l.filter.pairs ≡ 0);
+      pairs : 1 ≤ l.y → l.filter.pairs ≡ after_of l.setup.times (l.y - 1) + 1;
+      rows : List (List ℕ);
+      gives : GivesRows entry.reader (inputs.files entry.inputs) rows l.reader (inputs.files l.inputs);
+      work : IsAtWork l.setup l.reader l.filter rows;
+      last : 1 ≤ l.y → length rows ≡ need_of l.setup (header_of entry.reader) (l.y - 1);
+      puts : PutsRows l.setup (header_of entry.reader) rows l.y (outs.documents entry.outs) (outs.documents l.outs);
+    }

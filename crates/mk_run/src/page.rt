@@ -1,0 +1,136 @@
+//! Filtering the page on standard input.
+ghost use Rattle.std.specs.Prelude.{◌≡◌, ◌≤◌, false, true, length, IfErr, IfOk, OnOk};
+ghost use Rattle.bitmap_input.specs.Reading.{AtEnd, CountsBy, cause_of_fault};
+ghost use Rattle.bitmap_input.specs.GrayReader.{GivesHead, gray_at_start};
+ghost use Rattle.run_output.specs.Told.{Source, sinks_of, source_of};
+ghost use Rattle.filter_words.specs.Asked.{CanFilter};
+ghost use Rattle.mk_run.specs.Head.{StandsBehindHead, StopsHead};
+ghost use Rattle.mk_run.specs.Outcome.{IsPageRun};
+ghost use Rattle.mk_run.specs.Rows.{fits_result};
+ghost use Rattle.mk_run.specs.Work.{IsGrayHead};
+ghost use Rattle.mkbitmap.specs.declared.limits.TheConstants.{GREATEST_TIMES};
+ghost use Rattle.pt_base.specs.declared.limits.TheConstants.{LONGEST_SIDE};
+
+use crate::fault::Break;
+use crate::put::put_page;
+use crate::say::{NAME, say_fault, say_not_written, say_out_of_memory};
+use crate::work::Work;
+use bitmap_input::fault::InFault;
+use bitmap_input::gray_reader::{GrayHead, GrayReader};
+use filter_words::setup::Setup;
+use pt_base::inputs::Inputs;
+use pt_base::limits::LONGEST_SIDE;
+use pt_base::sink::{Outputs, Sink};
+use run_output::line::{say_of_file, say_of_file_page};
+use small_program::ending::Ending;
+use std::alloc::Global;
+
+/// Filters the page on standard input, or says why not.
+pub(crate) fn filter_input<I: Inputs, O: Outputs, E: Sink>(
+    alloc: Global,
+    setup: Setup,
+    inputs: &mut I,
+    outs: &mut O,
+    errs: &mut E,
+) -> Ending
+    requires setup { CanFilter setup }
+    requires closed { O.is_ready outs.old ≡ false }
+    requires ready { E.is_ready errs.old ≡ true }
+    ensures { IsPageRun setup result
+        (source_of I.Inputs inputs.old) (source_of I.Inputs inputs.new)
+        (sinks_of O.Sink E.Sink outs.old errs.old) (sinks_of O.Sink E.Sink outs.new errs.new) }
+{
+    match inputs.open("-") {
+        Ok(()) => {}
+        Err(_) => {
+            say_of_file(errs, NAME, "-", "cannot be opened");
+            return Ending::Unread;
+        }
+    }
+    let Ok(mut reader) = GrayReader::new(alloc) else {
+        return say_out_of_memory(errs);
+    };
+    match read_head(&mut reader, inputs) {
+        Ok(head) => filter_page(alloc, setup, head, reader, inputs, outs, errs),
+        Err(fault) => say_fault(errs, fault),
+    }
+}
+
+/// Reads the head of the page.
+fn read_head<I: Inputs>(reader: &mut GrayReader, inputs: &mut I) -> Result<GrayHead, InFault>
+    requires opened { I.is_opened inputs.old ≡ true }
+    requires first { reader.old ≡ gray_at_start }
+    ensures gives { IfOk result (λ head. GivesHead gray_at_start (I.files inputs.old) head
+        reader.new (I.files inputs.new)) }
+    ensures head { IfOk result IsGrayHead }
+    ensures steady { OnOk result (I.faults inputs.new ≡ I.faults inputs.old) }
+    ensures stops { IfErr result (λ fault. StopsHead (cause_of_fault fault) reader.new
+        (I.files inputs.old) (I.files inputs.new)) }
+    ensures counts { IfErr result (λ fault.
+        CountsBy (cause_of_fault fault) (I.faults inputs.old) (I.faults inputs.new)) }
+    ensures still_at_end { reader.new.ended ≡ true → AtEnd (I.files inputs.new) }
+    ensures within { length reader.new.bytes ≤ 65536 }
+    ensures stays_opened { I.is_opened inputs.new ≡ true }
+    ensures same_openings { I.openings inputs.new ≡ I.openings inputs.old }
+{
+    let head = reader.head(inputs)?;
+    Ok(head)
+}
+
+/// Filters the page whose head was read, or says why not.
+fn filter_page<I: Inputs, O: Outputs, E: Sink>(
+    alloc: Global,
+    setup: Setup,
+    head: GrayHead,
+    mut reader: GrayReader,
+    inputs: &mut I,
+    outs: &mut O,
+    errs: &mut E,
+) -> Ending
+    requires setup { CanFilter setup }
+    requires head { IsGrayHead head }
+    requires read { reader.head ≡ head }
+    requires none_given { reader.given ≡ 0 }
+    requires going_on { reader.failed ≡ false }
+    requires opened { I.is_opened inputs.old ≡ true }
+    requires at_end { reader.ended ≡ true → AtEnd (I.files inputs.old) }
+    requires within { length reader.bytes ≤ 65536 }
+    requires closed { O.is_ready outs.old ≡ false }
+    requires ready { E.is_ready errs.old ≡ true }
+    ensures { (source : Source)
+        → StandsBehindHead source reader (source_of I.Inputs inputs.old)
+        → IsPageRun setup result source (source_of I.Inputs inputs.new)
+        (sinks_of O.Sink E.Sink outs.old errs.old) (sinks_of O.Sink E.Sink outs.new errs.new) }
+{
+    if !fits(setup, head) {
+        say_of_file_page(errs, NAME, "-", 1, "result too large");
+        return Ending::Refused;
+    }
+    let Ok(mut work) = Work::new(alloc, setup, head) else {
+        return say_out_of_memory(errs);
+    };
+    let put = put_page(
+        setup,
+        &work.head,
+        &mut reader,
+        &mut work.filter,
+        &mut work.rooms,
+        inputs,
+        outs,
+    );
+    match put {
+        Ok(()) => Ending::Done,
+        Err(Break::Input(fault)) => say_fault(errs, fault),
+        Err(Break::Output) => say_not_written(errs),
+    }
+}
+
+/// Whether the result isn't too large.
+fn fits(setup: Setup, head: GrayHead) -> bool
+    requires times { setup.times ≤ GREATEST_TIMES }
+    requires width { head.width ≤ LONGEST_SIDE }
+    requires height { head.height ≤ LONGEST_SIDE }
+    ensures { result ≡ fits_result setup head.width head.height }
+{
+    setup.times * head.width <= LONGEST_SIDE && setup.times * head.height <= LONGEST_SIDE
+}

@@ -1,0 +1,98 @@
+//! Reading rows of the page, as far as a row of the result needs them.
+ghost use Rattle.std.specs.Prelude.{◌≡◌, ℕ, ◌+◌, ◌*◌, ◌<◌, ◌≤◌, List, [], ◌∷◌, length, min, true, IfErr, OnOk};
+ghost use Rattle.bitmap_input.specs.Reading.{AtEnd, CountsBy, cause_of_fault};
+ghost use Rattle.mkbitmap.specs.Enlarged.{after_of, need};
+ghost use Rattle.mkbitmap.specs.Follows.{SameSetup};
+ghost use Rattle.mk_run.specs.Work.{GivesRows, GoesAlong, IsAtWork, StopsBehind, StopsRow};
+
+use bitmap_input::fault::InFault;
+use bitmap_input::gray_reader::GrayReader;
+use filter_words::setup::Setup;
+use mkbitmap::filter::Filter;
+use pt_base::inputs::Inputs;
+
+/// Reads the next row of the page, and has the filter take it.
+pub(crate) fn take_row<I: Inputs>(
+    setup: Setup,
+    reader: &mut GrayReader,
+    filter: &mut Filter,
+    inputs: &mut I,
+    row: &mut [u16],
+) -> Result<(), InFault>
+    requires opened { I.is_opened inputs.old ≡ true }
+    requires at_end { reader.old.ended ≡ true → AtEnd (I.files inputs.old) }
+    requires width { length row.old ≡ reader.old.head.width }
+    requires at_work { (rows : List (List ℕ)) × IsAtWork setup reader.old filter.old rows }
+    requires wanted { filter.old.taken
+        < min filter.old.height (filter.old.pairs + filter.old.radius + 1) }
+    ensures takes { OnOk result ((next : List ℕ)
+        × GivesRows reader.old (I.files inputs.old) (next ∷ []) reader.new (I.files inputs.new)
+        × GoesAlong setup reader.old filter.old (next ∷ []) reader.new filter.new) }
+    ensures one { OnOk result (filter.new.taken ≡ filter.old.taken + 1) }
+    ensures pairs { OnOk result (filter.new.pairs ≡ filter.old.pairs) }
+    ensures steady { OnOk result (I.faults inputs.new ≡ I.faults inputs.old) }
+    ensures stops { IfErr result (λ fault. StopsRow (cause_of_fault fault) reader.old
+        (I.files inputs.old) reader.new (I.files inputs.new)) }
+    ensures counts { IfErr result (λ fault.
+        CountsBy (cause_of_fault fault) (I.faults inputs.old) (I.faults inputs.new)) }
+    ensures setup { SameSetup filter.old filter.new }
+    ensures same_room { length row.new ≡ length row.old }
+    ensures still_at_end { reader.new.ended ≡ true → AtEnd (I.files inputs.new) }
+    ensures within { length reader.new.bytes ≤ 65536 }
+    ensures stays_opened { I.is_opened inputs.new ≡ true }
+    ensures same_openings { I.openings inputs.new ≡ I.openings inputs.old }
+{
+    reader.row(inputs, row)?;
+    filter.take(row);
+    Ok(())
+}
+
+/// Reads rows of the page and goes on by them, up to the reliefs that a row of the result lies between.
+pub(crate) fn make_ready<I: Inputs>(
+    setup: Setup,
+    y: u32,
+    reader: &mut GrayReader,
+    filter: &mut Filter,
+    inputs: &mut I,
+    row: &mut [u16],
+) -> Result<(), InFault>
+    requires opened { I.is_opened inputs.old ≡ true }
+    requires at_end { reader.old.ended ≡ true → AtEnd (I.files inputs.old) }
+    requires within { length reader.old.bytes ≤ 65536 }
+    requires width { length row.old ≡ reader.old.head.width }
+    requires at_work { (rows : List (List ℕ)) × IsAtWork setup reader.old filter.old rows }
+    requires row { y < setup.times * filter.old.height }
+    requires behind { filter.old.pairs ≤ after_of setup.times y + 1 }
+    requires ahead { filter.old.taken
+        ≤ need filter.old.height filter.old.radius setup.times y + 1 }
+    ensures takes { OnOk result ((next : List (List ℕ))
+        × GivesRows reader.old (I.files inputs.old) next reader.new (I.files inputs.new)
+        × GoesAlong setup reader.old filter.old next reader.new filter.new) }
+    ensures ready { OnOk result (filter.new.pairs ≡ after_of setup.times y + 1) }
+    ensures ahead { OnOk result (filter.new.taken
+        ≡ need filter.old.height filter.old.radius setup.times y + 1) }
+    ensures steady { OnOk result (I.faults inputs.new ≡ I.faults inputs.old) }
+    ensures stops { IfErr result (λ fault. StopsBehind (cause_of_fault fault)
+        (need filter.old.height filter.old.radius setup.times y) reader.old
+        (I.files inputs.old) reader.new (I.files inputs.new)) }
+    ensures counts { IfErr result (λ fault.
+        CountsBy (cause_of_fault fault) (I.faults inputs.old) (I.faults inputs.new)) }
+    ensures setup { SameSetup filter.old filter.new }
+    ensures same_room { length row.new ≡ length row.old }
+    ensures still_at_end { reader.new.ended ≡ true → AtEnd (I.files inputs.new) }
+    ensures within { length reader.new.bytes ≤ 65536 }
+    ensures stays_opened { I.is_opened inputs.new ≡ true }
+    ensures same_openings { I.openings inputs.new ≡ I.openings inputs.old }
+{
+    'rows: while !filter.is_ready(y, setup.times) {
+        if filter.wants_row() {
+            match take_row(setup, reader, filter, inputs, row) {
+                Ok(()) => {}
+                Err(fault) => return Err(fault),
+            }
+        } else {
+            filter.step();
+        }
+    }
+    Ok(())
+}

@@ -1,0 +1,67 @@
+//! All that a run needs memory for, made before its document is begun.
+ghost use Rattle.std.specs.Prelude.{◌≡◌, ◌*◌, [], false, true, IfOk};
+ghost use Rattle.bitmap_input.specs.GrayReader.{GraySource};
+ghost use Rattle.filter_words.specs.Asked.{CanFilter};
+ghost use Rattle.mk_run.specs.Result.{pbm_head};
+ghost use Rattle.mk_run.specs.Rows.{fits_result};
+ghost use Rattle.mk_run.specs.Work.{HasRooms, IsAtWork, IsGrayHead};
+
+use crate::rooms::Rooms;
+use bitmap_input::gray_reader::GrayHead;
+use filter_words::setup::Setup;
+use mkbitmap::filter::Filter;
+use pt_base::digits::put_number;
+use pt_base::fault::NoMemory;
+use std::alloc::Global;
+
+/// All that a run needs memory for, but its reader.
+#[derive(Debug, Drop)]
+pub(crate) struct Work {
+    /// What the document begins with.
+    pub(crate) head: Vec<u8>,
+    pub(crate) filter: Filter,
+    pub(crate) rooms: Rooms,
+}
+
+impl Work {
+    /// Memory for a page with this head.
+    pub(crate) fn new(alloc: Global, setup: Setup, head: GrayHead) -> Result<Work, NoMemory>
+        requires setup { CanFilter setup }
+        requires head { IsGrayHead head }
+        requires fits { fits_result setup head.width head.height ≡ true }
+        ensures head { IfOk result
+            (λ work. work.head.items ≡ pbm_head (setup.times * head.width) (setup.times * head.height)) }
+        ensures at_work { IfOk result (λ work. (reader : GraySource) → reader.head ≡ head
+            → reader.given ≡ 0 → reader.failed ≡ false → IsAtWork setup reader work.filter []) }
+        ensures none { IfOk result (λ work. work.filter.pairs ≡ 0) }
+        ensures rooms { IfOk result (λ work. HasRooms setup work.filter.width work.rooms) }
+    {
+        let text = pbm_head(alloc, setup.times * head.width, setup.times * head.height)?;
+        let filter = Filter::new(
+            alloc,
+            head.width as usize,
+            head.height,
+            head.maxval as u16,
+            setup.radius as usize,
+        )?;
+        let rooms = Rooms::new(alloc, setup, head.width)?;
+        Ok(Work {
+            head: text,
+            filter,
+            rooms,
+        })
+    }
+}
+
+/// What a raw PBM of these sides begins with.
+fn pbm_head(alloc: Global, width: u32, height: u32) -> Result<Vec<u8>, NoMemory>
+    ensures { IfOk result (λ text. text.items ≡ pbm_head width height) }
+{
+    let mut text = Vec::new(alloc);
+    text.extend_from_slice(b"P4\n")?;
+    put_number(&mut text, width)?;
+    text.extend_from_slice(b" ")?;
+    put_number(&mut text, height)?;
+    text.extend_from_slice(b"\n")?;
+    Ok(text)
+}

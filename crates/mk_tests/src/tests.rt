@@ -1,0 +1,6 @@
+//! Pages, words, and failing devices.
+
+mod cases;
+mod failing;
+mod pages;
+mod words;

@@ -1,0 +1,178 @@
+//! Pages that are filtered, and pages that are refused.
+
+use crate::tests::cases::{Case, PLAIN, TWO, check_all};
+use std::test::Fail;
+
+/// Light that grows from the left to the right, and a thin dark line across.
+const UNEVEN: &[u8] = b"P2 9 5 255\n\
+40 60 80 100 120 140 160 180 200 40 60 80 100 120 140 160 180 200\n\
+10 30 50 70 90 110 130 150 170 40 60 80 100 120 140 160 180 200\n\
+40 60 80 100 120 140 160 180 200\n";
+
+/// Words, pages, and what is to come of them. The results are those of a short program in another language that follows
+/// the definition.
+const FILTERED: &[(&str, &[u8], &[u8])] = &[
+    ("--box 0 --times 2 --level 0.5", TWO, b"P4\n4 2\n\xc0\xc0"),
+    ("--box 1 --times 1 --level 0.5", TWO, b"P4\n2 1\n\x80"),
+    // At one level the line isn't told from the dark side; a box tells it.
+    (
+        "--box 0 --times 1",
+        UNEVEN,
+        b"P4\n9 5\n\xf0\x00\xf0\x00\xfc\x00\xf0\x00\xf0\x00",
+    ),
+    (
+        "--box 2 --times 1",
+        UNEVEN,
+        b"P4\n9 5\n\x00\x00\x00\x00\xff\x00\x00\x00\x00\x00",
+    ),
+    (
+        "",
+        UNEVEN,
+        b"P4\n18 10\n\xf8\x00\x00\xf8\x00\x00\xf8\x00\x00\xfe\x00\x00\xff\xc0\x00\
+\xff\xc0\x00\xfe\x00\x00\xf8\x00\x00\xf8\x00\x00\xf8\x00\x00",
+    ),
+    // Two bytes a sample, three pixels for one.
+    (
+        "--box 1 --times 3",
+        b"P5 3 2 1000\n\x00\x00\x03\xe8\x01\xf4\x03\xe7\x00\x00\x03\xe8",
+        b"P4\n9 6\n\xe1\x80\xe1\x80\xe0\x00\x1c\x00\x1c\x00\x1c\x00",
+    ),
+    // One pixel, and the greatest samples: those above white are white.
+    ("--box 4 --times 1", b"P2 1 1 1 0", b"P4\n1 1\n\x00"),
+    ("--box 0 --times 1", b"P5 1 1 1\n\x00", b"P4\n1 1\n\x80"),
+    (
+        "--box 0 --times 1",
+        b"P2 1 1 65535\n100001\n",
+        b"P4\n1 1\n\x00",
+    ),
+    (
+        "--box 0 --times 1 --level 1",
+        b"P5 1 1 7\n\xff",
+        b"P4\n1 1\n\x80",
+    ),
+    // What follows the page isn't read.
+    (
+        "--box 0 --times 1",
+        b"P5 1 1 255\n\x00P5 x",
+        b"P4\n1 1\n\x80",
+    ),
+];
+
+#[test]
+fn filtered(rt: HostRuntime) -> Result<(), Fail> {
+    for (words, input, result) in FILTERED {
+        Case {
+            words,
+            input,
+            document: Some((result, true)),
+            ..PLAIN
+        }
+        .check(&rt, rt.alloc())?;
+    }
+    Ok(())
+}
+
+/// A page of three rows, of which a row of the result needs its own and the next one.
+const THREE: Case<'static> = Case {
+    words: "--box 0 --times 1 --level 0.5",
+    status: 2,
+    ..PLAIN
+};
+
+const REFUSED: &[Case] = &[
+    // The header is refused: there is no document.
+    Case {
+        input: b"P4\n1 1\n\x80",
+        said: "mkbitmap: -: page 1: unknown format\n",
+        ..THREE
+    },
+    Case {
+        input: b"P1 1 1 1",
+        said: "mkbitmap: -: page 1: unknown format\n",
+        ..THREE
+    },
+    Case {
+        input: b"BM",
+        said: "mkbitmap: -: page 1: unknown format\n",
+        ..THREE
+    },
+    Case {
+        input: b"P5 1 0 255\n",
+        said: "mkbitmap: -: page 1: zero side\n",
+        ..THREE
+    },
+    Case {
+        input: b"P5 1 1 0\n",
+        said: "mkbitmap: -: page 1: bad header\n",
+        ..THREE
+    },
+    Case {
+        input: b"P5 1",
+        said: "mkbitmap: -: page 1: truncated\n",
+        ..THREE
+    },
+    // So is a result that is too large.
+    Case {
+        words: "--times 8",
+        input: b"P5 4096 1 255\n",
+        said: "mkbitmap: -: page 1: result too large\n",
+        ..THREE
+    },
+    Case {
+        words: "--times 2",
+        input: b"P5 1 16384 255\n",
+        said: "mkbitmap: -: page 1: result too large\n",
+        ..THREE
+    },
+    Case {
+        words: "--times 8",
+        input: b"P5 4095 1 255\n",
+        document: Some((b"P4\n32760 8\n", false)),
+        said: "mkbitmap: -: page 1: truncated\n",
+        ..THREE
+    },
+    // A row is refused: the document stays open.
+    Case {
+        input: b"P5 1 3 255\n\x00",
+        document: Some((b"P4\n1 3\n", false)),
+        said: "mkbitmap: -: page 1: truncated\n",
+        ..THREE
+    },
+    Case {
+        input: b"P5 1 3 255\n\x00\xff",
+        document: Some((b"P4\n1 3\n\x80", false)),
+        said: "mkbitmap: -: page 1: truncated\n",
+        ..THREE
+    },
+    Case {
+        input: b"P2 1 3 255\n0\n255",
+        document: Some((b"P4\n1 3\n\x80", false)),
+        said: "mkbitmap: -: page 1: truncated\n",
+        ..THREE
+    },
+    Case {
+        input: b"P2 1 3 255\n0\n255\nx",
+        document: Some((b"P4\n1 3\n\x80", false)),
+        said: "mkbitmap: -: page 1: bad raster\n",
+        ..THREE
+    },
+    Case {
+        words: "--box 1 --times 1 --level 0.5",
+        input: b"P5 1 3 255\n\x00\xff",
+        document: Some((b"P4\n1 3\n", false)),
+        said: "mkbitmap: -: page 1: truncated\n",
+        ..THREE
+    },
+    Case {
+        words: "--box 0 --times 2 --level 0.5",
+        input: b"P5 1 3 255\n\x00\xff",
+        document: Some((b"P4\n2 6\n\xc0\xc0\x00", false)),
+        said: "mkbitmap: -: page 1: truncated\n",
+        ..THREE
+    },
+];
+
+#[test]
+fn refused(rt: HostRuntime) -> Result<(), Fail> {
+    check_all(&rt, rt.alloc(), REFUSED)
+}

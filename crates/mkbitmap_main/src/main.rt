@@ -1,0 +1,21 @@
+//! mkbitmap: makes a gray page sharper and larger, as a bitmap. All that it does is one call, `mk_run` of `mk_run`.
+#![tactic(auto)]
+
+use mk_run::program::mk_run;
+use pt_base::err_sink::ErrSink;
+use pt_base::file_inputs::FileInputs;
+use pt_base::file_outputs::FileOutputs;
+use small_program::words::words_of;
+use std::process::ExitCode;
+
+fn main(rt: HostRuntime) -> ExitCode {
+    let mut errs = ErrSink::new(rt.stderr());
+    let words = match words_of(&rt, "mkbitmap", &mut errs) {
+        Ok(words) => words,
+        Err(end) => return ExitCode::from(end.code()),
+    };
+    let mut inputs = FileInputs::new(&rt);
+    let mut outs = FileOutputs::new(&rt);
+    let status = mk_run(rt.alloc(), &words, &mut inputs, &mut outs, &mut errs);
+    ExitCode::from(status)
+}
