@@ -22,7 +22,7 @@ _potrace() {
 
   local values=
   case $before in
-    -b | --backend) values="svg eps dxf geojson points polygons proofs" ;;
+    -b | --backend) values="svg eps ps dxf geojson points polygons proofs" ;;
     -z | --turnpolicy) values="black white left right minority majority" ;;
     -t | --turdsize) values="0 2 5 10 20 50 100" ;;
     -a | --alphamax) values="0 0.5 0.8 1 1.2 1.334" ;;

@@ -7,7 +7,8 @@
 # Each document must be read without an error or a warning: SVG by xmllint and rsvg-convert, EPS by Ghostscript,
 # DXF and GeoJSON by GDAL, and GeoJSON by jq too. The drawings of SVG, EPS and GeoJSON must be the same but for
 # pixels at their edges, so that holes are where holes are. How many of GeoJSON's shapes GDAL calls invalid is
-# printed: curves may touch or cross where shapes do, and potrace does not forbid it.
+# printed: curves may touch or cross where shapes do, and potrace does not forbid it. All pages in one PostScript
+# document must be as many for Ghostscript, and each must be drawn as the page's EPS document.
 #
 # With a FOLDER, the pages PAGE.pbm in it and their documents PAGE.svg, PAGE.eps, PAGE.dxf and PAGE.geojson are
 # read instead, and nothing is traced.
@@ -127,6 +128,27 @@ read_page() {
   echo "$name: $width by $height pixels, $paths paths, $shapes shapes, $invalid of them invalid for GDAL; all documents read, and one drawing"
 }
 
+# read_book PAGE..: their pages, in one file, are traced into one PostScript document. Ghostscript counts as many pages,
+# and draws each as the page's EPS document.
+read_book() {
+  local page name width height n=0
+  for page in "$@"; do
+    cat "$page.pbm"
+  done >"$work/book.pbm"
+  "$top/potrace" -b ps -z minority -t 2 <"$work/book.pbm" >"$work/book.ps"
+  for page in "$@"; do
+    n=$((n + 1))
+    name=$(basename "$page")
+    read -r width height < <(sides "$page.pbm")
+    quiet "$name.eps" gs -q -dSAFER -dBATCH -dNOPAUSE -dEPSCrop -r72 -dGraphicsAlphaBits=4 -sDEVICE=pgmraw "-sOutputFile=$work/eps.pgm" "$page.eps"
+    rm -f "$work"/book-*.pgm
+    quiet book.ps gs -q -dSAFER -dBATCH -dNOPAUSE "-g${width}x$height" -r72 -dGraphicsAlphaBits=4 -sDEVICE=pgmraw "-sOutputFile=$work/book-%d.pgm" "$work/book.ps"
+    [ "$(find "$work" -name 'book-*.pgm' | wc -l)" -eq $# ] || fail "book.ps: Ghostscript counts another number of pages"
+    cmp "$work/eps.pgm" "$work/book-$n.pgm" || fail "book.ps: page $n isn't drawn as its EPS document"
+  done
+  echo "book: $# pages in one document, each drawn as its EPS document"
+}
+
 if [ $# -gt 0 ]; then
   for page in "$1"/*.pbm; do
     read_page "${page%.pbm}"
@@ -141,3 +163,4 @@ for page in scan map shapes; do
   trace "$work/$page"
   read_page "$work/$page"
 done
+read_book "$work/scan" "$work/map" "$work/shapes"

@@ -4,7 +4,7 @@ use Rattle.pt_base.proofs.Decimals.{one_micro}
 use Rattle.pt_base.specs.declared.policy.Policy.{Policy}
 use Rattle.pt_base.specs.declared.policy.Policy.TheVariants.{Left, Right, Black, White, Majority, Minority}
 use Rattle.pt_base.specs.declared.settings.Backend.{Backend}
-use Rattle.pt_base.specs.declared.settings.Backend.TheVariants.{Eps, Svg, Dxf, GeoJson, Points, Polygons, Proofs}
+use Rattle.pt_base.specs.declared.settings.Backend.TheVariants.{Eps, Ps, Svg, Dxf, GeoJson, Points, Polygons, Proofs}
 use Rattle.pt_base.specs.declared.settings.Settings.{Settings}
 use Rattle.command_words.specs.Given.{Given}
 use Rattle.command_words.specs.Parsed.{parsed}
@@ -29,6 +29,7 @@ same_policy p q e = absurd (let same : sum (policy_word p) ≡ sum (policy_word 
 
 same_backend : (p q : Backend) → backend_word p ≡ backend_word q → p ≡ q
 same_backend Eps Eps e = refl
+same_backend Ps Ps e = refl
 same_backend Svg Svg e = refl
 same_backend Dxf Dxf e = refl
 same_backend GeoJson GeoJson e = refl

@@ -2,7 +2,7 @@
 use Rattle.std.proofs.Common.{◌≡◌, ◌≢◌, ◌≤◌, ℕ, Bool, true, false, List, [], ◌∷◌, Option, Some, None, All, sym, ap, subst, codes, length, refl, arith}
 use Rattle.std.proofs.lemmas.List.Elements.{All-cons, All-nil}
 use Rattle.pt_base.specs.declared.settings.Backend.{Backend}
-use Rattle.pt_base.specs.declared.settings.Backend.TheVariants.{Eps, Svg, Dxf, GeoJson, Points, Polygons, Proofs}
+use Rattle.pt_base.specs.declared.settings.Backend.TheVariants.{Eps, Ps, Svg, Dxf, GeoJson, Points, Polygons, Proofs}
 use Rattle.pt_base.specs.declared.settings.Settings.{Settings}
 use Rattle.page_trace.specs.Document.{CanDraw, CanTrace, CanWriteUnder}
 use Rattle.page_trace.specs.Offered.{IsOffered}
@@ -36,6 +36,7 @@ can_write Polygons settings first can = tt
 can_write Proofs settings first can = first refl
 can_write Svg settings first can = can
 can_write Eps settings first can = can
+can_write Ps settings first can = can
 can_write Dxf settings first can = can.traced
 can_write GeoJson settings first can = can.traced
 

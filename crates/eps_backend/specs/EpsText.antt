@@ -53,6 +53,11 @@ comments_text width height =
 abbrev pub scale_text : ℕ → List ℕ
 scale_text unit = codes "gsave\n1 " ++ decimal unit ++ codes " div dup scale\n"
 
+-- a page of a document of several, where a pixel has so many units: it is shown once its shapes are drawn
+abbrev pub ps_page_text : ℕ → Trace → List ℕ
+ps_page_text unit trace =
+    scale_text unit ++ flat_map (group_text unit trace.outlines) trace.groups ++ codes "grestore\nshowpage\n"
+
 -- the whole document, where a pixel has so many units
 abbrev pub eps_text : ℕ → Trace → List ℕ
 eps_text unit trace =

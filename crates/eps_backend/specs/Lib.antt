@@ -8,5 +8,6 @@
 --   group_text: a shape and its holes, filled together by the even-odd rule
 --   comments_text: the comments
 --   scale_text: from here on a pixel has so many units
+--   ps_page_text: a page of a document of several, where a pixel has so many units
 --   eps_text: the whole document, where a pixel has so many units
 pub mod EpsText

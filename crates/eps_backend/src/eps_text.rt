@@ -1,7 +1,7 @@
-//! The document of a page.
+//! The document of a page, and a page of a document of several.
 ghost use Rattle.std.specs.Prelude.{◌≡◌, ◌≤◌, ◌++◌, flat_map, IfOk, OnOk};
 ghost use Rattle.pt_base.specs.Outlines.{outline_at};
-ghost use Rattle.eps_backend.specs.EpsText.{comments_text, eps_text, group_text, outline_text, scale_text};
+ghost use Rattle.eps_backend.specs.EpsText.{comments_text, eps_text, group_text, outline_text, ps_page_text, scale_text};
 
 use crate::outline::put_outline;
 use pt_base::digits::put_number;
@@ -34,6 +34,27 @@ pub fn eps(alloc: Global, trace: &Trace, settings: &Settings) -> Result<Vec<u8>,
         trace.groups.as_slice(),
     )?;
     out.extend_from_slice(b"grestore\n%%EOF\n")?;
+    Ok(out)
+}
+
+/// The page of a page's trace in a document of several, which has what surrounds its pages.
+///
+/// Shapes and coordinates are those of the page's own document.
+pub fn ps_page(alloc: Global, trace: &Trace, settings: &Settings) -> Result<Vec<u8>, NoMemory>
+    requires some { 1 ≤ settings.now.unit }
+    requires most { settings.now.unit ≤ 1000 }
+    ensures { IfOk result (λ text. text.items ≡ ps_page_text settings.now.unit trace.now) }
+{
+    let unit = settings.unit;
+    let mut out = Vec::new(alloc);
+    put_scale(&mut out, unit)?;
+    put_groups(
+        &mut out,
+        unit,
+        trace.outlines.as_slice(),
+        trace.groups.as_slice(),
+    )?;
+    out.extend_from_slice(b"grestore\nshowpage\n")?;
     Ok(out)
 }
 

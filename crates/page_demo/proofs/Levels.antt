@@ -6,7 +6,7 @@ use Rattle.pt_base.specs.declared.path.Path.{Path}
 use Rattle.pt_base.specs.declared.piece.Piece.{Piece}
 use Rattle.pt_base.specs.declared.point.Point.{Point}
 use Rattle.pt_base.specs.declared.settings.Backend.{Backend}
-use Rattle.pt_base.specs.declared.settings.Backend.TheVariants.{Eps, Svg, Dxf, GeoJson, Points, Polygons, Proofs}
+use Rattle.pt_base.specs.declared.settings.Backend.TheVariants.{Eps, Ps, Svg, Dxf, GeoJson, Points, Polygons, Proofs}
 use Rattle.pt_base.specs.declared.settings.Settings.{Settings}
 use Rattle.pt_base.specs.declared.trace.Trace.{Trace}
 use Rattle.page_trace.specs.Document.{IsDocumentUnder}
@@ -66,6 +66,7 @@ document_so Polygons settings level invert page text is = (is.0, polygons_so set
 document_so Proofs settings level invert page text is = (is.0, polygons_so settings level invert page is.0 is.1, is.2)
 document_so Svg settings level invert page text is = (is.0, trace_so settings level invert page is.0 is.1, is.2)
 document_so Eps settings level invert page text is = (is.0, trace_so settings level invert page is.0 is.1, is.2)
+document_so Ps settings level invert page text is = (is.0, trace_so settings level invert page is.0 is.1, is.2)
 document_so Dxf settings level invert page text is = (is.0, trace_so settings level invert page is.0 is.1, is.2)
 document_so GeoJson settings level invert page text is = (is.0, trace_so settings level invert page is.0 is.1, is.2)
 

@@ -6,7 +6,7 @@ use Rattle.pt_base.specs.PolygonsText.{polygons_text}
 use Rattle.pt_base.specs.declared.path.Path.{Path}
 use Rattle.pt_base.specs.declared.polygon.Polygon.{Polygon}
 use Rattle.pt_base.specs.declared.settings.Backend.{Backend}
-use Rattle.pt_base.specs.declared.settings.Backend.TheVariants.{Eps, Svg, Dxf, GeoJson, Points, Polygons, Proofs}
+use Rattle.pt_base.specs.declared.settings.Backend.TheVariants.{Eps, Ps, Svg, Dxf, GeoJson, Points, Polygons, Proofs}
 use Rattle.pt_base.specs.declared.settings.Settings.{Settings}
 use Rattle.pt_base.specs.declared.trace.Trace.{Trace}
 use Rattle.bit_image.specs.Page.{Page, image_of}
@@ -23,7 +23,7 @@ use Rattle.curve_join.proofs.Single.{one_join}
 use Rattle.curve_join.specs.Outline.{outline}
 use Rattle.pt_base.specs.declared.piece.Piece.{Piece}
 use Rattle.svg_backend.specs.SvgText.{svg_text}
-use Rattle.eps_backend.specs.EpsText.{eps_text}
+use Rattle.eps_backend.specs.EpsText.{eps_text, ps_page_text}
 use Rattle.dxf_geojson.specs.DxfText.{dxf_text}
 use Rattle.dxf_geojson.specs.GeoJsonText.{geojson_text}
 use Rattle.path_tree.specs.Groups.{groups_of}
@@ -165,6 +165,8 @@ text_is Svg page settings trace text is document =
     document.2 ∙ ap (svg_text settings.unit settings.flat) (one_trace page settings document.0 trace document.1 is)
 text_is Eps page settings trace text is document =
     document.2 ∙ ap (eps_text settings.unit) (one_trace page settings document.0 trace document.1 is)
+text_is Ps page settings trace text is document =
+    document.2 ∙ ap (ps_page_text settings.unit) (one_trace page settings document.0 trace document.1 is)
 text_is Dxf page settings trace text is document = document.2 ∙ ap dxf_text (one_trace page settings document.0 trace document.1 is)
 text_is GeoJson page settings trace text is document = document.2 ∙ ap geojson_text (one_trace page settings document.0 trace document.1 is)
 
@@ -180,5 +182,7 @@ one_document Svg page settings text other this that =
     this.2 ∙ ap (svg_text settings.unit settings.flat) (one_trace page settings this.0 that.0 this.1 that.1) ∙ sym that.2
 one_document Eps page settings text other this that =
     this.2 ∙ ap (eps_text settings.unit) (one_trace page settings this.0 that.0 this.1 that.1) ∙ sym that.2
+one_document Ps page settings text other this that =
+    this.2 ∙ ap (ps_page_text settings.unit) (one_trace page settings this.0 that.0 this.1 that.1) ∙ sym that.2
 one_document Dxf page settings text other this that = this.2 ∙ ap dxf_text (one_trace page settings this.0 that.0 this.1 that.1) ∙ sym that.2
 one_document GeoJson page settings text other this that = this.2 ∙ ap geojson_text (one_trace page settings this.0 that.0 this.1 that.1) ∙ sym that.2

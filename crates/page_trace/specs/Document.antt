@@ -4,12 +4,12 @@ use Rattle.pt_base.specs.PointsText.{points_text}
 use Rattle.pt_base.specs.PolygonsText.{polygons_text}
 use Rattle.pt_base.specs.declared.path.Path.{Path}
 use Rattle.pt_base.specs.declared.settings.Backend.{Backend}
-use Rattle.pt_base.specs.declared.settings.Backend.TheVariants.{Eps, Svg, Dxf, GeoJson, Points, Polygons, Proofs}
+use Rattle.pt_base.specs.declared.settings.Backend.TheVariants.{Eps, Ps, Svg, Dxf, GeoJson, Points, Polygons, Proofs}
 use Rattle.pt_base.specs.declared.settings.Settings.{Settings}
 use Rattle.pt_base.specs.declared.trace.Trace.{Trace}
 use Rattle.bit_image.specs.Page.{Page}
 use Rattle.svg_backend.specs.SvgText.{svg_text}
-use Rattle.eps_backend.specs.EpsText.{eps_text}
+use Rattle.eps_backend.specs.EpsText.{eps_text, ps_page_text}
 use Rattle.dxf_geojson.specs.DxfText.{dxf_text}
 use Rattle.dxf_geojson.specs.GeoJsonText.{geojson_text}
 use Rattle.outline_check.specs.Printed.{IsPrinted}
@@ -18,6 +18,7 @@ use Rattle.page_trace.specs.Trace.{ArePaths, HasPolygons, IsTrace}
 -- the word of a backend
 abbrev pub backend_word : Backend → List ℕ
 backend_word Eps = codes "eps"
+backend_word Ps = codes "ps"
 backend_word Svg = codes "svg"
 backend_word Dxf = codes "dxf"
 backend_word GeoJson = codes "geojson"
@@ -32,6 +33,7 @@ IsTextUnder Polygons settings trace text = text ≡ polygons_text trace
 IsTextUnder Proofs settings trace text = IsPrinted trace text
 IsTextUnder Svg settings trace text = text ≡ svg_text settings.unit settings.flat trace
 IsTextUnder Eps settings trace text = text ≡ eps_text settings.unit trace
+IsTextUnder Ps settings trace text = text ≡ ps_page_text settings.unit trace
 IsTextUnder Dxf settings trace text = text ≡ dxf_text trace
 IsTextUnder GeoJson settings trace text = text ≡ geojson_text trace
 
@@ -51,12 +53,14 @@ IsDocumentUnder Svg page settings text =
     (trace : Trace) × IsTrace page settings trace × (text ≡ svg_text settings.unit settings.flat trace)
 IsDocumentUnder Eps page settings text =
     (trace : Trace) × IsTrace page settings trace × (text ≡ eps_text settings.unit trace)
+IsDocumentUnder Ps page settings text =
+    (trace : Trace) × IsTrace page settings trace × (text ≡ ps_page_text settings.unit trace)
 IsDocumentUnder Dxf page settings text =
     (trace : Trace) × IsTrace page settings trace × (text ≡ dxf_text trace)
 IsDocumentUnder GeoJson page settings text =
     (trace : Trace) × IsTrace page settings trace × (text ≡ geojson_text trace)
 
--- the text is the page's document
+-- the text is the page's document, or its page in a document of several
 abbrev pub IsDocument : Page → Settings → List ℕ → Type 0
 IsDocument page settings text = IsDocumentUnder settings.backend page settings text
 
@@ -78,6 +82,7 @@ CanWriteUnder Polygons settings = Unit {0}
 CanWriteUnder Proofs settings = settings.cyclic ≡ false
 CanWriteUnder Svg settings = CanDraw settings
 CanWriteUnder Eps settings = CanDraw settings
+CanWriteUnder Ps settings = CanDraw settings
 CanWriteUnder Dxf settings = CanTrace settings
 CanWriteUnder GeoJson settings = CanTrace settings
 

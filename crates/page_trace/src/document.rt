@@ -11,7 +11,7 @@ use crate::tracing::{polygons_alone, trace};
 use bit_image::bitmap::Bitmap;
 use dxf_geojson::drawing::dxf;
 use dxf_geojson::features::geojson;
-use eps_backend::eps_text::eps;
+use eps_backend::eps_text::{eps, ps_page};
 use outline_check::text::proofs;
 use pt_base::fault::NoMemory;
 use pt_base::list_text::{points, polygons};
@@ -26,6 +26,7 @@ pub fn backend_of(word: &str) -> Option<Backend>
 {
     match word {
         "eps" => Some(Backend::Eps),
+        "ps" => Some(Backend::Ps),
         "svg" => Some(Backend::Svg),
         "dxf" => Some(Backend::Dxf),
         "geojson" => Some(Backend::GeoJson),
@@ -69,6 +70,10 @@ pub fn document(alloc: Global, page: &Bitmap, settings: &Settings) -> Result<Vec
         Backend::Eps => {
             let trace = trace(alloc, page, settings)?;
             eps(alloc, &trace, settings)
+        }
+        Backend::Ps => {
+            let trace = trace(alloc, page, settings)?;
+            ps_page(alloc, &trace, settings)
         }
         Backend::Dxf => {
             let trace = trace(alloc, page, settings)?;

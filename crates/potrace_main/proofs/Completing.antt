@@ -26,7 +26,7 @@ use Rattle.file_trace.proofs.Closing.{AreWhole-front, alone_end, carried_closed,
 use Rattle.file_trace.proofs.Exists.{items_found}
 use Rattle.file_trace.proofs.Joining.{items_behind}
 use Rattle.page_demo.proofs.Found.{demo_found}
-use Rattle.potrace_main.specs.Run.{AreItemsOf, EndsMissing, EndsRefused, FailureCount, IsComplete, IsMissing, IsOutcomeOf, IsRun, OutputsMove, RefusesWords, manner_under, names_of}
+use Rattle.potrace_main.specs.Run.{AreItemsOf, BindsApart, EndsMissing, EndsRefused, FailureCount, IsComplete, IsMissing, IsOutcomeOf, IsRun, OutputsMove, RefusesWords, manner_under, names_of}
 use Rattle.potrace_main.specs.Usage.{help_text, version_text}
 
 -- what the tracer's law says: each page has a document, under settings under which one is written
@@ -205,54 +205,70 @@ out_at_once law (asks.Files names output workers settings) source a b can done =
 
 -- How the outputs moved, by the outcome.
 
-carried_moves : (items : List Item) (last : List (List ℕ)) (a b : Sinks) → AreWhole items → a.is_open ≡ false → AreCarriedOut items last a b
-    → (b.outs.faults ≡ a.outs.faults) × (b.is_open ≡ false) × (b.outs.failures.count ≡ a.outs.failures.count)
-carried_moves items last a b all closed done = let (steady, shut) = carried_closed items last a b done all closed in (steady, shut, done.went)
+carried_moves : (P : Type 0) (items : List Item) (last : List (List ℕ)) (a b : Sinks) → (P → AreWhole items) → a.is_open ≡ false → AreCarriedOut items last a b
+    → (b.outs.faults ≡ a.outs.faults) × (P → b.is_open ≡ false) × (b.outs.failures.count ≡ a.outs.failures.count)
+carried_moves P items last a b all closed done = (done.steady, (λ p. (carried_closed items last a b done (all p) closed).1), done.went)
 
-ended_moves : (s : Status) (items : List Item) (a b : Sinks) → AreWhole items → a.is_open ≡ false → HasEnded s items a b → OutputsMove s a b
-ended_moves status.Done items a b all closed done = carried_moves items [] a b all closed done
-ended_moves status.BadWords items a b all closed ended = absurd ended
-ended_moves status.Refused items a b all closed r = carried_moves r.before (r.message ∷ []) a b (AreWhole-front r.before (Stop r.message ∷ []) (subst AreWhole r.split all)) closed r.done
-ended_moves status.Unread items a b all closed ended = absurd ended
-ended_moves status.Unwritten items a b all closed u = (u.rose, u.failed)
-ended_moves status.OutOfMemory items a b all closed o = carried_moves o.before (out_of_memory ∷ []) a b (AreWhole-front o.before o.after (subst AreWhole o.split all)) closed o.done
+ended_moves : (P : Type 0) (s : Status) (items : List Item) (a b : Sinks) → (P → AreWhole items) → a.is_open ≡ false → HasEnded s items a b → OutputsMove P s a b
+ended_moves P status.Done items a b all closed done = carried_moves P items [] a b all closed done
+ended_moves P status.BadWords items a b all closed ended = absurd ended
+ended_moves P status.Refused items a b all closed r =
+    carried_moves P r.before (r.message ∷ []) a b (λ p. AreWhole-front r.before (Stop r.message ∷ []) (subst AreWhole r.split (all p))) closed r.done
+ended_moves P status.Unread items a b all closed ended = absurd ended
+ended_moves P status.Unwritten items a b all closed u = (u.rose, u.failed)
+ended_moves P status.OutOfMemory items a b all closed o =
+    carried_moves P o.before (out_of_memory ∷ []) a b (λ p. AreWhole-front o.before o.after (subst AreWhole o.split (all p))) closed o.done
 
-files_move : (s : Status) (manner : Manner) → manner.binding ≡ Apart → (names : List (List ℕ)) (source now : Source) (a b : Sinks) → a.is_open ≡ false
-    → IsOutcome s manner names source now a b → OutputsMove s a b
-files_move s manner apart names source now a b closed outcome = by_status s outcome where
+files_move : (s : Status) (manner : Manner) (names : List (List ℕ)) (source now : Source) (a b : Sinks) → a.is_open ≡ false
+    → IsOutcome s manner names source now a b → OutputsMove (manner.binding ≡ Apart) s a b
+files_move s manner names source now a b closed outcome = by_status s outcome where
   told : Option Contents
   told = told_contents source.files
 
-  whole : (items : List Item) → AreItems told manner Nothing names no_past items → AreWhole items
-  whole items are = items_end told manner apart Nothing nothing_ends names no_past items are
+  whole : (items : List Item) → AreItems told manner Nothing names no_past items → (manner.binding ≡ Apart) → AreWhole items
+  whole items are apart = items_end told manner apart Nothing nothing_ends names no_past items are
 
-  by_status : (s : Status) → IsOutcome s manner names source now a b → OutputsMove s a b
-  by_status status.Done (items, are, done, opens) = carried_moves items [] a b (whole items are) closed done
+  by_status : (s : Status) → IsOutcome s manner names source now a b → OutputsMove (manner.binding ≡ Apart) s a b
+  by_status status.Done (items, are, done, opens) = carried_moves (manner.binding ≡ Apart) items [] a b (whole items are) closed done
   by_status status.BadWords (items, are, ended) = absurd ended
   by_status status.Refused r =
-      carried_moves r.before (r.message ∷ []) a b (AreWhole-front r.before (Stop r.message ∷ []) (whole (r.before ++ Stop r.message ∷ []) r.all)) closed r.done
+      carried_moves (manner.binding ≡ Apart) r.before (r.message ∷ []) a b (λ apart. AreWhole-front r.before (Stop r.message ∷ []) (whole (r.before ++ Stop r.message ∷ []) r.all apart)) closed r.done
   by_status status.Unread (inl u) =
-      carried_moves u.before (not_opened u.name ∷ []) a b (items_end told manner apart Nothing nothing_ends u.front no_past u.before u.items) closed u.done
+      carried_moves (manner.binding ≡ Apart) u.before (not_opened u.name ∷ []) a b (λ apart. items_end told manner apart Nothing nothing_ends u.front no_past u.before u.items) closed u.done
   by_status status.Unread (inr u) =
-      carried_moves u.before _ a b
-      (items_end told manner apart _ (alone_end manner apart u.name u.raws) u.front no_past u.before u.items) closed u.done
+      carried_moves (manner.binding ≡ Apart) u.before _ a b
+      (λ apart. items_end told manner apart _ (alone_end manner apart u.name u.raws) u.front no_past u.before u.items) closed u.done
   by_status status.Unwritten (items, are, u) = (u.rose, u.failed)
-  by_status status.OutOfMemory (items, are, o) = ended_moves status.OutOfMemory items a b (whole items are) closed o
+  by_status status.OutOfMemory (items, are, o) = ended_moves (manner.binding ≡ Apart) status.OutOfMemory items a b (whole items are) closed o
 
-pub run_moves : (ask : Ask) (s : Status) (source now : Source) (a b : Sinks) → a.is_open ≡ false → IsOutcomeOf ask s source now a b → OutputsMove s a b
-run_moves asks.Help s source now a b closed ended = ended_moves s (Doc dash help_text ∷ []) a b (refl, tt) closed ended
-run_moves asks.Version s source now a b closed ended = ended_moves s (Doc dash version_text ∷ []) a b (refl, tt) closed ended
-run_moves (asks.Demo pages workers settings) s source now a b closed (text, is, ended) = ended_moves s (Doc dash text ∷ []) a b (refl, tt) closed ended
-run_moves (asks.Files names output workers settings) s source now a b closed outcome = files_move s (manner_under settings output) refl names source now a b closed outcome
+run_moves : (ask : Ask) (s : Status) (source now : Source) (a b : Sinks) → a.is_open ≡ false → IsOutcomeOf ask s source now a b → OutputsMove (BindsApart ask) s a b
+run_moves asks.Help s source now a b closed ended = ended_moves (Unit {0}) s (Doc dash help_text ∷ []) a b (λ p. (refl, tt)) closed ended
+run_moves asks.Version s source now a b closed ended = ended_moves (Unit {0}) s (Doc dash version_text ∷ []) a b (λ p. (refl, tt)) closed ended
+run_moves (asks.Demo pages workers settings) s source now a b closed (text, is, ended) = ended_moves (Unit {0}) s (Doc dash text ∷ []) a b (λ p. (refl, tt)) closed ended
+run_moves (asks.Files names output workers settings) s source now a b closed outcome = files_move s (manner_under settings output) names source now a b closed outcome
+
+-- the same where this is known of it
+moves_where : (P Q : Type 0) (s : Status) (a b : Sinks) → (Q → P) → OutputsMove P s a b → OutputsMove Q s a b
+moves_where P Q status.Unwritten a b known moves = moves
+moves_where P Q status.Done a b known moves = (moves.0, (λ q. moves.1 (known q)), moves.2)
+moves_where P Q status.BadWords a b known moves = (moves.0, (λ q. moves.1 (known q)), moves.2)
+moves_where P Q status.Refused a b known moves = (moves.0, (λ q. moves.1 (known q)), moves.2)
+moves_where P Q status.Unread a b known moves = (moves.0, (λ q. moves.1 (known q)), moves.2)
+moves_where P Q status.OutOfMemory a b known moves = (moves.0, (λ q. moves.1 (known q)), moves.2)
+
+pub asked_moves : (Asks : Ask → Type 0) (ask : Ask) → Asks ask → (s : Status) (source now : Source) (a b : Sinks) → a.is_open ≡ false → IsOutcomeOf ask s source now a b
+    → OutputsMove ((other : Ask) → Asks other → BindsApart other) s a b
+asked_moves Asks ask asked s source now a b closed outcome =
+    moves_where (BindsApart ask) ((other : Ask) → Asks other → BindsApart other) s a b (λ all. all ask asked) (run_moves ask s source now a b closed outcome)
 
 -- words that are refused move nothing
-pub refused_moves : (s : Status) (a b : Sinks) → a.is_open ≡ false → RefusesWords s a b → OutputsMove s a b
-refused_moves status.BadWords a b closed refused = carried_moves [] _ a b tt closed refused
-refused_moves status.OutOfMemory a b closed refused = carried_moves [] _ a b tt closed refused
-refused_moves status.Done a b closed refused = absurd refused
-refused_moves status.Refused a b closed refused = absurd refused
-refused_moves status.Unread a b closed refused = absurd refused
-refused_moves status.Unwritten a b closed refused = absurd refused
+pub refused_moves : (P : Type 0) (s : Status) (a b : Sinks) → a.is_open ≡ false → RefusesWords s a b → OutputsMove P s a b
+refused_moves P status.BadWords a b closed refused = carried_moves P [] _ a b (λ p. tt) closed refused
+refused_moves P status.OutOfMemory a b closed refused = carried_moves P [] _ a b (λ p. tt) closed refused
+refused_moves P status.Done a b closed refused = absurd refused
+refused_moves P status.Refused a b closed refused = absurd refused
+refused_moves P status.Unread a b closed refused = absurd refused
+refused_moves P status.Unwritten a b closed refused = absurd refused
 
 -- Statuses and their codes.
 
@@ -294,34 +310,34 @@ code_one status.OutOfMemory status.Refused e = absurd (omega (arith, e))
 code_one status.OutOfMemory status.Unread e = absurd (omega (arith, e))
 code_one status.OutOfMemory status.Unwritten e = absurd (omega (arith, e))
 
--- the outputs' count rises only at that status, and no document stays open at another
-pub rose_by : (s : Status) (a b : Sinks) → OutputsMove s a b → s ≡ status.Unwritten → Rose a.outs.faults b.outs.faults
-rose_by s a b moves is = (subst (λ t. OutputsMove t a b) is moves).0
+-- the outputs' count rises only at that status, and where this is so no document stays open at another
+pub rose_by : (P : Type 0) (s : Status) (a b : Sinks) → OutputsMove P s a b → s ≡ status.Unwritten → Rose a.outs.faults b.outs.faults
+rose_by P s a b moves is = (subst (λ t. OutputsMove P t a b) is moves).0
 
-pub unwritten_by : (s : Status) (a b : Sinks) → OutputsMove s a b → a.outs.faults < b.outs.faults → s ≡ status.Unwritten
-unwritten_by status.Unwritten a b moves less = refl
-unwritten_by status.Done a b moves less = absurd (omega (arith, moves.0, less))
-unwritten_by status.BadWords a b moves less = absurd (omega (arith, moves.0, less))
-unwritten_by status.Refused a b moves less = absurd (omega (arith, moves.0, less))
-unwritten_by status.Unread a b moves less = absurd (omega (arith, moves.0, less))
-unwritten_by status.OutOfMemory a b moves less = absurd (omega (arith, moves.0, less))
+pub unwritten_by : (P : Type 0) (s : Status) (a b : Sinks) → OutputsMove P s a b → a.outs.faults < b.outs.faults → s ≡ status.Unwritten
+unwritten_by P status.Unwritten a b moves less = refl
+unwritten_by P status.Done a b moves less = absurd (omega (arith, moves.0, less))
+unwritten_by P status.BadWords a b moves less = absurd (omega (arith, moves.0, less))
+unwritten_by P status.Refused a b moves less = absurd (omega (arith, moves.0, less))
+unwritten_by P status.Unread a b moves less = absurd (omega (arith, moves.0, less))
+unwritten_by P status.OutOfMemory a b moves less = absurd (omega (arith, moves.0, less))
 
-pub closed_else : (s : Status) (a b : Sinks) → OutputsMove s a b → s ≢ status.Unwritten → b.is_open ≡ false
-closed_else status.Unwritten a b moves other = absurd (other refl)
-closed_else status.Done a b moves other = moves.1
-closed_else status.BadWords a b moves other = moves.1
-closed_else status.Refused a b moves other = moves.1
-closed_else status.Unread a b moves other = moves.1
-closed_else status.OutOfMemory a b moves other = moves.1
+pub closed_else : (P : Type 0) (s : Status) (a b : Sinks) → OutputsMove P s a b → P → s ≢ status.Unwritten → b.is_open ≡ false
+closed_else P status.Unwritten a b moves so other = absurd (other refl)
+closed_else P status.Done a b moves so other = moves.1 so
+closed_else P status.BadWords a b moves so other = moves.1 so
+closed_else P status.Refused a b moves so other = moves.1 so
+closed_else P status.Unread a b moves so other = moves.1 so
+closed_else P status.OutOfMemory a b moves so other = moves.1 so
 
 -- what the calls of the outputs answered
-pub failed_by : (s : Status) (a b : Sinks) → OutputsMove s a b → FailureCount s a.outs.failures b.outs.failures
-failed_by status.Unwritten a b moves = moves.1
-failed_by status.Done a b moves = moves.2
-failed_by status.BadWords a b moves = moves.2
-failed_by status.Refused a b moves = moves.2
-failed_by status.Unread a b moves = moves.2
-failed_by status.OutOfMemory a b moves = moves.2
+pub failed_by : (P : Type 0) (s : Status) (a b : Sinks) → OutputsMove P s a b → FailureCount s a.outs.failures b.outs.failures
+failed_by P status.Unwritten a b moves = moves.1
+failed_by P status.Done a b moves = moves.2
+failed_by P status.BadWords a b moves = moves.2
+failed_by P status.Refused a b moves = moves.2
+failed_by P status.Unread a b moves = moves.2
+failed_by P status.OutOfMemory a b moves = moves.2
 
 -- what is asked for isn't refused
 pub never_refuses : (ask : Ask) (source now : Source) (a b : Sinks) → IsRun ask status.BadWords source now a b → ⊥

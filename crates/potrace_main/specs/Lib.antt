@@ -11,6 +11,7 @@ pub mod Usage
 --   IsMissing: one of these files isn't there
 --   RefusesWords: words were refused
 --   FailureCount: what the calls of the outputs answered
+--   BindsApart: each page has a document of its own
 --   OutputsMove: how the outputs moved
 --   EndsRefused: the last of the items is a refusal
 --   EndsMissing: the last of the items is a file that isn't there

@@ -7,6 +7,7 @@ use Rattle.pt_base.specs.declared.settings.Settings.{Settings}
 use Rattle.run_output.specs.Made.{no_past}
 use Rattle.run_output.specs.Messages.{bad_words, out_of_memory}
 use Rattle.run_output.specs.Names.{dash}
+use Rattle.run_output.specs.Parts.{binding_of}
 use Rattle.run_output.specs.Status.{code_of}
 use Rattle.run_output.specs.declared.part.Binding.TheVariants.{Apart}
 use Rattle.run_output.specs.declared.status.Status.{Status}
@@ -30,10 +31,11 @@ use Rattle.potrace_main.specs.Usage.{help_text, version_text}
 abbrev pub IsCodeOf : ℕ → (Status → Type 0) → Type 0
 IsCodeOf code P = (s : Status) × (code ≡ code_of s) × P s
 
--- the manner in which files become documents under some settings: a page's text is its document
+-- the manner in which files become documents under some settings: a page's text is its document, or its page in that of
+-- its file
 abbrev pub manner_under : Settings → Option (List ℕ) → Manner
 manner_under settings output =
-    manner_by settings.level settings.invert output settings.backend Apart (λ page text. IsDocument page settings text)
+    manner_by settings.level settings.invert output settings.backend (binding_of settings.backend) (λ page text. IsDocument page settings text)
 
 -- what a run is to write that is asked for this
 abbrev pub AreItemsOf : Ask → Option Contents → List Item → Type 0
@@ -75,11 +77,19 @@ abbrev pub FailureCount : Status → Failures → Failures → Type 0
 FailureCount status.Unwritten old new = new ≡ after_err old
 FailureCount s old new = new.count ≡ old.count
 
+-- each page has a document of its own
+abbrev pub BindsApart : Ask → Type 0
+BindsApart asks.Help = Unit {0}
+BindsApart asks.Version = Unit {0}
+BindsApart (asks.Demo pages workers settings) = Unit {0}
+BindsApart (asks.Files names output workers settings) = binding_of settings.backend ≡ Apart
+
 -- how the outputs moved: where a document couldn't be written their count of faults rose, and one call failed, the last
--- one; else no call failed, the count stayed, and no document is open
-abbrev pub OutputsMove : Status → Sinks → Sinks → Type 0
-OutputsMove status.Unwritten old new = Rose old.outs.faults new.outs.faults × (new.outs.failures ≡ after_err old.outs.failures)
-OutputsMove s old new = (new.outs.faults ≡ old.outs.faults) × (new.is_open ≡ false) × (new.outs.failures.count ≡ old.outs.failures.count)
+-- one; else no call failed, and the count stayed; and no document is open where this is so
+abbrev pub OutputsMove : Type 0 → Status → Sinks → Sinks → Type 0
+OutputsMove Closes status.Unwritten old new = Rose old.outs.faults new.outs.faults × (new.outs.failures ≡ after_err old.outs.failures)
+OutputsMove Closes s old new =
+    (new.outs.faults ≡ old.outs.faults) × (Closes → new.is_open ≡ false) × (new.outs.failures.count ≡ old.outs.failures.count)
 
 -- the last of the items is a refusal
 abbrev pub EndsRefused : List Item → Type 0

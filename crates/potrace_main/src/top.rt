@@ -14,7 +14,7 @@ ghost use Rattle.run_output.specs.Told.{sinks_of, source_of};
 ghost use Rattle.file_trace.specs.Items.{IsAbsent, told_contents};
 ghost use Rattle.file_trace.specs.Outcome.{OpensFirst};
 ghost use Rattle.file_trace.specs.Progress.{InputCount};
-ghost use Rattle.potrace_main.specs.Run.{AreItemsOf, FailureCount, IsCodeOf, IsComplete, IsMissing, IsOnePassOf, IsOutcomeOf, IsRun, OutputsMove, RefusesWords, names_of};
+ghost use Rattle.potrace_main.specs.Run.{AreItemsOf, BindsApart, FailureCount, IsCodeOf, IsComplete, IsMissing, IsOnePassOf, IsOutcomeOf, IsRun, OutputsMove, RefusesWords, names_of};
 
 use crate::usage::{help_text, version_text};
 use command_asks::ask::{Ask, WordFault};
@@ -41,7 +41,8 @@ use threshold_map::level::Level;
 /// Does all that the words ask for, and answers the exit status.
 ///
 /// The files are taken in order: each is opened once, its pages are read one after another, in batches of twice as
-/// many as there are workers, and each page's document is written under its name. Where no device fails and memory
+/// many as there are workers, and each page is written under the name of its document, as one of its own or, under
+/// `Ps`, as a page of its file's. Where no device fails and memory
 /// suffices, what is written and said is the same for every number of workers. After a fault of the outputs nothing
 /// more is written to them.
 pub fn run<R: Threads + Sync, I: Inputs, O: Outputs, E: Sink, G: Gate + Sync>(
@@ -109,8 +110,9 @@ pub fn run<R: Threads + Sync, I: Inputs, O: Outputs, E: Sink, G: Gate + Sync>(
     ensures failed { IsCodeOf result
         (λ status. FailureCount status (O.failures outs.old) (O.failures outs.new)) }
 
-    // No document stays open but for a fault of the outputs.
-    ensures closed { result ≢ code_of Status.Unwritten → O.is_ready outs.new ≡ false }
+    // Where each page has a document of its own, no document stays open but for a fault of the outputs.
+    ensures closed { ((ask : Ask) → IsAsked (map string_bytes words.now) ask → BindsApart ask)
+        → result ≢ code_of Status.Unwritten → O.is_ready outs.new ≡ false }
 {
     pages_have_documents();
     let mut desk = Desk { outs, errs };
@@ -136,7 +138,8 @@ fn answer<R: Threads + Sync, I: Inputs, O: Outputs, E: Sink, G: Gate + Sync>(
         → (inputs.new ≡ inputs.old) × RefusesWords result
         (sinks_at O.Sink E.Sink desk.old) (sinks_at O.Sink E.Sink desk.new) }
     ensures input { InputCount result (I.faults inputs.old) (I.faults inputs.new) }
-    ensures output { OutputsMove result (sinks_at O.Sink E.Sink desk.old) (sinks_at O.Sink E.Sink desk.new) }
+    ensures output { OutputsMove ((ask : Ask) → IsAsked (map string_bytes words.now) ask → BindsApart ask) result
+        (sinks_at O.Sink E.Sink desk.old) (sinks_at O.Sink E.Sink desk.new) }
     ensures keeps { Keeps O.Sink E.Sink desk.old desk.new }
 {
     match settings_of(alloc, words) {
@@ -190,7 +193,7 @@ fn carry_out<'a, R: Threads + Sync, I: Inputs, O: Outputs, E: Sink, G: Gate + Sy
                 threads: rt,
                 alloc,
                 job: &job,
-                binding: Binding::Apart,
+                binding: Binding::of(settings.backend),
                 workers,
                 gate,
             };

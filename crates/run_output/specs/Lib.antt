@@ -50,6 +50,7 @@ pub mod Status
 --   trailer_text: what stands behind n of them
 --   is_first_page: whether a page behind so many of its file is the first one
 --   prolog_before: what stands before it
+--   binding_of: how the pages of a file are bound in a backend's documents
 --   is_begun: whether a document of a file is open behind so many of its pages
 --   page_part: the part that is a page
 --   end_part: the part that ends a document of several pages

@@ -3,7 +3,7 @@ use Rattle.std.specs.Prelude.{ℕ, zero, suc, ◌+◌, List, ◌∷◌, ◌++◌
 use Rattle.std.specs.Path.{rfind_below}
 use Rattle.std.specs.Str.{bytes_eq}
 use Rattle.pt_base.specs.declared.settings.Backend.{Backend}
-use Rattle.pt_base.specs.declared.settings.Backend.TheVariants.{Eps, Svg, Dxf, GeoJson, Points, Polygons, Proofs}
+use Rattle.pt_base.specs.declared.settings.Backend.TheVariants.{Eps, Ps, Svg, Dxf, GeoJson, Points, Polygons, Proofs}
 
 -- the name of standard input and of standard output
 abbrev pub dash : List ℕ
@@ -43,6 +43,7 @@ suffix_of name = drop (suffix_begins name) name
 -- the suffix of a backend's documents
 abbrev pub backend_suffix : Backend → List ℕ
 backend_suffix Eps = codes ".eps"
+backend_suffix Ps = codes ".ps"
 backend_suffix Svg = codes ".svg"
 backend_suffix Dxf = codes ".dxf"
 backend_suffix GeoJson = codes ".json"

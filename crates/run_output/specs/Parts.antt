@@ -3,6 +3,8 @@
 use Rattle.std.specs.Prelude.{◌≡◌, ◌≤◌, ◌⊎◌, ℕ, zero, suc, ◌+◌, Bool, true, false, not, List, [], ◌∷◌, ◌++◌, length, take, Option, codes, decimal}
 use Rattle.std.specs.List.{concat}
 use Rattle.pt_base.specs.Documents.{Documents, with_bytes, with_end, with_open}
+use Rattle.pt_base.specs.declared.settings.Backend.{Backend}
+use Rattle.pt_base.specs.declared.settings.Backend.TheVariants.{Eps, Ps, Svg, Dxf, GeoJson, Points, Polygons, Proofs}
 use Rattle.run_output.specs.declared.part.Binding.{Binding}
 use Rattle.run_output.specs.declared.part.Binding.TheVariants as binding
 
@@ -45,6 +47,17 @@ is_first_page (suc before) = false
 abbrev pub prolog_before : ℕ → List ℕ
 prolog_before zero = prolog_text
 prolog_before (suc before) = []
+
+-- how the pages of a file are bound in a backend's documents
+abbrev pub binding_of : Backend → Binding
+binding_of Ps = binding.Together
+binding_of Eps = binding.Apart
+binding_of Svg = binding.Apart
+binding_of Dxf = binding.Apart
+binding_of GeoJson = binding.Apart
+binding_of Points = binding.Apart
+binding_of Polygons = binding.Apart
+binding_of Proofs = binding.Apart
 
 -- whether a document of a file is open behind so many of its pages
 abbrev pub is_begun : Binding → ℕ → Bool

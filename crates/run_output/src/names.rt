@@ -41,6 +41,7 @@ fn backend_suffix(backend: Backend) -> &'static str
 {
     match backend {
         Backend::Eps => ".eps",
+        Backend::Ps => ".ps",
         Backend::Svg => ".svg",
         Backend::Dxf => ".dxf",
         Backend::GeoJson => ".json",

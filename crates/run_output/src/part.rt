@@ -6,12 +6,13 @@ ghost use Rattle.std.specs.Prelude.{◌≡◌, ◌≤◌, suc, [], true, false, 
 ghost use Rattle.pt_base.specs.Counts.{Rose};
 ghost use Rattle.pt_base.specs.Failures.{after_err};
 ghost use Rattle.run_output.specs.Made.{documents_before, documents_in};
-ghost use Rattle.run_output.specs.Parts.{IsCutIn, begun, end_part, ended, is_begun, is_first_page, page_part, part_in_pieces, prolog_before, with_part};
+ghost use Rattle.run_output.specs.Parts.{IsCutIn, begun, binding_of, end_part, ended, is_begun, is_first_page, page_part, part_in_pieces, prolog_before, with_part};
 ghost use Rattle.run_output.specs.declared.part.Binding.{Binding};
 
 use crate::pieces::write_pieces;
 use itoa::Buffer;
 use pt_base::fault::SinkFault;
+use pt_base::settings::Backend;
 use pt_base::sink::Outputs;
 
 /// How the pages of a file are bound: each is a document, or all together are one.
@@ -22,6 +23,22 @@ pub enum Binding {
 }
 
 impl Binding {
+    /// How the pages of a file are bound in a backend's documents.
+    pub fn of(backend: Backend) -> Binding
+        ensures { result ≡ binding_of backend }
+    {
+        match backend {
+            Backend::Ps => Binding::Together,
+            Backend::Eps
+            | Backend::Svg
+            | Backend::Dxf
+            | Backend::GeoJson
+            | Backend::Points
+            | Backend::Polygons
+            | Backend::Proofs => Binding::Apart,
+        }
+    }
+
     /// How many documents a file of so many pages has.
     pub fn documents_in(self, pages: u32) -> u32
         ensures value { result ≡ documents_in self pages }

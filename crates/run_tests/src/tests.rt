@@ -14,6 +14,7 @@ mod many_paths;
 mod memory;
 mod one_picture;
 mod pages;
+mod postscript;
 mod refusals;
 mod words;
 mod workers;

@@ -66,6 +66,7 @@ const LINES: &[(&str, &str)] = &[
     ("--eps", "-"),
     ("-b eps", "-"),
     ("-b svg", "Svg -"),
+    ("-b ps", "Ps -"),
     ("-bdxf", "Dxf -"),
     ("-b=geojson", "GeoJson -"),
     ("--backend points", "Points -"),

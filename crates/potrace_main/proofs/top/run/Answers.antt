@@ -1,9 +1,10 @@
-use Rattle.std.proofs.Common.{◌∙◌, ap, inl, inr, map, rules, sym}
+use Rattle.std.proofs.Common.{◌≡◌, ◌<◌, false, ◌∙◌, ap, inl, inr, map, rules, sym}
 use Rattle.std.specs.Prelude.{string_bytes}
 use Rattle.pt_base.specs.Counts.{Rose}
 use Rattle.run_output.specs.Status.{code_of}
 use Rattle.command_asks.proofs.Possible.{possible}
-use Rattle.potrace_main.proofs.Completing.{code_one, run_absent, run_complete, run_unread}
+use Rattle.potrace_main.specs.Run.{FailureCount}
+use Rattle.potrace_main.proofs.Completing.{closed_else, code_one, failed_by, rose_by, run_absent, run_complete, run_unread, unwritten_by}
 use Rattle.potrace_main.proofs.top.run.Goals as goal
 
 pub returns-clause-complete : goal.returns-clause-complete
@@ -35,3 +36,25 @@ returns-clause-absent g c = λ ask name names asked listed absent.
 
 pub returns-clause-read : goal.returns-clause-read
 returns-clause-read g c = (c.answer.result, c.code.ensures, c.answer.ensures.input)
+
+-- what the outputs did
+pub returns-clause-unwritten : goal.returns-clause-unwritten
+returns-clause-unwritten g c = λ is.
+    let rose : Rose (g.O.Sink.faults c.args.outs.now) (g.O.Sink.faults c.answer.new.desk.outs.now) =
+    rose_by _ c.answer.result _ _ c.answer.ensures.output (code_one c.answer.result _ (sym c.code.ensures ∙ is)) in search rules
+
+pub returns-clause-unwritten_always : goal.returns-clause-unwritten_always
+returns-clause-unwritten_always g c = λ less.
+    let rises : g.O.Sink.faults c.args.outs.now < g.O.Sink.faults c.answer.new.desk.outs.now = search rules in
+    c.code.ensures ∙ ap code_of (unwritten_by _ c.answer.result _ _ c.answer.ensures.output rises)
+
+pub returns-clause-failed : goal.returns-clause-failed
+returns-clause-failed g c =
+    let failed : FailureCount c.answer.result (g.O.Sink.failures c.args.outs.now) (g.O.Sink.failures c.answer.new.desk.outs.now) =
+    failed_by _ c.answer.result _ _ c.answer.ensures.output in
+    (c.answer.result, c.code.ensures, search rules)
+
+pub returns-clause-closed : goal.returns-clause-closed
+returns-clause-closed g c = λ apart other.
+    let shut : g.O.Sink.is_ready c.answer.new.desk.outs.now ≡ false =
+    closed_else _ c.answer.result _ _ c.answer.ensures.output apart (λ is. other (c.code.ensures ∙ ap code_of is)) in search rules
