@@ -1,4 +1,4 @@
-use Rattle.std.proofs.Common.{◌≡◌, ℕ, Err, refl, ap, sym, ◌∙◌, subst}
+use Rattle.std.proofs.Common.{ℕ, Err, refl, ap, ◌∙◌, subst}
 use Rattle.bitmap_input.specs.Reading.{CountsBy, cause_of_fault}
 use Rattle.run_output.specs.Told.{source_of}
 use Rattle.small_program.proofs.Taking.{nothing_taken}

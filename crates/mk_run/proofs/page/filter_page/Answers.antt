@@ -1,7 +1,6 @@
-use Rattle.std.proofs.Common.{◌≡◌, ◌*◌, ◌≤◌, true, false, Err, refl, ap, sym, ◌∙◌, arith}
-use Rattle.bitmap_input.specs.Reading.{cause_of_fault}
+use Rattle.std.proofs.Common.{◌≡◌, ◌*◌, ◌≤◌, Err, refl, ap, sym, ◌∙◌, arith}
 use Rattle.bitmap_input.specs.declared.gray_reader.GrayHead.{GrayHead}
-use Rattle.run_output.specs.Told.{sinks_of, source_of}
+use Rattle.run_output.specs.Told.{source_of}
 use Rattle.mk_run.specs.declared.fault.Break.TheVariants as breaks
 use Rattle.mk_run.specs.Result.{pbm_head}
 use Rattle.mk_run.specs.Rows.{fits_result}

@@ -1,4 +1,4 @@
-use Rattle.std.proofs.Common.{sym, ap, ◌∙◌, subst, ◌≤◌, ◌≡◌}
+use Rattle.std.proofs.Common.{sym, ap, ◌∙◌, subst, ◌≤◌}
 use Rattle.bitmap_input.specs.declared.gray_reader.GrayHead.{GrayHead}
 use Rattle.mk_run.specs.Rows.{fits_result}
 use Rattle.mk_run.proofs.Working.{work_start}
