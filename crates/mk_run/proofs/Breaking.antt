@@ -1,10 +1,9 @@
 -- Rows of the result that are written one after another, and what breaks that off.
-use Rattle.std.proofs.Common.{◌≡◌, ℕ, suc, ◌+◌, ◌-◌, ◌*◌, ◌≤◌, ◌<◌, inl, inr, true, List, [], ◌++◌, length, take, refl, ap, sym, ◌∙◌, subst, arith, Option, length-append}
+use Rattle.std.proofs.Common.{◌≡◌, ℕ, suc, ◌+◌, ◌-◌, ◌*◌, ◌≤◌, ◌<◌, inr, true, List, [], ◌++◌, length, take, ap, sym, ◌∙◌, subst, arith, Option, length-append}
 use Rattle.std.proofs.lemmas.List.{take_all}
 use Rattle.std.proofs.lemmas.Nat.{mul-le}
 use Rattle.pt_base.specs.Counts.{Rose, next_count}
 use Rattle.pt_base.specs.Documents.{Documents, with_bytes, with_end, with_open, with_whole}
-use Rattle.pt_base.specs.Failures.{Failures, after_err}
 use Rattle.pt_base.specs.Files.{Files}
 use Rattle.pt_base.proofs.Writing.{with_bytes-with_bytes}
 use Rattle.bitmap_input.specs.GrayReader.{GraySource}
@@ -106,7 +105,7 @@ module _ (setup : Setup) (old r : GraySource) (f : Filter) (before at : Option F
               i,
               most,
               is ∙ ap (λ (d : Option Documents). with_bytes d (take i (result_row setup page Y))) (puts page (fewer_rows (header_of old) rows next page has))
-              ∙ with_bytes-with_bytes first.documents (rows_above setup page Y) (take i (result_row setup page Y)),
+                  ∙ with_bytes-with_bytes first.documents (rows_above setup page Y) (take i (result_row setup page Y)),
             ),
         down_on first mid last well down,
       )
@@ -126,14 +125,13 @@ page_breaks (breaks.Input fault) setup old new before now n k none first last so
       counts,
       well_on none first last well went,
     )
-page_breaks breaks.Output setup old new before now n k none first last some tall well head start (Y, within, rows, gives, read, steady, puts, down) =
-    (
-      rows,
-      gives,
-      steady,
-      inr (Y, within, read, λ page has. let (i, most, is) = puts page has in (i, most, is ∙ ap (λ (d : Option Documents). with_bytes d (rows_above setup page Y ++ take i (result_row setup page Y))) head)),
-      down_on none first last well down,
-    )
+page_breaks breaks.Output setup old new before now n k none first last some tall well head start (Y, within, rows, gives, read, steady, puts, down) = (
+  rows,
+  gives,
+  steady,
+  inr (Y, within, read, λ page has. let (i, most, is) = puts page has in (i, most, is ∙ ap (λ (d : Option Documents). with_bytes d (rows_above setup page Y ++ take i (result_row setup page Y))) head)),
+  down_on none first last well down,
+)
 
 -- the head was written
 pub head_put : (old begun put : Option Documents) (name text head : List ℕ) → begun ≡ with_open old name [] → put ≡ with_bytes begun text → text ≡ head → put ≡ with_open old name head
@@ -170,7 +168,7 @@ module _ (setup : Setup) (header : PageHeader) (rows : List (List ℕ)) (old fir
               length (result_row setup page Y),
               omega arith,
               same ∙ puts page has ∙ ap (λ (d : Option Documents). with_bytes d (rows_above setup page (setup.times * header.height))) head
-              ∙ ap (with_bytes (with_open old dash (result_head setup header)))
-              (ap (rows_above setup page) (sym one) ∙ above_next setup page some high Y ∙ ap (λ (l : List ℕ). rows_above setup page Y ++ l) (sym (take_all (length (result_row setup page Y)) (result_row setup page Y) (omega arith)))),
+                  ∙ ap (with_bytes (with_open old dash (result_head setup header)))
+                  (ap (rows_above setup page) (sym one) ∙ above_next setup page some high Y ∙ ap (λ (l : List ℕ). rows_above setup page Y ++ l) (sym (take_all (length (result_row setup page Y)) (result_row setup page Y) (omega arith)))),
             ),
       )

@@ -1,12 +1,10 @@
 -- What is there of a document.
-use Rattle.std.proofs.Common.{◌≡◌, ℕ, suc, ◌+◌, ◌-◌, ◌*◌, ◌≤◌, ◌<◌, ◌⊎◌, inl, inr, List, [], ◌++◌, length, take, get_or, min, refl, ap, sym, ◌∙◌, subst, arith, Option, None, Some, append_assoc, append-nil, length-append}
+use Rattle.std.proofs.Common.{◌≡◌, ℕ, ◌*◌, ◌≤◌, ◌<◌, inl, inr, List, [], ◌++◌, length, take, get_or, min, refl, ap, sym, ◌∙◌, subst, arith, Option, None, Some, append-nil, length-append}
 use Rattle.std.proofs.lemmas.List.{get_or_append_left, take-append-le}
 use Rattle.pt_base.specs.Documents.{Documents, IsCutOff, with_bytes, with_end, with_open, with_whole}
 use Rattle.mk_run.specs.Header.{PageHeader}
-use Rattle.mkbitmap.specs.Box.{Gray}
 use Rattle.mkbitmap.specs.Enlarged.{need}
-use Rattle.mkbitmap.specs.Follows.{IsRow}
-use Rattle.mkbitmap.proofs.Order.{need-rises}
+use Rattle.mkbitmap.proofs.Order.{need-ends, need-rises}
 use Rattle.run_output.specs.Names.{dash}
 use Rattle.filter_words.specs.declared.setup.Setup.{Setup}
 use Rattle.mk_run.specs.Put.{IsCutAt, PutsRows, need_of, rows_above}
@@ -62,3 +60,8 @@ module _ (setup : Setup) (header : PageHeader) (some : 1 ≤ setup.times) (tall 
       let (k, short, front) = front_is setup page some tall head (length all) Y (setup.times * header.height) n within
       (λ y below. let rises = need-rises header.height setup.radius setup.times y Y some tall (omega (arith, below)) in omega (arith, rises, read, more_rows)) most in
       inr (k, short, is ∙ opened_with old dash head (rows_above setup page Y ++ take n (result_row setup page Y)) ∙ ap (with_open old dash) (sym front))
+
+  -- no more rows were read than there are
+  pub cut_few : (rows : List (List ℕ)) (old new : Option Documents) → IsCutAt setup header rows old new → length rows ≤ header.height
+  cut_few rows old new (inl (none, cut)) = rw none (omega arith)
+  cut_few rows old new (inr (Y, within, read, puts)) = let ends = need-ends header.height setup.radius setup.times Y some tall in omega (arith, read, ends)

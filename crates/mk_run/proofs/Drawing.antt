@@ -1,6 +1,6 @@
 -- Rows of the result, one below another.
-use Rattle.std.proofs.Common.{◌≡◌, ℕ, zero, suc, ◌+◌, ◌-◌, ◌*◌, ◌≤◌, ◌<◌, Bool, true, false, List, [], ◌++◌, length, take, refl, ap, sym, ◌∙◌, subst, arith, nat_lt, if◌then◌else◌, append_assoc, append-nil, length-append}
-use Rattle.std.proofs.lemmas.List.{get_or_append_left, take-append-le}
+use Rattle.std.proofs.Common.{◌≡◌, ℕ, zero, suc, ◌+◌, ◌-◌, ◌≤◌, ◌<◌, Bool, true, false, List, [], ◌++◌, length, take, refl, ap, sym, ◌∙◌, arith, nat_lt, if◌then◌else◌, append_assoc, append-nil, length-append}
+use Rattle.std.proofs.lemmas.List.{take-append-le}
 use Rattle.std.proofs.Math.Seq.{take-append-add}
 use Rattle.mkbitmap.specs.Box.{Gray}
 use Rattle.mkbitmap.specs.Enlarged.{need}
@@ -76,5 +76,5 @@ module _ (setup : Setup) (page : Gray) (some : 1 ≤ setup.times) (tall : 1 ≤ 
         length (head ++ above) + m,
         short,
         ap (take (length (head ++ above) + m)) all ∙ take-append-add (head ++ above) (row ++ rest) m
-        ∙ ap (λ (l : List ℕ). (head ++ above) ++ l) (take-append-le m row rest most) ∙ append_assoc head above (take m row),
+            ∙ ap (λ (l : List ℕ). (head ++ above) ++ l) (take-append-le m row rest most) ∙ append_assoc head above (take m row),
       )

@@ -1,12 +1,12 @@
 -- How a run ends that stops at the page's header.
-use Rattle.std.proofs.Common.{◌≡◌, ℕ, ◌≤◌, ◌<◌, ◌⊎◌, inl, inr, Bool, true, false, ◌||◌, List, [], ◌++◌, refl, ap, sym, ◌∙◌, subst, codes, append-nil, Option}
+use Rattle.std.proofs.Common.{◌≡◌, ℕ, ◌⊎◌, inl, inr, Bool, true, false, ◌||◌, List, [], ◌++◌, refl, ap, sym, ◌∙◌, subst, codes, Option}
 use Rattle.pt_base.specs.Counts.{Rose, next_count}
-use Rattle.pt_base.specs.Files.{Files, Lacks, with_file}
+use Rattle.pt_base.specs.Files.{Files, Lacks}
 use Rattle.bitmap_input.specs.Cut.{Cut, Kind, is_by_end, ◌>>=◌}
 use Rattle.bitmap_input.specs.Cut.Ending.{End, Trailing, Refused}
 use Rattle.bitmap_input.specs.Cut.Cut.{Takes, Stops}
 use Rattle.bitmap_input.specs.FaultText.{cause_text, kind_text}
-use Rattle.bitmap_input.specs.GrayReader.{FailsToRead, GivesHead, GraySource, Refuses, gray_at_start}
+use Rattle.bitmap_input.specs.GrayReader.{GivesHead, GraySource, gray_at_start}
 use Rattle.bitmap_input.specs.GrayRows.{gray_header}
 use Rattle.bitmap_input.specs.Reading.{AtEnd, Cause, CountsBy, cause_of_fault}
 use Rattle.bitmap_input.specs.declared.fault.InFault.{InFault}
@@ -22,9 +22,8 @@ use Rattle.run_output.specs.Names.{dash}
 use Rattle.run_output.specs.Told.{Sinks, Source, Told}
 use Rattle.small_program.specs.Input.{HasTaken, TellsInput}
 use Rattle.small_program.specs.Outcome.{OnlySays}
-use Rattle.small_program.specs.declared.ending.Ending.{Ending}
 use Rattle.small_program.specs.declared.ending.Ending.TheVariants as ending
-use Rattle.small_program.proofs.Taking.{is_not_missing, is_there, nothing_taken, one_input}
+use Rattle.small_program.proofs.Taking.{is_not_missing, is_there, one_input}
 use Rattle.filter_words.specs.declared.setup.Setup.{Setup}
 use Rattle.mk_run.specs.Head.{StandsBehindHead, StopsHead}
 use Rattle.mk_run.specs.Outcome.{IsPageRun, LeavesOpen, cause_ending, filter_name, page_says}
@@ -171,8 +170,8 @@ header_stands source opened mid reader head openings steady none same_openings s
         gives.by_end,
         cut.settled,
         head_takes (cut.more ++ tail) gives.by_end (record { plain = reader.plain; width = head.width; height = head.height; white = head.maxval }) (reader.bytes ++ tail)
-        (cut_stays gray_header gray_header_stays cut.more tail _ reader.ended cut.is cut.settled empty)
-        ∙ ap (λ (h : PageHeader). Takes gives.by_end h (reader.bytes ++ tail)) (sym same),
+            (cut_stays gray_header gray_header_stays cut.more tail _ reader.ended cut.is cut.settled empty)
+            ∙ ap (λ (h : PageHeader). Takes gives.by_end h (reader.bytes ++ tail)) (sym same),
       );
     }
 

@@ -1,30 +1,28 @@
 -- How a run ends, by what was read of the page and what was written.
-use Rattle.std.proofs.Common.{◌≡◌, ◌≢◌, ℕ, zero, suc, ◌+◌, ◌-◌, ◌*◌, ◌≤◌, ◌<◌, ◌⊎◌, ◌&&◌, inl, inr, Bool, true, false, List, [], ◌∷◌, ◌++◌, length, refl, ap, sym, ◌∙◌, subst, arith, codes, nat_eq, if◌then◌else◌, append_assoc, append-nil, length-append, Option}
+use Rattle.std.proofs.Common.{◌≡◌, ℕ, suc, ◌-◌, ◌≤◌, ◌<◌, ◌&&◌, inl, inr, Bool, true, false, List, [], ◌++◌, length, refl, ap, sym, ◌∙◌, subst, arith, codes, nat_eq, if◌then◌else◌, append_assoc, append-nil, Option}
 use Rattle.pt_base.specs.Counts.{Rose, next_count}
-use Rattle.pt_base.specs.Documents.{Documents}
 use Rattle.pt_base.specs.Failures.{after_err}
-use Rattle.pt_base.specs.Files.{Files, Lacks}
+use Rattle.pt_base.specs.Files.{Files}
 use Rattle.bitmap_input.specs.Cut.{Cut, Kind, is_by_end}
 use Rattle.bitmap_input.specs.Cut.Ending.{Refused}
 use Rattle.bitmap_input.specs.Cut.Cut.{Takes, Stops}
 use Rattle.bitmap_input.specs.FaultText.{kind_text}
 use Rattle.bitmap_input.specs.GrayReader.{FailsToRead, GraySource, Refuses}
 use Rattle.mk_run.specs.Header.{PageHeader, page_header}
-use Rattle.bitmap_input.specs.Reading.{AtEnd, Cause, CountsBy}
-use Rattle.bitmap_input.specs.Reading.Cause.{Says, Device, Memory}
+use Rattle.bitmap_input.specs.Reading.{AtEnd}
+use Rattle.bitmap_input.specs.Reading.Cause.{Says, Device}
 use Rattle.bitmap_input.proofs.GrayHeading.{gray_row_stays}
 use Rattle.bitmap_input.proofs.Telling.{not_true}
-use Rattle.run_output.specs.Messages.{file_line, program_line}
+use Rattle.run_output.specs.Messages.{file_line}
 use Rattle.run_output.specs.Names.{dash}
-use Rattle.run_output.specs.Told.{IsMessage, Sinks, Source, Told}
-use Rattle.small_program.specs.Input.{HasInput, HasTaken, TellsInput}
-use Rattle.small_program.specs.Outcome.{OnlySays, TakesInput, Writes}
+use Rattle.run_output.specs.Told.{IsMessage, Sinks, Source}
+use Rattle.small_program.specs.Outcome.{Writes}
 use Rattle.small_program.specs.declared.ending.Ending.{Ending}
 use Rattle.small_program.specs.declared.ending.Ending.TheVariants as ending
 use Rattle.small_program.proofs.Taking.{is_not_missing, one_input}
 use Rattle.filter_words.specs.declared.setup.Setup.{Setup}
 use Rattle.mk_run.specs.Head.{StandsBehindHead}
-use Rattle.mk_run.specs.Outcome.{HasFiltered, HasHead, IsPageRun, LeavesOpen, filter_name, page_says, rows_behind}
+use Rattle.mk_run.specs.Outcome.{IsPageRun, LeavesOpen, filter_name, page_says, rows_behind}
 use Rattle.mk_run.specs.Put.{IsCutAt}
 use Rattle.mk_run.specs.Result.{result_text}
 use Rattle.mk_run.specs.Rows.{LeavesRows, cut_row, fits_result, head_ending, page_ending, row_before, settled_rows, standing}

@@ -1,11 +1,9 @@
 -- What was taken of standard input, and what it holds.
-use Rattle.std.proofs.Common.{◌≡◌, ℕ, ◌≤◌, Bool, true, List, [], ◌++◌, length, take, drop, refl, ap, sym, ◌∙◌, subst, Option, None, Some, append_assoc, append-nil}
-use Rattle.std.specs.FinMap.{get}
+use Rattle.std.proofs.Common.{◌≡◌, ℕ, Bool, true, List, [], ◌++◌, length, take, drop, refl, ap, sym, ◌∙◌, subst, Option, None, Some, append_assoc}
 use Rattle.std.proofs.lemmas.List.{take-append-drop}
-use Rattle.pt_base.specs.Files.{Files, Opened, with_read}
+use Rattle.pt_base.specs.Files.{Files, with_read}
 use Rattle.bitmap_input.specs.Reading.{AtEnd, Moves}
-use Rattle.run_output.specs.Names.{dash}
-use Rattle.small_program.specs.Input.{HasInput, HasTaken, TellsInput}
+use Rattle.small_program.specs.Input.{HasInput, HasTaken}
 
 -- more was taken
 pub taken_on : (start before now : Option Files) (taken more : List ℕ) (ended ended_now : Bool) → HasTaken start before taken → Moves ended before ended_now now more
@@ -15,7 +13,7 @@ taken_on (Some files) before now taken more ended ended_now (rest, is, same) mov
     let front : more ≡ take (length more) rest = (subst (λ (f : Option Files). Moves ended f ended_now now more) same moves).told in (
       drop (length more) rest,
       is ∙ ap (λ (l : List ℕ). Some (taken ++ l)) (sym (take-append-drop (length more) rest) ∙ ap (λ (l : List ℕ). l ++ drop (length more) rest) (sym front))
-      ∙ ap (λ (l : List ℕ). Some l) (sym (append_assoc taken more (drop (length more) rest))),
+          ∙ ap (λ (l : List ℕ). Some l) (sym (append_assoc taken more (drop (length more) rest))),
       moves.files ∙ ap (λ (f : Option Files). with_read f (length more)) same,
     )
 

@@ -1,5 +1,5 @@
 -- What a run of the program has done.
-use Rattle.std.specs.Prelude.{◌≡◌, ℕ, ◌+◌, ◌<◌, ◌≤◌, ◌⊎◌, Bool, true, false, List, [], ◌++◌, codes, length}
+use Rattle.std.specs.Prelude.{◌≡◌, ℕ, ◌<◌, ◌≤◌, ◌⊎◌, Bool, true, false, List, ◌++◌, codes, length}
 use Rattle.pt_base.specs.Counts.{Rose, next_count}
 use Rattle.pt_base.specs.Documents.{IsCutOff, with_open}
 use Rattle.pt_base.specs.Failures.{after_err}
@@ -15,7 +15,7 @@ use Rattle.mk_run.specs.Header.{PageHeader}
 use Rattle.run_output.specs.Messages.{file_line, file_page_line, program_line}
 use Rattle.run_output.specs.Names.{dash}
 use Rattle.run_output.specs.Told.{IsMessage, Sinks, Source}
-use Rattle.small_program.specs.Input.{HasInput, HasTaken, TellsInput}
+use Rattle.small_program.specs.Input.{HasTaken, TellsInput}
 use Rattle.small_program.specs.Outcome.{FailsInput, LeavesInput, OnlySays, PutsText, TakesInput, Writes}
 use Rattle.small_program.specs.declared.ending.Ending.{Ending}
 use Rattle.small_program.specs.declared.ending.Ending.TheVariants as ending

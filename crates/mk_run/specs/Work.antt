@@ -1,14 +1,10 @@
 -- What a run holds and has done, between rows of the result.
-use Rattle.std.specs.Prelude.{◌≡◌, ℕ, ◌+◌, ◌*◌, ◌/◌, ◌<◌, ◌≤◌, ◌⊎◌, Bool, true, false, List, [], ◌∷◌, ◌++◌, length, get_or, min, take, Option}
-use Rattle.pt_base.specs.Counts.{Rose}
-use Rattle.pt_base.specs.Documents.{Documents, with_bytes, with_open}
-use Rattle.pt_base.specs.Failures.{after_err}
+use Rattle.std.specs.Prelude.{◌≡◌, ℕ, ◌+◌, ◌*◌, ◌/◌, ◌<◌, ◌≤◌, true, false, List, [], ◌++◌, length, get_or, min, Option}
 use Rattle.pt_base.specs.Files.{Files}
 use Rattle.pt_base.specs.declared.limits.TheConstants.{LONGEST_SIDE}
-use Rattle.bitmap_input.specs.Cut.{Cut}
 use Rattle.bitmap_input.specs.Cut.Ending.{End, Trailing, Refused}
 use Rattle.bitmap_input.specs.GrayReader.{FailsToRead, GraySource, Refuses}
-use Rattle.bitmap_input.specs.Reading.{Cause, Moves, cause_of_fault}
+use Rattle.bitmap_input.specs.Reading.{Cause, Moves}
 use Rattle.bitmap_input.specs.Reading.Cause.{Says, Device, Memory}
 use Rattle.bitmap_input.specs.declared.gray_reader.GrayHead.{GrayHead}
 use Rattle.mk_run.specs.Header.{PageHeader}
@@ -16,9 +12,7 @@ use Rattle.mkbitmap.specs.Box.{Gray}
 use Rattle.mkbitmap.specs.Follows.{Follows, HasRoom, IsRow}
 use Rattle.mkbitmap.specs.declared.filter.Filter.{Filter}
 use Rattle.mkbitmap.specs.declared.limits.TheConstants.{GREATEST_LEVEL, GREATEST_TIMES}
-use Rattle.run_output.specs.Names.{dash}
 use Rattle.filter_words.specs.declared.setup.Setup.{Setup}
-use Rattle.mk_run.specs.Result.{result_head, result_row, result_rows}
 use Rattle.mk_run.specs.Rows.{LeavesRows, cut_row}
 use Rattle.mk_run.specs.declared.rooms.Rooms.{Rooms}
 

@@ -65,13 +65,7 @@ fn put_row<I: Inputs, O: Outputs>(
         Err(fault) => return Err(Break::Input(fault)),
     }
     let limit = limit(filter.white, setup.times, setup.level);
-    filter.enlarged(
-        y,
-        setup.times,
-        limit,
-        &mut rooms.mixed,
-        &mut rooms.packed,
-    );
+    filter.enlarged(y, setup.times, limit, &mut rooms.mixed, &mut rooms.packed);
     match write_whole(outs, &rooms.packed) {
         Ok(()) => Ok(()),
         Err(_) => Err(Break::Output),

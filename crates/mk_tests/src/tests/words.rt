@@ -50,10 +50,7 @@ fn help(rt: HostRuntime) -> Result<(), Fail> {
         Case {
             words,
             name: "no input",
-            document: Some((
-                b"usage: mkbitmap [--box R] [--times N] [--level D]\n",
-                true,
-            )),
+            document: Some((b"usage: mkbitmap [--box R] [--times N] [--level D]\n", true)),
             ..PLAIN
         }
         .check(&rt, rt.alloc())?;

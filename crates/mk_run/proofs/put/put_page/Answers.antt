@@ -1,10 +1,9 @@
-use Rattle.std.proofs.Common.{◌≡◌, ℕ, ◌+◌, ◌*◌, ◌≤◌, ◌<◌, inl, inr, List, [], ◌++◌, length, take, refl, ap, sym, ◌∙◌, subst, arith}
-use Rattle.mk_run.specs.Put.{GoesWell, rows_above}
-use Rattle.mk_run.specs.Result.{result_head, result_text, scan_of}
+use Rattle.std.proofs.Common.{ℕ, ◌≤◌, inl, inr, List, [], length, take, refl, ap, ◌∙◌, subst, arith}
+use Rattle.mk_run.specs.Put.{GoesWell}
 use Rattle.mk_run.specs.Work.{header_of}
-use Rattle.pt_base.specs.Documents.{Documents, with_bytes, with_end, with_open}
+use Rattle.pt_base.specs.Documents.{with_bytes, with_open}
 use Rattle.run_output.specs.Names.{dash}
-use Rattle.run_output.specs.Told.{Told, told_of}
+use Rattle.run_output.specs.Told.{told_of}
 use Rattle.mk_run.proofs.Breaking.{down_on, head_put, page_breaks, page_cut, page_put, well_on}
 use Rattle.mk_run.proofs.Cutting.{opened_with}
 use Rattle.mk_run.proofs.Giving.{gives_none}
@@ -52,7 +51,7 @@ returns-in-Ok-end-clause-puts g c =
       gives,
       all,
       page_put c.args.setup (header_of c.args.reader.now) rows _ _ _ _ start.some_times (omega (arith, start.room.some_rows, start.height)) all
-      (head_put _ _ _ dash c.args.head.now _ c.in-Ok.ensures.opened c.in-Ok-write_whole.ensures.appended c.requires.head) puts c.in-Ok-end.ensures.ended,
+          (head_put _ _ _ dash c.args.head.now _ c.in-Ok.ensures.opened c.in-Ok-write_whole.ensures.appended c.requires.head) puts c.in-Ok-end.ensures.ended,
     )
 
 -- its end failed
@@ -68,6 +67,6 @@ returns-in-Err-end-clause-breaks g c =
       gives,
       c.in-Ok-put_rows.ensures.steady,
       inr (page_cut c.args.setup (header_of c.args.reader.now) rows _ _ _ _ start.some_times (omega (arith, start.room.some_rows, start.height)) all
-      (head_put _ _ _ dash c.args.head.now _ c.in-Ok.ensures.opened c.in-Ok-write_whole.ensures.appended c.requires.head) puts c.in-Err-end.ensures.nothing),
+          (head_put _ _ _ dash c.args.head.now _ c.in-Ok.ensures.opened c.in-Ok-write_whole.ensures.appended c.requires.head) puts c.in-Err-end.ensures.nothing),
       down_on _ _ _ well (record { rose = c.in-Err-end.ensures.cause; failed = c.in-Err-end.ensures.failed }),
     )

@@ -1,7 +1,7 @@
 use Rattle.std.proofs.Common.{◌≡◌, ℕ, ◌≤◌, List, ◌++◌, length, take, ap, ◌∙◌, subst}
 use Rattle.std.proofs.lemmas.List.{with_items_is}
 use Rattle.pt_base.specs.Documents.{with_bytes}
-use Rattle.mk_run.specs.Result.{result_row, scan_of}
+use Rattle.mk_run.specs.Result.{scan_of}
 use Rattle.mk_run.specs.Work.{header_of}
 use Rattle.mk_run.proofs.Cutting.{scan_is}
 use Rattle.mk_run.proofs.Giving.{header_stays}

@@ -1,5 +1,4 @@
-use Rattle.std.proofs.Common.{◌≡◌, ℕ, suc, ◌+◌, ◌-◌, ◌*◌, ◌≤◌, ◌<◌, List, ◌++◌, length, refl, ap, sym, ◌∙◌, subst, arith}
-use Rattle.bitmap_input.specs.declared.gray_reader.GrayHead.{GrayHead}
+use Rattle.std.proofs.Common.{◌≡◌, ℕ, ◌+◌, ◌-◌, ◌*◌, ◌≤◌, ◌<◌, ◌++◌, length, ap, sym, ◌∙◌, subst, arith}
 use Rattle.mkbitmap.specs.Enlarged.{after_of}
 use Rattle.mkbitmap.proofs.Order.{need-last}
 use Rattle.mk_run.specs.Put.{PutsRows, need_of}

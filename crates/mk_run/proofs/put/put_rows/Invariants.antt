@@ -1,6 +1,6 @@
 use Rattle.std.proofs.Common.{◌≡◌, ℕ, ◌+◌, ◌-◌, ◌≤◌, true, List, length}
 use Rattle.bitmap_input.specs.Reading.{AtEnd}
-use Rattle.mkbitmap.specs.Enlarged.{after_of, need}
+use Rattle.mkbitmap.specs.Enlarged.{after_of}
 use Rattle.mkbitmap.specs.Follows.{SameSetup}
 use Rattle.run_output.specs.Told.{told_of}
 use Rattle.mk_run.specs.Put.{GoesWell, PutsRows, need_of}
