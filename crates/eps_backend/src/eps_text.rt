@@ -40,7 +40,7 @@ pub fn eps(alloc: Global, trace: &Trace, settings: &Settings) -> Result<Vec<u8>,
 /// The page of a page's trace in a document of several, which has what surrounds its pages.
 ///
 /// Shapes and coordinates are those of the page's own document.
-pub fn ps_page(alloc: Global, trace: &Trace, settings: &Settings) -> Result<Vec<u8>, NoMemory>
+pub fn ps_body(alloc: Global, trace: &Trace, settings: &Settings) -> Result<Vec<u8>, NoMemory>
     requires some { 1 ≤ settings.now.unit }
     requires most { settings.now.unit ≤ 1000 }
     ensures { IfOk result (λ text. text.items ≡ ps_page_text settings.now.unit trace.now) }

@@ -11,7 +11,7 @@ use crate::tracing::{polygons_alone, trace};
 use bit_image::bitmap::Bitmap;
 use dxf_geojson::drawing::dxf;
 use dxf_geojson::features::geojson;
-use eps_backend::eps_text::{eps, ps_page};
+use eps_backend::eps_text::{eps, ps_body};
 use outline_check::text::proofs;
 use pt_base::fault::NoMemory;
 use pt_base::list_text::{points, polygons};
@@ -73,7 +73,7 @@ pub fn document(alloc: Global, page: &Bitmap, settings: &Settings) -> Result<Vec
         }
         Backend::Ps => {
             let trace = trace(alloc, page, settings)?;
-            ps_page(alloc, &trace, settings)
+            ps_body(alloc, &trace, settings)
         }
         Backend::Dxf => {
             let trace = trace(alloc, page, settings)?;
