@@ -5,8 +5,8 @@ usage: beside.py [--marks] [--part X,Y,WIDTH,HEIGHT] [--columns N] [--page PAGE.
 
 Each TRACE.svg is the program's. With --marks, a dot stands where a piece of an outline ends, and a square at each
 corner. With --part, only that part of each drawing is shown, in pixels from the upper left. With --columns, so many
-drawings stand in a row, and are larger. With --page, the pixels of a PGM page come first, plain, or raw of one byte a
-sample; a trace of it that was made larger is shown at the page's size.
+drawings stand in a row, and are larger. With --page, the pixels of a PGM page come first, plain, or raw
+with 255 for white; a trace of it that was made larger is shown at the page's size.
 """
 import argparse
 import base64
@@ -25,18 +25,26 @@ GAP, TEXT = 14, 22
 INK, LINE, CORNER = "#222", "#0b57a4", "#c8321e"
 
 
+def stored(data):
+    """The data as zlib's format has it, but not compressed: so it has the same bytes everywhere."""
+    pieces = [data[at:at + 65535] for at in range(0, len(data), 65535)]
+    blocks = [struct.pack("<BHH", number == len(pieces), len(it), 65535 - len(it)) + it for number, it in enumerate(pieces, 1)]
+    return b"\x78\x01" + b"".join(blocks) + struct.pack(">I", zlib.adler32(data))
+
+
 def image_of(name):
-    """The sides of a raw PGM page, and its samples as an image, not compressed: so it has the same bytes everywhere."""
+    """The sides of a raw PGM page, and its samples as an image (PNG)."""
     with open(name, "rb") as file:
-        _, width, height, _, samples = re.sub(b"#.*\n", b"", file.read(), count=1).split(maxsplit=4)
-    width, height = int(width), int(height)
+        page = file.read()
+    head = re.match(rb"P5\s+(?:#.*\n)?(\d+) (\d+)\s255\s", page)
+    width, height, samples = int(head.group(1)), int(head.group(2)), page[head.end():]
 
     def chunk(kind, data):
         return struct.pack(">I", len(data)) + kind + data + struct.pack(">I", zlib.crc32(kind + data))
 
     rows = b"".join(b"\0" + samples[at:at + width] for at in range(0, width * height, width))
     png = b"\x89PNG\r\n\x1a\n" + chunk(b"IHDR", struct.pack(">IIBBBBB", width, height, 8, 0, 0, 0, 0))
-    png += chunk(b"IDAT", zlib.compress(rows, 0)) + chunk(b"IEND", b"")
+    png += chunk(b"IDAT", stored(rows)) + chunk(b"IEND", b"")
     return width, height, f'<image width="{width}" height="{height}" href="data:image/png;base64,{base64.b64encode(png).decode()}"/>'
 
 
