@@ -48,17 +48,22 @@ CASES = [
     ("potrace sub/", "page.pbm", "gray.PGM"),
     ("potrace -s -- g", "gray.PGM", "--svg"),
     ("potrace -o d", "drawing.svg", "gray.PGM"),
+    ("mkbitmap --", "--box --times --level --help", "--turdsize"),
+    ("mkbitmap --t", "--times", "--box"),
+    ("mkbitmap --box ", "0 2 4 8 16 32 64", "--times"),
+    ("mkbitmap --times ", "1 2 3 4 8", "--box"),
+    ("mkbitmap --level=0.4", "0.4 0.45 0.48", "0.35"),
 ]
 
 # Readline's own splitting of a line, and the function's answer.
 ASK_BASH = r"""
-. "$1/potrace.bash"
+. "$1/${2%% *}.bash"
 compopt() { :; }
 line=${2//=/ = }
 read -ra COMP_WORDS <<<"$line"
 [[ $line != *" " ]] || COMP_WORDS+=("")
 COMP_CWORD=$((${#COMP_WORDS[@]} - 1))
-_potrace
+"_${2%% *}"
 printf '%s\n' "${COMPREPLY[@]}"
 """
 
@@ -114,7 +119,7 @@ for line, wanted, unwanted in CASES:
 print(f"bash: {len(CASES)} lines completed")
 
 bash = on_terminal(["bash", "--norc", "--noprofile", "-i"])
-os.write(bash, f"PS1='ready> '; . '{FOLDER}/potrace.bash'; bind 'set show-all-if-ambiguous on'; bind 'set page-completions off'\n".encode())
+os.write(bash, f"PS1='ready> '; . '{FOLDER}/potrace.bash'; . '{FOLDER}/mkbitmap.bash'; bind 'set show-all-if-ambiguous on'; bind 'set page-completions off'\n".encode())
 read_screen(bash)
 for line, wanted, unwanted in CASES:
     check("bash on a terminal", line, offered_on(bash, line, b"\t"), wanted if " " in wanted else wanted[-3:], unwanted)

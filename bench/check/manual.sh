@@ -1,23 +1,24 @@
 #!/usr/bin/env bash
 # Tries the manual pages: they must be well-formed, and each of their examples must work as it stands.
 #
-# usage: bench/check/manual.sh [PROGRAM [FILLER [CHECKER]]]
+# usage: bench/check/manual.sh [PROGRAM [FILLER [CHECKER [FILTER]]]]
 #
-# The examples are taken from docs/potrace.1, docs/point_fill.1 and docs/outline_check.1 and run one after another in a folder
-# with the pages that they name; the documents that they speak of must then be there and be read by a parser. The batch queue,
-# and the host that ssh reaches, are played by the shell. PROGRAM, FILLER and CHECKER are ours, and are built if they aren't
-# given. It needs Debian's packages mandoc, man-db, imagemagick, poppler-utils, parallel and rsync, and python3. It is no
-# part of the gate.
+# The examples are taken from docs/potrace.1, docs/point_fill.1, docs/outline_check.1 and docs/mkbitmap.1 and run one after
+# another in a folder with the pages that they name; the documents that they speak of must then be there and be read by a
+# parser. The batch queue, and the host that ssh reaches, are played by the shell. PROGRAM, FILLER, CHECKER and FILTER are
+# ours, and are built if they aren't given. It needs Debian's packages mandoc, man-db, imagemagick, poppler-utils, ghostscript,
+# parallel and rsync, and python3. It is no part of the gate.
 set -euo pipefail
 
 top=$(cd "$(dirname "$(readlink -f "${BASH_SOURCE[0]}")")/../.." && pwd)
-for tool in mandoc man convert pdftoppm python3 find xargs parallel rsync; do
+for tool in mandoc man convert pdftoppm ps2pdf python3 find xargs parallel rsync; do
   command -v "$tool" >/dev/null || { echo "manual: $tool is missing" >&2; exit 2; }
 done
 program=$(readlink -f "${1:-$top/potrace}")
 filler=$(readlink -f "${2:-$top/point_fill}")
 checker=$(readlink -f "${3:-$top/outline_check}")
-manuals=("$top/docs/potrace.1" "$top/docs/point_fill.1" "$top/docs/outline_check.1")
+filter=$(readlink -f "${4:-$top/mkbitmap}")
+manuals=("$top/docs/potrace.1" "$top/docs/point_fill.1" "$top/docs/outline_check.1" "$top/docs/mkbitmap.1")
 work=$(mktemp -d)
 trap 'rm -rf "$work"' EXIT
 
@@ -51,6 +52,7 @@ cd "$work/at"
 ln -s "$program" "$work/bin/potrace"
 ln -s "$filler" "$work/bin/point_fill"
 ln -s "$checker" "$work/bin/outline_check"
+ln -s "$filter" "$work/bin/mkbitmap"
 cat >"$work/bin/ssh" <<END
 #!/bin/sh
 # Behind the host's name stands a command, for a shell in the host's home.
@@ -72,7 +74,9 @@ PATH=$work/bin:$PATH
 python3 "$top/bench/pages.py" scan 400 300 >scan.pbm
 python3 "$top/bench/pages.py" map 300 200 40 >mask.pbm
 cp "$top/examples/ampersand.pbm" logo.pbm
+cat scan.pbm mask.pbm >book.pbm
 cp "$top/examples/gray.pgm" .
+cp "$top/examples/rose.pgm" note.pgm
 cp scan.pbm 'scans/first page.pbm'
 cp scan.pbm scans/second.pbm
 cp mask.pbm third.pbm
@@ -106,7 +110,7 @@ while IFS= read -r -d '' example; do
 done <"$work/examples"
 
 documents=(scan.svg smooth.svg mask.json logo.dxf 'scans/first page.svg' scans/second.svg third.svg 'fourth page.svg'
-  level-0.35.svg level-0.5.svg level-0.65.svg photo.svg letter.svg letter-2.svg)
+  level-0.35.svg level-0.5.svg level-0.65.svg photo.svg letter.svg letter-2.svg gray.svg note.svg)
 python3 - "${documents[@]}" <<'END'
 import json
 import sys

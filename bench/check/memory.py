@@ -1,15 +1,15 @@
 #!/usr/bin/env python3
 """Refuses one growth of memory after another, and looks at how each run ends.
 
-usage: memory.py PROGRAM [TESTS] [NAME=PROGRAM ..]
+usage: memory.py [PROGRAM [TESTS]] [NAME=PROGRAM ..]
 
 PROGRAM is run on small pages, over real files and streams, with its first request for memory refused, then with its
 second one, and so on until a run asks less often. Each run has to end with its whole answer, or with status 5, `potrace:
 out of memory` as its last message, and only whole documents, the first ones, written. TESTS is the program of the
 tests, crates/run_tests/out/run_tests_tests, which `rt test` leaves there; its test `memory_refused` does the same over
 files and documents in memory, and has to pass each time. A library that stands before the C library's malloc, calloc
-and realloc counts and refuses. NAME is another program, `point_fill`, which reads a text and writes a document, and
-PROGRAM where it stands: with status 5 it may write nothing. It needs python3 and a C compiler, cc, on Linux with glibc.
+and realloc counts and refuses. NAME is another program, `point_fill` or `mkbitmap`, which read standard input and write a document,
+and PROGRAM where it stands: with status 5 it may write nothing. It needs python3 and a C compiler, cc, on Linux with glibc.
 """
 import os
 import shutil
@@ -70,8 +70,14 @@ ROWS = [
     ("-b points -t 0 --workers 1 a.pbm b.pbm", b""),
     ("-b points -t 0 --workers 4 a.pbm b.pbm", b""),
 ]
-# Of another program, texts that it reads, with a word or without one.
-SMALL = {"point_fill": [("", b"points 2 2 2\n+ 1 0,2 0,1 1,1 1,2\n+ 1 1,1 1,0 2,0 2,1\n"), ("", b"points"), ("-h", b"")]}
+# Of another program, texts that it reads, with words or without one.
+SMALL = {
+    "point_fill": [("", b"points 2 2 2\n+ 1 0,2 0,1 1,1 1,2\n+ 1 1,1 1,0 2,0 2,1\n"), ("", b"points"), ("-h", b"")],
+    "mkbitmap": [
+        ("", b"P2 2 2 9 0 9 9 0\n"), ("--box 64 --times 8 --level 0.5", b"P5 9 9 255\n" + bytes(81)), ("", b"P5 2 3 255\n" + bytes(5)),
+        ("", b"P4"), ("-h", b""), ("-q", b""),
+    ],
+}
 # Of the two files: their documents, in order, and the note that is said behind so many of them.
 DOCUMENTS = ["a.points", "a-2.points", "b.points", "b-2.points"]
 OUT_OF_MEMORY = b"potrace: out of memory\n"
@@ -157,7 +163,7 @@ def sweep_test(library, tests, name):
 def main():
     others = dict(word.split("=", 1) for word in sys.argv[1:] if "=" in word)
     words = [word for word in sys.argv[1:] if "=" not in word]
-    if len(words) not in (1, 2) or not {*others} <= {*SMALL}:
+    if len(words) > 2 or not words and not others or not {*others} <= {*SMALL}:
         sys.exit(__doc__)
     if not shutil.which("cc"):
         sys.exit("memory: cc is missing")
@@ -170,7 +176,7 @@ def main():
         for name, data in FILES.items():
             with open(os.path.join(folder, name), "wb") as it:
                 it.write(data)
-        for line, data in ROWS:
+        for line, data in ROWS if words else ():
             calls, ended, wrong = sweep(library, os.path.abspath(words[0]), line, data, folder)
             failed += len(wrong)
             print(f"{line}: asks {calls} times, {ended} refusals end with status 5, wrong after {wrong or 'none'}", flush=True)

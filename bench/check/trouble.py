@@ -1,14 +1,15 @@
 #!/usr/bin/env python3
 """Runs the built programs where devices fail, memory is short and input never ends.
 
-usage: trouble.py POTRACE [NAME=PROGRAM ..]
+usage: trouble.py [POTRACE] [NAME=PROGRAM ..]
 
-NAME is another program, `point_fill` or `outline_check`, and PROGRAM where it stands. Each line says what came: the status, the message and how many bytes of documents. A case fails where none of the
-answers that docs/FORMATS.md allows there came, and the status is then 1. It needs python3, two processors or more
-for the workers' case, and 4 GB of memory for the longest texts. As root it tries the folder that may not be written in as
-the user 65534.
+NAME is another program, `point_fill`, `outline_check` or `mkbitmap`, and PROGRAM where it stands. Each line says what
+came: the status, the message and how many bytes of documents. A case fails where none of the answers that
+docs/FORMATS.md allows there came, and the status is then 1. It needs python3, two processors or more for the workers'
+case, and 4 GB of memory for the longest texts. As root it tries the folder that may not be written in as the user 65534.
 """
 import collections
+import functools
 import io
 import os
 import resource
@@ -193,16 +194,21 @@ def endless(it):
         (b"BM", b"\0", (2, b"", fault(b"-", b"unsupported BMP kind"))),
         (b"BM", b"\xff", (2, b"", fault(b"-", b"unsupported BMP kind"))),
     ):
-        process = it.start(POLYGONS)
-        writer = threading.Thread(target=feed, args=(process.stdin, front, byte * 65536))
-        writer.start()
-        kill = threading.Timer(LIMIT, process.kill)
-        kill.start()
-        out, said = process.stdout.read(), process.stderr.read()
-        status = process.wait()
-        kill.cancel()
-        writer.join()
-        it.expect(f"{front[:14]!r} and then {byte!r} without end", Ran(status, out, said), answer)
+        it.expect(f"{front[:14]!r} and then {byte!r} without end", run_endless(it, POLYGONS, front, byte), answer)
+
+
+def run_endless(it, words, front, byte):
+    """What comes of some bytes with one behind them again and again."""
+    process = it.start(words)
+    writer = threading.Thread(target=feed, args=(process.stdin, front, byte * 65536))
+    writer.start()
+    kill = threading.Timer(LIMIT, process.kill)
+    kill.start()
+    out, said = process.stdout.read(), process.stderr.read()
+    status = process.wait()
+    kill.cancel()
+    writer.join()
+    return Ran(status, out, said)
 
 
 def feed(pipe, front, piece):
@@ -312,12 +318,109 @@ def small(it, name):
     os.close(ends[1])
 
 
+# A gray page whose dark pixels these words make black, and the bits of its rows.
+AS_IT_IS = ["--box", "0", "--times", "1", "--level", "0.5"]
+BITS = b"\x80\x41\x3c\xff"
+HEAD = b"P5\n8 4\n255\n"
+GRAY = HEAD + bytes(0 if byte >> bit & 1 else 255 for byte in BITS for bit in range(7, -1, -1))
+USAGE = b"usage: mkbitmap [--box R] [--times N] [--level D]\n"
+
+
+def rows_of(count):
+    """The document with so many of its rows."""
+    return b"P4\n8 4\n" + BITS[:count]
+
+
+def filter_words(it):
+    """What the words of mkbitmap ask for."""
+    said = lambda what: b"mkbitmap: %s\n" % what
+    it.expect("mkbitmap: a page", it.run(AS_IT_IS, GRAY), (0, rows_of(4), b""))
+    for words in (["-h"], ["--help"], ["--box", "3", "-h"]):
+        it.expect(f"mkbitmap: {' '.join(words)}", it.run(words), (0, USAGE, b""))
+    refused = (1, b"", said(b"bad arguments, see mkbitmap -h"))
+    for words in ("x", "-q", "-v", "--box 65", "--box", "--times 0", "--times 9", "--level 1.1", "--level -0.1", "--level 1e0",
+                  "--box 4 --box 4", "a" * 5000):
+        it.expect(f"mkbitmap: {words[:40]}", it.run(words.split(), GRAY), refused)
+    it.expect("mkbitmap: an empty word", it.run([""], GRAY), refused)
+    it.expect("mkbitmap: a word that isn't UTF-8", it.run([b"\xff\xfe"], GRAY), (1, b"", said(b"bad arguments")))
+
+
+def filter_pages(it):
+    """Pages that mkbitmap refuses or that never end, and the rows that are written before."""
+    page = lambda what: b"mkbitmap: -: page 1: %s\n" % what
+    shown = (0, 6, len(HEAD), len(GRAY) - 9, len(GRAY) - 1)
+    for at in range(len(GRAY)):
+        whole = (at - len(HEAD)) // 8
+        out = b"" if whole < 0 else rows_of(max(0, whole - 1))
+        allowed = [(2, out, page(reason)) for reason in (b"truncated", b"unknown format")[:1 if at > 1 else 2]]
+        came = it.run(AS_IT_IS, GRAY[:at])
+        if at in shown or tuple(came) not in allowed:
+            it.expect(f"mkbitmap: a page cut behind {at} bytes", came, *allowed)
+    for text, out, reason in (
+        *((text, b"", b"unknown format") for text in (b"P4 8 8 ", b"P1 1 1 1", b"P3 1 1 9 1 2 3", b"P6 1 1 9 abc", b"BM")),
+        *((text, b"", b"bad header") for text in (b"P2 1 1 0 0", b"P2 1 1 65536 0", b"P2 x")),
+        (b"P2 0 1 9 ", b"", b"zero side"),
+        (b"P5 32768 1 9 ", b"", b"side too large"),
+        (b"P5 16384 1 9 ", b"", b"result too large"),
+        (b"P2 1 1 9 -1", b"P4\n2 2\n", b"bad raster"),
+    ):
+        it.expect(f"mkbitmap: {text!r}", it.run([], text), (2, out, page(reason)))
+    long = (2, rows_of(0), page(b"gap too long"))
+    it.expect("mkbitmap: a sample without end", run_endless(it, AS_IT_IS, b"P2 8 4 9 ", b"7"), long)
+    it.expect("mkbitmap: a gap without end", run_endless(it, AS_IT_IS, b"P2 8 4 9 9", b" "), long)
+    for byte, reason in ((b"\0", b"unknown format"), (b"#", b"unknown format"), (b" ", b"gap too long")):
+        it.expect(f"mkbitmap: {byte!r} without end", run_endless(it, [], b"", byte), (2, b"", page(reason)))
+    for byte in (b"\0", b" "):
+        it.expect(f"mkbitmap: a page, and then {byte!r} without end", run_endless(it, AS_IT_IS, GRAY, byte), (0, rows_of(4), b""))
+    it.expect("mkbitmap: the widest page", it.run(["--times", "1"], b"P5 32767 2000 255\n" + bytes(32767 * 2000)),
+              (0, b"P4\n32767 2000\n" + bytes(4096 * 2000), b""))
+    it.expect("mkbitmap: a bitmap of 32,760 pixels a side", it.run(["--times", "8"], b"P5 4095 4095 255\n" + bytes(4095 * 4095)),
+              (0, b"P4\n32760 32760\n" + bytes(4095 * 32760), b""))
+
+
+def filter_devices(it):
+    """Streams that fail mkbitmap, and little memory."""
+    said = lambda what: b"mkbitmap: %s\n" % what
+    unread, unwritten = said(b"-: page 1: read fault"), said(b"-: write fault")
+    place = os.open(it.folder, os.O_RDONLY)
+    it.expect("mkbitmap: a folder for standard input", it.run([], stdin=place), (3, b"", unread))
+    os.close(place)
+    ran = it.run([], stdin=subprocess.DEVNULL, preexec_fn=lambda: os.close(0))
+    it.expect("mkbitmap: no standard input", ran, (3, b"", unread), (3, b"", said(b"-: cannot be opened")))
+    with open("/dev/full", "wb") as full:
+        it.expect("mkbitmap: a full standard output", it.run([], GRAY, stdout=full), (4, b"", unwritten))
+        it.expect("mkbitmap: the same for help", it.run(["-h"], stdout=full), (4, b"", unwritten))
+        it.expect("mkbitmap: a full standard error", it.run(["-q"], stderr=full), (1, b"", b""))
+        it.expect("mkbitmap: a full standard error and a page cut short", it.run(AS_IT_IS, GRAY[:-1], stderr=full), (2, rows_of(2), b""))
+    ends = os.pipe()
+    os.close(ends[0])
+    it.expect("mkbitmap: a closed pipe", it.run([], GRAY, stdout=ends[1]), (4, b"", unwritten))
+    os.close(ends[1])
+    it.expect("mkbitmap: no standard output", it.run([], GRAY, preexec_fn=lambda: os.close(1)), (4, b"", unwritten))
+    wide = b"P5 32767 8 255\n" + bytes(32767 * 8)
+    whole = (0, b"P4\n32767 8\n" + bytes(4096 * 8), b"")
+    for limit in (2, 3, 4, 5, 6, 8, 12, 16):
+        bound = lambda: resource.setrlimit(resource.RLIMIT_AS, (limit << 20, limit << 20))
+        ran = it.run(["--times", "1", "--box", "64"], wide, preexec_fn=bound)
+        if ran.status == 127 and b"error while loading" in ran.said:
+            ran = Ran("not started", b"", b"")
+        it.expect(f"mkbitmap: {limit} MB of memory", ran, whole, (5, b"", said(b"out of memory")), ("not started", b"", b""))
+
+
+# Of each program, what is tried with it.
+PARTS = {
+    "potrace": (outputs, inputs, endless, memory, workers),
+    **{name: (functools.partial(small, name=name),) for name in SMALL},
+    "mkbitmap": (filter_words, filter_pages, filter_devices),
+}
+
+
 def main():
-    programs = dict(word.split("=", 1) for word in sys.argv[2:] if "=" in word)
-    if len(sys.argv) < 2 or len(programs) != len(sys.argv) - 2 or not {*programs} <= {*SMALL}:
+    programs = dict(word.split("=", 1) if "=" in word else ("potrace", word) for word in sys.argv[1:])
+    if not programs or len(programs) != len(sys.argv) - 1 or not {*programs} <= {*PARTS}:
         sys.exit(__doc__)
     failed = 0
-    for name, path in {"potrace": sys.argv[1], **programs}.items():
+    for name, path in programs.items():
         if not os.access(path, os.X_OK):
             sys.exit(f"trouble: {path} is no program")
         with tempfile.TemporaryDirectory() as folder:
@@ -325,7 +428,7 @@ def main():
             program = os.path.join(folder, name)
             shutil.copy(path, program)
             it = Trouble(program, folder)
-            for part in (outputs, inputs, endless, memory, workers) if name == "potrace" else (lambda it: small(it, name),):
+            for part in PARTS[name]:
                 part(it)
             failed += it.failed
     print(f"{failed} failed")
