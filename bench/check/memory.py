@@ -62,6 +62,7 @@ ROWS = [
     ("-b polygons -t 0", RINGS),
     ("-s -t 0", PIXEL),
     ("-e -t 0", RINGS),
+    ("-b ps -t 0", PIXEL + RINGS),
     ("-b dxf -a 0 -t 0", PIXEL),
     ("-b geojson -t 0", RINGS),
     ("--demo 3", b""),
