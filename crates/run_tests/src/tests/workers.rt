@@ -44,7 +44,10 @@ fn expect_limit(rt: &impl Abort, words: &str, done: &Done) {
     );
     let page = (b"-".as_slice(), b"points 1 1 0\n".as_slice(), true);
     for i in 0..65_536 {
-        assert!(rt; document_at(&done.outs, i) == Some(page), "{words}: document {i}");
+        assert!(rt;
+            document_at(&done.outs, i) == Some(page),
+            "{words}: document {i}"
+        );
     }
 }
 
