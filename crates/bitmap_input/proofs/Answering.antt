@@ -20,7 +20,7 @@ use Rattle.bitmap_input.specs.declared.extent.ReadPage.{ReadPage}
 use Rattle.bitmap_input.specs.Front.{Answer, front, page_at, answer_of}
 use Rattle.bitmap_input.specs.Front.Answer.{Page, Ends}
 use Rattle.bitmap_input.specs.FilePages.{next_begins}
-use Rattle.bitmap_input.specs.Reading.{Held, AtEnd, Moves, AreNeeded, Cause, cause_of, cause_of_fault, StopsBy, Reads, CountsBy}
+use Rattle.bitmap_input.specs.Reading.{Buffered, AtEnd, Moves, AreNeeded, Cause, cause_of, cause_of_fault, StopsBy, Reads, CountsBy}
 use Rattle.bitmap_input.specs.Reading.Cause.{Says, Device, Memory}
 use Rattle.bitmap_input.specs.Reader.{Reader, is_later, ahead, Answers, GivesPage, GivesEnding, ReadFails, MemoryFails, TellsPage, IfSays, IsAnswer}
 use Rattle.bitmap_input.proofs.FrontStays.{front_stays}
@@ -30,7 +30,7 @@ use Rattle.bitmap_input.proofs.FrontKeeps.{rest_behind}
 use Rattle.bitmap_input.proofs.Behind.{forget, forget-page, is_by_end-forget, stops_forget, begins_behind, front_within, begins_with_more, ahead_with_more}
 
 -- a reader that holds this
-abbrev pub reader_of : Held → ℕ → ℕ → Bool → Reader
+abbrev pub reader_of : Buffered → ℕ → ℕ → Bool → Reader
 reader_of h skip pages over = record { bytes = h.bytes; skip = skip; pages = pages; ended = h.ended; over = over }
 
 -- Where the file's rest is told.
@@ -81,7 +81,7 @@ left_behind used skipped begins taken tail within least is =
     let n : used + skipped ≡ begins = omega arith in
     ap (drop skipped) (sym (drop-append-le used taken tail within)) ∙ drop-drop skipped used (taken ++ tail) ∙ ap (λ m. drop m (taken ++ tail)) n
 
-module _ (level : ℕ) (invert : Bool) (h h2 : Held) (skip skip2 pages pages2 : ℕ) (was over : Bool) (before now : Option Files) where
+module _ (level : ℕ) (invert : Bool) (h h2 : Buffered) (skip skip2 pages pages2 : ℕ) (was over : Bool) (before now : Option Files) where
   abbrev pub old : Reader
   old = reader_of h skip pages was
 

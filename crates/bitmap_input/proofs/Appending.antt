@@ -8,9 +8,9 @@ use Rattle.bitmap_input.specs.Cut.{Kind, Ending, Cut, is_by_end, after, ◌>>=�
 use Rattle.bitmap_input.specs.Cut.Kind.{BadHeader, ZeroSide, TooLarge, BadRaster}
 use Rattle.bitmap_input.specs.Cut.Ending.{Refused}
 use Rattle.bitmap_input.specs.Cut.Cut.{Takes, Stops}
-use Rattle.bitmap_input.specs.Parts.{longest, is_zero, is_empty, is_space, is_digit, run_length, gap_length, missing, run_of, spaces, gap, some_gap, value, number, number_behind_gap, space, pixel, block, times}
+use Rattle.bitmap_input.specs.Parts.{longest, is_zero, is_empty, is_space, is_digit, run_length, gap_length, missing, run_of, spaces, gap, some_gap, value, number, number_behind_gap, space, pixel, block, repeated}
 use Rattle.bitmap_input.specs.Raw.{Entry, entries_page, row_bytes, unpacked}
-use Rattle.bitmap_input.specs.Front.{Magic, no_magic, magic_of_name, magic_named, magic_behind, magic, checked, sides, checked_maxval, maxval, greatest_maxval, plain_pixel, raw_row, raster}
+use Rattle.bitmap_input.specs.Front.{Magic, no_magic, magic_of_name, magic_named, magic_behind, magic, checked, sides, checked_maxval, maxval, greatest_maxval, plain_pixel, raw_row, rows_raster}
 use Rattle.bitmap_input.specs.Samples.{samples_in, plain_sample, plain_samples, is_wide, sample_bytes, samples, grouped, raw_samples_row}
 use Rattle.bitmap_input.specs.declared.channels.Channels.{Channels}
 use Rattle.bitmap_input.specs.declared.channels.Channels.TheVariants.{Gray, Color}
@@ -172,12 +172,12 @@ block_at false n bytes more test not_end =
 pub block_stays : (n : ℕ) → Stays (block n)
 block_stays n bytes more not_end = block_at (nat_lt (length bytes) n) n bytes more refl not_end
 
-pub times_stay : {A : Type 0} (part : List ℕ → Cut A) → Stays part → (n : ℕ) → Stays (times part n)
+pub times_stay : {A : Type 0} (part : List ℕ → Cut A) → Stays part → (n : ℕ) → Stays (repeated part n)
 times_stay part stays zero bytes more not_end = refl
 times_stay part stays (suc n) bytes more not_end =
-    stays_bind (part bytes) (part (bytes ++ more)) (λ x rest. times part n rest >>= λ xs rest. Takes false (x ∷ xs) rest)
+    stays_bind (part bytes) (part (bytes ++ more)) (λ x rest. repeated part n rest >>= λ xs rest. Takes false (x ∷ xs) rest)
     more
-    (λ x bytes more not_end. stays_bind (times part n bytes) (times part n (bytes ++ more))
+    (λ x bytes more not_end. stays_bind (repeated part n bytes) (repeated part n (bytes ++ more))
     (λ xs rest. Takes false (x ∷ xs) rest) more (λ xs. take_stays false (x ∷ xs)) (times_stay part stays n bytes more) not_end)
     (stays bytes more) not_end
 
@@ -258,14 +258,14 @@ plain_samples_stay Color bytes more not_end =
     (plain_sample_stays bytes more) not_end)
     (plain_sample_stays bytes more) not_end
 
-pub raw_samples_row_stays : (c : Channels) (white width : ℕ) → Stays (raw_samples_row c white width)
-raw_samples_row_stays c white width bytes more not_end =
-    stays_bind (block (sample_bytes white (samples_in c * width)) bytes) (block (sample_bytes white (samples_in c * width)) (bytes ++ more))
-    (λ row rest. Takes false (grouped c (samples (is_wide white) row)) rest) more
-    (λ row. take_stays false (grouped c (samples (is_wide white) row))) (block_stays (sample_bytes white (samples_in c * width)) bytes more) not_end
+pub raw_samples_row_stays : (c : Channels) (maxval width : ℕ) → Stays (raw_samples_row c maxval width)
+raw_samples_row_stays c maxval width bytes more not_end =
+    stays_bind (block (sample_bytes maxval (samples_in c * width)) bytes) (block (sample_bytes maxval (samples_in c * width)) (bytes ++ more))
+    (λ row rest. Takes false (grouped c (samples (is_wide maxval) row)) rest) more
+    (λ row. take_stays false (grouped c (samples (is_wide maxval) row))) (block_stays (sample_bytes maxval (samples_in c * width)) bytes more) not_end
 
 pub raster_stays : {A : Type 0} (entry : A → Entry) (row : List ℕ → Cut (List A)) (width height : ℕ) → Stays row →
-    Stays (raster entry row width height)
+    Stays (rows_raster entry row width height)
 raster_stays entry row width height stays bytes more not_end =
-    stays_bind (times row height bytes) (times row height (bytes ++ more)) _ more
+    stays_bind (repeated row height bytes) (repeated row height (bytes ++ more)) _ more
     (λ rows. take_stays false (entries_page entry width height rows)) (times_stay row stays height bytes more) not_end

@@ -8,16 +8,16 @@ use Rattle.bit_image.specs.Page.{Page as Pixels}
 use Rattle.bitmap_input.specs.declared.stop.Stop.{Stop}
 use Rattle.bitmap_input.specs.Cut.{Cut, is_by_end, after, ◌>>=◌}
 use Rattle.bitmap_input.specs.Cut.Cut.{Takes, Stops}
-use Rattle.bitmap_input.specs.Parts.{longest, is_empty, is_space, run_length, run_of, spaces, space, times}
+use Rattle.bitmap_input.specs.Parts.{longest, is_empty, is_space, run_length, run_of, spaces, space, repeated}
 use Rattle.bitmap_input.specs.Raw.{Raw, Entry, entries_page, IsShown}
 use Rattle.bitmap_input.specs.Raw.Entry.{Bit}
-use Rattle.bitmap_input.specs.Front.{Magic, no_magic, magic_of_name, magic_named, magic_behind, magic, sides, maxval, plain_pixel, raw_row, raster, body, page_at, answer_of, front}
+use Rattle.bitmap_input.specs.Front.{Magic, no_magic, magic_of_name, magic_named, magic_behind, magic, sides, maxval, plain_pixel, raw_row, rows_raster, body, page_at, answer_of, front}
 use Rattle.bitmap_input.specs.Samples.{as_entry, plain_samples, raw_samples_row}
 use Rattle.bitmap_input.specs.declared.channels.Channels.{Channels}
 use Rattle.bitmap_input.specs.Front.Magic.{PlainBits, RawBits, PlainSamples, RawSamples}
 use Rattle.bitmap_input.specs.Front.Answer.{Page}
 use Rattle.bitmap_input.specs.FilePages.{next_begins}
-use Rattle.bitmap_input.specs.Reading.{Held, Cause, cause_of, StopsBy, AreNeeded, Reads}
+use Rattle.bitmap_input.specs.Reading.{Buffered, Cause, cause_of, StopsBy, AreNeeded, Reads}
 use Rattle.bitmap_input.specs.Reading.Cause.{Says, Device, Memory}
 use Rattle.bitmap_input.specs.Skip.{passed_over}
 use Rattle.bitmap_input.specs.Behind.{counted, counted_body, counted_page, IsRead, claiming_none}
@@ -39,40 +39,40 @@ value_bind : {A B : Type 0} (P : B → List ℕ → Type 0) (c : Cut A) (g : A �
 value_bind P c g parts = cuts_bind (λ _ _. Unit {0}) P c g (λ e a rest h. tt) (λ x rest _. parts x rest)
 
 rows_claim_none : {A : Type 0} (entry : A → Entry) (row : List ℕ → Cut (List A)) (width height : ℕ) (bytes : List ℕ) →
-    Cuts ClaimsNone (raster entry row width height bytes)
+    Cuts ClaimsNone (rows_raster entry row width height bytes)
 rows_claim_none entry row width height bytes =
-    value_bind ClaimsNone (times row height bytes) (λ rows rest. Takes false (entries_page entry width height rows) rest)
+    value_bind ClaimsNone (repeated row height bytes) (λ rows rest. Takes false (entries_page entry width height rows) rest)
     (λ rows rest. cuts_take ClaimsNone false (entries_page entry width height rows) rest refl)
 
 pub plain_bits_unclaimed : (bytes : List ℕ) → Cuts ClaimsNone (body PlainBits bytes)
 plain_bits_unclaimed bytes =
-    value_bind ClaimsNone (sides bytes) (λ s rest. raster (λ b. Bit b) (times plain_pixel s.0) s.0 s.1 rest)
-    (λ s. rows_claim_none (λ b. Bit b) (times plain_pixel s.0) s.0 s.1)
+    value_bind ClaimsNone (sides bytes) (λ s rest. rows_raster (λ b. Bit b) (repeated plain_pixel s.0) s.0 s.1 rest)
+    (λ s. rows_claim_none (λ b. Bit b) (repeated plain_pixel s.0) s.0 s.1)
 
 pub raw_bits_unclaimed : (bytes : List ℕ) → Cuts ClaimsNone (body RawBits bytes)
 raw_bits_unclaimed bytes =
-    value_bind ClaimsNone (sides bytes) (λ s rest. space rest >>= λ _ rest. raster (λ b. Bit b) (raw_row s.0) s.0 s.1 rest)
-    (λ s rest. value_bind ClaimsNone (space rest) (λ _ rest. raster (λ b. Bit b) (raw_row s.0) s.0 s.1 rest)
+    value_bind ClaimsNone (sides bytes) (λ s rest. space rest >>= λ _ rest. rows_raster (λ b. Bit b) (raw_row s.0) s.0 s.1 rest)
+    (λ s rest. value_bind ClaimsNone (space rest) (λ _ rest. rows_raster (λ b. Bit b) (raw_row s.0) s.0 s.1 rest)
     (λ _. rows_claim_none (λ b. Bit b) (raw_row s.0) s.0 s.1))
 
 pub plain_samples_unclaimed : (c : Channels) (bytes : List ℕ) → Cuts ClaimsNone (body (PlainSamples c) bytes)
 plain_samples_unclaimed c bytes =
-    value_bind ClaimsNone (sides bytes) (λ s rest. maxval rest >>= λ white rest. raster (as_entry c white) (times (plain_samples c) s.0) s.0 s.1 rest)
-    (λ s rest. value_bind ClaimsNone (maxval rest) (λ white rest. raster (as_entry c white) (times (plain_samples c) s.0) s.0 s.1 rest)
-    (λ white. rows_claim_none (as_entry c white) (times (plain_samples c) s.0) s.0 s.1))
+    value_bind ClaimsNone (sides bytes) (λ s rest. maxval rest >>= λ maxval rest. rows_raster (as_entry c maxval) (repeated (plain_samples c) s.0) s.0 s.1 rest)
+    (λ s rest. value_bind ClaimsNone (maxval rest) (λ maxval rest. rows_raster (as_entry c maxval) (repeated (plain_samples c) s.0) s.0 s.1 rest)
+    (λ maxval. rows_claim_none (as_entry c maxval) (repeated (plain_samples c) s.0) s.0 s.1))
 
 pub raw_samples_unclaimed : (c : Channels) (bytes : List ℕ) → Cuts ClaimsNone (body (RawSamples c) bytes)
 raw_samples_unclaimed c bytes =
-    value_bind ClaimsNone (sides bytes) (λ s rest. maxval rest >>= λ white rest. space rest >>= λ _ rest. raster (as_entry c white) (raw_samples_row c white s.0) s.0 s.1 rest)
-    (λ s rest. value_bind ClaimsNone (maxval rest) (λ white rest. space rest >>= λ _ rest. raster (as_entry c white) (raw_samples_row c white s.0) s.0 s.1 rest)
-    (λ white rest. value_bind ClaimsNone (space rest) (λ _ rest. raster (as_entry c white) (raw_samples_row c white s.0) s.0 s.1 rest)
-    (λ _. rows_claim_none (as_entry c white) (raw_samples_row c white s.0) s.0 s.1)))
+    value_bind ClaimsNone (sides bytes) (λ s rest. maxval rest >>= λ maxval rest. space rest >>= λ _ rest. rows_raster (as_entry c maxval) (raw_samples_row c maxval s.0) s.0 s.1 rest)
+    (λ s rest. value_bind ClaimsNone (maxval rest) (λ maxval rest. space rest >>= λ _ rest. rows_raster (as_entry c maxval) (raw_samples_row c maxval s.0) s.0 s.1 rest)
+    (λ maxval rest. value_bind ClaimsNone (space rest) (λ _ rest. rows_raster (as_entry c maxval) (raw_samples_row c maxval s.0) s.0 s.1 rest)
+    (λ _. rows_claim_none (as_entry c maxval) (raw_samples_row c maxval s.0) s.0 s.1)))
 
 is_by_end-counted : {A : Type 0} (bytes : List ℕ) (c : Cut A) → is_by_end (counted bytes c) ≡ is_by_end c
 is_by_end-counted bytes (Takes e a rest) = refl
 is_by_end-counted bytes (Stops e ending) = refl
 
-stops_counted : {A : Type 0} (bytes : List ℕ) (c : Cut A) (why : Cause) (held : Held) → StopsBy c why held → StopsBy (counted bytes c) why held
+stops_counted : {A : Type 0} (bytes : List ℕ) (c : Cut A) (why : Cause) (held : Buffered) → StopsBy c why held → StopsBy (counted bytes c) why held
 stops_counted bytes c (Says ending) held (e, is, settled) = (e, ap (counted bytes) is, settled)
 stops_counted bytes c Device held (by_end, going_on) = (is_by_end-counted bytes c ∙ by_end, going_on)
 stops_counted bytes c Memory held stops = tt
@@ -82,7 +82,7 @@ needed_counted start m n =
     needs_as (λ bytes. counted_body m (start ++ bytes)) (λ bytes still. is_by_end-counted (start ++ bytes) (body m (start ++ bytes)) ∙ still) n
 
 -- such a page, with how many bytes it takes
-pub reads_unclaimed : {old new : Held} {files now : Option Files} {result : Result Pixels Stop} (level : ℕ) (invert : Bool) (m : Magic) →
+pub reads_unclaimed : {old new : Buffered} {files now : Option Files} {result : Result Pixels Stop} (level : ℕ) (invert : Bool) (m : Magic) →
     ((bytes : List ℕ) → Cuts ClaimsNone (body m bytes)) → Reads (IsShown level invert) (body m) old files result new now →
     Reads (IsRead level invert) (counted_body m) old files (claiming_none result) new now
 reads_unclaimed {old} {new} {result = Ok page} level invert m unclaimed r =
@@ -123,7 +123,7 @@ pub is_by_end-forget : {A : Type 0} (c : Cut (A × ℕ)) → is_by_end (forget c
 is_by_end-forget (Takes e p rest) = refl
 is_by_end-forget (Stops e ending) = refl
 
-pub stops_forget : {A : Type 0} (c : Cut (A × ℕ)) (why : Cause) (held : Held) → StopsBy c why held → StopsBy (forget c) why held
+pub stops_forget : {A : Type 0} (c : Cut (A × ℕ)) (why : Cause) (held : Buffered) → StopsBy c why held → StopsBy (forget c) why held
 stops_forget c (Says ending) held (e, is, settled) = (e, ap forget is, settled)
 stops_forget c Device held (by_end, going_on) = (is_by_end-forget c ∙ by_end, going_on)
 stops_forget c Memory held stops = tt

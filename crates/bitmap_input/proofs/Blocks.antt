@@ -15,14 +15,14 @@ use Rattle.bitmap_input.specs.Cut.Kind.{Truncated}
 use Rattle.bitmap_input.specs.Cut.Ending.{Refused}
 use Rattle.bitmap_input.specs.Cut.Cut.{Stops}
 use Rattle.bitmap_input.specs.Parts.{block}
-use Rattle.bitmap_input.specs.Reading.{Held, Moves, AreNeeded, Reads}
+use Rattle.bitmap_input.specs.Reading.{Buffered, Moves, AreNeeded, Reads}
 use Rattle.bitmap_input.specs.Window.{ReadsOn}
 use Rattle.bitmap_input.proofs.Needing.{needs_none, needs_look}
 use Rattle.bitmap_input.proofs.Telling.{stand, move_on}
 use Rattle.bitmap_input.proofs.Running.{two_splits}
 
 -- the first bytes of a block of n bytes were read, `done` of them
-pub record IsBlockSoFar (n : ℕ) (old : Held) (before : Option Files) (done : ℕ) (row : List ℕ) (held : Held) (files : Option Files) : Type 0 where
+pub record IsBlockSoFar (n : ℕ) (old : Buffered) (before : Option Files) (done : ℕ) (row : List ℕ) (held : Buffered) (files : Option Files) : Type 0 where
   pub more : List ℕ
   pub moves : Moves old.ended before held.ended files more
   pub needed : AreNeeded (λ bytes. block n (old.bytes ++ bytes)) more
@@ -33,11 +33,11 @@ no_block : (n : ℕ) (bytes : List ℕ) → length bytes < n → block n bytes �
 no_block n bytes less = let test : nat_lt (length bytes) n ≡ true = lt-ltb (length bytes) n less in rw test refl
 
 -- a block of another length that is the same
-pub block_as : {X : Type 0} {is : X → List ℕ → Type 0} {old new : Held} {files now : Option Files} {result : Result X Stop} {m n : ℕ} →
+pub block_as : {X : Type 0} {is : X → List ℕ → Type 0} {old new : Buffered} {files now : Option Files} {result : Result X Stop} {m n : ℕ} →
     Reads is (block m) old files result new now → m ≡ n → Reads is (block n) old files result new now
 block_as {is = is} {old = old} {new = new} {files = files} {now = now} {result = result} r same = subst (λ k. Reads is (block k) old files result new now) same r
 
-pub block_begins : (n : ℕ) (old : Held) (files : Option Files) (row : List ℕ) → IsBlockSoFar n old files 0 row old files
+pub block_begins : (n : ℕ) (old : Buffered) (files : Option Files) (row : List ℕ) → IsBlockSoFar n old files 0 row old files
 block_begins n old files row = record {
   more = [];
   moves = stand old.ended files;
@@ -45,7 +45,7 @@ block_begins n old files row = record {
   split = append-nil old.bytes;
 }
 
-module _ {old held : Held} {before files : Option Files} {n done : ℕ} {row : List ℕ} (s : IsBlockSoFar n old before done row held files) (less : done < n) where
+module _ {old held : Buffered} {before files : Option Files} {n done : ℕ} {row : List ℕ} (s : IsBlockSoFar n old before done row held files) (less : done < n) where
   -- where no byte is left, the block isn't there
   pub block_is_open : held.bytes ≡ [] → is_by_end (block n (old.bytes ++ s.more)) ≡ true
   block_is_open none =
@@ -53,18 +53,18 @@ module _ {old held : Held} {before files : Option Files} {n done : ℕ} {row : L
       rw whole (ap is_by_end (no_block n (take done row) (rw length-take (omega arith))))
 
   -- the next look reads where it has to
-  pub block_needs : {look : Held} {now : Option Files} → (on : ReadsOn held files look now) →
+  pub block_needs : {look : Buffered} {now : Option Files} → (on : ReadsOn held files look now) →
       AreNeeded (λ bytes. block n (old.bytes ++ bytes)) (s.more ++ on.more)
   block_needs on = needs_look (λ bytes. block n (old.bytes ++ bytes)) s.more s.needed on block_is_open
 
   -- a read failed before all of it was read
-  pub block_fails : {new : Held} {now : Option Files} {is : Unit {0} → List ℕ → Type 0} → new ≡ held → now ≡ files → held.bytes ≡ [] → held.ended ≡ false →
+  pub block_fails : {new : Buffered} {now : Option Files} {is : Unit {0} → List ℕ → Type 0} → new ≡ held → now ≡ files → held.bytes ≡ [] → held.ended ≡ false →
       Reads {X = Unit {0}} is (block n) old before (Err (stop.Fault fault.ReadFault)) new now
   block_fails same same_files none going_on =
       rw (same, same_files) record { more = s.more; moves = s.moves; needed = s.needed; gives = (block_is_open none, going_on) }
 
 -- a read gave nothing before all of it was read
-pub block_is_short : {old held new : Held} {before files now : Option Files} (n done : ℕ) (row now_row : List ℕ) →
+pub block_is_short : {old held new : Buffered} {before files now : Option Files} (n done : ℕ) (row now_row : List ℕ) →
     IsBlockSoFar n old before done row held files → length row ≡ n → done < n → ReadsOn held files new now →
     new.bytes ≡ [] → new.ended ≡ true →
     Reads {X = Unit {0}} (λ _ bytes. bytes ≡ now_row) (block n) old before (Err (stop.Fault fault.Truncated)) new now
@@ -91,7 +91,7 @@ row_front done k row sub within fits =
     subst (λ m. take (m + k) (take done row ++ sub) ≡ take done row ++ take k sub) len (take-append-add (take done row) sub k)
 
 -- k more bytes were read into the row
-pub block_goes_on : {old held look new : Held} {before files now : Option Files} {n : ℕ} (done k : ℕ) (row sub : List ℕ) →
+pub block_goes_on : {old held look new : Buffered} {before files now : Option Files} {n : ℕ} (done k : ℕ) (row sub : List ℕ) →
     IsBlockSoFar n old before done row held files → done < n → ReadsOn held files look now → done ≤ length row → k ≤ length sub →
     take k sub ≡ take k look.bytes → new.bytes ≡ drop k look.bytes → new.ended ≡ look.ended →
     IsBlockSoFar n old before (done + k) (put_mid done (length row - done) row sub) new now

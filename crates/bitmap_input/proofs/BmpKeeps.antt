@@ -6,10 +6,10 @@ use Rattle.bitmap_input.specs.Cut.{Kind, ◌>>=◌}
 use Rattle.bitmap_input.specs.Cut.Kind.{BmpKind, BadOffset}
 use Rattle.bitmap_input.specs.Cut.Ending.{Refused}
 use Rattle.bitmap_input.specs.Cut.Cut.{Takes}
-use Rattle.bitmap_input.specs.Parts.{block, times}
+use Rattle.bitmap_input.specs.Parts.{block, repeated}
 use Rattle.bitmap_input.specs.Sides.{checked}
 use Rattle.bitmap_input.specs.BmpHeader.{header_size, is_known_size, is_known_kind, mask_bytes, has_known_colors, width, height, pixel_offset, palette_bytes, palette_end, row_length, bits, palette_length, color_bytes}
-use Rattle.bitmap_input.specs.BmpRaster.{palette_color, pixel_in, row_of, picture, raster}
+use Rattle.bitmap_input.specs.BmpRaster.{palette_color, pixel_in, bmp_row, picture, raster}
 use Rattle.bitmap_input.specs.Bmp.{passes, start, info, masks, placed, header, bmp}
 use Rattle.bitmap_input.proofs.Keeping.{Keeps, all_rest, keeps_take, keeps_stop, keeps_bind, keeps_block, keeps_times, keeps_checked}
 
@@ -43,7 +43,7 @@ keeps_header bytes =
     (λ head rest. keeps_bind rest (info head rest) (λ head rest. masks head rest >>= λ head rest. placed head rest) (keeps_info head rest)
     (λ head rest. keeps_bind rest (masks head rest) (λ head rest. placed head rest) (keeps_masks head rest) keeps_placed))
 
-keeps_row_of : (head palette bytes : List ℕ) → Keeps bytes (row_of head palette bytes)
+keeps_row_of : (head palette bytes : List ℕ) → Keeps bytes (bmp_row head palette bytes)
 keeps_row_of head palette bytes =
     keeps_bind bytes (block (row_length head) bytes) (λ row rest. Takes false (map (pixel_in (bits head) (palette_color (palette_length head) (color_bytes head) palette) row) (range_with_len 0 (width head))) rest)
     (keeps_block (row_length head) bytes)
@@ -52,13 +52,13 @@ keeps_row_of head palette bytes =
 keeps_raster : (head bytes : List ℕ) → Keeps bytes (raster head bytes)
 keeps_raster head bytes =
     keeps_bind bytes (block (palette_bytes head) bytes)
-    (λ palette rest. block (pixel_offset head - palette_end head) rest >>= λ _ rest. times (row_of head palette) (height head) rest >>= λ rows rest. Takes false (picture head rows) rest)
+    (λ palette rest. block (pixel_offset head - palette_end head) rest >>= λ _ rest. repeated (bmp_row head palette) (height head) rest >>= λ rows rest. Takes false (picture head rows) rest)
     (keeps_block (palette_bytes head) bytes)
     (λ palette rest. keeps_bind rest (block (pixel_offset head - palette_end head) rest)
-    (λ _ rest. times (row_of head palette) (height head) rest >>= λ rows rest. Takes false (picture head rows) rest)
+    (λ _ rest. repeated (bmp_row head palette) (height head) rest >>= λ rows rest. Takes false (picture head rows) rest)
     (keeps_block (pixel_offset head - palette_end head) rest)
-    (λ _ rest. keeps_bind rest (times (row_of head palette) (height head) rest) (λ rows rest. Takes false (picture head rows) rest)
-    (keeps_times (row_of head palette) (keeps_row_of head palette) (height head) rest)
+    (λ _ rest. keeps_bind rest (repeated (bmp_row head palette) (height head) rest) (λ rows rest. Takes false (picture head rows) rest)
+    (keeps_times (bmp_row head palette) (keeps_row_of head palette) (height head) rest)
     (λ rows rest. keeps_take rest false (picture head rows) rest (all_rest rest))))
 
 pub keeps_bmp : (bytes : List ℕ) → Keeps bytes (bmp bytes)

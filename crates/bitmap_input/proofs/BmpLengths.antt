@@ -11,13 +11,13 @@ use Rattle.bitmap_input.specs.Behind.{counted}
 use Rattle.bitmap_input.specs.Cut.Kind.{BmpKind, BadOffset, Truncated, ZeroSide, TooLarge}
 use Rattle.bitmap_input.specs.Cut.Ending.{Refused}
 use Rattle.bitmap_input.specs.Cut.Cut.{Takes, Stops}
-use Rattle.bitmap_input.specs.Parts.{is_zero, block, times}
+use Rattle.bitmap_input.specs.Parts.{is_zero, block, repeated}
 use Rattle.bitmap_input.specs.Sides.{checked}
 use Rattle.bitmap_input.specs.Raw.{Raw}
 use Rattle.bitmap_input.specs.BmpHeader.{byte_at, two_at, four_at, header_size, is_short, bits, has_masks, is_known_size, is_known_kind, mask_bytes, has_known_colors, width, height, pixel_offset, palette_bytes, palette_end, row_length, rows_end, palette_length, color_bytes, file_size}
-use Rattle.bitmap_input.specs.BmpRaster.{palette_color, pixel_in, row_of, picture, raster}
+use Rattle.bitmap_input.specs.BmpRaster.{palette_color, pixel_in, bmp_row, picture, raster}
 use Rattle.bitmap_input.specs.Bmp.{passes, start, info, masks, placed, header, bmp}
-use Rattle.bitmap_input.specs.BmpHead.{HasInfo, IsStart, IsInfo, IsWhole}
+use Rattle.bitmap_input.specs.BmpHead.{HasInfo, IsHeaderStart, IsInfo, IsWholeHeader}
 use Rattle.bitmap_input.proofs.Showing.{after_takes}
 use Rattle.pt_base.specs.declared.limits.TheConstants.{LONGEST_SIDE}
 
@@ -59,13 +59,13 @@ cuts_block n bytes = block_taken (nat_lt (length bytes) n) n bytes refl
 
 -- a part that takes k bytes, n times
 pub cuts_times : {A : Type 0} (part : List ℕ → Cut A) (k : ℕ) → ((bytes : List ℕ) → Cuts (λ _ rest. length bytes ≡ k + length rest) (part bytes)) →
-    (n : ℕ) (bytes : List ℕ) → Cuts (λ _ rest. length bytes ≡ n * k + length rest) (times part n bytes)
+    (n : ℕ) (bytes : List ℕ) → Cuts (λ _ rest. length bytes ≡ n * k + length rest) (repeated part n bytes)
 cuts_times part k each zero bytes =
     cuts_take (λ _ rest. length bytes ≡ 0 * k + length rest) false [] bytes (omega arith)
 cuts_times part k each (suc n) bytes =
     cuts_bind (λ _ rest. length bytes ≡ k + length rest) (λ _ rest. length bytes ≡ suc n * k + length rest) (part bytes)
-    (λ x rest. times part n rest >>= λ xs rest. Takes false (x ∷ xs) rest) (each bytes)
-    (λ x mid one. cuts_bind (λ _ rest. length mid ≡ n * k + length rest) (λ _ rest. length bytes ≡ suc n * k + length rest) (times part n mid)
+    (λ x rest. repeated part n rest >>= λ xs rest. Takes false (x ∷ xs) rest) (each bytes)
+    (λ x mid one. cuts_bind (λ _ rest. length mid ≡ n * k + length rest) (λ _ rest. length bytes ≡ suc n * k + length rest) (repeated part n mid)
     (λ xs rest. Takes false (x ∷ xs) rest) (cuts_times part k each n mid)
     (λ xs rest more. cuts_take (λ _ rest. length bytes ≡ suc n * k + length rest) false (x ∷ xs) rest (omega arith)))
 
@@ -105,12 +105,12 @@ info_has head is =
     let known : is_known_size (header_size head) ≡ true = is.known in
     record { within = omega (arith, is.reach); least = known_size (header_size head) known; most = most_size (header_size head) known; long = long_size (header_size head) known }
 
-pub whole_has : (head : List ℕ) → IsWhole head → HasInfo head
+pub whole_has : (head : List ℕ) → IsWholeHeader head → HasInfo head
 whole_has head is =
     let known : is_known_size (header_size head) ≡ true = is.known in
     record { within = omega (arith, is.reach); least = known_size (header_size head) known; most = most_size (header_size head) known; long = long_size (header_size head) known }
 
-pub info_grown : (head more : List ℕ) → IsStart head → length more ≡ header_size head - 4 → IsInfo (head ++ more)
+pub info_grown : (head more : List ℕ) → IsHeaderStart head → length more ≡ header_size head - 4 → IsInfo (head ++ more)
 info_grown head more begun len_more =
     let len : length head ≡ 16 = begun.reach in
     let same : header_size (head ++ more) ≡ header_size head = four_at-append head more 14 (omega arith) (omega arith) in
@@ -128,7 +128,7 @@ same_masks true head more test len least =
     let kind : four_at (head ++ more) 30 ≡ four_at head 30 = four_at-append head more 30 (omega arith) (omega arith) in
     rw (same, kind) refl
 
-pub masks_grown : (head more : List ℕ) → IsInfo head → length more ≡ mask_bytes head → IsWhole (head ++ more)
+pub masks_grown : (head more : List ℕ) → IsInfo head → length more ≡ mask_bytes head → IsWholeHeader (head ++ more)
 masks_grown head more begun len_more =
     let len : length head ≡ 12 + header_size head = begun.reach in
     let least : 12 ≤ header_size head = known_size (header_size head) begun.known in
@@ -151,7 +151,7 @@ bits_same false head more test has =
     rw (same, test) field
 
 -- a header is of 40 bytes, and masks follow; or it has room for them
-masked_size : (t : Bool) (head : List ℕ) → nat_eq (header_size head) 40 ≡ t → IsWhole head → is_short head ≡ false → has_masks head ≡ true → 64 ≤ length head
+masked_size : (t : Bool) (head : List ℕ) → nat_eq (header_size head) 40 ≡ t → IsWholeHeader head → is_short head ≡ false → has_masks head ≡ true → 64 ≤ length head
 masked_size true head test is long masked =
     let size : header_size head ≡ 40 = eqb-true (header_size head) 40 test in
     let twelve : mask_bytes head ≡ 12 = rw (test, masked) refl in
@@ -161,7 +161,7 @@ masked_size false head test is long masked =
     let room = roomy_size (header_size head) known long test in
     omega (arith, is.reach, room)
 
-masked_at : (t : Bool) (head : List ℕ) → IsWhole head → is_short head ≡ t → has_masks head ≡ true → 64 ≤ length head
+masked_at : (t : Bool) (head : List ℕ) → IsWholeHeader head → is_short head ≡ t → has_masks head ≡ true → 64 ≤ length head
 masked_at true head is test masked = let plain : has_masks head ≡ false = rw test refl in absurd (both_ways (has_masks head) plain masked)
 masked_at false head is test masked = masked_size (nat_eq (header_size head) 40) head refl is test masked
 
@@ -171,30 +171,30 @@ bits_grown head more has = bits_same (is_short head) head more refl has
 
 -- What a whole header has room for.
 
-pub masks_within : (head : List ℕ) → IsWhole head → has_masks head ≡ true → 64 ≤ length head
+pub masks_within : (head : List ℕ) → IsWholeHeader head → has_masks head ≡ true → 64 ≤ length head
 masks_within head is masked = masked_at (is_short head) head is refl masked
 
 -- The parts of the header, and what they leave.
 
-cuts_start : (bytes : List ℕ) → Cuts (λ head rest. IsStart head × (length bytes ≡ length head + length rest)) (start bytes)
+cuts_start : (bytes : List ℕ) → Cuts (λ head rest. IsHeaderStart head × (length bytes ≡ length head + length rest)) (start bytes)
 cuts_start bytes =
-    cuts_bind (IsBlock 16 bytes) (λ head rest. IsStart head × (length bytes ≡ length head + length rest)) (block 16 bytes)
+    cuts_bind (IsBlock 16 bytes) (λ head rest. IsHeaderStart head × (length bytes ≡ length head + length rest)) (block 16 bytes)
     (λ head rest. passes BmpKind (is_known_size (header_size head)) head rest) (cuts_block 16 bytes)
-    (λ head rest is. cuts_passes (λ head rest. IsStart head × (length bytes ≡ length head + length rest)) BmpKind (is_known_size (header_size head)) head rest
+    (λ head rest is. cuts_passes (λ head rest. IsHeaderStart head × (length bytes ≡ length head + length rest)) BmpKind (is_known_size (header_size head)) head rest
     (λ known. (record { reach = is.0; known = known }, omega (arith, is.0, is.1))))
 
-cuts_info : (head bytes : List ℕ) → IsStart head → Cuts (λ whole rest. IsInfo whole × (length head + length bytes ≡ length whole + length rest)) (info head bytes)
+cuts_info : (head bytes : List ℕ) → IsHeaderStart head → Cuts (λ whole rest. IsInfo whole × (length head + length bytes ≡ length whole + length rest)) (info head bytes)
 cuts_info head bytes begun =
     cuts_bind (IsBlock (header_size head - 4) bytes) (λ whole rest. IsInfo whole × (length head + length bytes ≡ length whole + length rest)) (block (header_size head - 4) bytes)
     (λ more rest. passes BmpKind (is_known_kind (head ++ more)) (head ++ more) rest) (cuts_block (header_size head - 4) bytes)
     (λ more rest is. cuts_passes (λ whole rest. IsInfo whole × (length head + length bytes ≡ length whole + length rest)) BmpKind (is_known_kind (head ++ more)) (head ++ more) rest
     (λ _. (info_grown head more begun is.0, omega (arith, is.0, is.1, length-append head more))))
 
-cuts_masks : (head bytes : List ℕ) → IsInfo head → Cuts (λ whole rest. IsWhole whole × (length head + length bytes ≡ length whole + length rest)) (masks head bytes)
+cuts_masks : (head bytes : List ℕ) → IsInfo head → Cuts (λ whole rest. IsWholeHeader whole × (length head + length bytes ≡ length whole + length rest)) (masks head bytes)
 cuts_masks head bytes begun =
-    cuts_bind (IsBlock (mask_bytes head) bytes) (λ whole rest. IsWhole whole × (length head + length bytes ≡ length whole + length rest)) (block (mask_bytes head) bytes)
+    cuts_bind (IsBlock (mask_bytes head) bytes) (λ whole rest. IsWholeHeader whole × (length head + length bytes ≡ length whole + length rest)) (block (mask_bytes head) bytes)
     (λ more rest. passes BmpKind (has_known_colors (head ++ more)) (head ++ more) rest) (cuts_block (mask_bytes head) bytes)
-    (λ more rest is. cuts_passes (λ whole rest. IsWhole whole × (length head + length bytes ≡ length whole + length rest)) BmpKind (has_known_colors (head ++ more)) (head ++ more) rest
+    (λ more rest is. cuts_passes (λ whole rest. IsWholeHeader whole × (length head + length bytes ≡ length whole + length rest)) BmpKind (has_known_colors (head ++ more)) (head ++ more) rest
     (λ _. (masks_grown head more begun is.0, omega (arith, is.0, is.1, length-append head more))))
 
 cuts_cond : {A : Type 0} (P : A → List ℕ → Type 0) (t : Bool) (c d : Cut A) → Cuts P c → Cuts P d → Cuts P (cond t c d)
@@ -214,9 +214,9 @@ cuts_checked w h bytes =
 
 -- the header is whole, and its pixels begin behind its palette
 abbrev pub IsPlaced : List ℕ → Type 0
-IsPlaced head = IsWhole head × (palette_end head ≤ pixel_offset head)
+IsPlaced head = IsWholeHeader head × (palette_end head ≤ pixel_offset head)
 
-cuts_placed : (head bytes : List ℕ) → IsWhole head → Cuts (λ whole rest. IsPlaced whole × (length head + length bytes ≡ length whole + length rest)) (placed head bytes)
+cuts_placed : (head bytes : List ℕ) → IsWholeHeader head → Cuts (λ whole rest. IsPlaced whole × (length head + length bytes ≡ length whole + length rest)) (placed head bytes)
 cuts_placed head bytes begun =
     cuts_bind (λ _ rest. length rest ≡ length bytes) (λ whole rest. IsPlaced whole × (length head + length bytes ≡ length whole + length rest)) (checked (width head) (height head) bytes)
     (λ _ rest. passes BadOffset (nat_le (palette_end head) (pixel_offset head)) head rest) (cuts_checked (width head) (height head) bytes)
@@ -226,11 +226,11 @@ cuts_placed head bytes begun =
 pub cuts_header : (bytes : List ℕ) → Cuts (λ head rest. IsPlaced head × (length bytes ≡ length head + length rest)) (header bytes)
 cuts_header bytes =
     let P = λ (head rest : List ℕ). IsPlaced head × (length bytes ≡ length head + length rest) in
-    cuts_bind (λ head rest. IsStart head × (length bytes ≡ length head + length rest)) P (start bytes)
+    cuts_bind (λ head rest. IsHeaderStart head × (length bytes ≡ length head + length rest)) P (start bytes)
     (λ head rest. info head rest >>= λ head rest. masks head rest >>= λ head rest. placed head rest) (cuts_start bytes)
     (λ head rest is. cuts_bind (λ whole left. IsInfo whole × (length head + length rest ≡ length whole + length left)) P (info head rest)
     (λ head rest. masks head rest >>= λ head rest. placed head rest) (cuts_info head rest is.0)
-    (λ head2 rest2 is2. cuts_bind (λ whole left. IsWhole whole × (length head2 + length rest2 ≡ length whole + length left)) P (masks head2 rest2)
+    (λ head2 rest2 is2. cuts_bind (λ whole left. IsWholeHeader whole × (length head2 + length rest2 ≡ length whole + length left)) P (masks head2 rest2)
     placed (cuts_masks head2 rest2 is2.0)
     (λ head3 rest3 is3 e head4 rest4 h.
     let is4 = cuts_placed head3 rest3 is3.0 e head4 rest4 h in
@@ -241,7 +241,7 @@ cuts_header bytes =
 sum_of_parts : (n a b c r r2 r3 : ℕ) → n ≡ a + r → r ≡ b + r2 → r2 ≡ c + r3 → n ≡ a + b + c + r3
 sum_of_parts n a b c r r2 r3 h h2 h3 = omega arith
 
-cuts_row_of : (head palette bytes : List ℕ) → Cuts (λ _ rest. length bytes ≡ row_length head + length rest) (row_of head palette bytes)
+cuts_row_of : (head palette bytes : List ℕ) → Cuts (λ _ rest. length bytes ≡ row_length head + length rest) (bmp_row head palette bytes)
 cuts_row_of head palette bytes =
     cuts_bind (IsBlock (row_length head) bytes) (λ _ rest. length bytes ≡ row_length head + length rest) (block (row_length head) bytes)
     (λ row rest. Takes false (map (pixel_in (bits head) (palette_color (palette_length head) (color_bytes head) palette) row) (range_with_len 0 (width head))) rest) (cuts_block (row_length head) bytes)
@@ -253,14 +253,14 @@ pub cuts_raster : (head bytes : List ℕ) →
 cuts_raster head bytes =
     let Q = λ (raw : Raw) (rest : List ℕ). (raw.least_length ≡ file_size head) × (length bytes ≡ palette_bytes head + (pixel_offset head - palette_end head) + height head * row_length head + length rest) in
     cuts_bind (IsBlock (palette_bytes head) bytes) Q (block (palette_bytes head) bytes)
-    (λ palette rest. block (pixel_offset head - palette_end head) rest >>= λ _ rest. times (row_of head palette) (height head) rest >>= λ rows rest. Takes false (picture head rows) rest)
+    (λ palette rest. block (pixel_offset head - palette_end head) rest >>= λ _ rest. repeated (bmp_row head palette) (height head) rest >>= λ rows rest. Takes false (picture head rows) rest)
     (cuts_block (palette_bytes head) bytes)
     (λ palette rest is. cuts_bind (IsBlock (pixel_offset head - palette_end head) rest) Q (block (pixel_offset head - palette_end head) rest)
-    (λ _ rest. times (row_of head palette) (height head) rest >>= λ rows rest. Takes false (picture head rows) rest)
+    (λ _ rest. repeated (bmp_row head palette) (height head) rest >>= λ rows rest. Takes false (picture head rows) rest)
     (cuts_block (pixel_offset head - palette_end head) rest)
-    (λ gap rest2 is2. cuts_bind (λ _ left. length rest2 ≡ height head * row_length head + length left) Q (times (row_of head palette) (height head) rest2)
+    (λ gap rest2 is2. cuts_bind (λ _ left. length rest2 ≡ height head * row_length head + length left) Q (repeated (bmp_row head palette) (height head) rest2)
     (λ rows rest. Takes false (picture head rows) rest)
-    (cuts_times (row_of head palette) (row_length head) (cuts_row_of head palette) (height head) rest2)
+    (cuts_times (bmp_row head palette) (row_length head) (cuts_row_of head palette) (height head) rest2)
     (λ rows rest3 is3. cuts_take Q false (picture head rows) rest3
     (refl, sum_of_parts (length bytes) (palette_bytes head) (pixel_offset head - palette_end head) (height head * row_length head) (length rest) (length rest2) (length rest3) is.1 is2.1 is3))))
 

@@ -12,7 +12,7 @@ use Rattle.bitmap_input.specs.declared.stop.Stop.{Stop}
 use Rattle.bitmap_input.specs.declared.bmp.header.Header.{Header}
 use Rattle.bitmap_input.specs.Cut.{Cut, ◌>>=◌}
 use Rattle.bitmap_input.specs.Cut.Cut.{Takes}
-use Rattle.bitmap_input.specs.Parts.{times}
+use Rattle.bitmap_input.specs.Parts.{repeated}
 use Rattle.bitmap_input.specs.Raw.{Raw, Entry, black, picture_of, shown, IsShown}
 use Rattle.bitmap_input.specs.BmpHeader.{file_size, rows_end}
 use Rattle.bitmap_input.specs.Bmp.{header}
@@ -21,7 +21,7 @@ use Rattle.bitmap_input.specs.Behind.{IsRead, counted_body}
 use Rattle.bitmap_input.specs.BmpRaster.{color_row, raster}
 use Rattle.bitmap_input.specs.BmpHead.{IsHeader, bits_in, row_place, row_bytes_by, picture_by, pixels_by, raster_by}
 use Rattle.bitmap_input.specs.Raster.{with_row, with_placed}
-use Rattle.bitmap_input.specs.Reading.{Held, Reads}
+use Rattle.bitmap_input.specs.Reading.{Buffered, Reads}
 use Rattle.bitmap_input.proofs.Placing.{with_pixels-other}
 use Rattle.bitmap_input.proofs.Showing.{row_at, reads_counted}
 use Rattle.bitmap_input.proofs.Telling.{reads_made, reads_stop, reads_on, reads_as}
@@ -42,26 +42,26 @@ placed_other place b i u v (r ∷ rs) other =
 placed_at : (place : ℕ → ℕ) (b : Image) (i k u : ℕ) (rows : List (List Bool)) → k < length rows →
     ((j : ℕ) → j < length rows → place (i + j) ≡ place (i + k) → j ≡ k) → b u (place (i + k)) ≡ false →
     with_placed place b i rows u (place (i + k)) ≡ get_or (get_or rows k []) u false
-placed_at place b i k u [] within own white = absurd (omega arith)
-placed_at place b i zero u (r ∷ rs) within own white =
+placed_at place b i k u [] within own maxval = absurd (omega arith)
+placed_at place b i zero u (r ∷ rs) within own maxval =
     let n : i + 0 ≡ i = omega arith in
-    let white_here : b u (place i) ≡ false = subst (λ m. b u (place m) ≡ false) n white in
+    let white_here : b u (place i) ≡ false = subst (λ m. b u (place m) ≡ false) n maxval in
     subst (λ m. with_placed place (with_row b (place i) r) (suc i) rs u (place m) ≡ get_or r u false) (sym n)
     (placed_other place (with_row b (place i) r) (suc i) u (place i) rs
     (λ j less at. let same : suc j ≡ 0 = own (suc j) (omega arith) (ap place (let m : i + suc j ≡ suc i + j = omega arith in m) ∙ at ∙ ap place (sym n)) in absurd (omega arith)) ∙
     row_at b (place i) u r white_here)
-placed_at place b i (suc k) u (r ∷ rs) within own white =
+placed_at place b i (suc k) u (r ∷ rs) within own maxval =
     let n : i + suc k ≡ suc i + k = omega arith in
     let apart : place i ≡ place (suc i + k) → ⊥
     = λ at. (let same : 0 ≡ suc k = own 0 (omega arith) (ap place (let m : i + 0 ≡ i = omega arith in m) ∙ at ∙ ap place (sym n)) in absurd (omega arith)) in
     let white_still : with_row b (place i) r u (place (suc i + k)) ≡ false
-    = with_pixels-other b (place i) 0 u (place (suc i + k)) r (λ e _ _. apart e) ∙ subst (λ m. b u (place m) ≡ false) n white in
+    = with_pixels-other b (place i) 0 u (place (suc i + k)) r (λ e _ _. apart e) ∙ subst (λ m. b u (place m) ≡ false) n maxval in
     subst (λ m. with_placed place (with_row b (place i) r) (suc i) rs u (place m) ≡ get_or (get_or rs k []) u false) (sym n)
     (placed_at place (with_row b (place i) r) (suc i) k u rs (omega arith)
     (λ j less at. let same : suc j ≡ suc k = own (suc j) (omega arith) (ap place (let m : i + suc j ≡ suc i + j = omega arith in m) ∙ at ∙ ap place (sym n)) in omega arith)
     white_still)
 
-module _ (level : ℕ) (invert : Bool) (b : Image) (u v : ℕ) (rows : List (List Entry)) (white : IsWhite b) where
+module _ (level : ℕ) (invert : Bool) (b : Image) (u v : ℕ) (rows : List (List Entry)) (maxval : IsWhite b) where
   -- the rows as pixels
   abbrev pixels : List (List Bool)
   pixels = map (map (black level invert)) rows
@@ -78,7 +78,7 @@ module _ (level : ℕ) (invert : Bool) (b : Image) (u v : ℕ) (rows : List (Lis
   falling_at h len within =
       let at : row_place true h (0 + (h - suc v)) ≡ v = omega arith in
       let row = placed_at (row_place true h) b 0 (h - suc v) u pixels (omega (arith, count))
-      (λ j less same. omega (arith, count)) (white u (row_place true h (0 + (h - suc v)))) in
+      (λ j less same. omega (arith, count)) (maxval u (row_place true h (0 + (h - suc v)))) in
       subst (λ m. with_placed (row_place true h) b 0 pixels u m ≡ get_or (get_or pixels (h - suc v) []) u false) at row ∙
       ap (λ (r : List Bool). get_or r u false) (row_pixels (h - suc v))
 
@@ -88,7 +88,7 @@ module _ (level : ℕ) (invert : Bool) (b : Image) (u v : ℕ) (rows : List (Lis
   rising_at h len within =
       let at : row_place false h (0 + v) ≡ v = omega arith in
       let row = placed_at (row_place false h) b 0 v u pixels (omega (arith, count))
-      (λ j less same. omega arith) (white u (row_place false h (0 + v))) in
+      (λ j less same. omega arith) (maxval u (row_place false h (0 + v))) in
       let less : h - suc v < length rows = omega arith in
       let turned : get_or (reverse rows) (h - suc v) [] ≡ get_or rows (length rows - 1 - (h - suc v)) [] = get_or-reverse rows (h - suc v) [] less in
       let number : length rows - 1 - (h - suc v) ≡ v = omega arith in
@@ -109,41 +109,41 @@ module _ (level : ℕ) (invert : Bool) (b : Image) (u v : ℕ) (rows : List (Lis
 -- the picture's rows on a white page
 picture_at : (level : ℕ) (invert : Bool) (h : Header) (b : Image) (u v : ℕ) (rows : List (List Entry)) → IsWhite b → length rows ≡ h.height →
     with_placed (row_place h.top_down h.height) b 0 (map (map (black level invert)) rows) u v ≡ picture_of level invert (picture_by h rows) u v
-picture_at level invert h b u v rows white len = elim (cases_lt v h.height) [
+picture_at level invert h b u v rows maxval len = elim (cases_lt v h.height) [
   | inl within ↦
       let test : nat_lt v h.height ≡ true = lt-ltb v h.height within in
-      rw test (inside_at level invert b u v rows white h.top_down h.height len within)
+      rw test (inside_at level invert b u v rows maxval h.top_down h.height len within)
   | inr above ↦
       let test : nat_lt v h.height ≡ false = le-ltb v h.height above in
-      rw test (outside_at level invert b u v rows white h.top_down h.height len above ∙ white u v)
+      rw test (outside_at level invert b u v rows maxval h.top_down h.height len above ∙ maxval u v)
 ]
 
 -- the page that was painted
 shown_picture : (level : ℕ) (invert : Bool) (h : Header) (q : Pixels) (b : Image) (rows : List (List Entry)) → q ≡ page_of q.width q.height (image_of q) →
     q.width ≡ h.width → q.height ≡ h.height → IsWhite b → length rows ≡ h.height →
     image_of q ≡ with_placed (row_place h.top_down h.height) b 0 (map (map (black level invert)) rows) → q ≡ shown level invert (picture_by h rows)
-shown_picture level invert h q b rows whole wide high white len painted =
+shown_picture level invert h q b rows whole wide high maxval len painted =
     let image : image_of q ≡ picture_of level invert (picture_by h rows)
-    = painted ∙ fun_ext (λ u. fun_ext (λ v. picture_at level invert h b u v rows white len)) in
+    = painted ∙ fun_ext (λ u. fun_ext (λ v. picture_at level invert h b u v rows maxval len)) in
     whole ∙ ap (λ w. page_of w q.height (image_of q)) wide ∙ ap (λ n. page_of h.width n (image_of q)) high ∙ ap (page_of h.width h.height) image
 
-module _ {mid new : Held} {fmid now : Option Files} (level : ℕ) (invert : Bool) (h : Header) (color : ℕ → Entry) (p q : Pixels) (wide : p.width ≡ h.width) (high : p.height ≡ h.height) where
+module _ {mid new : Buffered} {fmid now : Option Files} (level : ℕ) (invert : Bool) (h : Header) (color : ℕ → Entry) (p q : Pixels) (wide : p.width ≡ h.width) (high : p.height ≡ h.height) where
   -- the rows were read
   pub picture_shown : IsWhite (image_of p) → SameSides p q → q ≡ page_of q.width q.height (image_of q) →
       Reads (λ _ rows. image_of q ≡ with_placed (row_place h.top_down p.height) (image_of p) 0 (map (map (black level invert)) rows))
-      (times (color_row (row_bytes_by h) (bits_in h.depth) color p.width) p.height) mid fmid (Ok (tt {0})) new now →
+      (repeated (color_row (row_bytes_by h) (bits_in h.depth) color p.width) p.height) mid fmid (Ok (tt {0})) new now →
       Reads (IsShown level invert) (pixels_by h color) mid fmid (Ok q) new now
   unfolding image_of
-  picture_shown white sides whole r =
+  picture_shown maxval sides whole r =
       let read = rw (wide, high) at r in
       reads_made {js = IsShown level invert} (picture_by h) q
-      (λ rows counted. shown_picture level invert h q (image_of p) rows whole (sides.width ∙ wide) (sides.height ∙ high) white counted.1 counted.0)
+      (λ rows counted. shown_picture level invert h q (image_of p) rows whole (sides.width ∙ wide) (sides.height ∙ high) maxval counted.1 counted.0)
       (reads_counted (color_row (row_bytes_by h) (bits_in h.depth) color h.width) h.height read)
 
   -- a row could not be read
   pub picture_stopped : (stop : Stop) →
       Reads {X = Unit {0}} (λ _ rows. image_of q ≡ with_placed (row_place h.top_down p.height) (image_of p) 0 (map (map (black level invert)) rows))
-      (times (color_row (row_bytes_by h) (bits_in h.depth) color p.width) p.height) mid fmid (Err stop) new now →
+      (repeated (color_row (row_bytes_by h) (bits_in h.depth) color p.width) p.height) mid fmid (Err stop) new now →
       Reads (IsShown level invert) (pixels_by h color) mid fmid (Err stop) new now
   unfolding image_of
   picture_stopped stop r =
@@ -157,7 +157,7 @@ raster_is h head is bytes =
 -- The header, what follows it, and what the picture claims.
 
 -- a step whose value meets what the part's values meet
-reads_with : {A X : Type 0} {is : X → A → Type 0} {part : List ℕ → Cut A} {x : X} {old mid : Held} {files fmid : Option Files} (P : A → Type 0) →
+reads_with : {A X : Type 0} {is : X → A → Type 0} {part : List ℕ → Cut A} {x : X} {old mid : Buffered} {files fmid : Option Files} (P : A → Type 0) →
     ((bytes : List ℕ) (e : Bool) (a : A) (rest : List ℕ) → part bytes ≡ Takes e a rest → P a) → Reads is part old files (Ok x) mid fmid →
     Reads (λ x a. is x a × P a) part old files (Ok x) mid fmid
 reads_with {old = old} {mid = mid} P meets r =
@@ -174,7 +174,7 @@ claim behind least size offset rows n is same whole some = omega arith
 rows_end_is : (h : Header) (head : List ℕ) → IsHeader h head → rows_end head ≡ h.pixel_offset + h.height * row_bytes_by h
 rows_end_is h head is = rw (is.pixel_offset, is.width, is.height, is.depth) refl
 
-module _ {old mid new : Held} {files fmid now : Option Files} (level : ℕ) (invert : Bool) where
+module _ {old mid new : Buffered} {files fmid now : Option Files} (level : ℕ) (invert : Bool) where
   pub bmp_read : (h : Header) (page : Pixels) (behind : ℕ) → 2 ≤ h.pixel_offset → Reads IsHeader header old files (Ok h) mid fmid →
       Reads (IsShown level invert) (raster_by h) mid fmid (Ok page) new now → behind ≡ h.file_size - (h.pixel_offset + h.height * row_bytes_by h) →
       Reads (IsRead level invert) (counted_body Picture) old files (Ok (record { page = page; behind = behind })) new now
@@ -195,7 +195,7 @@ module _ {old mid new : Held} {files fmid now : Option Files} (level : ℕ) (inv
       reads_stop {js = IsRead level invert} (λ raw rest. Takes false (raw, rows_end head - 2) rest)
       (reads_as {is = IsShown level invert} {part = raster head} (λ more. raster_is h head is_header (mid.bytes ++ more)) second)))
 
-pub header_stopped : {old new : Held} {files now : Option Files} (level : ℕ) (invert : Bool) (stop : Stop) → Reads IsHeader header old files (Err stop) new now →
+pub header_stopped : {old new : Buffered} {files now : Option Files} (level : ℕ) (invert : Bool) (stop : Stop) → Reads IsHeader header old files (Err stop) new now →
     Reads (IsRead level invert) (counted_body Picture) old files (Err stop) new now
 header_stopped {old = old} level invert stop first =
     reads_as (λ more. sym (bmp_counted (old.bytes ++ more)))

@@ -7,7 +7,7 @@ use Rattle.bitmap_input.specs.Raw.{Entry, black}
 use Rattle.bitmap_input.specs.BmpRaster.{bit_at, half_at, pixel_in}
 use Rattle.bitmap_input.specs.declared.bmp.fields.Depth.{Depth}
 use Rattle.bitmap_input.specs.declared.bmp.fields.Depth.TheVariants as depth
-use Rattle.bitmap_input.specs.BmpHead.{bits_in, IsTable, shade_in}
+use Rattle.bitmap_input.specs.BmpHead.{bits_in, IsPaletteTable, shade_in}
 
 -- a column of the page is one of the row
 pub column_within : (d : Depth) (x w n : ℕ) → x < w → w * bits_in d ≤ 8 * n → (x + 1) * bits_in d ≤ 8 * n
@@ -26,7 +26,7 @@ columns_within depth.TwentyFour m w n less whole = omega arith
 columns_within depth.ThirtyTwo m w n less whole = omega arith
 
 -- a pixel by the table is the one by the palette
-pub shade_is : (d : Depth) (level : ℕ) (invert : Bool) (color : ℕ → Entry) (table : List Bool) (row : List ℕ) → IsTable level invert color table → (x : ℕ) →
+pub shade_is : (d : Depth) (level : ℕ) (invert : Bool) (color : ℕ → Entry) (table : List Bool) (row : List ℕ) → IsPaletteTable level invert color table → (x : ℕ) →
     shade_in d level invert table row x ≡ black level invert (pixel_in (bits_in d) color row x)
 shade_is depth.One level invert color table row is x = is (bit_at row x)
 shade_is depth.Four level invert color table row is x = is (half_at row x)

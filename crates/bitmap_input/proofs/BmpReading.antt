@@ -6,7 +6,7 @@ use Rattle.bitmap_input.specs.declared.stop.Stop.{Stop}
 use Rattle.bitmap_input.specs.Cut.{Kind, Cut}
 use Rattle.bitmap_input.specs.Cut.Ending.{Refused}
 use Rattle.bitmap_input.specs.Cut.Cut.{Takes, Stops}
-use Rattle.bitmap_input.specs.Reading.{Held, cause_of, StopsBy, Reads}
+use Rattle.bitmap_input.specs.Reading.{Buffered, cause_of, StopsBy, Reads}
 use Rattle.bitmap_input.specs.Reading.Cause.{Says}
 use Rattle.bitmap_input.specs.Bmp.{passes, placed}
 use Rattle.bitmap_input.specs.Cut.Kind.{BadOffset}
@@ -15,13 +15,13 @@ use Rattle.bitmap_input.specs.BmpHeader.{header_size, bits, mask_bytes, width, h
 use Rattle.bitmap_input.specs.Sides.{checked}
 use Rattle.std.specs.Prelude.{nat_le}
 use Rattle.std.proofs.lemmas.Bool.{lt-leb}
-use Rattle.bitmap_input.specs.BmpHead.{Passes, IsStart, IsInfo, IsWhole}
+use Rattle.bitmap_input.specs.BmpHead.{Passes, IsHeaderStart, IsInfo, IsWholeHeader}
 use Rattle.bitmap_input.proofs.BmpLengths.{info_grown, masks_grown, bits_grown, info_has}
 use Rattle.bitmap_input.proofs.Needing.{needs_none}
 use Rattle.bitmap_input.proofs.Telling.{not_true, stand}
 
 -- a check as a step that reads nothing
-pub reads_passes : {X A : Type 0} {is : X → A → Type 0} {part : List ℕ → Cut A} {held : Held} {files : Option Files} {result : Result X Stop} →
+pub reads_passes : {X A : Type 0} {is : X → A → Type 0} {part : List ℕ → Cut A} {held : Buffered} {files : Option Files} {result : Result X Stop} →
     Passes is part result → Reads is part held files result held files
 reads_passes {part = part} {held = held} {files = files} {result = Ok x} (a, same, takes) = record {
   more = [];
@@ -39,11 +39,11 @@ reads_passes {part = part} {held = held} {files = files} {result = Err s} (endin
     }
 
 -- a check that is passed, and one that isn't
-pub passed : {X A : Type 0} {is : X → A → Type 0} {x : X} {held : Held} {files : Option Files} (kind : Kind) (t : Bool) (a : A) → t ≡ true → is x a →
+pub passed : {X A : Type 0} {is : X → A → Type 0} {x : X} {held : Buffered} {files : Option Files} (kind : Kind) (t : Bool) (a : A) → t ≡ true → is x a →
     Reads is (passes kind t a) held files (Ok x) held files
 passed kind t a test same = reads_passes (a, same, λ bytes. rw test refl)
 
-pub not_passed : {X A : Type 0} (is : X → A → Type 0) {held : Held} {files : Option Files} (s : Stop) (kind : Kind) (t : Bool) (a : A) → t ≡ false →
+pub not_passed : {X A : Type 0} (is : X → A → Type 0) {held : Buffered} {files : Option Files} (s : Stop) (kind : Kind) (t : Bool) (a : A) → t ≡ false →
     cause_of s ≡ Says (Refused kind) → Reads {X = X} is (passes kind t a) held files (Err s) held files
 not_passed is s kind t a test cause = reads_passes (Refused kind, cause, λ bytes. rw test refl)
 
@@ -56,7 +56,7 @@ placed_too_soon head in_range soon bytes =
 
 -- The header's bytes as they are read.
 
-module _ (old new : List ℕ) (n : ℕ) {held held2 : Held} {files files2 : Option Files} (r : Reads {X = Unit {0}} (λ _ more. new ≡ old ++ more) (block n) held files (Ok (tt {0})) held2 files2) (reach : length new ≡ length old + n) where
+module _ (old new : List ℕ) (n : ℕ) {held held2 : Buffered} {files files2 : Option Files} (r : Reads {X = Unit {0}} (λ _ more. new ≡ old ++ more) (block n) held files (Ok (tt {0})) held2 files2) (reach : length new ≡ length old + n) where
   -- the bytes that were read
   abbrev more : List ℕ
   more = r.gives.1
@@ -67,11 +67,11 @@ module _ (old new : List ℕ) (n : ℕ) {held held2 : Held} {files files2 : Opti
   fits : length more ≡ n
   fits = let e : length new ≡ length old + length more = ap length grown ∙ length-append old more in omega (arith, e)
 
-  pub info_read : IsStart old → n ≡ header_size old - 4 → IsInfo new
+  pub info_read : IsHeaderStart old → n ≡ header_size old - 4 → IsInfo new
   info_read begun is = subst IsInfo (sym grown) (info_grown old more begun (fits ∙ is))
 
-  pub whole_read : IsInfo old → n ≡ mask_bytes old → IsWhole new
-  whole_read begun is = subst IsWhole (sym grown) (masks_grown old more begun (fits ∙ is))
+  pub whole_read : IsInfo old → n ≡ mask_bytes old → IsWholeHeader new
+  whole_read begun is = subst IsWholeHeader (sym grown) (masks_grown old more begun (fits ∙ is))
 
   pub bits_stay : IsInfo old → bits new ≡ bits old
   bits_stay begun = subst (λ head. bits head ≡ bits old) (sym grown) (bits_grown old more (info_has old begun))

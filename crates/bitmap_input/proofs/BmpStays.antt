@@ -5,11 +5,11 @@ use Rattle.std.specs.List.{range_with_len}
 use Rattle.bitmap_input.specs.Cut.{Kind}
 use Rattle.bitmap_input.specs.Cut.Kind.{BmpKind, BadOffset}
 use Rattle.bitmap_input.specs.Cut.Ending.{Refused}
-use Rattle.bitmap_input.specs.Parts.{block, times}
+use Rattle.bitmap_input.specs.Parts.{block, repeated}
 use Rattle.bitmap_input.specs.Raw.{Entry}
 use Rattle.bitmap_input.specs.Sides.{checked}
 use Rattle.bitmap_input.specs.BmpHeader.{header_size, is_known_size, is_known_kind, mask_bytes, has_known_colors, width, height, pixel_offset, palette_bytes, palette_end, row_length, bits, palette_length, color_bytes}
-use Rattle.bitmap_input.specs.BmpRaster.{color_row, palette_color, pixel_in, row_of, picture, raster}
+use Rattle.bitmap_input.specs.BmpRaster.{color_row, palette_color, pixel_in, bmp_row, picture, raster}
 use Rattle.bitmap_input.specs.Bmp.{passes, start, info, masks, placed, header, bmp}
 use Rattle.bitmap_input.proofs.Appending.{Stays, stays_bind, stop_stays, take_stays, block_stays, times_stay, checked_stays}
 
@@ -51,15 +51,15 @@ color_row_stays n bits color width bytes more not_end =
     stays_bind (block n bytes) (block n (bytes ++ more)) _ more
     (λ row. take_stays false (map (pixel_in bits color row) (range_with_len 0 width))) (block_stays n bytes more) not_end
 
-row_of_stays : (head palette : List ℕ) → Stays (row_of head palette)
+row_of_stays : (head palette : List ℕ) → Stays (bmp_row head palette)
 row_of_stays head palette = color_row_stays (row_length head) (bits head) (palette_color (palette_length head) (color_bytes head) palette) (width head)
 
 pub raster_stays : (head : List ℕ) → Stays (raster head)
 raster_stays head bytes more not_end =
     stays_bind (block (palette_bytes head) bytes) (block (palette_bytes head) (bytes ++ more)) _ more
     (λ palette bytes more not_end. stays_bind (block (pixel_offset head - palette_end head) bytes) (block (pixel_offset head - palette_end head) (bytes ++ more)) _ more
-    (λ _ bytes more not_end. stays_bind (times (row_of head palette) (height head) bytes) (times (row_of head palette) (height head) (bytes ++ more)) _ more
-    (λ rows. take_stays false (picture head rows)) (times_stay (row_of head palette) (row_of_stays head palette) (height head) bytes more) not_end)
+    (λ _ bytes more not_end. stays_bind (repeated (bmp_row head palette) (height head) bytes) (repeated (bmp_row head palette) (height head) (bytes ++ more)) _ more
+    (λ rows. take_stays false (picture head rows)) (times_stay (bmp_row head palette) (row_of_stays head palette) (height head) bytes more) not_end)
     (block_stays (pixel_offset head - palette_end head) bytes more) not_end)
     (block_stays (palette_bytes head) bytes more) not_end
 

@@ -5,10 +5,10 @@ use Rattle.std.proofs.lemmas.List.{length-append}
 use Rattle.std.proofs.Math.Seq.{drop-append_seam}
 use Rattle.bitmap_input.specs.Cut.{Cut, ◌>>=◌}
 use Rattle.bitmap_input.specs.Cut.Cut.{Takes, Stops}
-use Rattle.bitmap_input.specs.Parts.{longest, is_empty, is_space, run_length, run_of, spaces, space, times}
+use Rattle.bitmap_input.specs.Parts.{longest, is_empty, is_space, run_length, run_of, spaces, space, repeated}
 use Rattle.bitmap_input.specs.Raw.{Raw, Entry, entries_page}
 use Rattle.bitmap_input.specs.Raw.Entry.{Bit}
-use Rattle.bitmap_input.specs.Front.{Magic, magic, sides, maxval, plain_pixel, raw_row, raster, body, page_at, answer_of, front}
+use Rattle.bitmap_input.specs.Front.{Magic, magic, sides, maxval, plain_pixel, raw_row, rows_raster, body, page_at, answer_of, front}
 use Rattle.bitmap_input.specs.Samples.{as_entry, plain_samples, raw_samples_row}
 use Rattle.bitmap_input.specs.Front.Answer.{Page}
 use Rattle.bitmap_input.specs.Front.Magic.{PlainBits, RawBits, PlainSamples, RawSamples, Picture}
@@ -17,28 +17,28 @@ use Rattle.bitmap_input.proofs.Keeping.{IsRest, Keeps, all_rest, keeps_take, kee
 use Rattle.bitmap_input.proofs.BmpKeeps.{keeps_bmp}
 
 keeps_rows : {A : Type 0} (entry : A → Entry) (row : List ℕ → Cut (List A)) → ((bytes : List ℕ) → Keeps bytes (row bytes)) →
-    (width height : ℕ) (bytes : List ℕ) → Keeps bytes (raster entry row width height bytes)
+    (width height : ℕ) (bytes : List ℕ) → Keeps bytes (rows_raster entry row width height bytes)
 keeps_rows entry row keeps width height bytes =
-    keeps_bind bytes (times row height bytes) (λ rows rest. Takes false (entries_page entry width height rows) rest) (keeps_times row keeps height bytes)
+    keeps_bind bytes (repeated row height bytes) (λ rows rest. Takes false (entries_page entry width height rows) rest) (keeps_times row keeps height bytes)
     (λ rows rest. keeps_take rest false (entries_page entry width height rows) rest (all_rest rest))
 
 pub keeps_body : (m : Magic) (bytes : List ℕ) → Keeps bytes (body m bytes)
 keeps_body PlainBits bytes =
-    keeps_bind bytes (sides bytes) (λ s rest. raster (λ b. Bit b) (times plain_pixel s.0) s.0 s.1 rest) (keeps_sides bytes)
-    (λ s. keeps_rows (λ b. Bit b) (times plain_pixel s.0) (keeps_times plain_pixel keeps_plain_pixel s.0) s.0 s.1)
+    keeps_bind bytes (sides bytes) (λ s rest. rows_raster (λ b. Bit b) (repeated plain_pixel s.0) s.0 s.1 rest) (keeps_sides bytes)
+    (λ s. keeps_rows (λ b. Bit b) (repeated plain_pixel s.0) (keeps_times plain_pixel keeps_plain_pixel s.0) s.0 s.1)
 keeps_body RawBits bytes =
-    keeps_bind bytes (sides bytes) (λ s rest. space rest >>= λ _ rest. raster (λ b. Bit b) (raw_row s.0) s.0 s.1 rest) (keeps_sides bytes)
-    (λ s rest. keeps_bind rest (space rest) (λ _ rest. raster (λ b. Bit b) (raw_row s.0) s.0 s.1 rest) (keeps_space rest)
+    keeps_bind bytes (sides bytes) (λ s rest. space rest >>= λ _ rest. rows_raster (λ b. Bit b) (raw_row s.0) s.0 s.1 rest) (keeps_sides bytes)
+    (λ s rest. keeps_bind rest (space rest) (λ _ rest. rows_raster (λ b. Bit b) (raw_row s.0) s.0 s.1 rest) (keeps_space rest)
     (λ _. keeps_rows (λ b. Bit b) (raw_row s.0) (keeps_raw_row s.0) s.0 s.1))
 keeps_body (PlainSamples c) bytes =
-    keeps_bind bytes (sides bytes) (λ s rest. maxval rest >>= λ white rest. raster (as_entry c white) (times (plain_samples c) s.0) s.0 s.1 rest) (keeps_sides bytes)
-    (λ s rest. keeps_bind rest (maxval rest) (λ white rest. raster (as_entry c white) (times (plain_samples c) s.0) s.0 s.1 rest) (keeps_maxval rest)
-    (λ white. keeps_rows (as_entry c white) (times (plain_samples c) s.0) (keeps_times (plain_samples c) (keeps_plain_samples c) s.0) s.0 s.1))
+    keeps_bind bytes (sides bytes) (λ s rest. maxval rest >>= λ maxval rest. rows_raster (as_entry c maxval) (repeated (plain_samples c) s.0) s.0 s.1 rest) (keeps_sides bytes)
+    (λ s rest. keeps_bind rest (maxval rest) (λ maxval rest. rows_raster (as_entry c maxval) (repeated (plain_samples c) s.0) s.0 s.1 rest) (keeps_maxval rest)
+    (λ maxval. keeps_rows (as_entry c maxval) (repeated (plain_samples c) s.0) (keeps_times (plain_samples c) (keeps_plain_samples c) s.0) s.0 s.1))
 keeps_body (RawSamples c) bytes =
-    keeps_bind bytes (sides bytes) (λ s rest. maxval rest >>= λ white rest. space rest >>= λ _ rest. raster (as_entry c white) (raw_samples_row c white s.0) s.0 s.1 rest) (keeps_sides bytes)
-    (λ s rest. keeps_bind rest (maxval rest) (λ white rest. space rest >>= λ _ rest. raster (as_entry c white) (raw_samples_row c white s.0) s.0 s.1 rest) (keeps_maxval rest)
-    (λ white rest. keeps_bind rest (space rest) (λ _ rest. raster (as_entry c white) (raw_samples_row c white s.0) s.0 s.1 rest) (keeps_space rest)
-    (λ _. keeps_rows (as_entry c white) (raw_samples_row c white s.0) (keeps_raw_samples_row c white s.0) s.0 s.1)))
+    keeps_bind bytes (sides bytes) (λ s rest. maxval rest >>= λ maxval rest. space rest >>= λ _ rest. rows_raster (as_entry c maxval) (raw_samples_row c maxval s.0) s.0 s.1 rest) (keeps_sides bytes)
+    (λ s rest. keeps_bind rest (maxval rest) (λ maxval rest. space rest >>= λ _ rest. rows_raster (as_entry c maxval) (raw_samples_row c maxval s.0) s.0 s.1 rest) (keeps_maxval rest)
+    (λ maxval rest. keeps_bind rest (space rest) (λ _ rest. rows_raster (as_entry c maxval) (raw_samples_row c maxval s.0) s.0 s.1 rest) (keeps_space rest)
+    (λ _. keeps_rows (as_entry c maxval) (raw_samples_row c maxval s.0) (keeps_raw_samples_row c maxval s.0) s.0 s.1)))
 keeps_body Picture bytes = keeps_bmp bytes
 
 keeps_page : (later : Bool) (bytes : List ℕ) → Keeps bytes (page_at later bytes)

@@ -4,7 +4,7 @@ use Rattle.std.proofs.lemmas.List.{length-append}
 use Rattle.bitmap_input.specs.Cut.{Cut, is_by_end}
 use Rattle.bitmap_input.proofs.Appending.{with_more}
 use Rattle.bitmap_input.specs.Cut.Cut.{Takes, Stops}
-use Rattle.bitmap_input.specs.Parts.{spaces, space, times}
+use Rattle.bitmap_input.specs.Parts.{spaces, space, repeated}
 use Rattle.bitmap_input.specs.Raw.{Raw}
 use Rattle.bitmap_input.specs.Raw.Entry.{Bit}
 use Rattle.bitmap_input.specs.Front.{Magic, magic, sides, maxval, plain_pixel, raw_row, body, page_at, answer_of, front}
@@ -17,7 +17,7 @@ use Rattle.bitmap_input.proofs.BmpStays.{bmp_stays}
 pub body_stays : (m : Magic) → Stays (body m)
 body_stays PlainBits bytes more not_end =
     stays_bind (sides bytes) (sides (bytes ++ more)) _ more
-    (λ s. raster_stays (λ b. Bit b) (times plain_pixel s.0) s.0 s.1 (times_stay plain_pixel plain_pixel_stays s.0))
+    (λ s. raster_stays (λ b. Bit b) (repeated plain_pixel s.0) s.0 s.1 (times_stay plain_pixel plain_pixel_stays s.0))
     (sides_stay bytes more) not_end
 body_stays RawBits bytes more not_end =
     stays_bind (sides bytes) (sides (bytes ++ more)) _ more
@@ -28,14 +28,14 @@ body_stays RawBits bytes more not_end =
 body_stays (PlainSamples c) bytes more not_end =
     stays_bind (sides bytes) (sides (bytes ++ more)) _ more
     (λ s bytes more not_end. stays_bind (maxval bytes) (maxval (bytes ++ more)) _ more
-    (λ white. raster_stays (as_entry c white) (times (plain_samples c) s.0) s.0 s.1 (times_stay (plain_samples c) (plain_samples_stay c) s.0))
+    (λ maxval. raster_stays (as_entry c maxval) (repeated (plain_samples c) s.0) s.0 s.1 (times_stay (plain_samples c) (plain_samples_stay c) s.0))
     (maxval_stays bytes more) not_end)
     (sides_stay bytes more) not_end
 body_stays (RawSamples c) bytes more not_end =
     stays_bind (sides bytes) (sides (bytes ++ more)) _ more
     (λ s bytes more not_end. stays_bind (maxval bytes) (maxval (bytes ++ more)) _ more
-    (λ white bytes more not_end. stays_bind (space bytes) (space (bytes ++ more)) _ more
-    (λ _. raster_stays (as_entry c white) (raw_samples_row c white s.0) s.0 s.1 (raw_samples_row_stays c white s.0))
+    (λ maxval bytes more not_end. stays_bind (space bytes) (space (bytes ++ more)) _ more
+    (λ _. raster_stays (as_entry c maxval) (raw_samples_row c maxval s.0) s.0 s.1 (raw_samples_row_stays c maxval s.0))
     (space_stays bytes more) not_end)
     (maxval_stays bytes more) not_end)
     (sides_stay bytes more) not_end

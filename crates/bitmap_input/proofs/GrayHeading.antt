@@ -14,7 +14,7 @@ use Rattle.bitmap_input.specs.declared.channels.Channels.{Channels}
 use Rattle.bitmap_input.specs.declared.channels.Channels.TheVariants.{Gray, Color}
 use Rattle.bitmap_input.specs.Front.Magic.{PlainBits, RawBits, PlainSamples, RawSamples, Picture}
 use Rattle.bitmap_input.specs.Header.{magic_of}
-use Rattle.bitmap_input.specs.Reading.{Held, Same, StopsBy, Reads}
+use Rattle.bitmap_input.specs.Reading.{Buffered, Same, StopsBy, Reads}
 use Rattle.bitmap_input.specs.Reading.Cause.{Says}
 use Rattle.bitmap_input.specs.GrayRows.{gray_alone, gray_kind, gray_magic, header_end, gray_header_behind, gray_header, gray_row, ChecksKind}
 use Rattle.bitmap_input.proofs.Appending.{Stays, stays_bind, stop_stays, take_stays, magic_stays, space_stays, spaces_stay, sides_stay, maxval_stays, times_stay, plain_sample_stays, raw_samples_row_stays}
@@ -40,7 +40,7 @@ header_end_stays true = take_stays false []
 header_end_stays false = space_stays
 
 -- the check of the format as a step that reads nothing
-pub reads_kind : (format : Format) {held : Held} {files : Option Files} {result : Result Bool Stop} → ChecksKind (gray_kind (magic_of format)) result
+pub reads_kind : (format : Format) {held : Buffered} {files : Option Files} {result : Result Bool Stop} → ChecksKind (gray_kind (magic_of format)) result
     → Reads Same (gray_kind (magic_of format)) held files result held files
 reads_kind format {held = held} {files = files} {result = Ok plain} is =
     record {
@@ -61,13 +61,13 @@ reads_kind format {held = held} {files = files} {result = Err stop} (ending, cau
 
 gray_header_behind_stays : (plain : Bool) → Stays (gray_header_behind plain)
 gray_header_behind_stays plain = λ bytes more.
-    stays_bind (sides bytes) (sides (bytes ++ more)) (λ s rest. maxval rest >>= λ white rest. header_end plain rest >>= λ _ rest.
-    Takes false (record { plain = plain; width = s.0; height = s.1; white = white }) rest) more (λ s. λ bytes more.
-    stays_bind (maxval bytes) (maxval (bytes ++ more)) (λ white rest. header_end plain rest >>= λ _ rest.
-    Takes false (record { plain = plain; width = s.0; height = s.1; white = white }) rest) more (λ white. λ bytes more.
+    stays_bind (sides bytes) (sides (bytes ++ more)) (λ s rest. maxval rest >>= λ maxval rest. header_end plain rest >>= λ _ rest.
+    Takes false (record { plain = plain; width = s.0; height = s.1; maxval = maxval }) rest) more (λ s. λ bytes more.
+    stays_bind (maxval bytes) (maxval (bytes ++ more)) (λ maxval rest. header_end plain rest >>= λ _ rest.
+    Takes false (record { plain = plain; width = s.0; height = s.1; maxval = maxval }) rest) more (λ maxval. λ bytes more.
     stays_bind (header_end plain bytes) (header_end plain (bytes ++ more)) (λ _ rest.
-    Takes false (record { plain = plain; width = s.0; height = s.1; white = white }) rest) more
-    (λ _. take_stays false (record { plain = plain; width = s.0; height = s.1; white = white })) (header_end_stays plain bytes more))
+    Takes false (record { plain = plain; width = s.0; height = s.1; maxval = maxval }) rest) more
+    (λ _. take_stays false (record { plain = plain; width = s.0; height = s.1; maxval = maxval })) (header_end_stays plain bytes more))
     (maxval_stays bytes more)) (sides_stay bytes more)
 
 pub gray_header_stays : Stays gray_header
@@ -76,6 +76,6 @@ gray_header_stays = λ bytes more.
     stays_bind (gray_magic bytes) (gray_magic (bytes ++ more)) (λ plain rest. gray_header_behind plain rest) more gray_header_behind_stays (gray_magic_stays bytes more))
     (spaces_stay bytes more)
 
-pub gray_row_stays : (plain : Bool) (white width : ℕ) → Stays (gray_row plain white width)
-gray_row_stays true white width = times_stay plain_sample plain_sample_stays width
-gray_row_stays false white width = raw_samples_row_stays Gray white width
+pub gray_row_stays : (plain : Bool) (maxval width : ℕ) → Stays (gray_row plain maxval width)
+gray_row_stays true maxval width = times_stay plain_sample plain_sample_stays width
+gray_row_stays false maxval width = raw_samples_row_stays Gray maxval width

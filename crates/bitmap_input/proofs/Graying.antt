@@ -10,7 +10,7 @@ use Rattle.bitmap_input.specs.Cut.{Cut}
 use Rattle.bitmap_input.specs.Samples.{PixelSamples, samples_in, samples, grouped}
 use Rattle.bitmap_input.specs.Shading.{brightness, brightness_at, IsCappedBrightness, is_black_at, black_of, IsInRange}
 use Rattle.bitmap_input.specs.Run.{cap, IsCapped}
-use Rattle.bitmap_input.specs.Reading.{Held, Reads}
+use Rattle.bitmap_input.specs.Reading.{Buffered, Reads}
 use Rattle.bitmap_input.specs.declared.channels.Channels.{Channels}
 use Rattle.bitmap_input.specs.declared.channels.Channels.TheVariants.{Gray, Color}
 use Rattle.bitmap_input.specs.declared.samples.Shading.{Shading}
@@ -93,9 +93,9 @@ shaded Color f x vs h = color_shaded f x vs h
 
 -- A number that is cut is above the brightness of each pixel that is black.
 
-pub least_cap : (c : Channels) (limit white : ℕ) → white ≤ 65535 → limit ≤ samples_in c * white → limit < cap
-least_cap Gray limit white most less = omega arith
-least_cap Color limit white most less = omega arith
+pub least_cap : (c : Channels) (limit maxval : ℕ) → maxval ≤ 65535 → limit ≤ samples_in c * maxval → limit < cap
+least_cap Gray limit maxval most less = omega arith
+least_cap Color limit maxval most less = omega arith
 
 pub capped_brightness : (c : Channels) (limit x : ℕ) (a : PixelSamples c) → limit < cap → IsCappedBrightness c x a →
     nat_le (brightness c a) limit ≡ nat_le x limit
@@ -111,12 +111,12 @@ capped_brightness Color limit x (r, g, b) less capped = elim (cases_lt limit (r 
 pub capped_black : (s : Shading) → IsInRange s → (x : ℕ) (a : PixelSamples s.channels) → IsCappedBrightness s.channels x a →
     black_of s a ≡ is_black_at s x
 capped_black s range x a capped =
-    ap (differ s.invert) (capped_brightness s.channels s.limit x a (least_cap s.channels s.limit s.white range.most range.limit) capped)
+    ap (differ s.invert) (capped_brightness s.channels s.limit x a (least_cap s.channels s.limit s.maxval range.most range.limit) capped)
 
 -- three numbers that were cut
 pub capped_sum : (x y z r g b : ℕ) → IsCapped x r → IsCapped y g → IsCapped z b → IsCappedBrightness Color (x + y + z) (r, g, b)
 capped_sum x y z r g b is_red is_green is_blue = omega (arith, is_red, is_green, is_blue)
 
 -- a number that was read is cut
-pub read_within : {part : List ℕ → Cut ℕ} {old new : Held} {files now : Option Files} {x : ℕ} → Reads IsCapped part old files (Ok x) new now → x ≤ cap
+pub read_within : {part : List ℕ → Cut ℕ} {old new : Buffered} {files now : Option Files} {x : ℕ} → Reads IsCapped part old files (Ok x) new now → x ≤ cap
 read_within r = let (e, a, is, takes, settled) = r.gives in omega (arith, is)

@@ -13,7 +13,7 @@ use Rattle.bitmap_input.specs.declared.stop.Stop.{Stop}
 use Rattle.bitmap_input.specs.declared.header.Sides.{Sides}
 use Rattle.bitmap_input.specs.Header.{IsSides, Checks, ChecksMaxval}
 use Rattle.pt_base.specs.Files.{Files}
-use Rattle.bitmap_input.specs.Reading.{Held, StopsBy, Reads, Same}
+use Rattle.bitmap_input.specs.Reading.{Buffered, StopsBy, Reads, Same}
 use Rattle.bitmap_input.proofs.Needing.{needs_none}
 use Rattle.bitmap_input.proofs.Telling.{not_true, stand}
 use Rattle.bitmap_input.specs.Reading.Cause.{Says}
@@ -82,7 +82,7 @@ checks_sides x y some_x some_y most_x most_y width height a b =
     (omega arith, omega arith, λ bytes. rw (no_zero width height w h, no_large width height w2 h2) refl)
 
 -- the check of the sides as a step that reads nothing
-pub reads_checked : {x y : ℕ} {held : Held} {files : Option Files} {result : Result Sides Stop} (width height : ℕ) →
+pub reads_checked : {x y : ℕ} {held : Buffered} {files : Option Files} {result : Result Sides Stop} (width height : ℕ) →
     IsCapped x width → IsCapped y height → Checks x y result →
     Reads IsSides (λ rest. checked width height rest) held files result held files
 reads_checked {held = held} {files = files} {result = Ok s} width height a b checks =
@@ -127,9 +127,9 @@ checks_maxval x some most n a =
     (omega arith, λ bytes. rw (a_maxval n s m) refl)
 
 -- the check of the sample for white as a step that reads nothing
-pub reads_checked_maxval : {x : ℕ} {held : Held} {files : Option Files} {result : Result ℕ Stop} (n : ℕ) →
+pub reads_checked_maxval : {x : ℕ} {held : Buffered} {files : Option Files} {result : Result ℕ Stop} (n : ℕ) →
     IsCapped x n → ChecksMaxval x result → Reads Same (checked_maxval n) held files result held files
-reads_checked_maxval {held = held} {files = files} {result = Ok white} n a checks =
+reads_checked_maxval {held = held} {files = files} {result = Ok maxval} n a checks =
     let (same, is) = checks n a in
     record {
       more = [];

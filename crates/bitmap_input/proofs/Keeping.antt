@@ -6,7 +6,7 @@ use Rattle.bitmap_input.specs.Cut.{Kind, Ending, Cut, ◌>>=◌}
 use Rattle.bitmap_input.specs.Cut.Kind.{BadHeader, BadRaster, Truncated, TooLong, ZeroSide, TooLarge, UnknownFormat}
 use Rattle.bitmap_input.specs.Cut.Ending.{End, Trailing, Refused}
 use Rattle.bitmap_input.specs.Cut.Cut.{Takes, Stops}
-use Rattle.bitmap_input.specs.Parts.{longest, is_zero, is_empty, is_space, is_digit, run_length, gap_length, missing, run_of, gap, some_gap, value, number, number_behind_gap, space, pixel, block, times}
+use Rattle.bitmap_input.specs.Parts.{longest, is_zero, is_empty, is_space, is_digit, run_length, gap_length, missing, run_of, gap, some_gap, value, number, number_behind_gap, space, pixel, block, repeated}
 use Rattle.bitmap_input.specs.Raw.{row_bytes, unpacked}
 use Rattle.bitmap_input.specs.Front.{Magic, no_magic, magic_of_name, magic_named, magic_behind, magic, checked, sides, checked_maxval, maxval, greatest_maxval, plain_pixel, raw_row, front}
 use Rattle.bitmap_input.specs.Samples.{samples_in, plain_sample, plain_samples, is_wide, sample_bytes, samples, grouped, raw_samples_row}
@@ -93,11 +93,11 @@ keeps_block n bytes =
     (keeps_stop bytes true (Refused Truncated)) (keeps_take bytes false (take n bytes) (drop n bytes) (dropped n bytes))
 
 pub keeps_times : {A : Type 0} (part : List ℕ → Cut A) → ((bytes : List ℕ) → Keeps bytes (part bytes)) → (n : ℕ) (bytes : List ℕ) →
-    Keeps bytes (times part n bytes)
+    Keeps bytes (repeated part n bytes)
 keeps_times part keeps zero bytes = keeps_take bytes false [] bytes (all_rest bytes)
 keeps_times part keeps (suc n) bytes =
-    keeps_bind bytes (part bytes) (λ x rest. times part n rest >>= λ xs rest. Takes false (x ∷ xs) rest) (keeps bytes)
-    (λ x mid. keeps_bind mid (times part n mid) (λ xs rest. Takes false (x ∷ xs) rest) (keeps_times part keeps n mid)
+    keeps_bind bytes (part bytes) (λ x rest. repeated part n rest >>= λ xs rest. Takes false (x ∷ xs) rest) (keeps bytes)
+    (λ x mid. keeps_bind mid (repeated part n mid) (λ xs rest. Takes false (x ∷ xs) rest) (keeps_times part keeps n mid)
     (λ xs rest. keeps_take rest false (x ∷ xs) rest (all_rest rest)))
 
 pub keeps_no_magic : (bytes : List ℕ) (e later : Bool) → Keeps bytes (no_magic e later)
@@ -156,7 +156,7 @@ keeps_plain_samples Color bytes =
     (λ g rest. keeps_bind rest (plain_sample rest) (λ b rest. Takes false (r, g, b) rest) (keeps_number_behind_gap BadRaster rest)
     (λ b rest. keeps_take rest false (r, g, b) rest (all_rest rest))))
 
-pub keeps_raw_samples_row : (c : Channels) (white width : ℕ) (bytes : List ℕ) → Keeps bytes (raw_samples_row c white width bytes)
-keeps_raw_samples_row c white width bytes =
-    keeps_bind bytes (block (sample_bytes white (samples_in c * width)) bytes) (λ row rest. Takes false (grouped c (samples (is_wide white) row)) rest) (keeps_block (sample_bytes white (samples_in c * width)) bytes)
-    (λ row rest. keeps_take rest false (grouped c (samples (is_wide white) row)) rest (all_rest rest))
+pub keeps_raw_samples_row : (c : Channels) (maxval width : ℕ) (bytes : List ℕ) → Keeps bytes (raw_samples_row c maxval width bytes)
+keeps_raw_samples_row c maxval width bytes =
+    keeps_bind bytes (block (sample_bytes maxval (samples_in c * width)) bytes) (λ row rest. Takes false (grouped c (samples (is_wide maxval) row)) rest) (keeps_block (sample_bytes maxval (samples_in c * width)) bytes)
+    (λ row rest. keeps_take rest false (grouped c (samples (is_wide maxval) row)) rest (all_rest rest))

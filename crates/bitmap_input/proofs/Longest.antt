@@ -4,18 +4,18 @@ use Rattle.std.specs.Prelude.{nat_eq}
 use Rattle.std.proofs.lemmas.List.{length-append, length-take-le, take-append-drop}
 use Rattle.std.proofs.lemmas.Bool.{not-true, eqb-true, eq-eqb, ne_eqb, both_ways, or_cases}
 use Rattle.bitmap_input.specs.Parts.{is_space, ends_line, run_length, gap_length}
-use Rattle.bitmap_input.specs.Sets.{is_quiet, IsRun, EndsComment, IsGap}
+use Rattle.bitmap_input.specs.Sets.{is_quiet, AllBytes, EndsComment, IsGap}
 use Rattle.bitmap_input.specs.Sets.IsGap.{Nothing, Space, Comment}
 
-run_one : (p : ℕ → Bool) (t : Bool) (n b : ℕ) (bs : List ℕ) → p b ≡ t → IsRun p (take n bs) → IsRun p (take (cond t (suc n) 0) (b ∷ bs))
+run_one : (p : ℕ → Bool) (t : Bool) (n b : ℕ) (bs : List ℕ) → p b ≡ t → AllBytes p (take n bs) → AllBytes p (take (cond t (suc n) 0) (b ∷ bs))
 run_one p true n b bs test rest = (test, rest)
 run_one p false n b bs test rest = tt
 
-pub run_is_run : (p : ℕ → Bool) (bytes : List ℕ) → IsRun p (take (run_length p bytes) bytes)
+pub run_is_run : (p : ℕ → Bool) (bytes : List ℕ) → AllBytes p (take (run_length p bytes) bytes)
 run_is_run p [] = tt
 run_is_run p (b ∷ bs) = run_one p (p b) (run_length p bs) b bs refl (run_is_run p bs)
 
-pub run_is_longest : (p : ℕ → Bool) (bytes : List ℕ) (n : ℕ) → n ≤ length bytes → IsRun p (take n bytes) → n ≤ run_length p bytes
+pub run_is_longest : (p : ℕ → Bool) (bytes : List ℕ) (n : ℕ) → n ≤ length bytes → AllBytes p (take n bytes) → n ≤ run_length p bytes
 run_is_longest p bytes zero within run = omega arith
 run_is_longest p [] (suc n) within run = absurd (omega arith)
 run_is_longest p (b ∷ bs) (suc n) within run =
@@ -33,7 +33,7 @@ pub record IsCommented (bytes : List ℕ) : Type 0 where
   pub text : List ℕ
   pub rest : List ℕ
   pub split : bytes ≡ text ++ rest
-  pub quiet : IsRun is_quiet text
+  pub quiet : AllBytes is_quiet text
   pub ends : EndsComment rest
   pub gap : IsGap rest
 
@@ -89,7 +89,7 @@ gap_is_gap bytes = (gap_and_comment bytes).0
 space_is_no_hash : (b : ℕ) → is_space b ≡ true → nat_eq b 35 ≡ false
 space_is_no_hash b space = ne_eqb b 35 (λ same. both_ways (is_space 35) refl (ap is_space (sym same) ∙ space))
 
-in_comment : (text rest more : List ℕ) → IsRun is_quiet text → EndsComment rest →
+in_comment : (text rest more : List ℕ) → AllBytes is_quiet text → EndsComment rest →
     length rest ≤ gap_length false (rest ++ more) → length text + length rest ≤ gap_length true (text ++ (rest ++ more))
 in_comment (t ∷ ts) rest more quiet ends gap =
     let test : ends_line t ≡ false = not-true (ends_line t) quiet.0 in

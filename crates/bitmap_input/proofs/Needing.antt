@@ -3,7 +3,7 @@ use Rattle.std.proofs.Common.{◌≡◌, refl, ℕ, ◌≤◌, ◌⊎◌, inl, i
 use Rattle.pt_base.specs.Files.{Files}
 use Rattle.bitmap_input.specs.Cut.{Cut, is_by_end, ◌>>=◌}
 use Rattle.bitmap_input.specs.Cut.Cut.{Takes, Stops}
-use Rattle.bitmap_input.specs.Reading.{Held, AreNeeded}
+use Rattle.bitmap_input.specs.Reading.{Buffered, AreNeeded}
 use Rattle.bitmap_input.specs.Window.{ReadsOn}
 use Rattle.bitmap_input.proofs.Appending.{is_by_end-after}
 
@@ -50,7 +50,7 @@ pub needs_behind : {A B : Type 0} (cut : List ℕ → Cut A) (next : List ℕ �
 needs_behind cut next more more2 first n open_end = needs_second cut next more more2 first n open_end n.undecided
 
 -- a look reads where no byte was left, of a cut that is by the end of those before
-pub needs_look : {A : Type 0} {old mid : Held} {files fmid : Option Files} (cut : List ℕ → Cut A) (more : List ℕ) → AreNeeded cut more →
+pub needs_look : {A : Type 0} {old mid : Buffered} {files fmid : Option Files} (cut : List ℕ → Cut A) (more : List ℕ) → AreNeeded cut more →
     (on : ReadsOn old files mid fmid) → (old.bytes ≡ [] → is_by_end (cut more) ≡ true) → AreNeeded cut (more ++ on.more)
 needs_look cut more n on open_end = needs_more cut more on.more n (elim on.one_block [
   | inl none ↦ inl none
@@ -58,7 +58,7 @@ needs_look cut more n on open_end = needs_more cut more on.more n (elim on.one_b
 ])
 
 -- the first look of a part
-pub needs_first : {A : Type 0} {old mid : Held} {files fmid : Option Files} (part : List ℕ → Cut A) → (on : ReadsOn old files mid fmid) →
+pub needs_first : {A : Type 0} {old mid : Buffered} {files fmid : Option Files} (part : List ℕ → Cut A) → (on : ReadsOn old files mid fmid) →
     is_by_end (part []) ≡ true → AreNeeded (λ bytes. part (old.bytes ++ bytes)) on.more
 needs_first {old = old} part on by_end =
     needs_look (λ bytes. part (old.bytes ++ bytes)) [] (needs_none (λ bytes. part (old.bytes ++ bytes))) on

@@ -8,7 +8,7 @@ use Rattle.bitmap_input.specs.Cut.Kind.{BadHeader, BadRaster, TooLong, ZeroSide,
 use Rattle.bitmap_input.specs.Front.Magic.{PlainBits, RawBits, PlainSamples, RawSamples, Picture}
 use Rattle.bitmap_input.specs.Cut.Ending.{End, Trailing, Refused}
 use Rattle.bitmap_input.specs.Cut.Cut.{Takes, Stops}
-use Rattle.bitmap_input.specs.Parts.{is_zero, is_empty, longest, is_digit, is_space, run_length, gap_length, value, missing, run_of, spaces, gap, some_gap, number, number_behind_gap, space, block, times}
+use Rattle.bitmap_input.specs.Parts.{is_zero, is_empty, longest, is_digit, is_space, run_length, gap_length, value, missing, run_of, spaces, gap, some_gap, number, number_behind_gap, space, block, repeated}
 use Rattle.bitmap_input.specs.Front.{Magic, magic, magic_of_name, magic_named, sides, checked, maxval, checked_maxval, greatest_maxval}
 use Rattle.bitmap_input.specs.Samples.{samples_in, samples, grouped, plain_sample, is_wide, sample_bytes}
 use Rattle.bitmap_input.specs.declared.channels.Channels.{Channels}
@@ -107,26 +107,26 @@ goes_gray_magic bytes = goes_bind (magic false bytes) gray_kind (goes_magic byte
 
 goes_header_behind : (plain : Bool) (bytes : List ℕ) → Goes (gray_header_behind plain bytes)
 goes_header_behind plain bytes =
-    goes_bind (sides bytes) (λ s rest. maxval rest >>= λ white rest. header_end plain rest >>= λ _ rest.
-    Takes false (record { plain = plain; width = s.0; height = s.1; white = white }) rest) (goes_sides bytes) (λ s rest.
-    goes_bind (maxval rest) (λ white rest. header_end plain rest >>= λ _ rest.
-    Takes false (record { plain = plain; width = s.0; height = s.1; white = white }) rest) (goes_maxval rest) (λ white rest.
-    goes_bind (header_end plain rest) (λ _ rest. Takes false (record { plain = plain; width = s.0; height = s.1; white = white }) rest) (goes_header_end plain rest) (λ _ _. tt)))
+    goes_bind (sides bytes) (λ s rest. maxval rest >>= λ maxval rest. header_end plain rest >>= λ _ rest.
+    Takes false (record { plain = plain; width = s.0; height = s.1; maxval = maxval }) rest) (goes_sides bytes) (λ s rest.
+    goes_bind (maxval rest) (λ maxval rest. header_end plain rest >>= λ _ rest.
+    Takes false (record { plain = plain; width = s.0; height = s.1; maxval = maxval }) rest) (goes_maxval rest) (λ maxval rest.
+    goes_bind (header_end plain rest) (λ _ rest. Takes false (record { plain = plain; width = s.0; height = s.1; maxval = maxval }) rest) (goes_header_end plain rest) (λ _ _. tt)))
 
 pub goes_header : (bytes : List ℕ) → Goes (gray_header bytes)
 goes_header bytes =
     goes_bind (spaces bytes) (λ _ rest. gray_magic rest >>= λ plain rest. gray_header_behind plain rest) (goes_run (run_length is_space bytes) bytes) (λ _ rest.
     goes_bind (gray_magic rest) (λ plain rest. gray_header_behind plain rest) (goes_gray_magic rest) goes_header_behind)
 
-goes_times : {A : Type 0} (part : List ℕ → Cut A) → ((bytes : List ℕ) → Goes (part bytes)) → (n : ℕ) (bytes : List ℕ) → Goes (times part n bytes)
+goes_times : {A : Type 0} (part : List ℕ → Cut A) → ((bytes : List ℕ) → Goes (part bytes)) → (n : ℕ) (bytes : List ℕ) → Goes (repeated part n bytes)
 goes_times part each zero bytes = tt
 goes_times part each (suc n) bytes =
-    goes_bind (part bytes) (λ x rest. times part n rest >>= λ xs rest. Takes false (x ∷ xs) rest) (each bytes) (λ x rest.
-    goes_bind (times part n rest) (λ xs rest. Takes false (x ∷ xs) rest) (goes_times part each n rest) (λ _ _. tt))
+    goes_bind (part bytes) (λ x rest. repeated part n rest >>= λ xs rest. Takes false (x ∷ xs) rest) (each bytes) (λ x rest.
+    goes_bind (repeated part n rest) (λ xs rest. Takes false (x ∷ xs) rest) (goes_times part each n rest) (λ _ _. tt))
 
-pub goes_row : (plain : Bool) (white width : ℕ) (bytes : List ℕ) → Goes (gray_row plain white width bytes)
-goes_row true white width bytes = goes_times plain_sample (goes_number_behind_gap BadRaster) width bytes
-goes_row false white width bytes =
-    goes_bind (block (sample_bytes white (samples_in Gray * width)) bytes) (λ row rest. Takes false (grouped Gray (samples (is_wide white) row)) rest)
-    (goes_if (List ℕ) (nat_lt (length bytes) (sample_bytes white (samples_in Gray * width))) (Stops true (Refused Truncated))
-    (Takes false (take (sample_bytes white (samples_in Gray * width)) bytes) (drop (sample_bytes white (samples_in Gray * width)) bytes)) tt tt) (λ _ _. tt)
+pub goes_row : (plain : Bool) (maxval width : ℕ) (bytes : List ℕ) → Goes (gray_row plain maxval width bytes)
+goes_row true maxval width bytes = goes_times plain_sample (goes_number_behind_gap BadRaster) width bytes
+goes_row false maxval width bytes =
+    goes_bind (block (sample_bytes maxval (samples_in Gray * width)) bytes) (λ row rest. Takes false (grouped Gray (samples (is_wide maxval) row)) rest)
+    (goes_if (List ℕ) (nat_lt (length bytes) (sample_bytes maxval (samples_in Gray * width))) (Stops true (Refused Truncated))
+    (Takes false (take (sample_bytes maxval (samples_in Gray * width)) bytes) (drop (sample_bytes maxval (samples_in Gray * width)) bytes)) tt tt) (λ _ _. tt)

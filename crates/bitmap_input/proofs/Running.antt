@@ -10,16 +10,16 @@ use Rattle.bitmap_input.specs.declared.stop.Stop.TheVariants as stop
 use Rattle.bitmap_input.specs.Cut.{is_by_end}
 use Rattle.bitmap_input.specs.Cut.Cut.{Takes}
 use Rattle.bitmap_input.specs.Parts.{longest, is_empty, run_of}
-use Rattle.bitmap_input.specs.Reading.{Held, Moves, AreNeeded, Reads}
+use Rattle.bitmap_input.specs.Reading.{Buffered, Moves, AreNeeded, Reads}
 use Rattle.bitmap_input.specs.Window.{ReadsOn}
-use Rattle.bitmap_input.specs.Run.{length_of}
+use Rattle.bitmap_input.specs.Run.{run_size}
 use Rattle.bitmap_input.specs.declared.run.Run.{Run}
 use Rattle.bitmap_input.specs.declared.run.Run.TheVariants.{Space, Gap, Comment}
 use Rattle.bitmap_input.proofs.Needing.{needs_none, needs_look}
 use Rattle.bitmap_input.proofs.Telling.{not_true, stand, move_on}
 
 -- n bytes of a run were used: a run that begins as theirs did goes on as `len_now` says
-pub record RunSoFar (len len_now : List ℕ → ℕ) (old : Held) (before : Option Files) (n : ℕ) (new : Held) (now : Option Files) : Type 0 where
+pub record RunSoFar (len len_now : List ℕ → ℕ) (old : Buffered) (before : Option Files) (n : ℕ) (new : Buffered) (now : Option Files) : Type 0 where
   pub more : List ℕ
   pub used : List ℕ
   pub moves : Moves old.ended before new.ended now more
@@ -33,13 +33,13 @@ abbrev pub Exactly : {A X : Type 0} → X → A → X → A → Type 0
 Exactly x a y b = (y ≡ x) × (b ≡ a)
 
 -- no run stands at the front of nothing
-pub length_of-nil : (run : Run) → length_of run [] ≡ 0
+pub length_of-nil : (run : Run) → run_size run [] ≡ 0
 length_of-nil Space = refl
 length_of-nil Gap = refl
 length_of-nil Comment = refl
 
 -- no byte was used
-abbrev pub run_begins : (len : List ℕ → ℕ) (old : Held) (files : Option Files) → RunSoFar len len old files 0 old files
+abbrev pub run_begins : (len : List ℕ → ℕ) (old : Buffered) (files : Option Files) → RunSoFar len len old files 0 old files
 run_begins len old files = record {
   more = [];
   used = [];
@@ -63,7 +63,7 @@ pub two_splits : (old more used mid more2 new : List ℕ) → old ++ more ≡ us
 two_splits old more used mid more2 new a b =
     sym (append_assoc old more more2) ∙ ap (λ xs. xs ++ more2) a ∙ append_assoc used mid more2 ∙ ap (λ xs. used ++ xs) (sym b)
 
-module _ {len len_now : List ℕ → ℕ} {old mid : Held} {before f : Option Files} {n : ℕ} (s : RunSoFar len len_now old before n mid f) (ends : len_now [] ≡ 0) (within : n ≤ longest) where
+module _ {len len_now : List ℕ → ℕ} {old mid : Buffered} {before f : Option Files} {n : ℕ} (s : RunSoFar len len_now old before n mid f) (ends : len_now [] ≡ 0) (within : n ≤ longest) where
   -- where no byte is left, the run is by the end of those that were used
   pub run_is_open : mid.bytes ≡ [] → is_by_end (run_of (len (old.bytes ++ s.more)) (old.bytes ++ s.more)) ≡ true
   run_is_open none =
@@ -71,11 +71,11 @@ module _ {len len_now : List ℕ → ℕ} {old mid : Held} {before f : Option Fi
       rw (s.split, none, count) (ap is_by_end (cut_at n s.used [] s.count within))
 
   -- the next look reads where it has to
-  pub run_needs : {look : Held} {now : Option Files} → (on : ReadsOn mid f look now) →
+  pub run_needs : {look : Buffered} {now : Option Files} → (on : ReadsOn mid f look now) →
       AreNeeded (λ bytes. run_of (len (old.bytes ++ bytes)) (old.bytes ++ bytes)) (s.more ++ on.more)
   run_needs on = needs_look (λ bytes. run_of (len (old.bytes ++ bytes)) (old.bytes ++ bytes)) s.more s.needed on run_is_open
 
-module _ (len len_now : List ℕ → ℕ) (old mid new : Held) (before f now : Option Files) (n : ℕ) (s : RunSoFar len len_now old before n mid f) where
+module _ (len len_now : List ℕ → ℕ) (old mid new : Buffered) (before f now : Option Files) (n : ℕ) (s : RunSoFar len len_now old before n mid f) where
   -- the run ends before the bytes at hand, or with them where a read gave nothing
   run_ends : {X : Type 0} (x : X) → ReadsOn mid f new now → len_now [] ≡ 0 → len_now new.bytes ≡ 0 →
       (is_empty new.bytes ≡ true → new.ended ≡ true) → n ≤ longest →
@@ -118,7 +118,7 @@ module _ (len len_now : List ℕ → ℕ) (old mid new : Held) (before f now : O
       record { more = s.more; moves = s.moves; needed = s.needed; gives = (false, rw (s.split, test) refl, λ h. absurd (not_true h)) }
 
 -- one more byte was used
-abbrev pub run_goes_on : (len len_now len_next : List ℕ → ℕ) (old mid look new : Held) (before f now : Option Files) (n m b : ℕ) (bs : List ℕ) →
+abbrev pub run_goes_on : (len len_now len_next : List ℕ → ℕ) (old mid look new : Buffered) (before f now : Option Files) (n m b : ℕ) (bs : List ℕ) →
     RunSoFar len len_now old before n mid f → len_now [] ≡ 0 → n ≤ longest → ReadsOn mid f look now → look.bytes ≡ b ∷ bs →
     ((xs : List ℕ) → len_now (b ∷ xs) ≡ suc (len_next xs)) → new.bytes ≡ drop 1 look.bytes → new.ended ≡ look.ended → m ≡ n + 1 →
     RunSoFar len len_next old before m new now

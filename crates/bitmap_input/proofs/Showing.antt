@@ -11,10 +11,10 @@ use Rattle.bit_image.specs.Page.{Page as Pixels, image_of, page_of}
 use Rattle.bitmap_input.specs.declared.stop.Stop.{Stop}
 use Rattle.bitmap_input.specs.Cut.{Cut, after, ◌>>=◌}
 use Rattle.bitmap_input.specs.Cut.Cut.{Takes, Stops}
-use Rattle.bitmap_input.specs.Parts.{times}
+use Rattle.bitmap_input.specs.Parts.{repeated}
 use Rattle.bitmap_input.specs.Raw.{Entry, entries_page, black, picture_of, shown}
 use Rattle.bitmap_input.specs.Raster.{with_row, with_rows}
-use Rattle.bitmap_input.specs.Reading.{Held, Reads}
+use Rattle.bitmap_input.specs.Reading.{Buffered, Reads}
 use Rattle.bitmap_input.proofs.Placing.{with_pixels-at, with_pixels-other}
 
 -- above the rows nothing is painted
@@ -27,25 +27,25 @@ rows_above b (suc y) u v (r ∷ rs) above =
 
 -- a row on a white one
 pub row_at : (b : Image) (y u : ℕ) (r : List Bool) → b u y ≡ false → with_row b y r u y ≡ get_or r u false
-row_at b y u r white = elim (cases_lt u (length r)) [
+row_at b y u r maxval = elim (cases_lt u (length r)) [
   | inl h ↦ with_pixels-at b y 0 u u r (omega arith) h
-  | inr h ↦ with_pixels-other b y 0 u y r (λ _ _ g. omega arith) ∙ white ∙ sym (get_or_past r u false h)
+  | inr h ↦ with_pixels-other b y 0 u y r (λ _ _ g. omega arith) ∙ maxval ∙ sym (get_or_past r u false h)
 ]
 
 -- the rows from the top down
 rows_at : (b : Image) (h u v : ℕ) (rows : List (List Bool)) → ((u v : ℕ) → v < h → b u v ≡ false) → length rows ≡ h → v < h →
     with_rows b h rows u v ≡ get_or (get_or rows (h - suc v) []) u false
-rows_at b zero u v rows white len within = absurd (omega arith)
-rows_at b (suc y) u v [] white len within = absurd (omega arith)
-rows_at b (suc y) u v (r ∷ rs) white len within = elim (cases_lt v y) [
+rows_at b zero u v rows maxval len within = absurd (omega arith)
+rows_at b (suc y) u v [] maxval len within = absurd (omega arith)
+rows_at b (suc y) u v (r ∷ rs) maxval len within = elim (cases_lt v y) [
   | inl h ↦
       let n : suc y - suc v ≡ suc (y - suc v) = omega arith in
       rw n (rows_at (with_row b y r) y u v rs
-      (λ u v below. with_pixels-other b y 0 u v r (λ e _ _. omega arith) ∙ white u v (omega arith)) (omega arith) h)
+      (λ u v below. with_pixels-other b y 0 u v r (λ e _ _. omega arith) ∙ maxval u v (omega arith)) (omega arith) h)
   | inr h ↦
       let e : v ≡ y = omega arith in
       let n : suc y - suc v ≡ 0 = omega arith in
-      rw n (rows_above (with_row b y r) y u v rs h ∙ ap (with_row b y r u) e ∙ row_at b y u r (white u y (omega arith)))
+      rw n (rows_above (with_row b y r) y u v rs h ∙ ap (with_row b y r u) e ∙ row_at b y u r (maxval u y (omega arith)))
 ]
 
 module _ {A : Type 0} (level : ℕ) (invert : Bool) (entry : A → Entry) (f : A → Bool) (is : (a : A) → black level invert (entry a) ≡ f a) where
@@ -56,7 +56,7 @@ module _ {A : Type 0} (level : ℕ) (invert : Bool) (entry : A → Entry) (f : A
 
   picture_at : (b : Image) (w h u v : ℕ) (rows : List (List A)) → IsWhite b → length rows ≡ h →
       with_rows b h (map (map f) rows) u v ≡ picture_of level invert (entries_page entry w h rows) u v
-  picture_at b w h u v rows white len = elim (cases_lt v h) [
+  picture_at b w h u v rows maxval len = elim (cases_lt v h) [
     | inl within ↦
         let test : nat_lt v h ≡ true = lt-ltb v h within in
         let entries : get_or (map (map entry) rows) (h - suc v) [] ≡ map entry (get_or rows (h - suc v) [])
@@ -64,19 +64,19 @@ module _ {A : Type 0} (level : ℕ) (invert : Bool) (entry : A → Entry) (f : A
         let row : get_or (map (map f) rows) (h - suc v) [] ≡ map f (get_or rows (h - suc v) [])
         = get_or-map (map f) rows (h - suc v) [] in
         let many : length (map (map f) rows) ≡ h = length-map rows (map f) ∙ len in
-        rw (test, entries, black-entries) (rows_at b h u v (map (map f) rows) (λ u v _. white u v) many within ∙ ap (λ (r : List Bool). get_or r u false) row)
+        rw (test, entries, black-entries) (rows_at b h u v (map (map f) rows) (λ u v _. maxval u v) many within ∙ ap (λ (r : List Bool). get_or r u false) row)
     | inr above ↦
         let test : nat_lt v h ≡ false = le-ltb v h above in
-        rw test (rows_above b h u v (map (map f) rows) above ∙ white u v)
+        rw test (rows_above b h u v (map (map f) rows) above ∙ maxval u v)
   ]
 
   -- the page that was painted
   pub shown_rows : (p : Pixels) (b : Image) (w h : ℕ) (rows : List (List A)) → p ≡ page_of p.width p.height (image_of p) →
       p.width ≡ w → p.height ≡ h → IsWhite b → length rows ≡ h → image_of p ≡ with_rows b h (map (map f) rows) →
       p ≡ shown level invert (entries_page entry w h rows)
-  shown_rows p b w h rows whole width height white len painted =
+  shown_rows p b w h rows whole width height maxval len painted =
       let image : image_of p ≡ picture_of level invert (entries_page entry w h rows)
-      = painted ∙ fun_ext (λ u. fun_ext (λ v. picture_at b w h u v rows white len)) in
+      = painted ∙ fun_ext (λ u. fun_ext (λ v. picture_at b w h u v rows maxval len)) in
       whole ∙ ap (λ w. page_of w p.height (image_of p)) width ∙ ap (λ h. page_of w h (image_of p)) height ∙ ap (page_of w h) image
 
 -- A part that is read so many times has so many values.
@@ -106,15 +106,15 @@ takes_length x (Takes d xs bs) n len e ys rest h =
 takes_length x (Stops d ending) n len e ys rest h = cc
 
 pub times_length : {A : Type 0} (part : List ℕ → Cut A) (n : ℕ) (bytes : List ℕ) (e : Bool) (xs : List A) (rest : List ℕ) →
-    times part n bytes ≡ Takes e xs rest → length xs ≡ n
+    repeated part n bytes ≡ Takes e xs rest → length xs ≡ n
 times_length part zero bytes e xs rest h = let same : [] ≡ xs = cc in ap length (sym same)
 times_length part (suc n) bytes e xs rest h =
-    length_bind (part bytes) (λ x rest. times part n rest >>= λ xs rest. Takes false (x ∷ xs) rest) (suc n) e xs rest
-    (λ x bs. takes_length x (times part n bs) n (times_length part n bs)) h
+    length_bind (part bytes) (λ x rest. repeated part n rest >>= λ xs rest. Takes false (x ∷ xs) rest) (suc n) e xs rest
+    (λ x bs. takes_length x (repeated part n bs) n (times_length part n bs)) h
 
-pub reads_counted : {A X : Type 0} {is : X → List A → Type 0} {old new : Held} {files now : Option Files}
-    {result : Result X Stop} (part : List ℕ → Cut A) (n : ℕ) → Reads is (times part n) old files result new now →
-    Reads (λ x xs. is x xs × (length xs ≡ n)) (times part n) old files result new now
+pub reads_counted : {A X : Type 0} {is : X → List A → Type 0} {old new : Buffered} {files now : Option Files}
+    {result : Result X Stop} (part : List ℕ → Cut A) (n : ℕ) → Reads is (repeated part n) old files result new now →
+    Reads (λ x xs. is x xs × (length xs ≡ n)) (repeated part n) old files result new now
 reads_counted {old = old} {new = new} {result = Ok x} part n r =
     let (e, xs, same, takes, settled) = r.gives in
     record {

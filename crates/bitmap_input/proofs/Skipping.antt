@@ -10,7 +10,7 @@ use Rattle.bitmap_input.specs.declared.stop.Stop.{Stop}
 use Rattle.bitmap_input.specs.declared.stop.Stop.TheVariants as stop
 use Rattle.bitmap_input.specs.Cut.Cut.{Takes}
 use Rattle.bitmap_input.specs.Parts.{block}
-use Rattle.bitmap_input.specs.Reading.{Held, Moves, AreNeeded, Same, Any, Reads, Cause, cause_of, StopsBy}
+use Rattle.bitmap_input.specs.Reading.{Buffered, Moves, AreNeeded, Same, Any, Reads, Cause, cause_of, StopsBy}
 use Rattle.bitmap_input.specs.Reading.Cause.{Says, Device, Memory}
 use Rattle.bitmap_input.specs.Window.{ReadsOn}
 use Rattle.bitmap_input.specs.Skip.{passed_over}
@@ -21,7 +21,7 @@ use Rattle.bitmap_input.proofs.Telling.{not_true, stand, move_on}
 use Rattle.bitmap_input.proofs.Running.{two_splits}
 
 -- so many of n bytes are still to be passed over
-pub record IsPassedSoFar (old : Held) (before : Option Files) (n left : ℕ) (held : Held) (files : Option Files) : Type 0 where
+pub record IsPassedSoFar (old : Buffered) (before : Option Files) (n left : ℕ) (held : Buffered) (files : Option Files) : Type 0 where
   pub more : List ℕ
   pub used : List ℕ
   pub moves : Moves old.ended before held.ended files more
@@ -29,7 +29,7 @@ pub record IsPassedSoFar (old : Held) (before : Option Files) (n left : ℕ) (he
   pub split : old.bytes ++ more ≡ used ++ held.bytes
   pub count : length used + left ≡ n
 
-pub skip_begins : (old : Held) (files : Option Files) (n : ℕ) → IsPassedSoFar old files n n old files
+pub skip_begins : (old : Buffered) (files : Option Files) (n : ℕ) → IsPassedSoFar old files n n old files
 skip_begins old files n = record {
   more = [];
   used = [];
@@ -39,7 +39,7 @@ skip_begins old files n = record {
   count = omega arith;
 }
 
-module _ {old held : Held} {before files : Option Files} {n left : ℕ} (s : IsPassedSoFar old before n left held files) (some : 0 < left) where
+module _ {old held : Buffered} {before files : Option Files} {n left : ℕ} (s : IsPassedSoFar old before n left held files) (some : 0 < left) where
   -- where no byte is left, fewer than n are there
   pub skip_is_open : held.bytes ≡ [] → is_by_end (passed_over n (old.bytes ++ s.more)) ≡ true
   skip_is_open none =
@@ -49,12 +49,12 @@ module _ {old held : Held} {before files : Option Files} {n left : ℕ} (s : IsP
       rw (whole, test) refl
 
   -- the next look reads where it has to
-  pub skip_needs : {look : Held} {now : Option Files} → (on : ReadsOn held files look now) →
+  pub skip_needs : {look : Buffered} {now : Option Files} → (on : ReadsOn held files look now) →
       AreNeeded (λ bytes. passed_over n (old.bytes ++ bytes)) (s.more ++ on.more)
   skip_needs on = needs_look (λ bytes. passed_over n (old.bytes ++ bytes)) s.more s.needed on skip_is_open
 
 -- k more bytes were passed over
-pub skip_goes_on : {old held look new : Held} {before files now : Option Files} {n : ℕ} (left k less : ℕ) → IsPassedSoFar old before n left held files → 0 < left →
+pub skip_goes_on : {old held look new : Buffered} {before files now : Option Files} {n : ℕ} (left k less : ℕ) → IsPassedSoFar old before n left held files → 0 < left →
     ReadsOn held files look now → k ≤ left → k ≤ length look.bytes → new.bytes ≡ drop k look.bytes → new.ended ≡ look.ended → less ≡ left - k →
     IsPassedSoFar old before n less new now
 skip_goes_on {old} {held} {look} {new} {n = n} left k less s some on within fits bytes ended is = record {
@@ -69,7 +69,7 @@ skip_goes_on {old} {held} {look} {new} {n = n} left k less s some on within fits
 }
 
 -- all were passed over
-pub skip_ends : {old held : Held} {before files : Option Files} {n left : ℕ} → IsPassedSoFar old before n left held files → left ≡ 0 →
+pub skip_ends : {old held : Buffered} {before files : Option Files} {n left : ℕ} → IsPassedSoFar old before n left held files → left ≡ 0 →
     Reads Same (passed_over n) old before (Ok 0) held files
 skip_ends {old} {held} {n = n} {left = left} s none =
     let all : length s.used ≡ n = omega (arith, s.count) in
@@ -87,7 +87,7 @@ skip_ends {old} {held} {n = n} {left = left} s none =
     }
 
 -- a read gave nothing before all were passed over
-pub skip_is_short : {old held new : Held} {before files now : Option Files} {n : ℕ} (left : ℕ) → IsPassedSoFar old before n left held files → 0 < left →
+pub skip_is_short : {old held new : Buffered} {before files now : Option Files} {n : ℕ} (left : ℕ) → IsPassedSoFar old before n left held files → 0 < left →
     ReadsOn held files new now → new.bytes ≡ [] → new.ended ≡ true → Reads Same (passed_over n) old before (Ok left) new now
 skip_is_short {old} {held} {new} {n = n} left s some on none ended =
     let all = two_splits old.bytes s.more s.used held.bytes on.more new.bytes s.split on.bytes in
@@ -104,7 +104,7 @@ skip_is_short {old} {held} {new} {n = n} left s some on none ended =
     }
 
 -- a read failed before all were passed over
-pub skip_fails : {old held new : Held} {before files now : Option Files} {n : ℕ} (left : ℕ) → IsPassedSoFar old before n left held files → 0 < left →
+pub skip_fails : {old held new : Buffered} {before files now : Option Files} {n : ℕ} (left : ℕ) → IsPassedSoFar old before n left held files → 0 < left →
     new ≡ held → now ≡ files → held.bytes ≡ [] → held.ended ≡ false → Reads {X = ℕ} Same (passed_over n) old before (Err (stop.Fault fault.ReadFault)) new now
 skip_fails left s some same same_files none going_on =
     rw (same, same_files) record { more = s.more; moves = s.moves; needed = s.needed; gives = (skip_is_open s some none, going_on) }
@@ -131,7 +131,7 @@ needed_block : (start : List ℕ) {more : List ℕ} (n : ℕ) → AreNeeded (λ 
 needed_block start n needed = needs_as (λ bytes. block n (start ++ bytes)) (λ bytes still. rw still refl) needed
 
 -- none was missing: a block was passed over
-pub block_passed : {old new : Held} {files now : Option Files} {left : ℕ} (n : ℕ) → left ≡ 0 → Reads Same (passed_over n) old files (Ok left) new now →
+pub block_passed : {old new : Buffered} {files now : Option Files} {left : ℕ} (n : ℕ) → left ≡ 0 → Reads Same (passed_over n) old files (Ok left) new now →
     Reads Any (block n) old files (Ok (tt {0})) new now
 block_passed {old} {new} n none r =
     let (e, a, same, takes, settled) = r.gives in
@@ -143,7 +143,7 @@ block_passed {old} {new} n none r =
     record { more = r.more; moves = r.moves; needed = needed_block old.bytes n r.needed; gives = (false, take n bytes, tt, rw (test, rest) refl, λ h. absurd (not_true h)) }
 
 -- some were missing
-pub block_missing : {old new : Held} {files now : Option Files} {left : ℕ} (n : ℕ) → 0 < left → Reads Same (passed_over n) old files (Ok left) new now →
+pub block_missing : {old new : Buffered} {files now : Option Files} {left : ℕ} (n : ℕ) → 0 < left → Reads Same (passed_over n) old files (Ok left) new now →
     Reads {X = Unit {0}} Any (block n) old files (Err (stop.Fault fault.Truncated)) new now
 block_missing {old} {new} n some r =
     let (e, a, same, takes, settled) = r.gives in
@@ -154,13 +154,13 @@ block_missing {old} {new} n some r =
     let by_end : e ≡ true = (let at : nat_lt (length bytes) n ≡ e = cc in sym at ∙ test) in
     record { more = r.more; moves = r.moves; needed = needed_block old.bytes n r.needed; gives = (true, rw test refl, λ _. settled by_end) }
 
-fails_by : (n : ℕ) (bytes : List ℕ) (why : Cause) (held : Held) → StopsBy (passed_over n bytes) why held → StopsBy (block n bytes) why held
+fails_by : (n : ℕ) (bytes : List ℕ) (why : Cause) (held : Buffered) → StopsBy (passed_over n bytes) why held → StopsBy (block n bytes) why held
 fails_by n bytes (Says ending) held (e, is, settled) = cc
 fails_by n bytes Device held (by_end, going_on) = (rw by_end refl, going_on)
 fails_by n bytes Memory held stops = tt
 
 -- a read failed
-pub block_failed : {old new : Held} {files now : Option Files} (n : ℕ) (s : Stop) → Reads {X = ℕ} Same (passed_over n) old files (Err s) new now →
+pub block_failed : {old new : Buffered} {files now : Option Files} (n : ℕ) (s : Stop) → Reads {X = ℕ} Same (passed_over n) old files (Err s) new now →
     Reads {X = Unit {0}} Any (block n) old files (Err s) new now
 block_failed {old} {new} n s r =
     record { more = r.more; moves = r.moves; needed = needed_block old.bytes n r.needed; gives = fails_by n (old.bytes ++ r.more) (cause_of s) new r.gives }

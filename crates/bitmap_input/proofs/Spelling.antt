@@ -9,8 +9,8 @@ use Rattle.bitmap_input.specs.Cut.{Kind, Ending, Cut, ◌>>=◌}
 use Rattle.bitmap_input.specs.Cut.Kind.{BadHeader, BadRaster, Truncated, TooLong, ZeroSide, TooLarge, UnknownFormat, BmpKind, BadOffset}
 use Rattle.bitmap_input.specs.Cut.Ending.{End, Trailing, Refused}
 use Rattle.bitmap_input.specs.Cut.Cut.{Takes, Stops}
-use Rattle.bitmap_input.specs.Parts.{longest, is_zero, is_empty, is_space, is_digit, run_length, gap_length, missing, run_of, spaces, gap, some_gap, value, number, number_behind_gap, space, pixel, block, times}
-use Rattle.bitmap_input.specs.Sets.{IsRun, IsGap}
+use Rattle.bitmap_input.specs.Parts.{longest, is_zero, is_empty, is_space, is_digit, run_length, gap_length, missing, run_of, spaces, gap, some_gap, value, number, number_behind_gap, space, pixel, block, repeated}
+use Rattle.bitmap_input.specs.Sets.{AllBytes, IsGap}
 use Rattle.bitmap_input.specs.Sides.{checked}
 use Rattle.bitmap_input.specs.Raw.{Raw, Entry, entries_page, row_bytes, unpacked}
 use Rattle.bitmap_input.specs.Raw.Entry.{Bit}
@@ -18,7 +18,7 @@ use Rattle.bitmap_input.specs.BmpHeader.{header_size, is_known_size, is_known_ki
 use Rattle.bitmap_input.specs.BmpRaster as bmp_raster
 use Rattle.bitmap_input.specs.BmpRaster.{palette_color, pixel_in}
 use Rattle.bitmap_input.specs.Bmp.{passes, start, info, masks, placed, header}
-use Rattle.bitmap_input.specs.Front.{Magic, no_magic, magic_of_name, magic_named, magic_behind, magic, sides, greatest_maxval, checked_maxval, maxval, plain_pixel, raw_row, raster, body, page_at, answer_of, front}
+use Rattle.bitmap_input.specs.Front.{Magic, no_magic, magic_of_name, magic_named, magic_behind, magic, sides, greatest_maxval, checked_maxval, maxval, plain_pixel, raw_row, rows_raster, body, page_at, answer_of, front}
 use Rattle.bitmap_input.specs.Samples.{samples_in, as_entry, plain_sample, plain_samples, is_wide, sample_bytes, samples, grouped, raw_samples_row}
 use Rattle.bitmap_input.specs.declared.channels.Channels.{Channels}
 use Rattle.bitmap_input.specs.declared.channels.Channels.TheVariants.{Gray, Color}
@@ -94,7 +94,7 @@ spells_some_gap kind bytes =
     (gap_is_gap bytes, omega (arith, some_of (gap_length false bytes) some, length-take-le (gap_length false bytes) bytes (gap_length-le false bytes))))
 
 abbrev IsDigits : List ℕ → Type 0
-IsDigits bytes = IsRun is_digit bytes × (1 ≤ length bytes)
+IsDigits bytes = AllBytes is_digit bytes × (1 ≤ length bytes)
 
 spells_number : (kind : Kind) (bytes : List ℕ) → Spells IsNumber bytes (number kind bytes)
 spells_number kind bytes =
@@ -142,11 +142,11 @@ spells_block n bytes =
     (refl, length-take-le n bytes (ltb-false (length bytes) n enough)))
 
 spells_times : {A : Type 0} (P : List ℕ → Type 0) (part : List ℕ → Cut A) → ((bytes : List ℕ) → Spells (λ _. P) bytes (part bytes)) → (n : ℕ) (bytes : List ℕ) →
-    Spells (λ _. IsRepeated P n) bytes (times part n bytes)
+    Spells (λ _. IsRepeated P n) bytes (repeated part n bytes)
 spells_times P part spells zero bytes = spells_take (λ _. IsRepeated P zero) bytes false [] bytes [] refl refl
 spells_times P part spells (suc n) bytes =
-    spells_bind (λ _. P) (λ _ _. IsRepeated P n) (λ _. IsRepeated P (suc n)) bytes (part bytes) (λ x rest. times part n rest >>= λ xs rest. Takes false (x ∷ xs) rest) (spells bytes)
-    (λ x mid. spells_made (λ _. IsRepeated P n) (λ _. IsRepeated P n) (λ xs. x ∷ xs) mid (times part n mid) (spells_times P part spells n mid) (λ xs one is. is))
+    spells_bind (λ _. P) (λ _ _. IsRepeated P n) (λ _. IsRepeated P (suc n)) bytes (part bytes) (λ x rest. repeated part n rest >>= λ xs rest. Takes false (x ∷ xs) rest) (spells bytes)
+    (λ x mid. spells_made (λ _. IsRepeated P n) (λ _. IsRepeated P n) (λ xs. x ∷ xs) mid (repeated part n mid) (spells_times P part spells n mid) (λ xs one is. is))
     (λ x xs one two is rest_is. joined P (IsRepeated P n) one two is rest_is)
 
 spells_no_magic : (S : Magic → List ℕ → Type 0) (bytes : List ℕ) (e later : Bool) → Spells S bytes (no_magic e later)
@@ -220,9 +220,9 @@ abbrev IsRows : (List ℕ → Type 0) → ℕ → ℕ → Raw → List ℕ → T
 IsRows P w h raw bytes = (raw.width ≡ w) × (raw.height ≡ h) × IsRepeated P h bytes
 
 spells_raster : {A : Type 0} (P : List ℕ → Type 0) (entry : A → Entry) (row : List ℕ → Cut (List A)) → ((bytes : List ℕ) → Spells (λ _. P) bytes (row bytes)) →
-    (w h : ℕ) (bytes : List ℕ) → Spells (IsRows P w h) bytes (raster entry row w h bytes)
+    (w h : ℕ) (bytes : List ℕ) → Spells (IsRows P w h) bytes (rows_raster entry row w h bytes)
 spells_raster P entry row spells w h bytes =
-    spells_made (λ _. IsRepeated P h) (IsRows P w h) (entries_page entry w h) bytes (times row h bytes) (spells_times P row spells h bytes) (λ rows one is. (refl, refl, is))
+    spells_made (λ _. IsRepeated P h) (IsRows P w h) (entries_page entry w h) bytes (repeated row h bytes) (spells_times P row spells h bytes) (λ rows one is. (refl, refl, is))
 
 -- a row that is a block
 spells_block_row : {A : Type 0} (n : ℕ) (f : List ℕ → A) (bytes : List ℕ) → Spells (λ _. IsBlock n) bytes (block n bytes >>= λ row rest. Takes false (f row) rest)
@@ -272,7 +272,7 @@ spells_sided Q bytes g parts =
     (λ s raw one two is rest. sides_and Q s raw one two rest.0 rest.1 is rest.2)
 
 spells_rows : {A : Type 0} (P : ℕ → List ℕ → Type 0) (entry : A → Entry) (row : ℕ → List ℕ → Cut (List A)) → ((w : ℕ) (bytes : List ℕ) → Spells (λ _. P w) bytes (row w bytes)) →
-    (s : ℕ × ℕ) (bytes : List ℕ) → Spells (Sided (Rows P) s) bytes (raster entry (row s.0) s.0 s.1 bytes)
+    (s : ℕ × ℕ) (bytes : List ℕ) → Spells (Sided (Rows P) s) bytes (rows_raster entry (row s.0) s.0 s.1 bytes)
 spells_rows P entry row spells s bytes e raw rest h =
     let t = spells_raster (P s.0) entry (row s.0) (spells s.0) s.0 s.1 bytes e raw rest h in
     (t.0, t.1, (t.2.0, t.2.1, rows_of P s.0 s.1 raw t.0 t.2))
@@ -286,16 +286,16 @@ spells_behind P Q s bytes c g first parts =
 
 -- the sample for white, and what stands behind it
 abbrev WithWhite : (ℕ → Raw → List ℕ → Type 0) → Raw → List ℕ → Type 0
-WithWhite Q raw bytes = (white : ℕ) × IsJoined (IsNumberBehindGap white) (Q white raw) bytes
+WithWhite Q raw bytes = (maxval : ℕ) × IsJoined (IsNumberBehindGap maxval) (Q maxval raw) bytes
 
 spells_white : (Q : ℕ → Raw → List ℕ → Type 0) (s : ℕ × ℕ) (bytes : List ℕ) (g : ℕ → List ℕ → Cut Raw) →
-    ((white : ℕ) (rest : List ℕ) → Spells (Sided (Q white) s) rest (g white rest)) → Spells (Sided (WithWhite Q) s) bytes (maxval bytes >>= g)
+    ((maxval : ℕ) (rest : List ℕ) → Spells (Sided (Q maxval) s) rest (g maxval rest)) → Spells (Sided (WithWhite Q) s) bytes (maxval bytes >>= g)
 spells_white Q s bytes g parts =
-    spells_bind IsNumberBehindGap (λ white. Sided (Q white) s) (Sided (WithWhite Q) s) bytes (maxval bytes) g (spells_maxval bytes) parts
-    (λ white raw one two is rest. (rest.0, rest.1, (white, joined (IsNumberBehindGap white) (Q white raw) one two is rest.2)))
+    spells_bind IsNumberBehindGap (λ maxval. Sided (Q maxval) s) (Sided (WithWhite Q) s) bytes (maxval bytes) g (spells_maxval bytes) parts
+    (λ maxval raw one two is rest. (rest.0, rest.1, (maxval, joined (IsNumberBehindGap maxval) (Q maxval raw) one two is rest.2)))
 
 white_first : (Q : ℕ → Raw → List ℕ → Type 0) (raw : Raw) (bytes : List ℕ) → IsJoined (AreSides raw.width raw.height) (WithWhite Q raw) bytes →
-    (white : ℕ) × IsJoined (AreSides raw.width raw.height) (IsJoined (IsNumberBehindGap white) (Q white raw)) bytes
+    (maxval : ℕ) × IsJoined (AreSides raw.width raw.height) (IsJoined (IsNumberBehindGap maxval) (Q maxval raw)) bytes
 white_first Q raw bytes is =
     (is.is_second.0, record { first = is.first; second = is.second; split = is.split; is_first = is.is_first; is_second = is.is_second.1 })
 
@@ -356,49 +356,49 @@ spells_picture : (head bytes : List ℕ) → Spells (IsPicture head) bytes (bmp_
 spells_picture head bytes =
     spells_behind (IsBlock (palette_bytes head)) (λ raw. IsJoined (IsBlock (pixel_offset head - palette_end head)) (IsRepeated (IsBlock (row_length head)) raw.height)) (width head, height head)
     bytes (block (palette_bytes head) bytes)
-    (λ palette rest. block (pixel_offset head - palette_end head) rest >>= λ _ rest. times (bmp_raster.row_of head palette) (height head) rest >>= λ rows rest. Takes false (bmp_raster.picture head rows) rest)
+    (λ palette rest. block (pixel_offset head - palette_end head) rest >>= λ _ rest. repeated (bmp_raster.bmp_row head palette) (height head) rest >>= λ rows rest. Takes false (bmp_raster.picture head rows) rest)
     (plain_block (palette_bytes head) bytes)
     (λ palette rest. spells_behind (IsBlock (pixel_offset head - palette_end head)) (λ raw. IsRepeated (IsBlock (row_length head)) raw.height) (width head, height head)
-    rest (block (pixel_offset head - palette_end head) rest) (λ _ rest. times (bmp_raster.row_of head palette) (height head) rest >>= λ rows rest. Takes false (bmp_raster.picture head rows) rest)
+    rest (block (pixel_offset head - palette_end head) rest) (λ _ rest. repeated (bmp_raster.bmp_row head palette) (height head) rest >>= λ rows rest. Takes false (bmp_raster.picture head rows) rest)
     (plain_block (pixel_offset head - palette_end head) rest)
     (λ _ rest. spells_made (λ _. IsRepeated (IsBlock (row_length head)) (height head)) (Sided (λ raw. IsRepeated (IsBlock (row_length head)) raw.height) (width head, height head))
-    (bmp_raster.picture head) rest (times (bmp_raster.row_of head palette) (height head) rest)
-    (spells_times (IsBlock (row_length head)) (bmp_raster.row_of head palette)
+    (bmp_raster.picture head) rest (repeated (bmp_raster.bmp_row head palette) (height head) rest)
+    (spells_times (IsBlock (row_length head)) (bmp_raster.bmp_row head palette)
     (λ bytes. spells_block_row (row_length head) (λ row. map (pixel_in (bits head) (palette_color (palette_length head) (color_bytes head) palette) row) (range_with_len 0 (width head))) bytes)
     (height head) rest)
     (λ rows one is. (refl, refl, is))))
 
 spells_body : (m : Magic) (bytes : List ℕ) → Spells (IsBody m) bytes (body m bytes)
 spells_body PlainBits bytes =
-    spells_sided (Rows (λ w. IsRepeated IsPlainPixel w)) bytes (λ s rest. raster (λ b. Bit b) (times plain_pixel s.0) s.0 s.1 rest)
-    (spells_rows (λ w. IsRepeated IsPlainPixel w) (λ b. Bit b) (λ w. times plain_pixel w) (λ w. spells_times IsPlainPixel plain_pixel spells_plain_pixel w))
+    spells_sided (Rows (λ w. IsRepeated IsPlainPixel w)) bytes (λ s rest. rows_raster (λ b. Bit b) (repeated plain_pixel s.0) s.0 s.1 rest)
+    (spells_rows (λ w. IsRepeated IsPlainPixel w) (λ b. Bit b) (λ w. repeated plain_pixel w) (λ w. spells_times IsPlainPixel plain_pixel spells_plain_pixel w))
 spells_body RawBits bytes =
-    spells_sided (λ raw. IsJoined IsSpace (Rows (λ w. IsBlock (row_bytes w)) raw)) bytes (λ s rest. space rest >>= λ _ rest. raster (λ b. Bit b) (raw_row s.0) s.0 s.1 rest)
-    (λ s rest. spells_behind IsSpace (Rows (λ w. IsBlock (row_bytes w))) s rest (space rest) (λ _ rest. raster (λ b. Bit b) (raw_row s.0) s.0 s.1 rest) (spells_space rest)
+    spells_sided (λ raw. IsJoined IsSpace (Rows (λ w. IsBlock (row_bytes w)) raw)) bytes (λ s rest. space rest >>= λ _ rest. rows_raster (λ b. Bit b) (raw_row s.0) s.0 s.1 rest)
+    (λ s rest. spells_behind IsSpace (Rows (λ w. IsBlock (row_bytes w))) s rest (space rest) (λ _ rest. rows_raster (λ b. Bit b) (raw_row s.0) s.0 s.1 rest) (spells_space rest)
     (λ _ rest. spells_rows (λ w. IsBlock (row_bytes w)) (λ b. Bit b) raw_row (λ w bytes. spells_block_row (row_bytes w) (λ row. take w (unpacked row)) bytes) s rest))
 spells_body (PlainSamples c) bytes = λ e raw rest h.
-    let s = spells_sided (WithWhite (λ white. Rows (λ w. IsRepeated (ArePlainSamples c) w))) bytes (λ s rest. maxval rest >>= λ white rest. raster (as_entry c white) (times (plain_samples c) s.0) s.0 s.1 rest)
-    (λ s rest. spells_white (λ white. Rows (λ w. IsRepeated (ArePlainSamples c) w)) s rest (λ white rest. raster (as_entry c white) (times (plain_samples c) s.0) s.0 s.1 rest)
-    (λ white rest. spells_rows (λ w. IsRepeated (ArePlainSamples c) w) (as_entry c white) (λ w. times (plain_samples c) w) (λ w. spells_times (ArePlainSamples c) (plain_samples c) (spells_plain_samples c) w) s rest)) e raw rest h in
-    (s.0, s.1, white_first (λ white. Rows (λ w. IsRepeated (ArePlainSamples c) w)) raw s.0 s.2)
+    let s = spells_sided (WithWhite (λ maxval. Rows (λ w. IsRepeated (ArePlainSamples c) w))) bytes (λ s rest. maxval rest >>= λ maxval rest. rows_raster (as_entry c maxval) (repeated (plain_samples c) s.0) s.0 s.1 rest)
+    (λ s rest. spells_white (λ maxval. Rows (λ w. IsRepeated (ArePlainSamples c) w)) s rest (λ maxval rest. rows_raster (as_entry c maxval) (repeated (plain_samples c) s.0) s.0 s.1 rest)
+    (λ maxval rest. spells_rows (λ w. IsRepeated (ArePlainSamples c) w) (as_entry c maxval) (λ w. repeated (plain_samples c) w) (λ w. spells_times (ArePlainSamples c) (plain_samples c) (spells_plain_samples c) w) s rest)) e raw rest h in
+    (s.0, s.1, white_first (λ maxval. Rows (λ w. IsRepeated (ArePlainSamples c) w)) raw s.0 s.2)
 spells_body (RawSamples c) bytes = λ e raw rest h.
-    let s = spells_sided (WithWhite (λ white raw. IsJoined IsSpace (Rows (λ w. IsBlock (sample_bytes white (samples_in c * w))) raw))) bytes
-    (λ s rest. maxval rest >>= λ white rest. space rest >>= λ _ rest. raster (as_entry c white) (raw_samples_row c white s.0) s.0 s.1 rest)
-    (λ s rest. spells_white (λ white raw. IsJoined IsSpace (Rows (λ w. IsBlock (sample_bytes white (samples_in c * w))) raw)) s rest (λ white rest. space rest >>= λ _ rest. raster (as_entry c white) (raw_samples_row c white s.0) s.0 s.1 rest)
-    (λ white rest. spells_behind IsSpace (Rows (λ w. IsBlock (sample_bytes white (samples_in c * w)))) s rest (space rest) (λ _ rest. raster (as_entry c white) (raw_samples_row c white s.0) s.0 s.1 rest) (spells_space rest)
-    (λ _ rest. spells_rows (λ w. IsBlock (sample_bytes white (samples_in c * w))) (as_entry c white) (raw_samples_row c white) (λ w bytes. spells_block_row (sample_bytes white (samples_in c * w)) (λ row. grouped c (samples (is_wide white) row)) bytes) s rest))) e raw rest h in
-    (s.0, s.1, white_first (λ white raw. IsJoined IsSpace (Rows (λ w. IsBlock (sample_bytes white (samples_in c * w))) raw)) raw s.0 s.2)
+    let s = spells_sided (WithWhite (λ maxval raw. IsJoined IsSpace (Rows (λ w. IsBlock (sample_bytes maxval (samples_in c * w))) raw))) bytes
+    (λ s rest. maxval rest >>= λ maxval rest. space rest >>= λ _ rest. rows_raster (as_entry c maxval) (raw_samples_row c maxval s.0) s.0 s.1 rest)
+    (λ s rest. spells_white (λ maxval raw. IsJoined IsSpace (Rows (λ w. IsBlock (sample_bytes maxval (samples_in c * w))) raw)) s rest (λ maxval rest. space rest >>= λ _ rest. rows_raster (as_entry c maxval) (raw_samples_row c maxval s.0) s.0 s.1 rest)
+    (λ maxval rest. spells_behind IsSpace (Rows (λ w. IsBlock (sample_bytes maxval (samples_in c * w)))) s rest (space rest) (λ _ rest. rows_raster (as_entry c maxval) (raw_samples_row c maxval s.0) s.0 s.1 rest) (spells_space rest)
+    (λ _ rest. spells_rows (λ w. IsBlock (sample_bytes maxval (samples_in c * w))) (as_entry c maxval) (raw_samples_row c maxval) (λ w bytes. spells_block_row (sample_bytes maxval (samples_in c * w)) (λ row. grouped c (samples (is_wide maxval) row)) bytes) s rest))) e raw rest h in
+    (s.0, s.1, white_first (λ maxval raw. IsJoined IsSpace (Rows (λ w. IsBlock (sample_bytes maxval (samples_in c * w))) raw)) raw s.0 s.2)
 spells_body Picture bytes =
     spells_bind (λ head taken. taken ≡ head) IsPicture (IsBody Picture) bytes (header bytes) bmp_raster.raster (spells_header bytes) spells_picture
     (λ head raw one two is rest. (head, rest.0, rest.1, joined (λ first. first ≡ head) _ one two is rest.2))
 
 spells_page : (later : Bool) (bytes : List ℕ) → Spells IsPageText bytes (page_at later bytes)
 spells_page later bytes =
-    spells_bind (Itself (IsRun is_space)) (λ _ raw rest. (m : Magic) × IsJoined (IsMagic m) (IsBody m raw) rest) IsPageText bytes (spaces bytes) (λ _ rest. magic later rest >>= λ m rest. body m rest)
-    (spells_run (IsRun is_space) (run_length is_space bytes) bytes (run_is_run is_space bytes))
+    spells_bind (Itself (AllBytes is_space)) (λ _ raw rest. (m : Magic) × IsJoined (IsMagic m) (IsBody m raw) rest) IsPageText bytes (spaces bytes) (λ _ rest. magic later rest >>= λ m rest. body m rest)
+    (spells_run (AllBytes is_space) (run_length is_space bytes) bytes (run_is_run is_space bytes))
     (λ _ rest. spells_bind IsMagic (λ m. IsBody m) (λ raw rest. (m : Magic) × IsJoined (IsMagic m) (IsBody m raw) rest) rest (magic later rest) (λ m rest. body m rest) (spells_magic later rest)
     (λ m rest. spells_body m rest) (λ m raw one two is body_is. (m, joined (IsMagic m) (IsBody m raw) one two is body_is)))
-    (λ x raw one two is rest. (rest.0, joined (IsRun is_space) (IsJoined (IsMagic rest.0) (IsBody rest.0 raw)) one two is.1 rest.1))
+    (λ x raw one two is rest. (rest.0, joined (AllBytes is_space) (IsJoined (IsMagic rest.0) (IsBody rest.0 raw)) one two is.1 rest.1))
 
 front_of : (used : ℕ) (bytes taken rest : List ℕ) → bytes ≡ taken ++ rest → used ≡ length taken → take used bytes ≡ taken
 front_of used bytes taken rest split count = rw (count, split) (take-append_seam taken rest)

@@ -9,7 +9,7 @@ use Rattle.bitmap_input.specs.declared.fault.InFault.TheVariants as fault
 use Rattle.bitmap_input.specs.Cut.{Cut, is_by_end, after, ◌>>=◌}
 use Rattle.bitmap_input.proofs.Appending.{with_more}
 use Rattle.bitmap_input.specs.Cut.Cut.{Takes, Stops}
-use Rattle.bitmap_input.specs.Reading.{Held, AtEnd, Moves, Cause, cause_of, StopsBy, Gives, Reads}
+use Rattle.bitmap_input.specs.Reading.{Buffered, AtEnd, Moves, Cause, cause_of, StopsBy, Gives, Reads}
 use Rattle.bitmap_input.specs.Reading.Cause.{Says, Device, Memory}
 use Rattle.bitmap_input.specs.Window.{ReadsOn}
 use Rattle.bitmap_input.proofs.Appending.{Stays, is_by_end-after}
@@ -102,7 +102,7 @@ or_true : (d : Bool) → (d || true) ≡ true
 or_true true = refl
 or_true false = refl
 
-after_stops : {A : Type 0} (d : Bool) (cut : Cut A) (cause : Cause) (held : Held) →
+after_stops : {A : Type 0} (d : Bool) (cut : Cut A) (cause : Cause) (held : Buffered) →
     (d ≡ true → held.ended ≡ true) → StopsBy cut cause held → StopsBy (after d cut) cause held
 after_stops true cut (Says ending) held ended (e, is, settled) = (true, ap (after true) is, ended)
 after_stops false cut (Says ending) held ended (e, is, settled) = (e, ap (after false) is, settled)
@@ -110,7 +110,7 @@ after_stops d cut Device held ended (end, going_on) =
     (is_by_end-after d cut ∙ ap (λ t. d || t) end ∙ or_true d, going_on)
 after_stops d cut Memory held ended stops = tt
 
-after_gives : {A X : Type 0} (is : X → A → Type 0) (d : Bool) (cut : Cut A) (result : Result X Stop) (held : Held) →
+after_gives : {A X : Type 0} (is : X → A → Type 0) (d : Bool) (cut : Cut A) (result : Result X Stop) (held : Buffered) →
     (d ≡ true → held.ended ≡ true) → Gives is cut result held → Gives is (after d cut) result held
 after_gives is true cut (Ok x) held ended (e, a, same, takes, settled) = (true, a, same, ap (after true) takes, ended)
 after_gives is false cut (Ok x) held ended (e, a, same, takes, settled) = (e, a, same, ap (after false) takes, settled)
@@ -127,7 +127,7 @@ first_stays part false a bytes rest more stays is none =
 
 -- one step after another
 pub reads_on : {A B X Y : Type 0} {is : X → A → Type 0} {js : Y → B → Type 0} {part : List ℕ → Cut A}
-    {next : A → List ℕ → Cut B} {old mid new : Held} {files fmid now : Option Files} {x : X} {result : Result Y Stop} →
+    {next : A → List ℕ → Cut B} {old mid new : Buffered} {files fmid now : Option Files} {x : X} {result : Result Y Stop} →
     Stays part → Reads is part old files (Ok x) mid fmid →
     ((a : A) → is x a → Reads js (next a) mid fmid result new now) →
     Reads js (λ bytes. part bytes >>= next) old files result new now
@@ -152,7 +152,7 @@ reads_on {js = js} {part = part} {next = next} {old = old} {mid = mid} {new = ne
       gives = rw whole (after_gives js e (next a (mid.bytes ++ t.more)) result new ended t.gives);
     }
 
-stops_bind : {A B : Type 0} (cut : Cut A) (next : A → List ℕ → Cut B) (cause : Cause) (held : Held) →
+stops_bind : {A B : Type 0} (cut : Cut A) (next : A → List ℕ → Cut B) (cause : Cause) (held : Buffered) →
     StopsBy cut cause held → StopsBy (cut >>= next) cause held
 stops_bind cut next (Says ending) held (e, is, settled) = (e, ap (λ c. c >>= next) is, settled)
 stops_bind (Takes true x rest) next Device held (end, going_on) = (is_by_end-after true (next x rest), going_on)
@@ -162,7 +162,7 @@ stops_bind cut next Memory held stops = tt
 
 -- what stops the first step stops both
 pub reads_stop : {A B X Y : Type 0} {is : X → A → Type 0} {js : Y → B → Type 0} {part : List ℕ → Cut A}
-    {old new : Held} {files now : Option Files} {s : Stop} (next : A → List ℕ → Cut B) →
+    {old new : Buffered} {files now : Option Files} {s : Stop} (next : A → List ℕ → Cut B) →
     Reads is part old files (Err s) new now → Reads js (λ bytes. part bytes >>= next) old files (Err s) new now
 reads_stop {part = part} {old = old} {new = new} {s = s} next r = record {
   more = r.more;
@@ -172,7 +172,7 @@ reads_stop {part = part} {old = old} {new = new} {s = s} next r = record {
 }
 
 -- a value at hand
-pub reads_value : {B Y : Type 0} {js : Y → B → Type 0} {y : Y} {b : B} {held : Held} {files : Option Files} →
+pub reads_value : {B Y : Type 0} {js : Y → B → Type 0} {y : Y} {b : B} {held : Buffered} {files : Option Files} →
     js y b → Reads js (λ bytes. Takes false b bytes) held files (Ok y) held files
 reads_value {b = b} {held = held} {files = files} same = record {
   more = [];
@@ -182,7 +182,7 @@ reads_value {b = b} {held = held} {files = files} same = record {
 }
 
 -- a step whose value says less
-pub reads_weaken : {A X : Type 0} {is js : X → A → Type 0} {part : List ℕ → Cut A} {old new : Held} {files now : Option Files}
+pub reads_weaken : {A X : Type 0} {is js : X → A → Type 0} {part : List ℕ → Cut A} {old new : Buffered} {files now : Option Files}
     {result : Result X Stop} → ((x : X) (a : A) → is x a → js x a) → Reads is part old files result new now →
     Reads js part old files result new now
 reads_weaken {result = Ok x} less r =
@@ -191,13 +191,13 @@ reads_weaken {result = Ok x} less r =
 reads_weaken {result = Err s} less r = record { more = r.more; moves = r.moves; needed = r.needed; gives = r.gives }
 
 -- a step that stopped, whatever its value would be
-pub reads_failed : {A X Y : Type 0} {is : X → A → Type 0} {js : Y → A → Type 0} {part : List ℕ → Cut A} {old new : Held} {files now : Option Files}
+pub reads_failed : {A X Y : Type 0} {is : X → A → Type 0} {js : Y → A → Type 0} {part : List ℕ → Cut A} {old new : Buffered} {files now : Option Files}
     {s : Stop} → Reads is part old files (Err s) new now → Reads js part old files (Err s) new now
 reads_failed r = record { more = r.more; moves = r.moves; needed = r.needed; gives = r.gives }
 
 -- a step with its value looked at in another way
 pub reads_map : {A B X : Type 0} {is : X → A → Type 0} {js : X → B → Type 0} {part : List ℕ → Cut A}
-    {old new : Held} {files now : Option Files} {result : Result X Stop} (f : A → B) →
+    {old new : Buffered} {files now : Option Files} {result : Result X Stop} (f : A → B) →
     ((x : X) (a : A) → is x a → js x (f a)) → Reads is part old files result new now →
     Reads js (λ bytes. part bytes >>= λ a rest. Takes false (f a) rest) old files result new now
 reads_map {part = part} {old = old} {result = Ok x} f same r =
@@ -212,7 +212,7 @@ reads_map {part = part} {old = old} {result = Ok x} f same r =
 reads_map {result = Err s} f same r = reads_stop (λ a rest. Takes false (f a) rest) r
 
 -- a step that begins after some bytes were read, of a part that is by the end of nothing
-pub reads_after : {A X : Type 0} {is : X → A → Type 0} {part : List ℕ → Cut A} {old mid new : Held}
+pub reads_after : {A X : Type 0} {is : X → A → Type 0} {part : List ℕ → Cut A} {old mid new : Buffered}
     {files fmid now : Option Files} {result : Result X Stop} → is_by_end (part []) ≡ true → ReadsOn old files mid fmid →
     Reads is part mid fmid result new now → Reads is part old files result new now
 reads_after {is = is} {part = part} {old = old} {mid = mid} {new = new} {result = result} by_end on r = record {
@@ -224,7 +224,7 @@ reads_after {is = is} {part = part} {old = old} {mid = mid} {new = new} {result 
 }
 
 -- a step by another part that is the same on the bytes at hand, whatever comes after them
-pub reads_as : {A X : Type 0} {is : X → A → Type 0} {part other : List ℕ → Cut A} {old new : Held} {files now : Option Files}
+pub reads_as : {A X : Type 0} {is : X → A → Type 0} {part other : List ℕ → Cut A} {old new : Buffered} {files now : Option Files}
     {result : Result X Stop} → ((more : List ℕ) → part (old.bytes ++ more) ≡ other (old.bytes ++ more)) →
     Reads is other old files result new now → Reads is part old files result new now
 reads_as {part = part} {old = old} same r = record {
@@ -235,7 +235,7 @@ reads_as {part = part} {old = old} same r = record {
 }
 
 -- a step that begins with a look at a byte that is there, and goes on as another part does at that byte
-pub reads_look : {A X : Type 0} {is : X → A → Type 0} {part other : List ℕ → Cut A} {old mid new : Held}
+pub reads_look : {A X : Type 0} {is : X → A → Type 0} {part other : List ℕ → Cut A} {old mid new : Buffered}
     {files fmid now : Option Files} {result : Result X Stop} {b : ℕ} → is_by_end (part []) ≡ true →
     (look : (bs : List ℕ) × (mid.bytes ≡ b ∷ bs)) → ReadsOn old files mid fmid → ((xs : List ℕ) → part (b ∷ xs) ≡ other (b ∷ xs)) →
     Reads is other mid fmid result new now → Reads is part old files result new now
@@ -243,7 +243,7 @@ reads_look {part = part} {other = other} by_end (bs, here) on same r =
     reads_after by_end on (reads_as (λ xs. rw here (same (bs ++ xs))) r)
 
 -- a step that uses a byte that is there, and goes on as another part does behind that byte
-pub reads_pass : {A X : Type 0} {is : X → A → Type 0} {part other : List ℕ → Cut A} {old mid passed new : Held}
+pub reads_pass : {A X : Type 0} {is : X → A → Type 0} {part other : List ℕ → Cut A} {old mid passed new : Buffered}
     {files fmid now : Option Files} {result : Result X Stop} {b : ℕ} → is_by_end (part []) ≡ true →
     (look : (bs : List ℕ) × (mid.bytes ≡ b ∷ bs)) → ReadsOn old files mid fmid → passed.bytes ≡ drop 1 mid.bytes → passed.ended ≡ mid.ended →
     ((xs : List ℕ) → part (b ∷ xs) ≡ other xs) →
@@ -260,7 +260,7 @@ reads_pass {is = is} {part = part} {other = other} {mid = mid} {passed = passed}
 
 -- a step that makes another value of the one that it read
 pub reads_made : {A B X Y : Type 0} {is : X → A → Type 0} {js : Y → B → Type 0} {part : List ℕ → Cut A}
-    {old new : Held} {files now : Option Files} {x : X} (f : A → B) (y : Y) → ((a : A) → is x a → js y (f a)) →
+    {old new : Buffered} {files now : Option Files} {x : X} (f : A → B) (y : Y) → ((a : A) → is x a → js y (f a)) →
     Reads is part old files (Ok x) new now → Reads js (λ bytes. part bytes >>= λ a rest. Takes false (f a) rest) old files (Ok y) new now
 reads_made {part = part} {old = old} f y same r =
     let (e, a, is_x, takes, settled) = r.gives in
@@ -273,13 +273,13 @@ reads_made {part = part} {old = old} f y same r =
     }
 
 -- memory is wanting, and nothing was read
-pub reads_memory : {A X : Type 0} (is : X → A → Type 0) (part : List ℕ → Cut A) (held : Held) (files : Option Files) →
+pub reads_memory : {A X : Type 0} (is : X → A → Type 0) (part : List ℕ → Cut A) (held : Buffered) (files : Option Files) →
     Reads is part held files (Err (stop.Fault fault.NoMemory)) held files
 reads_memory is part held files =
     record { more = []; moves = stand held.ended files; needed = needs_none (λ bytes. part (held.bytes ++ bytes)); gives = tt }
 
 -- a read failed where no byte was left, and the part is by the end of nothing
-pub reads_fault : {A X : Type 0} {is : X → A → Type 0} {part : List ℕ → Cut A} {old new : Held} {files now : Option Files} →
+pub reads_fault : {A X : Type 0} {is : X → A → Type 0} {part : List ℕ → Cut A} {old new : Buffered} {files now : Option Files} →
     is_by_end (part []) ≡ true → new ≡ old → now ≡ files → old.bytes ≡ [] → old.ended ≡ false →
     Reads is part old files (Err (stop.Fault fault.ReadFault)) new now
 reads_fault {part = part} {old = old} {files = files} by_end same same_files none going_on =

@@ -7,7 +7,7 @@ use Rattle.bitmap_input.specs.Reading.{cause_of}
 use Rattle.bitmap_input.specs.Reading.Cause.{Says}
 use Rattle.bitmap_input.specs.Sides.{}
 use Rattle.bitmap_input.specs.BmpHeader.{file_size, pixel_offset, header_size, is_short, bits, is_known_depth, width, height, is_top_down, is_known_size, is_known_kind, mask_bytes, palette_length, color_bytes, palette_end}
-use Rattle.bitmap_input.specs.Parts.{block, times}
+use Rattle.bitmap_input.specs.Parts.{block, repeated}
 use Rattle.bitmap_input.specs.Raw.{Raw, Entry, black}
 use Rattle.bitmap_input.specs.Raw.Entry.{Color}
 use Rattle.bitmap_input.specs.BmpRaster.{color_at, bit_at, half_at, palette_color, color_row}
@@ -17,7 +17,7 @@ use Rattle.bitmap_input.specs.declared.bmp.fields.Depth.TheVariants as depth
 use Rattle.bitmap_input.specs.declared.bmp.header.Header.{Header}
 
 -- the first bytes of a header, with a known size
-pub record IsStart (head : List ℕ) : Type 0 where
+pub record IsHeaderStart (head : List ℕ) : Type 0 where
   pub reach : length head ≡ 16
   pub known : is_known_size (header_size head) ≡ true
 
@@ -27,7 +27,7 @@ pub record IsInfo (head : List ℕ) : Type 0 where
   pub known : is_known_size (header_size head) ≡ true
 
 -- the bytes up to the end of the header with its masks
-pub record IsWhole (head : List ℕ) : Type 0 where
+pub record IsWholeHeader (head : List ℕ) : Type 0 where
   pub reach : length head ≡ 12 + header_size head + mask_bytes head
   pub known : is_known_size (header_size head) ≡ true
 
@@ -90,8 +90,8 @@ Passes {A = A} is part (Ok x) = (a : A) × is x a × ((bytes : List ℕ) → par
 Passes is part (Err s) = (ending : Ending) × (cause_of s ≡ Says ending) × ((bytes : List ℕ) → part bytes ≡ Stops false ending)
 
 -- a table of what colours of a palette are black, whatever their number
-abbrev pub IsTable : ℕ → Bool → (ℕ → Entry) → List Bool → Type 0
-IsTable level invert color table =
+abbrev pub IsPaletteTable : ℕ → Bool → (ℕ → Entry) → List Bool → Type 0
+IsPaletteTable level invert color table =
     (i : ℕ) → slice_index_or table i (black level invert (Color 0 0 0)) ≡ black level invert (color i)
 
 -- whether the pixel in column x of a row is black, by a table of the palette
@@ -124,7 +124,7 @@ picture_by h rows = record {
 -- the rows
 abbrev pub pixels_by : Header → (ℕ → Entry) → List ℕ → Cut Raw
 pixels_by h color bytes =
-    times (color_row (row_bytes_by h) (bits_in h.depth) color h.width) h.height bytes >>= λ rows rest.
+    repeated (color_row (row_bytes_by h) (bits_in h.depth) color h.width) h.height bytes >>= λ rows rest.
     Takes false (picture_by h rows) rest
 
 -- all of it

@@ -4,7 +4,7 @@ use Rattle.std.specs.Prelude.{ℕ, ◌+◌, ◌-◌, ◌*◌, ◌/◌, ◌%◌, 
 use Rattle.std.specs.List.{range_with_len}
 use Rattle.bitmap_input.specs.Cut.{Cut, ◌>>=◌}
 use Rattle.bitmap_input.specs.Cut.Cut.{Takes}
-use Rattle.bitmap_input.specs.Parts.{block, times}
+use Rattle.bitmap_input.specs.Parts.{block, repeated}
 use Rattle.bitmap_input.specs.Raw.{Raw, Entry}
 use Rattle.bitmap_input.specs.Raw.Entry.{Color}
 use Rattle.bitmap_input.specs.BmpHeader.{file_size, pixel_offset, bits, width, height, is_top_down, palette_length, color_bytes, palette_bytes, palette_end, row_length}
@@ -41,8 +41,8 @@ color_row n bits color width bytes =
     block n bytes >>= λ row rest. Takes false (map (pixel_in bits color row) (range_with_len 0 width)) rest
 
 -- a row of the picture
-abbrev pub row_of : List ℕ → List ℕ → List ℕ → Cut (List Entry)
-row_of head palette =
+abbrev pub bmp_row : List ℕ → List ℕ → List ℕ → Cut (List Entry)
+bmp_row head palette =
     color_row (row_length head) (bits head) (palette_color (palette_length head) (color_bytes head) palette) (width head)
 
 -- the picture whose rows come in this order
@@ -60,5 +60,5 @@ abbrev pub raster : List ℕ → List ℕ → Cut Raw
 raster head bytes =
     block (palette_bytes head) bytes >>= λ palette rest.
     block (pixel_offset head - palette_end head) rest >>= λ _ rest.
-    times (row_of head palette) (height head) rest >>= λ rows rest.
+    repeated (bmp_row head palette) (height head) rest >>= λ rows rest.
     Takes false (picture head rows) rest

@@ -5,7 +5,7 @@ use Rattle.bitmap_input.specs.Cut.{Ending, Cut, ◌>>=◌}
 use Rattle.bitmap_input.specs.Cut.Kind.{UnknownFormat, BadHeader}
 use Rattle.bitmap_input.specs.Cut.Ending.{End, Trailing, Refused}
 use Rattle.bitmap_input.specs.Cut.Cut.{Takes, Stops}
-use Rattle.bitmap_input.specs.Parts.{is_zero, spaces, gap, number_behind_gap, space, pixel, block, times}
+use Rattle.bitmap_input.specs.Parts.{is_zero, spaces, gap, number_behind_gap, space, pixel, block, repeated}
 pub use Rattle.bitmap_input.specs.Sides.{checked}
 use Rattle.bitmap_input.specs.Bmp.{bmp}
 use Rattle.bitmap_input.specs.Raw.{Raw, Entry, entries_page, row_bytes, unpacked}
@@ -83,21 +83,21 @@ abbrev pub raw_row : ℕ → List ℕ → Cut (List Bool)
 raw_row width bytes = block (row_bytes width) bytes >>= λ row rest. Takes false (take width (unpacked row)) rest
 
 -- so many rows of values that each stand for an entry, as a page of these sides
-abbrev pub raster : {A : Type 0} → (A → Entry) → (List ℕ → Cut (List A)) → ℕ → ℕ → List ℕ → Cut Raw
-raster entry row width height bytes =
-    times row height bytes >>= λ rows rest. Takes false (entries_page entry width height rows) rest
+abbrev pub rows_raster : {A : Type 0} → (A → Entry) → (List ℕ → Cut (List A)) → ℕ → ℕ → List ℕ → Cut Raw
+rows_raster entry row width height bytes =
+    repeated row height bytes >>= λ rows rest. Takes false (entries_page entry width height rows) rest
 
 -- what follows the magic, to the end of the page
 abbrev pub body : Magic → List ℕ → Cut Raw
-body PlainBits bytes = sides bytes >>= λ s rest. raster (λ b. Bit b) (times plain_pixel s.0) s.0 s.1 rest
+body PlainBits bytes = sides bytes >>= λ s rest. rows_raster (λ b. Bit b) (repeated plain_pixel s.0) s.0 s.1 rest
 body RawBits bytes =
-    sides bytes >>= λ s rest. space rest >>= λ _ rest. raster (λ b. Bit b) (raw_row s.0) s.0 s.1 rest
+    sides bytes >>= λ s rest. space rest >>= λ _ rest. rows_raster (λ b. Bit b) (raw_row s.0) s.0 s.1 rest
 body (PlainSamples c) bytes =
-    sides bytes >>= λ s rest. maxval rest >>= λ white rest.
-    raster (as_entry c white) (times (plain_samples c) s.0) s.0 s.1 rest
+    sides bytes >>= λ s rest. maxval rest >>= λ maxval rest.
+    rows_raster (as_entry c maxval) (repeated (plain_samples c) s.0) s.0 s.1 rest
 body (RawSamples c) bytes =
-    sides bytes >>= λ s rest. maxval rest >>= λ white rest. space rest >>= λ _ rest.
-    raster (as_entry c white) (raw_samples_row c white s.0) s.0 s.1 rest
+    sides bytes >>= λ s rest. maxval rest >>= λ maxval rest. space rest >>= λ _ rest.
+    rows_raster (as_entry c maxval) (raw_samples_row c maxval s.0) s.0 s.1 rest
 body Picture bytes = bmp bytes
 
 -- the page that stands at the front of the bytes, with whitespace before its magic or not

@@ -5,7 +5,7 @@ use Rattle.bitmap_input.specs.Cut.{Ending, Cut, ◌>>=◌}
 use Rattle.bitmap_input.specs.Cut.Kind.{UnknownFormat}
 use Rattle.bitmap_input.specs.Cut.Ending.{Refused}
 use Rattle.bitmap_input.specs.Cut.Cut.{Takes, Stops}
-use Rattle.bitmap_input.specs.Parts.{spaces, space, times}
+use Rattle.bitmap_input.specs.Parts.{spaces, space, repeated}
 use Rattle.bitmap_input.specs.Front.{Magic, magic, sides, maxval, greatest_maxval}
 use Rattle.bitmap_input.specs.Front.Magic.{PlainBits, RawBits, PlainSamples, RawSamples, Picture}
 use Rattle.bitmap_input.specs.Samples.{plain_sample, raw_samples_row}
@@ -41,8 +41,8 @@ header_end false rest = space rest
 -- what follows the magic in the header
 abbrev pub gray_header_behind : Bool → List ℕ → Cut GrayHeader
 gray_header_behind plain bytes =
-    sides bytes >>= λ s rest. maxval rest >>= λ white rest. header_end plain rest >>= λ _ rest.
-    Takes false (record { plain = plain; width = s.0; height = s.1; white = white }) rest
+    sides bytes >>= λ s rest. maxval rest >>= λ maxval rest. header_end plain rest >>= λ _ rest.
+    Takes false (record { plain = plain; width = s.0; height = s.1; maxval = maxval }) rest
 
 -- the header of a gray page that is the first of its file
 abbrev pub gray_header : List ℕ → Cut GrayHeader
@@ -55,8 +55,8 @@ lowered v = min v greatest_maxval
 
 -- the samples of a row
 abbrev pub gray_row : Bool → ℕ → ℕ → List ℕ → Cut (List ℕ)
-gray_row true white width bytes = times plain_sample width bytes
-gray_row false white width bytes = raw_samples_row Gray white width bytes
+gray_row true maxval width bytes = repeated plain_sample width bytes
+gray_row false maxval width bytes = raw_samples_row Gray maxval width bytes
 
 -- the format is that of a gray page, plain or not, or it isn't
 abbrev pub ChecksKind : (List ℕ → Cut Bool) → Result Bool Stop → Type 0

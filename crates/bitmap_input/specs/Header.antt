@@ -41,8 +41,8 @@ Checks x y (Err stop) =
 -- a number of a header, maybe cut where it is too large, is the sample for white of a page or not, as
 -- the number itself is
 abbrev pub ChecksMaxval : ℕ → Result ℕ Stop → Type 0
-ChecksMaxval x (Ok white) =
-    (n : ℕ) → IsCapped x n → (n ≡ white) × ((bytes : List ℕ) → checked_maxval n bytes ≡ Takes false n bytes)
+ChecksMaxval x (Ok maxval) =
+    (n : ℕ) → IsCapped x n → (n ≡ maxval) × ((bytes : List ℕ) → checked_maxval n bytes ≡ Takes false n bytes)
 ChecksMaxval x (Err stop) =
     (n : ℕ) → IsCapped x n →
     (ending : Ending) × (cause_of stop ≡ Says ending) × ((bytes : List ℕ) → checked_maxval n bytes ≡ Stops false ending)

@@ -26,10 +26,10 @@ pub mod Cut
 --   space: one byte of whitespace
 --   pixel: the character of a pixel
 --   block: as many bytes as stated
---   times: the same part so many times
+--   repeated: the same part so many times
 pub mod Parts
 -- The parts of a page as sets of byte lists (Netpbm's format page "pbm").
---   IsRun: each byte passes the test
+--   AllBytes: each byte passes the test
 --   is_quiet: a byte inside of a comment
 --   EndsComment: nothing follows a comment, or the byte that ends its line
 --   IsGap: whitespace and comments
@@ -91,7 +91,7 @@ pub mod BmpHeader
 --   half_at: a number of four bits, the high half of each byte first
 --   pixel_in: the pixel in column x of a row of bytes, with so many bits each
 --   color_row: the pixels of a row of n bytes
---   row_of: a row of the picture
+--   bmp_row: a row of the picture
 --   picture: the picture whose rows come in this order
 --   raster: what follows the header
 pub mod BmpRaster
@@ -114,7 +114,7 @@ pub mod Bmp
 --   sample_bytes: the bytes of so many samples
 --   samples: the samples of a row of bytes
 --   grouped: samples as pixels
---   raw_samples_row: the pixels of a row, where `white` is the sample for white
+--   raw_samples_row: the pixels of a row, where `maxval` is the sample for white
 pub mod Samples
 -- The first page of a list of bytes.
 --   use
@@ -130,7 +130,7 @@ pub mod Samples
 --   maxval: the sample for white
 --   plain_pixel: a pixel's character, with whitespace and comments before it or not
 --   raw_row: the pixels of a row of whole bytes
---   raster: so many rows of values that each stand for an entry, as a page of these sides
+--   rows_raster: so many rows of values that each stand for an entry, as a page of these sides
 --   body: what follows the magic, to the end of the page
 --   page_at: the page that stands at the front of the bytes, with whitespace before its magic or not
 --   Answer: the answer that a list of bytes gives
@@ -159,7 +159,7 @@ pub mod PageText
 --   FilePages: the pages at the front of the bytes, one behind another, and how they end
 pub mod FilePages
 -- Reading from inputs through a window.
---   Held: the bytes that were taken from the inputs and not used yet
+--   Buffered: the bytes that were taken from the inputs and not used yet
 --   AtEnd: nothing is left to be read, where that is told
 --   Moves: these bytes were taken from the inputs
 --   Cause: why reading stopped
@@ -187,8 +187,8 @@ pub mod FaultText
 --   CountsLook: the inputs' count of faults rises where the read failed, and else it stays
 pub mod Window
 -- Runs of bytes, read one byte after another.
---   length_of: how many bytes of the run stand at the front
---   part_of: the run as a part of a page
+--   run_size: how many bytes of the run stand at the front
+--   run_part: the run as a part of a page
 --   Continues: the run goes on behind the byte, or ends before it
 --   digits: the digits at the front, as many as there are, and the number that they stand for
 --   cap: the number, or this where it is less
@@ -205,9 +205,9 @@ pub mod Number
 --   ChecksMaxval: a number of a header, maybe cut where it is too large
 pub mod Header
 -- The bytes of a BMP header in the program, and what it makes of them.
---   IsStart: the first bytes of a header, with a known size
+--   IsHeaderStart: the first bytes of a header, with a known size
 --   IsInfo: the bytes up to the end of the header without its masks
---   IsWhole: the bytes up to the end of the header with its masks
+--   IsWholeHeader: the bytes up to the end of the header with its masks
 --   HasInfo: the fields up to the end of the header without its masks are there
 --   bits_in: the bits of a pixel
 --   IsKnownDepth: the depth of pixels of so many bits, stored in this way, or none where they aren't read
@@ -216,7 +216,7 @@ pub mod Header
 --   IsHeader: what the program keeps of a header
 --   IsReadable: the numbers of a header are within those of a page that is read
 --   Passes: a check that takes no bytes answers so, whatever the bytes
---   IsTable: a table of what colours of a palette are black, whatever their number
+--   IsPaletteTable: a table of what colours of a palette are black, whatever their number
 --   shade_in: whether the pixel in column x of a row is black, by a table of the palette
 --   row_place: the row of the page that the picture's row of this number is
 --   row_bytes_by

@@ -2,7 +2,7 @@
 -- format pages "pbm", "pgm" and "ppm"; Microsoft's "Bitmap Storage").
 use Rattle.std.specs.Prelude.{◌≡◌, ℕ, zero, suc, ◌-◌, ◌*◌, ◌≤◌, true, ◌⊎◌, List, [], ◌∷◌, ◌++◌, length, Some}
 use Rattle.bitmap_input.specs.Parts.{is_space, is_digit, value}
-use Rattle.bitmap_input.specs.Sets.{IsRun, IsGap}
+use Rattle.bitmap_input.specs.Sets.{AllBytes, IsGap}
 use Rattle.bitmap_input.specs.Raw.{Raw, row_bytes}
 use Rattle.bitmap_input.specs.BmpHeader.{width, height, palette_bytes, pixel_offset, palette_end, row_length}
 use Rattle.bitmap_input.specs.Front.{Magic, magic_named}
@@ -37,7 +37,7 @@ IsSomeGap bytes = IsGap bytes × (1 ≤ length bytes)
 
 -- digits that stand for this number
 abbrev pub IsNumber : ℕ → List ℕ → Type 0
-IsNumber n bytes = IsRun is_digit bytes × (1 ≤ length bytes) × (value 0 bytes ≡ n)
+IsNumber n bytes = AllBytes is_digit bytes × (1 ≤ length bytes) × (value 0 bytes ≡ n)
 
 -- the same with a gap before it
 abbrev pub IsNumberBehindGap : ℕ → List ℕ → Type 0
@@ -73,15 +73,15 @@ IsBody PlainBits raw bytes =
     IsJoined (AreSides raw.width raw.height) (IsRepeated (IsRepeated IsPlainPixel raw.width) raw.height) bytes
 IsBody RawBits raw bytes =
     IsJoined (AreSides raw.width raw.height) (IsJoined IsSpace (IsRepeated (IsBlock (row_bytes raw.width)) raw.height)) bytes
-IsBody (PlainSamples c) raw bytes = (white : ℕ)
-    × IsJoined (AreSides raw.width raw.height) (IsJoined (IsNumberBehindGap white) (IsRepeated (IsRepeated (ArePlainSamples c) raw.width) raw.height)) bytes
-IsBody (RawSamples c) raw bytes = (white : ℕ)
-    × IsJoined (AreSides raw.width raw.height) (IsJoined (IsNumberBehindGap white) (IsJoined IsSpace
-    (IsRepeated (IsBlock (sample_bytes white (samples_in c * raw.width))) raw.height))) bytes
+IsBody (PlainSamples c) raw bytes = (maxval : ℕ)
+    × IsJoined (AreSides raw.width raw.height) (IsJoined (IsNumberBehindGap maxval) (IsRepeated (IsRepeated (ArePlainSamples c) raw.width) raw.height)) bytes
+IsBody (RawSamples c) raw bytes = (maxval : ℕ)
+    × IsJoined (AreSides raw.width raw.height) (IsJoined (IsNumberBehindGap maxval) (IsJoined IsSpace
+    (IsRepeated (IsBlock (sample_bytes maxval (samples_in c * raw.width))) raw.height))) bytes
 IsBody Picture raw bytes = (head : List ℕ) × (raw.width ≡ width head) × (raw.height ≡ height head)
     × IsJoined (λ first. first ≡ head) (IsJoined (IsBlock (palette_bytes head)) (IsJoined (IsBlock (pixel_offset head - palette_end head))
     (IsRepeated (IsBlock (row_length head)) raw.height))) bytes
 
 -- a page: whitespace, its magic, and what follows the magic
 abbrev pub IsPageText : Raw → List ℕ → Type 0
-IsPageText raw bytes = (m : Magic) × IsJoined (IsRun is_space) (IsJoined (IsMagic m) (IsBody m raw)) bytes
+IsPageText raw bytes = (m : Magic) × IsJoined (AllBytes is_space) (IsJoined (IsMagic m) (IsBody m raw)) bytes

@@ -103,7 +103,7 @@ block n bytes =
     if nat_lt (length bytes) n then Stops true (Refused Truncated) else Takes false (take n bytes) (drop n bytes)
 
 -- the same part so many times
-abbrev pub times : {A : Type 0} → (List ℕ → Cut A) → ℕ → List ℕ → Cut (List A)
-times part zero bytes = Takes false [] bytes
-times part (suc n) bytes =
-    part bytes >>= λ x rest. times part n rest >>= λ xs rest. Takes false (x ∷ xs) rest
+abbrev pub repeated : {A : Type 0} → (List ℕ → Cut A) → ℕ → List ℕ → Cut (List A)
+repeated part zero bytes = Takes false [] bytes
+repeated part (suc n) bytes =
+    part bytes >>= λ x rest. repeated part n rest >>= λ xs rest. Takes false (x ∷ xs) rest

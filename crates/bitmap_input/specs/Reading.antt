@@ -14,7 +14,7 @@ use Rattle.bitmap_input.specs.Cut.Ending.{End, Trailing, Refused}
 use Rattle.bitmap_input.specs.Cut.Cut.{Takes, Stops}
 
 -- the bytes that were taken from the inputs and not used yet, and whether a read has given nothing
-pub record Held : Type 0 where
+pub record Buffered : Type 0 where
   pub bytes : List ℕ
   pub ended : Bool
 
@@ -57,14 +57,14 @@ cause_of stop.Trailing = Says Trailing
 cause_of (stop.Fault f) = cause_of_fault f
 
 -- the cut of the bytes stops by this cause: as they say; or it is by their end and a read failed
-abbrev pub StopsBy : {A : Type 0} → Cut A → Cause → Held → Type 0
+abbrev pub StopsBy : {A : Type 0} → Cut A → Cause → Buffered → Type 0
 StopsBy cut (Says ending) held = (e : Bool) × (cut ≡ Stops e ending) × (e ≡ true → held.ended ≡ true)
 StopsBy cut Device held = (is_by_end cut ≡ true) × (held.ended ≡ false)
 StopsBy cut Memory held = Unit {0}
 
 -- the result is what the cut of the bytes says, with `held` as the rest; where it is by the end, a
 -- read has given nothing, so that no byte comes after
-abbrev pub Gives : {A X : Type 0} → (X → A → Type 0) → Cut A → Result X Stop → Held → Type 0
+abbrev pub Gives : {A X : Type 0} → (X → A → Type 0) → Cut A → Result X Stop → Buffered → Type 0
 Gives {A = A} is cut (Ok x) held =
     (e : Bool) × (a : A) × is x a × (cut ≡ Takes e a held.bytes) × (e ≡ true → held.ended ≡ true)
 Gives is cut (Err s) held = StopsBy cut (cause_of s) held
@@ -80,7 +80,7 @@ pub record AreNeeded {A : Type 0} (cut : List ℕ → Cut A) (more : List ℕ) :
 
 -- a step of the reader: it takes bytes from the inputs, as far as the part needs them, and answers as
 -- the part says of the bytes that were at hand and those
-pub record Reads {A X : Type 0} (is : X → A → Type 0) (part : List ℕ → Cut A) (old : Held) (before : Option Files) (result : Result X Stop) (new : Held) (now : Option Files) : Type 0 where
+pub record Reads {A X : Type 0} (is : X → A → Type 0) (part : List ℕ → Cut A) (old : Buffered) (before : Option Files) (result : Result X Stop) (new : Buffered) (now : Option Files) : Type 0 where
   pub more : List ℕ
   pub moves : Moves old.ended before new.ended now more
   pub needed : AreNeeded (λ bytes. part (old.bytes ++ bytes)) more

@@ -7,19 +7,19 @@ use Rattle.bitmap_input.specs.declared.run.Run.{Run}
 use Rattle.bitmap_input.specs.declared.run.Run.TheVariants.{Space, Gap, Comment}
 
 -- how many bytes of the run stand at the front
-abbrev pub length_of : Run → List ℕ → ℕ
-length_of Space bytes = run_length is_space bytes
-length_of Gap bytes = gap_length false bytes
-length_of Comment bytes = gap_length true bytes
+abbrev pub run_size : Run → List ℕ → ℕ
+run_size Space bytes = run_length is_space bytes
+run_size Gap bytes = gap_length false bytes
+run_size Comment bytes = gap_length true bytes
 
 -- the run as a part of a page
-abbrev pub part_of : Run → List ℕ → Cut (List ℕ)
-part_of run bytes = run_of (length_of run bytes) bytes
+abbrev pub run_part : Run → List ℕ → Cut (List ℕ)
+run_part run bytes = run_of (run_size run bytes) bytes
 
 -- the run goes on behind the byte, or ends before it
 abbrev pub Continues : Run → ℕ → Option Run → Type 0
-Continues run b (Some next) = (bs : List ℕ) → length_of run (b ∷ bs) ≡ suc (length_of next bs)
-Continues run b None = (bs : List ℕ) → length_of run (b ∷ bs) ≡ 0
+Continues run b (Some next) = (bs : List ℕ) → run_size run (b ∷ bs) ≡ suc (run_size next bs)
+Continues run b None = (bs : List ℕ) → run_size run (b ∷ bs) ≡ 0
 
 -- the digits at the front, as many as there are, and the number that they stand for
 abbrev pub digits : List ℕ → Cut ℕ

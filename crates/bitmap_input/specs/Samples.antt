@@ -22,8 +22,8 @@ PixelSamples Color = ℕ × ℕ × ℕ
 
 -- the same as an entry, beside the sample for white
 abbrev pub as_entry : (c : Channels) → ℕ → PixelSamples c → Entry
-as_entry Gray white v = Sample v white
-as_entry Color white (r, g, b) = Triple r g b white
+as_entry Gray maxval v = Sample v maxval
+as_entry Color maxval (r, g, b) = Triple r g b maxval
 
 -- a sample as a number, with a gap before it
 abbrev pub plain_sample : List ℕ → Cut ℕ
@@ -37,11 +37,11 @@ plain_samples Color bytes =
 
 -- whether samples are wide: of two bytes each, where one byte has no room for the sample for white
 abbrev pub is_wide : ℕ → Bool
-is_wide white = nat_lt 255 white
+is_wide maxval = nat_lt 255 maxval
 
 -- the bytes of so many samples
 abbrev pub sample_bytes : ℕ → ℕ → ℕ
-sample_bytes white n = if is_wide white then 2 * n else n
+sample_bytes maxval n = if is_wide maxval then 2 * n else n
 
 -- the samples of a row of bytes: of a byte each, or where they are wide of two, the most significant
 -- byte first (one byte alone at the end is no sample)
@@ -59,7 +59,7 @@ grouped Color (r ∷ []) = []
 grouped Color (r ∷ g ∷ []) = []
 grouped Color (r ∷ g ∷ b ∷ vs) = (r, g, b) ∷ grouped Color vs
 
--- the pixels of a row, where `white` is the sample for white; a sample above it is read as it stands
+-- the pixels of a row, where `maxval` is the sample for white; a sample above it is read as it stands
 abbrev pub raw_samples_row : (c : Channels) → ℕ → ℕ → List ℕ → Cut (List (PixelSamples c))
-raw_samples_row c white width bytes =
-    block (sample_bytes white (samples_in c * width)) bytes >>= λ row rest. Takes false (grouped c (samples (is_wide white) row)) rest
+raw_samples_row c maxval width bytes =
+    block (sample_bytes maxval (samples_in c * width)) bytes >>= λ row rest. Takes false (grouped c (samples (is_wide maxval) row)) rest

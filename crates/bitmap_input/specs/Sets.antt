@@ -4,9 +4,9 @@ use Rattle.std.specs.Prelude.{◌≡◌, ℕ, Bool, true, not, List, [], ◌∷�
 use Rattle.bitmap_input.specs.Parts.{is_space, ends_line}
 
 -- each byte passes the test: digits, or whitespace
-abbrev pub IsRun : (ℕ → Bool) → List ℕ → Type 0
-IsRun p [] = Unit {0}
-IsRun p (b ∷ bs) = (p b ≡ true) × IsRun p bs
+abbrev pub AllBytes : (ℕ → Bool) → List ℕ → Type 0
+AllBytes p [] = Unit {0}
+AllBytes p (b ∷ bs) = (p b ≡ true) × AllBytes p bs
 
 -- a byte inside of a comment
 abbrev pub is_quiet : ℕ → Bool
@@ -22,5 +22,5 @@ EndsComment (b ∷ bs) = ends_line b ≡ true
 pub data IsGap : List ℕ → Type 0 where
   Nothing : IsGap []
   Space : {b : ℕ} {bs : List ℕ} → is_space b ≡ true → IsGap bs → IsGap (b ∷ bs)
-  Comment : {h : ℕ} {bs : List ℕ} (text rest : List ℕ) → h ≡ 35 → bs ≡ text ++ rest → IsRun is_quiet text →
+  Comment : {h : ℕ} {bs : List ℕ} (text rest : List ℕ) → h ≡ 35 → bs ≡ text ++ rest → AllBytes is_quiet text →
       EndsComment rest → IsGap rest → IsGap (h ∷ bs)

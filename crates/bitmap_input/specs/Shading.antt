@@ -33,9 +33,9 @@ black_of s a = is_black_at s (brightness s.channels a)
 
 -- whether the pixel in column x of a row of bytes is black
 abbrev pub black_in : Shading → List ℕ → ℕ → Bool
-black_in s row x = is_black_at s (brightness_at s.channels (samples (is_wide s.white) row) x)
+black_in s row x = is_black_at s (brightness_at s.channels (samples (is_wide s.maxval) row) x)
 
 -- the sample for white is at most 65535, and no pixel that is brighter than white is black
 pub record IsInRange (s : Shading) : Type 0 where
-  pub most : s.white ≤ greatest_maxval
-  pub limit : s.limit ≤ samples_in s.channels * s.white
+  pub most : s.maxval ≤ greatest_maxval
+  pub limit : s.limit ≤ samples_in s.channels * s.maxval

@@ -4,7 +4,7 @@ ghost use Rattle.bitmap_input.specs.Reading.{Reads, Leaves};
 ghost use Rattle.bitmap_input.specs.Raw.{Entry, IsShown};
 ghost use Rattle.bitmap_input.specs.Front.Magic.{Picture as picture};
 ghost use Rattle.bitmap_input.specs.Behind.{IsRead, counted_body};
-ghost use Rattle.bitmap_input.specs.BmpHead.{IsReadable, IsTable, bits_in, row_bytes_by, pixels_by, raster_by};
+ghost use Rattle.bitmap_input.specs.BmpHead.{IsReadable, IsPaletteTable, bits_in, row_bytes_by, pixels_by, raster_by};
 
 mod fields;
 mod head;
@@ -12,6 +12,7 @@ mod header;
 mod palette;
 mod pixels;
 
+use bit_image::Bitmap;
 use crate::bmp::header::{Header, read_header};
 use crate::bmp::palette::read_palette;
 use crate::bmp::pixels::{Tone, read_rows};
@@ -19,10 +20,9 @@ use crate::extent::{ReadPage, known};
 use crate::skip::skip_block;
 use crate::stop::Stop;
 use crate::window::Window;
-use bit_image::bitmap::Bitmap;
-use pt_base::inputs::Inputs;
+use pt_base::Inputs;
 use std::alloc::Global;
-use threshold_map::level::Level;
+use threshold_map::Level;
 
 /// The bytes of a row.
 fn row_bytes(header: &Header) -> u32
@@ -45,7 +45,7 @@ fn read_pixels<I: Inputs>(
     requires opened { I.is_opened inputs.old ≡ true }
     requires readable { IsReadable header.now }
     requires table { length table.now ≡ 256 }
-    ensures reads { (color : ℕ → Entry) → IsTable tone.now.level tone.now.invert color table.now
+    ensures reads { (color : ℕ → Entry) → IsPaletteTable tone.now.level tone.now.invert color table.now
         → Reads (IsShown tone.now.level tone.now.invert) (pixels_by header.now color) window.old
         (I.files inputs.old) result window.new (I.files inputs.new) }
     ensures leaves { Leaves I.Inputs result inputs.old inputs.new }

@@ -16,12 +16,12 @@ use crate::raw::read_raw_rows;
 use crate::samples::{
     Shading, brightest_black, read_plain_sample_rows, read_raw_sample_rows, row_bytes,
 };
+use bit_image::Bitmap;
 use crate::stop::Stop;
 use crate::window::Window;
-use bit_image::bitmap::Bitmap;
-use pt_base::inputs::Inputs;
+use pt_base::Inputs;
 use std::alloc::Global;
-use threshold_map::level::Level;
+use threshold_map::Level;
 
 /// A plain page of bits, behind its magic.
 fn read_plain_body<I: Inputs>(
@@ -79,12 +79,12 @@ fn read_plain_samples_body<I: Inputs>(
     ensures leaves { Leaves I.Inputs result inputs.old inputs.new }
 {
     let sides = read_sides(window, inputs)?;
-    let white = read_maxval(window, inputs)?;
+    let maxval = read_maxval(window, inputs)?;
     let mut page = Bitmap::new(alloc, sides.width, sides.height)?;
     let shading = Shading {
         channels,
-        white,
-        limit: brightest_black(level, channels, white),
+        maxval,
+        limit: brightest_black(level, channels, maxval),
         invert,
     };
     read_plain_sample_rows(window, inputs, &mut page, &shading)?;
@@ -107,14 +107,14 @@ fn read_raw_samples_body<I: Inputs>(
     ensures leaves { Leaves I.Inputs result inputs.old inputs.new }
 {
     let sides = read_sides(window, inputs)?;
-    let white = read_maxval(window, inputs)?;
+    let maxval = read_maxval(window, inputs)?;
     skip_space(window, inputs)?;
     let mut page = Bitmap::new(alloc, sides.width, sides.height)?;
-    let mut row = vec![in alloc; 0u8; row_bytes(channels, sides.width, white)]?;
+    let mut row = vec![in alloc; 0u8; row_bytes(channels, sides.width, maxval)]?;
     let shading = Shading {
         channels,
-        white,
-        limit: brightest_black(level, channels, white),
+        maxval,
+        limit: brightest_black(level, channels, maxval),
         invert,
     };
     read_raw_sample_rows(window, inputs, &mut page, &shading, &mut row)?;

@@ -13,9 +13,7 @@ use crate::header::GREATEST_MAXVAL;
 use crate::samples::row_bytes;
 use crate::stop::Stop;
 use crate::window::Window;
-use pt_base::fault::NoMemory;
-use pt_base::inputs::Inputs;
-use pt_base::limits::LONGEST_SIDE;
+use pt_base::{Inputs, LONGEST_SIDE, NoMemory};
 use std::alloc::Global;
 use std::marker::Model;
 
@@ -129,7 +127,7 @@ impl GrayReader {
                 self.head = GrayHead {
                     width: header.width,
                     height: header.height,
-                    maxval: header.white,
+                    maxval: header.maxval,
                 };
                 self.plain = header.plain;
                 Ok(self.head)
@@ -223,7 +221,7 @@ fn read_samples<I: Inputs>(
     window: &mut Window,
     inputs: &mut I,
     plain: bool,
-    white: u32,
+    maxval: u32,
     line: &mut [u8],
     row: &mut [u16],
 ) -> Result<(), Stop>
@@ -231,7 +229,7 @@ fn read_samples<I: Inputs>(
     requires line { length line.old ≡ 2 * LONGEST_SIDE }
     requires width { length row.old ≤ LONGEST_SIDE }
     ensures reads { Reads (λ _ values. row.new ≡ map lowered values)
-        (gray_row plain white (length row.old)) window.old (I.files inputs.old) result window.new
+        (gray_row plain maxval (length row.old)) window.old (I.files inputs.old) result window.new
         (I.files inputs.new) }
     ensures leaves { Leaves I.Inputs result inputs.old inputs.new }
     ensures free { TakesNone result }
@@ -241,7 +239,7 @@ fn read_samples<I: Inputs>(
     if plain {
         read_plain_gray_row(window, inputs, row)
     } else {
-        let bytes = row_bytes(Channels::Gray, row.len() as u32, white);
-        read_raw_gray_row(window, inputs, white, &mut line[..bytes], row)
+        let bytes = row_bytes(Channels::Gray, row.len() as u32, maxval);
+        read_raw_gray_row(window, inputs, maxval, &mut line[..bytes], row)
     }
 }

@@ -1,7 +1,7 @@
 //! A gray page row by row: its header, and the samples of one row.
 ghost use Rattle.std.specs.Prelude.{◌≡◌, ℕ, ◌+◌, ◌*◌, ◌<◌, ◌≤◌, true, false, length, map, min, IfOk};
 ghost use Rattle.bitmap_input.specs.Reading.{Reads, Any, Same, Leaves, TakesNone};
-ghost use Rattle.bitmap_input.specs.Parts.{times};
+ghost use Rattle.bitmap_input.specs.Parts.{repeated};
 ghost use Rattle.bitmap_input.specs.Samples.{samples_in, samples, plain_sample, sample_bytes, raw_samples_row};
 ghost use Rattle.bitmap_input.specs.declared.channels.Channels.TheVariants as channels;
 ghost use Rattle.bitmap_input.specs.Header.{magic_of};
@@ -16,8 +16,7 @@ use crate::run::{Run, skip};
 use crate::samples::{is_wide, sample_at};
 use crate::stop::Stop;
 use crate::window::Window;
-use pt_base::inputs::Inputs;
-use pt_base::limits::LONGEST_SIDE;
+use pt_base::{Inputs, LONGEST_SIDE};
 
 /// The header of a gray page.
 #[derive(Clone, Copy, Debug)]
@@ -26,7 +25,7 @@ pub(crate) struct GrayHeader {
     pub(crate) width: u32,
     pub(crate) height: u32,
     /// The sample that is white.
-    pub(crate) white: u32,
+    pub(crate) maxval: u32,
 }
 
 /// Whether a page of such samples is plain, where they are gray.
@@ -94,16 +93,16 @@ fn read_behind_kind<I: Inputs>(
     ensures free { TakesNone result }
     ensures width { IfOk result (λ h. (1 ≤ h.width) × (h.width ≤ LONGEST_SIDE)) }
     ensures height { IfOk result (λ h. (1 ≤ h.height) × (h.height ≤ LONGEST_SIDE)) }
-    ensures white { IfOk result (λ h. (1 ≤ h.white) × (h.white ≤ GREATEST_MAXVAL)) }
+    ensures maxval { IfOk result (λ h. (1 ≤ h.maxval) × (h.maxval ≤ GREATEST_MAXVAL)) }
 {
     let sides = read_sides(window, inputs)?;
-    let white = read_maxval(window, inputs)?;
+    let maxval = read_maxval(window, inputs)?;
     end_header(window, inputs, plain)?;
     Ok(GrayHeader {
         plain,
         width: sides.width,
         height: sides.height,
-        white,
+        maxval,
     })
 }
 
@@ -119,7 +118,7 @@ pub(crate) fn read_gray_header<I: Inputs>(
     ensures free { TakesNone result }
     ensures width { IfOk result (λ h. (1 ≤ h.width) × (h.width ≤ LONGEST_SIDE)) }
     ensures height { IfOk result (λ h. (1 ≤ h.height) × (h.height ≤ LONGEST_SIDE)) }
-    ensures white { IfOk result (λ h. (1 ≤ h.white) × (h.white ≤ GREATEST_MAXVAL)) }
+    ensures maxval { IfOk result (λ h. (1 ≤ h.maxval) × (h.maxval ≤ GREATEST_MAXVAL)) }
 {
     skip(window, inputs, Run::Space)?;
     let plain = read_gray_kind(window, inputs)?;
@@ -140,20 +139,20 @@ fn unpack(line: &[u8], wide: bool, row: &mut [u16])
 pub(crate) fn read_raw_gray_row<I: Inputs>(
     window: &mut Window,
     inputs: &mut I,
-    white: u32,
+    maxval: u32,
     line: &mut [u8],
     row: &mut [u16],
 ) -> Result<(), Stop>
     requires opened { I.is_opened inputs.old ≡ true }
-    requires whole { length line.old ≡ sample_bytes white (samples_in channels.Gray * length row.old) }
-    ensures reads { Reads (λ _ values. row.new ≡ values) (raw_samples_row channels.Gray white (length row.old)) window.old
+    requires whole { length line.old ≡ sample_bytes maxval (samples_in channels.Gray * length row.old) }
+    ensures reads { Reads (λ _ values. row.new ≡ values) (raw_samples_row channels.Gray maxval (length row.old)) window.old
         (I.files inputs.old) result window.new (I.files inputs.new) }
     ensures leaves { Leaves I.Inputs result inputs.old inputs.new }
     ensures free { TakesNone result }
     ensures same_room { length row.new ≡ length row.old }
 {
     read_block(window, inputs, line)?;
-    unpack(line, is_wide(white), row);
+    unpack(line, is_wide(maxval), row);
     Ok(())
 }
 
@@ -165,7 +164,7 @@ pub(crate) fn read_plain_gray_row<I: Inputs>(
 ) -> Result<(), Stop>
     requires opened { I.is_opened inputs.old ≡ true }
     ensures reads { Reads (λ _ values. row.new ≡ map lowered values)
-        (times plain_sample (length row.old)) window.old
+        (repeated plain_sample (length row.old)) window.old
         (I.files inputs.old) result window.new (I.files inputs.new) }
     ensures leaves { Leaves I.Inputs result inputs.old inputs.new }
     ensures free { TakesNone result }

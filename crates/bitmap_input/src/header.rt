@@ -11,8 +11,7 @@ use crate::number::{Part, read_number_behind_gap};
 use crate::run::is_space;
 use crate::stop::Stop;
 use crate::window::{Look, Window};
-use pt_base::inputs::Inputs;
-use pt_base::limits::LONGEST_SIDE;
+use pt_base::{Inputs, LONGEST_SIDE};
 
 /// The greatest value that the sample for white may have.
 pub(crate) const GREATEST_MAXVAL: u32 = 65535;
@@ -178,15 +177,15 @@ pub(crate) fn read_sides<I: Inputs>(window: &mut Window, inputs: &mut I) -> Resu
 }
 
 /// The number as the sample for white.
-fn check_maxval(white: u32) -> Result<u32, Stop>
-    ensures checks { ChecksMaxval white result }
+fn check_maxval(number: u32) -> Result<u32, Stop>
+    ensures checks { ChecksMaxval number result }
     ensures free { TakesNone result }
-    ensures range { IfOk result (λ white. (1 ≤ white) × (white ≤ GREATEST_MAXVAL)) }
+    ensures range { IfOk result (λ maxval. (1 ≤ maxval) × (maxval ≤ GREATEST_MAXVAL)) }
 {
-    if white == 0 || white > GREATEST_MAXVAL {
+    if number == 0 || number > GREATEST_MAXVAL {
         return Err(Stop::Fault(InFault::BadHeader));
     }
-    Ok(white)
+    Ok(number)
 }
 
 /// The sample for white, behind a gap.
@@ -196,8 +195,8 @@ pub(crate) fn read_maxval<I: Inputs>(window: &mut Window, inputs: &mut I) -> Res
         (I.files inputs.new) }
     ensures leaves { Leaves I.Inputs result inputs.old inputs.new }
     ensures free { TakesNone result }
-    ensures range { IfOk result (λ white. (1 ≤ white) × (white ≤ GREATEST_MAXVAL)) }
+    ensures range { IfOk result (λ maxval. (1 ≤ maxval) × (maxval ≤ GREATEST_MAXVAL)) }
 {
-    let white = read_number_behind_gap(window, inputs, Part::Header)?;
-    check_maxval(white)
+    let maxval = read_number_behind_gap(window, inputs, Part::Header)?;
+    check_maxval(maxval)
 }

@@ -2,7 +2,7 @@
 ghost use Rattle.std.specs.Prelude.{◌≡◌, ℕ, ◌≤◌, Bool, false, List, ◌++◌, length, take, All};
 ghost use Rattle.bitmap_input.specs.Cut.{Ending, is_by_end};
 ghost use Rattle.bitmap_input.specs.Parts.{run_length, gap_length};
-ghost use Rattle.bitmap_input.specs.Sets.{IsRun, IsGap};
+ghost use Rattle.bitmap_input.specs.Sets.{AllBytes, IsGap};
 ghost use Rattle.bit_image.specs.Page.{IsPage};
 ghost use Rattle.bitmap_input.specs.Raw.{Raw, shown};
 ghost use Rattle.bitmap_input.specs.Front.{front, page_at};
@@ -13,9 +13,9 @@ ghost use Rattle.bitmap_input.specs.FilePages.{FilePages};
 /// What is cut off the front of a list of bytes is the longest member of its set: a run of
 /// whitespace or of digits, and a gap.
 pub fn cuts_are_longest()
-    ensures run { (p : ℕ → Bool) (bytes : List ℕ) → IsRun p (take (run_length p bytes) bytes) }
+    ensures run { (p : ℕ → Bool) (bytes : List ℕ) → AllBytes p (take (run_length p bytes) bytes) }
     ensures longest_run { (p : ℕ → Bool) (bytes : List ℕ) (n : ℕ) → n ≤ length bytes
-        → IsRun p (take n bytes) → n ≤ run_length p bytes }
+        → AllBytes p (take n bytes) → n ≤ run_length p bytes }
     ensures gap { (bytes : List ℕ) → IsGap (take (gap_length false bytes) bytes) }
     ensures longest_gap { (bytes : List ℕ) (n : ℕ) → n ≤ length bytes → IsGap (take n bytes)
         → n ≤ gap_length false bytes }

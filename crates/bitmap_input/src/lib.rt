@@ -35,3 +35,8 @@ mod skip;
 mod stop;
 mod window;
 mod words;
+
+pub use fault::InFault;
+pub use gray_reader::{GrayHead, GrayReader};
+pub use next::Next;
+pub use reader::PageReader;

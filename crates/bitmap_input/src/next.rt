@@ -1,5 +1,5 @@
 //! What a reader answers.
-use bit_image::bitmap::Bitmap;
+use bit_image::Bitmap;
 
 /// What stands next in a file.
 #[derive(Debug, Drop)]

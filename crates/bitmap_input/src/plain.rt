@@ -3,16 +3,16 @@ ghost use Rattle.std.specs.Prelude.{◌≡◌, ℕ, ◌<◌, ◌≤◌, true, fa
 ghost use Rattle.bit_image.specs.Image.{differ};
 ghost use Rattle.bit_image.specs.Page.{Page, SameSides, image_of};
 ghost use Rattle.bitmap_input.specs.Reading.{Reads, Same, Leaves};
-ghost use Rattle.bitmap_input.specs.Parts.{pixel, times};
+ghost use Rattle.bitmap_input.specs.Parts.{pixel, repeated};
 ghost use Rattle.bitmap_input.specs.Front.{plain_pixel};
 ghost use Rattle.bitmap_input.specs.Raster.{with_row, with_rows, with_pixels};
 
+use bit_image::Bitmap;
 use crate::fault::InFault;
 use crate::run::{Run, skip};
 use crate::stop::Stop;
 use crate::window::{Look, Window};
-use bit_image::bitmap::Bitmap;
-use pt_base::inputs::Inputs;
+use pt_base::Inputs;
 
 /// The character of a pixel: whether it is black.
 fn read_pixel<I: Inputs>(window: &mut Window, inputs: &mut I) -> Result<bool, Stop>
@@ -73,7 +73,7 @@ fn read_plain_row<I: Inputs>(
     requires row { y < page.old.height }
     ensures reads { Reads (λ _ pixels. image_of page.new
         ≡ with_row (image_of page.old) y (map (differ invert) pixels))
-        (times plain_pixel page.old.width) window.old (I.files inputs.old) result window.new
+        (repeated plain_pixel page.old.width) window.old (I.files inputs.old) result window.new
         (I.files inputs.new) }
     ensures sides { SameSides page.old page.new }
     ensures leaves { Leaves I.Inputs result inputs.old inputs.new }
@@ -95,7 +95,7 @@ pub(crate) fn read_plain_rows<I: Inputs>(
     requires { I.is_opened inputs.old ≡ true }
     ensures reads { Reads (λ _ rows. image_of page.new
         ≡ with_rows (image_of page.old) page.old.height (map (map (differ invert)) rows))
-        (times (times plain_pixel page.old.width) page.old.height) window.old
+        (repeated (repeated plain_pixel page.old.width) page.old.height) window.old
         (I.files inputs.old) result window.new (I.files inputs.new) }
     ensures sides { SameSides page.old page.new }
     ensures leaves { Leaves I.Inputs result inputs.old inputs.new }

@@ -3,17 +3,16 @@ ghost use Rattle.std.specs.Prelude.{◌≡◌, ◌<◌, true, length, take, map}
 ghost use Rattle.bit_image.specs.Image.{differ};
 ghost use Rattle.bit_image.specs.Page.{Page, SameSides, image_of};
 ghost use Rattle.bitmap_input.specs.Reading.{Reads, Leaves, TakesNone};
-ghost use Rattle.bitmap_input.specs.Parts.{block, times};
+ghost use Rattle.bitmap_input.specs.Parts.{block, repeated};
 ghost use Rattle.bitmap_input.specs.Front.{raw_row};
 ghost use Rattle.bitmap_input.specs.Raw.{row_bytes, unpacked};
 ghost use Rattle.bitmap_input.specs.Raster.{with_row, with_rows};
 
+use bit_image::Bitmap;
 use crate::fault::InFault;
 use crate::stop::Stop;
 use crate::window::{Look, Window};
-use bit_image::bitmap::Bitmap;
-use pt_base::inputs::Inputs;
-use pt_base::limits::LONGEST_SIDE;
+use pt_base::{Inputs, LONGEST_SIDE};
 
 /// As many bytes as the row is long.
 pub(crate) fn read_block<I: Inputs>(
@@ -69,7 +68,7 @@ pub(crate) fn read_raw_rows<I: Inputs>(
     requires { I.is_opened inputs.old ≡ true }
     ensures reads { Reads (λ _ rows. image_of page.new
         ≡ with_rows (image_of page.old) page.old.height (map (map (differ invert)) rows))
-        (times (raw_row page.old.width) page.old.height) window.old
+        (repeated (raw_row page.old.width) page.old.height) window.old
         (I.files inputs.old) result window.new (I.files inputs.new) }
     ensures sides { SameSides page.old page.new }
     ensures leaves { Leaves I.Inputs result inputs.old inputs.new }

@@ -18,11 +18,10 @@ use crate::run::{Run, skip};
 use crate::skip::pass_over;
 use crate::stop::Stop;
 use crate::window::Window;
-use pt_base::fault::NoMemory;
-use pt_base::inputs::Inputs;
+use pt_base::{Inputs, NoMemory};
 use std::alloc::Global;
 use std::marker::Model;
-use threshold_map::level::Level;
+use threshold_map::Level;
 
 /// A reader of the pages of the opened file, one after another.
 #[derive(Debug, Drop)]

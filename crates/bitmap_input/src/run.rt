@@ -2,12 +2,12 @@
 ghost use Rattle.std.specs.Prelude.{◌≡◌, ℕ, true, false, suc, List, ◌∷◌, MatchOption, IsTrue, ◌↔◌};
 ghost use Rattle.bitmap_input.specs.Reading.{Reads, Any, Leaves, TakesNone};
 ghost use Rattle.bitmap_input.specs.Parts.{is_space};
-ghost use Rattle.bitmap_input.specs.Run.{length_of, part_of, Continues};
+ghost use Rattle.bitmap_input.specs.Run.{run_size, run_part, Continues};
 
 use crate::fault::InFault;
 use crate::stop::Stop;
 use crate::window::{Look, Window};
-use pt_base::inputs::Inputs;
+use pt_base::Inputs;
 
 /// The most bytes of a gap, and of a run of digits.
 pub(crate) const LONGEST: u32 = 1048576;
@@ -63,7 +63,7 @@ pub(crate) fn behind(run: Run, byte: u8) -> Option<Run>
 /// Goes on behind a run, which may be empty.
 pub(crate) fn skip<I: Inputs>(window: &mut Window, inputs: &mut I, run: Run) -> Result<(), Stop>
     requires { I.is_opened inputs.old ≡ true }
-    ensures reads { Reads Any (part_of run) window.old (I.files inputs.old) result window.new
+    ensures reads { Reads Any (run_part run) window.old (I.files inputs.old) result window.new
         (I.files inputs.new) }
     ensures leaves { Leaves I.Inputs result inputs.old inputs.new }
     ensures free { TakesNone result }

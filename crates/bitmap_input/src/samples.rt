@@ -4,13 +4,14 @@ ghost use Rattle.std.specs.Prelude.{◌≡◌, ℕ, ◌+◌, ◌*◌, ◌<◌, �
 ghost use Rattle.bit_image.specs.Words.{is_one};
 ghost use Rattle.bit_image.specs.Page.{Page, SameSides, image_of};
 ghost use Rattle.bitmap_input.specs.Reading.{Reads, Leaves};
-ghost use Rattle.bitmap_input.specs.Parts.{times};
+ghost use Rattle.bitmap_input.specs.Parts.{repeated};
 ghost use Rattle.bitmap_input.specs.Raw.{is_dark};
 ghost use Rattle.bitmap_input.specs.Samples.{PixelSamples, samples_in, as_entry, plain_samples, is_wide, sample_bytes, samples, grouped, raw_samples_row};
 ghost use Rattle.bitmap_input.specs.Raster.{with_row, with_rows};
 ghost use Rattle.bitmap_input.specs.Shading.{brightness, brightness_at, IsCappedBrightness, is_black_at, black_of, black_in, IsInRange};
 ghost use Rattle.bitmap_input.specs.declared.channels.Channels.TheVariants as channels;
 
+use bit_image::Bitmap;
 use crate::channels::Channels;
 use crate::header::GREATEST_MAXVAL;
 use crate::number::{Part, read_number_behind_gap};
@@ -18,17 +19,15 @@ use crate::raw::read_block;
 use crate::stop::Stop;
 use crate::window::Window;
 use crate::words::with_pixel;
-use bit_image::bitmap::Bitmap;
-use pt_base::inputs::Inputs;
-use pt_base::limits::LONGEST_SIDE;
-use threshold_map::level::Level;
+use pt_base::{Inputs, LONGEST_SIDE};
+use threshold_map::Level;
 
 /// How the samples of a page become pixels.
 #[derive(Clone, Copy, Debug)]
 pub(crate) struct Shading {
     pub(crate) channels: Channels,
     /// The sample that is white, from 1 to 65535.
-    pub(crate) white: u32,
+    pub(crate) maxval: u32,
     /// The greatest sum of the samples of a pixel that is black, at most that of a white one.
     pub(crate) limit: u32,
     pub(crate) invert: bool,
@@ -48,16 +47,16 @@ impl Shading {
 //
 // It is found once for a page. The colours of a BMP have no such limit: the product with the level is the same for
 // each pixel, and the three loads of a colour cost more than it does.
-pub(crate) fn brightest_black(level: &Level, channels: Channels, white: u32) -> u32
-    requires some { 1 ≤ white }
-    requires most { white ≤ GREATEST_MAXVAL }
-    ensures black { (a : PixelSamples channels) → is_dark level.now (as_entry channels white a)
+pub(crate) fn brightest_black(level: &Level, channels: Channels, maxval: u32) -> u32
+    requires some { 1 ≤ maxval }
+    requires most { maxval ≤ GREATEST_MAXVAL }
+    ensures black { (a : PixelSamples channels) → is_dark level.now (as_entry channels maxval a)
         ≡ nat_le (brightness channels a) result }
-    ensures most { result ≤ samples_in channels * white }
+    ensures most { result ≤ samples_in channels * maxval }
 {
     match channels {
-        Channels::Gray => level.gray_limit(white),
-        Channels::Color => level.color_limit(white),
+        Channels::Gray => level.gray_limit(maxval),
+        Channels::Color => level.color_limit(maxval),
     }
 }
 
@@ -105,7 +104,7 @@ fn read_plain_row<I: Inputs>(
     requires range { IsInRange shading.now }
     ensures reads { Reads (λ _ row. image_of page.new
         ≡ with_row (image_of page.old) y (map (black_of shading.now) row))
-        (times (plain_samples shading.now.channels) page.old.width) window.old
+        (repeated (plain_samples shading.now.channels) page.old.width) window.old
         (I.files inputs.old) result window.new (I.files inputs.new) }
     ensures sides { SameSides page.old page.new }
     ensures leaves { Leaves I.Inputs result inputs.old inputs.new }
@@ -128,7 +127,7 @@ pub(crate) fn read_plain_sample_rows<I: Inputs>(
     requires range { IsInRange shading.now }
     ensures reads { Reads (λ _ rows. image_of page.new
         ≡ with_rows (image_of page.old) page.old.height (map (map (black_of shading.now)) rows))
-        (times (times (plain_samples shading.now.channels) page.old.width) page.old.height)
+        (repeated (repeated (plain_samples shading.now.channels) page.old.width) page.old.height)
         window.old (I.files inputs.old) result window.new (I.files inputs.new) }
     ensures sides { SameSides page.old page.new }
     ensures leaves { Leaves I.Inputs result inputs.old inputs.new }
@@ -142,19 +141,19 @@ pub(crate) fn read_plain_sample_rows<I: Inputs>(
 }
 
 /// Whether each sample is two bytes.
-pub(crate) fn is_wide(white: u32) -> bool
-    ensures { result ≡ is_wide white }
+pub(crate) fn is_wide(maxval: u32) -> bool
+    ensures { result ≡ is_wide maxval }
 {
-    white > 255
+    maxval > 255
 }
 
 /// The bytes of a row of samples.
-pub(crate) fn row_bytes(channels: Channels, width: u32, white: u32) -> usize
+pub(crate) fn row_bytes(channels: Channels, width: u32, maxval: u32) -> usize
     requires { width ≤ LONGEST_SIDE }
-    ensures { result ≡ sample_bytes white (samples_in channels * width) }
+    ensures { result ≡ sample_bytes maxval (samples_in channels * width) }
 {
     let samples = (channels.samples() * width) as usize;
-    if is_wide(white) { 2 * samples } else { samples }
+    if is_wide(maxval) { 2 * samples } else { samples }
 }
 
 /// A sample of a row, where all are wide or none is.
@@ -193,10 +192,10 @@ fn word(row: &[u8], from: usize, count: usize, shading: &Shading) -> u64
     requires few { count ≤ 64 }
     requires column { from ≤ LONGEST_SIDE }
     requires within { samples_in shading.now.channels * (from + count)
-        ≤ length (samples (is_wide shading.now.white) row.now) }
+        ≤ length (samples (is_wide shading.now.maxval) row.now) }
     ensures { (k : ℕ) → k < count → is_one result k ≡ black_in shading.now row.now (from + k) }
 {
-    let wide = is_wide(shading.white);
+    let wide = is_wide(shading.maxval);
     let mut word = 0;
     for i in 0..count {
         let brightness = brightness_at(row, shading.channels, wide, from + i);
@@ -209,11 +208,11 @@ fn word(row: &[u8], from: usize, count: usize, shading: &Shading) -> u64
 fn place_row(page: &mut Bitmap, y: u32, row: &[u8], shading: &Shading)
     requires row { y < page.old.height }
     requires whole { length row.now
-        ≡ sample_bytes shading.now.white (samples_in shading.now.channels * page.old.width) }
+        ≡ sample_bytes shading.now.maxval (samples_in shading.now.channels * page.old.width) }
     ensures sides { SameSides page.old page.new }
     ensures pixels { image_of page.new ≡ with_row (image_of page.old) y
         (map (black_of shading.now)
-        (grouped shading.now.channels (samples (is_wide shading.now.white) row.now))) }
+        (grouped shading.now.channels (samples (is_wide shading.now.maxval) row.now))) }
 {
     let width = page.width();
     for at in 0..(width + 63) / 64 {
@@ -233,10 +232,10 @@ pub(crate) fn read_raw_sample_rows<I: Inputs>(
 ) -> Result<(), Stop>
     requires opened { I.is_opened inputs.old ≡ true }
     requires whole { length row.old
-        ≡ sample_bytes shading.now.white (samples_in shading.now.channels * page.old.width) }
+        ≡ sample_bytes shading.now.maxval (samples_in shading.now.channels * page.old.width) }
     ensures reads { Reads (λ _ rows. image_of page.new
         ≡ with_rows (image_of page.old) page.old.height (map (map (black_of shading.now)) rows))
-        (times (raw_samples_row shading.now.channels shading.now.white page.old.width)
+        (repeated (raw_samples_row shading.now.channels shading.now.maxval page.old.width)
         page.old.height) window.old
         (I.files inputs.old) result window.new (I.files inputs.new) }
     ensures sides { SameSides page.old page.new }

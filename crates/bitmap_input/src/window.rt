@@ -4,8 +4,7 @@ ghost use Rattle.pt_base.specs.Counts.{Rose};
 ghost use Rattle.bitmap_input.specs.Reading.{Moves};
 ghost use Rattle.bitmap_input.specs.Window.{IsFirst, Looks, CountsLook};
 
-use pt_base::fault::{DeviceFault, NoMemory};
-use pt_base::inputs::Inputs;
+use pt_base::{DeviceFault, Inputs, NoMemory};
 use std::alloc::Global;
 use std::marker::Model;
 
@@ -23,9 +22,9 @@ pub(crate) struct Window {
 
 impl Model for Window {
     ghost use Rattle.std.specs.Prelude.{◌≡◌, ◌≤◌, ◌-◌, length, take, drop};
-    ghost use Rattle.bitmap_input.specs.Reading.{Held};
+    ghost use Rattle.bitmap_input.specs.Reading.{Buffered};
 
-    ghost Value = { Held };
+    ghost Value = { Buffered };
 
     ghost view = { λ w. record {
       bytes = take (w.end - w.start)

@@ -6,3 +6,5 @@
 
 pub mod program;
 pub mod task;
+
+pub use program::check_run;

@@ -12,9 +12,8 @@ ghost use Rattle.small_program.specs.declared.ending.Ending.{Ending};
 ghost use Rattle.small_program.specs.declared.ending.Ending.TheVariants.{Done};
 
 use crate::task::Checking;
-use pt_base::inputs::Inputs;
-use pt_base::sink::{Outputs, Sink};
-use small_program::program::run;
+use pt_base::{Inputs, Outputs, Sink};
+use small_program::run;
 use std::alloc::Global;
 
 /// Reads a text of certificates from standard input, writes whether all are right or which is the first that

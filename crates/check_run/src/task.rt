@@ -2,11 +2,9 @@
 ghost use Rattle.std.specs.Prelude.{◌≡◌, ◌++◌, codes, decimal, string_bytes, IfOk};
 ghost use Rattle.check_run.specs.Verdict.{verdict_line};
 
-use outline_check::judge::check_proofs;
-use outline_check::verdict::Verdict;
-use pt_base::digits::put_number;
-use pt_base::fault::NoMemory;
-use small_program::task::{Reply, Task};
+use outline_check::{Verdict, check_proofs};
+use pt_base::{NoMemory, put_number};
+use small_program::{Reply, Task};
 use std::alloc::Global;
 
 /// Checking a text of certificates.

@@ -6,3 +6,6 @@ pub mod asking;
 mod numbers;
 mod settings_given;
 pub mod words;
+
+pub use ask::{Ask, WordFault};
+pub use words::settings_of;

@@ -3,7 +3,7 @@ ghost use Rattle.std.specs.Prelude.{◌≤◌, ◌*◌, ◌^◌, ℕ, IfNone, If
 ghost use Rattle.pt_base.specs.Micro.{IsMicro};
 ghost use Rattle.command_asks.specs.Asked.{IsMicroOr, IsWholeOf, IsWholeOr};
 
-use pt_base::decimal::{read_micro, read_whole};
+use pt_base::{read_micro, read_whole};
 
 /// The whole number of this text from least to most, or the default where there is no text.
 pub fn whole_or(text: Option<&str>, default: u32, least: u32, most: u32) -> Option<u32>

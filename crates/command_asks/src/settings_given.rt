@@ -5,11 +5,10 @@ ghost use Rattle.pt_base.specs.declared.policy.Policy.{Policy};
 ghost use Rattle.pt_base.specs.declared.settings.Backend.{Backend};
 ghost use Rattle.pt_base.specs.declared.settings.Settings.{Settings};
 
+use command_words::Given;
 use crate::numbers::{micro_or, whole_or};
-use command_words::given::Given;
-use page_trace::document::backend_of;
-use pt_base::policy::Policy;
-use pt_base::settings::{Backend, Settings};
+use page_trace::backend_of;
+use pt_base::{Backend, Policy, Settings};
 
 /// The speckle limit where no word says one, in pixels.
 const DEFAULT_SPECKLE: u32 = 2;

@@ -2,7 +2,7 @@
 use Rattle.std.proofs.Common.{◌≡◌, ℕ, pos, negsuc, List, [], ◌∷◌, refl}
 use Rattle.pt_base.specs.declared.piece.Piece.TheVariants.{Corner, Curve}
 use Rattle.pt_base.specs.declared.point.Point.{Point}
-use Rattle.corner_smooth.specs.Corner.{al_of, middle_of, piece_at, piece_of, pieces_of, sharpness_of}
+use Rattle.corner_smooth.specs.Corner.{al_of, corner_piece, middle_of, piece_of, pieces_of, sharpness_of}
 
 abbrev place : ℕ → ℕ → Point
 place x y = record { x = pos x; y = pos y }
@@ -33,17 +33,17 @@ unfolding piece_of
 four_corners = refl
 
 -- a little more is asked for
-no_corner : piece_at 1000001 (square 8192) 1 ≡ Curve (place 0 0) (place 0 0) (place 4096 0) 65536
+no_corner : corner_piece 1000001 (square 8192) 1 ≡ Curve (place 0 0) (place 0 0) (place 4096 0) 65536
 unfolding piece_of
 no_corner = refl
 
 -- the controls of a pixel's curves lie 0.775 of the way to the vertex, rounded down
-first_curve : piece_at 1000000 (square 1024) 0 ≡ Curve (place 230 1024) (place 0 793) (place 0 512) 36045
+first_curve : corner_piece 1000000 (square 1024) 0 ≡ Curve (place 230 1024) (place 0 793) (place 0 512) 36045
 unfolding piece_of
 first_curve = refl
 
 -- there and back
-turned_round : piece_at 1333333 (place 0 1 ∷ place 2048 0 ∷ []) 1 ≡ Corner (place 2048 0) (place 1024 0)
+turned_round : corner_piece 1333333 (place 0 1 ∷ place 2048 0 ∷ []) 1 ≡ Corner (place 2048 0) (place 1024 0)
 unfolding piece_of
 turned_round = refl
 

@@ -7,7 +7,7 @@ use Rattle.std.specs.List.{All, range_with_len}
 use Rattle.pt_base.specs.ClosedWalk.{origin, point_at}
 use Rattle.pt_base.specs.declared.piece.Piece.{Piece}
 use Rattle.pt_base.specs.declared.point.Point.{Point}
-use Rattle.corner_smooth.specs.Corner.{piece_at, piece_of}
+use Rattle.corner_smooth.specs.Corner.{corner_piece, piece_of}
 
 pub here : (vertices : List Point) (j : ℕ) → j < length vertices → get_or vertices j origin ≡ point_at vertices j
 here vertices j within = ap (λ i. get_or vertices i origin) (sym (mod-eq_of_lt within))
@@ -27,13 +27,13 @@ one_lap_on vertices j within =
 pub one_more : (alphamax : ℕ) (vertices : List Point) (j next : ℕ) (so_far more : List Piece) (before : Point) (piece : Piece)
     → j < length vertices → next ≡ (j + 1) % length vertices → before ≡ point_at vertices (j + (length vertices - 1))
     → piece ≡ piece_of alphamax before (get_or vertices j origin) (get_or vertices next origin)
-    → so_far ≡ map (piece_at alphamax vertices) (range_with_len 0 j) → more ≡ so_far ++ piece ∷ []
-    → more ≡ map (piece_at alphamax vertices) (range_with_len 0 (j + 1))
+    → so_far ≡ map (corner_piece alphamax vertices) (range_with_len 0 j) → more ≡ so_far ++ piece ∷ []
+    → more ≡ map (corner_piece alphamax vertices) (range_with_len 0 (j + 1))
 one_more alphamax vertices j next so_far more before piece within is_next is_before is_piece pieces pushed =
     let at = here vertices j within in
     let after : get_or vertices next origin ≡ point_at vertices (j + 1) = ap (λ i. get_or vertices i origin) is_next in
-    let is : piece ≡ piece_at alphamax vertices j = cc in
-    let step = map-range_with_len_more (piece_at alphamax vertices) 0 j j (omega arith) in
+    let is : piece ≡ corner_piece alphamax vertices j = cc in
+    let step = map-range_with_len_more (corner_piece alphamax vertices) 0 j j (omega arith) in
     cc
 
 only : (P : Piece → Type 0) (piece : Piece) → P piece → (k : ℕ) (d : Piece) → k < length (piece ∷ []) → P (get_or (piece ∷ []) k d)

@@ -80,13 +80,13 @@ piece_of alphamax before at after =
     else curve_of (al_of (sharpness_of before at after)) before at after
 
 -- the piece at vertex number j: before the first vertex comes the last, and after the last the first
-abbrev pub piece_at : ℕ → List Point → ℕ → Piece
-piece_at alphamax vertices j =
+abbrev pub corner_piece : ℕ → List Point → ℕ → Piece
+corner_piece alphamax vertices j =
     piece_of alphamax (point_at vertices (j + (length vertices - 1))) (point_at vertices j) (point_at vertices (j + 1))
 
 -- one piece for each vertex, in order
 abbrev pub pieces_of : ℕ → List Point → List Piece
-pieces_of alphamax vertices = map (piece_at alphamax vertices) (range_with_len 0 (length vertices))
+pieces_of alphamax vertices = map (corner_piece alphamax vertices) (range_with_len 0 (length vertices))
 
 -- the piece's places are near the page
 abbrev pub StaysNear : Piece → Type 0

@@ -13,7 +13,7 @@
 --   control_of: the curve's control between a neighbour and the vertex
 --   curve_of: the curve at a vertex, of this roundness
 --   piece_of: the piece at a vertex between two others
---   piece_at: the piece at vertex number j
+--   corner_piece: the piece at vertex number j
 --   pieces_of: one piece for each vertex, in order
 --   StaysNear: the piece's places are near the page
 --   HasRoundness: a curve's `al` is from 0.55 to 1, in units of 1/65536

@@ -9,3 +9,5 @@ mod corner;
 pub mod outline;
 mod triangle;
 mod vertex;
+
+pub use outline::smooth;

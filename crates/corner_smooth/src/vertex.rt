@@ -5,8 +5,7 @@ ghost use Rattle.corner_smooth.specs.Corner.{IsInReach, IsNearWidePage, HasRound
 
 use crate::corner::{al, is_corner, sharpness};
 use crate::triangle::between;
-use pt_base::piece::Piece;
-use pt_base::point::Point;
+use pt_base::{Piece, Point};
 
 /// The piece at a vertex between its neighbours: a corner where it is as sharp as `alphamax` millionths.
 #[tactic(auto, unfolding(crate::specs::Corner::piece_of))]

@@ -1,11 +1,11 @@
 -- Ways between places, and the senses in which they turn.
 --   way_of: the way from one place to another
---   cross_of: the cross product
+--   vector_cross: the cross product
 --   dot_of: the scalar product
 --   square_of: the square of a way's length
 --   sense_of: the sense in which a cross product turns
 --   towards: a number that counts to the left, counted in a sense
---   IsWithin: neither coordinate goes farther
+--   GoesNoFarther: neither coordinate goes farther
 --   IsPlaced: neither coordinate is farther from 0
 pub mod Vector
 -- The pieces of an outline, each with its vertex.
@@ -15,13 +15,12 @@ pub mod Vector
 --   vertex_before
 --   vertex_after
 --   piece_at: piece number k, counted on round the outline
---   end_of
 --   is_curve
 --   first_of: a piece's first and second control
 --   second_of
---   al_of
+--   piece_al
 --   start_at: where piece number k starts
---   IsNear: the places of a piece are near the page
+--   LiesNear: the places of a piece are near the page
 --   IsOutline: what joining asks of an outline
 pub mod Outline
 -- What the vertices of an outline and their pieces bring to each run of pieces that holds them.
@@ -30,7 +29,7 @@ pub mod Outline
 --   bend_of: a vertex between two others, with its piece and where that starts
 --   bend_at: vertex number k of an outline with its piece
 --   bends_of: all of them, in order
---   IsSmall: all is near enough to work with
+--   IsWorkable: all is near enough to work with
 pub mod Bends
 -- Where a function is least.
 --   IsFirstLeast: u is at most n, f is nowhere less up to n, and before u it is greater
@@ -38,7 +37,7 @@ pub mod Bends
 pub mod Least
 -- One cubic curve in place of several.
 --   led: the place to which a part of a way leads
---   turn_of: the cross product of both tangents
+--   cross_of_tangents: the cross product of both tangents
 --   meeting_of: where the tangents meet, if they turn in this sense
 --   Meet: the tangents turn in this sense and meet, not too far away, on the other side of the chord
 --   Encloses: the area is one that a curve with these tangents can have
@@ -74,7 +73,7 @@ pub mod Cubic
 --   IsNearBy: the distance is within the tolerance
 --   share_of: the square of the distance, in units of 1/16 of a unit of places
 --   touched_from: the way from a bend's vertex to
---   gap_of: how far the curve is from that side there, times the side's length
+--   clearance_of: how far the curve is from that side there, times the side's length
 --   FollowsSide: the curve touches the side but for the tolerance, and between its ends
 --   not_below_zero
 --   excess_of: how much farther out from its chord a piece goes than the joined curve, times the chord's length
@@ -85,7 +84,7 @@ pub mod Cubic
 --   MayJoin: the pieces of a run may be joined
 pub mod Join
 -- The choice among all ways to cut an outline into runs (Selinger, "Potrace.
---   IsRun: pieces number i up to before j may become one
+--   MayBeOne: pieces number i up to before j may become one
 --   run_penalty: the penalty of it, which a single piece doesn't have
 --   run_piece: what they become
 --   cut_pieces: the pieces that a cut leaves, which lists where each run begins and where the last one ends
@@ -96,7 +95,7 @@ pub mod Choice
 --   slice_most: a part of a list isn't longer than from where to where it goes
 --   goes_up
 --   ends_soon: no run has more than 64 pieces
---   penalty_most
+--   run_penalty_most
 pub mod Costs
 -- Halves of a stretch of a quadratic.
 --   middle_value: four times its value in the middle

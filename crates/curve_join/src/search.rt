@@ -6,8 +6,8 @@
 ghost use Rattle.std.specs.Prelude.{◌≡◌, ◌+◌, ◌<◌, ◌≤◌, ◌^◌, ◌⊎◌, true, false, length, slice_index, slice_range, All, IfOk};
 ghost use Rattle.least_walk.specs.LeastWalk.{IsLeast, walk_from};
 ghost use Rattle.least_walk.specs.Suffix.{HasCosts, HasFewest, HasNexts, IsFewestFrom, IsLeastCost, IsLeastNext};
-ghost use Rattle.curve_join.specs.Bends.{IsSmall};
-ghost use Rattle.curve_join.specs.Choice.{IsLastRun, IsRun, run_penalty};
+ghost use Rattle.curve_join.specs.Bends.{IsWorkable};
+ghost use Rattle.curve_join.specs.Choice.{IsLastRun, MayBeOne, run_penalty};
 ghost use Rattle.curve_join.specs.Join.{GoesRound, first_bend, sense_at};
 ghost use Rattle.curve_join.specs.Search.{AreLeastCosts, IsNotBehind, paid};
 
@@ -15,8 +15,8 @@ use crate::bend::Bend;
 use crate::run::{joined_round, round_count};
 use crate::runs::Runs;
 use crate::sense::Sense;
-use least_walk::walk::{Walk, walk_by};
-use pt_base::fault::NoMemory;
+use least_walk::{Walk, walk_by};
+use pt_base::NoMemory;
 use std::alloc::Global;
 
 /// A way on from a piece.
@@ -49,7 +49,7 @@ impl WayOn {
 /// The same as `least` finds.
 pub(crate) fn least_by_runs(alloc: Global, runs: &Runs) -> Result<Walk, NoMemory>
     ensures { IfOk result (λ walk. IsLeast (length runs.now.bends.items)
-        (IsRun runs.now.tol runs.now.bends.items) (run_penalty runs.now.bends.items)
+        (MayBeOne runs.now.tol runs.now.bends.items) (run_penalty runs.now.bends.items)
         (walk_from walk.at (length runs.now.bends.items))) }
 {
     let places = runs.bends.len() + 1;
@@ -65,11 +65,11 @@ fn fill_ways(runs: &Runs, counts: &mut [u32], costs: &mut [u128], nexts: &mut [u
     requires count_places { length counts.old ≡ length runs.now.bends.items + 1 }
     requires cost_places { length costs.old ≡ length runs.now.bends.items + 1 }
     requires next_places { length nexts.old ≡ length runs.now.bends.items + 1 }
-    ensures counts { HasFewest (length runs.now.bends.items) (IsRun runs.now.tol runs.now.bends.items)
+    ensures counts { HasFewest (length runs.now.bends.items) (MayBeOne runs.now.tol runs.now.bends.items)
         0 counts.new }
-    ensures costs { HasCosts (length runs.now.bends.items) (IsRun runs.now.tol runs.now.bends.items)
+    ensures costs { HasCosts (length runs.now.bends.items) (MayBeOne runs.now.tol runs.now.bends.items)
         (run_penalty runs.now.bends.items) 0 costs.new }
-    ensures nexts { HasNexts (length runs.now.bends.items) (IsRun runs.now.tol runs.now.bends.items)
+    ensures nexts { HasNexts (length runs.now.bends.items) (MayBeOne runs.now.tol runs.now.bends.items)
         (run_penalty runs.now.bends.items) 0 nexts.new }
 {
     let size = runs.bends.len();
@@ -91,15 +91,15 @@ fn best_from(runs: &Runs, from: u32, counts: &[u32], costs: &[u128]) -> WayOn
     requires from { from < length runs.now.bends.items }
     requires count_places { length counts.now ≡ length runs.now.bends.items + 1 }
     requires cost_places { length costs.now ≡ length runs.now.bends.items + 1 }
-    requires fewest { HasFewest (length runs.now.bends.items) (IsRun runs.now.tol runs.now.bends.items)
+    requires fewest { HasFewest (length runs.now.bends.items) (MayBeOne runs.now.tol runs.now.bends.items)
         (from + 1) counts.now }
     requires costs { AreLeastCosts (length runs.now.bends.items)
-        (IsRun runs.now.tol runs.now.bends.items) (run_penalty runs.now.bends.items) (from + 1) costs.now }
+        (MayBeOne runs.now.tol runs.now.bends.items) (run_penalty runs.now.bends.items) (from + 1) costs.now }
     ensures count { IsFewestFrom (length runs.now.bends.items)
-        (IsRun runs.now.tol runs.now.bends.items) from result.count }
-    ensures cost { IsLeastCost (length runs.now.bends.items) (IsRun runs.now.tol runs.now.bends.items)
+        (MayBeOne runs.now.tol runs.now.bends.items) from result.count }
+    ensures cost { IsLeastCost (length runs.now.bends.items) (MayBeOne runs.now.tol runs.now.bends.items)
         (run_penalty runs.now.bends.items) from result.cost }
-    ensures next { IsLeastNext (length runs.now.bends.items) (IsRun runs.now.tol runs.now.bends.items)
+    ensures next { IsLeastNext (length runs.now.bends.items) (MayBeOne runs.now.tol runs.now.bends.items)
         (run_penalty runs.now.bends.items) from result.next }
 {
     let last = last_from(&runs.bends, from as usize);
@@ -112,7 +112,7 @@ fn best_from(runs: &Runs, from: u32, counts: &[u32], costs: &[u128]) -> WayOn
 
 /// Where the pieces no longer go round as a run does that begins here, or where a run would be too long.
 fn last_from(bends: &[Bend], from: usize) -> u32
-    requires small { All IsSmall bends.now }
+    requires small { All IsWorkable bends.now }
     requires most { length bends.now ≤ 2 ^ 31 }
     requires within { from < length bends.now }
     ensures { IsLastRun bends.now from result }
@@ -151,10 +151,10 @@ fn better(runs: &Runs, from: u32, way: WayOn, best: WayOn) -> WayOn
         (first_bend (slice_range runs.now.bends.items from way.next)).arrives)
         (slice_range runs.now.bends.items from way.next) }
     requires small { way.cost < 2 ^ 88 }
-    ensures one { (result ≡ best) ⊎ (IsRun runs.now.tol runs.now.bends.items from way.next
+    ensures one { (result ≡ best) ⊎ (MayBeOne runs.now.tol runs.now.bends.items from way.next
         × (result ≡ paid (run_penalty runs.now.bends.items from way.next) way)) }
     ensures best { IsNotBehind result best }
-    ensures run { IsRun runs.now.tol runs.now.bends.items from way.next
+    ensures run { MayBeOne runs.now.tol runs.now.bends.items from way.next
         → IsNotBehind result (paid (run_penalty runs.now.bends.items from way.next) way) }
 {
     if !way.is_before(best) {

@@ -10,7 +10,7 @@ use Rattle.straight_paths.proofs.Decided.{is_possible}
 use Rattle.straight_paths.proofs.Far.{step_possible}
 use Rattle.least_walk.specs.LeastWalk.{total_cost, IsLeast, IsWalk}
 use Rattle.least_walk.specs.LeastWalk.IsBefore.{by_steps, by_cost}
-use Rattle.least_walk.specs.Suffix.{GoesOn}
+use Rattle.least_walk.specs.Suffix.{WalksOn}
 use Rattle.least_walk.proofs.Going.{goes_below, length-steps_from}
 use Rattle.least_walk.proofs.Exists.{least_found}
 use Rattle.least_walk.proofs.Walks.{goes_from_walk, walk_from_goes}
@@ -25,7 +25,7 @@ use Rattle.cyclic_optimal.proofs.Final.{least_cyclic}
 
 module _ (points : List Point) (closed : IsClosedWalk points) where
   abbrev Way : ℕ → List ℕ → Type 0
-  Way s r = GoesOn (s + length points) (IsPossible points) s r
+  Way s r = WalksOn (s + length points) (IsPossible points) s r
 
   abbrev pays : ℕ → List ℕ → ℕ
   pays s r = total_cost (penalty_of points) (s ∷ r)
@@ -53,8 +53,8 @@ module _ (points : List Point) (closed : IsClosedWalk points) where
         let out = goes_moved may (IsPossible points) s (λ i j m. m) (length points) 0 same_rest from_zero in
         let goes : Way s (on_by s rest)
         = subst (λ l. Way s (on_by s l)) (sym is)
-        (subst (λ m. GoesOn m (IsPossible points) s (on_by s same_rest)) a
-        (subst (λ m. GoesOn (length points + s) (IsPossible points) m (on_by s same_rest)) b out)) in
+        (subst (λ m. WalksOn m (IsPossible points) s (on_by s same_rest)) a
+        (subst (λ m. WalksOn (length points + s) (IsPossible points) m (on_by s same_rest)) b out)) in
         let paid : pays s (on_by s rest) ≡ total_cost costs (0 ∷ rest)
         = ap (λ m. total_cost (penalty_of points) (m ∷ on_by s rest)) (sym b) ∙ cost_moved costs (penalty_of points) s (λ i j. refl) 0 rest in
         record {
@@ -93,8 +93,8 @@ module _ (points : List Point) (closed : IsClosedWalk points) where
           inwards r way =
               let a : s + length points ≡ length points + s = omega arith in
               let b : s ≡ 0 + s = omega arith in
-              let moved = subst (λ m. GoesOn m (IsPossible points) (0 + s) r) a
-              (subst (λ m. GoesOn (s + length points) (IsPossible points) m r) b way) in
+              let moved = subst (λ m. WalksOn m (IsPossible points) (0 + s) r) a
+              (subst (λ m. WalksOn (s + length points) (IsPossible points) m r) b way) in
               let (q, same, back) = goes_back may (IsPossible points) s (λ i j m. m) (length points) 0 r moved in (
                 q,
                 same,

@@ -13,7 +13,7 @@ use Rattle.pt_base.specs.declared.point.Point.{Point}
 use Rattle.straight_paths.specs.Straight.{IsPossible}
 use Rattle.least_walk.specs.LeastWalk.{IsWalk, IsBefore, step_count, total_cost, walk_from}
 use Rattle.least_walk.specs.LeastWalk.IsBefore.{by_steps, by_cost, by_list}
-use Rattle.least_walk.specs.Suffix.{GoesOn}
+use Rattle.least_walk.specs.Suffix.{WalksOn}
 use Rattle.least_walk.proofs.Going.{goes_below, length-steps_from}
 use Rattle.least_walk.proofs.Before.{nat_cmp_above, slice_cmp-cons}
 use Rattle.least_walk.proofs.Walks.{goes_from_walk, walk_from_goes}
@@ -40,9 +40,9 @@ module _ (turned points : List Point) (f : ℕ) (is : IsTurned turned points f) 
   out i j segment = possible_moved turned points f is i j segment.possible
 
   -- a way of the turned path is a walk of it
-  walk_in : (s : List ℕ) → GoesOn (length points) (IsPossible turned) 0 s → IsWalk (length turned) (IsSegment turned) (0 ∷ s)
+  walk_in : (s : List ℕ) → WalksOn (length points) (IsPossible turned) 0 s → IsWalk (length turned) (IsSegment turned) (0 ∷ s)
   walk_in s goes = walk_from_goes (length turned) (IsSegment turned) s (segments 0 s goes) where
-    segments : (i : ℕ) (r : List ℕ) → GoesOn (length points) (IsPossible turned) i r → GoesOn (length turned) (IsSegment turned) i r
+    segments : (i : ℕ) (r : List ℕ) → WalksOn (length points) (IsPossible turned) i r → WalksOn (length turned) (IsSegment turned) i r
     segments i [] at_end = at_end ∙ sym is.size
     segments i (j ∷ r) goes =
         let room = goes_below (length points) (IsPossible turned) j r goes.2 in
@@ -59,9 +59,9 @@ module _ (turned points : List Point) (f : ℕ) (is : IsTurned turned points f) 
       let round = round_of points f others polygon in
       let a : f + length points ≡ length points + f = omega arith in
       let b : f ≡ 0 + f = omega arith in
-      let moved : GoesOn (length points + f) (IsPossible points) (0 + f) (others ++ (f + length points) ∷ [])
-      = subst (λ m. GoesOn m (IsPossible points) (0 + f) (others ++ (f + length points) ∷ [])) a
-      (subst (λ m. GoesOn (f + length points) (IsPossible points) m (others ++ (f + length points) ∷ [])) b round) in
+      let moved : WalksOn (length points + f) (IsPossible points) (0 + f) (others ++ (f + length points) ∷ [])
+      = subst (λ m. WalksOn m (IsPossible points) (0 + f) (others ++ (f + length points) ∷ [])) a
+      (subst (λ m. WalksOn (f + length points) (IsPossible points) m (others ++ (f + length points) ∷ [])) b round) in
       let (s, same, back) = goes_back (IsPossible turned) (IsPossible points) f (possible_back turned points f is)
       (length points) 0 (others ++ (f + length points) ∷ []) moved in
       record { rest = s; same = same; walk = walk_in s back }
@@ -83,7 +83,7 @@ module _ (turned points : List Point) (f : ℕ) (is : IsTurned turned points f) 
     others : List ℕ
     starts : at ≡ 0 ∷ rest
     moved : others ≡ on_by f rest
-    round : GoesOn (f + length points) (IsPossible points) f (others ++ (f + length points) ∷ [])
+    round : WalksOn (f + length points) (IsPossible points) f (others ++ (f + length points) ∷ [])
 
   found_by : (l : List ℕ) → l ≡ at → Found
   found_by [] none =
@@ -108,9 +108,9 @@ module _ (turned points : List Point) (f : ℕ) (is : IsTurned turned points f) 
         others = on_by f t;
         starts = sym starts ∙ ap (λ m. m ∷ t) zero_first;
         moved = refl;
-        round = subst (λ l. GoesOn (f + length points) (IsPossible points) f l) list
-            (subst (λ m. GoesOn m (IsPossible points) f (on_by f s)) a
-            (subst (λ m. GoesOn (length turned + f) (IsPossible points) m (on_by f s)) b way));
+        round = subst (λ l. WalksOn (f + length points) (IsPossible points) f l) list
+            (subst (λ m. WalksOn m (IsPossible points) f (on_by f s)) a
+            (subst (λ m. WalksOn (length turned + f) (IsPossible points) m (on_by f s)) b way));
       }
 
   found : Found
@@ -178,7 +178,7 @@ module _ (turned points : List Point) (f : ℕ) (is : IsTurned turned points f) 
       ]
 
   -- so it has no vertex past the path's end
-  no_more : (v : ℕ) (r : List ℕ) → f + length points ≤ v → GoesOn (f + length points) (IsPossible points) v r → r ≡ []
+  no_more : (v : ℕ) (r : List ℕ) → f + length points ≤ v → WalksOn (f + length points) (IsPossible points) v r → r ≡ []
   no_more v [] past goes = refl
   no_more v (j ∷ r) past goes = let room = goes_below (f + length points) (IsPossible points) j r goes.2 in absurd (omega (arith, goes.0))
 

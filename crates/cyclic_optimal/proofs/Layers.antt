@@ -7,7 +7,7 @@ use Rattle.std.specs.Prelude.{slice_index}
 use Rattle.pt_base.specs.declared.point.Point.{Point}
 use Rattle.straight_paths.specs.Straight.{IsPossible}
 use Rattle.least_walk.specs.LeastWalk.{total_cost}
-use Rattle.least_walk.specs.Suffix.{GoesOn, IsFewestFrom}
+use Rattle.least_walk.specs.Suffix.{IsFewestFrom, WalksOn}
 use Rattle.least_walk.proofs.Going.{goes_below, total_cost-cons}
 use Rattle.pt_base.specs.OnPage.{AreOnPage}
 use Rattle.cyclic_optimal.specs.Fronts.{IsBestFrom, IsFrontOf, IsLeastBy, IsLeastVia, worth_of}
@@ -18,7 +18,7 @@ use Rattle.cyclic_optimal.proofs.Worth.{ways_count}
 
 module _ (points : List Point) where
   -- no way has been looked at
-  pub via_none : (end count i to : ℕ) → ((j : ℕ) (r : List ℕ) → j < to → IsPossible points i j → GoesOn end (IsPossible points) j r → length r ≡ count → ⊥)
+  pub via_none : (end count i to : ℕ) → ((j : ℕ) (r : List ℕ) → j < to → IsPossible points i j → WalksOn end (IsPossible points) j r → length r ≡ count → ⊥)
       → IsLeastVia points end count i to NONE
   via_none end count i to nowhere = record {
     bound = λ j r below possible goes counted. absurd (nowhere j r below possible goes counted);
@@ -38,7 +38,7 @@ module _ (points : List Point) where
             record {
               bound = λ j r below possible goes counted. elim (cases_eq j to) [
                 | inl here ↦
-                    let all = by.bound r (subst (λ m. GoesOn end (IsPossible points) m r) here goes) counted in
+                    let all = by.bound r (subst (λ m. WalksOn end (IsPossible points) m r) here goes) counted in
                     omega (arith, total_cost-cons (worth_of points) i j r, ap (worth_of points i) here, ap (λ m. total_cost (worth_of points) (m ∷ r)) here)
                 | inr other ↦ omega (arith, via.bound j r (omega arith) possible goes counted)
               ];
@@ -55,7 +55,7 @@ module _ (points : List Point) where
             record {
               bound = λ j r below possible goes counted. elim (cases_eq j to) [
                 | inl here ↦
-                    let all = by.bound r (subst (λ m. GoesOn end (IsPossible points) m r) here goes) counted in
+                    let all = by.bound r (subst (λ m. WalksOn end (IsPossible points) m r) here goes) counted in
                     omega (arith, total_cost-cons (worth_of points) i j r, ap (worth_of points i) here, ap (λ m. total_cost (worth_of points) (m ∷ r)) here)
                 | inr other ↦ omega (arith, via.bound j r (omega arith) possible goes counted)
               ];
@@ -72,7 +72,7 @@ module _ (points : List Point) where
     bound = over;
     some = via.some;
   } where
-    over : (r : List ℕ) → GoesOn end (IsPossible points) i r → length r ≡ count + 1 → least ≤ total_cost (worth_of points) (i ∷ r)
+    over : (r : List ℕ) → WalksOn end (IsPossible points) i r → length r ≡ count + 1 → least ≤ total_cost (worth_of points) (i ∷ r)
     over [] goes counted = absurd (omega arith)
     over (j ∷ r) goes counted =
         let room = goes_below end (IsPossible points) j r goes.2 in
@@ -92,7 +92,7 @@ module _ (points : List Point) where
         });
     below = under;
   } where
-    under : (i : ℕ) (r : List ℕ) → i < front.low → GoesOn front.end (IsPossible points) i r → length r ≡ front.left → ⊥
+    under : (i : ℕ) (r : List ℕ) → i < front.low → WalksOn front.end (IsPossible points) i r → length r ≡ front.left → ⊥
     under i [] early goes counted = omega arith
     under i (j ∷ r) early goes counted = omega arith
 
@@ -137,10 +137,10 @@ module _ (points : List Point) where
         subst P (sym same_end) (subst Q (sym one_more) (are.each i above (omega (arith, are.size)))));
     below = under;
   } where
-    under : (i : ℕ) (r : List ℕ) → i < front.low → GoesOn front.end (IsPossible points) i r → length r ≡ front.left → ⊥
+    under : (i : ℕ) (r : List ℕ) → i < front.low → WalksOn front.end (IsPossible points) i r → length r ≡ front.left → ⊥
     under i [] early goes counted = omega arith
     under i (j ∷ r) early goes counted =
-        is.below j r (short i j early goes.1) (subst (λ e. GoesOn e (IsPossible points) j r) same_end goes.2) (omega arith)
+        is.below j r (short i j early goes.1) (subst (λ e. WalksOn e (IsPossible points) j r) same_end goes.2) (omega arith)
 
   -- what is kept of a point of a front
   pub front_at : (front : Front) (j value : ℕ) → IsFrontOf points front → front.low ≤ j → j < front.low + length front.least.items
@@ -158,8 +158,8 @@ module _ (points : List Point) where
       (end : front.end ≡ start + length points) (small : start + length points < 2 ^ 33) (left : front.left ≡ count) (few : count ≤ 2 ^ 31)
       (top : start < front.low + length front.least.items)
       (fewest : IsFewestFrom (start + length points) (IsPossible points) start count) where
-    at_end : GoesOn front.end (IsPossible points) start fewest.rest
-    at_end = subst (λ e. GoesOn e (IsPossible points) start fewest.rest) (sym end) fewest.goes_on
+    at_end : WalksOn front.end (IsPossible points) start fewest.rest
+    at_end = subst (λ e. WalksOn e (IsPossible points) start fewest.rest) (sym end) fewest.goes_on
 
     pub start_in : front.low ≤ start
     start_in = elim (cases_lt start front.low) [
@@ -175,9 +175,9 @@ module _ (points : List Point) where
         let (way, goes, counted, costs) = by.some (omega (arith, fewest.count)) in
         record {
           way = way;
-          goes = subst (λ e. GoesOn e (IsPossible points) start way) end goes;
+          goes = subst (λ e. WalksOn e (IsPossible points) start way) end goes;
           count = omega arith;
           worth = costs;
           fewest = λ r goes. (let least = fewest.none_fewer r goes in omega arith);
-          least = λ r goes tied. by.bound r (subst (λ e. GoesOn e (IsPossible points) start r) (sym end) goes) (omega arith);
+          least = λ r goes tied. by.bound r (subst (λ e. WalksOn e (IsPossible points) start r) (sym end) goes) (omega arith);
         }

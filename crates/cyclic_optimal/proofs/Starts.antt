@@ -4,7 +4,7 @@ use Rattle.std.proofs.lemmas.Bool.{cases_lt}
 use Rattle.pt_base.specs.declared.point.Point.{Point}
 use Rattle.straight_paths.specs.Straight.{IsPossible}
 use Rattle.least_walk.specs.LeastWalk.{total_cost}
-use Rattle.least_walk.specs.Suffix.{GoesOn, IsFewestFrom}
+use Rattle.least_walk.specs.Suffix.{IsFewestFrom, WalksOn}
 use Rattle.cyclic_optimal.specs.Fronts.{IsBestAmong, IsBestFrom, worth_of}
 use Rattle.cyclic_optimal.specs.declared.first.Best.{Best}
 
@@ -29,15 +29,15 @@ module _ (points : List Point) where
     pub above : low ≤ start
     pub under : start < high
     pub way : List ℕ
-    pub goes : GoesOn (start + length points) (IsPossible points) start way
+    pub goes : WalksOn (start + length points) (IsPossible points) start way
     pub count : length way ≡ best.count
     pub worth : total_cost (worth_of points) (start ∷ way) ≡ best.worth
 
   -- no way from one of these points has fewer segments, or as many and counts less
   pub record IsLeastAmong (low high : ℕ) (best : Best) : Type 0 where
-    pub fewest : (s : ℕ) (r : List ℕ) → low ≤ s → s < high → GoesOn (s + length points) (IsPossible points) s r
+    pub fewest : (s : ℕ) (r : List ℕ) → low ≤ s → s < high → WalksOn (s + length points) (IsPossible points) s r
         → best.count ≤ length r
-    pub least : (s : ℕ) (r : List ℕ) → low ≤ s → s < high → GoesOn (s + length points) (IsPossible points) s r
+    pub least : (s : ℕ) (r : List ℕ) → low ≤ s → s < high → WalksOn (s + length points) (IsPossible points) s r
         → length r ≡ best.count → best.worth ≤ total_cost (worth_of points) (s ∷ r)
 
   -- of the points that were looked at it is the best one; or none of so few segments was found
@@ -73,11 +73,11 @@ module _ (points : List Point) where
 
     -- the points before this one, and this one
     least_on : (best : Best)
-        → ((t : ℕ) (r : List ℕ) → low ≤ t → t < s → GoesOn (t + length points) (IsPossible points) t r → best.count ≤ length r)
-        → ((t : ℕ) (r : List ℕ) → low ≤ t → t < s → GoesOn (t + length points) (IsPossible points) t r → length r ≡ best.count
+        → ((t : ℕ) (r : List ℕ) → low ≤ t → t < s → WalksOn (t + length points) (IsPossible points) t r → best.count ≤ length r)
+        → ((t : ℕ) (r : List ℕ) → low ≤ t → t < s → WalksOn (t + length points) (IsPossible points) t r → length r ≡ best.count
         → best.worth ≤ total_cost (worth_of points) (t ∷ r))
-        → ((r : List ℕ) → GoesOn (s + length points) (IsPossible points) s r → best.count ≤ length r)
-        → ((r : List ℕ) → GoesOn (s + length points) (IsPossible points) s r → length r ≡ best.count
+        → ((r : List ℕ) → WalksOn (s + length points) (IsPossible points) s r → best.count ≤ length r)
+        → ((r : List ℕ) → WalksOn (s + length points) (IsPossible points) s r → length r ≡ best.count
         → best.worth ≤ total_cost (worth_of points) (s ∷ r))
         → IsLeastAmong low (s + 1) best
     least_on best few cheap more dearer = record {
@@ -85,20 +85,20 @@ module _ (points : List Point) where
         | inl earlier ↦ few t r a earlier goes
         | inr late ↦
             let is : t ≡ s = omega arith in
-            more r (subst (λ m. GoesOn (m + length points) (IsPossible points) m r) is goes)
+            more r (subst (λ m. WalksOn (m + length points) (IsPossible points) m r) is goes)
       ];
       least = λ t r a b goes counted. elim (cases_lt t s) [
         | inl earlier ↦ cheap t r a earlier goes counted
         | inr late ↦
             let is : t ≡ s = omega arith in
-            let less = dearer r (subst (λ m. GoesOn (m + length points) (IsPossible points) m r) is goes) counted in
+            let less = dearer r (subst (λ m. WalksOn (m + length points) (IsPossible points) m r) is goes) counted in
             omega (arith, ap (λ m. total_cost (worth_of points) (m ∷ r)) is)
       ];
     }
 
     module _ (fewest : ℕ) (best : Best) (so_far : IsBestSoFar fewest low s best) where
-      kept : ((r : List ℕ) → GoesOn (s + length points) (IsPossible points) s r → best.count ≤ length r)
-          → ((r : List ℕ) → GoesOn (s + length points) (IsPossible points) s r → length r ≡ best.count
+      kept : ((r : List ℕ) → WalksOn (s + length points) (IsPossible points) s r → best.count ≤ length r)
+          → ((r : List ℕ) → WalksOn (s + length points) (IsPossible points) s r → length r ≡ best.count
           → best.worth ≤ total_cost (worth_of points) (s ∷ r))
           → IsBestSoFar fewest low (s + 1) best
       kept more dearer = record {
@@ -116,8 +116,8 @@ module _ (points : List Point) where
           (λ r goes counted. omega (arith, so_far.most, is.none_fewer r goes, so_far.nothing (omega (arith, so_far.most, is.none_fewer r goes))))
 
       taken : (next : Best) → next.count ≤ fewest → IsBestFrom points s next
-          → ((t : ℕ) (r : List ℕ) → low ≤ t → t < s → GoesOn (t + length points) (IsPossible points) t r → next.count ≤ length r)
-          → ((t : ℕ) (r : List ℕ) → low ≤ t → t < s → GoesOn (t + length points) (IsPossible points) t r → length r ≡ next.count
+          → ((t : ℕ) (r : List ℕ) → low ≤ t → t < s → WalksOn (t + length points) (IsPossible points) t r → next.count ≤ length r)
+          → ((t : ℕ) (r : List ℕ) → low ≤ t → t < s → WalksOn (t + length points) (IsPossible points) t r → length r ≡ next.count
           → next.worth ≤ total_cost (worth_of points) (t ∷ r))
           → IsBestSoFar fewest low (s + 1) next
       taken next few from more dearer = record {

@@ -8,7 +8,7 @@ use Rattle.pt_base.specs.declared.point.Point.{Point}
 use Rattle.straight_paths.specs.Straight.{IsPossible}
 use Rattle.straight_paths.proofs.Far.{shorter_possible}
 use Rattle.polygon_optimal.proofs.Rising.{later_possible}
-use Rattle.least_walk.specs.Suffix.{GoesOn, IsFewestFrom}
+use Rattle.least_walk.specs.Suffix.{IsFewestFrom, WalksOn}
 use Rattle.least_walk.proofs.Going.{goes_below}
 use Rattle.cyclic_optimal.specs.Fronts.{AreTops, IsLongest}
 use Rattle.cyclic_optimal.proofs.Ways.{goes_both}
@@ -52,10 +52,10 @@ pub record AreWritten (points : List Point) (start end : ℕ) (written : List �
   pub within : at ≤ end
   pub tops : AreTops points start end (length written) (written ++ at ∷ [])
   pub way : List ℕ
-  pub goes : GoesOn at (IsPossible points) start way
+  pub goes : WalksOn at (IsPossible points) start way
   pub count : length way ≡ length written
-  pub fewest : (f : ℕ) → ((i : ℕ) (r : List ℕ) → i ≤ at → GoesOn end (IsPossible points) i r → f ≤ length r)
-      → (r : List ℕ) → GoesOn end (IsPossible points) start r → length written + f ≤ length r
+  pub fewest : (f : ℕ) → ((i : ℕ) (r : List ℕ) → i ≤ at → WalksOn end (IsPossible points) i r → f ≤ length r)
+      → (r : List ℕ) → WalksOn end (IsPossible points) start r → length written + f ≤ length r
 
 pub written_none : (points : List Point) (start end : ℕ) (written : List ℕ) → written ≡ [] → start ≤ end → AreWritten points start end written start
 written_none points start end written none room =
@@ -123,8 +123,8 @@ module _ (points : List Point) (start end : ℕ) (written : List ℕ) (at last n
     ];
   }
 
-  fewest_on : (f : ℕ) → ((i : ℕ) (r : List ℕ) → i ≤ next → GoesOn end (IsPossible points) i r → f ≤ length r)
-      → (i : ℕ) (r : List ℕ) → i ≤ at → GoesOn end (IsPossible points) i r → f + 1 ≤ length r
+  fewest_on : (f : ℕ) → ((i : ℕ) (r : List ℕ) → i ≤ next → WalksOn end (IsPossible points) i r → f ≤ length r)
+      → (i : ℕ) (r : List ℕ) → i ≤ at → WalksOn end (IsPossible points) i r → f + 1 ≤ length r
   fewest_on f each i [] order at_end = absurd (omega arith)
   fewest_on f each i (j ∷ r) order goes =
       let room = goes_below end (IsPossible points) j r goes.2 in
@@ -163,7 +163,7 @@ module _ (points : List Point) (start end : ℕ) (written : List ℕ) (at : ℕ)
       let last : at ≡ end = omega (arith, are.within) in
       record {
         rest = are.way;
-        goes_on = subst (λ m. GoesOn m (IsPossible points) start are.way) last are.goes;
+        goes_on = subst (λ m. WalksOn m (IsPossible points) start are.way) last are.goes;
         count = omega (arith, whole, are.count);
         none_fewer = λ r goes. omega (arith, whole, are.fewest 0 (λ i r order goes. omega arith) r goes);
       }

@@ -8,7 +8,7 @@ use Rattle.std.proofs.lemmas.List.Elements.{All-head, All-tail}
 use Rattle.pt_base.specs.declared.point.Point.{Point}
 use Rattle.straight_paths.specs.Straight.{IsPossible}
 use Rattle.least_walk.specs.LeastWalk.{total_cost}
-use Rattle.least_walk.specs.Suffix.{GoesOn}
+use Rattle.least_walk.specs.Suffix.{WalksOn}
 use Rattle.least_walk.proofs.Going.{goes_below}
 use Rattle.polygon_optimal.specs.Polygon.{penalty_of}
 use Rattle.cyclic_optimal.specs.Cyclic.{IsCyclicPolygon, round_penalty}
@@ -35,7 +35,7 @@ module _ (points : List Point) where
     pub above : k < start
     pub reached : IsPossible points k start
     pub way : List ℕ
-    pub goes : GoesOn (start + length points) (IsPossible points) start way
+    pub goes : WalksOn (start + length points) (IsPossible points) start way
     pub count : length way ≡ length (i ∷ others)
     pub worth : total_cost (worth_of points) (start ∷ way) ≡ round_penalty points (i ∷ others) * 2 ^ 32 + i
 
@@ -47,7 +47,7 @@ module _ (points : List Point) where
     abbrev round : List ℕ
     round = others ++ (i + n) ∷ []
 
-    round_goes : GoesOn (i + n) (IsPossible points) i round
+    round_goes : WalksOn (i + n) (IsPossible points) i round
     round_goes = round_of points i others polygon
 
     first_low : i < n

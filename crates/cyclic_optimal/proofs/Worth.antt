@@ -9,7 +9,7 @@ use Rattle.pt_base.specs.declared.point.Point.{Point}
 use Rattle.pt_base.specs.OnPage.{AreOnPage}
 use Rattle.straight_paths.specs.Straight.{IsFarthest, IsPossible}
 use Rattle.least_walk.specs.LeastWalk.{total_cost}
-use Rattle.least_walk.specs.Suffix.{GoesOn}
+use Rattle.least_walk.specs.Suffix.{WalksOn}
 use Rattle.least_walk.proofs.Going.{goes_below, total_cost-cons}
 use Rattle.prefix_moments.specs.Sums.{IsPenalty}
 use Rattle.polygon_optimal.specs.Polygon.{penalty_of}
@@ -95,7 +95,7 @@ module _ (points : List Point) where
       }
 
   -- a way counts less than 2^120
-  pub ways_count : AreOnPage points → (e i : ℕ) (r : List ℕ) → e < 2 ^ 33 → GoesOn e (IsPossible points) i r
+  pub ways_count : AreOnPage points → (e i : ℕ) (r : List ℕ) → e < 2 ^ 33 → WalksOn e (IsPossible points) i r
       → total_cost (worth_of points) (i ∷ r) ≤ length r * 2 ^ 89
   ways_count on_page e i [] small goes = omega arith
   ways_count on_page e i (j ∷ r) small goes =
@@ -108,7 +108,7 @@ module _ (points : List Point) where
       )
 
   -- what a way round counts: its penalties, and the first of its points after the path's end
-  worth_after : (e v : ℕ) (r : List ℕ) → length points ≤ v → GoesOn e (IsPossible points) v r
+  worth_after : (e v : ℕ) (r : List ℕ) → length points ≤ v → WalksOn e (IsPossible points) v r
       → total_cost (worth_of points) (v ∷ r) ≡ total_cost (penalty_of points) (v ∷ r) * 2 ^ 32
   worth_after e v [] high goes = refl
   worth_after e v (j ∷ r) high goes =
@@ -121,7 +121,7 @@ module _ (points : List Point) where
       )
 
   pub worth_round : (e i : ℕ) (xs : List ℕ) (v : ℕ) (ys : List ℕ) → i < length points → All (λ k. k < length points) xs → length points ≤ v
-      → GoesOn e (IsPossible points) v ys
+      → WalksOn e (IsPossible points) v ys
       → total_cost (worth_of points) (i ∷ xs ++ v ∷ ys) ≡ total_cost (penalty_of points) (i ∷ xs ++ v ∷ ys) * 2 ^ 32 + (v - length points)
   worth_round e i [] v ys low all high goes =
       omega (

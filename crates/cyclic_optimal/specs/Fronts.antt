@@ -3,7 +3,7 @@ use Rattle.std.specs.Prelude.{◌≡◌, ℕ, ◌+◌, ◌-◌, ◌*◌, ◌<◌
 use Rattle.pt_base.specs.declared.point.Point.{Point}
 use Rattle.straight_paths.specs.Straight.{IsPossible}
 use Rattle.least_walk.specs.LeastWalk.{total_cost}
-use Rattle.least_walk.specs.Suffix.{GoesOn}
+use Rattle.least_walk.specs.Suffix.{WalksOn}
 use Rattle.polygon_optimal.specs.Polygon.{penalty_of}
 use Rattle.cyclic_optimal.specs.declared.first.Best.{Best}
 use Rattle.cyclic_optimal.specs.declared.fronts.Front.{Front}
@@ -24,21 +24,21 @@ worth_of points i j = penalty_of points i j * 2 ^ 32 + past (length points) i j
 
 -- the least that a way of so many segments from point i to `end` counts, or `NONE` where there is no such way
 pub record IsLeastBy (points : List Point) (end count i least : ℕ) : Type 0 where
-  pub bound : (r : List ℕ) → GoesOn end (IsPossible points) i r → length r ≡ count → least ≤ total_cost (worth_of points) (i ∷ r)
-  pub some : least < NONE → (r : List ℕ) × GoesOn end (IsPossible points) i r × (length r ≡ count)
+  pub bound : (r : List ℕ) → WalksOn end (IsPossible points) i r → length r ≡ count → least ≤ total_cost (worth_of points) (i ∷ r)
+  pub some : least < NONE → (r : List ℕ) × WalksOn end (IsPossible points) i r × (length r ≡ count)
       × (total_cost (worth_of points) (i ∷ r) ≡ least)
 
 -- a front has this of each of its points, and from a point below it there is no such way
 pub record IsFrontOf (points : List Point) (front : Front) : Type 0 where
   pub each : (i : ℕ) → front.low ≤ i → i < front.low + length front.least.items
       → IsLeastBy points front.end front.left i (slice_index front.least.items (i - front.low))
-  pub below : (i : ℕ) (r : List ℕ) → i < front.low → GoesOn front.end (IsPossible points) i r → length r ≡ front.left → ⊥
+  pub below : (i : ℕ) (r : List ℕ) → i < front.low → WalksOn front.end (IsPossible points) i r → length r ≡ front.left → ⊥
 
 -- the same of the ways from point i whose first segment leads to below `to`
 pub record IsLeastVia (points : List Point) (end count i to least : ℕ) : Type 0 where
-  pub bound : (j : ℕ) (r : List ℕ) → j < to → IsPossible points i j → GoesOn end (IsPossible points) j r → length r ≡ count
+  pub bound : (j : ℕ) (r : List ℕ) → j < to → IsPossible points i j → WalksOn end (IsPossible points) j r → length r ≡ count
       → least ≤ total_cost (worth_of points) (i ∷ j ∷ r)
-  pub some : least < NONE → (r : List ℕ) × GoesOn end (IsPossible points) i r × (length r ≡ count + 1)
+  pub some : least < NONE → (r : List ℕ) × WalksOn end (IsPossible points) i r × (length r ≡ count + 1)
       × (total_cost (worth_of points) (i ∷ r) ≡ least)
 
 -- the farthest points after no segment, after one, and so on up to `end`, from the first of them
@@ -52,11 +52,11 @@ pub record AreTops (points : List Point) (start end count : ℕ) (tops : List �
 -- some way once round from point s has these numbers; none has fewer segments, or as many and counts less
 pub record IsBestFrom (points : List Point) (s : ℕ) (best : Best) : Type 0 where
   pub way : List ℕ
-  pub goes : GoesOn (s + length points) (IsPossible points) s way
+  pub goes : WalksOn (s + length points) (IsPossible points) s way
   pub count : length way ≡ best.count
   pub worth : total_cost (worth_of points) (s ∷ way) ≡ best.worth
-  pub fewest : (r : List ℕ) → GoesOn (s + length points) (IsPossible points) s r → best.count ≤ length r
-  pub least : (r : List ℕ) → GoesOn (s + length points) (IsPossible points) s r → length r ≡ best.count
+  pub fewest : (r : List ℕ) → WalksOn (s + length points) (IsPossible points) s r → best.count ≤ length r
+  pub least : (r : List ℕ) → WalksOn (s + length points) (IsPossible points) s r → length r ≡ best.count
       → best.worth ≤ total_cost (worth_of points) (s ∷ r)
 
 -- the same over all points from `low` to before `high`
@@ -65,10 +65,10 @@ pub record IsBestAmong (points : List Point) (low high : ℕ) (best : Best) : Ty
   pub above : low ≤ start
   pub under : start < high
   pub way : List ℕ
-  pub goes : GoesOn (start + length points) (IsPossible points) start way
+  pub goes : WalksOn (start + length points) (IsPossible points) start way
   pub count : length way ≡ best.count
   pub worth : total_cost (worth_of points) (start ∷ way) ≡ best.worth
-  pub fewest : (s : ℕ) (r : List ℕ) → low ≤ s → s < high → GoesOn (s + length points) (IsPossible points) s r
+  pub fewest : (s : ℕ) (r : List ℕ) → low ≤ s → s < high → WalksOn (s + length points) (IsPossible points) s r
       → best.count ≤ length r
-  pub least : (s : ℕ) (r : List ℕ) → low ≤ s → s < high → GoesOn (s + length points) (IsPossible points) s r
+  pub least : (s : ℕ) (r : List ℕ) → low ≤ s → s < high → WalksOn (s + length points) (IsPossible points) s r
       → length r ≡ best.count → best.worth ≤ total_cost (worth_of points) (s ∷ r)

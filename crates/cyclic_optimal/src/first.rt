@@ -16,9 +16,8 @@ use crate::fronts::{best_by, tops};
 use crate::leaps::{all_leaps, nexts};
 use crate::sides::Sides;
 use crate::windows::{narrowest, sparsest};
-use prefix_moments::moments::Moments;
-use pt_base::fault::NoMemory;
-use pt_base::point::Point;
+use prefix_moments::Moments;
+use pt_base::{NoMemory, Point};
 use std::alloc::Global;
 
 /// A window of at most so many points is looked through as it stands. There is one behind each corner.

@@ -9,11 +9,10 @@ ghost use Rattle.cyclic_optimal.specs.Fans.{HasFans, IsFanOf, first_lap};
 ghost use Rattle.cyclic_optimal.specs.Fronts.{IsLongest, worth_of};
 
 use crate::fans::Fan;
-use prefix_moments::moments::Moments;
-use pt_base::fault::NoMemory;
-use pt_base::point::Point;
+use prefix_moments::Moments;
+use pt_base::{NoMemory, Point};
 use std::alloc::Global;
-use straight_paths::reach::Reach;
+use straight_paths::Reach;
 
 /// The possible segments of a closed walk, and their penalties.
 #[derive(Drop)]

@@ -3,10 +3,7 @@ ghost use Rattle.std.specs.Prelude.{◌≡◌, ◌+◌, ◌++◌, IfOk, OnOk};
 ghost use Rattle.dxf_geojson.specs.Chords.{chord_points, curve_points, piece_points, points_from};
 
 use crate::mean::mean_point;
-use pt_base::fault::NoMemory;
-use pt_base::outline::{end_of, start_of};
-use pt_base::piece::Piece;
-use pt_base::point::Point;
+use pt_base::{NoMemory, Piece, Point, end_of, start_of};
 
 /// Makes `points` those of an outline: its start, and then the ends of its lines and chords. The last
 /// one is the start again.

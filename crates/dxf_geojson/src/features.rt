@@ -6,12 +6,7 @@ ghost use Rattle.dxf_geojson.specs.GeoJsonText.{feature_text, features_text, geo
 
 use crate::chords::gather_chords;
 use crate::fixed::put_pixels;
-use pt_base::fault::NoMemory;
-use pt_base::outline::pieces_at;
-use pt_base::piece::Piece;
-use pt_base::point::Point;
-use pt_base::sequence::Sequence;
-use pt_base::trace::{Group, Trace};
+use pt_base::{Group, NoMemory, Piece, Point, Sequence, Trace, pieces_at};
 use std::alloc::Global;
 
 /// The document of a page's trace: a polygon for each shape, whose first ring is its outline, and whose other

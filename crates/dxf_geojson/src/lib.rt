@@ -10,3 +10,6 @@ pub mod drawing;
 pub mod features;
 mod fixed;
 mod mean;
+
+pub use drawing::dxf;
+pub use features::geojson;

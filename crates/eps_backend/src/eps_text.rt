@@ -4,13 +4,7 @@ ghost use Rattle.pt_base.specs.Outlines.{outline_at};
 ghost use Rattle.eps_backend.specs.EpsText.{comments_text, eps_text, group_text, outline_text, ps_page_text, scale_text};
 
 use crate::outline::put_outline;
-use pt_base::digits::put_number;
-use pt_base::fault::NoMemory;
-use pt_base::outline::pieces_at;
-use pt_base::piece::Piece;
-use pt_base::sequence::Sequence;
-use pt_base::settings::Settings;
-use pt_base::trace::{Group, Trace};
+use pt_base::{Group, NoMemory, Piece, Sequence, Settings, Trace, pieces_at, put_number};
 use std::alloc::Global;
 
 /// The document of a page's trace: each shape is filled with its holes left out, by the even-odd rule.

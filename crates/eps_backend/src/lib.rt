@@ -14,3 +14,5 @@
 
 pub mod eps_text;
 mod outline;
+
+pub use eps_text::{eps, ps_body};

@@ -2,11 +2,7 @@
 ghost use Rattle.std.specs.Prelude.{◌≡◌, ◌≤◌, ◌++◌, OnOk};
 ghost use Rattle.eps_backend.specs.EpsText.{curve_text, line_text, move_text, outline_text, piece_text, pieces_text};
 
-use pt_base::fault::NoMemory;
-use pt_base::outline::{end_of, start_of};
-use pt_base::piece::Piece;
-use pt_base::point::Point;
-use pt_base::unit_text::{put_place, put_step};
+use pt_base::{NoMemory, Piece, Point, end_of, put_place, put_step, start_of};
 
 /// Appends a closed subpath.
 pub(crate) fn put_outline(out: &mut Vec<u8>, unit: u32, pieces: &[Piece]) -> Result<(), NoMemory>

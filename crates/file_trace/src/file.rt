@@ -13,22 +13,13 @@ ghost use Rattle.file_trace.specs.declared.pages.PagesEnd.{PagesEnd};
 ghost use Rattle.file_trace.specs.Tasks.{manner_of};
 ghost use Rattle.file_trace.specs.Unopened.{EndsUnopened};
 
+use bitmap_input::{InFault, PageReader};
 use crate::pages::{PagesEnd, Traced, trace_pages};
 use crate::task::Task;
-use bitmap_input::fault::InFault;
-use bitmap_input::reader::PageReader;
-use page_batches::batch::Batch;
-use page_batches::desk::Desk;
-use page_workers::job::PageJob;
-use pt_base::fault::NoMemory;
-use pt_base::gate::Gate;
-use pt_base::inputs::Inputs;
-use pt_base::sink::{Outputs, Sink};
-use run_output::made::Made;
-use run_output::message::{say_not_opened, say_of_page, say_out_of_memory};
-use run_output::names::{base_name, document_name};
-use run_output::part::Binding;
-use run_output::status::Status;
+use page_batches::{Batch, Desk};
+use page_workers::PageJob;
+use pt_base::{Gate, Inputs, NoMemory, Outputs, Sink};
+use run_output::{Binding, Made, Status, base_name, document_name, say_not_opened, say_of_page, say_out_of_memory};
 use std::alloc::Global;
 use std::thread::Threads;
 

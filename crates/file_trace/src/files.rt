@@ -11,19 +11,14 @@ ghost use Rattle.run_output.specs.Told.{source_of};
 ghost use Rattle.file_trace.specs.Progress.{InputCount};
 ghost use Rattle.file_trace.specs.Tasks.{manner_of};
 
+use bitmap_input::PageReader;
+use command_words::Name;
 use crate::file::trace_file;
 use crate::task::Task;
-use bitmap_input::reader::PageReader;
-use command_words::name::Name;
-use page_batches::batch::Batch;
-use page_batches::desk::Desk;
-use page_workers::job::PageJob;
-use pt_base::gate::Gate;
-use pt_base::inputs::Inputs;
-use pt_base::sink::{Outputs, Sink};
-use run_output::made::Made;
-use run_output::message::say_out_of_memory;
-use run_output::status::Status;
+use page_batches::{Batch, Desk};
+use page_workers::PageJob;
+use pt_base::{Gate, Inputs, Outputs, Sink};
+use run_output::{Made, Status, say_out_of_memory};
 use std::thread::Threads;
 
 /// Reads the files in order, each opened once, by batches of twice as many pages as there are workers, and

@@ -8,8 +8,8 @@ ghost use Rattle.page_batches.specs.Items.{Item};
 ghost use Rattle.file_trace.specs.Items.{AreItems, AreWhole, Nothing};
 ghost use Rattle.file_trace.specs.Manner.{HasTexts, manner_by};
 
-use page_workers::job::PageJob;
-use run_output::part::Binding;
+use page_workers::PageJob;
+use run_output::Binding;
 
 /// Whatever the files hold, there is a list of what a run is to write, where a text belongs to each page.
 pub fn files_have_items<J: PageJob>(job: &J)

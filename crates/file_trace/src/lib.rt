@@ -12,3 +12,6 @@ pub mod files;
 pub mod laws;
 mod pages;
 pub mod task;
+
+pub use files::trace_files;
+pub use task::Task;

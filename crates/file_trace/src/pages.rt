@@ -14,21 +14,13 @@ ghost use Rattle.run_output.specs.Told.{source_of};
 ghost use Rattle.file_trace.specs.Progress.{Answered, CanHold, CanRead, EndsPages, EndsReading, FaultsBy, IsAtStart, OpensNoFile, TakesBytes};
 ghost use Rattle.file_trace.specs.Tasks.{manner_of};
 
+use bit_image::Bitmap;
+use bitmap_input::{InFault, Next, PageReader};
 use crate::task::Task;
-use bit_image::bitmap::Bitmap;
-use bitmap_input::fault::InFault;
-use bitmap_input::next::Next;
-use bitmap_input::reader::PageReader;
-use page_batches::batch::Batch;
-use page_batches::desk::Desk;
-use page_workers::job::PageJob;
-use pt_base::gate::Gate;
-use pt_base::inputs::Inputs;
-use pt_base::sink::{Outputs, Sink};
-use run_output::made::Made;
-use run_output::message::say_out_of_memory;
-use run_output::names::document_name;
-use run_output::status::Status;
+use page_batches::{Batch, Desk};
+use page_workers::PageJob;
+use pt_base::{Gate, Inputs, Outputs, Sink};
+use run_output::{Made, Status, document_name, say_out_of_memory};
 use std::thread::Threads;
 
 /// How many pages a run accepts.

@@ -1,10 +1,9 @@
 //! What stays the same through a run over files.
-use page_batches::plan::Plan;
-use page_workers::job::PageJob;
-use pt_base::gate::Gate;
-use pt_base::settings::Backend;
+use page_batches::Plan;
+use page_workers::PageJob;
+use pt_base::{Backend, Gate};
 use std::thread::Threads;
-use threshold_map::level::Level;
+use threshold_map::Level;
 
 /// What is done with the pages of files, how these are read, and how documents are named.
 #[derive(Drop)]

@@ -2,3 +2,5 @@
 #![tactic(auto)]
 
 pub mod program;
+
+pub use program::fill_run;

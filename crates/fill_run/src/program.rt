@@ -15,13 +15,9 @@ ghost use Rattle.point_fill.specs.Reply.{IsFillReply, filler};
 ghost use Rattle.fill_run.specs.Round.{GivesBack};
 
 use bit_image::pbm::pbm;
-use point_fill::fault::FillFault;
-use point_fill::filling::fill;
-use pt_base::fault::NoMemory;
-use pt_base::inputs::Inputs;
-use pt_base::sink::{Outputs, Sink};
-use small_program::program::run;
-use small_program::task::{Reply, Task};
+use point_fill::{FillFault, fill};
+use pt_base::{Inputs, NoMemory, Outputs, Sink};
+use small_program::{Reply, Task, run};
 use std::alloc::Global;
 
 /// Fills points texts.

@@ -5,3 +5,6 @@ pub mod ask;
 mod command;
 pub mod laws;
 pub mod setup;
+
+pub use ask::{AskFault, FilterAsk, filter_ask_of};
+pub use setup::Setup;

@@ -7,8 +7,8 @@ ghost use Rattle.mkbitmap.specs.declared.limits.TheConstants.{GREATEST_LEVEL};
 ghost use Rattle.pt_base.specs.Micro.{IsMicro};
 
 use clap::ArgMatches;
-use mkbitmap::limits::{GREATEST_LEVEL, GREATEST_RADIUS, GREATEST_TIMES};
-use pt_base::decimal::{read_micro, read_whole};
+use mkbitmap::{GREATEST_LEVEL, GREATEST_RADIUS, GREATEST_TIMES};
+use pt_base::{read_micro, read_whole};
 
 /// How a page is filtered.
 #[derive(Clone, Copy, Debug, PartialEq, Eq)]

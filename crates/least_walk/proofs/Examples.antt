@@ -3,7 +3,7 @@ use Rattle.std.proofs.Common.{◌≡◌, ℕ, ◌+◌, ◌*◌, ◌≤◌, ◌�
 use Rattle.std.specs.List.{Contains, slice_get}
 use Rattle.least_walk.specs.LeastWalk.{Step, steps_of, step_count, total_cost, IsBefore, IsFewest, IsFewestPlace, IsFewestStep, walk_from}
 use Rattle.least_walk.specs.LeastWalk.IsBefore.{by_steps, by_cost, by_list}
-use Rattle.least_walk.specs.Suffix.{GoesOn}
+use Rattle.least_walk.specs.Suffix.{WalksOn}
 use Rattle.least_walk.specs.Windows.{IsWindow}
 use Rattle.least_walk.proofs.Walks.{walk_from_goes, goes_from_walk}
 
@@ -57,7 +57,7 @@ IsShort : ℕ → ℕ → Type 0
 IsShort i j = (j ≡ i + 1) ⊎ (j ≡ i + 2)
 
 -- 3 isn't reached in fewer than two steps
-two_at_least : (rest : List ℕ) → GoesOn 3 IsShort 0 rest → 2 ≤ step_count (0 ∷ rest)
+two_at_least : (rest : List ℕ) → WalksOn 3 IsShort 0 rest → 2 ≤ step_count (0 ∷ rest)
 unfolding IsShort
 two_at_least [] goes = omega arith
 two_at_least (i ∷ []) goes = omega (arith, goes.1)
@@ -78,7 +78,7 @@ unfolding by_one
 first_step = record { walk = by_one; is_fewest = by_one_is_fewest; goes = (0, lit< tt, refl) }
 
 -- and the one from 1 to 2 is on no walk of fewest steps
-not_between : (rest : List ℕ) → GoesOn 3 IsShort 0 rest → step_count (0 ∷ rest) ≤ 2
+not_between : (rest : List ℕ) → WalksOn 3 IsShort 0 rest → step_count (0 ∷ rest) ≤ 2
     → ¬ Contains (steps_of (0 ∷ rest)) (record { from = 1; to = 2 })
 unfolding IsShort
 not_between [] goes few (k, below, here) = omega arith
@@ -107,7 +107,7 @@ by_two_is_fewest = record {
 }
 
 -- after one step such a walk stands at 1 or at 2
-after_one : (rest : List ℕ) (i : ℕ) → GoesOn 3 IsShort 0 rest → slice_get (0 ∷ rest) 1 ≡ Some i → (1 ≤ i) × (i ≤ 2)
+after_one : (rest : List ℕ) (i : ℕ) → WalksOn 3 IsShort 0 rest → slice_get (0 ∷ rest) 1 ≡ Some i → (1 ≤ i) × (i ≤ 2)
 unfolding IsShort
 after_one [] i goes is = absurd cc
 after_one (j ∷ rest) i goes is = let same : j ≡ i = cc in (omega (arith, goes.1), omega (arith, goes.1))

@@ -3,7 +3,7 @@ use Rattle.std.proofs.Common.{◌≡◌, ℕ, suc, ◌+◌, ◌*◌, ◌^◌, �
 use Rattle.std.proofs.Common.{refl, ap, arith}
 use Rattle.std.proofs.lemmas.List.Sums.{sum_by-cons}
 use Rattle.least_walk.specs.LeastWalk.{Step, steps_from, total_cost}
-use Rattle.least_walk.specs.Suffix.{GoesOn, IsFewestFrom}
+use Rattle.least_walk.specs.Suffix.{IsFewestFrom, WalksOn}
 
 -- each further index is one step
 pub length-steps_from : (i : ℕ) (rest : List ℕ) → length (steps_from i rest) ≡ length rest
@@ -18,7 +18,7 @@ total_cost-cons cost i j rest =
 
 module _ (size : ℕ) (is_allowed : ℕ → ℕ → Type 0) where
   -- there is an index below the end for each step
-  pub goes_below : (i : ℕ) (rest : List ℕ) → GoesOn size is_allowed i rest → i + length rest ≤ size
+  pub goes_below : (i : ℕ) (rest : List ℕ) → WalksOn size is_allowed i rest → i + length rest ≤ size
   goes_below i [] at_end = omega arith
   goes_below i (j ∷ rest) goes = omega (arith, goes_below j rest goes.2)
 
@@ -29,7 +29,7 @@ module _ (size : ℕ) (is_allowed : ℕ → ℕ → Type 0) where
   -- the steps together cost no more than as many steps may
   pub total_cost-below : (cost : ℕ → ℕ → ℕ)
       → ((i j : ℕ) → i < size → is_allowed i j → cost i j < 2 ^ 56)
-      → (i : ℕ) (rest : List ℕ) → GoesOn size is_allowed i rest
+      → (i : ℕ) (rest : List ℕ) → WalksOn size is_allowed i rest
       → total_cost cost (i ∷ rest) ≤ length rest * 2 ^ 56
   total_cost-below cost cheap i [] goes = omega arith
   total_cost-below cost cheap i (j ∷ rest) goes =

@@ -9,7 +9,7 @@ use Rattle.std.proofs.lemmas.Bool.{cases_lt}
 use Rattle.least_walk.specs.LeastWalk.{total_cost, IsBefore}
 use Rattle.least_walk.specs.LeastWalk.IsBefore.{by_steps, by_cost, by_list}
 use Rattle.least_walk.proofs.OneLeast.{same_from_neither}
-use Rattle.least_walk.specs.Suffix.{GoesOn, IsFewestFrom, IsLeastFrom, IsLeastCost, IsLeastNext, HasFewest}
+use Rattle.least_walk.specs.Suffix.{WalksOn, IsFewestFrom, IsLeastFrom, IsLeastCost, IsLeastNext, HasFewest}
 use Rattle.least_walk.proofs.Going.{goes_below, length-steps_from, total_cost-cons}
 use Rattle.least_walk.proofs.Before.{slice_cmp-cons, nat_cmp_above, not_before_itself, IsBefore-cons}
 
@@ -17,7 +17,7 @@ module _ (size : ℕ) (is_allowed : ℕ → ℕ → Type 0) where
   -- n is the fewest from i, if a step leads to where n - 1 is the fewest, and none to where it is less
   module _ (counts : List ℕ) (i n : ℕ) (below : i < size) (later : HasFewest size is_allowed (i + 1) counts)
       (lower : (k : ℕ) → i < k → k ≤ size → is_allowed i k → n ≤ slice_index counts k + 1) where
-    none_fewer_onward : (other : List ℕ) → GoesOn size is_allowed i other → n ≤ length other
+    none_fewer_onward : (other : List ℕ) → WalksOn size is_allowed i other → n ≤ length other
     none_fewer_onward [] at_end = absurd (omega arith)
     none_fewer_onward (k ∷ v) goes =
         let room = goes_below size is_allowed k v goes.2 in
@@ -46,7 +46,7 @@ module _ (size : ℕ) (is_allowed : ℕ → ℕ → Type 0) where
         let bound = here.none_fewer (k ∷ after.rest) (onwards, allowed, after.goes_on) in
         omega (arith, after.count)
 
-    some_fewest_in : (rest : List ℕ) → GoesOn size is_allowed i rest → length rest ≡ slice_index counts i
+    some_fewest_in : (rest : List ℕ) → WalksOn size is_allowed i rest → length rest ≡ slice_index counts i
         → (j : ℕ) × (i < j) × (j ≤ size) × is_allowed i j × (slice_index counts j + 1 ≡ slice_index counts i)
     some_fewest_in [] at_end counted = absurd (omega arith)
     some_fewest_in (j ∷ v) goes counted =
@@ -62,7 +62,7 @@ module _ (size : ℕ) (is_allowed : ℕ → ℕ → Type 0) where
     some_fewest = let here = fewest i (omega arith) (omega arith) in some_fewest_in here.rest here.goes_on here.count
 
   module _ (cost : ℕ → ℕ → ℕ) where
-    none_before_end : (other : List ℕ) → GoesOn size is_allowed size other → ¬ IsBefore cost (size ∷ other) (size ∷ [])
+    none_before_end : (other : List ℕ) → WalksOn size is_allowed size other → ¬ IsBefore cost (size ∷ other) (size ∷ [])
     none_before_end [] at_end before = not_before_itself cost (size ∷ []) before
     none_before_end (k ∷ v) goes before = let room = goes_below size is_allowed k v goes.2 in omega arith
 
@@ -89,7 +89,7 @@ module _ (size : ℕ) (is_allowed : ℕ → ℕ → Type 0) where
         ]
 
     -- one of as many steps costs no less
-    cost_bound : (i : ℕ) (rest v : List ℕ) → IsLeastFrom size is_allowed cost i rest → GoesOn size is_allowed i v
+    cost_bound : (i : ℕ) (rest v : List ℕ) → IsLeastFrom size is_allowed cost i rest → WalksOn size is_allowed i v
         → length v ≡ length rest
         → total_cost cost (i ∷ rest) ≤ total_cost cost (i ∷ v)
     cost_bound i rest v least goes tied =
@@ -141,7 +141,7 @@ module _ (size : ℕ) (is_allowed : ℕ → ℕ → Type 0) where
       after_count = length-least j (slice_index counts j) after.rest after.is_least (fewest j (omega arith) within)
 
       -- another way to go on, by k, in as few steps
-      module _ (k : ℕ) (v : List ℕ) (goes : GoesOn size is_allowed i (k ∷ v)) (tied : length v ≡ slice_index counts j) where
+      module _ (k : ℕ) (v : List ℕ) (goes : WalksOn size is_allowed i (k ∷ v)) (tied : length v ≡ slice_index counts j) where
         k_within : k ≤ size
         k_within = let room = goes_below size is_allowed k v goes.2 in omega arith
 
@@ -184,11 +184,11 @@ module _ (size : ℕ) (is_allowed : ℕ → ℕ → Type 0) where
                   let before : IsBefore cost (k ∷ v) (j ∷ after.rest) =
                   by_list (omega (arith, after_count)) (omega (arith, ap (cost i) same)) lower in
                   after.is_least.none_before v
-                  (subst (λ m. GoesOn size is_allowed m v) same goes.2)
+                  (subst (λ m. WalksOn size is_allowed m v) same goes.2)
                   (subst (λ m. IsBefore cost (m ∷ v) (j ∷ after.rest)) same before)
             ]
 
-      none_before_onward : (rest : List ℕ) → GoesOn size is_allowed i rest
+      none_before_onward : (rest : List ℕ) → WalksOn size is_allowed i rest
           → ¬ IsBefore cost (i ∷ rest) (i ∷ j ∷ after.rest)
       none_before_onward [] at_end before = absurd (omega arith)
       none_before_onward (k ∷ v) goes (by_steps fewer) =

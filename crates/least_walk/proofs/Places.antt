@@ -4,7 +4,7 @@ use Rattle.std.specs.List.{slice_get, Contains, slice_index}
 use Rattle.std.proofs.lemmas.List.Elements.{Contains-append_right}
 use Rattle.std.proofs.lemmas.Option.{slice_get-get_or}
 use Rattle.least_walk.specs.LeastWalk.{Step, steps_from, step_count, IsFewest, IsFewestStep, IsFewestPlace}
-use Rattle.least_walk.specs.Suffix.{GoesOn, HasFewest}
+use Rattle.least_walk.specs.Suffix.{HasFewest, WalksOn}
 use Rattle.least_walk.specs.Places.{ComesBy}
 use Rattle.least_walk.proofs.Going.{length-steps_from, goes_below}
 use Rattle.least_walk.proofs.Onward.{count_bound}
@@ -13,17 +13,17 @@ use Rattle.least_walk.proofs.Walks.{walk_from_goes, goes_from_walk}
 module _ (size : ℕ) (is_allowed : ℕ → ℕ → Type 0) where
   -- first steps that lead to i, and a way to go on from there, are a whole walk
   record IsWhole (n i : ℕ) (rest whole : List ℕ) : Type 0 where
-    goes_on : GoesOn size is_allowed 0 whole
+    goes_on : WalksOn size is_allowed 0 whole
     count : length whole ≡ n + length rest
     stands : (c : ℕ) → slice_get (0 ∷ whole) (n + c) ≡ slice_get (i ∷ rest) c
     goes : (step : Step) → Contains (steps_from i rest) step → Contains (steps_from 0 whole) step
 
-  whole_from : (n i : ℕ) (rest : List ℕ) → ComesBy is_allowed n i → GoesOn size is_allowed i rest
+  whole_from : (n i : ℕ) (rest : List ℕ) → ComesBy is_allowed n i → WalksOn size is_allowed i rest
       → (whole : List ℕ) × IsWhole n i rest whole
   whole_from zero i rest at_start goes_on = (
     rest,
     subst (λ k. IsWhole 0 k rest rest) (sym at_start) (record {
-      goes_on = subst (λ k. GoesOn size is_allowed k rest) at_start goes_on;
+      goes_on = subst (λ k. WalksOn size is_allowed k rest) at_start goes_on;
       count = omega arith;
       stands = λ c. let at : 0 + c ≡ c = omega arith in ap (λ m. slice_get (0 ∷ rest) m) at;
       goes = λ step has. has;
@@ -46,10 +46,10 @@ module _ (size : ℕ) (is_allowed : ℕ → ℕ → Type 0) where
   -- and a walk is that, at each of its indices
   record Goes (c i : ℕ) (rest : List ℕ) (total : ℕ) : Type 0 where
     comes : ComesBy is_allowed c i
-    goes_on : GoesOn size is_allowed i rest
+    goes_on : WalksOn size is_allowed i rest
     count : c + length rest ≡ total
 
-  split_at : (n i c j : ℕ) (rest : List ℕ) → ComesBy is_allowed n i → GoesOn size is_allowed i rest
+  split_at : (n i c j : ℕ) (rest : List ℕ) → ComesBy is_allowed n i → WalksOn size is_allowed i rest
       → slice_get (i ∷ rest) c ≡ Some j → (after : List ℕ) × Goes (n + c) j after (n + length rest)
   split_at n i zero j rest comes goes_on is =
       let same : i ≡ j = cc in
@@ -72,7 +72,7 @@ module _ (size : ℕ) (is_allowed : ℕ → ℕ → Type 0) where
         omega (arith, is.count, onward.count)
 
     -- a way to go on from 0 by the fewest steps is a walk of fewest steps
-    pub is_fewest : (rest : List ℕ) → GoesOn size is_allowed 0 rest → length rest ≡ slice_index counts 0
+    pub is_fewest : (rest : List ℕ) → WalksOn size is_allowed 0 rest → length rest ≡ slice_index counts 0
         → IsFewest size is_allowed (0 ∷ rest)
     is_fewest rest goes_on counted = record {
       is_walk = walk_from_goes size is_allowed rest goes_on;

@@ -8,7 +8,7 @@ use Rattle.least_walk.specs.LeastWalk.{Step, steps_from, step_count, total_cost,
 use Rattle.least_walk.specs.LeastWalk.{IsWalk, IsLeast, IsBefore}
 use Rattle.least_walk.specs.LeastWalk.IsBefore.{by_steps}
 use Rattle.least_walk.proofs.OneLeast.{one_least}
-use Rattle.least_walk.specs.Suffix.{GoesOn, IsFewestFrom, IsLeastFrom, IsLeastCost}
+use Rattle.least_walk.specs.Suffix.{WalksOn, IsFewestFrom, IsLeastFrom, IsLeastCost}
 use Rattle.least_walk.proofs.Going.{length-steps_from}
 
 -- a walk has as many steps as starts of steps
@@ -18,26 +18,26 @@ step_count-walk_from (i ∷ rest) size = length-steps_from i (rest ++ size ∷ [
 
 module _ (size : ℕ) (is_allowed : ℕ → ℕ → Type 0) where
   -- from a way to go on to a walk
-  last_from_goes : (i : ℕ) (rest : List ℕ) → GoesOn size is_allowed i rest
+  last_from_goes : (i : ℕ) (rest : List ℕ) → WalksOn size is_allowed i rest
       → slice_get (i ∷ rest) (length rest) ≡ Some size
   last_from_goes i [] at_end = ap Some at_end
   last_from_goes i (j ∷ rest) goes = last_from_goes j rest goes.2
 
-  rises_from_goes : (i : ℕ) (rest : List ℕ) → GoesOn size is_allowed i rest
+  rises_from_goes : (i : ℕ) (rest : List ℕ) → WalksOn size is_allowed i rest
       → All (λ step. step.from < step.to) (steps_from i rest)
   rises_from_goes i [] at_end = All-nil (λ (step : Step). step.from < step.to)
   rises_from_goes i (j ∷ rest) goes =
       All-cons (λ step. step.from < step.to) (record { from = i; to = j }) (steps_from j rest)
       goes.0 (rises_from_goes j rest goes.2)
 
-  allowed_from_goes : (i : ℕ) (rest : List ℕ) → GoesOn size is_allowed i rest
+  allowed_from_goes : (i : ℕ) (rest : List ℕ) → WalksOn size is_allowed i rest
       → All (λ step. is_allowed step.from step.to) (steps_from i rest)
   allowed_from_goes i [] at_end = All-nil (λ (step : Step). is_allowed step.from step.to)
   allowed_from_goes i (j ∷ rest) goes =
       All-cons (λ step. is_allowed step.from step.to) (record { from = i; to = j }) (steps_from j rest)
       goes.1 (allowed_from_goes j rest goes.2)
 
-  pub walk_from_goes : (rest : List ℕ) → GoesOn size is_allowed 0 rest → IsWalk size is_allowed (0 ∷ rest)
+  pub walk_from_goes : (rest : List ℕ) → WalksOn size is_allowed 0 rest → IsWalk size is_allowed (0 ∷ rest)
   walk_from_goes rest goes = record {
     first = refl;
     last = rw sub-one (last_from_goes 0 rest goes);
@@ -50,7 +50,7 @@ module _ (size : ℕ) (is_allowed : ℕ → ℕ → Type 0) where
       → slice_get (i ∷ rest) (length rest) ≡ Some size
       → All (λ step. step.from < step.to) (steps_from i rest)
       → All (λ step. is_allowed step.from step.to) (steps_from i rest)
-      → GoesOn size is_allowed i rest
+      → WalksOn size is_allowed i rest
   goes_from_steps i [] last rises allowed = cc
   goes_from_steps i (j ∷ rest) last rises allowed =
       let step : Step = record { from = i; to = j } in
@@ -63,12 +63,12 @@ module _ (size : ℕ) (is_allowed : ℕ → ℕ → Type 0) where
       )
 
   pub goes_from_walk : (walk : List ℕ) → IsWalk size is_allowed walk
-      → (rest : List ℕ) × (walk ≡ 0 ∷ rest) × GoesOn size is_allowed 0 rest
+      → (rest : List ℕ) × (walk ≡ 0 ∷ rest) × WalksOn size is_allowed 0 rest
   goes_from_walk [] is_walk = absurd (let none = is_walk.first in cc)
   goes_from_walk (i ∷ rest) is_walk =
       let at_zero : i ≡ 0 = let first = is_walk.first in cc in
       let goes = goes_from_steps i rest (rw sub-one at is_walk.last) is_walk.rises is_walk.allowed in
-      (rest, ap (λ (k : ℕ). k ∷ rest) at_zero, subst (λ k. GoesOn size is_allowed k rest) at_zero goes)
+      (rest, ap (λ (k : ℕ). k ∷ rest) at_zero, subst (λ k. WalksOn size is_allowed k rest) at_zero goes)
 
   -- the least way to go on from 0 is the least walk
   pub least_from_goes : (cost : ℕ → ℕ → ℕ) (rest : List ℕ) → IsLeastFrom size is_allowed cost 0 rest

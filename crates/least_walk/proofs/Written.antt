@@ -7,7 +7,7 @@ use Rattle.std.proofs.lemmas.Option.{slice_get-get_or}
 use Rattle.least_walk.specs.LeastWalk.{step_count, IsLeast}
 use Rattle.least_walk.specs.LeastWalk.IsBefore.{by_steps}
 use Rattle.least_walk.specs.Places.{IsPlace}
-use Rattle.least_walk.specs.Suffix.{GoesOn, IsLeastFrom, IsLeastNext}
+use Rattle.least_walk.specs.Suffix.{IsLeastFrom, IsLeastNext, WalksOn}
 use Rattle.least_walk.proofs.Going.{goes_below}
 use Rattle.least_walk.proofs.Walks.{least_from_goes}
 use Rattle.least_walk.proofs.Onward.{goes_next}
@@ -58,7 +58,7 @@ module _ (size : ℕ) (is_allowed : ℕ → ℕ → Type 0) (cost : ℕ → ℕ 
       (after, after_least, subst (IsLeast size is_allowed cost) regrouped walk)
 
   -- and at the end the walk is whole
-  ended : (starts : List ℕ) (i : ℕ) (rest : List ℕ) → size ≤ i → GoesOn size is_allowed i rest
+  ended : (starts : List ℕ) (i : ℕ) (rest : List ℕ) → size ≤ i → WalksOn size is_allowed i rest
       → IsLeast size is_allowed cost (starts ++ i ∷ rest)
       → IsLeast size is_allowed cost (starts ++ size ∷ [])
   ended starts i [] above at_end walk = subst (λ m. IsLeast size is_allowed cost (starts ++ m ∷ [])) at_end walk

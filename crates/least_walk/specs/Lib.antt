@@ -13,7 +13,7 @@
 --   walk_from: the walk whose steps begin at these indices, and which ends at `size`
 pub mod LeastWalk
 -- Walks as the search sees them.
---   GoesOn: from the index i a walk goes on by these indices, and ends at `size`
+--   WalksOn: from the index i a walk goes on by these indices, and ends at `size`
 --   IsFewestFrom: n is the fewest number of steps from i to the end
 --   IsLeastFrom: this is the least way to go on from i
 --   IsLeastCost: the least way to go on from i costs c

@@ -4,22 +4,22 @@ use Rattle.least_walk.specs.LeastWalk.{total_cost, IsBefore}
 use Rattle.least_walk.specs.Places.{IsPlace}
 
 -- from the index i a walk goes on by these indices, and ends at `size`
-abbrev pub GoesOn : ℕ → (ℕ → ℕ → Type 0) → ℕ → List ℕ → Type 0
-GoesOn size is_allowed i [] = i ≡ size
-GoesOn size is_allowed i (j ∷ rest) = (i < j) × is_allowed i j × GoesOn size is_allowed j rest
+abbrev pub WalksOn : ℕ → (ℕ → ℕ → Type 0) → ℕ → List ℕ → Type 0
+WalksOn size is_allowed i [] = i ≡ size
+WalksOn size is_allowed i (j ∷ rest) = (i < j) × is_allowed i j × WalksOn size is_allowed j rest
 
 -- n is the fewest number of steps from i to the end
 pub record IsFewestFrom (size : ℕ) (is_allowed : ℕ → ℕ → Type 0) (i n : ℕ) : Type 0 where
   pub rest : List ℕ
-  pub goes_on : GoesOn size is_allowed i rest
+  pub goes_on : WalksOn size is_allowed i rest
   pub count : length rest ≡ n
-  pub none_fewer : (other : List ℕ) → GoesOn size is_allowed i other → n ≤ length other
+  pub none_fewer : (other : List ℕ) → WalksOn size is_allowed i other → n ≤ length other
 
 -- this is the least way to go on from i: none comes before it
 pub record IsLeastFrom (size : ℕ) (is_allowed : ℕ → ℕ → Type 0) (cost : ℕ → ℕ → ℕ)
     (i : ℕ) (rest : List ℕ) : Type 0 where
-  pub goes_on : GoesOn size is_allowed i rest
-  pub none_before : (other : List ℕ) → GoesOn size is_allowed i other
+  pub goes_on : WalksOn size is_allowed i rest
+  pub none_before : (other : List ℕ) → WalksOn size is_allowed i other
       → ¬ IsBefore cost (i ∷ other) (i ∷ rest)
 
 -- the least way to go on from i costs c

@@ -18,3 +18,7 @@ pub mod steps;
 mod suffixes;
 pub mod walk;
 pub mod windows;
+
+pub use steps::Steps;
+pub use walk::{Walk, least, walk_by};
+pub use windows::Window;

@@ -11,3 +11,6 @@
 
 pub mod number;
 pub mod word;
+
+pub use number::{Number, read_number};
+pub use word::read_word;

@@ -25,9 +25,9 @@ pub scan_begins : (header : PageHeader) (rows more : List (List ℕ)) → HasFir
 scan_begins header rows more = record {
   width = refl;
   height = refl;
-  white = refl;
+  maxval = refl;
   bright = λ x y. omega arith;
-  row = λ y within. record { sample = λ x across. ap (λ (r : List ℕ). min (get_or r x 0) header.white) (get_or_append_left rows more [] y within) };
+  row = λ y within. record { sample = λ x across. ap (λ (r : List ℕ). min (get_or r x 0) header.maxval) (get_or_append_left rows more [] y within) };
 }
 
 pub scan_is : (header : PageHeader) (rows : List (List ℕ)) → HasFirstRows header rows (scan_of header rows)

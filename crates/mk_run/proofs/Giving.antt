@@ -42,7 +42,7 @@ gives_one old new before now row gives = record {
 }
 
 same_header : (a b : GraySource) → b.head ≡ a.head → b.plain ≡ a.plain → header_of b ≡ header_of a
-same_header a b head plain = λ i. record { plain = plain i; width = (head i).width; height = (head i).height; white = (head i).maxval }
+same_header a b head plain = λ i. record { plain = plain i; width = (head i).width; height = (head i).height; maxval = (head i).maxval }
 
 pub header_stays : (old new : GraySource) (before now : Option Files) (rows : List (List ℕ)) → GivesRows old before rows new now → header_of new ≡ header_of old
 header_stays old new before now rows gives = same_header old new gives.same_head gives.same_kind
@@ -75,7 +75,7 @@ pub fewer_rows : (header : PageHeader) (xs ys : List (List ℕ)) (page : Gray) �
 fewer_rows header xs ys page has = record {
   width = has.width;
   height = has.height;
-  white = has.white;
+  maxval = has.maxval;
   bright = has.bright;
   row = λ y within. subst (λ (r : List ℕ). IsRow page y r) (get_or_append_left xs ys [] y within) (has.row y (omega (arith, within, length-append xs ys)));
 }
@@ -86,9 +86,9 @@ get_or-lowered (v ∷ row) zero = refl
 get_or-lowered (v ∷ row) (suc x) = get_or-lowered row x
 
 -- the samples of a row as the reader gives them
-pub lowered_row : (page : Gray) (y : ℕ) (row : List ℕ) → page.white ≤ 65535 → IsRow page y row → IsRow page y (map lowered row)
+pub lowered_row : (page : Gray) (y : ℕ) (row : List ℕ) → page.maxval ≤ 65535 → IsRow page y row → IsRow page y (map lowered row)
 lowered_row page y row most is = record {
   sample = λ x within. is.sample x within
-      ∙ (let same : min (get_or row x 0) page.white ≡ min (min (get_or row x 0) 65535) page.white = omega (arith, most) in same)
-      ∙ ap (λ (v : ℕ). min v page.white) (sym (get_or-lowered row x));
+      ∙ (let same : min (get_or row x 0) page.maxval ≡ min (min (get_or row x 0) 65535) page.maxval = omega (arith, most) in same)
+      ∙ ap (λ (v : ℕ). min v page.maxval) (sym (get_or-lowered row x));
 }

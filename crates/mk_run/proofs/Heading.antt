@@ -41,12 +41,12 @@ or_false true = refl
 or_false false = refl
 
 head_stops : (bytes : List ℕ) (e : Bool) (kind : Kind) → gray_header bytes ≡ Stops e (Refused kind) → page_header bytes ≡ Stops e (Refused kind)
-head_stops bytes e kind is = ap (λ c. c >>= λ h rest. Takes false (record { plain = h.plain; width = h.width; height = h.height; white = h.white }) rest) is
+head_stops bytes e kind is = ap (λ c. c >>= λ h rest. Takes false (record { plain = h.plain; width = h.width; height = h.height; maxval = h.maxval }) rest) is
 
 head_takes : (bytes : List ℕ) (e : Bool) (header : PageHeader) (rest : List ℕ)
-    → gray_header bytes ≡ Takes e (record { plain = header.plain; width = header.width; height = header.height; white = header.white }) rest → page_header bytes ≡ Takes e header rest
+    → gray_header bytes ≡ Takes e (record { plain = header.plain; width = header.width; height = header.height; maxval = header.maxval }) rest → page_header bytes ≡ Takes e header rest
 head_takes bytes e header rest is =
-    ap (λ c. c >>= λ h rest. Takes false (record { plain = h.plain; width = h.width; height = h.height; white = h.white }) rest) is
+    ap (λ c. c >>= λ h rest. Takes false (record { plain = h.plain; width = h.width; height = h.height; maxval = h.maxval }) rest) is
     ∙ ap (λ (b : Bool). Takes b header rest) (or_false e)
 
 ends_so : {A B : Type 0} (g : A → B) (c : Cut A) → is_by_end (c >>= λ x rest. Takes false (g x) rest) ≡ is_by_end c
@@ -54,7 +54,7 @@ ends_so g (Takes e x rest) = or_false e
 ends_so g (Stops e why) = refl
 
 head_ends : (bytes : List ℕ) → is_by_end (page_header bytes) ≡ is_by_end (gray_header bytes)
-head_ends bytes = ends_so (λ h. record { plain = h.plain; width = h.width; height = h.height; white = h.white }) (gray_header bytes)
+head_ends bytes = ends_so (λ h. record { plain = h.plain; width = h.width; height = h.height; maxval = h.maxval }) (gray_header bytes)
 
 same_outs : (old new : Sinks) → new.outs ≡ old.outs → new.outs.faults ≡ old.outs.faults
 same_outs old new same = ap (λ (t : Told). t.faults) same
@@ -159,8 +159,8 @@ pub header_stands : (source opened mid : Source) (reader : GraySource) (head : G
     → GivesHead gray_at_start opened.files head reader mid.files → StandsBehindHead source reader mid
 header_stands source opened mid reader head openings steady none same_openings same_faults gives =
     let cut = gives.cut in
-    let same : header_of reader ≡ record { plain = reader.plain; width = head.width; height = head.height; white = head.maxval } =
-    ap (λ (h : GrayHead). record { plain = reader.plain; width = h.width; height = h.height; white = h.maxval }) gives.head_is in
+    let same : header_of reader ≡ record { plain = reader.plain; width = head.width; height = head.height; maxval = head.maxval } =
+    ap (λ (h : GrayHead). record { plain = reader.plain; width = h.width; height = h.height; maxval = h.maxval }) gives.head_is in
     record {
       opened = same_openings ∙ openings;
       steady = same_faults ∙ steady;
@@ -169,7 +169,7 @@ header_stands source opened mid reader head openings steady none same_openings s
       head = λ tail empty. (
         gives.by_end,
         cut.settled,
-        head_takes (cut.more ++ tail) gives.by_end (record { plain = reader.plain; width = head.width; height = head.height; white = head.maxval }) (reader.bytes ++ tail)
+        head_takes (cut.more ++ tail) gives.by_end (record { plain = reader.plain; width = head.width; height = head.height; maxval = head.maxval }) (reader.bytes ++ tail)
             (cut_stays gray_header gray_header_stays cut.more tail _ reader.ended cut.is cut.settled empty)
             ∙ ap (λ (h : PageHeader). Takes gives.by_end h (reader.bytes ++ tail)) (sym same),
       );

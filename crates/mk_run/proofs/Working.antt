@@ -38,12 +38,12 @@ fits_stay : (setup : Setup) (r s : GraySource) (f g : Filter) → s.head ≡ r.h
 fits_stay setup r s f g head same room fits =
     let width : s.head.width ≡ r.head.width = ap (λ (h : GrayHead). h.width) head in
     let height : s.head.height ≡ r.head.height = ap (λ (h : GrayHead). h.height) head in
-    let white : s.head.maxval ≡ r.head.maxval = ap (λ (h : GrayHead). h.maxval) head in
+    let maxval : s.head.maxval ≡ r.head.maxval = ap (λ (h : GrayHead). h.maxval) head in
     record {
       room = room;
       width = same.width ∙ fits.width ∙ sym width;
       height = same.height ∙ fits.height ∙ sym height;
-      white = same.white ∙ fits.white ∙ sym white;
+      maxval = same.maxval ∙ fits.maxval ∙ sym maxval;
       radius = same.radius ∙ fits.radius;
       some_times = fits.some_times;
       most_times = fits.most_times;
@@ -63,7 +63,7 @@ work_next setup r s f g before now rows row work gives room same one pairs wante
       plain = gives.same_kind i;
       width = (gives.same_head i).width;
       height = (gives.same_head i).height;
-      white = (gives.same_head i).maxval;
+      maxval = (gives.same_head i).maxval;
     } in
     record {
       fits = fits_stay setup r s f g gives.same_head same room work.fits;
@@ -76,7 +76,7 @@ work_next setup r s f g before now rows row work gives room same one pairs wante
           let has_all : HasFirstRows (header_of r) (rows ++ gives.values ∷ []) page = subst (λ (h : PageHeader). HasFirstRows h (rows ++ gives.values ∷ []) page) same_header has in
           let here : IsRow page (length rows) gives.values = subst (λ (l : List ℕ). IsRow page (length rows) l) (get_or_push rows gives.values [] (length rows) refl)
           (has_all.row (length rows) (omega (arith, more))) in
-          let most : page.white ≤ 65535 = omega (arith, has_all.white, work.fits.white, work.fits.room.white) in
+          let most : page.maxval ≤ 65535 = omega (arith, has_all.maxval, work.fits.maxval, work.fits.room.maxval) in
           let is_row : IsRow page f.taken row = subst (λ (k : ℕ). IsRow page k row) (sym work.taken)
           (subst (λ (l : List ℕ). IsRow page (length rows) l) (sym gives.row_is) (lowered_row page (length rows) gives.values most here)) in
           takes page (work.follows page (fewer_rows (header_of r) rows (gives.values ∷ []) page has_all)) is_row;
@@ -108,7 +108,7 @@ pub is_less : (a b : ℕ) → nat_eq a b ≡ false → a ≤ b → a < b
 is_less a b other most = grind (arith, other, most)
 
 pub same_setup_on : (f g h : Filter) → SameSetup f g → SameSetup g h → SameSetup f h
-same_setup_on f g h a b = record { width = b.width ∙ a.width; height = b.height ∙ a.height; white = b.white ∙ a.white; radius = b.radius ∙ a.radius }
+same_setup_on f g h a b = record { width = b.width ∙ a.width; height = b.height ∙ a.height; maxval = b.maxval ∙ a.maxval; radius = b.radius ∙ a.radius }
 
 pub lt_of : (a b : ℕ) → true ≡ nat_lt a b → a < b
 lt_of a b less = grind (arith, less)
@@ -147,8 +147,8 @@ ahead_of setup r f rows (suc Y) work none last =
 
 -- what the filter writes is row Y of each page that begins with the rows so far
 pub row_is : (setup : Setup) (r s : GraySource) (g : Filter) (Y : ℕ) (rows : List (List ℕ)) (page : Gray) (limit : ℕ) (row : List ℕ) → IsAtWork setup s g rows
-    → header_of s ≡ header_of r → HasFirstRows (header_of r) rows page → limit ≡ dark_limit g.white setup.times setup.level
-    → ((page : Gray) (level : ℕ) → Follows page g → limit ≡ dark_limit g.white setup.times level
+    → header_of s ≡ header_of r → HasFirstRows (header_of r) rows page → limit ≡ dark_limit g.maxval setup.times setup.level
+    → ((page : Gray) (level : ℕ) → Follows page g → limit ≡ dark_limit g.maxval setup.times level
     → row ≡ row_text (setup.times * g.width) (padded (setup.times * g.width) (λ X. is_black page g.radius setup.times level X Y)))
     → row ≡ result_row setup page Y
 row_is setup r s g Y rows page limit row work same has dark writes =
@@ -156,15 +156,15 @@ row_is setup r s g Y rows page limit row work same has dark writes =
     writes page setup.level follows dark ∙ row_same setup page g Y follows.holds.width work.fits.radius
 
 -- both before the first row
-pub work_start : (setup : Setup) (r : GraySource) (f : Filter) → HasRoom f → f.width ≡ r.head.width → f.height ≡ r.head.height → f.white ≡ r.head.maxval → f.radius ≡ setup.radius
+pub work_start : (setup : Setup) (r : GraySource) (f : Filter) → HasRoom f → f.width ≡ r.head.width → f.height ≡ r.head.height → f.maxval ≡ r.head.maxval → f.radius ≡ setup.radius
     → f.taken ≡ 0 → f.pairs ≡ 0 → r.given ≡ 0 → r.failed ≡ false → CanFilter setup → fits_result setup r.head.width r.head.height ≡ true
-    → ((page : Gray) → page.width ≡ f.width → page.height ≡ f.height → page.white ≡ f.white → ((x y : ℕ) → page.sample x y ≤ f.white) → Follows page f) → IsAtWork setup r f []
-work_start setup r f room width height white radius taken pairs given going can fits follows = record {
+    → ((page : Gray) → page.width ≡ f.width → page.height ≡ f.height → page.maxval ≡ f.maxval → ((x y : ℕ) → page.sample x y ≤ f.maxval) → Follows page f) → IsAtWork setup r f []
+work_start setup r f room width height maxval radius taken pairs given going can fits follows = record {
   fits = record {
     room = room;
     width = width;
     height = height;
-    white = white;
+    maxval = maxval;
     radius = radius;
     some_times = can.some_times;
     most_times = can.most_times;
@@ -177,7 +177,7 @@ work_start setup r f room width height white radius taken pairs given going can 
   going_on = going;
   due = omega (arith, taken);
   enough = λ some. absurd (omega (arith, some, pairs));
-  follows = λ page has. follows page (has.width ∙ sym width) (has.height ∙ sym height) (has.white ∙ sym white) (λ x y. let most = has.bright x y in omega (arith, most, has.white, white));
+  follows = λ page has. follows page (has.width ∙ sym width) (has.height ∙ sym height) (has.maxval ∙ sym maxval) (λ x y. let most = has.bright x y in omega (arith, most, has.maxval, maxval));
 }
   where
     fits_both : (a b c d : ℕ) → (nat_le a b && nat_le c d) ≡ true → (a ≤ b) × (c ≤ d)

@@ -9,9 +9,9 @@ pub record PageHeader : Type 0 where
   pub plain : Bool
   pub width : ℕ
   pub height : ℕ
-  pub white : ℕ
+  pub maxval : ℕ
 
 -- the header at the front of these bytes
 abbrev pub page_header : List ℕ → Cut PageHeader
 page_header bytes =
-    gray_header bytes >>= λ h rest. Takes false (record { plain = h.plain; width = h.width; height = h.height; white = h.white }) rest
+    gray_header bytes >>= λ h rest. Takes false (record { plain = h.plain; width = h.width; height = h.height; maxval = h.maxval }) rest

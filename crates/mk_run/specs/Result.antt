@@ -9,7 +9,7 @@ use Rattle.filter_words.specs.declared.setup.Setup.{Setup}
 
 -- the page of this header and these rows from the top; a sample above white counts as white
 abbrev pub scan_of : PageHeader → List (List ℕ) → Gray
-scan_of header rows = gray_of header.width header.height header.white rows
+scan_of header rows = gray_of header.width header.height header.maxval rows
 
 -- row Y of the result, packed
 abbrev pub result_row : Setup → Gray → ℕ → List ℕ

@@ -12,7 +12,7 @@ use Rattle.filter_words.specs.declared.setup.Setup.{Setup}
 
 -- the next row of a page with this header
 abbrev pub cut_row : PageHeader → List ℕ → Cut (List ℕ)
-cut_row header bytes = gray_row header.plain header.white header.width bytes
+cut_row header bytes = gray_row header.plain header.maxval header.width bytes
 
 -- a row that was taken, and those behind it
 abbrev pub row_before : (List ℕ → List (List ℕ)) → Cut (List ℕ) → List (List ℕ)

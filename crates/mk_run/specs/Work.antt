@@ -18,7 +18,7 @@ use Rattle.mk_run.specs.declared.rooms.Rooms.{Rooms}
 
 -- the header that a reader has read
 abbrev pub header_of : GraySource → PageHeader
-header_of reader = record { plain = reader.plain; width = reader.head.width; height = reader.head.height; white = reader.head.maxval }
+header_of reader = record { plain = reader.plain; width = reader.head.width; height = reader.head.height; maxval = reader.head.maxval }
 
 -- a reader gave these rows: bytes were taken, and the rows stand at the front of those at hand and these, whatever
 -- comes behind them
@@ -35,8 +35,8 @@ pub record GivesRows (old : GraySource) (before : Option Files) (rows : List (Li
 pub record HasFirstRows (header : PageHeader) (rows : List (List ℕ)) (page : Gray) : Type 0 where
   pub width : page.width ≡ header.width
   pub height : page.height ≡ header.height
-  pub white : page.white ≡ header.white
-  pub bright : (x y : ℕ) → page.sample x y ≤ page.white
+  pub maxval : page.maxval ≡ header.maxval
+  pub bright : (x y : ℕ) → page.sample x y ≤ page.maxval
   pub row : (y : ℕ) → y < length rows → IsRow page y (get_or rows y [])
 
 -- a reader and a filter that are at work on one page, with this setup
@@ -44,7 +44,7 @@ pub record FitsWork (setup : Setup) (reader : GraySource) (f : Filter) : Type 0 
   pub room : HasRoom f
   pub width : f.width ≡ reader.head.width
   pub height : f.height ≡ reader.head.height
-  pub white : f.white ≡ reader.head.maxval
+  pub maxval : f.maxval ≡ reader.head.maxval
   pub radius : f.radius ≡ setup.radius
   pub some_times : 1 ≤ setup.times
   pub most_times : setup.times ≤ GREATEST_TIMES

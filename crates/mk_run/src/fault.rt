@@ -1,6 +1,6 @@
 //! Why the document isn't whole.
 
-use bitmap_input::fault::InFault;
+use bitmap_input::InFault;
 
 /// Why the document isn't whole.
 #[derive(Clone, Copy, Debug, PartialEq, Eq)]

@@ -16,3 +16,5 @@ mod rooms;
 mod rows;
 mod say;
 mod work;
+
+pub use program::mk_run;

@@ -11,18 +11,15 @@ ghost use Rattle.mk_run.specs.Work.{IsGrayHead};
 ghost use Rattle.mkbitmap.specs.declared.limits.TheConstants.{GREATEST_TIMES};
 ghost use Rattle.pt_base.specs.declared.limits.TheConstants.{LONGEST_SIDE};
 
+use bitmap_input::{GrayHead, GrayReader, InFault};
 use crate::fault::Break;
 use crate::put::put_page;
 use crate::say::{NAME, say_fault, say_not_written, say_out_of_memory};
 use crate::work::Work;
-use bitmap_input::fault::InFault;
-use bitmap_input::gray_reader::{GrayHead, GrayReader};
-use filter_words::setup::Setup;
-use pt_base::inputs::Inputs;
-use pt_base::limits::LONGEST_SIDE;
-use pt_base::sink::{Outputs, Sink};
-use run_output::line::{say_of_file, say_of_file_page};
-use small_program::ending::Ending;
+use filter_words::Setup;
+use pt_base::{Inputs, LONGEST_SIDE, Outputs, Sink};
+use run_output::{say_of_file, say_of_file_page};
+use small_program::Ending;
 use std::alloc::Global;
 
 /// Filters the page on standard input, or says why not.

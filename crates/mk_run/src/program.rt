@@ -9,12 +9,10 @@ ghost use Rattle.small_program.specs.declared.ending.Ending.TheVariants as endin
 
 use crate::page::filter_input;
 use crate::say::{NAME, say_not_written, say_out_of_memory};
-use filter_words::ask::{AskFault, FilterAsk, filter_ask_of};
-use pt_base::inputs::Inputs;
-use pt_base::sink::{Outputs, Sink};
-use run_output::document::write_document;
-use run_output::line::say_line;
-use small_program::ending::Ending;
+use filter_words::{AskFault, FilterAsk, filter_ask_of};
+use pt_base::{Inputs, Outputs, Sink};
+use run_output::{say_line, write_document};
+use small_program::Ending;
 use std::alloc::Global;
 
 /// How the program is used.

@@ -10,15 +10,13 @@ ghost use Rattle.mk_run.specs.Put.{BreaksPage, BreaksRow, BreaksRows, GoesWell, 
 ghost use Rattle.mk_run.specs.Result.{result_head, result_text};
 ghost use Rattle.mk_run.specs.Work.{GivesRows, GoesAlong, HasRooms, IsAtWork, header_of};
 
+use bitmap_input::GrayReader;
 use crate::fault::Break;
 use crate::rooms::Rooms;
 use crate::rows::make_ready;
-use bitmap_input::gray_reader::GrayReader;
-use filter_words::setup::Setup;
-use mkbitmap::filter::{Filter, limit};
-use pt_base::inputs::Inputs;
-use pt_base::sink::Outputs;
-use pt_base::write::write_whole;
+use filter_words::Setup;
+use mkbitmap::{Filter, limit};
+use pt_base::{Inputs, Outputs, write_whole};
 
 /// Reads rows of the page as far as a row of the result needs them, and writes that one.
 fn put_row<I: Inputs, O: Outputs>(
@@ -64,7 +62,7 @@ fn put_row<I: Inputs, O: Outputs>(
         Ok(()) => {}
         Err(fault) => return Err(Break::Input(fault)),
     }
-    let limit = limit(filter.white, setup.times, setup.level);
+    let limit = limit(filter.maxval, setup.times, setup.level);
     filter.enlarged(y, setup.times, limit, &mut rooms.mixed, &mut rooms.packed);
     match write_whole(outs, &rooms.packed) {
         Ok(()) => Ok(()),

@@ -5,11 +5,10 @@ ghost use Rattle.mkbitmap.specs.Enlarged.{after_of, need};
 ghost use Rattle.mkbitmap.specs.Follows.{SameSetup};
 ghost use Rattle.mk_run.specs.Work.{GivesRows, GoesAlong, IsAtWork, StopsBehind, StopsRow};
 
-use bitmap_input::fault::InFault;
-use bitmap_input::gray_reader::GrayReader;
-use filter_words::setup::Setup;
-use mkbitmap::filter::Filter;
-use pt_base::inputs::Inputs;
+use bitmap_input::{GrayReader, InFault};
+use filter_words::Setup;
+use mkbitmap::Filter;
+use pt_base::Inputs;
 
 /// Reads the next row of the page, and has the filter take it.
 pub(crate) fn take_row<I: Inputs>(

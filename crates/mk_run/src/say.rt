@@ -8,10 +8,10 @@ ghost use Rattle.run_output.specs.Told.{IsMessage, told_of};
 ghost use Rattle.mk_run.specs.Outcome.{cause_ending, filter_name};
 ghost use Rattle.small_program.specs.declared.ending.Ending.TheVariants as ending;
 
-use bitmap_input::fault::InFault;
-use pt_base::sink::Sink;
-use run_output::line::{say_line, say_of_file, say_of_file_page};
-use small_program::ending::Ending;
+use bitmap_input::InFault;
+use pt_base::Sink;
+use run_output::{say_line, say_of_file, say_of_file_page};
+use small_program::Ending;
 
 /// The program's name, as it stands in front of what it says.
 pub(crate) const NAME: &str = "mkbitmap";

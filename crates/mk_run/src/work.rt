@@ -6,12 +6,11 @@ ghost use Rattle.mk_run.specs.Result.{pbm_head};
 ghost use Rattle.mk_run.specs.Rows.{fits_result};
 ghost use Rattle.mk_run.specs.Work.{HasRooms, IsAtWork, IsGrayHead};
 
+use bitmap_input::GrayHead;
 use crate::rooms::Rooms;
-use bitmap_input::gray_reader::GrayHead;
-use filter_words::setup::Setup;
-use mkbitmap::filter::Filter;
-use pt_base::digits::put_number;
-use pt_base::fault::NoMemory;
+use filter_words::Setup;
+use mkbitmap::Filter;
+use pt_base::{NoMemory, put_number};
 use std::alloc::Global;
 
 /// All that a run needs memory for, but its reader.

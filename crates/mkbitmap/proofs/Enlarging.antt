@@ -20,15 +20,15 @@ area_some page radius x y in_row in_page =
     let one : 1 * 1 ≤ box_count radius page.width x * box_count radius page.height y = mul-le 1 1 _ _ (omega arith) (omega arith) in
     omega (arith, one)
 
-relief_by_most : (t : Bool) (sample sum area white : ℕ) → 0 < area → sample ≤ white
-    → (if t then 256 * sample + 128 * white else raised_by sample sum area white) ≤ 512 * white
-relief_by_most true sample sum area white some most = omega arith
-relief_by_most false sample sum area white some most = raised-most sample sum area white some most
+relief_by_most : (t : Bool) (sample sum area maxval : ℕ) → 0 < area → sample ≤ maxval
+    → (if t then 256 * sample + 128 * maxval else raised_by sample sum area maxval) ≤ 512 * maxval
+relief_by_most true sample sum area maxval some most = omega arith
+relief_by_most false sample sum area maxval some most = raised-most sample sum area maxval some most
 
-raised_of-most : (page : Gray) (radius x y : ℕ) → page.sample x y ≤ page.white → x < page.width → y < page.height
-    → raised_of page radius x y ≤ 512 * page.white
+raised_of-most : (page : Gray) (radius x y : ℕ) → page.sample x y ≤ page.maxval → x < page.width → y < page.height
+    → raised_of page radius x y ≤ 512 * page.maxval
 raised_of-most page radius x y bright in_row in_page =
-    relief_by_most (nat_eq radius 0) (page.sample x y) (box_sum page radius x y) (box_area page radius x y) page.white (area_some page radius x y in_row in_page) bright
+    relief_by_most (nat_eq radius 0) (page.sample x y) (box_sum page radius x y) (box_area page radius x y) page.maxval (area_some page radius x y in_row in_page) bright
 
 -- the reliefs that are held fit
 pub held_most : (page : Gray) (f : Filter) (reliefs : List ℕ) (u : ℕ) → HasRoom f → HoldsRows page f → length reliefs ≡ f.width
@@ -36,10 +36,10 @@ pub held_most : (page : Gray) (f : Filter) (reliefs : List ℕ) (u : ℕ) → Ha
 held_most page f reliefs u room holds wide raised x =
     elim (cases_lt x f.width) [
       | inl within ↦
-          let most : raised_of page f.radius x (before_within f.height u) ≤ 512 * page.white
-          = raised_of-most page f.radius x (before_within f.height u) (rw holds.white (holds.bright x (before_within f.height u)))
+          let most : raised_of page f.radius x (before_within f.height u) ≤ 512 * page.maxval
+          = raised_of-most page f.radius x (before_within f.height u) (rw holds.maxval (holds.bright x (before_within f.height u)))
           (omega (arith, within, holds.width)) (omega (arith, room.some_rows, holds.height)) in
-          rw (raised x within) (omega (arith, most, holds.white, room.white))
+          rw (raised x within) (omega (arith, most, holds.maxval, room.maxval))
       | inr past ↦ rw (get_or_past reliefs x 0 (omega (arith, wide, past))) (omega arith)
     ]
 

@@ -55,12 +55,12 @@ slot_next n i width ring s within widths same k h =
 
 -- the sums are small
 pub sums_small : (page : Gray) (f : Filter) → HasRoom f → HoldsRows page f → (x : ℕ)
-    → get_or f.columns.items x 0 ≤ (f.taken - first_held f) * f.white
+    → get_or f.columns.items x 0 ≤ (f.taken - first_held f) * f.maxval
 sums_small page f room holds x =
     elim (cases_lt x f.width) [
       | inl within ↦
-          let most : sum_between (page.sample x) (first_held f) f.taken ≤ (f.taken - first_held f) * f.white
-          = sum-most (page.sample x) f.white (first_held f) f.taken (λ k. holds.bright x k) in
+          let most : sum_between (page.sample x) (first_held f) f.taken ≤ (f.taken - first_held f) * f.maxval
+          = sum-most (page.sample x) f.maxval (first_held f) f.taken (λ k. holds.bright x k) in
           rw (holds.sums x within) most
       | inr past ↦ rw (get_or_past f.columns.items x 0 (omega (arith, room.columns, past))) (omega arith)
     ]
@@ -71,7 +71,7 @@ slot_is ring i s within is = is ∙ get_or_default ring i s [] within
 
 -- the samples of a row that is held aren't brighter than white
 pub held_bright : (page : Gray) (f : Filter) → HasRoom f → HoldsRows page f → (j : ℕ) → first_held f ≤ j → j < f.taken
-    → (x : ℕ) → get_or (get_or f.ring.items (j % (2 * f.radius + 1)) []) x 0 ≤ f.white
+    → (x : ℕ) → get_or (get_or f.ring.items (j % (2 * f.radius + 1)) []) x 0 ≤ f.maxval
 held_bright page f room holds j from to x =
     elim (cases_lt x f.width) [
       | inl within ↦ rw (holds.held j from to x within) (holds.bright x j)
@@ -87,14 +87,14 @@ four F p q r s = λ i. F (p i) (q i) (r i) (s i)
 
 -- the relief of the next row, from the sums of the columns
 abbrev raised_with : ℕ → ℕ → ℕ → ℕ → ℕ → ℕ
-raised_with radius sample sum area white = if nat_eq radius 0 then 256 * sample + 128 * white else raised_by sample sum area white
+raised_with radius sample sum area maxval = if nat_eq radius 0 then 256 * sample + 128 * maxval else raised_by sample sum area maxval
 
 pub row_raised : (page : Gray) (f : Filter) → HasRoom f → HoldsRows page f → f.pairs < f.height
     → f.taken ≡ min f.height (f.pairs + f.radius + 1) → (x : ℕ) → x < f.width → (s columns : List ℕ) (v rows : ℕ)
     → s ≡ get_or f.ring.items (f.pairs % (2 * f.radius + 1)) [] → columns ≡ f.columns.items → rows ≡ f.taken - (f.pairs - f.radius)
-    → v ≡ (if nat_eq f.radius 0 then 256 * get_or s x 0 + 128 * f.white
+    → v ≡ (if nat_eq f.radius 0 then 256 * get_or s x 0 + 128 * f.maxval
     else raised_by (get_or s x 0) (sum_between (λ a. get_or columns a 0) (box_from f.radius x) (box_end f.radius (length columns) x))
-    (box_count f.radius (length columns) x * rows) f.white)
+    (box_count f.radius (length columns) x * rows) f.maxval)
     → v ≡ raised_of page f.radius x f.pairs
 row_raised page f room holds due ready x within s columns v rows is same count value =
     let wide : length columns ≡ page.width = ap length same ∙ room.columns ∙ sym holds.width in
@@ -113,7 +113,7 @@ row_raised page f room holds due ready x within s columns v rows is same count v
     let high : rows ≡ box_count f.radius page.height f.pairs = omega (arith, count, ready, holds.height) in
     let area : box_count f.radius (length columns) x * rows ≡ box_area page f.radius x f.pairs
     = ap (λ n. box_count f.radius n x * rows) wide ∙ ap (λ n. box_count f.radius page.width x * n) high in
-    value ∙ four (raised_with f.radius) sample sum area (sym holds.white)
+    value ∙ four (raised_with f.radius) sample sum area (sym holds.maxval)
 
 -- a column's sum, and the sample of it that goes
 pub first_goes : (page : Gray) (f : Filter) → HasRoom f → HoldsRows page f → f.pairs < f.height → f.radius ≤ f.pairs
@@ -143,6 +143,6 @@ pub same_twice : (f g h : Filter) → SameSetup f g → SameSetup g h → SameSe
 same_twice f g h a b = record {
   width = b.width ∙ a.width;
   height = b.height ∙ a.height;
-  white = b.white ∙ a.white;
+  maxval = b.maxval ∙ a.maxval;
   radius = b.radius ∙ a.radius;
 }

@@ -62,22 +62,22 @@ half x a some =
     let e : 2 * x ≡ x / a * (2 * a) + 2 * (x % a) = omega (arith, p) in
     ap (λ n. n / (2 * a)) e ∙ div-mul-add (x / a) (2 * a) (2 * (x % a)) (omega (arith, r))
 
-raised_by-is : (sample sum area white : ℕ) → 0 < area → sum ≤ area * white
-    → relief_by sample sum area white +ℤ pos (128 * white) ≡ pos (raised_by sample sum area white)
-raised_by-is sample sum area white some most =
-    let a : ℤ = pos 256 *ℤ ((pos (2 * area * sample) -ℤ pos (2 * sum)) +ℤ pos (area * white)) in
-    let more : floor_of (a +ℤ pos (2 * area * (128 * white))) (2 * area) ≡ floor_of a (2 * area) +ℤ pos (128 * white)
-    = floor_more a (2 * area) (128 * white) (omega arith) in
-    let n : a +ℤ pos (2 * area * (128 * white)) ≡ pos (2 * (256 * (area * (sample + white) - sum))) = omega (arith, ints) in
-    sym more ∙ ap (λ z. floor_of z (2 * area)) n ∙ ap pos (half (256 * (area * (sample + white) - sum)) area some)
+raised_by-is : (sample sum area maxval : ℕ) → 0 < area → sum ≤ area * maxval
+    → relief_by sample sum area maxval +ℤ pos (128 * maxval) ≡ pos (raised_by sample sum area maxval)
+raised_by-is sample sum area maxval some most =
+    let a : ℤ = pos 256 *ℤ ((pos (2 * area * sample) -ℤ pos (2 * sum)) +ℤ pos (area * maxval)) in
+    let more : floor_of (a +ℤ pos (2 * area * (128 * maxval))) (2 * area) ≡ floor_of a (2 * area) +ℤ pos (128 * maxval)
+    = floor_more a (2 * area) (128 * maxval) (omega arith) in
+    let n : a +ℤ pos (2 * area * (128 * maxval)) ≡ pos (2 * (256 * (area * (sample + maxval) - sum))) = omega (arith, ints) in
+    sym more ∙ ap (λ z. floor_of z (2 * area)) n ∙ ap pos (half (256 * (area * (sample + maxval) - sum)) area some)
 
 -- a box's sum
-box_sum-most : (page : Gray) (radius x y : ℕ) → ((a b : ℕ) → page.sample a b ≤ page.white) → box_sum page radius x y ≤ box_area page radius x y * page.white
+box_sum-most : (page : Gray) (radius x y : ℕ) → ((a b : ℕ) → page.sample a b ≤ page.maxval) → box_sum page radius x y ≤ box_area page radius x y * page.maxval
 box_sum-most page radius x y bright =
-    let column : (a : ℕ) → column_sum page radius y a ≤ box_count radius page.height y * page.white
-    = λ a. sum-most (page.sample a) page.white (box_from radius y) (box_end radius page.height y) (bright a) in
-    let all : box_sum page radius x y ≤ box_count radius page.width x * (box_count radius page.height y * page.white)
-    = sum-most (column_sum page radius y) (box_count radius page.height y * page.white) (box_from radius x) (box_end radius page.width x) column in
+    let column : (a : ℕ) → column_sum page radius y a ≤ box_count radius page.height y * page.maxval
+    = λ a. sum-most (page.sample a) page.maxval (box_from radius y) (box_end radius page.height y) (bright a) in
+    let all : box_sum page radius x y ≤ box_count radius page.width x * (box_count radius page.height y * page.maxval)
+    = sum-most (column_sum page radius y) (box_count radius page.height y * page.maxval) (box_from radius x) (box_end radius page.width x) column in
     omega (arith, all)
 
 area_some : (page : Gray) (radius x y : ℕ) → x < page.width → y < page.height → 0 < box_area page radius x y
@@ -85,17 +85,17 @@ area_some page radius x y in_row in_page =
     let one : 1 * 1 ≤ box_count radius page.width x * box_count radius page.height y = mul-le 1 1 _ _ (omega arith) (omega arith) in
     omega (arith, one)
 
-either : (t : Bool) (sample sum area white : ℕ) → 0 < area → sum ≤ area * white
-    → (if t then pos (256 * sample) else relief_by sample sum area white) +ℤ pos (128 * white)
-    ≡ pos (if t then 256 * sample + 128 * white else raised_by sample sum area white)
-either true sample sum area white some most = omega (arith, ints)
-either false sample sum area white some most = raised_by-is sample sum area white some most
+either : (t : Bool) (sample sum area maxval : ℕ) → 0 < area → sum ≤ area * maxval
+    → (if t then pos (256 * sample) else relief_by sample sum area maxval) +ℤ pos (128 * maxval)
+    ≡ pos (if t then 256 * sample + 128 * maxval else raised_by sample sum area maxval)
+either true sample sum area maxval some most = omega (arith, ints)
+either false sample sum area maxval some most = raised_by-is sample sum area maxval some most
 
 -- a relief raised by half of white
-pub raised_of-is : (page : Gray) (radius x y : ℕ) → ((a b : ℕ) → page.sample a b ≤ page.white) → x < page.width → y < page.height
-    → relief_of page radius x y +ℤ pos (128 * page.white) ≡ pos (raised_of page radius x y)
+pub raised_of-is : (page : Gray) (radius x y : ℕ) → ((a b : ℕ) → page.sample a b ≤ page.maxval) → x < page.width → y < page.height
+    → relief_of page radius x y +ℤ pos (128 * page.maxval) ≡ pos (raised_of page radius x y)
 raised_of-is page radius x y bright in_row in_page =
-    either (nat_eq radius 0) (page.sample x y) (box_sum page radius x y) (box_area page radius x y) page.white
+    either (nat_eq radius 0) (page.sample x y) (box_sum page radius x y) (box_area page radius x y) page.maxval
     (area_some page radius x y in_row in_page) (box_sum-most page radius x y bright)
 
 -- where a pixel of the larger page lies
@@ -120,19 +120,19 @@ pub clamped-after : (count u : ℕ) (z : ℤ) → z +ℤ pos 1 ≡ pos u → cla
 clamped-after count u z e = ap (clamped count) e ∙ omega arith
 
 -- a relief of the nearest pixel, raised
-near-is : (page : Gray) (radius u v : ℕ) (x y : ℤ) → ((a b : ℕ) → page.sample a b ≤ page.white) → 1 ≤ page.width → 1 ≤ page.height
+near-is : (page : Gray) (radius u v : ℕ) (x y : ℤ) → ((a b : ℕ) → page.sample a b ≤ page.maxval) → 1 ≤ page.width → 1 ≤ page.height
     → clamped page.width x ≡ before_within page.width u → clamped page.height y ≡ before_within page.height v
-    → relief_near page radius x y ≡ pos (raised_of page radius (before_within page.width u) (before_within page.height v)) -ℤ pos (128 * page.white)
+    → relief_near page radius x y ≡ pos (raised_of page radius (before_within page.width u) (before_within page.height v)) -ℤ pos (128 * page.maxval)
 near-is page radius u v x y bright wide high at_x at_y =
     let here : relief_near page radius x y ≡ relief_of page radius (before_within page.width u) (before_within page.height v)
     = ap (λ a. relief_of page radius a (clamped page.height y)) at_x ∙ ap (λ b. relief_of page radius (before_within page.width u) b) at_y in
-    let is : relief_of page radius (before_within page.width u) (before_within page.height v) +ℤ pos (128 * page.white)
+    let is : relief_of page radius (before_within page.width u) (before_within page.height v) +ℤ pos (128 * page.maxval)
     ≡ pos (raised_of page radius (before_within page.width u) (before_within page.height v))
     = raised_of-is page radius (before_within page.width u) (before_within page.height v) bright (omega (arith, wide)) (omega (arith, high)) in
     here ∙ omega (arith, ints, is)
 
-pub mixed-is : (page : Gray) (radius t X Y : ℕ) → ((a b : ℕ) → page.sample a b ≤ page.white) → 1 ≤ page.width → 1 ≤ page.height → 1 ≤ t
-    → mixed page radius t X Y +ℤ pos (128 * page.white * (2 * t) * (2 * t)) ≡ pos (mixed_raised page radius t X Y)
+pub mixed-is : (page : Gray) (radius t X Y : ℕ) → ((a b : ℕ) → page.sample a b ≤ page.maxval) → 1 ≤ page.width → 1 ≤ page.height → 1 ≤ t
+    → mixed page radius t X Y +ℤ pos (128 * page.maxval * (2 * t) * (2 * t)) ≡ pos (mixed_raised page radius t X Y)
 mixed-is page radius t X Y bright wide high some =
     let p : distance_behind t X < 2 * t = mod_below (2 * X + 1 + t) (2 * t) (omega arith) in
     let q : distance_behind t Y < 2 * t = mod_below (2 * Y + 1 + t) (2 * t) (omega arith) in
@@ -152,32 +152,32 @@ mixed-is page radius t X Y bright wide high some =
     (raised_of page radius (before_within page.width (after_of t X)) (before_within page.height (after_of t Y)))
     (raised_of page radius (before_within page.width (after_of t X + 1)) (before_within page.height (after_of t Y)))
     (raised_of page radius (before_within page.width (after_of t X)) (before_within page.height (after_of t Y + 1)))
-    (raised_of page radius (before_within page.width (after_of t X + 1)) (before_within page.height (after_of t Y + 1))) (128 * page.white) in
+    (raised_of page radius (before_within page.width (after_of t X + 1)) (before_within page.height (after_of t Y + 1))) (128 * page.maxval) in
     let px : 2 * t - distance_behind t X + distance_behind t X ≡ 2 * t = omega (arith, p) in
     let py : 2 * t - distance_behind t Y + distance_behind t Y ≡ 2 * t = omega (arith, q) in
-    let k : 128 * page.white * (2 * t - distance_behind t X + distance_behind t X) * (2 * t - distance_behind t Y + distance_behind t Y) ≡ 128 * page.white * (2 * t) * (2 * t)
-    = λ i. 128 * page.white * px i * py i in
+    let k : 128 * page.maxval * (2 * t - distance_behind t X + distance_behind t X) * (2 * t - distance_behind t Y + distance_behind t Y) ≡ 128 * page.maxval * (2 * t) * (2 * t)
+    = λ i. 128 * page.maxval * px i * py i in
     let all : mixed page radius t X Y
     ≡ mixture (pos (2 * t - distance_behind t X)) (pos (distance_behind t X)) (pos (2 * t - distance_behind t Y)) (pos (distance_behind t Y))
-    (pos (raised_of page radius (before_within page.width (after_of t X)) (before_within page.height (after_of t Y))) -ℤ pos (128 * page.white))
-    (pos (raised_of page radius (before_within page.width (after_of t X + 1)) (before_within page.height (after_of t Y))) -ℤ pos (128 * page.white))
-    (pos (raised_of page radius (before_within page.width (after_of t X)) (before_within page.height (after_of t Y + 1))) -ℤ pos (128 * page.white))
-    (pos (raised_of page radius (before_within page.width (after_of t X + 1)) (before_within page.height (after_of t Y + 1))) -ℤ pos (128 * page.white))
+    (pos (raised_of page radius (before_within page.width (after_of t X)) (before_within page.height (after_of t Y))) -ℤ pos (128 * page.maxval))
+    (pos (raised_of page radius (before_within page.width (after_of t X + 1)) (before_within page.height (after_of t Y))) -ℤ pos (128 * page.maxval))
+    (pos (raised_of page radius (before_within page.width (after_of t X)) (before_within page.height (after_of t Y + 1))) -ℤ pos (128 * page.maxval))
+    (pos (raised_of page radius (before_within page.width (after_of t X + 1)) (before_within page.height (after_of t Y + 1))) -ℤ pos (128 * page.maxval))
     = λ i. mixture (gx i) (fx i) (gy i) (fy i) (a i) (b i) (c i) (d i) in
-    ap (λ z. z +ℤ pos (128 * page.white * (2 * t) * (2 * t))) all
+    ap (λ z. z +ℤ pos (128 * page.maxval * (2 * t) * (2 * t))) all
     ∙ ap (λ n. mixture (pos (2 * t - distance_behind t X)) (pos (distance_behind t X)) (pos (2 * t - distance_behind t Y)) (pos (distance_behind t Y))
-    (pos (raised_of page radius (before_within page.width (after_of t X)) (before_within page.height (after_of t Y))) -ℤ pos (128 * page.white))
-    (pos (raised_of page radius (before_within page.width (after_of t X + 1)) (before_within page.height (after_of t Y))) -ℤ pos (128 * page.white))
-    (pos (raised_of page radius (before_within page.width (after_of t X)) (before_within page.height (after_of t Y + 1))) -ℤ pos (128 * page.white))
-    (pos (raised_of page radius (before_within page.width (after_of t X + 1)) (before_within page.height (after_of t Y + 1))) -ℤ pos (128 * page.white)) +ℤ pos n) (sym k)
+    (pos (raised_of page radius (before_within page.width (after_of t X)) (before_within page.height (after_of t Y))) -ℤ pos (128 * page.maxval))
+    (pos (raised_of page radius (before_within page.width (after_of t X + 1)) (before_within page.height (after_of t Y))) -ℤ pos (128 * page.maxval))
+    (pos (raised_of page radius (before_within page.width (after_of t X)) (before_within page.height (after_of t Y + 1))) -ℤ pos (128 * page.maxval))
+    (pos (raised_of page radius (before_within page.width (after_of t X + 1)) (before_within page.height (after_of t Y + 1))) -ℤ pos (128 * page.maxval)) +ℤ pos n) (sym k)
     ∙ whole
 
 -- a pixel is black where its mixture, raised, is within the limit
-pub black-is : (page : Gray) (radius t level X Y : ℕ) → ((a b : ℕ) → page.sample a b ≤ page.white) → 1 ≤ page.width → 1 ≤ page.height → 1 ≤ t
-    → is_black page radius t level X Y ≡ nat_le (mixed_raised page radius t X Y) (dark_limit page.white t level)
+pub black-is : (page : Gray) (radius t level X Y : ℕ) → ((a b : ℕ) → page.sample a b ≤ page.maxval) → 1 ≤ page.width → 1 ≤ page.height → 1 ≤ t
+    → is_black page radius t level X Y ≡ nat_le (mixed_raised page radius t X Y) (dark_limit page.maxval t level)
 black-is page radius t level X Y bright wide high some =
-    let d : level * page.white * 1024 * t * t + 128 * page.white * (2 * t) * (2 * t) * 1000000 ≡ (1024 * level + 512000000) * (page.white * (t * t)) = omega arith in
-    black_by (mixed page radius t X Y) (128 * page.white * (2 * t) * (2 * t)) (mixed_raised page radius t X Y) (level * page.white * 1024 * t * t)
+    let d : level * page.maxval * 1024 * t * t + 128 * page.maxval * (2 * t) * (2 * t) * 1000000 ≡ (1024 * level + 512000000) * (page.maxval * (t * t)) = omega arith in
+    black_by (mixed page radius t X Y) (128 * page.maxval * (2 * t) * (2 * t)) (mixed_raised page radius t X Y) (level * page.maxval * 1024 * t * t)
     (mixed-is page radius t X Y bright wide high some)
     ∙ ap (λ n. nat_le (mixed_raised page radius t X Y) (n / 1000000)) d
 

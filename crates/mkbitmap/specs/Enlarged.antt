@@ -44,7 +44,7 @@ mixed page radius times X Y =
 -- whether a pixel of the larger page is black, at a level in millionths of white
 abbrev pub is_black : Gray → ℕ → ℕ → ℕ → ℕ → ℕ → Bool
 is_black page radius times level X Y =
-    int_le (mixed page radius times X Y *ℤ pos 1000000) (pos (level * page.white * 1024 * times * times))
+    int_le (mixed page radius times X Y *ℤ pos 1000000) (pos (level * page.maxval * 1024 * times * times))
 
 -- the last row of the page that row Y of the larger page is made of
 abbrev pub need : ℕ → ℕ → ℕ → ℕ → ℕ
@@ -81,7 +81,7 @@ mixed_raised page radius times X Y =
 
 -- the greatest mixture, raised, of a black pixel
 abbrev pub dark_limit : ℕ → ℕ → ℕ → ℕ
-dark_limit white times level = (1024 * level + 512000000) * (white * (times * times)) / 1000000
+dark_limit maxval times level = (1024 * level + 512000000) * (maxval * (times * times)) / 1000000
 
 -- whether the pixel of a row is black by the row's mixed columns
 abbrev pub dark : List ℕ → ℕ → ℕ → ℕ → Bool

@@ -21,7 +21,7 @@ pub record HasRoom (f : Filter) : Type 0 where
   pub some_rows : 1 ≤ f.height
   pub most_columns : f.width ≤ LONGEST_SIDE
   pub most_rows : f.height ≤ LONGEST_SIDE
-  pub white : f.white ≤ 65535
+  pub maxval : f.maxval ≤ 65535
   pub radius : f.radius ≤ GREATEST_RADIUS
   pub slots : length f.ring.items ≡ 2 * f.radius + 1
   pub slot : (k : ℕ) → k < 2 * f.radius + 1 → length (get_or f.ring.items k []) ≡ f.width
@@ -38,8 +38,8 @@ pub record HasRoom (f : Filter) : Type 0 where
 pub record HoldsRows (page : Gray) (f : Filter) : Type 0 where
   pub width : page.width ≡ f.width
   pub height : page.height ≡ f.height
-  pub white : page.white ≡ f.white
-  pub bright : (x y : ℕ) → page.sample x y ≤ f.white
+  pub maxval : page.maxval ≡ f.maxval
+  pub bright : (x y : ℕ) → page.sample x y ≤ f.maxval
   pub held : (j : ℕ) → first_held f ≤ j → j < f.taken → (x : ℕ) → x < f.width
       → get_or (get_or f.ring.items (j % (2 * f.radius + 1)) []) x 0 ≡ page.sample x j
   pub sums : (x : ℕ) → x < f.width → get_or f.columns.items x 0 ≡ sum_between (page.sample x) (first_held f) f.taken
@@ -63,11 +63,11 @@ pub record IsAlong (f : Filter) : Type 0 where
 
 -- these are the samples of row y, before they are lowered to white
 pub record IsRow (page : Gray) (y : ℕ) (row : List ℕ) : Type 0 where
-  pub sample : (x : ℕ) → x < page.width → page.sample x y ≡ min (get_or row x 0) page.white
+  pub sample : (x : ℕ) → x < page.width → page.sample x y ≡ min (get_or row x 0) page.maxval
 
 -- the two are set up alike
 pub record SameSetup (old new : Filter) : Type 0 where
   pub width : new.width ≡ old.width
   pub height : new.height ≡ old.height
-  pub white : new.white ≡ old.white
+  pub maxval : new.maxval ≡ old.maxval
   pub radius : new.radius ≡ old.radius

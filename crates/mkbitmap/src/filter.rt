@@ -11,7 +11,7 @@ ghost use Rattle.mkbitmap.specs.Follows.{IsAlong, HasRoom, HoldsRows, AreRaised,
 use crate::enlarge::{Place, mix_row, pack_row};
 use crate::relief::raise_row;
 use crate::sums::{enter, leave};
-use pt_base::fault::NoMemory;
+use pt_base::NoMemory;
 use std::alloc::Global;
 use std::marker::Model;
 
@@ -38,18 +38,18 @@ impl Slot {
     }
 
     /// Takes another row, whose samples are added to the columns' sums.
-    fn keep(&mut self, columns: &mut [u32], row: &[u16], white: u16)
+    fn keep(&mut self, columns: &mut [u32], row: &[u16], maxval: u16)
         requires whole { length row.now ≡ length columns.old }
         requires room { length self.old ≡ length columns.old }
-        requires small { (x : ℕ) → get_or columns.old x 0 + white < 4294967296 }
+        requires small { (x : ℕ) → get_or columns.old x 0 + maxval < 4294967296 }
         ensures length { length columns.new ≡ length columns.old }
         ensures same_room { length self.new ≡ length self.old }
         ensures kept { (x : ℕ) → x < length row.now
-            → get_or self.new x 0 ≡ min (get_or row.now x 0) white }
+            → get_or self.new x 0 ≡ min (get_or row.now x 0) maxval }
         ensures sums { (x : ℕ) → x < length row.now
-            → get_or columns.new x 0 ≡ get_or columns.old x 0 + min (get_or row.now x 0) white }
+            → get_or columns.new x 0 ≡ get_or columns.old x 0 + min (get_or row.now x 0) maxval }
     {
-        enter(columns, &mut self.samples, row, white);
+        enter(columns, &mut self.samples, row, maxval);
     }
 }
 
@@ -68,12 +68,12 @@ fn blank_slots(alloc: Global, count: usize, width: usize) -> Result<Vec<Slot>, N
 }
 
 /// The greatest mixture, raised, of a black pixel, at a level in millionths.
-pub fn limit(white: u16, times: u32, level: u32) -> u64
+pub fn limit(maxval: u16, times: u32, level: u32) -> u64
     requires times { times ≤ GREATEST_TIMES }
     requires level { level ≤ GREATEST_LEVEL }
-    ensures { result ≡ dark_limit white times level }
+    ensures { result ≡ dark_limit maxval times level }
 {
-    let squares = u64::from(white) * u64::from(times * times);
+    let squares = u64::from(maxval) * u64::from(times * times);
     (1024 * u64::from(level) + 512000000) * squares / 1000000
 }
 
@@ -82,7 +82,7 @@ pub fn limit(white: u16, times: u32, level: u32) -> u64
 pub struct Filter {
     pub width: usize,
     pub height: u32,
-    pub white: u16,
+    pub maxval: u16,
     pub radius: usize,
     // Row y of the page stands in slot y modulo their number.
     pub ring: Vec<Slot>,
@@ -101,7 +101,7 @@ impl Filter {
         alloc: Global,
         width: usize,
         height: u32,
-        white: u16,
+        maxval: u16,
         radius: usize,
     ) -> Result<Filter, NoMemory>
         requires some_columns { 1 ≤ width }
@@ -111,10 +111,10 @@ impl Filter {
         requires radius { radius ≤ GREATEST_RADIUS }
         ensures room { IfOk result HasRoom }
         ensures follows { IfOk result (λ f. (page : Gray) → page.width ≡ width
-            → page.height ≡ height → page.white ≡ white
-            → ((x y : ℕ) → page.sample x y ≤ white) → Follows page f) }
+            → page.height ≡ height → page.maxval ≡ maxval
+            → ((x y : ℕ) → page.sample x y ≤ maxval) → Follows page f) }
         ensures setup { IfOk result (λ f. (f.width ≡ width) × (f.height ≡ height)
-            × (f.white ≡ white) × (f.radius ≡ radius)) }
+            × (f.maxval ≡ maxval) × (f.radius ≡ radius)) }
         ensures start { IfOk result (λ f. (f.taken ≡ 0) × (f.pairs ≡ 0)) }
     {
         let ring = blank_slots(alloc, 2 * radius + 1, width)?;
@@ -124,7 +124,7 @@ impl Filter {
         Ok(Filter {
             width,
             height,
-            white,
+            maxval,
             radius,
             ring,
             columns,
@@ -149,7 +149,7 @@ impl Filter {
         ensures pairs { self.new.pairs ≡ self.old.pairs }
     {
         let slot = self.taken as usize % self.ring.len();
-        self.ring[slot].keep(&mut self.columns, row, self.white);
+        self.ring[slot].keep(&mut self.columns, row, self.maxval);
         self.taken += 1;
     }
 
@@ -174,7 +174,7 @@ impl Filter {
             self.ring[slot].samples(),
             rows,
             self.radius,
-            self.white as u32,
+            self.maxval as u32,
             &mut self.lower,
         );
     }
@@ -321,7 +321,7 @@ impl Filter {
         requires room { length row.old ≡ (times * self.now.width + 7) / 8 }
         ensures same_room { length mixed.new ≡ length mixed.old }
         ensures row { (page : Gray) (level : ℕ) → Follows page self.now
-            → limit ≡ dark_limit self.now.white times level
+            → limit ≡ dark_limit self.now.maxval times level
             → row.new ≡ row_text (times * self.now.width) (padded (times * self.now.width)
             (λ X. is_black page self.now.radius times level X y)) }
     {

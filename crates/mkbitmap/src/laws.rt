@@ -6,10 +6,10 @@ ghost use Rattle.mkbitmap.specs.Enlarged.{is_black, mixed_raised, dark_limit, ne
 /// A pixel is black where its mixed relief, raised so that it isn't negative, is within one limit of the
 /// page.
 pub fn black_is_within_a_limit()
-    ensures { (page : Gray) (radius times level X Y : ℕ) → ((a b : ℕ) → page.sample a b ≤ page.white)
+    ensures { (page : Gray) (radius times level X Y : ℕ) → ((a b : ℕ) → page.sample a b ≤ page.maxval)
         → 1 ≤ page.width → 1 ≤ page.height → 1 ≤ times
         → is_black page radius times level X Y
-        ≡ nat_le (mixed_raised page radius times X Y) (dark_limit page.white times level) }
+        ≡ nat_le (mixed_raised page radius times X Y) (dark_limit page.maxval times level) }
 {}
 
 /// A row of the larger page needs the rows of the page up to the last one of the boxes around the second

@@ -18,3 +18,6 @@ pub mod laws;
 pub mod limits;
 mod relief;
 mod sums;
+
+pub use filter::{Filter, limit};
+pub use limits::{GREATEST_LEVEL, GREATEST_RADIUS, GREATEST_TIMES};

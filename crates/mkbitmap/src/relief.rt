@@ -5,16 +5,16 @@ ghost use Rattle.mkbitmap.specs.Relief.{raised_by};
 ghost use Rattle.mkbitmap.specs.declared.limits.TheConstants.{GREATEST_RADIUS};
 
 /// The relief of a sample, raised, where the box around it has this sum and so many pixels.
-fn raised(sample: u32, sum: u32, area: u32, white: u32) -> u32
+fn raised(sample: u32, sum: u32, area: u32, maxval: u32) -> u32
     requires some { 0 < area }
     requires area { area ≤ 16641 }
-    requires white { white ≤ 65535 }
-    requires sample { sample ≤ white }
-    requires sum { sum ≤ area * white }
-    ensures value { result ≡ raised_by sample sum area white }
-    ensures most { result ≤ 512 * white }
+    requires maxval { maxval ≤ 65535 }
+    requires sample { sample ≤ maxval }
+    requires sum { sum ≤ area * maxval }
+    ensures value { result ≡ raised_by sample sum area maxval }
+    ensures most { result ≤ 512 * maxval }
 {
-    let above = u64::from(area) * u64::from(sample + white) - u64::from(sum);
+    let above = u64::from(area) * u64::from(sample + maxval) - u64::from(sum);
     (256 * above / u64::from(area)) as u32
 }
 
@@ -54,7 +54,7 @@ fn raise_by_boxes(
     samples: &[u16],
     rows: u32,
     radius: usize,
-    white: u32,
+    maxval: u32,
     relief: &mut [u32],
 )
     requires whole { length samples.now ≡ length columns.now }
@@ -62,15 +62,15 @@ fn raise_by_boxes(
     requires some { 0 < rows }
     requires rows { rows ≤ 129 }
     requires radius { radius ≤ GREATEST_RADIUS }
-    requires white { white ≤ 65535 }
-    requires samples { (x : ℕ) → get_or samples.now x 0 ≤ white }
-    requires columns { (x : ℕ) → get_or columns.now x 0 ≤ rows * white }
+    requires maxval { maxval ≤ 65535 }
+    requires samples { (x : ℕ) → get_or samples.now x 0 ≤ maxval }
+    requires columns { (x : ℕ) → get_or columns.now x 0 ≤ rows * maxval }
     ensures same_room { length relief.new ≡ length relief.old }
     ensures value { (x : ℕ) → x < length columns.now → get_or relief.new x 0
         ≡ raised_by (get_or samples.now x 0)
         (sum_between (λ a. get_or columns.now a 0) (box_from radius x)
         (box_end radius (length columns.now) x))
-        (box_count radius (length columns.now) x * rows) white }
+        (box_count radius (length columns.now) x * rows) maxval }
 {
     let width = columns.len();
     let mut sum = 0;
@@ -80,20 +80,20 @@ fn raise_by_boxes(
     for x in 0..width {
         sum = slid(columns, x, radius, sum);
         let across = (x + radius + 1).min(width) - x.saturating_sub(radius);
-        relief[x] = raised(samples[x] as u32, sum, across as u32 * rows, white);
+        relief[x] = raised(samples[x] as u32, sum, across as u32 * rows, maxval);
     }
 }
 
 /// The samples of a row as reliefs, raised, where boxes are no larger than pixels.
-fn raise_plainly(samples: &[u16], white: u32, relief: &mut [u32])
+fn raise_plainly(samples: &[u16], maxval: u32, relief: &mut [u32])
     requires room { length relief.old ≡ length samples.now }
-    requires white { white ≤ 65535 }
+    requires maxval { maxval ≤ 65535 }
     ensures same_room { length relief.new ≡ length relief.old }
     ensures value { (x : ℕ) → x < length samples.now
-        → get_or relief.new x 0 ≡ 256 * get_or samples.now x 0 + 128 * white }
+        → get_or relief.new x 0 ≡ 256 * get_or samples.now x 0 + 128 * maxval }
 {
     for x in 0..samples.len() {
-        relief[x] = 256 * samples[x] as u32 + 128 * white;
+        relief[x] = 256 * samples[x] as u32 + 128 * maxval;
     }
 }
 
@@ -103,7 +103,7 @@ pub(crate) fn raise_row(
     samples: &[u16],
     rows: u32,
     radius: usize,
-    white: u32,
+    maxval: u32,
     relief: &mut [u32],
 )
     requires whole { length samples.now ≡ length columns.now }
@@ -111,20 +111,20 @@ pub(crate) fn raise_row(
     requires some { 0 < rows }
     requires rows { rows ≤ 129 }
     requires radius { radius ≤ GREATEST_RADIUS }
-    requires white { white ≤ 65535 }
-    requires samples { (x : ℕ) → get_or samples.now x 0 ≤ white }
-    requires columns { (x : ℕ) → get_or columns.now x 0 ≤ rows * white }
+    requires maxval { maxval ≤ 65535 }
+    requires samples { (x : ℕ) → get_or samples.now x 0 ≤ maxval }
+    requires columns { (x : ℕ) → get_or columns.now x 0 ≤ rows * maxval }
     ensures same_room { length relief.new ≡ length relief.old }
     ensures value { (x : ℕ) → x < length columns.now → get_or relief.new x 0
-        ≡ (if nat_eq radius 0 then 256 * get_or samples.now x 0 + 128 * white
+        ≡ (if nat_eq radius 0 then 256 * get_or samples.now x 0 + 128 * maxval
         else raised_by (get_or samples.now x 0)
         (sum_between (λ a. get_or columns.now a 0) (box_from radius x)
         (box_end radius (length columns.now) x))
-        (box_count radius (length columns.now) x * rows) white) }
+        (box_count radius (length columns.now) x * rows) maxval) }
 {
     if radius == 0 {
-        raise_plainly(samples, white, relief);
+        raise_plainly(samples, maxval, relief);
     } else {
-        raise_by_boxes(columns, samples, rows, radius, white, relief);
+        raise_by_boxes(columns, samples, rows, radius, maxval, relief);
     }
 }

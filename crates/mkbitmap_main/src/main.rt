@@ -1,11 +1,9 @@
 //! mkbitmap: makes a gray page sharper and larger, as a bitmap. All that it does is one call, `mk_run` of `mk_run`.
 #![tactic(auto)]
 
-use mk_run::program::mk_run;
-use pt_base::err_sink::ErrSink;
-use pt_base::file_inputs::FileInputs;
-use pt_base::file_outputs::FileOutputs;
-use small_program::words::words_of;
+use mk_run::mk_run;
+use pt_base::{ErrSink, FileInputs, FileOutputs};
+use small_program::words_of;
 use std::process::ExitCode;
 
 fn main(rt: HostRuntime) -> ExitCode {

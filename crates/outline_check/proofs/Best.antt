@@ -8,7 +8,7 @@ use Rattle.std.specs.declared.cmp.Ordering.TheVariants.{Less, Greater}
 use Rattle.std.proofs.lemmas.List.Elements.{All-head, All-tail}
 use Rattle.least_walk.specs.LeastWalk.{Step, steps_from, total_cost, walk_from, IsBefore, IsLeast}
 use Rattle.least_walk.specs.LeastWalk.IsBefore.{by_steps, by_cost, by_list}
-use Rattle.least_walk.specs.Suffix.{GoesOn, IsLeastFrom}
+use Rattle.least_walk.specs.Suffix.{IsLeastFrom, WalksOn}
 use Rattle.least_walk.proofs.Before.{slice_cmp-cons, nat_cmp_above}
 use Rattle.least_walk.proofs.Going.{length-steps_from, total_cost-cons}
 use Rattle.least_walk.proofs.Walks.{least_from_goes}
@@ -38,7 +38,7 @@ module _ (size : ℕ) (is_allowed : ℕ → ℕ → Type 0) (cost : ℕ → ℕ 
       (omega arith) (omega (arith, total_cost-cons cost i j rest))
 
   -- no way to go on is less than the label
-  pub none_less : (i : ℕ) (rest : List ℕ) → GoesOn size is_allowed i rest → IsUpTo (label i) (way_label cost i rest)
+  pub none_less : (i : ℕ) (rest : List ℕ) → WalksOn size is_allowed i rest → IsUpTo (label i) (way_label cost i rest)
   none_less i [] at_end =
       let here : label i ≡ no_label = ap label at_end ∙ right.last in
       subst (λ l. IsUpTo l (way_label cost i [])) (sym here) (as_few refl (omega arith))
@@ -54,7 +54,7 @@ module _ (size : ℕ) (is_allowed : ℕ → ℕ → Type 0) (cost : ℕ → ℕ 
   Follows i [] = i ≡ size
   Follows i (j ∷ rest) = LeadsFirst is_allowed cost labels i j × Follows j rest
 
-  pub follows_goes : (i : ℕ) (rest : List ℕ) → Follows i rest → GoesOn size is_allowed i rest
+  pub follows_goes : (i : ℕ) (rest : List ℕ) → Follows i rest → WalksOn size is_allowed i rest
   follows_goes i [] at_end = at_end
   follows_goes i (j ∷ rest) (leads, more) =
       ((goes_up i j leads.leads.allowed).0, leads.leads.allowed, follows_goes j rest more)
@@ -68,7 +68,7 @@ module _ (size : ℕ) (is_allowed : ℕ → ℕ → Type 0) (cost : ℕ → ℕ 
       leads.leads.by_step ∙ ap F later ∙ sym (way_more i j rest)
 
   -- another way with the same label leads to the label by its first step too
-  other_leads : (i k : ℕ) (v : List ℕ) → GoesOn size is_allowed i (k ∷ v) → label i ≡ way_label cost i (k ∷ v)
+  other_leads : (i k : ℕ) (v : List ℕ) → WalksOn size is_allowed i (k ∷ v) → label i ≡ way_label cost i (k ∷ v)
       → LeadsTo is_allowed cost labels i k (label i) × (label k ≡ way_label cost k v)
   other_leads i k v goes same =
       let up = goes_up i k goes.1 in
@@ -82,7 +82,7 @@ module _ (size : ℕ) (is_allowed : ℕ → ℕ → Type 0) (cost : ℕ → ℕ 
       (record { allowed = goes.1; by_step = by }, label_same (label k) (way_label cost k v) (omega arith) (omega arith))
 
   -- and isn't the lower list
-  pub not_lower : (i : ℕ) (rest other : List ℕ) → Follows i rest → GoesOn size is_allowed i other → label i ≡ way_label cost i other
+  pub not_lower : (i : ℕ) (rest other : List ℕ) → Follows i rest → WalksOn size is_allowed i other → label i ≡ way_label cost i other
       → ¬ (slice_cmp nat_cmp other rest ≡ Less)
   not_lower i [] [] follows goes same lower = cc
   not_lower i [] (k ∷ v) follows goes same lower =
@@ -98,7 +98,7 @@ module _ (size : ℕ) (is_allowed : ℕ → ℕ → Type 0) (cost : ℕ → ℕ 
         | inl tied ↦
             let P : ℕ → Type 0 = λ n. slice_cmp nat_cmp (n ∷ v) (j ∷ rest) ≡ Less in
             let tail = sym (slice_cmp-cons j v rest) ∙ subst P (sym tied) lower in
-            let goes_there = subst (λ n. GoesOn size is_allowed n v) (sym tied) goes.2 in
+            let goes_there = subst (λ n. WalksOn size is_allowed n v) (sym tied) goes.2 in
             let label_there = subst (λ n. label n ≡ way_label cost n v) (sym tied) other.1 in
             not_lower j rest v more goes_there label_there tail
         | inr apart ↦
@@ -107,10 +107,10 @@ module _ (size : ℕ) (is_allowed : ℕ → ℕ → Type 0) (cost : ℕ → ℕ 
       ]
 
   module _ (i : ℕ) (rest : List ℕ) (follows : Follows i rest) where
-    most : (other : List ℕ) → GoesOn size is_allowed i other → IsUpTo (way_label cost i rest) (way_label cost i other)
+    most : (other : List ℕ) → WalksOn size is_allowed i other → IsUpTo (way_label cost i rest) (way_label cost i other)
     most other goes = subst (λ l. IsUpTo l (way_label cost i other)) (follows_label i rest follows) (none_less i other goes)
 
-    none_before : (other : List ℕ) → GoesOn size is_allowed i other → ¬ IsBefore cost (i ∷ other) (i ∷ rest)
+    none_before : (other : List ℕ) → WalksOn size is_allowed i other → ¬ IsBefore cost (i ∷ other) (i ∷ rest)
     none_before other goes (by_steps less) =
         elim (most other goes) [
           | fewer h ↦ omega (arith, length-steps_from i other, length-steps_from i rest)

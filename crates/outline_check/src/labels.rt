@@ -11,8 +11,7 @@ ghost use Rattle.outline_check.specs.Known.{AreRightDownTo};
 use crate::label::Label;
 use crate::onward::{begin_from, label_from};
 use crate::segments::Segments;
-use pt_base::fault::NoMemory;
-use pt_base::point::Point;
+use pt_base::{NoMemory, Point};
 use std::alloc::Global;
 
 /// The right label of each point of a closed walk on a page, and of its end.

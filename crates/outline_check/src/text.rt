@@ -8,11 +8,7 @@ ghost use Rattle.outline_check.specs.ProofsText.{label_text};
 
 use crate::label::Label;
 use crate::labels::labels;
-use pt_base::digits::put_number;
-use pt_base::fault::NoMemory;
-use pt_base::list_text::{put_indices, put_points, put_sides, put_spaced};
-use pt_base::point::Point;
-use pt_base::trace::Trace;
+use pt_base::{NoMemory, Point, Trace, put_indices, put_number, put_points, put_sides, put_spaced};
 use std::alloc::Global;
 
 /// The text of a page's certificates: a line `proofs WIDTH HEIGHT PATHS`, and then three lines for each path,

@@ -4,7 +4,7 @@ use Rattle.std.proofs.lemmas.Int.{ints}
 use Rattle.std.proofs.lemmas.Bool.{cases_lt}
 use Rattle.pt_base.proofs.Terms.{same_value}
 use Rattle.pt_base.proofs.Terms.Term.{num, plus, less, times}
-use Rattle.straight_paths.specs.Straight.{IsWithin}
+use Rattle.straight_paths.specs.Straight.{StaysWithin}
 use Rattle.straight_paths.proofs.Signs.{factor_at_least}
 use Rattle.outline_distance.proofs.Levels.{passed, compared}
 
@@ -12,7 +12,7 @@ pub record IsNearIn (d e : ℤ) : Type 0 where
   pub p : ℕ
   pub q : ℕ
   pub positive : 1 ≤ q
-  pub within : IsWithin q (pos q *ℤ d -ℤ pos p *ℤ e)
+  pub within : StaysWithin q (pos q *ℤ d -ℤ pos p *ℤ e)
 
 pub opened : (d n q : ℤ) → ((d +ℤ pos 1) -ℤ n) *ℤ q ≡ (q *ℤ d +ℤ q) -ℤ q *ℤ n
 opened d n q = same_value
@@ -20,9 +20,9 @@ opened d n q = same_value
     (less (plus (times (num q) (num d)) (num q)) (times (num q) (num n)))
     (omega arith)
 
-still_within : (p q : ℕ) (d e : ℤ) → e ≡ pos 0 → IsWithin q (pos q *ℤ d -ℤ pos p *ℤ e) → pos 0 ≤ℤ (((pos 0 +ℤ pos 1) -ℤ d) *ℤ pos q)
+still_within : (p q : ℕ) (d e : ℤ) → e ≡ pos 0 → StaysWithin q (pos q *ℤ d -ℤ pos p *ℤ e) → pos 0 ≤ℤ (((pos 0 +ℤ pos 1) -ℤ d) *ℤ pos q)
 still_within p q d e is w =
-    let P : ℤ → Type 0 = λ z. IsWithin q (pos q *ℤ d -ℤ pos p *ℤ z) in
+    let P : ℤ → Type 0 = λ z. StaysWithin q (pos q *ℤ d -ℤ pos p *ℤ z) in
     let v = subst P is w in
     let h = v.high in
     let o = opened (pos 0) d (pos q) in

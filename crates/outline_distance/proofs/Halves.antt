@@ -4,7 +4,7 @@ use Rattle.std.proofs.lemmas.Int.{ints}
 use Rattle.std.specs.Prelude.{unsigned_abs}
 use Rattle.pt_base.proofs.Terms.{same_value}
 use Rattle.pt_base.proofs.Terms.Term.{num, plus, less, times, opposite}
-use Rattle.straight_paths.specs.Straight.{IsWithin}
+use Rattle.straight_paths.specs.Straight.{StaysWithin}
 use Rattle.straight_paths.proofs.Signs.{product_at_least, factor_at_least, factor_positive}
 
 -- half of a number that isn't negative, rounded down
@@ -51,10 +51,10 @@ cross_low p q a b d e = same_value
     (times (num b) (less (num q) (less (times (num q) (num d)) (times (num p) (num a))))))
     (omega arith)
 
-room_above : (q : ℕ) (z : ℤ) → IsWithin q z → pos 0 ≤ℤ (pos q -ℤ z)
+room_above : (q : ℕ) (z : ℤ) → StaysWithin q z → pos 0 ≤ℤ (pos q -ℤ z)
 room_above q z w = let h = w.high in omega (arith, ints)
 
-room_below : (q : ℕ) (z : ℤ) → IsWithin q z → pos 0 ≤ℤ (pos q +ℤ z)
+room_below : (q : ℕ) (z : ℤ) → StaysWithin q z → pos 0 ≤ℤ (pos q +ℤ z)
 room_below q z w = let l = w.low in omega (arith, ints)
 
 pub sum_at_least : (s t : ℤ) → pos 0 ≤ℤ s → pos 0 ≤ℤ t → pos 0 ≤ℤ (s +ℤ t)
@@ -65,8 +65,8 @@ pub record IsNearBoth (a b d e : ℤ) : Type 0 where
   pub p : ℕ
   pub q : ℕ
   pub positive : 1 ≤ q
-  pub in_x : IsWithin q (pos q *ℤ d -ℤ pos p *ℤ a)
-  pub in_y : IsWithin q (pos q *ℤ e -ℤ pos p *ℤ b)
+  pub in_x : StaysWithin q (pos q *ℤ d -ℤ pos p *ℤ a)
+  pub in_y : StaysWithin q (pos q *ℤ e -ℤ pos p *ℤ b)
 
 module _ (a b d e : ℤ) (some_a : pos 0 ≤ℤ a) (some_b : pos 0 ≤ℤ b) (near : IsNearBoth a b d e) where
   positive : pos 0 <ℤ pos near.q
@@ -165,9 +165,9 @@ flat_room q e = (
 )
 
 -- where the end is neither up nor down, the place is within 1 up and down
-pub flat : (p q : ℕ) (b e : ℤ) → 1 ≤ q → b ≡ pos 0 → IsWithin q (pos q *ℤ e -ℤ pos p *ℤ b) → unsigned_abs e ≤ 1
+pub flat : (p q : ℕ) (b e : ℤ) → 1 ≤ q → b ≡ pos 0 → StaysWithin q (pos q *ℤ e -ℤ pos p *ℤ b) → unsigned_abs e ≤ 1
 flat p q b e some is w =
-    let P : ℤ → Type 0 = λ z. IsWithin q (pos q *ℤ e -ℤ pos p *ℤ z) in
+    let P : ℤ → Type 0 = λ z. StaysWithin q (pos q *ℤ e -ℤ pos p *ℤ z) in
     let v = subst P is w in
     let l = v.low in
     let h = v.high in

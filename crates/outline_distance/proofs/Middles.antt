@@ -4,7 +4,7 @@ use Rattle.std.proofs.lemmas.Int.{ints}
 use Rattle.std.specs.Prelude.{unsigned_abs}
 use Rattle.pt_base.specs.ClosedWalk.{IsClosedWalk, point_at}
 use Rattle.pt_base.specs.declared.point.Point.{Point}
-use Rattle.straight_paths.specs.Straight.{IsPossible, IsWithin}
+use Rattle.straight_paths.specs.Straight.{IsPossible, StaysWithin}
 use Rattle.outline_distance.proofs.Levels.{passed, compared}
 use Rattle.outline_distance.proofs.Segments.{half_line}
 use Rattle.outline_distance.proofs.Ways.{turned, opposite_within}
@@ -113,7 +113,7 @@ near_turned_x f g i j k near = record {
   p = near.p;
   q = near.q;
   positive = near.positive;
-  in_x = subst (IsWithin near.q) (sym (turned (pos near.p) (pos near.q) (f i) (f k) (f j))) (opposite_within near.q _ near.in_x);
+  in_x = subst (StaysWithin near.q) (sym (turned (pos near.p) (pos near.q) (f i) (f k) (f j))) (opposite_within near.q _ near.in_x);
   in_y = near.in_y;
 }
 
@@ -124,7 +124,7 @@ near_turned_y f g i j k near = record {
   q = near.q;
   positive = near.positive;
   in_x = near.in_x;
-  in_y = subst (IsWithin near.q) (sym (turned (pos near.p) (pos near.q) (g i) (g k) (g j))) (opposite_within near.q _ near.in_y);
+  in_y = subst (StaysWithin near.q) (sym (turned (pos near.p) (pos near.q) (g i) (g k) (g j))) (opposite_within near.q _ near.in_y);
 }
 
 turned_back : (u v x : ℤ) → unsigned_abs (pos 2 *ℤ neg_ℤ x -ℤ (neg_ℤ u +ℤ neg_ℤ v)) ≤ 2 → unsigned_abs (pos 2 *ℤ x -ℤ (u +ℤ v)) ≤ 2

@@ -6,6 +6,7 @@ use Rattle.std.proofs.lemmas.Nat.{mul-le}
 use Rattle.std.proofs.Math.Nat.{lt-mul-div-succ}
 use Rattle.std.specs.Prelude.{unsigned_abs, if◌then◌else◌}
 use Rattle.pt_base.specs.Floor.{floor_of}
+use Rattle.pt_base.specs.Outlines.{end_of}
 use Rattle.pt_base.specs.declared.piece.Piece.{Piece}
 use Rattle.pt_base.specs.declared.piece.Piece.TheVariants.{Corner, Curve}
 use Rattle.pt_base.specs.declared.point.Point.{Point}
@@ -13,7 +14,7 @@ use Rattle.pt_base.proofs.Sizes.{product_most}
 use Rattle.pt_base.proofs.Terms.{same_value}
 use Rattle.pt_base.proofs.Terms.Term.{num, plus, less, times, opposite}
 use Rattle.corner_smooth.specs.Corner.{al_of, area_of, control_of, curve_of, grid_distance_of, is_corner, middle_of, part_of, piece_of, sharpness_by, sharpness_of, signed_area_of}
-use Rattle.curve_join.specs.Outline.{end_of, first_of, second_of, is_curve}
+use Rattle.curve_join.specs.Outline.{first_of, second_of, is_curve}
 use Rattle.outline_distance.specs.Distance.{LinePassesBy, eightfold_middle, multiple}
 
 -- ---- how round a curve is, by its triangle's area and the distance of the vertex's neighbours

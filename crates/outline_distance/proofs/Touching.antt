@@ -13,7 +13,7 @@ use Rattle.curve_join.specs.Bends.{bend_at, bends_of}
 use Rattle.curve_join.specs.Cubic.{touching_of}
 use Rattle.curve_join.specs.Join.{FollowsSide, MayJoin, cubic_at, inner_bends, no_bend}
 use Rattle.curve_join.specs.Outline.{Outline, vertex}
-use Rattle.curve_join.specs.Vector.{cross_of, dot_of, square_of, way_of}
+use Rattle.curve_join.specs.Vector.{dot_of, square_of, vector_cross, way_of}
 use Rattle.curve_join.specs.declared.bend.Bend.{Bend}
 use Rattle.curve_join.proofs.Cutting.{bends_at, length-bends_of, slice_at, slice_length}
 use Rattle.outline_distance.specs.Distance.{PassesBy}
@@ -85,7 +85,7 @@ module _ (square along tol : ℕ) (a e c cross part : ℤ) (within : along ≤ s
 
 module _ (tol along : ℕ) (a e c : Point) (some : 0 < square_of (way_of a e)) (is : dot_of (way_of a e) (way_of a c) ≡ pos along)
     (within : along ≤ square_of (way_of a e))
-    (near : unsigned_abs (cross_of (way_of a e) (way_of a c)) * unsigned_abs (cross_of (way_of a e) (way_of a c)) ≤ tol * tol * square_of (way_of a e)) where
+    (near : unsigned_abs (vector_cross (way_of a e) (way_of a c)) * unsigned_abs (vector_cross (way_of a e) (way_of a c)) ≤ tol * tol * square_of (way_of a e)) where
   square : ℕ
   square = square_of (way_of a e)
 
@@ -97,17 +97,17 @@ module _ (tol along : ℕ) (a e c : Point) (some : 0 < square_of (way_of a e)) (
       ∙ ap (λ n. ((way_of a e).x *ℤ (way_of a e).x +ℤ (way_of a e).y *ℤ (way_of a e).y) *ℤ z -ℤ n *ℤ w) (sym is) ∙ e'
 
   size_x : unsigned_abs (pos (square_of (way_of a e)) *ℤ (c.x -ℤ a.x) -ℤ pos along *ℤ (e.x -ℤ a.x))
-      ≡ unsigned_abs (way_of a e).y * unsigned_abs (cross_of (way_of a e) (way_of a c))
+      ≡ unsigned_abs (way_of a e).y * unsigned_abs (vector_cross (way_of a e) (way_of a c))
   size_x =
       ap unsigned_abs (by_way (c.x -ℤ a.x) (e.x -ℤ a.x) _ (across_first (way_of a e).x (way_of a e).y (way_of a c).x (way_of a c).y))
-      ∙ size_of_opposite ((way_of a e).y *ℤ cross_of (way_of a e) (way_of a c))
-      ∙ unsigned_abs-mul (way_of a e).y (cross_of (way_of a e) (way_of a c))
+      ∙ size_of_opposite ((way_of a e).y *ℤ vector_cross (way_of a e) (way_of a c))
+      ∙ unsigned_abs-mul (way_of a e).y (vector_cross (way_of a e) (way_of a c))
 
   size_y : unsigned_abs (pos (square_of (way_of a e)) *ℤ (c.y -ℤ a.y) -ℤ pos along *ℤ (e.y -ℤ a.y))
-      ≡ unsigned_abs (way_of a e).x * unsigned_abs (cross_of (way_of a e) (way_of a c))
+      ≡ unsigned_abs (way_of a e).x * unsigned_abs (vector_cross (way_of a e) (way_of a c))
   size_y =
       ap unsigned_abs (by_way (c.y -ℤ a.y) (e.y -ℤ a.y) _ (across_second (way_of a e).x (way_of a e).y (way_of a c).x (way_of a c).y))
-      ∙ unsigned_abs-mul (way_of a e).x (cross_of (way_of a e) (way_of a c))
+      ∙ unsigned_abs-mul (way_of a e).x (vector_cross (way_of a e) (way_of a c))
 
   pub side_touches : PassesBy tol a e c
   side_touches =
@@ -116,13 +116,13 @@ module _ (tol along : ℕ) (a e c : Point) (some : 0 < square_of (way_of a e)) (
         before = square_of (way_of a e) - along;
         after = along;
         some = omega arith;
-        in_x = off_side (square_of (way_of a e)) along tol a.x e.x c.x (cross_of (way_of a e) (way_of a c)) (way_of a e).y within parts.1 near size_x;
-        in_y = off_side (square_of (way_of a e)) along tol a.y e.y c.y (cross_of (way_of a e) (way_of a c)) (way_of a e).x within parts.0 near size_y;
+        in_x = off_side (square_of (way_of a e)) along tol a.x e.x c.x (vector_cross (way_of a e) (way_of a c)) (way_of a e).y within parts.1 near size_x;
+        in_y = off_side (square_of (way_of a e)) along tol a.y e.y c.y (vector_cross (way_of a e) (way_of a c)) (way_of a e).x within parts.0 near size_y;
       }
 
 with_dot : (tol : ℕ) (a e c : Point) (z : ℤ) → dot_of (way_of a e) (way_of a c) ≡ z → pos 0 ≤ℤ z → z ≤ℤ pos (square_of (way_of a e))
     → 0 < square_of (way_of a e)
-    → unsigned_abs (cross_of (way_of a e) (way_of a c)) * unsigned_abs (cross_of (way_of a e) (way_of a c)) ≤ tol * tol * square_of (way_of a e)
+    → unsigned_abs (vector_cross (way_of a e) (way_of a c)) * unsigned_abs (vector_cross (way_of a e) (way_of a c)) ≤ tol * tol * square_of (way_of a e)
     → PassesBy tol a e c
 with_dot tol a e c (pos along) is least most some near = side_touches tol along a e c some is (omega (arith, ints)) near
 with_dot tol a e c (negsuc along) is least most some near = absurd (omega (arith, ints))

@@ -12,10 +12,10 @@ use Rattle.pt_base.specs.declared.piece.Piece.{Piece}
 use Rattle.pt_base.specs.declared.piece.Piece.TheVariants.{Corner}
 use Rattle.pt_base.specs.declared.point.Point.{Point}
 use Rattle.pt_base.specs.declared.settings.Settings.{Settings}
-use Rattle.corner_smooth.specs.Corner.{piece_of, pieces_of, piece_at as smoothed_at}
+use Rattle.corner_smooth.specs.Corner.{piece_of, pieces_of, corner_piece as smoothed_at}
 use Rattle.least_walk.specs.LeastWalk.{IsWalk, Step, steps_from, steps_of}
 use Rattle.curve_join.specs.Bends.{bends_of}
-use Rattle.curve_join.specs.Choice.{IsBestJoin, IsRun, run_piece}
+use Rattle.curve_join.specs.Choice.{IsBestJoin, MayBeOne, run_piece}
 use Rattle.curve_join.specs.Join.{MayJoin, no_bend}
 use Rattle.curve_join.specs.Outline.{Outline, is_curve, outline, piece_at}
 use Rattle.curve_join.specs.declared.bend.Bend.{Bend}
@@ -60,7 +60,7 @@ each_of size is_allowed (i ∷ rest) is all =
 
 -- ---- where no piece is a curve
 
-module _ (tol : ℕ) (o : Outline) (corners : (k : ℕ) → k < length o.pieces → is_curve (piece_at o.pieces k) ≡ false) where
+module _ (tol : ℕ) (o : Outline) (corners : (k : ℕ) → k < length o.pieces → is_curve (corner_piece o.pieces k) ≡ false) where
   not_joined : (i j : ℕ) → i < j → j ≤ length o.pieces → 2 ≤ length (slice_range (bends_of o) i j) → ¬ MayJoin tol (slice_range (bends_of o) i j)
   not_joined i j rises within some may =
       let round = may.round 0 no_bend (omega arith) in
@@ -70,7 +70,7 @@ module _ (tol : ℕ) (o : Outline) (corners : (k : ℕ) → k < length o.pieces 
       let curve = sym (ap (λ (b : Bend). b.curve) here) ∙ round.curve in
       false≢true (sym (corners i (omega arith)) ∙ curve)
 
-  single : (s : Step) → s.from < s.to → IsRun tol (bends_of o) s.from s.to → IsSingle s
+  single : (s : Step) → s.from < s.to → MayBeOne tol (bends_of o) s.from s.to → IsSingle s
   single s rises run = elim run [
     | inl one ↦ one
     | inr joined ↦
@@ -89,7 +89,7 @@ module _ (tol : ℕ) (o : Outline) (corners : (k : ℕ) → k < length o.pieces 
       let is = best.least.is_walk in
       let all : All IsSingle (steps_of best.cut)
       = λ k d h. single (get_or (steps_of best.cut) k d) (is.rises k d h) (is.allowed k d h) in
-      let walk = each_of (length o.pieces) (IsRun tol (bends_of o)) best.cut is all in
+      let walk = each_of (length o.pieces) (MayBeOne tol (bends_of o)) best.cut is all in
       let n : length best.cut - 1 ≡ length o.pieces = omega (arith, walk.count) in
       let f : ℕ → Piece = λ c. run_piece o.pieces (bends_of o) (slice_index best.cut c) (slice_index best.cut (c + 1)) in
       best.joined
@@ -99,7 +99,7 @@ module _ (tol : ℕ) (o : Outline) (corners : (k : ℕ) → k < length o.pieces 
 -- ---- where no sharpness is asked for
 
 corner_at : (alphamax : ℕ) (vertices : List Point) → alphamax ≡ 0 → (k : ℕ) → k < length (pieces_of alphamax vertices)
-    → is_curve (piece_at (pieces_of alphamax vertices) k) ≡ false
+    → is_curve (corner_piece (pieces_of alphamax vertices) k) ≡ false
 corner_at alphamax vertices e k h =
     let before : Point = point_at vertices (k + (length vertices - 1)) in
     let at : Point = point_at vertices k in

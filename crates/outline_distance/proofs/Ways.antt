@@ -7,7 +7,7 @@ use Rattle.pt_base.specs.ClosedWalk.{IsClosedWalk, point_at}
 use Rattle.pt_base.specs.declared.point.Point.{Point}
 use Rattle.pt_base.proofs.Terms.{same_value}
 use Rattle.pt_base.proofs.Terms.Term.{num, plus, less, times, opposite}
-use Rattle.straight_paths.specs.Straight.{IsPossible, IsWithin}
+use Rattle.straight_paths.specs.Straight.{IsPossible, StaysWithin}
 use Rattle.straight_paths.proofs.Signs.{factor_at_least}
 use Rattle.outline_distance.proofs.Levels.{compared}
 use Rattle.outline_distance.proofs.Segments.{triple, half_line}
@@ -15,7 +15,7 @@ use Rattle.outline_distance.proofs.Ends.{IsNearIn, opened, no_farther}
 
 -- ---- in one coordinate
 
-absolute : (z : ℤ) (q : ℕ) → IsWithin q z → unsigned_abs z ≤ q
+absolute : (z : ℤ) (q : ℕ) → StaysWithin q z → unsigned_abs z ≤ q
 absolute z q w = let l = w.low in let h = w.high in omega (arith, ints)
 
 pub weighed : (r p a b c : ℤ) → r *ℤ (c -ℤ a) +ℤ p *ℤ (c -ℤ b) ≡ (r +ℤ p) *ℤ (c -ℤ a) -ℤ p *ℤ (b -ℤ a)
@@ -27,19 +27,19 @@ weighed r p a b c = same_value
 pub together : (r p : ℕ) → pos r +ℤ pos p ≡ pos (r + p)
 together r p = omega (arith, ints)
 
-inner : (r p : ℕ) (a b c : ℤ) → IsWithin (r + p) (pos (r + p) *ℤ (c -ℤ a) -ℤ pos p *ℤ (b -ℤ a))
+inner : (r p : ℕ) (a b c : ℤ) → StaysWithin (r + p) (pos (r + p) *ℤ (c -ℤ a) -ℤ pos p *ℤ (b -ℤ a))
     → unsigned_abs (pos r *ℤ (c -ℤ a) +ℤ pos p *ℤ (c -ℤ b)) ≤ r + p
 inner r p a b c w =
-    let P : ℤ → Type 0 = λ z. IsWithin (r + p) (z *ℤ (c -ℤ a) -ℤ pos p *ℤ (b -ℤ a)) in
+    let P : ℤ → Type 0 = λ z. StaysWithin (r + p) (z *ℤ (c -ℤ a) -ℤ pos p *ℤ (b -ℤ a)) in
     let v = subst P (sym (together r p)) w in
-    absolute _ (r + p) (subst (IsWithin (r + p)) (sym (weighed (pos r) (pos p) a b c)) v)
+    absolute _ (r + p) (subst (StaysWithin (r + p)) (sym (weighed (pos r) (pos p) a b c)) v)
 
-below_end : (q r : ℕ) (n d : ℤ) → pos 0 ≤ℤ n → IsWithin q (pos q *ℤ d -ℤ pos (q + r) *ℤ n)
+below_end : (q r : ℕ) (n d : ℤ) → pos 0 ≤ℤ n → StaysWithin q (pos q *ℤ d -ℤ pos (q + r) *ℤ n)
     → pos 0 ≤ℤ (((d +ℤ pos 1) -ℤ n) *ℤ pos q)
 below_end q r (pos n) d h w = let l = w.low in let o = opened d (pos n) (pos q) in omega (arith, ints, o)
 below_end q r (negsuc n) d h w = absurd (omega (arith, ints))
 
-above_end : (q r : ℕ) (n d : ℤ) → n ≤ℤ pos 0 → IsWithin q (pos q *ℤ d -ℤ pos (q + r) *ℤ n)
+above_end : (q r : ℕ) (n d : ℤ) → n ≤ℤ pos 0 → StaysWithin q (pos q *ℤ d -ℤ pos (q + r) *ℤ n)
     → pos 0 ≤ℤ (((n +ℤ pos 1) -ℤ d) *ℤ pos q)
 above_end q r (pos zero) d h w = let l = w.high in let o = opened (pos 0) d (pos q) in omega (arith, ints, o)
 above_end q r (pos (suc n)) d h w = absurd (omega (arith, ints))
@@ -47,7 +47,7 @@ above_end q r (negsuc n) d h w = let l = w.high in let o = opened (negsuc n) d (
 
 -- where the half-line comes near c beyond its end, the end is near c
 at_end : (q r : ℕ) (a b c : ℤ) → 1 ≤ q → (a ≤ℤ b → c ≤ℤ (b +ℤ pos 1)) → (b ≤ℤ a → b ≤ℤ (c +ℤ pos 1))
-    → IsWithin q (pos q *ℤ (c -ℤ a) -ℤ pos (q + r) *ℤ (b -ℤ a)) → unsigned_abs (pos 0 *ℤ (c -ℤ a) +ℤ pos 1 *ℤ (c -ℤ b)) ≤ 1
+    → StaysWithin q (pos q *ℤ (c -ℤ a) -ℤ pos (q + r) *ℤ (b -ℤ a)) → unsigned_abs (pos 0 *ℤ (c -ℤ a) +ℤ pos 1 *ℤ (c -ℤ b)) ≤ 1
 at_end q r a b c some up down w =
     let positive : pos 0 <ℤ pos q = omega (arith, ints) in
     elim (compared a b) [
@@ -121,7 +121,7 @@ turned p q a b c = same_value
     (opposite (less (times (num q) (less (num b) (num a))) (times (num p) (less (num c) (num a)))))
     (omega arith)
 
-pub opposite_within : (q : ℕ) (z : ℤ) → IsWithin q z → IsWithin q (neg_ℤ z)
+pub opposite_within : (q : ℕ) (z : ℤ) → StaysWithin q z → StaysWithin q (neg_ℤ z)
 opposite_within q z w = let l = w.low in let h = w.high in record { low = omega (arith, ints); high = omega (arith, ints) }
 
 opposite_near : (a b c : ℤ) → IsNearIn (b -ℤ a) (c -ℤ a) → IsNearIn (neg_ℤ b -ℤ neg_ℤ a) (neg_ℤ c -ℤ neg_ℤ a)
@@ -129,7 +129,7 @@ opposite_near a b c near = record {
   p = near.p;
   q = near.q;
   positive = near.positive;
-  within = subst (IsWithin near.q) (sym (turned (pos near.p) (pos near.q) a b c)) (opposite_within near.q _ near.within);
+  within = subst (StaysWithin near.q) (sym (turned (pos near.p) (pos near.q) a b c)) (opposite_within near.q _ near.within);
 }
 
 module _ (f : ℕ → ℤ) (i j k : ℕ) (slow : IsSlow f) (near : (a b c : ℕ) → i ≤ a → a < b → b < c → c ≤ j → IsNearIn (f b -ℤ f a) (f c -ℤ f a))
@@ -152,13 +152,13 @@ module _ (points : List Point) (i j k : ℕ) (closed : IsClosedWalk points) (pos
   near_y a b c u v w x = let near = triple points i j a b c possible u v w x in record { p = near.p; q = near.q; positive = near.positive; within = near.in_y }
 
   by_part : (p q : ℕ) → 1 ≤ q
-      → IsWithin q (pos q *ℤ ((point_at points k).x -ℤ (point_at points i).x) -ℤ pos p *ℤ ((point_at points j).x -ℤ (point_at points i).x))
-      → IsWithin q (pos q *ℤ ((point_at points k).y -ℤ (point_at points i).y) -ℤ pos p *ℤ ((point_at points j).y -ℤ (point_at points i).y))
+      → StaysWithin q (pos q *ℤ ((point_at points k).x -ℤ (point_at points i).x) -ℤ pos p *ℤ ((point_at points j).x -ℤ (point_at points i).x))
+      → StaysWithin q (pos q *ℤ ((point_at points k).y -ℤ (point_at points i).y) -ℤ pos p *ℤ ((point_at points j).y -ℤ (point_at points i).y))
       → IsNearWay (point_at points i) (point_at points j) (point_at points k)
   by_part p q some in_x in_y = elim (cases_lt q p) [
     | inr inside ↦
         let e : q ≡ (q - p) + p = omega arith in
-        let P : ℤ → ℤ → ℕ → Type 0 = λ d e n. IsWithin n (pos n *ℤ d -ℤ pos p *ℤ e) in
+        let P : ℤ → ℤ → ℕ → Type 0 = λ d e n. StaysWithin n (pos n *ℤ d -ℤ pos p *ℤ e) in
         record {
           r = q - p;
           p = p;
@@ -170,7 +170,7 @@ module _ (points : List Point) (i j k : ℕ) (closed : IsClosedWalk points) (pos
         }
     | inl beyond ↦
         let e : p ≡ q + (p - q) = omega arith in
-        let P : ℤ → ℤ → ℕ → Type 0 = λ d e n. IsWithin q (pos q *ℤ d -ℤ pos n *ℤ e) in
+        let P : ℤ → ℤ → ℕ → Type 0 = λ d e n. StaysWithin q (pos q *ℤ d -ℤ pos n *ℤ e) in
         record {
           r = 0;
           p = 1;

@@ -5,7 +5,7 @@ ghost use Rattle.pt_base.specs.declared.point.Point.{Point};
 ghost use Rattle.pt_base.specs.declared.piece.Piece.TheVariants.{Corner, Curve};
 ghost use Rattle.pt_base.specs.declared.piece.Piece.{Piece};
 ghost use Rattle.pt_base.specs.declared.settings.Settings.{Settings};
-ghost use Rattle.straight_paths.specs.Straight.{IsPossible, IsNear, offset_of};
+ghost use Rattle.straight_paths.specs.Straight.{IsPossible, IsNear, vector_of};
 ghost use Rattle.corner_smooth.specs.Corner.{control_of, middle_of, piece_of, pieces_of};
 ghost use Rattle.vertex_adjust.specs.Vertex.{AreVertices, segment_end_of};
 ghost use Rattle.curve_join.specs.Bends.{bends_of};
@@ -28,7 +28,7 @@ pub fn vertices_are_close()
 /// A segment's half-line passes each point between its ends within a pixel.
 pub fn points_are_near_segments()
     ensures { (points : List Point) (i j k : ℕ) → IsPossible points i j → i ≤ k → k ≤ j
-        → IsNear (offset_of (point_at points i) (point_at points k)) (offset_of (point_at points i) (point_at points j)) }
+        → IsNear (vector_of (point_at points i) (point_at points k)) (vector_of (point_at points i) (point_at points j)) }
 {}
 
 /// The straight way between a segment's ends passes each point of the path between them within a pixel.

@@ -1,11 +1,9 @@
 //! outline_check: says whether certificates are right. All that it does is one call, `check_run` of `check_run`.
 #![tactic(auto)]
 
-use check_run::program::check_run;
-use pt_base::err_sink::ErrSink;
-use pt_base::file_inputs::FileInputs;
-use pt_base::file_outputs::FileOutputs;
-use small_program::words::words_of;
+use check_run::check_run;
+use pt_base::{ErrSink, FileInputs, FileOutputs};
+use small_program::words_of;
 use std::process::ExitCode;
 
 fn main(rt: HostRuntime) -> ExitCode {

@@ -11,8 +11,8 @@ ghost use Rattle.page_batches.specs.Items.{Item, end_items, page_items, with_ite
 ghost use Rattle.page_batches.specs.Outcome.{AreFronts, AreSaid};
 ghost use Rattle.run_output.specs.Told.{Told};
 
-use page_workers::job::PageJob;
-use run_output::part::Binding;
+use page_workers::PageJob;
+use run_output::Binding;
 
 /// Where the pages of a file are one document, its first pages leave that open behind them.
 pub fn first_pages_stay_open()

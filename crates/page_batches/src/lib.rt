@@ -10,3 +10,7 @@ pub mod batch;
 pub mod desk;
 pub mod laws;
 pub mod plan;
+
+pub use batch::Batch;
+pub use desk::Desk;
+pub use plan::Plan;

@@ -1,9 +1,9 @@
 //! What stays the same through a run.
 ghost use Rattle.std.specs.Prelude.{◌≤◌};
 
-use page_workers::job::PageJob;
-use pt_base::gate::Gate;
-use run_output::part::Binding;
+use page_workers::PageJob;
+use pt_base::Gate;
+use run_output::Binding;
 use std::alloc::Global;
 use std::thread::Threads;
 

@@ -8,7 +8,7 @@ use Rattle.page_demo.specs.declared.bar.Bar.{Bar}
 use Rattle.page_demo.specs.declared.page.TheConstants.{BARS, HEIGHT, RECTANGLES, WIDTH}
 use Rattle.page_demo.specs.declared.rectangle.Rectangle.{Rectangle}
 use Rattle.page_demo.specs.Generator.{next_state, state_after}
-use Rattle.page_demo.specs.Picture.{bar_at, is_in_bar, is_in_rectangle, pages_from, picture, picture_page, rectangle_at, with_bars, with_rectangles}
+use Rattle.page_demo.specs.Picture.{bar_at, demo_image, is_in_bar, is_in_rectangle, pages_from, picture_page, rectangle_at, with_bars, with_rectangles}
 
 -- a draw more
 pub one_draw : (n s t w : ℕ) → t ≡ state_after n s → w ≡ next_state t → w ≡ state_after (suc n) s
@@ -65,17 +65,17 @@ is_picture s t first middle page is_page wide high is_white at rectangles bars =
     let clear : image_of first ≡ white = fun_ext (λ x. fun_ext (λ y. is_white x y)) in
     let half : image_of middle ≡ with_rectangles RECTANGLES s (image_of first) = fun_ext (λ x. fun_ext (λ y. rectangles x y)) in
     let whole : image_of page ≡ with_bars BARS t (image_of middle) = fun_ext (λ x. fun_ext (λ y. bars x y)) in
-    let shown : image_of page ≡ picture s =
+    let shown : image_of page ≡ demo_image s =
     whole ∙ ap (with_bars BARS t) (half ∙ ap (with_rectangles RECTANGLES s) clear)
     ∙ ap (λ (k : ℕ). with_bars BARS k (with_rectangles RECTANGLES s white)) at in
     sym (page_of-image_of page is_page)
     ∙ ap (page_of page.width page.height) shown
-    ∙ ap (λ (w : ℕ). page_of w page.height (picture s)) wide
-    ∙ ap (λ (h : ℕ). page_of WIDTH h (picture s)) high
+    ∙ ap (λ (w : ℕ). page_of w page.height (demo_image s)) wide
+    ∙ ap (λ (h : ℕ). page_of WIDTH h (demo_image s)) high
 
 -- the pages of the demo are pages
 pub is_page : (s : ℕ) → IsPage (picture_page s)
-is_page s = IsPage-page_of WIDTH HEIGHT (picture s) (omega arith) (omega arith) (omega arith) (omega arith)
+is_page s = IsPage-page_of WIDTH HEIGHT (demo_image s) (omega arith) (omega arith) (omega arith) (omega arith)
 
 -- a page more
 pub one_page : (whole made : List Page) (n left s t : ℕ) (page : Page) → n ≡ suc left → page ≡ picture_page s

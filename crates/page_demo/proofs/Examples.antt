@@ -4,7 +4,7 @@ use Rattle.bit_image.specs.Image.{white}
 use Rattle.page_demo.specs.declared.bar.Bar.{Bar}
 use Rattle.page_demo.specs.declared.rectangle.Rectangle.{Rectangle}
 use Rattle.page_demo.specs.Generator.{next_state, number_at, state_after}
-use Rattle.page_demo.specs.Picture.{bar_at, inverted, is_in_bar, is_in_rectangle, rectangle_at}
+use Rattle.page_demo.specs.Picture.{bar_at, inverted_area, is_in_bar, is_in_rectangle, rectangle_at}
 
 -- the first numbers of three pages, worked out apart from this
 first_number : number_at 3 ≡ 15547
@@ -42,7 +42,7 @@ above_it : is_in_rectangle block 5 10 ≡ false
 above_it = refl
 
 -- two inversions of a pixel leave it white
-twice : inverted (inverted white (is_in_rectangle block)) (is_in_rectangle block) 6 8 ≡ false
+twice : inverted_area (inverted_area white (is_in_rectangle block)) (is_in_rectangle block) 6 8 ≡ false
 twice = refl
 
 -- a bar from pixel (10, 20) on, which rises by a row every two columns

@@ -7,17 +7,17 @@ use Rattle.page_trace.specs.Document.{CanWrite}
 use Rattle.page_trace.proofs.Exists.{document_found, trace_found}
 use Rattle.page_demo.specs.declared.page.TheConstants.{BARS, RECTANGLES}
 use Rattle.page_demo.specs.Generator.{state_after}
-use Rattle.page_demo.specs.Line.{IsDemoText, IsLine, line_text}
+use Rattle.page_demo.specs.Line.{IsDemoLine, IsDemoText, demo_line}
 use Rattle.page_demo.specs.Picture.{pages_from, picture_page}
 use Rattle.page_demo.proofs.Drawing.{is_page}
 
-line_found : (settings : Settings) (page : Page) → IsPage page → CanWrite settings → (line : List ℕ) × IsLine settings page line
+line_found : (settings : Settings) (page : Page) → IsPage page → CanWrite settings → (line : List ℕ) × IsDemoLine settings page line
 line_found settings page is can =
     let (trace, traced) = trace_found page settings is in
     let (document, written) = document_found settings.backend page settings is can in
-    (line_text trace (length document), record { trace = trace; traced = traced; document = document; written = written; counts = refl })
+    (demo_line trace (length document), record { trace = trace; traced = traced; document = document; written = written; counts = refl })
 
-lines_found : (settings : Settings) → CanWrite settings → (n s : ℕ) → (lines : List (List ℕ)) × AllZip (IsLine settings) (pages_from n s) lines
+lines_found : (settings : Settings) → CanWrite settings → (n s : ℕ) → (lines : List (List ℕ)) × AllZip (IsDemoLine settings) (pages_from n s) lines
 unfolding pages_from
 lines_found settings can zero s = ([], tt)
 lines_found settings can (suc n) s =

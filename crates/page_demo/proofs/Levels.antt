@@ -11,7 +11,7 @@ use Rattle.pt_base.specs.declared.settings.Settings.{Settings}
 use Rattle.pt_base.specs.declared.trace.Trace.{Trace}
 use Rattle.page_trace.specs.Document.{IsDocumentUnder}
 use Rattle.page_trace.specs.Trace.{ArePaths, HasPolygons, IsOutlineOf, IsOutlineWith, IsTrace}
-use Rattle.page_demo.specs.Line.{IsDemoText, IsLine}
+use Rattle.page_demo.specs.Line.{IsDemoLine, IsDemoText}
 use Rattle.page_demo.specs.Picture.{pages_from}
 
 -- the settings with another level
@@ -71,7 +71,7 @@ document_so Dxf settings level invert page text is = (is.0, trace_so settings le
 document_so GeoJson settings level invert page text is = (is.0, trace_so settings level invert page is.0 is.1, is.2)
 
 line_so : (settings : Settings) (level : ℕ) (invert : Bool) (page : Page) (line : List ℕ)
-    → IsLine settings page line → IsLine (leveled settings level invert) page line
+    → IsDemoLine settings page line → IsDemoLine (leveled settings level invert) page line
 line_so settings level invert page line is = record {
   trace = is.trace;
   traced = trace_so settings level invert page is.trace is.traced;
@@ -84,6 +84,6 @@ pub demo_so : (pages level : ℕ) (invert : Bool) (settings : Settings) (text : 
     → IsDemoText pages settings text → IsDemoText pages (record settings { level = level; invert = invert }) text
 demo_so pages level invert settings text is = record {
   lines = is.lines;
-  each = each_so (IsLine settings) (IsLine (leveled settings level invert)) (line_so settings level invert) (pages_from pages pages) is.lines is.each;
+  each = each_so (IsDemoLine settings) (IsDemoLine (leveled settings level invert)) (line_so settings level invert) (pages_from pages pages) is.lines is.each;
   joined = is.joined;
 }

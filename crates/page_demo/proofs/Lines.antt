@@ -5,7 +5,7 @@ use Rattle.std.specs.List.{AllZip, concat}
 use Rattle.std.proofs.lemmas.List.Concat.{flat_map-cons}
 use Rattle.bit_image.specs.Page.{Page}
 use Rattle.pt_base.specs.declared.settings.Settings.{Settings}
-use Rattle.page_demo.specs.Line.{IsDemoText, IsLine}
+use Rattle.page_demo.specs.Line.{IsDemoLine, IsDemoText}
 use Rattle.page_demo.specs.Picture.{pages_from}
 
 -- the lines of some pages, with those of further pages behind
@@ -14,8 +14,8 @@ items_before [] lines = lines
 items_before (line ∷ batch) lines = line.items ∷ items_before batch lines
 
 pub lines_before : (settings : Settings) (pages more : List Page) (batch : List (Vec ℕ)) (lines : List (List ℕ))
-    → AllZip (λ page line. IsLine settings page line.items) pages batch → AllZip (IsLine settings) more lines
-    → AllZip (IsLine settings) (pages ++ more) (items_before batch lines)
+    → AllZip (λ page line. IsDemoLine settings page line.items) pages batch → AllZip (IsDemoLine settings) more lines
+    → AllZip (IsDemoLine settings) (pages ++ more) (items_before batch lines)
 lines_before settings [] more [] lines p q = q
 lines_before settings (page ∷ pages) more (line ∷ batch) lines p q = (p.0, lines_before settings pages more batch lines p.1 q)
 lines_before settings [] more (line ∷ batch) lines p q = absurd p
@@ -33,10 +33,10 @@ text_before (line ∷ batch) lines =
 pub one_batch : (settings : Settings) (n left count s t : ℕ) (pages batch : List Page) (lent lines : List (Vec ℕ)) (text longer : List ℕ)
     → count ≤ left → pages ≡ batch → lent ≡ lines
     → ((more : ℕ) → pages_from (count + more) s ≡ batch ++ pages_from more t)
-    → AllZip (λ page line. IsLine settings page line.items) pages lines
+    → AllZip (λ page line. IsDemoLine settings page line.items) pages lines
     → longer ≡ text ++ flat_map (λ line. line.items) lent
-    → ((rest : List (List ℕ)) → AllZip (IsLine settings) (pages_from left s) rest → IsDemoText n settings (text ++ concat rest))
-    → (rest : List (List ℕ)) → AllZip (IsLine settings) (pages_from (left - count) t) rest → IsDemoText n settings (longer ++ concat rest)
+    → ((rest : List (List ℕ)) → AllZip (IsDemoLine settings) (pages_from left s) rest → IsDemoText n settings (text ++ concat rest))
+    → (rest : List (List ℕ)) → AllZip (IsDemoLine settings) (pages_from (left - count) t) rest → IsDemoText n settings (longer ++ concat rest)
 one_batch settings n left count s t pages batch lent lines text longer few same same_lines made each is so_far rest are =
     let split : count + (left - count) ≡ left = omega (arith, few) in
     let ahead : pages ++ pages_from (left - count) t ≡ pages_from left s =
@@ -48,16 +48,16 @@ one_batch settings n left count s t pages batch lent lines text longer few same 
     ∙ ap (λ (more : List ℕ). more ++ concat rest) (sym is) in
     let both = lines_before settings pages (pages_from (left - count) t) lines rest each are in
     subst (λ (whole : List ℕ). IsDemoText n settings whole) joined
-    (so_far (items_before lines rest) (subst (λ (all : List Page). AllZip (IsLine settings) all (items_before lines rest)) ahead both))
+    (so_far (items_before lines rest) (subst (λ (all : List Page). AllZip (IsDemoLine settings) all (items_before lines rest)) ahead both))
 
 -- no page is left
 pub no_batch : (settings : Settings) (n left s : ℕ) (text : List ℕ) → left ≤ 0
-    → ((rest : List (List ℕ)) → AllZip (IsLine settings) (pages_from left s) rest → IsDemoText n settings (text ++ concat rest))
+    → ((rest : List (List ℕ)) → AllZip (IsDemoLine settings) (pages_from left s) rest → IsDemoText n settings (text ++ concat rest))
     → IsDemoText n settings text
 unfolding pages_from
 no_batch settings n zero s text none so_far = subst (λ (whole : List ℕ). IsDemoText n settings whole) (append-nil text) (so_far [] tt)
 no_batch settings n (suc left) s text none so_far = absurd (omega (arith, none))
 
 -- no page is traced
-pub none_traced : (settings : Settings) (n : ℕ) (rest : List (List ℕ)) → AllZip (IsLine settings) (pages_from n n) rest → IsDemoText n settings ([] ++ concat rest)
+pub none_traced : (settings : Settings) (n : ℕ) (rest : List (List ℕ)) → AllZip (IsDemoLine settings) (pages_from n n) rest → IsDemoText n settings ([] ++ concat rest)
 none_traced settings n rest are = record { lines = rest; each = are; joined = refl }

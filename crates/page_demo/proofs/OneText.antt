@@ -5,18 +5,18 @@ use Rattle.pt_base.specs.declared.settings.Settings.{Settings}
 use Rattle.pt_base.specs.declared.trace.Trace.{Trace}
 use Rattle.bit_image.specs.Page.{Page}
 use Rattle.page_trace.proofs.OneTrace.{one_document, one_trace}
-use Rattle.page_demo.specs.Line.{IsDemoText, IsLine, line_text}
+use Rattle.page_demo.specs.Line.{IsDemoLine, IsDemoText, demo_line}
 use Rattle.page_demo.specs.Picture.{pages_from}
 
-pub one_line : (settings : Settings) (page : Page) (a b : List ℕ) → IsLine settings page a → IsLine settings page b → a ≡ b
+pub one_line : (settings : Settings) (page : Page) (a b : List ℕ) → IsDemoLine settings page a → IsDemoLine settings page b → a ≡ b
 one_line settings page a b p q =
     p.counts
-    ∙ ap (λ (t : Trace). line_text t (length p.document)) (one_trace page settings p.trace q.trace p.traced q.traced)
-    ∙ ap (λ (text : List ℕ). line_text q.trace (length text)) (one_document settings.backend page settings p.document q.document p.written q.written)
+    ∙ ap (λ (t : Trace). demo_line t (length p.document)) (one_trace page settings p.trace q.trace p.traced q.traced)
+    ∙ ap (λ (text : List ℕ). demo_line q.trace (length text)) (one_document settings.backend page settings p.document q.document p.written q.written)
     ∙ sym q.counts
 
 one_list : (settings : Settings) (pages : List Page) (these those : List (List ℕ))
-    → AllZip (IsLine settings) pages these → AllZip (IsLine settings) pages those → these ≡ those
+    → AllZip (IsDemoLine settings) pages these → AllZip (IsDemoLine settings) pages those → these ≡ those
 one_list settings [] [] [] p q = refl
 one_list settings (page ∷ pages) (a ∷ these) (b ∷ those) p q =
     ap (λ (line : List ℕ). line ∷ these) (one_line settings page a b p.0 q.0)

@@ -6,18 +6,18 @@ pub mod Generator
 -- The pages of the demo.
 --   is_in_rectangle: pixel (u, v) lies in the rectangle
 --   is_in_bar: pixel (u, v) lies in the bar
---   inverted: the image with the pixels of an area inverted
+--   inverted_area: the image with the pixels of an area inverted
 --   rectangle_at: the rectangle of the four numbers that are drawn from a state on
 --   bar_at: the bar of the three numbers that are drawn from a state on
 --   with_rectangles: an image with the pixels of the first rectangles inverted, of one after another
 --   with_bars: an image with the pixels of the first bars inverted, of one after another
---   picture: the image of a page
+--   demo_image: the image of a page
 --   picture_page: the page that is made from a state on
 --   pages_from: so many pages, each made from where the one before ended, 172 draws on
 pub mod Picture
 -- The text of the demo.
---   line_text: the line of a trace whose document has so many bytes
---   IsLine: the line is that of a page's trace and document
+--   demo_line: the line of a trace whose document has so many bytes
+--   IsDemoLine: the line is that of a page's trace and document
 --   IsDemoText: the text is the lines of so many pages, in order
 --   CanCount: what a line needs of the settings
 pub mod Line

@@ -20,8 +20,8 @@ is_in_bar bar u v =
     within bar.left (bar.left + BAR_LENGTH) u && within low (low + BAR_HEIGHT) v
 
 -- the image with the pixels of an area inverted
-abbrev pub inverted : Image → (ℕ → ℕ → Bool) → Image
-inverted b area u v = differ (b u v) (area u v)
+abbrev pub inverted_area : Image → (ℕ → ℕ → Bool) → Image
+inverted_area b area u v = differ (b u v) (area u v)
 
 -- the rectangle of the four numbers that are drawn from a state on
 abbrev pub rectangle_at : ℕ → Rectangle
@@ -43,20 +43,20 @@ bar_at state = record {
 -- an image with the pixels of the first rectangles inverted, of one after another
 unfoldable pub with_rectangles : ℕ → ℕ → Image → Image
 with_rectangles zero state b = b
-with_rectangles (suc n) state b = inverted (with_rectangles n state b) (is_in_rectangle (rectangle_at (state_after (4 * n) state)))
+with_rectangles (suc n) state b = inverted_area (with_rectangles n state b) (is_in_rectangle (rectangle_at (state_after (4 * n) state)))
 
 -- an image with the pixels of the first bars inverted, of one after another
 unfoldable pub with_bars : ℕ → ℕ → Image → Image
 with_bars zero state b = b
-with_bars (suc n) state b = inverted (with_bars n state b) (is_in_bar (bar_at (state_after (3 * n) state)))
+with_bars (suc n) state b = inverted_area (with_bars n state b) (is_in_bar (bar_at (state_after (3 * n) state)))
 
 -- the image of a page: first the rectangles, and then the bars
-abbrev pub picture : ℕ → Image
-picture state = with_bars BARS (state_after (4 * RECTANGLES) state) (with_rectangles RECTANGLES state white)
+abbrev pub demo_image : ℕ → Image
+demo_image state = with_bars BARS (state_after (4 * RECTANGLES) state) (with_rectangles RECTANGLES state white)
 
 -- the page that is made from a state on
 abbrev pub picture_page : ℕ → Page
-picture_page state = page_of WIDTH HEIGHT (picture state)
+picture_page state = page_of WIDTH HEIGHT (demo_image state)
 
 -- so many pages, each made from where the one before ended, 172 draws on
 unfoldable pub pages_from : ℕ → ℕ → List Page

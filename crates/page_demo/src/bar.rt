@@ -2,12 +2,12 @@
 ghost use Rattle.std.specs.Prelude.{◌≡◌, ℕ, ◌+◌, ◌≤◌};
 ghost use Rattle.bit_image.specs.Page.{SameSides, image_of};
 ghost use Rattle.page_demo.specs.Generator.{state_after};
-ghost use Rattle.page_demo.specs.Picture.{bar_at, inverted, is_in_bar};
+ghost use Rattle.page_demo.specs.Picture.{bar_at, inverted_area, is_in_bar};
 
+use bit_image::Bitmap;
 use crate::generator::Generator;
 use crate::page::{HEIGHT, WIDTH};
 use crate::rectangle::Rectangle;
-use bit_image::bitmap::Bitmap;
 
 /// The columns of a bar.
 pub const BAR_LENGTH: u32 = 64;
@@ -47,7 +47,7 @@ impl Bar {
         requires rows { self.now.bottom + BAR_LENGTH + BAR_HEIGHT ≤ page.old.height }
         ensures sides { SameSides page.old page.new }
         ensures pixels { (u v : ℕ) → image_of page.new u v
-            ≡ inverted (image_of page.old) (is_in_bar self.now) u v }
+            ≡ inverted_area (image_of page.old) (is_in_bar self.now) u v }
     {
         // The proof reads here how long the page's sides are at most.
         let _ = page.width();

@@ -6,10 +6,8 @@ ghost use Rattle.page_demo.specs.Line.{IsDemoText};
 use crate::generator::Generator;
 use crate::line::LineJob;
 use crate::page::next_pages;
-use page_workers::trace::trace_all;
-use pt_base::fault::NoMemory;
-use pt_base::gate::Gate;
-use pt_base::settings::Settings;
+use page_workers::trace_all;
+use pt_base::{Gate, NoMemory, Settings};
 use std::alloc::Global;
 use std::thread::Threads;
 

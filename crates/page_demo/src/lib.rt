@@ -19,3 +19,5 @@ pub mod laws;
 mod line;
 mod page;
 mod rectangle;
+
+pub use demo::demo_text;

@@ -1,18 +1,12 @@
 //! The line of a page.
 ghost use Rattle.std.specs.Prelude.{◌≡◌, length, sum_by, IfOk};
-ghost use Rattle.page_demo.specs.Line.{line_text};
+ghost use Rattle.page_demo.specs.Line.{demo_line};
 
-use bit_image::bitmap::Bitmap;
+use bit_image::Bitmap;
 use page_trace::document::document;
-use page_trace::tracing::trace;
-use page_workers::job::PageJob;
-use pt_base::digits::put_number;
-use pt_base::fault::NoMemory;
-use pt_base::piece::Piece;
-use pt_base::polygon::Polygon;
-use pt_base::sequence::Sequence;
-use pt_base::settings::Settings;
-use pt_base::trace::Trace;
+use page_trace::trace;
+use page_workers::PageJob;
+use pt_base::{NoMemory, Piece, Polygon, Sequence, Settings, Trace, put_number};
 use std::alloc::Global;
 use std::marker::Model;
 
@@ -38,9 +32,9 @@ impl Model for LineJob {
 impl PageJob for LineJob {
     ghost use Rattle.std.proofs.Common.{ap, sym, ◌∙◌};
     ghost use Rattle.page_trace.proofs.OneTrace.{one_document, one_trace};
-    ghost use Rattle.page_demo.specs.Line.{IsLine};
+    ghost use Rattle.page_demo.specs.Line.{IsDemoLine};
 
-    ghost belongs = { λ job page line. IsLine job page line };
+    ghost belongs = { λ job page line. IsDemoLine job page line };
 
     fn page(&self, alloc: Global, page: &Bitmap) -> Result<Vec<u8>, NoMemory> {
         let trace = trace(alloc, page, &self.settings)?;
@@ -49,16 +43,16 @@ impl PageJob for LineJob {
     }
 
     ghost one_text = { λ job page a b p q. p.counts
-        ∙ ap (λ t. line_text t (length p.document))
+        ∙ ap (λ t. demo_line t (length p.document))
         (one_trace page job p.trace q.trace p.traced q.traced)
-        ∙ ap (λ text. line_text q.trace (length text))
+        ∙ ap (λ text. demo_line q.trace (length text))
         (one_document job.backend page job p.document q.document p.written q.written)
         ∙ sym q.counts };
 }
 
 /// The line of a trace whose document has so many bytes.
 fn line(alloc: Global, trace: &Trace, bytes: usize) -> Result<Vec<u8>, NoMemory>
-    ensures { IfOk result (λ line. line.items ≡ line_text trace.now bytes) }
+    ensures { IfOk result (λ line. line.items ≡ demo_line trace.now bytes) }
 {
     let mut out = Vec::new(alloc);
     out.extend_from_slice(b"paths ")?;

@@ -2,11 +2,11 @@
 ghost use Rattle.std.specs.Prelude.{◌≡◌, ℕ, ◌+◌, ◌≤◌};
 ghost use Rattle.bit_image.specs.Page.{SameSides, image_of};
 ghost use Rattle.page_demo.specs.Generator.{state_after};
-ghost use Rattle.page_demo.specs.Picture.{inverted, is_in_rectangle, rectangle_at};
+ghost use Rattle.page_demo.specs.Picture.{inverted_area, is_in_rectangle, rectangle_at};
 
+use bit_image::Bitmap;
 use crate::generator::Generator;
 use crate::page::{HEIGHT, WIDTH};
-use bit_image::bitmap::Bitmap;
 
 /// The pixels in so many columns from `left` on, and in so many rows from `bottom` up.
 #[derive(Clone, Copy)]
@@ -44,7 +44,7 @@ impl Rectangle {
         requires rows { self.now.bottom + self.now.height ≤ page.old.height }
         ensures sides { SameSides page.old page.new }
         ensures pixels { (u v : ℕ) → image_of page.new u v
-            ≡ inverted (image_of page.old) (is_in_rectangle self.now) u v }
+            ≡ inverted_area (image_of page.old) (is_in_rectangle self.now) u v }
     {
         // The proof reads here how long the page's sides are at most.
         let _ = (page.width(), page.height());

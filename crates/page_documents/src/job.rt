@@ -3,12 +3,11 @@ ghost use Rattle.std.specs.Prelude.{◌≡◌, ℕ, List};
 ghost use Rattle.bit_image.specs.Page.{IsPage, Page};
 ghost use Rattle.page_trace.specs.Document.{CanWrite, IsDocument};
 
-use bit_image::bitmap::Bitmap;
+use bit_image::Bitmap;
 use page_trace::document::document;
-use page_trace::laws::pages_have_documents;
-use page_workers::job::PageJob;
-use pt_base::fault::NoMemory;
-use pt_base::settings::Settings;
+use page_trace::pages_have_documents;
+use page_workers::PageJob;
+use pt_base::{NoMemory, Settings};
 use std::alloc::Global;
 use std::marker::Model;
 

@@ -4,3 +4,5 @@
 #![tactic(auto)]
 
 pub mod job;
+
+pub use job::DocumentJob;

@@ -8,3 +8,11 @@ pub mod plain_cones;
 pub mod plain_page;
 pub mod shapes;
 pub mod walks;
+
+pub use gates::HoldsFirst;
+pub use pages::{checkered, drawn, noise, numbered};
+pub use plain::is_possible;
+pub use plain_cones::{next_corner, reaches};
+pub use plain_page::PlainPage;
+pub use shapes::{Shape, shaped};
+pub use walks::{draw, hooked_stairs, round, triangle};

@@ -2,9 +2,8 @@
 ghost use Rattle.std.specs.Prelude.{◌≡◌};
 ghost use Rattle.page_samples.specs.declared.pages.NoPage.{NoPage};
 
-use bit_image::bitmap::Bitmap;
-use pt_base::fault::NoMemory;
-use pt_base::limits::LONGEST_SIDE;
+use bit_image::Bitmap;
+use pt_base::{LONGEST_SIDE, NoMemory};
 use std::alloc::Global;
 
 /// Why there is no such page.

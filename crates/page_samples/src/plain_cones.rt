@@ -1,7 +1,5 @@
 //! How far possible segments reach, by cones that walk along every point of the path.
-use pt_base::fault::NoMemory;
-use pt_base::limits::MOST_STEPS;
-use pt_base::point::Point;
+use pt_base::{MOST_STEPS, NoMemory, Point};
 use std::alloc::Global;
 
 /// How far one point is from another.

@@ -1,7 +1,7 @@
 //! Pages of one entry a pixel.
 
-use bit_image::bitmap::Bitmap;
-use pt_base::fault::NoMemory;
+use bit_image::Bitmap;
+use pt_base::NoMemory;
 use std::alloc::Global;
 
 /// A page that keeps one entry for each pixel, row after row from the lowest up; `true` is black.

@@ -1,7 +1,6 @@
 //! Closed walks along pixel edges.
 
-use pt_base::fault::NoMemory;
-use pt_base::point::Point;
+use pt_base::{NoMemory, Point};
 use std::alloc::Global;
 
 /// The path round a black rectangle at the lower left corner of a page.

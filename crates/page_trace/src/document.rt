@@ -6,18 +6,15 @@ ghost use Rattle.page_trace.specs.Document.{CanWrite, IsDocument, backend_word};
 ghost use Rattle.pt_base.specs.declared.settings.Backend.{Backend};
 ghost use Rattle.pt_base.specs.declared.settings.Backend.TheVariants.{Proofs};
 
+use bit_image::Bitmap;
 use crate::paths::kept_paths;
 use crate::tracing::{polygons_alone, trace};
-use bit_image::bitmap::Bitmap;
-use dxf_geojson::drawing::dxf;
-use dxf_geojson::features::geojson;
-use eps_backend::eps_text::{eps, ps_body};
-use outline_check::text::proofs;
-use pt_base::fault::NoMemory;
-use pt_base::list_text::{points, polygons};
-use pt_base::settings::{Backend, Settings};
+use dxf_geojson::{dxf, geojson};
+use eps_backend::{eps, ps_body};
+use outline_check::proofs;
+use pt_base::{Backend, NoMemory, Settings, points, polygons};
 use std::alloc::Global;
-use svg_backend::svg_text::svg;
+use svg_backend::svg;
 
 /// The backend of this word.
 pub fn backend_of(word: &str) -> Option<Backend>

@@ -7,15 +7,10 @@ ghost use Rattle.corner_smooth.specs.Corner.{IsNearWidePage};
 ghost use Rattle.page_trace.specs.Trace.{AreVerticesOf, IsPolygonOf};
 
 use crate::polygons::polygon_of;
-use prefix_moments::moments::Moments;
-use pt_base::fault::NoMemory;
-use pt_base::path::Path;
-use pt_base::point::Point;
-use pt_base::polygon::Polygon;
-use pt_base::sequence::Sequence;
-use pt_base::settings::Settings;
+use prefix_moments::Moments;
+use pt_base::{NoMemory, Path, Point, Polygon, Sequence, Settings};
 use std::alloc::Global;
-use vertex_adjust::vertices::adjust_by;
+use vertex_adjust::adjust_by;
 
 /// The polygon of each path, and its adjusted vertices.
 #[derive(Drop)]

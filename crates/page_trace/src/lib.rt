@@ -6,8 +6,8 @@
 //!
 //! ```rust
 //! use page_trace::document::document;
-//! use pt_base::policy::Policy;
-//! use pt_base::settings::{Backend, Settings};
+//! use pt_base::Policy;
+//! use pt_base::{Backend, Settings};
 //!
 //! // A page as SVG, under the settings that the program has by itself.
 //! let settings = Settings {
@@ -34,3 +34,7 @@ mod outlines;
 mod paths;
 mod polygons;
 pub mod tracing;
+
+pub use document::backend_of;
+pub use laws::pages_have_documents;
+pub use tracing::trace;

@@ -5,13 +5,9 @@ ghost use Rattle.corner_smooth.specs.Corner.{IsNearWidePage};
 ghost use Rattle.page_trace.specs.Trace.{IsOutlineOf, tolerance_of};
 ghost use Rattle.page_trace.specs.Document.{CanTrace};
 
-use corner_smooth::outline::smooth;
-use curve_join::joins::join;
-use pt_base::fault::NoMemory;
-use pt_base::piece::Piece;
-use pt_base::point::Point;
-use pt_base::sequence::Sequence;
-use pt_base::settings::Settings;
+use corner_smooth::smooth;
+use curve_join::join;
+use pt_base::{NoMemory, Piece, Point, Sequence, Settings};
 use std::alloc::Global;
 
 /// The outline round each list of vertices.

@@ -7,11 +7,9 @@ ghost use Rattle.pt_base.specs.OnPage.{AreOnPage};
 ghost use Rattle.outline_check.specs.Texts.{IsInPage};
 ghost use Rattle.page_trace.specs.Trace.{ArePaths};
 
-use bit_image::bitmap::Bitmap;
-use path_decompose::decomposition::decompose_above;
-use pt_base::fault::NoMemory;
-use pt_base::path::Path;
-use pt_base::settings::Settings;
+use bit_image::Bitmap;
+use path_decompose::decompose_above;
+use pt_base::{NoMemory, Path, Settings};
 use std::alloc::Global;
 
 /// The paths of a page, in the order in which they are found, but for the speckles.

@@ -5,13 +5,10 @@ ghost use Rattle.pt_base.specs.ClosedWalk.{IsClosedWalk};
 ghost use Rattle.pt_base.specs.OnPage.{AreOnPage};
 ghost use Rattle.page_trace.specs.Trace.{IsPolygonOf};
 
-use cyclic_optimal::cyclic::cyclic_polygon_by;
-use polygon_optimal::optimal::polygon_by;
-use prefix_moments::moments::Moments;
-use pt_base::fault::NoMemory;
-use pt_base::path::Path;
-use pt_base::polygon::Polygon;
-use pt_base::settings::Settings;
+use cyclic_optimal::cyclic_polygon_by;
+use polygon_optimal::polygon_by;
+use prefix_moments::Moments;
+use pt_base::{NoMemory, Path, Polygon, Settings};
 use std::alloc::Global;
 
 /// The polygon of each path.

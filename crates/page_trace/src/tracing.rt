@@ -7,16 +7,13 @@ ghost use Rattle.pt_base.specs.OnPage.{AreOnPage};
 ghost use Rattle.page_trace.specs.Document.{CanTrace};
 ghost use Rattle.page_trace.specs.Trace.{HasPolygons, IsTrace};
 
+use bit_image::Bitmap;
 use crate::fitting::{Fitted, fit_all};
 use crate::outlines::all_outlines;
 use crate::paths::kept_paths;
 use crate::polygons::best_polygons;
-use bit_image::bitmap::Bitmap;
-use path_tree::tree::group;
-use pt_base::fault::NoMemory;
-use pt_base::sequence::Sequence;
-use pt_base::settings::Settings;
-use pt_base::trace::Trace;
+use path_tree::group;
+use pt_base::{NoMemory, Sequence, Settings, Trace};
 use std::alloc::Global;
 
 /// The paths of a page that are no speckles, the polygon of each, its adjusted vertices, the

@@ -21,3 +21,9 @@ pub mod seat;
 mod share;
 pub mod trace;
 pub mod worker;
+
+pub use claims::Claims;
+pub use job::{Done, PageJob};
+pub use seat::ClaimSeat;
+pub use trace::trace_all;
+pub use worker::work;

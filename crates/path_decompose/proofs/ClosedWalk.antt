@@ -20,7 +20,7 @@ use Rattle.turn_policies.specs.Boundary.{IsBoundary, left_pixel}
 use Rattle.turn_policies.specs.Majority.{major}
 use Rattle.turn_policies.specs.Turn.{goes_right, next}
 use Rattle.turn_policies.proofs.Turning.{next_boundary, onwards}
-use Rattle.path_decompose.specs.Walk.{IsRun, start_of}
+use Rattle.path_decompose.specs.Walk.{IsTrail, start_of}
 use Rattle.path_decompose.specs.Inside.{is_odd}
 use Rattle.path_decompose.specs.Bounds.{IsCornerOf}
 use Rattle.path_decompose.proofs.Parity.{odd_by, odd_by-closed}
@@ -105,11 +105,11 @@ odd_step b zero y West black = absurd (false≢true black)
 odd_step b (suc x) y West black = grind (arith, nat_tests)
 
 -- so a walk once round has an even number of edges
-length_even : (b : Image) (policy : Policy) (sign : Sign) (s : Edge) (es : List Edge) → IsBoundary b s → IsRun (next b policy sign) s es s → odd_by (λ e. true) es ≡ false
+length_even : (b : Image) (policy : Policy) (sign : Sign) (s : Edge) (es : List Edge) → IsBoundary b s → IsTrail (next b policy sign) s es s → odd_by (λ e. true) es ≡ false
 length_even b policy sign s es h run =
     odd_by-closed (next b policy sign) (IsBoundary b) (next_boundary b policy sign) (λ e. is_odd (e.x + e.y)) (λ e. true) (λ e p. odd_step b e.x e.y e.heading p.black_left) es s h run
 
-length-run : (b : Image) (policy : Policy) (sign : Sign) (s : Edge) (es : List Edge) → IsBoundary b s → 1 ≤ length es → IsRun (next b policy sign) s es s → odd_by (λ e. true) es ≡ false → 4 ≤ length es
+length-run : (b : Image) (policy : Policy) (sign : Sign) (s : Edge) (es : List Edge) → IsBoundary b s → 1 ≤ length es → IsTrail (next b policy sign) s es s → odd_by (λ e. true) es ≡ false → 4 ≤ length es
 length-run b policy sign s [] h some run even = absurd (omega arith)
 length-run b policy sign s (d ∷ []) h some run even = cc
 length-run b policy sign s (d ∷ e ∷ []) h some run even =

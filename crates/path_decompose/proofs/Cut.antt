@@ -12,7 +12,7 @@ use Rattle.turn_policies.specs.Heading.{end_x, end_y}
 use Rattle.turn_policies.specs.Boundary.{IsBoundary, left_pixel}
 use Rattle.turn_policies.specs.Turn.{next}
 use Rattle.path_decompose.specs.Line.{Line, upright, level, same_line, is_edge, is_in_row}
-use Rattle.path_decompose.specs.Walk.{IsRun}
+use Rattle.path_decompose.specs.Walk.{IsTrail}
 use Rattle.path_decompose.specs.Inside.{is_crossed}
 use Rattle.path_decompose.proofs.Differ.{differ_swap, differ_solve}
 use Rattle.path_decompose.proofs.Parity.{odd_by, odd_by-differ, odd_by-same, odd_by-closed}
@@ -28,7 +28,7 @@ row_step b y u (suc v) South h = grind (arith, nat_tests)
 row_step b y u v West h = grind (arith, nat_tests)
 
 -- a closed walk has an even number of upright edges in each row
-pub row_even : (b : Image) (policy : Policy) (sign : Sign) (s : Edge) (es : List Edge) → IsBoundary b s → IsRun (next b policy sign) s es s → (y : ℕ) → odd_by (λ e. is_in_row y (line_of e)) es ≡ false
+pub row_even : (b : Image) (policy : Policy) (sign : Sign) (s : Edge) (es : List Edge) → IsBoundary b s → IsTrail (next b policy sign) s es s → (y : ℕ) → odd_by (λ e. is_in_row y (line_of e)) es ≡ false
 row_even b policy sign s es h run y =
     odd_by-closed (next b policy sign) (IsBoundary b) (next_boundary b policy sign) (λ e. nat_lt y e.y) (λ e. is_in_row y (line_of e))
     (λ e p. row_step b y e.x e.y e.heading p.black_left) es s h run
@@ -89,7 +89,7 @@ pixel_below : (es : List Edge) (x y : ℕ) → south_west (within es) (suc x) y 
 pixel_below es x zero = sym (odd_by-same _ _ (λ e. crossed_below_first x (line_of e)) es ∙ odd_by-none es)
 pixel_below es x (suc y) = sym (odd_by-same _ _ (λ e. crossed_below_next x y (line_of e)) es)
 
-level_cut : (b : Image) (policy : Policy) (sign : Sign) (s : Edge) (es : List Edge) → IsBoundary b s → IsRun (next b policy sign) s es s → (x y : ℕ) → is_edge (within es) (level x y) ≡ odd_by (λ e. same_line (level x y) (line_of e)) es
+level_cut : (b : Image) (policy : Policy) (sign : Sign) (s : Edge) (es : List Edge) → IsBoundary b s → IsTrail (next b policy sign) s es s → (x y : ℕ) → is_edge (within es) (level x y) ≡ odd_by (λ e. same_line (level x y) (line_of e)) es
 level_cut b policy sign s es h run x y =
     let crossed : Edge → Bool = λ e. is_crossed x y (line_of e) in
     let below : Edge → Bool = λ e. is_crossed_below x y (line_of e) in
@@ -103,7 +103,7 @@ level_cut b policy sign s es h run x y =
     ∙ differ_solve (odd_by crossed es) (odd_by below es) (odd_by same es) (sym parts ∙ even)
 
 -- the lines between the inside of a closed walk and its outside are those along which it goes an odd number of times
-pub is_edge-within : (b : Image) (policy : Policy) (sign : Sign) (s : Edge) (es : List Edge) → IsBoundary b s → IsRun (next b policy sign) s es s → (l : Line) → is_edge (within es) l ≡ odd_by (λ e. same_line l (line_of e)) es
+pub is_edge-within : (b : Image) (policy : Policy) (sign : Sign) (s : Edge) (es : List Edge) → IsBoundary b s → IsTrail (next b policy sign) s es s → (l : Line) → is_edge (within es) l ≡ odd_by (λ e. same_line l (line_of e)) es
 is_edge-within b policy sign s es h run (upright x y) = upright_cut es x y
 is_edge-within b policy sign s es h run (level x y) = level_cut b policy sign s es h run x y
 

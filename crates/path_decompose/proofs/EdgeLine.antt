@@ -11,7 +11,7 @@ use Rattle.turn_policies.specs.Heading.{end_x, end_y}
 use Rattle.turn_policies.specs.Boundary.{IsBoundary, left_pixel}
 use Rattle.turn_policies.specs.Turn.{next}
 use Rattle.path_decompose.specs.Line.{Line, upright, level}
-use Rattle.path_decompose.specs.Walk.{IsRun, start_of}
+use Rattle.path_decompose.specs.Walk.{IsTrail, start_of}
 use Rattle.path_decompose.specs.Inside.{line_at, line_between, lines_to, lines_of, is_crossed, inside}
 use Rattle.path_decompose.proofs.Parity.{odd_by, is_odd-count}
 use Rattle.turn_policies.proofs.Turning.{next_boundary}
@@ -40,7 +40,7 @@ line_at_end b (suc x) y West h = grind (arith, nat_tests)
 pub line_between-next : (b : Image) (policy : Policy) (sign : Sign) (e : Edge) → IsBoundary b e → line_between (start_of e) (start_of (next b policy sign e)) ≡ line_of e
 line_between-next b policy sign e h = line_at_end b e.x e.y e.heading h.black_left
 
-lines_to-run : (b : Image) (policy : Policy) (sign : Sign) (e : Edge) (es : List Edge) (z : Edge) → IsBoundary b e → IsRun (next b policy sign) (next b policy sign e) es z → lines_to (start_of z) (start_of e) (map start_of es) ≡ line_of e ∷ map line_of es
+lines_to-run : (b : Image) (policy : Policy) (sign : Sign) (e : Edge) (es : List Edge) (z : Edge) → IsBoundary b e → IsTrail (next b policy sign) (next b policy sign e) es z → lines_to (start_of z) (start_of e) (map start_of es) ≡ line_of e ∷ map line_of es
 lines_to-run b policy sign e [] z h run =
     ap (λ w. line_between (start_of e) (start_of w) ∷ []) (sym run) ∙ ap (λ l. l ∷ []) (line_between-next b policy sign e h)
 lines_to-run b policy sign e (d ∷ ds) z h run =
@@ -50,7 +50,7 @@ lines_to-run b policy sign e (d ∷ ds) z h run =
     ∙ ap (λ ls. line_of e ∷ ls) (lines_to-run b policy sign d ds z hd run.1)
 
 -- the lines of a walk's points are the lines that its edges run along
-pub lines_of-run : (b : Image) (policy : Policy) (sign : Sign) (s : Edge) (es : List Edge) → IsBoundary b s → IsRun (next b policy sign) s es s → lines_of (map start_of es) ≡ map line_of es
+pub lines_of-run : (b : Image) (policy : Policy) (sign : Sign) (s : Edge) (es : List Edge) → IsBoundary b s → IsTrail (next b policy sign) s es s → lines_of (map start_of es) ≡ map line_of es
 lines_of-run b policy sign s [] h run = refl
 lines_of-run b policy sign s (e ∷ es) h run =
     ap (λ w. lines_to (start_of w) (start_of e) (map start_of es)) run.0
@@ -64,7 +64,7 @@ odd_by-map f g (x ∷ xs) = ap (differ (f (g x))) (odd_by-map f g xs)
 abbrev pub within : List Edge → Image
 within es x y = odd_by (λ e. is_crossed x y (line_of e)) es
 
-pub inside-run : (b : Image) (policy : Policy) (sign : Sign) (s : Edge) (es : List Edge) → IsBoundary b s → IsRun (next b policy sign) s es s → (x y : ℕ) → inside (map start_of es) x y ≡ within es x y
+pub inside-run : (b : Image) (policy : Policy) (sign : Sign) (s : Edge) (es : List Edge) → IsBoundary b s → IsTrail (next b policy sign) s es s → (x y : ℕ) → inside (map start_of es) x y ≡ within es x y
 inside-run b policy sign s es h run x y =
     is_odd-count (is_crossed x y) (lines_of (map start_of es))
     ∙ ap (odd_by (is_crossed x y)) (lines_of-run b policy sign s es h run)

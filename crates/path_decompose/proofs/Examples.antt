@@ -10,7 +10,7 @@ use Rattle.turn_policies.specs.declared.edge.Edge.{Edge}
 use Rattle.turn_policies.specs.Majority.{black_in_ring, white_in_ring, major}
 use Rattle.turn_policies.specs.Turn.{next}
 use Rattle.path_decompose.specs.Line.{upright, level, is_edge}
-use Rattle.path_decompose.specs.Walk.{start_of, first_edge, IsRun}
+use Rattle.path_decompose.specs.Walk.{start_of, first_edge, IsTrail}
 use Rattle.path_decompose.specs.Inside.{lines_of, inside, black_count}
 use Rattle.path_decompose.specs.Decomposition.{inverted}
 
@@ -35,17 +35,17 @@ joined =
     edge 0 2 South ∷ edge 0 1 East ∷ edge 1 1 South ∷ edge 1 0 East ∷ edge 2 0 North ∷ edge 2 1 West ∷ edge 1 1 North ∷ edge 1 2 West ∷ []
 
 -- under the left policy the walk keeps to its own pixel
-left_walk : IsRun (next (image_of diagonal) Left Plus) (first_edge 0 1) apart (first_edge 0 1)
+left_walk : IsTrail (next (image_of diagonal) Left Plus) (first_edge 0 1) apart (first_edge 0 1)
 unfolding diagonal apart image_of
 left_walk = (refl, (refl, (refl, (refl, refl))))
 
 -- under the right policy it goes on to the other pixel
-right_walk : IsRun (next (image_of diagonal) Right Plus) (first_edge 0 1) joined (first_edge 0 1)
+right_walk : IsTrail (next (image_of diagonal) Right Plus) (first_edge 0 1) joined (first_edge 0 1)
 unfolding diagonal joined image_of
 right_walk = (refl, (refl, (refl, (refl, (refl, (refl, (refl, (refl, refl))))))))
 
 -- under minority too, since white has the majority in the ring of twelve pixels around the corner
-minority_walk : IsRun (next (image_of diagonal) Minority Plus) (first_edge 0 1) joined (first_edge 0 1)
+minority_walk : IsTrail (next (image_of diagonal) Minority Plus) (first_edge 0 1) joined (first_edge 0 1)
 unfolding diagonal joined image_of major black_in_ring white_in_ring
 minority_walk = (refl, (refl, (refl, (refl, (refl, (refl, (refl, (refl, refl))))))))
 

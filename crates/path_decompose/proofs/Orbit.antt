@@ -1,7 +1,7 @@
 -- What comes of a function again and again: a walk is such an orbit of its turns.
 use Rattle.std.proofs.Common.{◌≡◌, ◌≢◌, ℕ, zero, suc, ◌+◌, ◌-◌, ◌*◌, ◌/◌, ◌%◌, ◌<◌, List, [], ◌∷◌, ◌++◌, length, get_or, AllPairs, refl, ap, sym, ◌∙◌, arith, add-zero, add-suc}
 use Rattle.turn_policies.specs.declared.edge.Edge.{Edge}
-use Rattle.path_decompose.specs.Walk.{IsRun}
+use Rattle.path_decompose.specs.Walk.{IsTrail}
 
 -- what f leads to after k steps
 abbrev pub nth_after : {A : Type 0} → (A → A) → ℕ → A → A
@@ -58,14 +58,14 @@ distinct_orbit f g P keeps undoes n s p h = λ i j d below within e.
     h k (omega arith) (sym (cancel f g P keeps undoes s p i (suc k) same))
 
 -- a run is an orbit
-pub run-orbit : (f : Edge → Edge) (es : List Edge) (a z : Edge) → IsRun f a es z → (es ≡ orbit f (length es) a) × (nth_after f (length es) a ≡ z)
+pub run-orbit : (f : Edge → Edge) (es : List Edge) (a z : Edge) → IsTrail f a es z → (es ≡ orbit f (length es) a) × (nth_after f (length es) a ≡ z)
 run-orbit f [] a z run = (refl, run)
 run-orbit f (e ∷ es) a z run =
     let rest = run-orbit f es (f e) z run.1 in
     (ap (λ d. d ∷ es) run.0 ∙ ap (λ ds. a ∷ ds) (rest.0 ∙ ap (λ d. orbit f (length es) (f d)) run.0), sym (nth_after-step f (length es) a) ∙ ap (λ d. nth_after f (length es) (f d)) (sym run.0) ∙ rest.1)
 
 -- an orbit is a run
-pub orbit_run : (f : Edge → Edge) (n : ℕ) (a z : Edge) → nth_after f n a ≡ z → IsRun f a (orbit f n a) z
+pub orbit_run : (f : Edge → Edge) (n : ℕ) (a z : Edge) → nth_after f n a ≡ z → IsTrail f a (orbit f n a) z
 orbit_run f zero a z e = e
 orbit_run f (suc n) a z e = (refl, orbit_run f n (f a) z (nth_after-step f n a ∙ e))
 

@@ -7,7 +7,7 @@ use Rattle.std.proofs.lemmas.List.Elements.{All-head, All-tail}
 use Rattle.std.proofs.lemmas.List.Sorted.{sum_by-IsPermutation}
 use Rattle.bit_image.specs.Image.{differ}
 use Rattle.turn_policies.specs.declared.edge.Edge.{Edge}
-use Rattle.path_decompose.specs.Walk.{IsRun}
+use Rattle.path_decompose.specs.Walk.{IsTrail}
 use Rattle.path_decompose.specs.Inside.{is_odd}
 use Rattle.path_decompose.proofs.Differ.{differ_same, differ_link, differ_swap}
 
@@ -47,7 +47,7 @@ odd_by-agree f g (x ∷ xs) h =
 
 -- Along a run, a test f that tells whether S changes at a step holds an odd number of times exactly where S
 -- differs between the run's ends.
-pub odd_by-run : (step : Edge → Edge) (P : Edge → Type 0) → ((e : Edge) → P e → P (step e)) → (S f : Edge → Bool) → ((e : Edge) → P e → f e ≡ differ (S e) (S (step e))) → (es : List Edge) (a z : Edge) → P a → IsRun step a es z → odd_by f es ≡ differ (S a) (S z)
+pub odd_by-run : (step : Edge → Edge) (P : Edge → Type 0) → ((e : Edge) → P e → P (step e)) → (S f : Edge → Bool) → ((e : Edge) → P e → f e ≡ differ (S e) (S (step e))) → (es : List Edge) (a z : Edge) → P a → IsTrail step a es z → odd_by f es ≡ differ (S a) (S z)
 odd_by-run step P keeps S f h [] a z p run = sym (ap (λ w. differ (S w) (S z)) run ∙ differ_same (S z))
 odd_by-run step P keeps S f h (e ∷ es) a z p run =
     let pe : P e = subst P (sym run.0) p in
@@ -57,7 +57,7 @@ odd_by-run step P keeps S f h (e ∷ es) a z p run =
     ∙ ap (λ w. differ (S w) (S z)) run.0
 
 -- along a closed run it holds an even number of times
-pub odd_by-closed : (step : Edge → Edge) (P : Edge → Type 0) → ((e : Edge) → P e → P (step e)) → (S f : Edge → Bool) → ((e : Edge) → P e → f e ≡ differ (S e) (S (step e))) → (es : List Edge) (a : Edge) → P a → IsRun step a es a → odd_by f es ≡ false
+pub odd_by-closed : (step : Edge → Edge) (P : Edge → Type 0) → ((e : Edge) → P e → P (step e)) → (S f : Edge → Bool) → ((e : Edge) → P e → f e ≡ differ (S e) (S (step e))) → (es : List Edge) (a : Edge) → P a → IsTrail step a es a → odd_by f es ≡ false
 odd_by-closed step P keeps S f h es a p run = odd_by-run step P keeps S f h es a a p run ∙ differ_same (S a)
 
 -- a test holds of as many elements in any order

@@ -8,7 +8,7 @@ use Rattle.bit_image.specs.FirstBlack.{IsFirstBlack}
 use Rattle.turn_policies.specs.declared.edge.Edge.{Edge}
 use Rattle.turn_policies.specs.Boundary.{IsBoundary}
 use Rattle.turn_policies.specs.Turn.{next}
-use Rattle.path_decompose.specs.Walk.{IsRun, IsRoundTrip, first_edge}
+use Rattle.path_decompose.specs.Walk.{IsTrail, IsRoundTrip, first_edge}
 use Rattle.path_decompose.proofs.Orbit.{orbit, run-orbit, get_or-orbit}
 use Rattle.turn_policies.proofs.Turning.{next_boundary}
 
@@ -16,7 +16,7 @@ use Rattle.turn_policies.proofs.Turning.{next_boundary}
 pub record IsCircuit (b : Image) (policy : Policy) (sign : Sign) (s : Edge) (es : List Edge) : Type 0 where
   pub boundary : IsBoundary b s
   pub some : 1 ≤ length es
-  pub closes : IsRun (next b policy sign) s es s
+  pub closes : IsTrail (next b policy sign) s es s
   pub distinct : AllPairs (λ d e. d ≢ e) es
 
 first_right : (b : Image) (x y : ℕ) → ((u : ℕ) → u < x → b u y ≡ false) → south_west b x (suc y) ≡ false
@@ -32,7 +32,7 @@ pub circuit_of : (b : Image) (policy : Policy) (sign : Sign) (x y : ℕ) (es : L
 circuit_of b policy sign x y es first round =
     record { boundary = first_boundary b x y first; some = round.some; closes = round.closes; distinct = round.distinct }
 
-pub run_boundary : (b : Image) (policy : Policy) (sign : Sign) (es : List Edge) (s z : Edge) → IsBoundary b s → IsRun (next b policy sign) s es z → All (IsBoundary b) es
+pub run_boundary : (b : Image) (policy : Policy) (sign : Sign) (es : List Edge) (s z : Edge) → IsBoundary b s → IsTrail (next b policy sign) s es z → All (IsBoundary b) es
 run_boundary b policy sign [] s z h run = All-nil _
 run_boundary b policy sign (e ∷ es) s z h run =
     let he : IsBoundary b e = subst (IsBoundary b) (sym run.0) h in
@@ -42,7 +42,7 @@ pub all_boundary : (b : Image) (policy : Policy) (sign : Sign) (s : Edge) (es : 
 all_boundary b policy sign s es c = run_boundary b policy sign es s s c.boundary c.closes
 
 -- two rounds from one edge are one
-short_of_other : (f : Edge → Edge) (s : Edge) (es ds : List Edge) → 1 ≤ length es → IsRun f s es s → IsRun f s ds s → AllPairs (λ d e. d ≢ e) ds → length es < length ds → ⊥
+short_of_other : (f : Edge → Edge) (s : Edge) (es ds : List Edge) → 1 ≤ length es → IsTrail f s es s → IsTrail f s ds s → AllPairs (λ d e. d ≢ e) ds → length es < length ds → ⊥
 short_of_other f s es ds some run other distinct shorter =
     let at_start : get_or ds 0 s ≡ s = ap (λ l. get_or l 0 s) ((run-orbit f ds s s other).0) ∙ get_or-orbit f (length ds) 0 s s (omega arith) in
     let at_end : get_or ds (length es) s ≡ s =

@@ -16,7 +16,7 @@ use Rattle.turn_policies.specs.Majority.{major}
 use Rattle.turn_policies.specs.Turn.{goes_right, turn_of, next}
 use Rattle.turn_policies.proofs.Turning.{left_behind, right_behind, left_pixel-left_of, right_pixel-left_of, right_pixel-right_of, left_behind-end, right_behind-end, next_boundary}
 use Rattle.path_decompose.specs.Line.{Line, upright, level, same_line, is_edge}
-use Rattle.path_decompose.specs.Walk.{IsRun, first_edge}
+use Rattle.path_decompose.specs.Walk.{IsTrail, first_edge}
 use Rattle.path_decompose.proofs.Cut.{is_edge-within}
 use Rattle.path_decompose.proofs.EdgeLine.{line_along, line_of, within}
 use Rattle.path_decompose.proofs.Once.{count_by-line, odd_by-no_edge}
@@ -124,7 +124,7 @@ line_within b policy sign s es c = λ k d below.
     ∙ odd_from_some (odd_by (λ e. same_line l (line_of e)) es) (omega (arith, some, count_by-line b policy sign s es c l))
 
 along : (b w : Image) (policy : Policy) (sign : Sign) (es : List Edge) (s z : Edge) → ((m : Line) → is_edge b m ≡ false → is_edge w m ≡ false)
-    → IsBoundary b s → IsBoundary w s → IsRun (next b policy sign) s es z → All (λ e. is_edge w (line_of e) ≡ true) es → All (IsBoundary w) es
+    → IsBoundary b s → IsBoundary w s → IsTrail (next b policy sign) s es z → All (λ e. is_edge w (line_of e) ≡ true) es → All (IsBoundary w) es
 along b w policy sign [] s z none hb hw run lines = All-nil (IsBoundary w)
 along b w policy sign (e ∷ []) s z none hb hw run lines =
     All-cons (IsBoundary w) e [] (subst (IsBoundary w) (sym run.0) hw) (All-nil (IsBoundary w))

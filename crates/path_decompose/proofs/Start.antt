@@ -10,7 +10,7 @@ use Rattle.bit_image.specs.FirstBlack.{IsFirstBlack}
 use Rattle.turn_policies.specs.declared.edge.Edge.{Edge}
 use Rattle.turn_policies.specs.Turn.{next}
 use Rattle.path_decompose.specs.Line.{Line, upright, level, same_line, is_edge}
-use Rattle.path_decompose.specs.Walk.{IsRun, first_edge}
+use Rattle.path_decompose.specs.Walk.{IsTrail, first_edge}
 use Rattle.path_decompose.specs.Inside.{is_crossed}
 use Rattle.path_decompose.proofs.Parity.{odd_by, odd_by-agree}
 use Rattle.path_decompose.proofs.EdgeLine.{line_of, within}
@@ -78,7 +78,7 @@ first_passes x y e es at =
     let parts : count_by f (e ∷ es) ≡ 1 + count_by f es = sum_by-cons (λ d. cond (f d) 1 0) e es ∙ ap (λ t. cond t 1 0 + count_by f es) passes in
     rw parts (omega arith)
 
-some_at_start : (f : Edge → Edge) (x y : ℕ) (es : List Edge) → 1 ≤ length es → IsRun f (first_edge x y) es (first_edge x y) → 1 ≤ count_by (λ d. same_line (upright x y) (line_of d)) es
+some_at_start : (f : Edge → Edge) (x y : ℕ) (es : List Edge) → 1 ≤ length es → IsTrail f (first_edge x y) es (first_edge x y) → 1 ≤ count_by (λ d. same_line (upright x y) (line_of d)) es
 some_at_start f x y [] some run = absurd (omega arith)
 some_at_start f x y (e ∷ es) some run = first_passes x y e es run.0
 

@@ -9,7 +9,7 @@ pub mod Line
 -- The walk along the boundary edges of an image (Selinger, "Potrace", 2003, section 2.1.1).
 --   start_of: the corner where an edge begins
 --   first_edge: the left side of pixel (x, y), walked down
---   IsRun: the edges begin with `from`, each one is followed by the next one of `step`
+--   IsTrail: the edges begin with `from`, each one is followed by the next one of `step`
 --   IsRoundTrip: The edges go once round in the image, under a policy and on a path of that sign
 --   IsBoundaryWalk: the points are where the edges of such a round begin
 pub mod Walk

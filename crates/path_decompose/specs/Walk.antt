@@ -17,15 +17,15 @@ abbrev pub first_edge : ℕ → ℕ → Edge
 first_edge x y = record { x = x; y = suc y; heading = South }
 
 -- the edges begin with `from`, each one is followed by the next one of `step`, and the last by `after`
-abbrev pub IsRun : (Edge → Edge) → Edge → List Edge → Edge → Type 0
-IsRun step from [] after = from ≡ after
-IsRun step from (e ∷ es) after = (e ≡ from) × IsRun step (step e) es after
+abbrev pub IsTrail : (Edge → Edge) → Edge → List Edge → Edge → Type 0
+IsTrail step from [] after = from ≡ after
+IsTrail step from (e ∷ es) after = (e ≡ from) × IsTrail step (step e) es after
 
 -- The edges go once round in the image, under a policy and on a path of that sign: down the left side of
 -- pixel (x, y), on by the turns, and back to the first edge. No edge comes twice.
 pub record IsRoundTrip (b : Image) (policy : Policy) (sign : Sign) (x y : ℕ) (edges : List Edge) : Type 0 where
   pub some : 1 ≤ length edges
-  pub closes : IsRun (next b policy sign) (first_edge x y) edges (first_edge x y)
+  pub closes : IsTrail (next b policy sign) (first_edge x y) edges (first_edge x y)
   pub distinct : AllPairs (λ d e. d ≢ e) edges
 
 -- the points are where the edges of such a round begin

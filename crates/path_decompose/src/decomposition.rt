@@ -11,15 +11,11 @@ ghost use Rattle.path_decompose.specs.Start.{IsWhiteThrough, IsStart};
 ghost use Rattle.path_decompose.specs.Sums.{IsEvenOdd, IsEdgesOnce};
 ghost use Rattle.pt_base.specs.declared.path.Path.{Path};
 
+use bit_image::Bitmap;
 use crate::inversion::invert;
 use crate::trail::Trail;
 use crate::walk::walk_round;
-use bit_image::bitmap::Bitmap;
-use pt_base::fault::NoMemory;
-use pt_base::path::{Path, Sign};
-use pt_base::point::Point;
-use pt_base::policy::Policy;
-use pt_base::sequence::Sequence;
+use pt_base::{NoMemory, Path, Point, Policy, Sequence, Sign};
 use std::alloc::Global;
 
 /// All paths of a page, in the order in which they are found. There are at most as many as pixels, so 32 bits count

@@ -5,8 +5,7 @@ ghost use Rattle.path_decompose.specs.Bounds.{IsCornerOf};
 ghost use Rattle.path_decompose.specs.Inside.{line_between, is_crossed, inside};
 
 use crate::line::upright_between;
-use pt_base::path::Path;
-use pt_base::point::Point;
+use pt_base::{Path, Point};
 
 /// Whether pixel (x, y) is inside a path.
 ///

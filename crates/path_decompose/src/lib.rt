@@ -6,8 +6,8 @@
 //! black now, until the page is white.
 //!
 //! ```rust
-//! use path_decompose::decomposition::decompose_above;
-//! use pt_base::policy::Policy;
+//! use path_decompose::decompose_above;
+//! use pt_base::Policy;
 //!
 //! // The paths of a page, but for those with two pixels inside or less.
 //! for path in decompose_above(alloc, &page, Policy::Minority, 2)? {
@@ -24,3 +24,8 @@ pub mod line;
 pub mod speckle;
 mod trail;
 mod walk;
+
+pub use decomposition::{decompose, decompose_above};
+pub use interior::inside;
+pub use line::upright_between;
+pub use speckle::keep;

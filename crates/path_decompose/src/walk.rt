@@ -10,15 +10,10 @@ ghost use Rattle.path_decompose.specs.Walk.{first_edge, start_of, IsBoundaryWalk
 ghost use Rattle.turn_policies.specs.Boundary.{IsBoundary};
 ghost use Rattle.turn_policies.specs.Turn.{next};
 
+use bit_image::Bitmap;
 use crate::trail::{Trail, Upright};
-use bit_image::bitmap::Bitmap;
-use pt_base::fault::NoMemory;
-use pt_base::path::Sign;
-use pt_base::point::Point;
-use pt_base::policy::Policy;
-use turn_policies::edge::Edge;
-use turn_policies::heading::Dir;
-use turn_policies::rule::turned_at;
+use pt_base::{NoMemory, Point, Policy, Sign};
+use turn_policies::{Dir, Edge, turned_at};
 
 /// Walks once round the boundary that starts at the first black pixel, pixel (x, y), and notes it down.
 //

@@ -12,7 +12,7 @@ use Rattle.path_decompose.specs.Bounds.{IsCornerOf}
 use Rattle.path_tree.specs.declared.starts.Start.{Start}
 use Rattle.path_tree.specs.declared.starts.TheConstants.{ROW}
 use Rattle.path_tree.specs.Groups.{is_plus, no_path, start_column, start_row}
-use Rattle.path_tree.specs.Starts.{place_at, path_start, starts_from}
+use Rattle.path_tree.specs.Starts.{order_at, path_start, starts_from}
 use Rattle.path_tree.proofs.Marking.{and-false, is_hit}
 
 -- the start of one path, where it is of minus sign
@@ -101,7 +101,7 @@ pub starts_low : (paths : List Path) → All (λ path. IsClosedWalk path.points)
 starts_low paths closed corners =
     all_starts (λ s. s.place / ROW < 32768) 0 paths (λ m h. row_below (get_or paths m no_path) (starts_on (get_or paths m no_path) (closed m no_path h) (corners m no_path h)))
   where
-    row_below : (path : Path) → StartsOn path → place_at (start_column path) (start_row path) / ROW < 32768
+    row_below : (path : Path) → StartsOn path → order_at (start_column path) (start_row path) / ROW < 32768
     row_below path on = let column = on.column in let row = on.row in omega arith
 
 pub starts_columns : (paths : List Path) → All (λ path. IsClosedWalk path.points) paths → All (λ path. All (IsCornerOf 32767 32767) path.points) paths
@@ -109,7 +109,7 @@ pub starts_columns : (paths : List Path) → All (λ path. IsClosedWalk path.poi
 starts_columns paths closed corners =
     all_starts (λ s. s.place % ROW ≤ 32767) 0 paths (λ m h. column_low (get_or paths m no_path) (starts_on (get_or paths m no_path) (closed m no_path h) (corners m no_path h)))
   where
-    column_low : (path : Path) → StartsOn path → place_at (start_column path) (start_row path) % ROW ≤ 32767
+    column_low : (path : Path) → StartsOn path → order_at (start_column path) (start_row path) % ROW ≤ 32767
     column_low path on = let column = on.column in let row = on.row in omega arith
 
 -- one more path

@@ -12,7 +12,7 @@ use Rattle.path_decompose.specs.Inside.{line_between, lines_to, lines_of, is_cro
 use Rattle.path_decompose.specs.Line.{Line, upright, level, is_in_row}
 use Rattle.path_decompose.proofs.Parity.{odd_by, is_odd-count}
 use Rattle.path_tree.specs.declared.starts.TheConstants.{ROW}
-use Rattle.path_tree.specs.Starts.{place_at, places_of, is_place_in, is_passed}
+use Rattle.path_tree.specs.Starts.{order_at, places_of, is_place_in, is_passed}
 use Rattle.path_tree.proofs.Even.{even_rows}
 use Rattle.path_tree.proofs.Marking.{and-false}
 
@@ -52,11 +52,11 @@ if_asked false f place places = refl
 
 -- a test of places that is one of upright lines in the rows that are asked for
 odd_by-places : (f : ℕ → Bool) (g : Line → Bool) (rows : List Bool)
-    → ((x y : ℕ) → x ≤ 32767 → cond (get_or rows y false) (f (place_at x y)) false ≡ g (upright x y)) → ((x y : ℕ) → g (level x y) ≡ false)
+    → ((x y : ℕ) → x ≤ 32767 → cond (get_or rows y false) (f (order_at x y)) false ≡ g (upright x y)) → ((x y : ℕ) → g (level x y) ≡ false)
     → (lines : List Line) → AreLow lines → odd_by f (places_of rows lines) ≡ odd_by g lines
 odd_by-places f g rows up flat [] low = refl
 odd_by-places f g rows up flat (upright x y ∷ lines) low =
-    if_asked (get_or rows y false) f (place_at x y) (places_of rows lines)
+    if_asked (get_or rows y false) f (order_at x y) (places_of rows lines)
     ∙ ap (λ b. differ b (odd_by f (places_of rows lines))) (up x y low.0)
     ∙ ap (differ (g (upright x y))) (odd_by-places f g rows up flat lines low.1)
 odd_by-places f g rows up flat (level x y ∷ lines) low =
@@ -68,7 +68,7 @@ row_of x y low = omega arith
 pub column_of : (x y : ℕ) → x ≤ 32767 → (ROW * y + x) % ROW ≡ x
 column_of x y low = omega arith
 
-passed_is : (u v x y : ℕ) → u ≤ 32767 → x ≤ 32767 → is_passed (place_at x y) (place_at u v) ≡ (nat_le u x && nat_eq v y)
+passed_is : (u v x y : ℕ) → u ≤ 32767 → x ≤ 32767 → is_passed (order_at x y) (order_at u v) ≡ (nat_le u x && nat_eq v y)
 passed_is u v x y low lower =
     let a : (ROW * v + u) / ROW ≡ v = row_of u v low in
     let b : (ROW * y + x) / ROW ≡ y = row_of x y lower in
@@ -80,7 +80,7 @@ passed_is u v x y low lower =
     in_one_row u v x y = grind (arith, nat_tests)
 
 crossed_is : (rows : List Bool) (x y u v : ℕ) → get_or rows y false ≡ true → u ≤ 32767 → x ≤ 32767
-    → cond (get_or rows v false) (is_passed (place_at x y) (place_at u v)) false ≡ is_crossed x y (upright u v)
+    → cond (get_or rows v false) (is_passed (order_at x y) (order_at u v)) false ≡ is_crossed x y (upright u v)
 crossed_is rows x y u v asked low lower =
     ap (λ b. cond (get_or rows v false) b false) (passed_is u v x y low lower)
     ∙ elim (cases_eq v y) [
@@ -98,13 +98,13 @@ crossed_is rows x y u v asked low lower =
 
 -- a pixel in a row that is asked for
 pub places_passed : (rows : List Bool) (x y : ℕ) (points : List Point) → get_or rows y false ≡ true → x ≤ 32767 → All (IsCornerOf 32767 32767) points
-    → odd_by (is_passed (place_at x y)) (places_of rows (lines_of points)) ≡ inside points x y
+    → odd_by (is_passed (order_at x y)) (places_of rows (lines_of points)) ≡ inside points x y
 places_passed rows x y points asked low corners =
-    odd_by-places (is_passed (place_at x y)) (is_crossed x y) rows (λ u v l. crossed_is rows x y u v asked l low) (λ u v. refl)
+    odd_by-places (is_passed (order_at x y)) (is_crossed x y) rows (λ u v l. crossed_is rows x y u v asked l low) (λ u v. refl)
     (lines_of points) (low_lines points corners)
     ∙ sym (is_odd-count (is_crossed x y) (lines_of points))
 
-row_is : (rows : List Bool) (r x y : ℕ) → x ≤ 32767 → cond (get_or rows y false) (is_place_in r (place_at x y)) false
+row_is : (rows : List Bool) (r x y : ℕ) → x ≤ 32767 → cond (get_or rows y false) (is_place_in r (order_at x y)) false
     ≡ cond (get_or rows r false) (nat_eq y r) false
 row_is rows r x y low =
     ap (λ n. cond (get_or rows y false) (nat_eq n r) false) (row_of x y low)

@@ -23,7 +23,7 @@ pub mod Groups
 --   with_hole: the groups, where the path is one more hole in the group of its holder
 pub mod Holders
 -- The starts of the paths of minus sign, and which paths have them inside.
---   place_at: where a pixel, or the upright line at its left, stands in the order of the rows
+--   order_at: where a pixel, or the upright line at its left, stands in the order of the rows
 --   path_start: the start of path number i
 --   starts_from: the starts of those of these paths that are of minus sign, where the first one has number i
 --   place_of_line: the place of a line, where it is upright and stands in a row that is asked for

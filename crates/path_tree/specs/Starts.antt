@@ -8,12 +8,12 @@ use Rattle.path_tree.specs.declared.starts.TheConstants.{ROW}
 use Rattle.path_tree.specs.Groups.{is_plus, start_column, start_row}
 
 -- where a pixel, or the upright line at its left, stands in the order of the rows, and in a row of the columns
-abbrev pub place_at : ℕ → ℕ → ℕ
-place_at x y = ROW * y + x
+abbrev pub order_at : ℕ → ℕ → ℕ
+order_at x y = ROW * y + x
 
 -- the start of path number i
 abbrev pub path_start : ℕ → Path → Start
-path_start i path = record { place = place_at (start_column path) (start_row path); path = i }
+path_start i path = record { place = order_at (start_column path) (start_row path); path = i }
 
 -- the starts of those of these paths that are of minus sign, where the first one has number i
 abbrev pub starts_from : ℕ → List Path → List Start
@@ -22,7 +22,7 @@ starts_from i (path ∷ paths) = cond (is_plus path.sign) [] (path_start i path 
 
 -- the place of a line, where it is upright and stands in a row that is asked for
 abbrev pub place_of_line : List Bool → Line → List ℕ
-place_of_line rows (upright x y) = cond (slice_index_or rows y false) (place_at x y ∷ []) []
+place_of_line rows (upright x y) = cond (slice_index_or rows y false) (order_at x y ∷ []) []
 place_of_line rows (level x y) = []
 
 -- the places of the upright ones of these lines in the rows that are asked for

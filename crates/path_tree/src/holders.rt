@@ -11,8 +11,7 @@ ghost use Rattle.path_tree.specs.declared.starts.TheConstants.{ROW};
 use crate::lines::gather_lines;
 use crate::marks::mark_inside;
 use crate::starts::{Start, rows_of, sorted_starts};
-use pt_base::fault::NoMemory;
-use pt_base::path::{Path, Sign};
+use pt_base::{NoMemory, Path, Sign};
 use std::alloc::Global;
 
 /// For each path the path in whose shape it bounds a hole, or none.

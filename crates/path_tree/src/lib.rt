@@ -18,3 +18,5 @@ mod marks;
 mod shapes;
 mod starts;
 pub mod tree;
+
+pub use tree::group;

@@ -5,9 +5,8 @@ ghost use Rattle.path_decompose.specs.Inside.{line_between, lines_of};
 ghost use Rattle.path_tree.specs.Starts.{place_of_line, places_of};
 
 use crate::starts::ROW;
-use path_decompose::line::upright_between;
-use pt_base::fault::NoMemory;
-use pt_base::point::Point;
+use path_decompose::upright_between;
+use pt_base::{NoMemory, Point};
 
 /// Makes `places` those of a path's upright lines in the rows that are asked for, in the order of the
 /// path.

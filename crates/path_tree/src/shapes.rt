@@ -2,9 +2,7 @@
 ghost use Rattle.std.specs.Prelude.{◌≡◌, ◌<◌, ◌^◌, IfOk, OnOk, filter, length};
 ghost use Rattle.path_tree.specs.Holders.{groups_below, is_shape, with_hole};
 
-use pt_base::fault::NoMemory;
-use pt_base::sequence::Sequence;
-use pt_base::trace::Group;
+use pt_base::{Group, NoMemory, Sequence};
 use std::alloc::Global;
 
 /// A group without holes for each path.

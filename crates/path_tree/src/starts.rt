@@ -4,10 +4,9 @@ ghost use Rattle.std.specs.List.Sorted.{IsNonDecreasingBy, IsPermutation};
 ghost use Rattle.pt_base.specs.ClosedWalk.{IsClosedWalk, point_at};
 ghost use Rattle.path_decompose.specs.Bounds.{IsCornerOf};
 ghost use Rattle.path_tree.specs.Groups.{is_plus};
-ghost use Rattle.path_tree.specs.Starts.{place_at, path_start, starts_from};
+ghost use Rattle.path_tree.specs.Starts.{order_at, path_start, starts_from};
 
-use pt_base::fault::NoMemory;
-use pt_base::path::{Path, Sign};
+use pt_base::{NoMemory, Path, Sign};
 use std::alloc::Global;
 
 /// How far apart two places are that stand in one column, one above the other.

@@ -6,9 +6,7 @@ ghost use Rattle.path_tree.specs.Groups.{groups_of};
 
 use crate::holders::holders_of;
 use crate::shapes::{add_holes, all_groups, keep_shapes};
-use pt_base::fault::NoMemory;
-use pt_base::path::Path;
-use pt_base::trace::Group;
+use pt_base::{Group, NoMemory, Path};
 use std::alloc::Global;
 
 /// The shapes of these paths with their holes: a group for each path that bounds no hole, in order.

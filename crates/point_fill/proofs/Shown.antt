@@ -17,11 +17,11 @@ use Rattle.bit_image.proofs.Pages.{page_of-image_of, page_of-same}
 use Rattle.bitmap_input.specs.Cut.{Kind, Cut, ◌>>=◌}
 use Rattle.bitmap_input.specs.Cut.Kind.{BadHeader}
 use Rattle.bitmap_input.specs.Cut.Cut.{Takes}
-use Rattle.bitmap_input.specs.Parts.{longest, is_digit, is_space, is_zero, run_length, gap_length, some_gap, value, number, number_behind_gap, space, block, times, spaces}
+use Rattle.bitmap_input.specs.Parts.{longest, is_digit, is_space, is_zero, run_length, gap_length, some_gap, value, number, number_behind_gap, space, block, repeated, spaces}
 use Rattle.bitmap_input.specs.Sides.{checked}
 use Rattle.bitmap_input.specs.Raw.{Raw, Entry, entries_page, row_bytes, bits_of, unpacked, black, picture_of, shown}
 use Rattle.bitmap_input.specs.Raw.Entry.{Bit}
-use Rattle.bitmap_input.specs.Front.{sides, raw_row, raster, magic, body, page_at, answer_of, front}
+use Rattle.bitmap_input.specs.Front.{sides, raw_row, rows_raster, magic, body, page_at, answer_of, front}
 use Rattle.bitmap_input.specs.Front.Magic.{RawBits}
 use Rattle.bitmap_input.specs.Front.Answer.{Page as PageOf}
 use Rattle.bit_image.specs.PbmText.{byte_from, row_text, rows_text, pbm_text}
@@ -166,16 +166,16 @@ raw_row_read w r s size =
         rw (enough, take-append_seam, drop-append_seam) refl
 
 rows_read : (w : ℕ) (f : ℕ → List ℕ) (ks : List ℕ) (s : List ℕ) → ((k : ℕ) → length (f k) ≡ row_bytes w)
-    → times (raw_row w) (length ks) (flat_map f ks ++ s) ≡ Takes false (map (λ k. take w (unpacked (f k))) ks) s
+    → repeated (raw_row w) (length ks) (flat_map f ks ++ s) ≡ Takes false (map (λ k. take w (unpacked (f k))) ks) s
 rows_read w f [] s size = refl
 rows_read w f (k ∷ ks) s size =
     let left : List ℕ = flat_map f ks ++ s in
     let mine : List Bool = take w (unpacked (f k)) in
     let others : List (List Bool) = map (λ j. take w (unpacked (f j))) ks in
-    ap (λ bytes. times (raw_row w) (suc (length ks)) bytes) (append_assoc (f k) (flat_map f ks) s)
-    ∙ bind_takes (raw_row w (f k ++ left)) (λ x rest. times (raw_row w) (length ks) rest >>= λ xs rest. Takes false (x ∷ xs) rest) mine (mine ∷ others) left s
+    ap (λ bytes. repeated (raw_row w) (suc (length ks)) bytes) (append_assoc (f k) (flat_map f ks) s)
+    ∙ bind_takes (raw_row w (f k ++ left)) (λ x rest. repeated (raw_row w) (length ks) rest >>= λ xs rest. Takes false (x ∷ xs) rest) mine (mine ∷ others) left s
     (raw_row_read w (f k) left (size k))
-    (bind_takes (times (raw_row w) (length ks) left) (λ xs rest. Takes false (mine ∷ xs) rest) others (mine ∷ others) s s (rows_read w f ks s size) refl)
+    (bind_takes (repeated (raw_row w) (length ks) left) (λ xs rest. Takes false (mine ∷ xs) rest) others (mine ∷ others) s s (rows_read w f ks s size) refl)
 
 -- ---- the page
 
@@ -206,13 +206,13 @@ checked_page zero h s a b c d = absurd (omega arith)
 checked_page (suc w) zero s a b c d = absurd (omega arith)
 checked_page (suc w) (suc h) s a b c d = rw (le-ltb LONGEST_SIDE (suc w) b, le-ltb LONGEST_SIDE (suc h) d) refl
 
-rows_of_page : (page : Page) → times (raw_row page.width) page.height (rows_text page) ≡ Takes false (map (pixels_of page) (range_with_len 0 page.height)) []
+rows_of_page : (page : Page) → repeated (raw_row page.width) page.height (rows_text page) ≡ Takes false (map (pixels_of page) (range_with_len 0 page.height)) []
 unfolding pixels_of row_of
 rows_of_page page =
     let ks : List ℕ = range_with_len 0 page.height in
     let f : ℕ → List ℕ = λ k. row_text page.width (λ x. image_of page x (page.height - suc k)) in
-    subst (λ n. times (raw_row page.width) n (rows_text page) ≡ Takes false (map (pixels_of page) ks) []) (length-range_with_len 0 page.height)
-    (ap (times (raw_row page.width) (length ks)) (sym (append-nil (rows_text page)))
+    subst (λ n. repeated (raw_row page.width) n (rows_text page) ≡ Takes false (map (pixels_of page) ks) []) (length-range_with_len 0 page.height)
+    (ap (repeated (raw_row page.width) (length ks)) (sym (append-nil (rows_text page)))
     ∙ rows_read page.width f ks [] (λ k. length-map-range_with_len (λ j. byte_from (λ x. image_of page x (page.height - suc k)) (8 * j)) 0 ((page.width + 7) / 8)))
 
 page_read : (page : Page) → IsPage page → page_at false (80 ∷ 52 ∷ 10 ∷ (decimal page.width ++ (32 ∷ (decimal page.height ++ (10 ∷ rows_text page))))) ≡ Takes false (raw_of page) []
@@ -226,11 +226,11 @@ page_read page is_page =
     let bytes : List ℕ = 80 ∷ 52 ∷ behind in
     bind_takes (spaces bytes) (λ _ rest. magic false rest >>= λ m rest. body m rest) [] raw bytes [] refl
     (bind_takes (magic false bytes) (λ m rest. body m rest) RawBits raw behind [] refl
-    (bind_takes (sides behind) (λ s rest. space rest >>= λ _ rest. raster (λ b. Bit b) (raw_row s.0) s.0 s.1 rest) (w, h) raw (10 ∷ rows) []
+    (bind_takes (sides behind) (λ s rest. space rest >>= λ _ rest. rows_raster (λ b. Bit b) (raw_row s.0) s.0 s.1 rest) (w, h) raw (10 ∷ rows) []
     (sides_read w h rows is_page.some_width (omega (arith, is_page.most_width)) is_page.some_height (omega (arith, is_page.most_height))
     (checked_page w h (10 ∷ rows) is_page.some_width is_page.most_width is_page.some_height is_page.most_height))
-    (bind_takes (space (10 ∷ rows)) (λ _ rest. raster (λ b. Bit b) (raw_row w) w h rest) (10 ∷ []) raw rows [] refl
-    (bind_takes (times (raw_row w) h rows) (λ found rest. Takes false (entries_page (λ b. Bit b) w h found) rest) (map (pixels_of page) (range_with_len 0 h)) raw [] []
+    (bind_takes (space (10 ∷ rows)) (λ _ rest. rows_raster (λ b. Bit b) (raw_row w) w h rest) (10 ∷ []) raw rows [] refl
+    (bind_takes (repeated (raw_row w) h rows) (λ found rest. Takes false (entries_page (λ b. Bit b) w h found) rest) (map (pixels_of page) (range_with_len 0 h)) raw [] []
     (rows_of_page page) refl))))
 
 pub front_of : (page : Page) → IsPage page → front false (pbm_text page) ≡ PageOf (raw_of page) (length (pbm_text page))

@@ -2,7 +2,7 @@
 ghost use Rattle.std.specs.Prelude.{◌≤◌, IfSome, IfNone, length, MatchBool};
 ghost use Rattle.point_fill.specs.Reading.{IsByteAt, IsNoByteAt, IsNumberAt, IsNoNumberAt};
 
-use list_reader::number::{Number, read_number};
+use list_reader::{Number, read_number};
 
 /// Whether this byte stands at a place.
 pub(crate) fn is_at(text: &[u8], at: usize, byte: u8) -> bool

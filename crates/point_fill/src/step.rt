@@ -7,9 +7,9 @@ ghost use Rattle.path_decompose.specs.Bounds.{IsCornerOf};
 ghost use Rattle.path_decompose.specs.Inside.{is_crossed, line_between};
 ghost use Rattle.point_fill.specs.Swept.{AreMarked};
 
-use bit_image::bitmap::Bitmap;
-use path_decompose::line::upright_between;
-use pt_base::point::Point;
+use bit_image::Bitmap;
+use path_decompose::upright_between;
+use pt_base::Point;
 
 /// Whether two corners are one unit step apart, along a row or along a column.
 fn is_step(from: Point, to: Point) -> bool

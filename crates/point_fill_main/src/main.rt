@@ -1,11 +1,9 @@
 //! point_fill: fills the page that a points text tells. All that it does is one call, `fill_run` of `fill_run`.
 #![tactic(auto)]
 
-use fill_run::program::fill_run;
-use pt_base::err_sink::ErrSink;
-use pt_base::file_inputs::FileInputs;
-use pt_base::file_outputs::FileOutputs;
-use small_program::words::words_of;
+use fill_run::fill_run;
+use pt_base::{ErrSink, FileInputs, FileOutputs};
+use small_program::words_of;
 use std::process::ExitCode;
 
 fn main(rt: HostRuntime) -> ExitCode {

@@ -3,7 +3,7 @@ use Rattle.std.proofs.Common.{◌≡◌, ℕ, suc, ◌+◌, ◌*◌, ◌<◌, �
 use Rattle.std.proofs.lemmas.Bool.{cases_lt}
 use Rattle.std.specs.Prelude.{slice_index}
 use Rattle.least_walk.specs.LeastWalk.{total_cost}
-use Rattle.least_walk.specs.Suffix.{GoesOn, HasCosts, HasFewest, IsLeastCost, IsLeastNext}
+use Rattle.least_walk.specs.Suffix.{HasCosts, HasFewest, IsLeastCost, IsLeastNext, WalksOn}
 use Rattle.least_walk.specs.Places.{IsPlace}
 use Rattle.least_walk.proofs.Cheapest.{IsCheapest, cheapest_onward}
 use Rattle.least_walk.proofs.Going.{goes_below, total_cost-cons}
@@ -15,7 +15,7 @@ use Rattle.polygon_optimal.proofs.Counting.{last_keeps}
 
 -- segments that cost little each cost little together
 total_small : (size : ℕ) (lasts : List ℕ) (cost : ℕ → ℕ → ℕ) → ((i j : ℕ) → i < size → IsUpToLast lasts i j → cost i j < 2 ^ 24)
-    → (i : ℕ) (rest : List ℕ) → GoesOn size (IsUpToLast lasts) i rest → total_cost cost (i ∷ rest) ≤ length rest * 2 ^ 24
+    → (i : ℕ) (rest : List ℕ) → WalksOn size (IsUpToLast lasts) i rest → total_cost cost (i ∷ rest) ≤ length rest * 2 ^ 24
 total_small size lasts cost cheap i [] goes = omega arith
 total_small size lasts cost cheap i (j ∷ rest) goes =
     let below = goes_below size (IsUpToLast lasts) j rest goes.2 in

@@ -7,7 +7,7 @@ use Rattle.pt_base.specs.declared.point.Point.{Point}
 use Rattle.pt_base.specs.OnPage.{AreOnPage}
 use Rattle.pt_base.specs.declared.limits.TheConstants.{LONGEST_SIDE}
 use Rattle.pt_base.proofs.Roots.{root_is, root_is_one, root_below}
-use Rattle.prefix_moments.specs.Sums.{IsPenalty, spread_of, chord_cross_of, right_of, above_of}
+use Rattle.prefix_moments.specs.Sums.{IsPenalty, spread_of, chord_cross_of, rightward_of, above_of}
 use Rattle.pt_base.proofs.Sizes.{product_most}
 use Rattle.prefix_moments.proofs.Summing.{sum_most}
 use Rattle.polygon_optimal.specs.Polygon.{penalty_of}
@@ -22,7 +22,7 @@ penalty_is_one points i j penalty is =
     root_is_one (65536 * unsigned_abs (spread_of points i j) / (j - i + 1)) penalty (penalty_of points i j) is (penalty_is points i j)
 
 -- two points of a page are no farther apart than its longest side
-right_most : (points : List Point) → AreOnPage points → (i k : ℕ) → unsigned_abs (right_of points i k) ≤ LONGEST_SIDE
+right_most : (points : List Point) → AreOnPage points → (i k : ℕ) → unsigned_abs (rightward_of points i k) ≤ LONGEST_SIDE
 right_most points on_page i k = let p = on_page k in let q = on_page i in omega (arith, ints)
 
 above_most : (points : List Point) → AreOnPage points → (i k : ℕ) → unsigned_abs (above_of points i k) ≤ LONGEST_SIDE
@@ -37,9 +37,9 @@ most_cross = 2 * (LONGEST_SIDE * LONGEST_SIDE)
 
 cross_most : (points : List Point) → AreOnPage points → (i j k : ℕ) → unsigned_abs (chord_cross_of points i j k) ≤ most_cross
 cross_most points on_page i j k =
-    difference_most (right_of points i k *ℤ above_of points i j) (above_of points i k *ℤ right_of points i j) (LONGEST_SIDE * LONGEST_SIDE)
-    (product_most (right_of points i k) (above_of points i j) LONGEST_SIDE LONGEST_SIDE (right_most points on_page i k) (above_most points on_page i j))
-    (product_most (above_of points i k) (right_of points i j) LONGEST_SIDE LONGEST_SIDE (above_most points on_page i k) (right_most points on_page i j))
+    difference_most (rightward_of points i k *ℤ above_of points i j) (above_of points i k *ℤ rightward_of points i j) (LONGEST_SIDE * LONGEST_SIDE)
+    (product_most (rightward_of points i k) (above_of points i j) LONGEST_SIDE LONGEST_SIDE (right_most points on_page i k) (above_most points on_page i j))
+    (product_most (above_of points i k) (rightward_of points i j) LONGEST_SIDE LONGEST_SIDE (above_most points on_page i k) (right_most points on_page i j))
 
 spread_most : (points : List Point) → AreOnPage points → (i j : ℕ) → unsigned_abs (spread_of points i j) ≤ (j - i + 1) * (most_cross * most_cross)
 spread_most points on_page i j =

@@ -21,8 +21,8 @@
 //! 4. What a possible segment is has the differences that `straight_paths` names.
 //!
 //! ```rust
-//! use polygon_optimal::optimal::polygon;
-//! use pt_base::point::Point;
+//! use polygon_optimal::polygon;
+//! use pt_base::Point;
 //!
 //! // The path round the two pixels, down from the upper left corner.
 //! let points = [
@@ -42,3 +42,6 @@ pub mod laws;
 pub mod optimal;
 mod search;
 pub mod segments;
+
+pub use optimal::{polygon, polygon_by};
+pub use segments::lasts;

@@ -6,10 +6,8 @@ ghost use Rattle.polygon_optimal.specs.Polygon.{IsBestPolygon, total_penalty};
 
 use crate::search::least_by_windows;
 use crate::segments::Segments;
-use prefix_moments::moments::Moments;
-use pt_base::fault::NoMemory;
-use pt_base::point::Point;
-use pt_base::polygon::Polygon;
+use prefix_moments::Moments;
+use pt_base::{NoMemory, Point, Polygon};
 use std::alloc::Global;
 
 /// The best polygon through the first point of a closed walk on a page.

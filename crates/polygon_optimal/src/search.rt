@@ -18,10 +18,9 @@ ghost use Rattle.polygon_optimal.specs.Polygon.{penalty_of};
 ghost use Rattle.polygon_optimal.specs.Search.{AreFalling, AreFarthest, HasCheapest, HasSlots, IsBegin, IsCheaperIn, slot_of};
 
 use crate::segments::Segments;
-use least_walk::walk::Walk;
-use prefix_moments::start::Start;
-use pt_base::fault::NoMemory;
-use pt_base::sequence::Sequence;
+use least_walk::Walk;
+use prefix_moments::Start;
+use pt_base::{NoMemory, Sequence};
 use std::alloc::Global;
 
 /// How many costs are kept: more than the longest segment has steps. As they are a power of two, a slot is

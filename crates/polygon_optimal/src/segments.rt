@@ -6,12 +6,11 @@ ghost use Rattle.prefix_moments.specs.Sums.{spread_of};
 ghost use Rattle.polygon_optimal.specs.Polygon.{penalty_of};
 ghost use Rattle.polygon_optimal.specs.Lasts.{AreRising, IsLast, HasLasts, LeadsOn, IsUpToLast};
 
-use least_walk::steps::Steps;
-use prefix_moments::moments::Moments;
-use pt_base::fault::NoMemory;
-use pt_base::point::Point;
+use least_walk::Steps;
+use prefix_moments::Moments;
+use pt_base::{NoMemory, Point};
 use std::alloc::Global;
-use straight_paths::reach::Reach;
+use straight_paths::Reach;
 
 /// The segments of a closed walk's polygons, and their penalties.
 //

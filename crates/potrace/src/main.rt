@@ -1,12 +1,9 @@
 //! potrace: traces bitmaps to outlines. All that it does is one call, `run` of `potrace_main`.
 #![tactic(auto)]
 
-use potrace_main::top::run;
-use pt_base::err_sink::ErrSink;
-use pt_base::file_inputs::FileInputs;
-use pt_base::file_outputs::FileOutputs;
-use pt_base::gate::NoGate;
-use run_output::message::{say_bad_words, say_out_of_memory};
+use potrace_main::run;
+use pt_base::{ErrSink, FileInputs, FileOutputs, NoGate};
+use run_output::{say_bad_words, say_out_of_memory};
 use std::env;
 use std::io::ErrorKind;
 use std::process::ExitCode;

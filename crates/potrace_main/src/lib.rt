@@ -3,3 +3,5 @@
 
 pub mod top;
 pub mod usage;
+
+pub use top::run;

@@ -16,27 +16,19 @@ ghost use Rattle.file_trace.specs.Outcome.{OpensFirst};
 ghost use Rattle.file_trace.specs.Progress.{InputCount};
 ghost use Rattle.potrace_main.specs.Run.{AreItemsOf, BindsApart, FailureCount, IsCodeOf, IsComplete, IsMissing, IsOnePassOf, IsOutcomeOf, IsRun, OutputsMove, RefusesWords, names_of};
 
+use command_asks::{Ask, WordFault, settings_of};
+use command_words::Name;
 use crate::usage::{help_text, version_text};
-use command_asks::ask::{Ask, WordFault};
-use command_asks::words::settings_of;
-use command_words::name::Name;
-use file_trace::files::trace_files;
-use file_trace::task::Task;
-use page_batches::desk::Desk;
-use page_batches::plan::Plan;
-use page_demo::demo::demo_text;
-use page_documents::job::DocumentJob;
-use page_trace::laws::pages_have_documents;
-use pt_base::gate::Gate;
-use pt_base::inputs::Inputs;
-use pt_base::settings::Settings;
-use pt_base::sink::{Outputs, Sink};
-use run_output::message::{say_bad_words, say_out_of_memory};
-use run_output::part::Binding;
-use run_output::status::Status;
+use file_trace::{Task, trace_files};
+use page_batches::{Desk, Plan};
+use page_demo::demo_text;
+use page_documents::DocumentJob;
+use page_trace::pages_have_documents;
+use pt_base::{Gate, Inputs, Outputs, Settings, Sink};
+use run_output::{Binding, Status, say_bad_words, say_out_of_memory};
 use std::alloc::Global;
 use std::thread::Threads;
-use threshold_map::level::Level;
+use threshold_map::Level;
 
 /// Does all that the words ask for, and answers the exit status.
 ///

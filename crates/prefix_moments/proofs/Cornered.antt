@@ -7,7 +7,7 @@ use Rattle.std.specs.Prelude.{unsigned_abs}
 use Rattle.pt_base.specs.declared.point.Point.{Point}
 use Rattle.pt_base.specs.ClosedWalk.{point_at}
 use Rattle.pt_base.proofs.Terms.{num, plus, less, times, same_value}
-use Rattle.prefix_moments.specs.Sums.{sum_of, spread_of, chord_cross_of, right_of, above_of}
+use Rattle.prefix_moments.specs.Sums.{sum_of, spread_of, chord_cross_of, rightward_of, above_of}
 use Rattle.prefix_moments.specs.declared.raw.Raw.{Raw}
 use Rattle.prefix_moments.specs.Table.{raw_of, spread_from}
 use Rattle.prefix_moments.proofs.Prefixes.{sum_same}
@@ -57,11 +57,11 @@ cross_from x y a b p q =
 
 -- those of a segment
 pub spread_from_is : (points : List Point) (i j : ℕ)
-    → spread_from (raw_of (λ d. point_at points (i + d)) (j - i + 1)) (pos (j - i + 1)) (right_of points i j) (above_of points i j)
-    ((point_at points i).x *ℤ above_of points i j -ℤ (point_at points i).y *ℤ right_of points i j)
+    → spread_from (raw_of (λ d. point_at points (i + d)) (j - i + 1)) (pos (j - i + 1)) (rightward_of points i j) (above_of points i j)
+    ((point_at points i).x *ℤ above_of points i j -ℤ (point_at points i).y *ℤ rightward_of points i j)
     ≡ spread_of points i j
 spread_from_is points i j =
-    let p = right_of points i j in
+    let p = rightward_of points i j in
     let q = above_of points i j in
     let from : Point = point_at points i in
     let k : ℤ = from.x *ℤ q -ℤ from.y *ℤ p in
@@ -74,8 +74,8 @@ spread_from_is points i j =
 -- it is what is left of it in 64 bits, where it is small
 pub wrapped_total : (points : List Point) (i j : ℕ) (r : Raw) (count right above number t : ℤ)
     → r ≡ raw_of (λ d. point_at points (i + d)) (j - i + 1) → count ≡ pos (j - i + 1)
-    → right ≡ right_of points i j → above ≡ above_of points i j
-    → number ≡ (point_at points i).x *ℤ above_of points i j -ℤ (point_at points i).y *ℤ right_of points i j
+    → right ≡ rightward_of points i j → above ≡ above_of points i j
+    → number ≡ (point_at points i).x *ℤ above_of points i j -ℤ (point_at points i).y *ℤ rightward_of points i j
     → unsigned_abs (spread_of points i j) < 2 ^ 48 → t ≡ int_wrap w64 (spread_from r count right above number) → t ≡ spread_of points i j
 wrapped_total points i j r count right above number t er ec ex ey en small et =
     et ∙ rw (er, ec, ex, ey, en) (ap (int_wrap w64) (spread_from_is points i j))

@@ -8,7 +8,7 @@ use Rattle.pt_base.specs.declared.limits.TheConstants.{LONGEST_SIDE, MOST_STEPS}
 use Rattle.prefix_moments.specs.declared.raw.Raw.{Raw}
 use Rattle.prefix_moments.specs.declared.sums.Sums.{Sums}
 use Rattle.pt_base.specs.OnPage.{IsOnPage, AreOnPage}
-use Rattle.prefix_moments.specs.Sums.{sum_of, sums_of, right_of, above_of, spread_of}
+use Rattle.prefix_moments.specs.Sums.{sum_of, sums_of, rightward_of, above_of, spread_of}
 use Rattle.prefix_moments.specs.Table.{raw_of, IsRawOf, offsets_of, spread_by}
 use Rattle.pt_base.proofs.Sizes.{product_most}
 use Rattle.prefix_moments.proofs.Summing.{sum_most, shifted, products_shifted, spread_is, squares_at_least}
@@ -70,13 +70,13 @@ offsets_are points i j =
 
 -- the sum of the squared cross products, by the sums of the offsets
 pub spread_of_is : (points : List Point) (i j : ℕ)
-    → spread_by ((sums_of points i j).xx) ((sums_of points i j).xy) ((sums_of points i j).yy) (right_of points i j) (above_of points i j) ≡ spread_of points i j
+    → spread_by ((sums_of points i j).xx) ((sums_of points i j).xy) ((sums_of points i j).yy) (rightward_of points i j) (above_of points i j) ≡ spread_of points i j
 spread_of_is points i j =
-    sym (spread_is (λ d. right_of points i (i + d)) (λ d. above_of points i (i + d)) (right_of points i j) (above_of points i j) (j - i + 1))
+    sym (spread_is (λ d. rightward_of points i (i + d)) (λ d. above_of points i (i + d)) (rightward_of points i j) (above_of points i j) (j - i + 1))
 
 pub spread_at_least : (points : List Point) (i j : ℕ) → pos 0 ≤ℤ spread_of points i j
 spread_at_least points i j =
-    squares_at_least (λ d. right_of points i (i + d) *ℤ above_of points i j -ℤ above_of points i (i + d) *ℤ right_of points i j) (j - i + 1)
+    squares_at_least (λ d. rightward_of points i (i + d) *ℤ above_of points i j -ℤ above_of points i (i + d) *ℤ rightward_of points i j) (j - i + 1)
 
 -- sums that were worked out from a segment's own
 pub sums_by : (points : List Point) (i j : ℕ) (r : Raw) (x y : ℤ) (s : Sums)
@@ -91,7 +91,7 @@ segment_most points on_page i count m h e =
     subst P (sym e) (raw_more _ count (MOST_STEPS + 1) h (raw_most (λ d. point_at points (i + d)) count (λ k. on_page (i + k))))
 
 -- the total that `spread` gives
-pub total_is : (points : List Point) (i j : ℕ) (s : Sums) (right above t : ℤ) → s ≡ sums_of points i j → right ≡ right_of points i j → above ≡ above_of points i j
+pub total_is : (points : List Point) (i j : ℕ) (s : Sums) (right above t : ℤ) → s ≡ sums_of points i j → right ≡ rightward_of points i j → above ≡ above_of points i j
     → t ≡ spread_by s.xx s.xy s.yy right above → t ≡ spread_of points i j
 total_is points i j s right above t es er ea et =
-    et ∙ rw (er, ea) (ap (λ v. spread_by v.xx v.xy v.yy (right_of points i j) (above_of points i j)) es) ∙ spread_of_is points i j
+    et ∙ rw (er, ea) (ap (λ v. spread_by v.xx v.xy v.yy (rightward_of points i j) (above_of points i j)) es) ∙ spread_of_is points i j

@@ -13,7 +13,7 @@ use Rattle.pt_base.specs.Root.{IsRoot}
 use Rattle.pt_base.specs.declared.limits.TheConstants.{LONGEST_SIDE}
 use Rattle.prefix_moments.specs.declared.sums.Sums.{Sums}
 use Rattle.pt_base.specs.OnPage.{IsOnPage}
-use Rattle.prefix_moments.specs.Sums.{sums_of, spread_of, right_of, above_of}
+use Rattle.prefix_moments.specs.Sums.{sums_of, spread_of, rightward_of, above_of}
 use Rattle.prefix_moments.specs.Table.{spread_by}
 use Rattle.pt_base.proofs.Roots.{root_below}
 use Rattle.pt_base.proofs.Sizes.{back, long_back}
@@ -25,7 +25,7 @@ between_is r a b al ah bl bh e = omega (arith, ints)
 
 -- how far the last point of a segment lies from the first
 pub right_is : (points : List Point) (i j : ℕ) (first last : Point) (right : ℤ) → IsOnPage first → IsOnPage last
-    → first ≡ point_at points i → last ≡ point_at points j → right ≡ to_z w32 (of_z w32 last.x) -ℤ to_z w32 (of_z w32 first.x) → right ≡ right_of points i j
+    → first ≡ point_at points i → last ≡ point_at points j → right ≡ to_z w32 (of_z w32 last.x) -ℤ to_z w32 (of_z w32 first.x) → right ≡ rightward_of points i j
 right_is points i j first last right pf pl ef el er =
     between_is right first.x last.x pf.left pf.right pl.left pl.right er
     ∙ ap (λ v. v.x -ℤ first.x) el ∙ ap (λ v. (point_at points j).x -ℤ v.x) ef

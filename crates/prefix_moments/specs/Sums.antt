@@ -16,8 +16,8 @@ abbrev pub sum_over : ℕ → ℕ → (ℕ → ℤ) → ℤ
 sum_over i j f = sum_of (λ d. f (i + d)) (j - i + 1)
 
 -- how many columns point number k lies to the right of point number i
-abbrev pub right_of : List Point → ℕ → ℕ → ℤ
-right_of points i k = (point_at points k).x -ℤ (point_at points i).x
+abbrev pub rightward_of : List Point → ℕ → ℕ → ℤ
+rightward_of points i k = (point_at points k).x -ℤ (point_at points i).x
 
 -- how many rows point number k lies above point number i
 abbrev pub above_of : List Point → ℕ → ℕ → ℤ
@@ -28,17 +28,17 @@ above_of points i k = (point_at points k).y -ℤ (point_at points i).y
 abbrev pub sums_of : List Point → ℕ → ℕ → Sums
 sums_of points i j = record {
   count = j - i + 1;
-  x = sum_over i j (λ k. right_of points i k);
+  x = sum_over i j (λ k. rightward_of points i k);
   y = sum_over i j (λ k. above_of points i k);
-  xx = sum_over i j (λ k. right_of points i k *ℤ right_of points i k);
-  xy = sum_over i j (λ k. right_of points i k *ℤ above_of points i k);
+  xx = sum_over i j (λ k. rightward_of points i k *ℤ rightward_of points i k);
+  xy = sum_over i j (λ k. rightward_of points i k *ℤ above_of points i k);
   yy = sum_over i j (λ k. above_of points i k *ℤ above_of points i k);
 }
 
 -- the cross product of the offsets of points number k and j from point number i: the distance of
 -- point number k from the line through the other two, times the length between these
 abbrev pub chord_cross_of : List Point → ℕ → ℕ → ℕ → ℤ
-chord_cross_of points i j k = right_of points i k *ℤ above_of points i j -ℤ above_of points i k *ℤ right_of points i j
+chord_cross_of points i j k = rightward_of points i k *ℤ above_of points i j -ℤ above_of points i k *ℤ rightward_of points i j
 
 -- the sum of the squared cross products of the points from number i to number j
 abbrev pub spread_of : List Point → ℕ → ℕ → ℤ

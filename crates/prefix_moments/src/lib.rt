@@ -9,3 +9,7 @@ mod prefix;
 mod raw;
 pub mod start;
 pub mod sums;
+
+pub use moments::Moments;
+pub use start::Start;
+pub use sums::Sums;

@@ -9,10 +9,7 @@ ghost use Rattle.prefix_moments.specs.Table.{raw_of, prefix_of, IsRawOf, IsTable
 use crate::prefix::Prefix;
 use crate::raw::{Raw, moved, moved_products, spread};
 use crate::sums::Sums;
-use pt_base::fault::NoMemory;
-use pt_base::limits::{LONGEST_SIDE, MOST_STEPS};
-use pt_base::point::Point;
-use pt_base::root::isqrt;
+use pt_base::{LONGEST_SIDE, MOST_STEPS, NoMemory, Point, isqrt};
 use std::alloc::Global;
 use std::marker::Model;
 

@@ -4,8 +4,7 @@ ghost use Rattle.pt_base.specs.OnPage.{IsOnPage};
 ghost use Rattle.prefix_moments.specs.Table.{no_prefix, both_of, less_of, point_between};
 
 use crate::raw::Raw;
-use pt_base::limits::LONGEST_SIDE;
-use pt_base::point::Point;
+use pt_base::{LONGEST_SIDE, Point};
 
 /// The sums of some points' coordinates modulo 2^32, and of their squares and products modulo 2^64.
 #[derive(Clone, Copy, Debug)]

@@ -8,9 +8,7 @@ ghost use Rattle.prefix_moments.specs.Table.{prefix_of};
 use crate::moments::{Moments, between};
 use crate::prefix::Prefix;
 use crate::raw::{crossed, wrapped_spread};
-use pt_base::limits::MOST_STEPS;
-use pt_base::point::Point;
-use pt_base::root::isqrt;
+use pt_base::{MOST_STEPS, Point, isqrt};
 
 /// The segments from one point of a path, for whoever asks for many of them: what these have in common is looked up
 /// once.

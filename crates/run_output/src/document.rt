@@ -5,8 +5,7 @@ ghost use Rattle.pt_base.specs.Documents.{IsCutOff, with_whole};
 ghost use Rattle.pt_base.specs.Failures.{after_err};
 
 use crate::part::write_part;
-use pt_base::fault::SinkFault;
-use pt_base::sink::Outputs;
+use pt_base::{Outputs, SinkFault};
 
 /// Begins a document, writes its text and ends it.
 ///

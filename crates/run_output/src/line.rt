@@ -9,7 +9,7 @@ ghost use Rattle.run_output.specs.Messages.{file_line, file_page_line, program_l
 
 use crate::pieces::write_pieces;
 use itoa::Buffer;
-use pt_base::sink::Sink;
+use pt_base::Sink;
 
 /// Says something as a program.
 pub fn say_line<E: Sink>(errs: &mut E, program: &str, text: &str)

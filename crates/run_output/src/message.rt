@@ -6,7 +6,7 @@ ghost use Rattle.run_output.specs.Messages.{bad_words, not_opened, not_written, 
 
 use crate::line::say;
 use itoa::Buffer;
-use pt_base::sink::Sink;
+use pt_base::Sink;
 
 /// Says that the words aren't the program's.
 pub fn say_bad_words<E: Sink>(errs: &mut E)

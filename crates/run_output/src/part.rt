@@ -11,9 +11,7 @@ ghost use Rattle.run_output.specs.declared.part.Binding.{Binding};
 
 use crate::pieces::write_pieces;
 use itoa::Buffer;
-use pt_base::fault::SinkFault;
-use pt_base::settings::Backend;
-use pt_base::sink::Outputs;
+use pt_base::{Backend, Outputs, SinkFault};
 
 /// How the pages of a file are bound: each is a document, or all together are one.
 #[derive(Clone, Copy, Debug, PartialEq, Eq)]

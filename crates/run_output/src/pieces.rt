@@ -5,9 +5,7 @@ ghost use Rattle.pt_base.specs.Counts.{Rose};
 ghost use Rattle.pt_base.specs.Documents.{with_bytes};
 ghost use Rattle.pt_base.specs.Failures.{after_err};
 
-use pt_base::fault::SinkFault;
-use pt_base::sink::Sink;
-use pt_base::write::write_whole;
+use pt_base::{Sink, SinkFault, write_whole};
 
 /// Writes the pieces one after another.
 ///

@@ -2,7 +2,7 @@
 ghost use Rattle.std.specs.Prelude.{◌≡◌};
 ghost use Rattle.small_program.specs.Ending.{exit_code};
 
-use run_output::status::Status;
+use run_output::Status;
 
 /// How a run of a program ends.
 #[derive(Clone, Copy, Debug, PartialEq, Eq)]

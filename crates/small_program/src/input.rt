@@ -6,8 +6,7 @@ ghost use Rattle.run_output.specs.Names.{dash};
 ghost use Rattle.small_program.specs.Input.{HasInput, HasTaken};
 ghost use Rattle.small_program.specs.declared.input.InputStop.TheVariants.{TooLong, Unread};
 
-use pt_base::fault::NoMemory;
-use pt_base::inputs::Inputs;
+use pt_base::{Inputs, NoMemory};
 use std::alloc::Global;
 
 /// The most bytes of standard input that a program takes: 2^30.

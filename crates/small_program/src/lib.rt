@@ -10,3 +10,8 @@ pub mod input;
 pub mod program;
 pub mod task;
 pub mod words;
+
+pub use ending::Ending;
+pub use program::run;
+pub use task::{Reply, Task};
+pub use words::words_of;

@@ -7,10 +7,8 @@ ghost use Rattle.small_program.specs.Reply.{reply_ending, reply_text, stop_endin
 use crate::ending::Ending;
 use crate::input::{InputStop, read_all};
 use crate::task::{Reply, Task};
-use pt_base::inputs::Inputs;
-use pt_base::sink::{Outputs, Sink};
-use run_output::document::write_document;
-use run_output::line::{say_line, say_of_file};
+use pt_base::{Inputs, Outputs, Sink};
+use run_output::{say_line, say_of_file, write_document};
 use std::alloc::Global;
 
 /// Has the task reply to standard input, writes the reply's document to standard output or says why there is none, and

@@ -5,9 +5,8 @@ ghost use Rattle.run_output.specs.Told.{IsMessage, told_of};
 ghost use Rattle.small_program.specs.declared.ending.Ending.TheVariants.{BadWords, OutOfMemory};
 
 use crate::ending::Ending;
-use pt_base::fault::NoMemory;
-use pt_base::sink::Sink;
-use run_output::line::say_line;
+use pt_base::{NoMemory, Sink};
+use run_output::say_line;
 use std::alloc::Global;
 use std::env::{self, Args, Env};
 use std::io::ErrorKind;

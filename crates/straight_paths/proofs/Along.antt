@@ -10,18 +10,18 @@ use Rattle.pt_base.specs.declared.point.Point.{Point}
 use Rattle.pt_base.proofs.Sizes.{product_most}
 use Rattle.pt_base.proofs.Terms.{same_value}
 use Rattle.pt_base.proofs.Terms.Term.{num, less, times}
-use Rattle.straight_paths.specs.Straight.{IsWithin, IsNear, IsPossible, offset_of, path_from}
+use Rattle.straight_paths.specs.Straight.{StaysWithin, IsNear, IsPossible, vector_of, path_from}
 use Rattle.straight_paths.specs.Cones.{cross_of}
-use Rattle.straight_paths.specs.declared.offset.Offset.{Offset}
+use Rattle.straight_paths.specs.declared.vector.Vector.{Vector}
 use Rattle.straight_paths.proofs.Cyclic.{lap_on}
 use Rattle.straight_paths.proofs.Turning.{cross_term}
 
--- how far an offset goes along rows and columns together
-abbrev way_of : Offset → ℕ
+-- how far a vector goes along rows and columns together
+abbrev way_of : Vector → ℕ
 way_of e = unsigned_abs e.x + unsigned_abs e.y
 
 -- a walk goes no farther than it has steps
-steps_most : (points : List Point) → IsClosedWalk points → (i d : ℕ) → way_of (offset_of (point_at points i) (point_at points (i + d))) ≤ d
+steps_most : (points : List Point) → IsClosedWalk points → (i d : ℕ) → way_of (vector_of (point_at points i) (point_at points (i + d))) ≤ d
 steps_most points walk i zero = rw add-zero (omega (arith, ints))
 steps_most points walk i (suc d) =
     let so_far = steps_most points walk i d in
@@ -41,7 +41,7 @@ apart_sum p q mx my ex ey =
     (less (times (by mx ex) (num ey)) (times (by my ey) (num ex)))
     (omega arith)
 
-within_most : (q : ℕ) (z : ℤ) → IsWithin q z → unsigned_abs z ≤ q
+within_most : (q : ℕ) (z : ℤ) → StaysWithin q z → unsigned_abs z ≤ q
 within_most q z is = let low = is.low in let high = is.high in omega (arith, ints)
 
 divided_most : (q a b : ℕ) → 1 ≤ q → q * a ≤ q * b → a ≤ b
@@ -55,7 +55,7 @@ difference_most : (a b : ℤ) (m n : ℕ) → unsigned_abs a ≤ m → unsigned_
 difference_most a b m n h k = omega (arith, ints)
 
 -- a point near a half-line has a small cross product with its end
-near_most : (m e : Offset) → IsNear m e → unsigned_abs (cross_of m e) ≤ way_of e
+near_most : (m e : Vector) → IsNear m e → unsigned_abs (cross_of m e) ≤ way_of e
 near_most m e near =
     let q : ℕ = near.q in
     let right : ℤ = pos q *ℤ m.x -ℤ pos near.p *ℤ e.x in
@@ -69,11 +69,11 @@ near_most m e near =
     divided_most q (unsigned_abs (cross_of m e)) (way_of e) near.positive (omega arith)
 
 -- so have the half-line's two ends
-at_start : (p : Point) (e : Offset) → cross_of (offset_of p p) e ≡ pos 0
+at_start : (p : Point) (e : Vector) → cross_of (vector_of p p) e ≡ pos 0
 at_start p e =
     same_value (less (times (less (num p.x) (num p.x)) (num e.y)) (times (less (num p.y) (num p.y)) (num e.x))) (num (pos 0)) (omega arith)
 
-at_end : (e : Offset) → cross_of e e ≡ pos 0
+at_end : (e : Vector) → cross_of e e ≡ pos 0
 at_end e = same_value (cross_term e e) (num (pos 0)) (omega arith)
 
 -- ---- along a possible segment
@@ -85,7 +85,7 @@ from_before points i k some h =
     ap (point_at points) e ∙ lap_on points k
 
 between_near : (points : List Point) → 1 ≤ length points → (i j k : ℕ) → IsPossible points i j → i < k → k < j
-    → IsNear (offset_of (point_at points i) (point_at points k)) (offset_of (point_at points i) (point_at points j))
+    → IsNear (vector_of (point_at points i) (point_at points k)) (vector_of (point_at points i) (point_at points j))
 between_near points some i j k possible h l =
     let near = possible.straight.near (i - i + 1) (k - i + 1) (j - i + 1) (omega arith) (omega arith) (omega arith) in
     let first = from_before points i i some (omega arith) in
@@ -95,18 +95,18 @@ between_near points some i j k possible h l =
 
 -- the cross product of each of the points that it stands for is at most its steps
 pub cross_most : (points : List Point) (i j k : ℕ) → IsClosedWalk points → IsPossible points i j → i ≤ k → k ≤ j
-    → unsigned_abs (cross_of (offset_of (point_at points i) (point_at points k)) (offset_of (point_at points i) (point_at points j))) ≤ j - i
+    → unsigned_abs (cross_of (vector_of (point_at points i) (point_at points k)) (vector_of (point_at points i) (point_at points j))) ≤ j - i
 cross_most points i j k walk possible h l =
-    let chord : Offset = offset_of (point_at points i) (point_at points j) in
-    let here : Offset = offset_of (point_at points i) (point_at points k) in
+    let chord : Vector = vector_of (point_at points i) (point_at points j) in
+    let here : Vector = vector_of (point_at points i) (point_at points k) in
     let P : ℤ → Type 0 = λ z. unsigned_abs z ≤ j - i in
     elim (cases_eq k i) [
       | inl same ↦ (
-          let zero_here : cross_of here chord ≡ pos 0 = ap (λ n. cross_of (offset_of (point_at points i) (point_at points n)) chord) same ∙ at_start (point_at points i) chord in
+          let zero_here : cross_of here chord ≡ pos 0 = ap (λ n. cross_of (vector_of (point_at points i) (point_at points n)) chord) same ∙ at_start (point_at points i) chord in
           subst P (sym zero_here) (omega arith))
       | inr later ↦ elim (cases_eq k j) [
         | inl same ↦ (
-            let zero_here : cross_of here chord ≡ pos 0 = ap (λ n. cross_of (offset_of (point_at points i) (point_at points n)) chord) same ∙ at_end chord in
+            let zero_here : cross_of here chord ≡ pos 0 = ap (λ n. cross_of (vector_of (point_at points i) (point_at points n)) chord) same ∙ at_end chord in
             subst P (sym zero_here) (omega arith))
         | inr sooner ↦ (
             let rises = possible.rises in

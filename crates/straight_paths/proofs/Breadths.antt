@@ -3,10 +3,10 @@ use Rattle.std.proofs.Common.{◌≡◌, ◌⊎◌, inl, inr, ℕ, zero, suc, �
 use Rattle.std.proofs.lemmas.Int.{ints, by_lt_z}
 use Rattle.pt_base.proofs.Terms.{same_value}
 use Rattle.pt_base.proofs.Terms.Term.{num, plus, less, times, opposite}
-use Rattle.straight_paths.specs.Straight.{IsNear, IsWithin}
+use Rattle.straight_paths.specs.Straight.{IsNear, StaysWithin}
 use Rattle.straight_paths.specs.Cones.{cross_of}
 use Rattle.straight_paths.specs.Wedges.{IsSign, IsQuarter, far_of}
-use Rattle.straight_paths.specs.declared.offset.Offset.{Offset}
+use Rattle.straight_paths.specs.declared.vector.Vector.{Vector}
 use Rattle.straight_paths.specs.declared.quarter.Quarter.{Quarter}
 use Rattle.straight_paths.proofs.Nearness.{small_is_near}
 use Rattle.straight_paths.proofs.Signs.{product_at_least, factor_at_least}
@@ -30,7 +30,7 @@ three_at_least : (a b c : ℤ) → pos 0 ≤ℤ a → pos 0 ≤ℤ b → pos 0 �
 three_at_least a b c h k l = omega (arith, ints)
 
 -- near by that part of the way which is s of t
-near_by : (m e : Offset) (s t : ℤ) → pos 0 ≤ℤ s → pos 0 <ℤ t
+near_by : (m e : Vector) (s t : ℤ) → pos 0 ≤ℤ s → pos 0 <ℤ t
     → IsUpTo t (t *ℤ m.x -ℤ s *ℤ e.x) → IsUpTo t (t *ℤ m.y -ℤ s *ℤ e.y) → IsNear m e
 near_by m e (pos s) (pos (suc t)) front some in_x in_y =
     let high_x = in_x.0 in
@@ -51,7 +51,7 @@ near_by m e (negsuc s) t front some in_x in_y = absurd (omega (arith, ints))
 -- ---- between two ends: neither is behind
 
 -- what the strip's way makes of the cross product of two others
-shared_cross : (d m e : Offset) → (d.x +ℤ d.y) *ℤ cross_of m e ≡ (m.x +ℤ m.y) *ℤ cross_of d e -ℤ (e.x +ℤ e.y) *ℤ cross_of d m
+shared_cross : (d m e : Vector) → (d.x +ℤ d.y) *ℤ cross_of m e ≡ (m.x +ℤ m.y) *ℤ cross_of d e -ℤ (e.x +ℤ e.y) *ℤ cross_of d m
 shared_cross d m e = same_value
     (times (plus (num d.x) (num d.y)) (cross_term m e))
     (less (times (plus (num m.x) (num m.y)) (cross_term d e)) (times (plus (num e.x) (num e.y)) (cross_term d m)))
@@ -96,13 +96,13 @@ cross_up_to w s t a m e x some front order here middle end is =
     let k = shared_low w t x in
     (factor_at_least (t -ℤ x) w (rw (g, is, h) high) some, factor_at_least (t +ℤ x) w (rw (k, is, l) low) some)
 
-part_x : (m e : Offset) → (e.x +ℤ e.y) *ℤ m.x -ℤ (m.x +ℤ m.y) *ℤ e.x ≡ cross_of m e
+part_x : (m e : Vector) → (e.x +ℤ e.y) *ℤ m.x -ℤ (m.x +ℤ m.y) *ℤ e.x ≡ cross_of m e
 part_x m e = same_value
     (less (times (plus (num e.x) (num e.y)) (num m.x)) (times (plus (num m.x) (num m.y)) (num e.x)))
     (cross_term m e)
     (omega arith)
 
-part_y : (m e : Offset) → (e.x +ℤ e.y) *ℤ m.y -ℤ (m.x +ℤ m.y) *ℤ e.y ≡ neg_ℤ (cross_of m e)
+part_y : (m e : Vector) → (e.x +ℤ e.y) *ℤ m.y -ℤ (m.x +ℤ m.y) *ℤ e.y ≡ neg_ℤ (cross_of m e)
 part_y m e = same_value
     (less (times (plus (num e.x) (num e.y)) (num m.y)) (times (plus (num m.x) (num m.y)) (num e.y)))
     (opposite (cross_term m e))
@@ -111,7 +111,7 @@ part_y m e = same_value
 turned_up_to : (t x : ℤ) → IsUpTo t x → IsUpTo t (neg_ℤ x)
 turned_up_to t x h = let a = h.0 in let b = h.1 in (omega (arith, ints), omega (arith, ints))
 
-near_between : (d m e : Offset) (a : ℤ) → pos 0 <ℤ (d.x +ℤ d.y)
+near_between : (d m e : Vector) (a : ℤ) → pos 0 <ℤ (d.x +ℤ d.y)
     → pos 0 ≤ℤ (m.x +ℤ m.y) → (m.x +ℤ m.y) ≤ℤ (e.x +ℤ e.y) → pos 0 <ℤ (e.x +ℤ e.y)
     → IsAcross (d.x +ℤ d.y) a → IsAcross (d.x +ℤ d.y) (a +ℤ cross_of d m) → IsAcross (d.x +ℤ d.y) (a +ℤ cross_of d e) → IsNear m e
 near_between d m e a some front order goes here middle end =
@@ -123,7 +123,7 @@ near_between d m e a some front order goes here middle end =
 
 -- ---- at the half-line's end
 
-near_end : (m e : Offset) → IsUpTo (pos 1) (m.x -ℤ e.x) → IsUpTo (pos 1) (m.y -ℤ e.y) → IsNear m e
+near_end : (m e : Vector) → IsUpTo (pos 1) (m.x -ℤ e.x) → IsUpTo (pos 1) (m.y -ℤ e.y) → IsNear m e
 near_end m e in_x in_y =
     let a = in_x.0 in
     let b = in_x.1 in
@@ -169,13 +169,13 @@ same_part b f = same_value (less (times (num f) (num b)) (times (num b) (num f))
 none_up_to : (f : ℤ) → pos 0 <ℤ f → IsUpTo f (pos 0)
 none_up_to f h = (omega (arith, ints), omega (arith, ints))
 
-near_up : (m e : Offset) → pos 2 ≤ℤ m.y → m.y ≤ℤ e.y → IsUpTo (pos 1) m.x → IsUpTo (pos 1) (m.x -ℤ e.x) → IsNear m e
+near_up : (m e : Vector) → pos 2 ≤ℤ m.y → m.y ≤ℤ e.y → IsUpTo (pos 1) m.x → IsUpTo (pos 1) (m.x -ℤ e.x) → IsNear m e
 near_up m e far order here apart =
     let z = same_part m.y e.y in
     near_by m e m.y e.y (omega (arith, ints)) (omega (arith, ints))
     (flat_up_to m.x e.x m.y e.y (omega (arith, ints)) order here apart) (rw z (none_up_to e.y (omega (arith, ints))))
 
-near_right : (m e : Offset) → pos 2 ≤ℤ m.x → m.x ≤ℤ e.x → IsUpTo (pos 1) m.y → IsUpTo (pos 1) (m.y -ℤ e.y) → IsNear m e
+near_right : (m e : Vector) → pos 2 ≤ℤ m.x → m.x ≤ℤ e.x → IsUpTo (pos 1) m.y → IsUpTo (pos 1) (m.y -ℤ e.y) → IsNear m e
 near_right m e far order here apart =
     let z = same_part m.x e.x in
     near_by m e m.x e.x (omega (arith, ints)) (omega (arith, ints))
@@ -220,7 +220,7 @@ no_times : (d z : ℤ) → d ≡ pos 0 → d *ℤ z ≡ pos 0
 no_times d z e = let P : ℤ → Type 0 = λ x. x *ℤ z ≡ pos 0 in subst P (sym e) (omega (arith, ints))
 
 -- two points of a strip, one later than the other, whose path goes back by 1 at most
-module _ (d m e : Offset) (a : ℤ) (right : pos 0 ≤ℤ d.x) (up : pos 0 ≤ℤ d.y) (some : pos 0 <ℤ (d.x +ℤ d.y))
+module _ (d m e : Vector) (a : ℤ) (right : pos 0 ≤ℤ d.x) (up : pos 0 ≤ℤ d.y) (some : pos 0 <ℤ (d.x +ℤ d.y))
     (m_right : negsuc 0 ≤ℤ m.x) (m_up : negsuc 0 ≤ℤ m.y) (e_right : m.x ≤ℤ (e.x +ℤ pos 1)) (e_up : m.y ≤ℤ (e.y +ℤ pos 1))
     (here : IsAcross (d.x +ℤ d.y) a) (middle : IsAcross (d.x +ℤ d.y) (a +ℤ cross_of d m)) (end : IsAcross (d.x +ℤ d.y) (a +ℤ cross_of d e)) where
   h0 : pos 0 ≤ℤ a
@@ -335,11 +335,11 @@ module _ (d m e : Offset) (a : ℤ) (right : pos 0 ≤ℤ d.x) (up : pos 0 ≤�
 
 -- ---- in any quarter
 
--- an offset as it is in the quarter of ways up and to the right
-abbrev mirrored : Quarter → Offset → Offset
+-- a vector as it is in the quarter of ways up and to the right
+abbrev mirrored : Quarter → Vector → Vector
 mirrored q o = record { x = q.right *ℤ o.x; y = q.up *ℤ o.y }
 
-cross_mirrored : (q : Quarter) (d m : Offset) → cross_of (mirrored q d) (mirrored q m) ≡ q.right *ℤ q.up *ℤ cross_of d m
+cross_mirrored : (q : Quarter) (d m : Vector) → cross_of (mirrored q d) (mirrored q m) ≡ q.right *ℤ q.up *ℤ cross_of d m
 cross_mirrored q d m = same_value
     (less (times (times (num q.right) (num d.x)) (times (num q.up) (num m.y))) (times (times (num q.up) (num d.y)) (times (num q.right) (num m.x))))
     (times (times (num q.right) (num q.up)) (cross_term d m))
@@ -351,23 +351,23 @@ signed_part n p s x y = same_value
     (times (num s) (less (times (num n) (num x)) (times (num p) (num y))))
     (omega arith)
 
-unsigned_within : (n : ℕ) (s z : ℤ) → IsSign s → IsWithin n (s *ℤ z) → IsWithin n z
+unsigned_within : (n : ℕ) (s z : ℤ) → IsSign s → StaysWithin n (s *ℤ z) → StaysWithin n z
 unsigned_within n s z sign is = elim sign [
   | inl e ↦
-      let P : ℤ → Type 0 = λ u. IsWithin n (u *ℤ z) in
+      let P : ℤ → Type 0 = λ u. StaysWithin n (u *ℤ z) in
       let h = subst P e is in
       let low = h.low in
       let high = h.high in
       record { low = omega (arith, ints); high = omega (arith, ints) }
   | inr e ↦
-      let P : ℤ → Type 0 = λ u. IsWithin n (u *ℤ z) in
+      let P : ℤ → Type 0 = λ u. StaysWithin n (u *ℤ z) in
       let h = subst P e is in
       let low = h.low in
       let high = h.high in
       record { low = omega (arith, ints); high = omega (arith, ints) }
 ]
 
-near_mirrored : (q : Quarter) (m e : Offset) → IsQuarter q → IsNear (mirrored q m) (mirrored q e) → IsNear m e
+near_mirrored : (q : Quarter) (m e : Vector) → IsQuarter q → IsNear (mirrored q m) (mirrored q e) → IsNear m e
 near_mirrored q m e signs near =
     let f = signed_part (pos near.q) (pos near.p) q.right m.x e.x in
     let g = signed_part (pos near.q) (pos near.p) q.up m.y e.y in
@@ -414,7 +414,7 @@ mirrored_here s w a sign is =
     ]
 
 -- two points of a strip that goes into a quarter
-pub near_in_strip : (q : Quarter) (d m e : Offset) (a : ℤ) → IsQuarter q → pos 0 ≤ℤ (q.right *ℤ d.x) → pos 0 ≤ℤ (q.up *ℤ d.y) → pos 0 <ℤ far_of q d
+pub near_in_strip : (q : Quarter) (d m e : Vector) (a : ℤ) → IsQuarter q → pos 0 ≤ℤ (q.right *ℤ d.x) → pos 0 ≤ℤ (q.up *ℤ d.y) → pos 0 <ℤ far_of q d
     → negsuc 0 ≤ℤ (q.right *ℤ m.x) → negsuc 0 ≤ℤ (q.up *ℤ m.y)
     → (q.right *ℤ m.x) ≤ℤ (q.right *ℤ e.x +ℤ pos 1) → (q.up *ℤ m.y) ≤ℤ (q.up *ℤ e.y +ℤ pos 1)
     → IsAcross (far_of q d) a → IsAcross (far_of q d) (a +ℤ cross_of d m) → IsAcross (far_of q d) (a +ℤ cross_of d e) → IsNear m e

@@ -6,11 +6,11 @@ use Rattle.std.proofs.lemmas.Bool.{cases_lt}
 use Rattle.pt_base.specs.declared.point.Point.{Point}
 use Rattle.pt_base.proofs.Terms.{same_value}
 use Rattle.pt_base.proofs.Terms.Term.{num, plus, less, times}
-use Rattle.straight_paths.specs.Straight.{offset_of}
+use Rattle.straight_paths.specs.Straight.{vector_of}
 use Rattle.straight_paths.specs.Cones.{cross_of}
-use Rattle.straight_paths.specs.Corners.{step_from, IsRun}
+use Rattle.straight_paths.specs.Corners.{step_from, GoesStraight}
 use Rattle.straight_paths.specs.Strips.{IsFromTo, IsOnward, AreInSpan, across_at, right_at, up_at, IsExtent, IsSmallExtent, TakesIn, no_span}
-use Rattle.straight_paths.specs.declared.offset.Offset.{Offset}
+use Rattle.straight_paths.specs.declared.vector.Vector.{Vector}
 use Rattle.straight_paths.specs.declared.quarter.Quarter.{Quarter}
 use Rattle.straight_paths.specs.declared.strip.Extent.{Extent}
 use Rattle.straight_paths.specs.declared.strip.Span.{Span}
@@ -129,7 +129,7 @@ cross_on wx wy x y ox oy t ux uy = same_value
     (plus (less (times (num wx) (less (num y) (num oy))) (times (num wy) (less (num x) (num ox)))) (times (num t) (less (times (num wx) (num uy)) (times (num wy) (num ux)))))
     (omega arith)
 
-module _ (quarter : Quarter) (way : Offset) (path : ℕ → Point) (s r : ℕ) (run : IsRun path s r) where
+module _ (quarter : Quarter) (way : Vector) (path : ℕ → Point) (s r : ℕ) (run : GoesStraight path s r) where
   across_on : (t : ℕ) → t ≤ r → across_at way path (s + t) ≡ across_at way path s +ℤ pos t *ℤ cross_of way (step_from path s)
   across_on t h =
       let e = along_x path s r run t h in
@@ -163,7 +163,7 @@ module _ (quarter : Quarter) (way : Offset) (path : ℕ → Point) (s r : ℕ) (
   }
 
 -- the extent after a run to a later point
-pub extent_on : (quarter : Quarter) (way : Offset) (path : ℕ → Point) (s next : ℕ) (old new : Extent) → s < next → IsRun path s (next - s)
+pub extent_on : (quarter : Quarter) (way : Vector) (path : ℕ → Point) (s next : ℕ) (old new : Extent) → s < next → GoesStraight path s (next - s)
     → IsExtent quarter way path s old → IsSmallExtent new
     → TakesIn old.across (across_at way path next) new.across → TakesIn old.right (right_at quarter path next) new.right
     → TakesIn old.up (up_at quarter path next) new.up
@@ -180,7 +180,7 @@ extent_on quarter way path s next old new more run is small across right up on_r
     (subst (λ (n : ℕ). old.up.greatest ≤ℤ (up_at quarter path n +ℤ pos 1)) e on_up))
 
 -- the start alone
-from_start : (o : Point) (w : Offset) → cross_of w (offset_of o o) ≡ pos 0
+from_start : (o : Point) (w : Vector) → cross_of w (vector_of o o) ≡ pos 0
 from_start o w = same_value
     (less (times (num w.x) (less (num o.y) (num o.y))) (times (num w.y) (less (num o.x) (num o.x)))) (num (pos 0)) (omega arith)
 
@@ -196,7 +196,7 @@ onward_zero f zero zero a b = omega (arith, ints)
 onward_zero f (suc j) zero a b = absurd (omega arith)
 onward_zero f j (suc k) a b = absurd (omega arith)
 
-pub extent_at_start : (quarter : Quarter) (way : Offset) (path : ℕ → Point) (extent : Extent)
+pub extent_at_start : (quarter : Quarter) (way : Vector) (path : ℕ → Point) (extent : Extent)
     → extent ≡ record { across = no_span; right = no_span; up = no_span } → IsExtent quarter way path 0 extent
 extent_at_start quarter way path extent is =
     let P : Extent → Type 0 = IsExtent quarter way path 0 in

@@ -5,13 +5,13 @@ use Rattle.pt_base.specs.declared.point.Point.{Point}
 use Rattle.straight_paths.specs.Cones.{IsShort}
 use Rattle.straight_paths.specs.Strips.{IsExtent, IsSmallExtent, IsStrip, StaysIn}
 use Rattle.straight_paths.specs.Wedges.{IsQuarter, far_of}
-use Rattle.straight_paths.specs.declared.offset.Offset.{Offset}
+use Rattle.straight_paths.specs.declared.vector.Vector.{Vector}
 use Rattle.straight_paths.specs.declared.quarter.Quarter.{Quarter}
 use Rattle.straight_paths.specs.declared.strip.Extent.{Extent}
 use Rattle.straight_paths.specs.declared.strip.Strip.{Strip}
 
 -- along the way, with so much room to the right of the extent
-abbrev pub strip_by : Quarter → Offset → Extent → ℤ → ℤ → Strip
+abbrev pub strip_by : Quarter → Vector → Extent → ℤ → ℤ → Strip
 strip_by quarter way extent breadth room = record {
   quarter = quarter;
   way = way;
@@ -20,7 +20,7 @@ strip_by quarter way extent breadth room = record {
   back = record { x = pos 0 -ℤ extent.right.least; y = pos 0 -ℤ extent.up.least };
 }
 
-module _ (quarter : Quarter) (way : Offset) (extent : Extent) (breadth room : ℤ) (small : IsSmallExtent extent)
+module _ (quarter : Quarter) (way : Vector) (extent : Extent) (breadth room : ℤ) (small : IsSmallExtent extent)
     (some : pos 0 ≤ℤ room) (rest : room ≤ℤ (breadth -ℤ (extent.across.greatest -ℤ extent.across.least))) where
   pub is_strip : IsQuarter quarter → IsShort 65535 way → pos 0 ≤ℤ (quarter.right *ℤ way.x) → pos 0 ≤ℤ (quarter.up *ℤ way.y)
       → breadth ≡ far_of quarter way → pos 0 <ℤ breadth → IsStrip (strip_by quarter way extent breadth room)

@@ -7,7 +7,7 @@ use Rattle.pt_base.proofs.Terms.Term.{num, plus, less, times}
 use Rattle.straight_paths.specs.Corners.{step_from}
 use Rattle.straight_paths.specs.Cones.{cross_of}
 use Rattle.straight_paths.specs.Strips.{IsFromTo, IsOnward, IsStrip, StaysIn, across_at, right_at, up_at}
-use Rattle.straight_paths.specs.declared.offset.Offset.{Offset}
+use Rattle.straight_paths.specs.declared.vector.Vector.{Vector}
 use Rattle.straight_paths.specs.declared.strip.Strip.{Strip}
 use Rattle.straight_paths.proofs.Pieces.{rest_of}
 
@@ -78,7 +78,7 @@ module _ (f g : ℕ → ℤ) (c : ℤ) (start : f 0 ≡ pos 0) (later : (k : ℕ
       let most = (old k (omega arith)).most in
       record { least = omega (arith, ints); most = omega (arith, ints) }
 
-pub stays_before : (strip : Strip) (at x y : ℤ) (step : Offset) (path : ℕ → Point) (count : ℕ) → step ≡ step_from path 0
+pub stays_before : (strip : Strip) (at x y : ℤ) (step : Vector) (path : ℕ → Point) (count : ℕ) → step ≡ step_from path 0
     → at ≡ strip.at -ℤ cross_of strip.way step → IsFromTo (pos 0) strip.breadth at
     → pos 0 ≤ℤ x → (strip.back.x -ℤ strip.quarter.right *ℤ step.x) ≤ℤ x → x ≤ℤ pos 1
     → pos 0 ≤ℤ y → (strip.back.y -ℤ strip.quarter.up *ℤ step.y) ≤ℤ y → y ≤ℤ pos 1
@@ -91,9 +91,9 @@ stays_before strip at x y step path count is at_is here x_some x_more x_most y_s
     let c : ℤ = cross_of w (step_from path 0) in
     let cx : ℤ = q.right *ℤ (step_from path 0).x in
     let cy : ℤ = q.up *ℤ (step_from path 0).y in
-    let at_by : at ≡ strip.at -ℤ c = subst (λ (o : Offset). at ≡ strip.at -ℤ cross_of w o) is at_is in
-    let x_by : (strip.back.x -ℤ cx) ≤ℤ x = subst (λ (o : Offset). (strip.back.x -ℤ q.right *ℤ o.x) ≤ℤ x) is x_more in
-    let y_by : (strip.back.y -ℤ cy) ≤ℤ y = subst (λ (o : Offset). (strip.back.y -ℤ q.up *ℤ o.y) ≤ℤ y) is y_more in
+    let at_by : at ≡ strip.at -ℤ c = subst (λ (o : Vector). at ≡ strip.at -ℤ cross_of w o) is at_is in
+    let x_by : (strip.back.x -ℤ cx) ≤ℤ x = subst (λ (o : Vector). (strip.back.x -ℤ q.right *ℤ o.x) ≤ℤ x) is x_more in
+    let y_by : (strip.back.y -ℤ cy) ≤ℤ y = subst (λ (o : Vector). (strip.back.y -ℤ q.up *ℤ o.y) ≤ℤ y) is y_more in
     let across_start : across_at w path 0 ≡ pos 0 = cross_start w.x w.y p.x p.y in
     let right_start : right_at q path 0 ≡ pos 0 = part_start q.right p.x in
     let up_start : up_at q path 0 ≡ pos 0 = part_start q.up p.y in

@@ -1,6 +1,6 @@
 -- Straight subpaths and possible segments.
---   offset_of: how far the second point is from the first
---   IsWithin: the whole number is from -q to q
+--   vector_of: how far the second point is from the first
+--   StaysWithin: the whole number is from -q to q
 --   IsNear: the half-line from the origin through `end` comes within 1 of `middle`
 --   Takes: one of the first `count` steps of the path is this one
 --   east
@@ -13,11 +13,11 @@
 --   IsPossible: the segment from point i to point j may stand for the path between them
 --   IsFarthest: d is the greatest number of steps that a possible segment from point i has
 pub mod Straight
--- The offsets that a cone of half-lines holds.
+-- The vectors that a cone of half-lines holds.
 --   cross_of: the cross product
 --   nowhere
 --   IsBetween: the way lies from `low` to `high`, borders included, counted to the left
---   Holds: the cone holds the way
+--   HoldsWay: the cone holds the way
 --   IsShort: neither coordinate is greater than this
 --   IsProper: the borders are short, and `high` lies to the left of `low`
 --   IsSound
@@ -33,7 +33,7 @@ pub mod Cones
 --   step_from: the step that leaves the path's point number k
 --   IsNextCorner: d is the least number of steps, at least one, from point i to a corner
 --   AreNextCorners: for each point, the number of steps to the next corner
---   IsRun: the path goes straight on for r steps from its point number s
+--   GoesStraight: the path goes straight on for r steps from its point number s
 pub mod Corners
 -- What is straight from an index on, within two laps of a closed path.
 --   limit_of: the most steps that matter
@@ -52,7 +52,7 @@ pub mod Tails
 -- Cones in one quarter of the plane, and how far a scan has come.
 --   IsSign: 1 or -1
 --   IsQuarter: both of its numbers are signs
---   far_of: how far an offset goes into the quarter, in both coordinates together
+--   far_of: how far a vector goes into the quarter, in both coordinates together
 --   IsInQuarter: the way lies in the quarter, and on no axis
 --   IsBorder: the border is short, and how far it goes into the quarter is known
 --   IsWedge: a cone between two borders in a quarter

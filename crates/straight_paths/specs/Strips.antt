@@ -6,7 +6,7 @@ use Rattle.pt_base.specs.declared.point.Point.{Point}
 use Rattle.straight_paths.specs.Cones.{cross_of, IsShort}
 use Rattle.straight_paths.specs.Tails.{way_along}
 use Rattle.straight_paths.specs.Wedges.{IsQuarter, far_of}
-use Rattle.straight_paths.specs.declared.offset.Offset.{Offset}
+use Rattle.straight_paths.specs.declared.vector.Vector.{Vector}
 use Rattle.straight_paths.specs.declared.quarter.Quarter.{Quarter}
 use Rattle.straight_paths.specs.declared.strip.Extent.{Extent}
 use Rattle.straight_paths.specs.declared.strip.Span.{Span}
@@ -34,7 +34,7 @@ abbrev pub IsOnward : (ℕ → ℤ) → ℕ → Type 0
 IsOnward f count = (j k : ℕ) → j ≤ k → k ≤ count → f j ≤ℤ (f k +ℤ pos 1)
 
 -- how far the path's point number k is from its start: across the way, and to the right and up in a quarter
-abbrev pub across_at : Offset → (ℕ → Point) → ℕ → ℤ
+abbrev pub across_at : Vector → (ℕ → Point) → ℕ → ℤ
 across_at way path k = cross_of way (way_along path k)
 
 abbrev pub right_at : Quarter → (ℕ → Point) → ℕ → ℤ
@@ -78,7 +78,7 @@ abbrev pub AreInSpan : Span → (ℕ → ℤ) → ℕ → Type 0
 AreInSpan span f count = (k : ℕ) → k ≤ count → IsFromTo span.least span.greatest (f k)
 
 -- how far the path's first `count` steps go to each side; they never go back in the quarter by more than 1
-pub record IsExtent (quarter : Quarter) (way : Offset) (path : ℕ → Point) (count : ℕ) (extent : Extent) : Type 0 where
+pub record IsExtent (quarter : Quarter) (way : Vector) (path : ℕ → Point) (count : ℕ) (extent : Extent) : Type 0 where
   pub small : IsSmallExtent extent
   pub across : AreInSpan extent.across (across_at way path) count
   pub right : AreInSpan extent.right (right_at quarter path) count

@@ -10,12 +10,12 @@ ghost use Rattle.straight_paths.specs.Corners.{step_from};
 ghost use Rattle.straight_paths.specs.Straight.{path_from};
 ghost use Rattle.straight_paths.specs.Strips.{IsExtent, IsFromTo, IsSmallExtent, IsSpan, IsStrip, StaysIn, TakesIn, no_span};
 ghost use Rattle.straight_paths.specs.Wedges.{IsQuarter};
-ghost use Rattle.straight_paths.specs.declared.offset.Offset.{Offset};
+ghost use Rattle.straight_paths.specs.declared.vector.Vector.{Vector};
 ghost use Rattle.straight_paths.specs.declared.quarter.Quarter.{Quarter};
 
-use crate::offset::Offset;
 use crate::quarter::Quarter;
 use crate::track::Track;
+use crate::vector::Vector;
 
 /// A subpath of fewer steps gets the strip along its chord alone.
 const SHORT: usize = 8;
@@ -26,13 +26,13 @@ const SHORT: usize = 8;
 pub(crate) struct Strip {
     /// The quarter into which its way goes.
     pub quarter: Quarter,
-    pub way: Offset,
+    pub way: Vector,
     /// What the way goes along rows and columns together.
     pub breadth: i64,
     /// How far the point is from the border on its right.
     pub at: i64,
     /// How far later points are behind this one at most, along rows and along columns: 0 or 1.
-    pub back: Offset,
+    pub back: Vector,
 }
 
 /// The least and the greatest of some numbers, 0 among them.
@@ -52,7 +52,7 @@ pub(crate) struct Extent {
 
 impl Strip {
     /// The same seen from one step earlier, if that point lies in it and later ones are behind it by 1 at most.
-    pub(crate) fn earlier(self, step: Offset) -> Option<Strip>
+    pub(crate) fn earlier(self, step: Vector) -> Option<Strip>
         requires strip { IsStrip self }
         requires step { IsShort 1 step }
         ensures strip { IfSome result IsStrip }
@@ -80,7 +80,7 @@ impl Strip {
             way: self.way,
             breadth: self.breadth,
             at,
-            back: Offset {
+            back: Vector {
                 x: back_x,
                 y: back_y,
             },
@@ -124,7 +124,7 @@ impl Span {
 impl Extent {
     /// Of a path's start alone.
     fn at_start() -> Extent
-        ensures { (quarter : Quarter) (way : Offset) (path : ℕ → Point) → IsExtent quarter way path 0 result }
+        ensures { (quarter : Quarter) (way : Vector) (path : ℕ → Point) → IsExtent quarter way path 0 result }
     {
         Extent {
             across: Span::at_zero(),
@@ -135,7 +135,7 @@ impl Extent {
 
     /// The same with a further place, which is so far across the way and onward in the quarter, if that isn't more
     /// than 1 behind the others.
-    fn with(self, across: i64, onward: Offset) -> Option<Extent>
+    fn with(self, across: i64, onward: Vector) -> Option<Extent>
         requires small { IsSmallExtent self }
         requires across { IsFromTo (neg_ℤ (pos (2 ^ 34))) (pos (2 ^ 34)) across }
         requires onward { IsShort 65536 onward }
@@ -161,7 +161,7 @@ impl Extent {
 
     /// The strip along the way that takes in all of it, with as much room on the one side as on the other, if there
     /// is one.
-    fn strip(self, quarter: Quarter, way: Offset) -> Option<Strip>
+    fn strip(self, quarter: Quarter, way: Vector) -> Option<Strip>
         requires small { IsSmallExtent self }
         requires quarter { IsQuarter quarter }
         requires right { pos 0 ≤ℤ (quarter.right *ℤ way.x) }
@@ -184,7 +184,7 @@ impl Extent {
             way,
             breadth,
             at: half(room) - self.across.least,
-            back: Offset {
+            back: Vector {
                 x: -self.right.least,
                 y: -self.up.least,
             },
@@ -237,22 +237,22 @@ pub(crate) fn strip_from(track: &Track, first: usize, steps: usize) -> Option<St
 }
 
 /// The way along a row or a column where this one is within 1 of it; else the way itself.
-fn levelled(way: Offset) -> Offset
+fn levelled(way: Vector) -> Vector
     requires { IsShort 65535 way }
     ensures { IsShort 65535 result }
 {
     if -1 <= way.y && way.y <= 1 {
-        return Offset { x: way.x, y: 0 };
+        return Vector { x: way.x, y: 0 };
     }
     if -1 <= way.x && way.x <= 1 {
-        return Offset { x: 0, y: way.y };
+        return Vector { x: 0, y: way.y };
     }
     way
 }
 
 /// Of the ways from this point to the next corners, and to the last point of so many steps, the one farthest to the
 /// left.
-fn leftmost(track: &Track, first: usize, most: usize) -> Offset
+fn leftmost(track: &Track, first: usize, most: usize) -> Vector
     requires first { first < length track.now }
     requires most { most < length track.now }
     ensures { IsShort 65535 result }
@@ -270,7 +270,7 @@ fn leftmost(track: &Track, first: usize, most: usize) -> Offset
 }
 
 /// The same, farthest to the right.
-fn rightmost(track: &Track, first: usize, most: usize) -> Offset
+fn rightmost(track: &Track, first: usize, most: usize) -> Vector
     requires first { first < length track.now }
     requires most { most < length track.now }
     ensures { IsShort 65535 result }
@@ -288,7 +288,7 @@ fn rightmost(track: &Track, first: usize, most: usize) -> Offset
 }
 
 /// The strip along a way in which the path from this point stays for so many steps, if it does.
-fn strip_along(track: &Track, first: usize, most: usize, way: Offset) -> Option<Strip>
+fn strip_along(track: &Track, first: usize, most: usize, way: Vector) -> Option<Strip>
     requires first { first < length track.now }
     requires most { most < length track.now }
     requires short { IsShort 65535 way }

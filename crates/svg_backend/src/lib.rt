@@ -10,3 +10,5 @@
 
 mod outline;
 pub mod svg_text;
+
+pub use svg_text::svg;

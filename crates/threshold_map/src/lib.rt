@@ -11,3 +11,5 @@
 #![tactic(auto)]
 
 pub mod level;
+
+pub use level::{GREATEST_SAMPLE, Level};

@@ -5,7 +5,7 @@ ghost use Rattle.bit_image.specs.Words.{is_one, black_in};
 ghost use Rattle.turn_policies.specs.Majority.{behind};
 ghost use Rattle.turn_policies.specs.Square.{IsSquare};
 
-use bit_image::bitmap::Bitmap;
+use bit_image::Bitmap;
 
 /// The square of 64 pixels with corner (x, y) at its middle: bits 0 to 7 are its lowest row from the
 /// left, bits 8 to 15 the next one, and so on.

@@ -10,3 +10,8 @@ pub mod heading;
 pub mod laws;
 pub mod majority;
 pub mod rule;
+
+pub use edge::Edge;
+pub use heading::Dir;
+pub use majority::major;
+pub use rule::{turn, turned_at};

@@ -6,9 +6,9 @@ ghost use Rattle.turn_policies.specs.Corner.{IsCorner};
 ghost use Rattle.turn_policies.specs.Majority.{black_in_ring, major};
 ghost use Rattle.turn_policies.specs.Square.{IsSquare};
 
+use bit_image::Bitmap;
 use crate::around::square;
-use bit_image::bitmap::Bitmap;
-use pt_base::point::Point;
+use pt_base::Point;
 
 /// Whether black is in the majority around a corner.
 ///

@@ -7,13 +7,11 @@ ghost use Rattle.turn_policies.specs.Corner.{IsCorner};
 ghost use Rattle.turn_policies.specs.Majority.{major};
 ghost use Rattle.turn_policies.specs.Turn.{goes_right, turn, next};
 
+use bit_image::Bitmap;
 use crate::edge::Edge;
 use crate::heading::Dir;
 use crate::majority::major_at;
-use bit_image::bitmap::Bitmap;
-use pt_base::path::Sign;
-use pt_base::point::Point;
-use pt_base::policy::Policy;
+use pt_base::{Point, Policy, Sign};
 
 /// Where a path goes on that comes to a corner with a heading.
 ///

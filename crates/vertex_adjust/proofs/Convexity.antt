@@ -5,7 +5,7 @@ use Rattle.std.proofs.Math.Nat.{mul-le-mul_left}
 use Rattle.std.proofs.lemmas.Nat.{mul-le}
 use Rattle.std.specs.Prelude.{unsigned_abs}
 use Rattle.pt_base.proofs.Terms.{Term, num, plus, less, times, same_value}
-use Rattle.vertex_adjust.specs.Quadratic.{IsQuadratic, excess_of}
+use Rattle.vertex_adjust.specs.Quadratic.{IsQuadratic, growth_of}
 use Rattle.vertex_adjust.specs.declared.quadratic.Quadratic.{Quadratic}
 use Rattle.vertex_adjust.proofs.Squares.{square_is, line_excess, both_excesses, mean_square, place_square, mean_distance, place_distance, line_slope, both_slopes, parabola_step}
 
@@ -13,7 +13,7 @@ use Rattle.vertex_adjust.proofs.Squares.{square_is, line_excess, both_excesses, 
 abbrev pub slope_of : Quadratic → ℤ → ℤ → ℤ
 slope_of b r t = b.y +ℤ pos 16 *ℤ (b.xy *ℤ r +ℤ b.yy *ℤ t)
 
-pub excess_step : (b : Quadratic) (r t k : ℤ) → excess_of b r (t +ℤ k) ≡ excess_of b r t +ℤ (k *ℤ slope_of b r t +ℤ pos 8 *ℤ (b.yy *ℤ (k *ℤ k)))
+pub excess_step : (b : Quadratic) (r t k : ℤ) → growth_of b r (t +ℤ k) ≡ growth_of b r t +ℤ (k *ℤ slope_of b r t +ℤ pos 8 *ℤ (b.yy *ℤ (k *ℤ k)))
 excess_step b r t k = parabola_step b.xx b.xy b.yy b.x b.y r t k
 
 -- the distance of a shift from a line with this normal
@@ -32,7 +32,7 @@ rest_of b is = is.d *ℤ is.d +ℤ is.d' *ℤ is.d'
 squares_are : (x y : ℤ) → x *ℤ x +ℤ y *ℤ y ≡ pos (unsigned_abs x * unsigned_abs x + unsigned_abs y * unsigned_abs y)
 squares_are x y = rw (square_is x, square_is y) refl
 
-pub excess_is : (b : Quadratic) (is : IsQuadratic b) (r t : ℤ) → pos (sum_at b is r t) ≡ rest_of b is +ℤ pos 32 *ℤ excess_of b r t
+pub excess_is : (b : Quadratic) (is : IsQuadratic b) (r t : ℤ) → pos (sum_at b is r t) ≡ rest_of b is +ℤ pos 32 *ℤ growth_of b r t
 excess_is b is r t =
     let one = distance_by is.u is.w is.d r t in
     let other = distance_by is.u' is.w' is.d' r t in
@@ -194,8 +194,8 @@ less_sums rest h h' s s' e e' l = omega (arith, ints)
 pub higher_beyond : (b : Quadratic) (is : IsQuadratic b) (m n : ℕ) (r0 t0 r t r' t' k tilt g : ℤ) (c more : ℕ) → 1 ≤ m
     → (pos m +ℤ pos n) *ℤ r ≡ pos n *ℤ r0 +ℤ pos m *ℤ r' → (pos m +ℤ pos n) *ℤ t +ℤ k ≡ pos n *ℤ t0 +ℤ pos m *ℤ t'
     → slope_of b r t ≡ tilt +ℤ g → k *ℤ g ≡ pos c → pos 8 *ℤ b.yy ≡ pos (unsigned_abs tilt) +ℤ pos more
-    → (pos 4 *ℤ excess_of b r0 t0) <ℤ (pos 4 *ℤ excess_of b r t -ℤ pos (unsigned_abs tilt))
-    → excess_of b r0 t0 <ℤ excess_of b r' t'
+    → (pos 4 *ℤ growth_of b r0 t0) <ℤ (pos 4 *ℤ growth_of b r t -ℤ pos (unsigned_abs tilt))
+    → growth_of b r0 t0 <ℤ growth_of b r' t'
 higher_beyond b is m n r0 t0 r t r' t' k tilt g c more some columns places slope product tilt_most low =
     let near = excess_is b is r0 t0 in
     let far = excess_is b is r' t' in
@@ -203,9 +203,9 @@ higher_beyond b is m n r0 t0 r t r' t' k tilt g c more some columns places slope
     let mean = sums_mean b is m n r0 t0 r t r' t' k columns places in
     let bound = bound_holds (m + n) k b.yy tilt g c more tilt_most product in
     let equal = summed (pos m +ℤ pos n) k (slope_of b r t) (tilt +ℤ g) (pos 8 *ℤ (b.yy *ℤ (k *ℤ k))) slope in
-    by_lt_z (excess_of b r0 t0) (excess_of b r' t')
+    by_lt_z (growth_of b r0 t0) (growth_of b r' t')
     (λ l. l)
     (λ no. absurd (not_both m n (sum_at b is r0 t0) (sum_at b is r' t') (sum_at b is r t) (unsigned_abs tilt) (bound.0) (spread_between b is r0 t0 r' t') some
     (joined (sum_at b is r0 t0) (sum_at b is r' t') (sum_at b is r t) m n (unsigned_abs tilt) (bound.0) (spread_between b is r0 t0 r' t') _ _ equal mean (bound.1))
-    (low_sums (rest_of b is) (excess_of b r0 t0) (excess_of b r t) _ _ (unsigned_abs tilt) near at low)
-    (less_sums (rest_of b is) (excess_of b r0 t0) (excess_of b r' t') _ _ near far no)))
+    (low_sums (rest_of b is) (growth_of b r0 t0) (growth_of b r t) _ _ (unsigned_abs tilt) near at low)
+    (less_sums (rest_of b is) (growth_of b r0 t0) (growth_of b r' t') _ _ near far no)))

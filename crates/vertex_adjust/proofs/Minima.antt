@@ -4,7 +4,7 @@ use Rattle.std.proofs.lemmas.Int.{ints, by_lt_z}
 use Rattle.std.proofs.Math.IntN.{zero-*ℤ, *ℤ-zero}
 use Rattle.std.specs.Prelude.{unsigned_abs}
 use Rattle.pt_base.proofs.Terms.{num, plus, less, times, same_value}
-use Rattle.vertex_adjust.specs.Quadratic.{IsQuadratic, IsAim, IsNearest, LiesBetween, excess_of, pull_of}
+use Rattle.vertex_adjust.specs.Quadratic.{IsQuadratic, IsAim, IsNearest, LiesBetween, growth_of, pull_of}
 use Rattle.vertex_adjust.specs.Quadratic.IsAim.{inside, above, below}
 use Rattle.vertex_adjust.specs.declared.quadratic.Quadratic.{Quadratic}
 use Rattle.vertex_adjust.proofs.Squares.{square_is}
@@ -196,7 +196,7 @@ natural z h = omega (arith, ints)
 
 pub lowest_of : (b : Quadratic) → IsQuadratic b → (r aim t : ℤ) → IsAim b r aim → IsNearest b.yy aim t
     → (u : ℤ) → unsigned_abs u ≤ 32 → (u ≡ t → ⊥)
-    → (excess_of b r t <ℤ excess_of b r u) ⊎ ((excess_of b r t ≡ excess_of b r u) × (unsigned_abs t * unsigned_abs t < unsigned_abs u * unsigned_abs u))
+    → (growth_of b r t <ℤ growth_of b r u) ⊎ ((growth_of b r t ≡ growth_of b r u) × (unsigned_abs t * unsigned_abs t < unsigned_abs u * unsigned_abs u))
 lowest_of b is r aim t is_aim near u steps apart =
     let k : ℤ = u -ℤ t in
     let tilt : ℤ = pos 16 *ℤ (b.yy *ℤ t) -ℤ aim in
@@ -204,12 +204,12 @@ lowest_of b is r aim t is_aim near u steps apart =
     let y : b.yy ≡ pos (unsigned_abs b.yy) = natural b.yy (yy_least b is) in
     let on : t +ℤ k ≡ u = omega (arith, ints) in
     let back = brought b is r aim t is_aim near 1 u k (omega (arith, ints)) (omega arith) in
-    let P : ℤ → Type 0 = λ v. (excess_of b r t <ℤ excess_of b r v) ⊎ ((excess_of b r t ≡ excess_of b r v) × (unsigned_abs t * unsigned_abs t < unsigned_abs v * unsigned_abs v)) in
-    let step : excess_of b r (t +ℤ k) ≡ excess_of b r t +ℤ (k *ℤ (tilt +ℤ g) +ℤ pos 8 *ℤ (pos (unsigned_abs b.yy) *ℤ (k *ℤ k))) =
-    excess_step b r t k ∙ ap (λ v. excess_of b r t +ℤ (k *ℤ v +ℤ pos 8 *ℤ (b.yy *ℤ (k *ℤ k)))) (slope_tilt b r t aim)
-    ∙ ap (λ v. excess_of b r t +ℤ (k *ℤ (tilt +ℤ g) +ℤ pos 8 *ℤ (v *ℤ (k *ℤ k)))) y in
+    let P : ℤ → Type 0 = λ v. (growth_of b r t <ℤ growth_of b r v) ⊎ ((growth_of b r t ≡ growth_of b r v) × (unsigned_abs t * unsigned_abs t < unsigned_abs v * unsigned_abs v)) in
+    let step : growth_of b r (t +ℤ k) ≡ growth_of b r t +ℤ (k *ℤ (tilt +ℤ g) +ℤ pos 8 *ℤ (pos (unsigned_abs b.yy) *ℤ (k *ℤ k))) =
+    excess_step b r t k ∙ ap (λ v. growth_of b r t +ℤ (k *ℤ v +ℤ pos 8 *ℤ (b.yy *ℤ (k *ℤ k)))) (slope_tilt b r t aim)
+    ∙ ap (λ v. growth_of b r t +ℤ (k *ℤ (tilt +ℤ g) +ℤ pos 8 *ℤ (v *ℤ (k *ℤ k)))) y in
     subst P on
-    (rises (excess_of b r t) (excess_of b r (t +ℤ k)) t k tilt g (unsigned_abs b.yy) (back.0) step near.near (back.1)
+    (rises (growth_of b r t) (growth_of b r (t +ℤ k)) t k tilt g (unsigned_abs b.yy) (back.0) step near.near (back.1)
     (λ none. apart (omega (arith, ints)))
     (λ e. near.higher (e ∙ ap (λ v. pos 0 -ℤ pos 8 *ℤ v) (sym y)))
     (λ e. near.lower (e ∙ ap (λ v. pos 8 *ℤ v) (sym y))))
@@ -242,8 +242,8 @@ columns_down r0 r r' m n e f =
 
 beyond_by : (b : Quadratic) → IsQuadratic b → (r aim t : ℤ) → IsAim b r aim → IsNearest b.yy aim t
     → (m n : ℕ) (r0 t0 r' t' : ℤ) → 1 ≤ m → (pos m +ℤ pos n) *ℤ r ≡ pos n *ℤ r0 +ℤ pos m *ℤ r' → unsigned_abs t0 ≤ 32 → unsigned_abs t' ≤ 32
-    → (pos 4 *ℤ excess_of b r0 t0) <ℤ (pos 4 *ℤ excess_of b r t -ℤ pos (unsigned_abs (pos 16 *ℤ (b.yy *ℤ t) -ℤ aim)))
-    → excess_of b r0 t0 <ℤ excess_of b r' t'
+    → (pos 4 *ℤ growth_of b r0 t0) <ℤ (pos 4 *ℤ growth_of b r t -ℤ pos (unsigned_abs (pos 16 *ℤ (b.yy *ℤ t) -ℤ aim)))
+    → growth_of b r0 t0 <ℤ growth_of b r' t'
 beyond_by b is r aim t is_aim near m n r0 t0 r' t' some columns h l low =
     let p : ℤ = pos n *ℤ t0 +ℤ pos m *ℤ t' in
     let k : ℤ = p -ℤ (pos m +ℤ pos n) *ℤ t in
@@ -255,8 +255,8 @@ beyond_by b is r aim t is_aim near m n r0 t0 r' t' some columns h l low =
 
 pub beyond_of : (b : Quadratic) → IsQuadratic b → (r aim t : ℤ) → IsAim b r aim → IsNearest b.yy aim t
     → (one far : Shift) → IsCandidate one → IsCandidate far → LiesBetween one.right r far.right
-    → (pos 4 *ℤ excess_of b one.right one.up) <ℤ (pos 4 *ℤ excess_of b r t -ℤ pos (unsigned_abs (pos 16 *ℤ (b.yy *ℤ t) -ℤ aim)))
-    → excess_of b one.right one.up <ℤ excess_of b far.right far.up
+    → (pos 4 *ℤ growth_of b one.right one.up) <ℤ (pos 4 *ℤ growth_of b r t -ℤ pos (unsigned_abs (pos 16 *ℤ (b.yy *ℤ t) -ℤ aim)))
+    → growth_of b one.right one.up <ℤ growth_of b far.right far.up
 beyond_of b is r aim t is_aim near one far is_one is_far (inl h) low =
     let l = h.0 in
     let l' = h.1 in

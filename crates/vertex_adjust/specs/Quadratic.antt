@@ -16,8 +16,8 @@ pub record IsOverWidePage (line : Line) : Type 0 where
   pub cy : unsigned_abs line.cy ≤ 2 ^ 27
 
 -- how much greater the sum of the squared distances is at a shift than for no shift, in units of 32
-abbrev pub excess_of : Quadratic → ℤ → ℤ → ℤ
-excess_of b right up =
+abbrev pub growth_of : Quadratic → ℤ → ℤ → ℤ
+growth_of b right up =
     pos 8 *ℤ ((b.xx *ℤ (right *ℤ right) +ℤ pos 2 *ℤ (b.xy *ℤ (right *ℤ up))) +ℤ b.yy *ℤ (up *ℤ up)) +ℤ (b.x *ℤ right +ℤ b.y *ℤ up)
 
 -- the coefficients are those of two lines with the normals (u, w) and (u', w'), at the distances d and d'
@@ -43,7 +43,7 @@ pub record IsQuadratic (b : Quadratic) : Type 0 where
 -- the error is 32 times the excess, and a number that all shifts share
 pub record IsErrorOver (error : Shift → ℕ) (b : Quadratic) : Type 0 where
   pub rest : ℤ
-  pub is : (right up : ℤ) → pos (error (record { right = right; up = up })) ≡ rest +ℤ pos 32 *ℤ excess_of b right up
+  pub is : (right up : ℤ) → pos (error (record { right = right; up = up })) ≡ rest +ℤ pos 32 *ℤ growth_of b right up
 
 -- the second number lies between the others
 abbrev pub LiesBetween : ℤ → ℤ → ℤ → Type 0
@@ -52,22 +52,22 @@ LiesBetween a b c = ((a <ℤ b) × (b <ℤ c)) ⊎ ((c <ℤ b) × (b <ℤ a))
 -- the lowest shift of a column; of two it is the shorter one
 pub record IsMinimum (b : Quadratic) (right : ℤ) (minimum : Minimum) : Type 0 where
   pub steps : unsigned_abs minimum.up ≤ 32
-  pub excess : minimum.excess ≡ excess_of b right minimum.up
+  pub excess : minimum.excess ≡ growth_of b right minimum.up
   pub excess_most : unsigned_abs minimum.excess ≤ 2 ^ 60 + 2 ^ 42
   pub lowest : (up : ℤ) → unsigned_abs up ≤ 32 → up ≢ minimum.up
-      → (minimum.excess <ℤ excess_of b right up)
-      ⊎ ((minimum.excess ≡ excess_of b right up) × (unsigned_abs minimum.up * unsigned_abs minimum.up < unsigned_abs up * unsigned_abs up))
+      → (minimum.excess <ℤ growth_of b right up)
+      ⊎ ((minimum.excess ≡ growth_of b right up) × (unsigned_abs minimum.up * unsigned_abs minimum.up < unsigned_abs up * unsigned_abs up))
   pub bound_most : minimum.bound ≤ℤ (pos 4 *ℤ minimum.excess)
   -- where a shift on one side of the column is lower than a quarter of `bound`, all shifts on the other side
   -- are higher than that shift
   pub beyond : (near far : Shift) → IsCandidate near → IsCandidate far → LiesBetween near.right right far.right
-      → (pos 4 *ℤ excess_of b near.right near.up) <ℤ minimum.bound
-      → excess_of b near.right near.up <ℤ excess_of b far.right far.up
+      → (pos 4 *ℤ growth_of b near.right near.up) <ℤ minimum.bound
+      → growth_of b near.right near.up <ℤ growth_of b far.right far.up
 
 -- a shift of a column from `first` to `last` with its excess, and no candidate in these columns comes before it
 pub record IsBestBetween (b : Quadratic) (first last : ℤ) (best : Trial) : Type 0 where
   pub candidate : IsCandidate best.shift
-  pub excess : best.excess ≡ excess_of b best.shift.right best.shift.up
+  pub excess : best.excess ≡ growth_of b best.shift.right best.shift.up
   pub excess_most : unsigned_abs best.excess ≤ 2 ^ 60 + 2 ^ 42
   pub from : first ≤ℤ best.shift.right
   pub to : best.shift.right ≤ℤ last

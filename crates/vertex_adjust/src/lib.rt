@@ -25,3 +25,7 @@ mod search;
 pub mod shift;
 mod spread;
 pub mod vertices;
+
+pub use columns::column;
+pub use line::{Line, line_of};
+pub use vertices::{adjust, adjust_by, vertex};

@@ -4,7 +4,7 @@ ghost use Rattle.vertex_adjust.specs.Quadratic.{IsOverWidePage, IsQuadratic, IsE
 ghost use Rattle.vertex_adjust.specs.Vertex.{error_of};
 
 use crate::line::Line;
-use pt_base::point::Point;
+use pt_base::Point;
 
 /// How the sum of the squared distances from two lines changes with the shift.
 ///

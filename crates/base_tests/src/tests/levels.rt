@@ -1,6 +1,6 @@
 //! Levels beside brightnesses that a person can compare.
 use std::test::Fail;
-use threshold_map::level::{GREATEST_SAMPLE, Level};
+use threshold_map::{GREATEST_SAMPLE, Level};
 
 #[test]
 fn gray_samples(rt: HostRuntime) -> Result<(), Fail> {

@@ -1,12 +1,6 @@
 //! Texts of lists.
 
-use pt_base::fault::NoMemory;
-use pt_base::list_text::{points, polygons};
-use pt_base::path::{Path, Sign};
-use pt_base::point::Point;
-use pt_base::polygon::Polygon;
-use pt_base::sequence::Sequence;
-use pt_base::trace::Trace;
+use pt_base::{NoMemory, Path, Point, Polygon, Sequence, Sign, Trace, points, polygons};
 use std::alloc::Global;
 use std::test::Fail;
 

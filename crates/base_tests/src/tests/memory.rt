@@ -1,12 +1,6 @@
 //! The outside in memory. What each call does is a clause; that memory is there isn't.
 
-use pt_base::fault::DeviceFault;
-use pt_base::inputs::Inputs;
-use pt_base::mem_inputs::{InCall, MemInputs, NamedBytes};
-use pt_base::mem_outputs::{MemOutputs, OutCall};
-use pt_base::mem_sink::MemSink;
-use pt_base::sink::{Outputs, Sink};
-use pt_base::write::write_whole;
+use pt_base::{DeviceFault, InCall, Inputs, MemInputs, MemOutputs, MemSink, NamedBytes, OutCall, Outputs, Sink, write_whole};
 use std::test::Fail;
 
 #[test]

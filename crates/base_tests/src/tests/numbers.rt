@@ -1,7 +1,6 @@
 //! Numbers as people write them, and roots.
 
-use pt_base::decimal::{BadDecimal, read_micro, read_whole};
-use pt_base::root::isqrt;
+use pt_base::{BadDecimal, isqrt, read_micro, read_whole};
 
 #[test]
 fn decimals_in_millionths(rt: HostRuntime) {

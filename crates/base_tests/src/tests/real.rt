@@ -1,12 +1,6 @@
 //! Real files and streams, of which no clause tells what they hold.
 
-use pt_base::err_sink::ErrSink;
-use pt_base::fault::{DeviceFault, OpenFault};
-use pt_base::file_inputs::FileInputs;
-use pt_base::file_outputs::FileOutputs;
-use pt_base::inputs::Inputs;
-use pt_base::sink::Outputs;
-use pt_base::write::write_whole;
+use pt_base::{DeviceFault, ErrSink, FileInputs, FileOutputs, Inputs, OpenFault, Outputs, write_whole};
 use std::test::Fail;
 
 const TEXT: &[u8] = b"P1 1 1 1\n";

@@ -1,8 +1,7 @@
 //! Pages of packed words, beside pages of one entry a pixel.
 
-use bit_image::bitmap::Bitmap;
-use page_samples::pages::drawn;
-use page_samples::plain_page::PlainPage;
+use bit_image::Bitmap;
+use page_samples::{PlainPage, drawn};
 use std::test::Fail;
 
 #[test]

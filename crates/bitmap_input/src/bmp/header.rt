@@ -3,7 +3,7 @@ ghost use Rattle.std.specs.Prelude.{◌≡◌, ℕ, ◌+◌, ◌≤◌, true, fa
 ghost use Rattle.bitmap_input.specs.Reading.{Reads, Leaves};
 ghost use Rattle.bitmap_input.specs.BmpHeader.{header_size, bits, mask_bytes, has_known_masks, has_known_colors};
 ghost use Rattle.bitmap_input.specs.Bmp.{start, info, masks, placed, header};
-ghost use Rattle.bitmap_input.specs.BmpHead.{HasInfo, IsStart, IsInfo, IsWhole, IsHeader, IsReadable, Passes, bits_in};
+ghost use Rattle.bitmap_input.specs.BmpHead.{HasInfo, IsHeaderStart, IsInfo, IsWholeHeader, IsHeader, IsReadable, Passes, bits_in};
 
 use crate::bmp::fields::{
     Depth, color_bytes, has_known_colors, height, is_known_size, is_top_down, mask_bytes,
@@ -15,7 +15,7 @@ use crate::header::check;
 use crate::number::CAP;
 use crate::stop::Stop;
 use crate::window::Window;
-use pt_base::inputs::Inputs;
+use pt_base::Inputs;
 
 /// What the header of a BMP picture says.
 #[derive(Clone, Copy, Debug)]
@@ -43,7 +43,7 @@ fn read_start<I: Inputs>(window: &mut Window, inputs: &mut I, head: &mut Head) -
     requires none { head.old ≡ [] }
     ensures reads { Reads (λ _ bytes. bytes ≡ head.new) start window.old
         (I.files inputs.old) result window.new (I.files inputs.new) }
-    ensures begun { OnOk result (IsStart head.new) }
+    ensures begun { OnOk result (IsHeaderStart head.new) }
     ensures leaves { Leaves I.Inputs result inputs.old inputs.new }
 {
     head.read(window, inputs, 16)?;
@@ -57,7 +57,7 @@ fn read_start<I: Inputs>(window: &mut Window, inputs: &mut I, head: &mut Head) -
 /// The rest of the header, of a kind that is read.
 fn read_info<I: Inputs>(window: &mut Window, inputs: &mut I, head: &mut Head) -> Result<Depth, Stop>
     requires opened { I.is_opened inputs.old ≡ true }
-    requires begun { IsStart head.old }
+    requires begun { IsHeaderStart head.old }
     ensures reads { Reads (λ _ bytes. bytes ≡ head.new) (info head.old) window.old
         (I.files inputs.old) result window.new (I.files inputs.new) }
     ensures begun { OnOk result (IsInfo head.new) }
@@ -84,7 +84,7 @@ fn read_masks<I: Inputs>(
     requires kind { bits head.old ≡ bits_in depth }
     ensures reads { Reads (λ _ bytes. bytes ≡ head.new) (masks head.old) window.old
         (I.files inputs.old) result window.new (I.files inputs.new) }
-    ensures whole { OnOk result (IsWhole head.new) }
+    ensures whole { OnOk result (IsWholeHeader head.new) }
     ensures kind { OnOk result (bits head.new ≡ bits_in depth) }
     ensures colors { OnOk result (has_known_colors head.new ≡ true) }
     ensures leaves { Leaves I.Inputs result inputs.old inputs.new }

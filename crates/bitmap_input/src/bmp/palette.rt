@@ -4,14 +4,14 @@ ghost use Rattle.bitmap_input.specs.Reading.{Reads, Leaves};
 ghost use Rattle.bitmap_input.specs.Parts.{block};
 ghost use Rattle.bitmap_input.specs.Raw.{black};
 ghost use Rattle.bitmap_input.specs.BmpRaster.{palette_color};
-ghost use Rattle.bitmap_input.specs.BmpHead.{IsReadable, IsTable};
+ghost use Rattle.bitmap_input.specs.BmpHead.{IsPaletteTable, IsReadable};
 
 use crate::bmp::header::Header;
 use crate::bmp::pixels::Tone;
 use crate::raw::read_block;
 use crate::stop::Stop;
 use crate::window::Window;
-use pt_base::inputs::Inputs;
+use pt_base::Inputs;
 
 /// Whether a colour of a palette is a black pixel.
 fn is_black(tone: &Tone, colors: u32, size: u32, palette: &[u8], i: u32) -> bool
@@ -38,7 +38,7 @@ fn fill_table(tone: &Tone, colors: u32, size: u32, palette: &[u8], table: &mut [
     requires small { size ≤ 4 }
     requires whole { length palette.now ≡ size * colors }
     requires room { length table.old ≡ 256 }
-    ensures table { IsTable tone.now.level tone.now.invert
+    ensures table { IsPaletteTable tone.now.level tone.now.invert
         (palette_color colors size palette.now) table.new }
     ensures room { length table.new ≡ 256 }
 {
@@ -60,7 +60,7 @@ fn read_colors<I: Inputs>(
     requires readable { IsReadable header.now }
     requires whole { length palette.old ≡ header.now.color_bytes * header.now.palette_length }
     requires room { length table.old ≡ 256 }
-    ensures reads { Reads (λ _ palette. IsTable tone.now.level tone.now.invert
+    ensures reads { Reads (λ _ palette. IsPaletteTable tone.now.level tone.now.invert
         (palette_color header.now.palette_length header.now.color_bytes palette) table.new)
         (block (header.now.color_bytes * header.now.palette_length)) window.old
         (I.files inputs.old) result window.new (I.files inputs.new) }
@@ -92,7 +92,7 @@ pub(crate) fn read_palette<I: Inputs>(
     requires opened { I.is_opened inputs.old ≡ true }
     requires readable { IsReadable header.now }
     requires room { length table.old ≡ 256 }
-    ensures reads { Reads (λ _ palette. IsTable tone.now.level tone.now.invert
+    ensures reads { Reads (λ _ palette. IsPaletteTable tone.now.level tone.now.invert
         (palette_color header.now.palette_length header.now.color_bytes palette) table.new)
         (block (header.now.color_bytes * header.now.palette_length)) window.old
         (I.files inputs.old) result window.new (I.files inputs.new) }

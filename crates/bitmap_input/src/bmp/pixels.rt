@@ -4,23 +4,22 @@ ghost use Rattle.std.specs.List.{range_with_len};
 ghost use Rattle.bit_image.specs.Words.{is_one};
 ghost use Rattle.bit_image.specs.Page.{Page, SameSides, image_of};
 ghost use Rattle.bitmap_input.specs.Reading.{Reads, Leaves};
-ghost use Rattle.bitmap_input.specs.Parts.{block, times};
+ghost use Rattle.bitmap_input.specs.Parts.{block, repeated};
 ghost use Rattle.bitmap_input.specs.Raw.{Entry, black};
 ghost use Rattle.bitmap_input.specs.Raw.Entry.{Color as color};
 ghost use Rattle.bitmap_input.specs.BmpRaster.{color_at, bit_at, half_at, palette_color, color_row};
-ghost use Rattle.bitmap_input.specs.BmpHead.{IsTable, IsReadable, bits_in, shade_in, row_place, row_bytes_by};
+ghost use Rattle.bitmap_input.specs.BmpHead.{IsPaletteTable, IsReadable, bits_in, shade_in, row_place, row_bytes_by};
 ghost use Rattle.bitmap_input.specs.Raster.{with_row, with_placed};
 
+use bit_image::Bitmap;
 use crate::bmp::fields::Depth;
 use crate::bmp::header::Header;
 use crate::raw::{place_row as place_bits, read_block};
 use crate::stop::Stop;
 use crate::window::Window;
 use crate::words::with_pixel;
-use bit_image::bitmap::Bitmap;
-use pt_base::inputs::Inputs;
-use pt_base::limits::LONGEST_SIDE;
-use threshold_map::level::Level;
+use pt_base::{Inputs, LONGEST_SIDE};
+use threshold_map::Level;
 
 /// How the colours of a picture become pixels.
 #[derive(Clone, Copy, Debug)]
@@ -173,11 +172,11 @@ pub(crate) fn read_rows<I: Inputs>(
     requires room { length row.old ≡ row_bytes_by header.now }
     requires whole { page.old.width * bits_in header.now.depth ≤ 8 * length row.old }
     ensures reads { (color_of : ℕ → Entry)
-        → IsTable tone.now.level tone.now.invert color_of table.now
+        → IsPaletteTable tone.now.level tone.now.invert color_of table.now
         → Reads (λ _ rows. image_of page.new
         ≡ with_placed (row_place header.now.top_down page.old.height) (image_of page.old) 0
         (map (map (black tone.now.level tone.now.invert)) rows))
-        (times (color_row (row_bytes_by header.now)
+        (repeated (color_row (row_bytes_by header.now)
         (bits_in header.now.depth) color_of page.old.width) page.old.height) window.old
         (I.files inputs.old) result window.new (I.files inputs.new) }
     ensures sides { SameSides page.old page.new }

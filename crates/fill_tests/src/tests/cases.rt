@@ -1,11 +1,8 @@
 //! Runs of `point_fill` over standard input in memory, and what is to come of them.
 ghost use Rattle.std.specs.Prelude.{◌≡◌, IfOk, string_bytes};
 
-use fill_run::program::fill_run;
-use pt_base::fault::NoMemory;
-use pt_base::mem_inputs::{InCall, MemInputs, NamedBytes};
-use pt_base::mem_outputs::{MemOutputs, OutCall};
-use pt_base::mem_sink::MemSink;
+use fill_run::fill_run;
+use pt_base::{InCall, MemInputs, MemOutputs, MemSink, NamedBytes, NoMemory, OutCall};
 use std::alloc::Global;
 use std::process::Abort;
 use std::test::Fail;

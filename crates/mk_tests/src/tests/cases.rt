@@ -1,11 +1,8 @@
 //! Runs of `mkbitmap` over standard input in memory, and what is to come of them.
 ghost use Rattle.std.specs.Prelude.{◌≡◌, IfOk, string_bytes};
 
-use mk_run::program::mk_run;
-use pt_base::fault::NoMemory;
-use pt_base::mem_inputs::{InCall, MemInputs, NamedBytes};
-use pt_base::mem_outputs::{MemOutputs, OutCall};
-use pt_base::mem_sink::MemSink;
+use mk_run::mk_run;
+use pt_base::{InCall, MemInputs, MemOutputs, MemSink, NamedBytes, NoMemory, OutCall};
 use std::alloc::Global;
 use std::process::Abort;
 use std::test::Fail;

@@ -3,12 +3,10 @@ ghost use Rattle.std.specs.Prelude.{◌≡◌, All, IfOk, pos, ◌≤ℤ◌, ◌
 ghost use Rattle.pt_base.specs.ClosedWalk.{IsClosedWalk, point_at};
 ghost use Rattle.path_decompose.specs.Bounds.{IsCornerOf};
 
-use page_samples::pages::drawn;
-use path_decompose::decomposition::decompose;
-use path_tree::tree::group;
-use pt_base::path::Path;
-use pt_base::policy::Policy;
-use pt_base::trace::Group;
+use page_samples::drawn;
+use path_decompose::decompose;
+use path_tree::group;
+use pt_base::{Group, Path, Policy};
 use std::alloc::Global;
 use std::test::Fail;
 

@@ -1,16 +1,12 @@
 //! Lines of the longest segments, that another program worked out in whole numbers without bounds.
 
-use super::segments::segment_sums;
-use page_samples::walks::{hooked_stairs, round, triangle};
-use prefix_moments::moments::Moments;
-use prefix_moments::sums::Sums;
-use pt_base::closed_walk::is_closed_walk;
-use pt_base::fault::NoMemory;
-use pt_base::limits::MOST_STEPS;
-use pt_base::point::Point;
+use page_samples::{hooked_stairs, round, triangle};
+use prefix_moments::{Moments, Sums};
+use pt_base::{MOST_STEPS, NoMemory, Point, is_closed_walk};
 use std::alloc::Global;
 use std::test::Fail;
-use vertex_adjust::line::{Line, line_of};
+use super::segments::segment_sums;
+use vertex_adjust::{Line, line_of};
 
 /// A walk as long as the greatest page has room for.
 #[derive(Clone, Copy)]

@@ -1,8 +1,8 @@
 //! Lines and points that look drawn by lot.
 
+use pt_base::Point;
 use super::plain::moved;
-use pt_base::point::Point;
-use vertex_adjust::line::Line;
+use vertex_adjust::Line;
 
 /// Numbers that look drawn by lot, the same ones each time (xorshift).
 #[derive(Drop)]

@@ -1,7 +1,7 @@
 //! The best place of a vertex as it is defined: all places are tried.
 
-use pt_base::point::Point;
-use vertex_adjust::line::Line;
+use pt_base::Point;
+use vertex_adjust::Line;
 
 /// A shift with what decides between shifts, in this order: of two the less one is the better.
 #[derive(Clone, Copy, Debug, PartialEq, Eq, PartialOrd, Ord)]

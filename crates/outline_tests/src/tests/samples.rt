@@ -2,12 +2,7 @@
 ghost use Rattle.std.specs.Prelude.{◌≡◌, All, IfOk, length};
 ghost use Rattle.corner_smooth.specs.Corner.{IsNearWidePage};
 
-use pt_base::piece::Piece;
-use pt_base::point::Point;
-use pt_base::policy::Policy;
-use pt_base::sequence::Sequence;
-use pt_base::settings::{Backend, Settings};
-use pt_base::trace::{Group, Trace};
+use pt_base::{Backend, Group, Piece, Point, Policy, Sequence, Settings, Trace};
 use std::alloc::Global;
 use std::test::Fail;
 

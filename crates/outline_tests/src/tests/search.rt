@@ -1,13 +1,10 @@
 //! The search for a vertex, beside the plain one.
 ghost use Rattle.std.specs.Prelude.{IsTrue, pos, unsigned_abs, ◌≤◌, ◌≤ℤ◌, ◌^◌};
 
+use pt_base::{LONGEST_SIDE, Point};
 use super::lot::Lot;
 use super::plain::{best_of_all, best_of_column, moved};
-use pt_base::limits::LONGEST_SIDE;
-use pt_base::point::Point;
-use vertex_adjust::columns::column;
-use vertex_adjust::line::Line;
-use vertex_adjust::vertices::vertex;
+use vertex_adjust::{Line, column, vertex};
 
 /// How large the numbers of a normal are, and how far from the point a line's centre may lie: lines that meet
 /// near, lines far away, and flat ones with many ties.

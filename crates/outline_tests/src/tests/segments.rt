@@ -4,10 +4,8 @@ ghost use Rattle.pt_base.specs.OnPage.{AreOnPage};
 ghost use Rattle.vertex_adjust.specs.Line.{AreSums};
 ghost use Rattle.vertex_adjust.specs.Vertex.{IsPolygonAlong, IsSegmentOf, segment_end_of};
 
-use prefix_moments::moments::Moments;
-use prefix_moments::sums::Sums;
-use pt_base::limits::MOST_STEPS;
-use pt_base::point::Point;
+use prefix_moments::{Moments, Sums};
+use pt_base::{MOST_STEPS, Point};
 
 /// Whether the indices are those of a polygon of the points.
 pub(super) fn is_polygon(points: &[Point], at: &[u32]) -> bool

@@ -1,8 +1,8 @@
 //! SVG documents that were written down by hand.
 
-use super::samples::{CURVE, MIDDLE, NINE, Row, settings, trace_of};
 use std::test::Fail;
-use svg_backend::svg_text::svg;
+use super::samples::{CURVE, MIDDLE, NINE, Row, settings, trace_of};
+use svg_backend::svg;
 
 const A_PATH_FOR_EACH_SHAPE: &str = "<?xml version=\"1.0\" standalone=\"no\"?>\n\
 <svg version=\"1.0\" xmlns=\"http://www.w3.org/2000/svg\" width=\"4pt\" height=\"3pt\" viewBox=\"0 0 40 30\">\n\

@@ -1,18 +1,13 @@
 //! Lines of segments and vertices of polygons that another program worked out, in whole numbers without bounds.
 ghost use Rattle.std.specs.Prelude.{◌≡◌, IfOk};
 
-use super::samples::{Place, points_at};
-use super::segments::{is_polygon, segment_sums};
-use prefix_moments::moments::Moments;
-use pt_base::closed_walk::is_closed_walk;
-use pt_base::fault::NoMemory;
-use pt_base::limits::MOST_STEPS;
-use pt_base::polygon::Polygon;
-use pt_base::sequence::Sequence;
+use prefix_moments::Moments;
+use pt_base::{MOST_STEPS, NoMemory, Polygon, Sequence, is_closed_walk};
 use std::alloc::Global;
 use std::test::Fail;
-use vertex_adjust::line::{Line, line_of};
-use vertex_adjust::vertices::adjust;
+use super::samples::{Place, points_at};
+use super::segments::{is_polygon, segment_sums};
+use vertex_adjust::{Line, adjust, line_of};
 
 const PIXEL: &[Place] = &[(0, 1), (0, 0), (1, 0), (1, 1)];
 

@@ -1,18 +1,14 @@
 //! Reaches, corners and best polygons of the paths of pages, beside those of plain programs.
 
+use bit_image::Bitmap;
 use crate::tests::plain_best::plain_polygon;
-use bit_image::bitmap::Bitmap;
-use page_samples::pages::{checkered, noise, numbered};
-use page_samples::plain_cones::{next_corner, reaches};
-use page_samples::shapes::{Shape, shaped};
-use path_decompose::decomposition::decompose;
-use polygon_optimal::optimal::polygon;
-use pt_base::closed_walk::is_closed_walk;
-use pt_base::point::Point;
-use pt_base::policy::Policy;
+use page_samples::{Shape, checkered, next_corner, noise, numbered, reaches, shaped};
+use path_decompose::decompose;
+use polygon_optimal::polygon;
+use pt_base::{Point, Policy, is_closed_walk};
 use std::alloc::Global;
 use std::test::Fail;
-use straight_paths::reach::Reach;
+use straight_paths::Reach;
 
 /// How many paths a page has; of how many all reaches and corners are those of a program that walks along
 /// every point; and of how many the polygon is that of the plain program.

@@ -2,8 +2,8 @@
 //! path's first point, and of all.
 ghost use Rattle.std.specs.Prelude.{◌≤◌, ◌<◌, length};
 
-use page_samples::plain::is_possible;
-use pt_base::point::Point;
+use page_samples::is_possible;
+use pt_base::Point;
 
 /// The vertices of the best polygon, a bit for each, and its penalty.
 pub(super) fn best(points: &[Point]) -> (u32, u64)

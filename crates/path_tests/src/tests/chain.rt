@@ -1,7 +1,7 @@
 //! Steps of one alone.
 ghost use Rattle.std.specs.Prelude.{◌≡◌, ◌+◌, ◌^◌, ◌<◌, ◌≤◌, min, ◌-◌};
 
-use least_walk::steps::Steps;
+use least_walk::Steps;
 
 /// Only the steps of one are allowed, though the last index is farther off.
 #[derive(Drop)]

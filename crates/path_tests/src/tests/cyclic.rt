@@ -1,18 +1,13 @@
 //! Cyclic polygons beside a search over all lists of vertices, and beside the best polygons from each starting point.
 
+use bit_image::Bitmap;
 use crate::tests::best::best_round;
 use crate::tests::polygons::bits_of;
-use bit_image::bitmap::Bitmap;
-use cyclic_optimal::cyclic::cyclic_polygon;
-use page_samples::pages::{drawn, noise, numbered};
-use page_samples::shapes::{Shape, shaped};
-use path_decompose::decomposition::decompose;
-use polygon_optimal::optimal::polygon;
-use pt_base::closed_walk::is_closed_walk;
-use pt_base::fault::NoMemory;
-use pt_base::path::Path;
-use pt_base::point::Point;
-use pt_base::policy::Policy;
+use cyclic_optimal::cyclic_polygon;
+use page_samples::{Shape, drawn, noise, numbered, shaped};
+use path_decompose::decompose;
+use polygon_optimal::polygon;
+use pt_base::{NoMemory, Path, Point, Policy, is_closed_walk};
 use std::alloc::Global;
 use std::test::Fail;
 

@@ -1,12 +1,10 @@
 //! Penalties and polygons with the longest segments, that another program worked out.
 ghost use Rattle.std.specs.Prelude.{◌≡◌};
 
-use page_samples::walks::{round, triangle};
-use polygon_optimal::optimal::polygon;
-use prefix_moments::moments::Moments;
-use pt_base::closed_walk::is_closed_walk;
-use pt_base::limits::MOST_STEPS;
-use pt_base::point::Point;
+use page_samples::{round, triangle};
+use polygon_optimal::polygon;
+use prefix_moments::Moments;
+use pt_base::{MOST_STEPS, Point, is_closed_walk};
 use std::alloc::Global;
 use std::test::Fail;
 

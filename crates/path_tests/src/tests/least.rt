@@ -2,7 +2,7 @@
 
 use crate::tests::chain::Chain;
 use crate::tests::table::{Listed, Table};
-use least_walk::walk::least;
+use least_walk::least;
 use std::test::Fail;
 
 /// A case, the size, the steps, the least walk, and what it costs.

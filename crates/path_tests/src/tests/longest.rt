@@ -3,12 +3,11 @@ ghost use Rattle.std.specs.Prelude.{IfOk};
 ghost use Rattle.pt_base.specs.ClosedWalk.{IsClosedWalk};
 ghost use Rattle.pt_base.specs.OnPage.{AreOnPage};
 
-use page_samples::walks::hooked_stairs;
-use pt_base::closed_walk::is_closed_walk;
-use pt_base::point::Point;
+use page_samples::hooked_stairs;
+use pt_base::{Point, is_closed_walk};
 use std::alloc::Global;
 use std::test::Fail;
-use straight_paths::reach::Reach;
+use straight_paths::Reach;
 
 /// Stairs of 65,534 steps, from point 1 to point 65535, and the way back.
 fn longest_stairs(alloc: Global) -> Result<Vec<Point>, Fail>

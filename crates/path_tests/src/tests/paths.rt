@@ -4,13 +4,9 @@ ghost use Rattle.pt_base.specs.ClosedWalk.{IsClosedWalk};
 ghost use Rattle.path_decompose.specs.Bounds.{IsCornerOf};
 
 use crate::tests::plain::paths_to_the_right;
-use page_samples::pages::{checkered, drawn, noise};
-use path_decompose::decomposition::decompose;
-use path_decompose::interior::inside;
-use path_decompose::speckle::keep;
-use pt_base::list_text::points;
-use pt_base::path::{Path, Sign};
-use pt_base::policy::Policy;
+use page_samples::{checkered, drawn, noise};
+use path_decompose::{decompose, inside, keep};
+use pt_base::{Path, Policy, Sign, points};
 use std::alloc::Global;
 use std::test::Fail;
 

@@ -1,7 +1,7 @@
 //! The plain program: the paths of a page of one entry a pixel under the turn policy `right`.
 
-use bit_image::bitmap::Bitmap;
-use page_samples::plain_page::PlainPage;
+use bit_image::Bitmap;
+use page_samples::PlainPage;
 use std::alloc::Global;
 use std::test::Fail;
 

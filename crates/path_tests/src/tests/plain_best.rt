@@ -3,12 +3,10 @@ ghost use Rattle.std.specs.Prelude.{◌≡◌, ◌+◌, ◌<◌, ◌≤◌, leng
 ghost use Rattle.pt_base.specs.ClosedWalk.{IsClosedWalk};
 ghost use Rattle.pt_base.specs.OnPage.{AreOnPage};
 
-use prefix_moments::moments::Moments;
-use pt_base::fault::NoMemory;
-use pt_base::limits::MOST_STEPS;
-use pt_base::point::Point;
+use prefix_moments::Moments;
+use pt_base::{MOST_STEPS, NoMemory, Point};
 use std::alloc::Global;
-use straight_paths::reach::Reach;
+use straight_paths::Reach;
 
 /// The best way from a point to the end.
 #[derive(Clone, Copy)]

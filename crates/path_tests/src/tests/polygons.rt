@@ -1,12 +1,10 @@
 //! Best polygons beside a search over all lists of vertices.
 
 use crate::tests::best::best;
-use page_samples::pages::numbered;
-use path_decompose::decomposition::decompose;
-use polygon_optimal::optimal::polygon;
-use pt_base::closed_walk::is_closed_walk;
-use pt_base::point::Point;
-use pt_base::policy::Policy;
+use page_samples::numbered;
+use path_decompose::decompose;
+use polygon_optimal::polygon;
+use pt_base::{Point, Policy, is_closed_walk};
 use std::alloc::Global;
 use std::test::Fail;
 

@@ -3,15 +3,13 @@ ghost use Rattle.std.specs.Prelude.{IfOk};
 ghost use Rattle.pt_base.specs.ClosedWalk.{IsClosedWalk};
 ghost use Rattle.pt_base.specs.OnPage.{AreOnPage};
 
-use page_samples::walks::round;
-use polygon_optimal::optimal::polygon;
-use prefix_moments::moments::Moments;
-use prefix_moments::sums::Sums;
-use pt_base::closed_walk::is_closed_walk;
-use pt_base::point::Point;
+use page_samples::round;
+use polygon_optimal::polygon;
+use prefix_moments::{Moments, Sums};
+use pt_base::{Point, is_closed_walk};
 use std::alloc::Global;
 use std::test::Fail;
-use straight_paths::reach::Reach;
+use straight_paths::Reach;
 
 /// The path round a rectangle at the lower left corner of a page.
 fn path_round(alloc: Global, width: i32, height: i32) -> Result<Vec<Point>, Fail>

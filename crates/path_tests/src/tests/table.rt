@@ -2,7 +2,7 @@
 ghost use Rattle.std.specs.Prelude.{◌≡◌, ◌+◌, ◌-◌, ◌^◌, ◌<◌, ◌≤◌, ◌⊎◌, ◌==◌, ◌&&◌};
 ghost use Rattle.std.specs.Prelude.{find, IsSome, unwrap_or, min, option_map};
 
-use least_walk::steps::Steps;
+use least_walk::Steps;
 
 /// A step's ends and what it costs.
 pub(super) type Listed = (u32, u32, u64);

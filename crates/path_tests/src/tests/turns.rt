@@ -1,14 +1,10 @@
 //! Turns and majorities at the corners of small pages.
 ghost use Rattle.turn_policies.specs.Corner.{IsCorner};
 
-use page_samples::pages::drawn;
-use pt_base::path::Sign;
-use pt_base::point::Point;
-use pt_base::policy::Policy;
+use page_samples::drawn;
+use pt_base::{Point, Policy, Sign};
 use std::test::Fail;
-use turn_policies::heading::Dir;
-use turn_policies::majority::major;
-use turn_policies::rule::turn;
+use turn_policies::{Dir, major, turn};
 
 /// A corner of the widest page.
 fn corner(x: i32, y: i32) -> Point

@@ -1,13 +1,11 @@
 //! Possible segments of all short walks, beside the criterion over all triples.
 ghost use Rattle.std.specs.Prelude.{◌≡◌, ◌<◌, length};
 
-use page_samples::plain::is_possible;
-use page_samples::walks::draw;
-use pt_base::closed_walk::is_closed_walk;
-use pt_base::point::Point;
+use page_samples::{draw, is_possible};
+use pt_base::{Point, is_closed_walk};
 use std::alloc::Global;
 use std::test::Fail;
-use straight_paths::reach::Reach;
+use straight_paths::Reach;
 
 /// The steps of a walk, and how many ways they can go.
 const WALKS: [(usize, u32); 5] = [

@@ -1,7 +1,8 @@
 //! Windows that were found by hand.
 
 use crate::tests::table::{Listed, Table};
-use least_walk::windows::{Window, windows};
+use least_walk::Window;
+use least_walk::windows::windows;
 use std::test::Fail;
 
 /// A case, the size, the steps, and each window.

@@ -1,14 +1,12 @@
 //! What the reader answers on a file, as a text.
 ghost use Rattle.std.specs.Prelude.{◌≤◌};
 
-use bit_image::bitmap::Bitmap;
-use bitmap_input::next::Next;
-use bitmap_input::reader::PageReader;
-use pt_base::inputs::Inputs;
-use pt_base::mem_inputs::{InCall, MemInputs, NamedBytes};
+use bit_image::Bitmap;
+use bitmap_input::{Next, PageReader};
+use pt_base::{InCall, Inputs, MemInputs, NamedBytes};
 use std::alloc::Global;
 use std::test::Fail;
-use threshold_map::level::Level;
+use threshold_map::Level;
 
 /// The level at which half of white is black.
 fn half() -> Level {

@@ -1,10 +1,9 @@
 //! Gray pages that are read row by row.
 ghost use Rattle.std.specs.Prelude.{◌≤◌};
 
+use bitmap_input::GrayReader;
 use crate::tests::answers::{ended, file};
-use bitmap_input::gray_reader::GrayReader;
-use pt_base::inputs::Inputs;
-use pt_base::mem_inputs::InCall;
+use pt_base::{InCall, Inputs};
 use std::alloc::Global;
 use std::test::Fail;
 

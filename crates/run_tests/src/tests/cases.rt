@@ -1,12 +1,8 @@
 //! Runs over files in memory, and what is to come of them.
 ghost use Rattle.std.specs.Prelude.{◌≡◌, IfOk, string_bytes};
 
-use potrace_main::top::run;
-use pt_base::fault::NoMemory;
-use pt_base::gate::{Gate, NoGate};
-use pt_base::mem_inputs::{InCall, MemInputs, NamedBytes};
-use pt_base::mem_outputs::{MemOutputs, OutCall};
-use pt_base::mem_sink::MemSink;
+use potrace_main::run;
+use pt_base::{Gate, InCall, MemInputs, MemOutputs, MemSink, NamedBytes, NoGate, NoMemory, OutCall};
 use std::alloc::Global;
 use std::process::Abort;
 use std::test::Fail;

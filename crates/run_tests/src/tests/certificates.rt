@@ -1,19 +1,12 @@
 //! Certificates of pages, and runs of their checker.
 
+use check_run::check_run;
 use crate::tests::cases::{Case, PLAIN, Page, check_pages, named, split};
 use crate::tests::pages::PAGES;
-use check_run::program::check_run;
-use outline_check::judge::check_proofs;
-use outline_check::verdict::Verdict;
-use page_samples::pages::numbered;
+use outline_check::{Verdict, check_proofs};
+use page_samples::numbered;
 use page_trace::document::document;
-use pt_base::fault::NoMemory;
-use pt_base::gate::NoGate;
-use pt_base::mem_inputs::MemInputs;
-use pt_base::mem_outputs::MemOutputs;
-use pt_base::mem_sink::MemSink;
-use pt_base::policy::Policy;
-use pt_base::settings::{Backend, Settings};
+use pt_base::{Backend, MemInputs, MemOutputs, MemSink, NoGate, NoMemory, Policy, Settings};
 use std::alloc::Global;
 use std::test::Fail;
 

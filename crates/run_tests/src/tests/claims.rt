@@ -2,12 +2,8 @@
 ghost use Rattle.std.specs.Prelude.{◌≡◌, IfOk};
 
 use crate::tests::workers_alone::{Width, pages};
-use page_workers::claims::Claims;
-use page_workers::job::Done;
-use page_workers::seat::ClaimSeat;
-use page_workers::worker::work;
-use pt_base::fault::NoMemory;
-use pt_base::gate::NoGate;
+use page_workers::{ClaimSeat, Claims, Done, work};
+use pt_base::{NoGate, NoMemory};
 use std::alloc::Global;
 use std::test::Fail;
 

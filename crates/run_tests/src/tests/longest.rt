@@ -1,7 +1,7 @@
 //! Pages with a side of the greatest length.
 
 use crate::tests::cases::{Case, PLAIN};
-use page_samples::walks::round;
+use page_samples::round;
 use std::alloc::Global;
 use std::test::Fail;
 

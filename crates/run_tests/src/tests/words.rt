@@ -1,11 +1,9 @@
 //! What words ask for: which of them `clap` takes how, and which values are in their ranges.
 
+use command_asks::{Ask, WordFault, settings_of};
+use command_words::Name;
 use crate::tests::cases::split;
-use command_asks::ask::{Ask, WordFault};
-use command_asks::words::settings_of;
-use command_words::name::Name;
-use pt_base::policy::Policy;
-use pt_base::settings::{Backend, Settings};
+use pt_base::{Backend, Policy, Settings};
 use std::alloc::Global;
 use std::test::Fail;
 

@@ -1,8 +1,8 @@
 //! Runs by several workers: they share the pages as they go, up to the most pages that a run may have.
 
 use crate::tests::cases::{Case, Done, PIXEL, PLAIN, document_at};
-use page_samples::gates::HoldsFirst;
-use pt_base::gate::NoGate;
+use page_samples::HoldsFirst;
+use pt_base::NoGate;
 use std::alloc::Global;
 use std::process::Abort;
 use std::test::Fail;

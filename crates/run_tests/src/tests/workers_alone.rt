@@ -1,12 +1,10 @@
 //! Workers without a run: no clause says that one of them draws the pages in their order, that each page passes the
 //! gate before its text is made, and that the calls that allocate succeed.
 
-use bit_image::bitmap::Bitmap;
-use page_samples::pages::noise;
-use page_workers::job::PageJob;
-use page_workers::trace::trace_all;
-use pt_base::fault::NoMemory;
-use pt_base::gate::{Gate, NoGate};
+use bit_image::Bitmap;
+use page_samples::noise;
+use page_workers::{PageJob, trace_all};
+use pt_base::{Gate, NoGate, NoMemory};
 use std::alloc::Global;
 use std::sync::atomic::{AtomicU64, Ordering};
 use std::test::Fail;

@@ -2,9 +2,9 @@ use Rattle.std.proofs.Common.{ap, Bool, ℕ, nat_le}
 use Rattle.bit_image.specs.Image.{differ}
 use Rattle.std.proofs.lemmas.Result.{err_from_is_err_and}
 use Rattle.bitmap_input.specs.Cut.{◌>>=◌}
-use Rattle.bitmap_input.specs.Parts.{times}
+use Rattle.bitmap_input.specs.Parts.{repeated}
 use Rattle.bitmap_input.specs.Raw.{IsShown}
-use Rattle.bitmap_input.specs.Front.{maxval, raster}
+use Rattle.bitmap_input.specs.Front.{maxval, rows_raster}
 use Rattle.bitmap_input.specs.Samples.{as_entry, plain_samples}
 use Rattle.bitmap_input.specs.Shading.{brightness}
 use Rattle.bitmap_input.proofs.Appending.{sides_stay, maxval_stays}
@@ -15,20 +15,20 @@ use Rattle.bitmap_input.proofs.body.read_plain_samples_body.Goals as goal
 pub returns-in_err-sides-clause-reads : goal.returns-in_err-sides-clause-reads
 returns-in_err-sides-clause-reads g c =
     let p = err_from_is_err_and c.from_residual.result c.from_residual.ensures.1 in
-    rw (p.1, p.2) (reads_stop (λ s rest. maxval rest >>= λ white rest. raster (as_entry c.args.channels white) (times (plain_samples c.args.channels) s.0) s.0 s.1 rest) c.in_err-sides.ensures.reads)
+    rw (p.1, p.2) (reads_stop (λ s rest. maxval rest >>= λ maxval rest. rows_raster (as_entry c.args.channels maxval) (repeated (plain_samples c.args.channels) s.0) s.0 s.1 rest) c.in_err-sides.ensures.reads)
 
-pub returns-in_err-white-clause-reads : goal.returns-in_err-white-clause-reads
-returns-in_err-white-clause-reads g c =
-    let p = err_from_is_err_and c.from_residual-in_err-white.result c.from_residual-in_err-white.ensures.1 in
+pub returns-in_err-maxval-clause-reads : goal.returns-in_err-maxval-clause-reads
+returns-in_err-maxval-clause-reads g c =
+    let p = err_from_is_err_and c.from_residual-in_err-maxval.result c.from_residual-in_err-maxval.ensures.1 in
     rw (p.1, p.2) (reads_on sides_stay c.in_ok-sides.ensures.reads
-    (λ s _. reads_stop (λ white rest. raster (as_entry c.args.channels white) (times (plain_samples c.args.channels) s.0) s.0 s.1 rest) c.in_err-white.ensures.reads))
+    (λ s _. reads_stop (λ maxval rest. rows_raster (as_entry c.args.channels maxval) (repeated (plain_samples c.args.channels) s.0) s.0 s.1 rest) c.in_err-maxval.ensures.reads))
 
 pub returns-in_err-page-clause-reads : goal.returns-in_err-page-clause-reads
 returns-in_err-page-clause-reads g c =
     let p = err_from_is_err_and c.from_residual-in_err-page.result c.from_residual-in_err-page.ensures.1 in
     rw (p.1, p.2) (reads_on sides_stay c.in_ok-sides.ensures.reads
-    (λ s _. reads_on maxval_stays c.in_ok-white.ensures.reads
-    (λ white _. reads_memory (IsShown c.args.level.now c.args.invert) (raster (as_entry c.args.channels white) (times (plain_samples c.args.channels) s.0) s.0 s.1) _ _)))
+    (λ s _. reads_on maxval_stays c.in_ok-maxval.ensures.reads
+    (λ maxval _. reads_memory (IsShown c.args.level.now c.args.invert) (rows_raster (as_entry c.args.channels maxval) (repeated (plain_samples c.args.channels) s.0) s.0 s.1) _ _)))
 
 pub returns-in_err-read_plain_sample_rows-clause-reads : goal.returns-in_err-read_plain_sample_rows-clause-reads
 returns-in_err-read_plain_sample_rows-clause-reads g c =
@@ -36,10 +36,10 @@ returns-in_err-read_plain_sample_rows-clause-reads g c =
     let level : ℕ = c.args.level.now in
     let invert : Bool = c.args.invert in
     let kind = c.args.channels in
-    let white : ℕ = c.in_ok-white.white in
+    let maxval : ℕ = c.in_ok-maxval.maxval in
     rw (p.1, p.2) (reads_on sides_stay c.in_ok-sides.ensures.reads
-    (λ s is. reads_on maxval_stays c.in_ok-white.ensures.reads
-    (λ n same. rw same (rows_stopped level invert (as_entry kind white) (λ a. differ invert (nat_le (brightness kind a) c.brightest_black.result)) (times (plain_samples kind))
+    (λ s is. reads_on maxval_stays c.in_ok-maxval.ensures.reads
+    (λ n same. rw same (rows_stopped level invert (as_entry kind maxval) (λ a. differ invert (nat_le (brightness kind a) c.brightest_black.result)) (repeated (plain_samples kind))
     c.in_ok-page.page c.in_ok-sides.sides s is c.in_ok-page.ensures.width c.in_ok-page.ensures.height
     c.read_plain_sample_rows.new.page _ c.in_err-read_plain_sample_rows.ensures.reads))))
 
@@ -48,9 +48,9 @@ returns-clause-reads g c =
     let level : ℕ = c.args.level.now in
     let invert : Bool = c.args.invert in
     let kind = c.args.channels in
-    let white : ℕ = c.in_ok-white.white in
+    let maxval : ℕ = c.in_ok-maxval.maxval in
     reads_on sides_stay c.in_ok-sides.ensures.reads
-    (λ s is. reads_on maxval_stays c.in_ok-white.ensures.reads
-    (λ n same. rw same (rows_shown level invert (as_entry kind white) (λ a. differ invert (nat_le (brightness kind a) c.brightest_black.result)) (times (plain_samples kind))
+    (λ s is. reads_on maxval_stays c.in_ok-maxval.ensures.reads
+    (λ n same. rw same (rows_shown level invert (as_entry kind maxval) (λ a. differ invert (nat_le (brightness kind a) c.brightest_black.result)) (repeated (plain_samples kind))
     c.in_ok-page.page c.in_ok-sides.sides s is c.in_ok-page.ensures.width c.in_ok-page.ensures.height
-    c.read_plain_sample_rows.new.page (λ a. ap (differ invert) (c.brightest_black.ensures.black a)) c.in_ok-page.ensures.white c.in_ok-read_plain_sample_rows.ensures.sides c.known.ensures c.in_ok-read_plain_sample_rows.ensures.reads)))
+    c.read_plain_sample_rows.new.page (λ a. ap (differ invert) (c.brightest_black.ensures.black a)) c.in_ok-page.ensures.maxval c.in_ok-read_plain_sample_rows.ensures.sides c.known.ensures c.in_ok-read_plain_sample_rows.ensures.reads)))

@@ -3,7 +3,7 @@ use Rattle.bit_image.specs.Image.{differ}
 use Rattle.std.proofs.lemmas.Result.{err_from_is_err_and}
 use Rattle.bitmap_input.specs.Cut.{◌>>=◌}
 use Rattle.bitmap_input.specs.Parts.{space}
-use Rattle.bitmap_input.specs.Front.{raw_row, raster}
+use Rattle.bitmap_input.specs.Front.{raw_row, rows_raster}
 use Rattle.bitmap_input.specs.Raw.{IsShown}
 use Rattle.bitmap_input.specs.Raw.Entry.{Bit}
 use Rattle.bitmap_input.proofs.Appending.{sides_stay, space_stays}
@@ -14,19 +14,19 @@ use Rattle.bitmap_input.proofs.body.read_raw_body.Goals as goal
 pub returns-in_err-sides-clause-reads : goal.returns-in_err-sides-clause-reads
 returns-in_err-sides-clause-reads g c level =
     let p = err_from_is_err_and c.from_residual.result c.from_residual.ensures.1 in
-    rw (p.1, p.2) (reads_stop (λ s rest. space rest >>= λ _ rest. raster (λ b. Bit b) (raw_row s.0) s.0 s.1 rest) c.in_err-sides.ensures.reads)
+    rw (p.1, p.2) (reads_stop (λ s rest. space rest >>= λ _ rest. rows_raster (λ b. Bit b) (raw_row s.0) s.0 s.1 rest) c.in_err-sides.ensures.reads)
 
 pub returns-in_err-skip_space-clause-reads : goal.returns-in_err-skip_space-clause-reads
 returns-in_err-skip_space-clause-reads g c level =
     let p = err_from_is_err_and c.from_residual-in_err-skip_space.result c.from_residual-in_err-skip_space.ensures.1 in
     rw (p.1, p.2) (reads_on sides_stay c.in_ok-sides.ensures.reads
-    (λ s _. reads_stop (λ _ rest. raster (λ b. Bit b) (raw_row s.0) s.0 s.1 rest) c.in_err-skip_space.ensures.reads))
+    (λ s _. reads_stop (λ _ rest. rows_raster (λ b. Bit b) (raw_row s.0) s.0 s.1 rest) c.in_err-skip_space.ensures.reads))
 
 pub returns-in_err-page-clause-reads : goal.returns-in_err-page-clause-reads
 returns-in_err-page-clause-reads g c level =
     let p = err_from_is_err_and c.from_residual-in_err-page.result c.from_residual-in_err-page.ensures.1 in
     rw (p.1, p.2) (reads_on sides_stay c.in_ok-sides.ensures.reads
-    (λ s _. reads_on space_stays c.in_ok-skip_space.ensures.reads (λ _ _. reads_memory (IsShown level c.args.invert) (raster (λ b. Bit b) (raw_row s.0) s.0 s.1) _ _)))
+    (λ s _. reads_on space_stays c.in_ok-skip_space.ensures.reads (λ _ _. reads_memory (IsShown level c.args.invert) (rows_raster (λ b. Bit b) (raw_row s.0) s.0 s.1) _ _)))
 
 pub returns-in_err-read_raw_rows-clause-reads : goal.returns-in_err-read_raw_rows-clause-reads
 returns-in_err-read_raw_rows-clause-reads g c level =
@@ -41,4 +41,4 @@ returns-clause-reads g c level =
     reads_on sides_stay c.in_ok-sides.ensures.reads
     (λ s is. reads_on space_stays c.in_ok-skip_space.ensures.reads
     (λ _ _. rows_shown level c.args.invert (λ b. Bit b) (differ c.args.invert) raw_row c.in_ok-page.page c.in_ok-sides.sides s is c.in_ok-page.ensures.width c.in_ok-page.ensures.height
-    c.read_raw_rows.new.page (λ _. refl) c.in_ok-page.ensures.white c.in_ok-read_raw_rows.ensures.sides c.known.ensures c.in_ok-read_raw_rows.ensures.reads))
+    c.read_raw_rows.new.page (λ _. refl) c.in_ok-page.ensures.maxval c.in_ok-read_raw_rows.ensures.sides c.known.ensures c.in_ok-read_raw_rows.ensures.reads))

@@ -6,12 +6,12 @@ use Rattle.bitmap_input.proofs.Telling.{reads_on, reads_stop}
 use Rattle.bitmap_input.proofs.Headers.{reads_checked_maxval}
 use Rattle.bitmap_input.proofs.header.read_maxval.Goals as goal
 
-pub returns-in_err-white-clause-reads : goal.returns-in_err-white-clause-reads
-returns-in_err-white-clause-reads g c =
+pub returns-in_err-maxval-clause-reads : goal.returns-in_err-maxval-clause-reads
+returns-in_err-maxval-clause-reads g c =
     let p = err_from_is_err_and c.from_residual.result c.from_residual.ensures.1 in
-    rw (p.1, p.2) (reads_stop checked_maxval c.in_err-white.ensures.reads)
+    rw (p.1, p.2) (reads_stop checked_maxval c.in_err-maxval.ensures.reads)
 
 pub returns-clause-reads : goal.returns-clause-reads
 returns-clause-reads g c =
-    reads_on (number_behind_gap_stays BadHeader) c.in_ok-white.ensures.reads
+    reads_on (number_behind_gap_stays BadHeader) c.in_ok-maxval.ensures.reads
     (λ n is. reads_checked_maxval n is c.check_maxval.ensures.checks)

@@ -1,12 +1,12 @@
 use Rattle.std.proofs.Common.{arith, rules}
-use Rattle.bitmap_input.specs.Run.{length_of}
+use Rattle.bitmap_input.specs.Run.{run_size}
 use Rattle.bitmap_input.proofs.Telling.{reads_weaken}
 use Rattle.bitmap_input.proofs.Running.{length_of-nil, run_begins, run_ends_at, run_ends_last, run_goes_on}
 use Rattle.bitmap_input.proofs.run.skip.Goals as goal
 
 pub loop-n-init : goal.loop-n-init
 loop-n-init g c = record {
-  so_far = run_begins (length_of c.args.run) c.args.window.now (g.I.Inputs.files c.args.inputs.now);
+  so_far = run_begins (run_size c.args.run) c.args.window.now (g.I.Inputs.files c.args.inputs.now);
   most = omega arith;
   leaves = search rules;
 }
@@ -16,7 +16,7 @@ returns-in-None-clause-reads g c =
     let s = c.loop-n.invariant.so_far in
     let look = c.in-Byte.ensures.looks in
     reads_weaken (λ _ _ _. tt)
-    (run_ends_at (length_of c.args.run) (length_of c.loop-n.run) c.args.window.now c.loop-n.window c.look.new.self
+    (run_ends_at (run_size c.args.run) (run_size c.loop-n.run) c.args.window.now c.loop-n.window c.look.new.self
     (g.I.Inputs.files c.args.inputs.now) (g.I.Inputs.files c.loop-n.inputs) (g.I.Inputs.files c.look.new.inputs) c.loop-n.n s
     (tt {0}) c.in-Byte.byte look.1.0 look.0 look.1.1 (length_of-nil c.loop-n.run) c.in-None.ensures (omega arith))
 
@@ -25,7 +25,7 @@ returns-in-End-clause-reads g c =
     let s = c.loop-n.invariant.so_far in
     let look = c.in-End.ensures.looks in
     reads_weaken (λ _ _ _. tt)
-    (run_ends_last (length_of c.args.run) (length_of c.loop-n.run) c.args.window.now c.loop-n.window c.look.new.self
+    (run_ends_last (run_size c.args.run) (run_size c.loop-n.run) c.args.window.now c.loop-n.window c.look.new.self
     (g.I.Inputs.files c.args.inputs.now) (g.I.Inputs.files c.loop-n.inputs) (g.I.Inputs.files c.look.new.inputs) c.loop-n.n s
     (tt {0}) look.0 look.1.0 look.1.1 (length_of-nil c.loop-n.run) (omega arith))
 
@@ -33,7 +33,7 @@ pub loop-n-preserved : goal.loop-n-preserved
 loop-n-preserved g c =
     let look = c.in-Byte.ensures.looks in
     record {
-      so_far = run_goes_on (length_of c.args.run) (length_of c.loop-n.run) (length_of c.in-Some.next) c.args.window.now c.loop-n.window c.look.new.self c.pass.new.self
+      so_far = run_goes_on (run_size c.args.run) (run_size c.loop-n.run) (run_size c.in-Some.next) c.args.window.now c.loop-n.window c.look.new.self c.pass.new.self
           (g.I.Inputs.files c.args.inputs.now) (g.I.Inputs.files c.loop-n.inputs) (g.I.Inputs.files c.look.new.inputs) c.loop-n.n _ c.in-Byte.byte look.1.0
           c.loop-n.invariant.so_far (length_of-nil c.loop-n.run) (omega arith) look.0 look.1.1 c.in-Some.ensures c.pass.ensures.bytes c.pass.ensures.ended (omega arith);
       most = omega arith;

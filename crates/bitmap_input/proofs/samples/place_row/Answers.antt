@@ -18,7 +18,7 @@ loop-at-init c = record {
 
 pub word-requires-clause-within : goal.word-requires-clause-within
 word-requires-clause-within c =
-    let wide = is_wide c.args.shading.now.white in
+    let wide = is_wide c.args.shading.now.maxval in
     let len : length (samples wide c.args.row.now) ≡ samples_in c.args.shading.now.channels * c.args.page.now.width
     = samples-length wide (samples_in c.args.shading.now.channels * c.args.page.now.width) c.args.row.now c.requires.whole in
     fewer_samples c.args.shading.now.channels (64 * c.loop-at.at + c.min-count.result) c.args.page.now.width _ (omega arith) (omega (arith, len))
@@ -36,9 +36,9 @@ loop-at-preserved c = record {
 pub returns-clause-pixels : goal.returns-clause-pixels
 returns-clause-pixels c =
     let kind = c.args.shading.now.channels in
-    let row : List ℕ = samples (is_wide c.args.shading.now.white) c.args.row.now in
+    let row : List ℕ = samples (is_wide c.args.shading.now.maxval) c.args.row.now in
     let len : length (grouped kind row) ≡ c.args.page.now.width
-    = grouped-length kind c.args.page.now.width row (samples-length (is_wide c.args.shading.now.white) (samples_in kind * c.args.page.now.width) c.args.row.now c.requires.whole) in
+    = grouped-length kind c.args.page.now.width row (samples-length (is_wide c.args.shading.now.maxval) (samples_in kind * c.args.page.now.width) c.args.row.now c.requires.whole) in
     words_placed (black_in c.args.shading.now c.args.row.now) c.args.page.now.width c.args.y (image_of c.args.page.now) (image_of c.loop-at.page) c.loop-at.at
     (map (black_of c.args.shading.now) (grouped kind row)) c.loop-at.invariant.words (omega arith)
     (λ u past. white_past (image_of c.args.page.now) c.args.page.now.width c.args.page.now.height c.width-width.ensures.fits u c.args.y past)

@@ -18,11 +18,11 @@ loop-y-preserved g c =
     let one : c.loop-y.y ≡ suc (c.loop-y.y - 1) = omega arith in
     let kind : Channels = c.args.shading.now.channels in
     let pixels_of : List (PixelSamples kind) → List Bool = map (black_of c.args.shading.now) in
-    let values : List ℕ → List (PixelSamples kind) = λ bytes. grouped kind (samples (is_wide c.args.shading.now.white) bytes) in
+    let values : List ℕ → List (PixelSamples kind) = λ bytes. grouped kind (samples (is_wide c.args.shading.now.maxval) bytes) in
     let row = rw c.loop-y.invariant.row at c.in_ok-read_block.ensures.reads in
     let pixels = rw c.loop-y.invariant.sides.width at c.place_row.ensures.pixels in
     record {
-      so_far = painting_goes_on (λ rows. with_rows (image_of c.place_row.new.page) (c.loop-y.y - 1) (map pixels_of rows)) (raw_samples_row_stays kind c.args.shading.now.white c.args.page.now.width)
+      so_far = painting_goes_on (λ rows. with_rows (image_of c.place_row.new.page) (c.loop-y.y - 1) (map pixels_of rows)) (raw_samples_row_stays kind c.args.shading.now.maxval c.args.page.now.width)
           c.loop-y.invariant.so_far one (reads_map {js = λ _ row. image_of c.place_row.new.page ≡ with_row (image_of c.loop-y.page) (c.loop-y.y - 1) (pixels_of row)}
           values
           (λ _ bytes same. pixels ∙ ap (λ bytes. with_row (image_of c.loop-y.page) (c.loop-y.y - 1) (pixels_of (values bytes))) (sym same)) row)
@@ -39,7 +39,7 @@ returns-in_err-read_block-clause-reads g c =
     let one : c.loop-y.y ≡ suc (c.loop-y.y - 1) = omega arith in
     let row = rw c.loop-y.invariant.row at c.in_err-read_block.ensures.reads in
     rw (p.1, p.2) (painting_stops {X = Unit {0}} {is = λ _ row. image_of c.loop-y.page ≡ image_of c.loop-y.page} (image_of c.loop-y.page) c.loop-y.invariant.so_far one
-    (reads_stop (λ bytes rest. Takes false (grouped c.args.shading.now.channels (samples (is_wide c.args.shading.now.white) bytes)) rest) row))
+    (reads_stop (λ bytes rest. Takes false (grouped c.args.shading.now.channels (samples (is_wide c.args.shading.now.maxval) bytes)) rest) row))
 
 pub returns-clause-reads : goal.returns-clause-reads
 returns-clause-reads g c =

@@ -11,10 +11,10 @@ abbrev pub invariant-loop-y : goal.invariant-loop-y
 invariant-loop-y g l =
     let source = g.I.Inputs in
     record {
-      so_far : IsPaintedSoFar (raw_samples_row l.shading.channels l.shading.white l.fn.page.width) l.fn.window (source.files l.fn.inputs) (λ rows. with_rows (image_of l.fn.page) l.fn.page.height (map (map (black_of l.shading)) rows)) l.fn.page.height
+      so_far : IsPaintedSoFar (raw_samples_row l.shading.channels l.shading.maxval l.fn.page.width) l.fn.window (source.files l.fn.inputs) (λ rows. with_rows (image_of l.fn.page) l.fn.page.height (map (map (black_of l.shading)) rows)) l.fn.page.height
           l.window (source.files l.inputs) (λ rows. with_rows (image_of l.page) l.y (map (map (black_of l.shading)) rows)) l.y;
       sides : SameSides l.fn.page l.page;
-      row : length l.row ≡ sample_bytes l.shading.white (samples_in l.shading.channels * l.fn.page.width);
+      row : length l.row ≡ sample_bytes l.shading.maxval (samples_in l.shading.channels * l.fn.page.width);
       within : l.y ≤ l.fn.page.height;
       leaves : Leaves source (Ok (tt {0})) l.fn.inputs l.inputs;
     }

@@ -7,5 +7,5 @@ use Rattle.bitmap_input.proofs.samples.word.Given as goal
 abbrev pub invariant-loop-i : goal.invariant-loop-i
 invariant-loop-i l = record {
   first : HasFirst (λ k. black_in l.shading l.row (l.from + k)) l.word l.i;
-  wide : l.wide ≡ is_wide l.shading.white;
+  wide : l.wide ≡ is_wide l.shading.maxval;
 }

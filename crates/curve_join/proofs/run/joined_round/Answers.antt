@@ -1,11 +1,11 @@
 use Rattle.std.proofs.Common.{◌-◌, length, ◌∙◌, arith}
 use Rattle.std.proofs.lemmas.List.Elements.{All-take}
-use Rattle.curve_join.specs.Bends.{IsSmall}
+use Rattle.curve_join.specs.Bends.{IsWorkable}
 use Rattle.curve_join.proofs.Joining.{joined_is, may_join, not_covering, not_following, penalty_there, sense_back}
 use Rattle.curve_join.proofs.run.joined_round.Goals as goal
 
 pub sides_penalty-requires-clause-small : goal.sides_penalty-requires-clause-small
-sides_penalty-requires-clause-small c = All-take IsSmall (length c.args.run.now - 1) c.args.run.now c.requires.small
+sides_penalty-requires-clause-small c = All-take IsWorkable (length c.args.run.now - 1) c.args.run.now c.requires.small
 
 pub returns-in_default-sides_penalty-clause-none : goal.returns-in_default-sides_penalty-clause-none
 returns-in_default-sides_penalty-clause-none c =

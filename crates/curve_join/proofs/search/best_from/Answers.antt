@@ -3,8 +3,8 @@ use Rattle.std.specs.Prelude.{slice_index}
 use Rattle.least_walk.proofs.Cheapest.{cost_below}
 use Rattle.least_walk.proofs.Going.{fewest_below}
 use Rattle.curve_join.proofs.Ways.{best_more, cost_there, fewest_there, next_there, penalty_alone, up_to_itself, way_is, way_to}
-use Rattle.curve_join.specs.Choice.{IsLastRun, IsRun, run_penalty}
-use Rattle.curve_join.specs.Costs.{penalty_most}
+use Rattle.curve_join.specs.Choice.{IsLastRun, MayBeOne, run_penalty}
+use Rattle.curve_join.specs.Costs.{run_penalty_most}
 use Rattle.curve_join.specs.Search.{IsNotBehind}
 use Rattle.curve_join.proofs.search.best_from.Goals as goal
 
@@ -15,7 +15,7 @@ way_by-best-requires-clause-few c =
     let bends = runs.bends.items in
     let next = c.args.from + 1 in
     let fewest = c.requires.fewest next (omega arith) (omega (arith, c.requires.from)) in
-    omega (arith, runs.most, fewest_below (length bends) (IsRun runs.tol bends) next (slice_index c.args.counts.now next) fewest)
+    omega (arith, runs.most, fewest_below (length bends) (MayBeOne runs.tol bends) next (slice_index c.args.counts.now next) fewest)
 
 -- the nearest piece is the best way on if there is no other
 pub loop-to-init : goal.loop-to-init
@@ -53,7 +53,7 @@ way_by-requires-clause-few c =
     let to = c.loop-to.to - 1 in
     let last = subst (λ b. IsLastRun b c.args.from c.last_from-last.result) c.deref.ensures.value c.last_from-last.ensures in
     let fewest = c.requires.fewest to (omega arith) (omega (arith, last.within)) in
-    omega (arith, runs.most, fewest_below (length bends) (IsRun runs.tol bends) to (slice_index c.args.counts.now to) fewest)
+    omega (arith, runs.most, fewest_below (length bends) (MayBeOne runs.tol bends) to (slice_index c.args.counts.now to) fewest)
 
 -- and they cost less than 2^88
 pub better-best-requires-clause-small : goal.better-best-requires-clause-small
@@ -66,8 +66,8 @@ better-best-requires-clause-small c =
     omega (
       arith,
       c.way_by.ensures.cost,
-      cost_below (length bends) (IsRun runs.tol bends) (run_penalty bends) runs.most
-          (λ i j below allowed. penalty_most runs.tol bends i j runs.tolerance allowed) to (slice_index c.args.costs.now to) spent,
+      cost_below (length bends) (MayBeOne runs.tol bends) (run_penalty bends) runs.most
+          (λ i j below allowed. run_penalty_most runs.tol bends i j runs.tolerance allowed) to (slice_index c.args.costs.now to) spent,
     )
 
 pub better-best-requires-clause-within : goal.better-best-requires-clause-within
@@ -97,7 +97,7 @@ loop-to-preserved c =
     let last = subst (λ b. IsLastRun b c.args.from c.last_from-last.result) c.deref.ensures.value c.last_from-last.ensures in
     let is = c.way_by.ensures in
     let one = c.better-best.ensures in
-    best_more (length bends) (IsRun runs.tol bends) (run_penalty bends) c.args.counts.now c.args.costs.now c.args.from (c.loop-to.to - 1) c.loop-to.to
+    best_more (length bends) (MayBeOne runs.tol bends) (run_penalty bends) c.args.counts.now c.args.costs.now c.args.from (c.loop-to.to - 1) c.loop-to.to
     c.way_by.result c.loop-to.best c.better-best.result (omega arith) (omega (arith, last.within)) (omega arith)
     is.count is.cost is.next one.one one.best one.run c.loop-to.invariant
 
@@ -105,19 +105,19 @@ pub returns-clause-count : goal.returns-clause-count
 returns-clause-count c =
     let runs = c.args.runs.now in
     let bends = runs.bends.items in
-    fewest_there (length bends) (IsRun runs.tol bends) (run_penalty bends) c.args.counts.now c.args.costs.now c.args.from c.loop-to.to c.loop-to.best
+    fewest_there (length bends) (MayBeOne runs.tol bends) (run_penalty bends) c.args.counts.now c.args.costs.now c.args.from c.loop-to.to c.loop-to.best
     c.requires.from (omega arith) (omega arith) c.requires.fewest c.requires.costs c.loop-to.invariant
 
 pub returns-clause-cost : goal.returns-clause-cost
 returns-clause-cost c =
     let runs = c.args.runs.now in
     let bends = runs.bends.items in
-    cost_there (length bends) (IsRun runs.tol bends) (run_penalty bends) c.args.counts.now c.args.costs.now c.args.from c.loop-to.to c.loop-to.best
+    cost_there (length bends) (MayBeOne runs.tol bends) (run_penalty bends) c.args.counts.now c.args.costs.now c.args.from c.loop-to.to c.loop-to.best
     c.requires.from (omega arith) (omega arith) c.requires.fewest c.requires.costs c.loop-to.invariant
 
 pub returns-clause-next : goal.returns-clause-next
 returns-clause-next c =
     let runs = c.args.runs.now in
     let bends = runs.bends.items in
-    next_there (length bends) (IsRun runs.tol bends) (run_penalty bends) c.args.counts.now c.args.costs.now c.args.from c.loop-to.to c.loop-to.best
+    next_there (length bends) (MayBeOne runs.tol bends) (run_penalty bends) c.args.counts.now c.args.costs.now c.args.from c.loop-to.to c.loop-to.best
     c.requires.from (omega arith) (omega arith) c.requires.fewest c.requires.costs c.loop-to.invariant

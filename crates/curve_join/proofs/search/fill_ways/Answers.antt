@@ -4,7 +4,7 @@ use Rattle.least_walk.specs.Suffix.{HasFewest, HasNexts, IsFewestFrom}
 use Rattle.least_walk.proofs.Filling.{nexts_more}
 use Rattle.least_walk.proofs.Onward.{cost_at_end}
 use Rattle.curve_join.proofs.Ways.{counts_more, none_left, spent_more}
-use Rattle.curve_join.specs.Choice.{IsRun, run_penalty}
+use Rattle.curve_join.specs.Choice.{MayBeOne, run_penalty}
 use Rattle.curve_join.specs.Search.{AreLeastCosts}
 use Rattle.curve_join.proofs.search.fill_ways.Goals as goal
 
@@ -21,13 +21,13 @@ loop-from-init c =
       counts = λ k above within.
           let here : size ≡ k = omega arith in
           let nothing = subst (λ m. get_or counts m 0 ≡ 0) here (get_or-set_same c.args.counts.now size 0 0 (omega arith)) in
-          subst (λ m. IsFewestFrom (length bends) (IsRun runs.tol bends) m (get_or counts k 0)) (omega arith)
-          (subst (IsFewestFrom (length bends) (IsRun runs.tol bends) (length bends)) (sym nothing)
-          (none_left (length bends) (IsRun runs.tol bends) (run_penalty bends)));
+          subst (λ m. IsFewestFrom (length bends) (MayBeOne runs.tol bends) m (get_or counts k 0)) (omega arith)
+          (subst (IsFewestFrom (length bends) (MayBeOne runs.tol bends) (length bends)) (sym nothing)
+          (none_left (length bends) (MayBeOne runs.tol bends) (run_penalty bends)));
       costs = λ k above within.
           let here : size ≡ k = omega arith in
           let nothing = subst (λ m. get_or costs m 0 ≡ 0) here (get_or-set_same c.args.costs.now size 0 0 (omega arith)) in
-          cost_at_end (length bends) (IsRun runs.tol bends) (run_penalty bends) k (get_or costs k 0) (omega arith) nothing;
+          cost_at_end (length bends) (MayBeOne runs.tol bends) (run_penalty bends) k (get_or costs k 0) (omega arith) nothing;
       nexts = λ k above below place. let none : ⊥ = omega arith in elim none [ ];
     }
 
@@ -40,13 +40,13 @@ loop-from-preserved c =
     let so_far = c.loop-from.invariant in
     let one = c.best_from-way.ensures in
     record {
-      counts = counts_more (length bends) (IsRun runs.tol bends) (run_penalty bends) i c.best_from-way.result.count c.loop-from.counts
+      counts = counts_more (length bends) (MayBeOne runs.tol bends) (run_penalty bends) i c.best_from-way.result.count c.loop-from.counts
           (omega (arith, c.loop-from.auto.counts, length-set c.args.counts.now c.len-size.result 0))
-          (subst (λ n. HasFewest (length bends) (IsRun runs.tol bends) n c.loop-from.counts) low so_far.counts) one.count;
-      costs = spent_more (length bends) (IsRun runs.tol bends) (run_penalty bends) i c.best_from-way.result.cost c.loop-from.costs
+          (subst (λ n. HasFewest (length bends) (MayBeOne runs.tol bends) n c.loop-from.counts) low so_far.counts) one.count;
+      costs = spent_more (length bends) (MayBeOne runs.tol bends) (run_penalty bends) i c.best_from-way.result.cost c.loop-from.costs
           (omega (arith, c.loop-from.auto.costs, length-set c.args.costs.now c.len-size.result 0))
-          (subst (λ n. AreLeastCosts (length bends) (IsRun runs.tol bends) (run_penalty bends) n c.loop-from.costs) low so_far.costs) one.cost;
-      nexts = nexts_more (length bends) (IsRun runs.tol bends) (run_penalty bends) i c.loop-from.nexts c.best_from-way.result.next
+          (subst (λ n. AreLeastCosts (length bends) (MayBeOne runs.tol bends) (run_penalty bends) n c.loop-from.costs) low so_far.costs) one.cost;
+      nexts = nexts_more (length bends) (MayBeOne runs.tol bends) (run_penalty bends) i c.loop-from.nexts c.best_from-way.result.next
           (omega (arith, c.loop-from.auto.nexts))
-          (subst (λ n. HasNexts (length bends) (IsRun runs.tol bends) (run_penalty bends) n c.loop-from.nexts) low so_far.nexts) one.next;
+          (subst (λ n. HasNexts (length bends) (MayBeOne runs.tol bends) (run_penalty bends) n c.loop-from.nexts) low so_far.nexts) one.next;
     }

@@ -1,7 +1,7 @@
 use Rattle.std.proofs.Common.{◌≡◌, ℕ, List, ◌++◌, length, take, sym, ap, ◌∙◌, subst, arith}
 use Rattle.std.proofs.Math.Seq.{take-append_seam}
 use Rattle.least_walk.specs.Suffix.{HasNexts}
-use Rattle.curve_join.specs.Choice.{IsRun, run_penalty}
+use Rattle.curve_join.specs.Choice.{MayBeOne, run_penalty}
 use Rattle.curve_join.proofs.search.least_by_runs.Goals as goal
 
 -- what was written through a slice of a whole vector
@@ -12,7 +12,7 @@ pub walk_by-requires-clause-nexts : goal.walk_by-requires-clause-nexts
 walk_by-requires-clause-nexts c =
     let runs = c.args.runs.now in
     let bends = runs.bends.items in
-    let P : List ℕ → Type 0 = λ nexts. HasNexts (length bends) (IsRun runs.tol bends) (run_penalty bends) 0 nexts in
+    let P : List ℕ → Type 0 = λ nexts. HasNexts (length bends) (MayBeOne runs.tol bends) (run_penalty bends) 0 nexts in
     let len = c.deref_mut-3.ensures.len in
     let same : c.deref-3.result.now ≡ c.fill_ways.new.nexts =
     c.deref-3.ensures.value ∙ whole c.fill_ways.new.nexts _ _ (omega (arith, c.fill_ways.auto.nexts)) in

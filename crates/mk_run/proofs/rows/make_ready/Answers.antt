@@ -17,7 +17,7 @@ rows-init g c = record {
   same_room = refl;
   steady = refl;
   openings = refl;
-  setup = record { width = refl; height = refl; white = refl; radius = refl };
+  setup = record { width = refl; height = refl; maxval = refl; radius = refl };
   behind = c.requires.behind;
   ahead = c.requires.ahead;
   next = [];

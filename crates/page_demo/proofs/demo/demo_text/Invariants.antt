@@ -1,6 +1,6 @@
 use Rattle.std.proofs.Common.{◌≤◌, ◌++◌, ℕ, List}
 use Rattle.std.specs.List.{AllZip, concat}
-use Rattle.page_demo.specs.Line.{IsDemoText, IsLine}
+use Rattle.page_demo.specs.Line.{IsDemoLine, IsDemoText}
 use Rattle.page_demo.specs.Picture.{pages_from}
 use Rattle.page_demo.proofs.demo.demo_text.Given as goal
 
@@ -8,7 +8,7 @@ use Rattle.page_demo.proofs.demo.demo_text.Given as goal
 abbrev pub invariant-loop-left : goal.invariant-loop-left
 invariant-loop-left g l = record {
   fits : l.left ≤ l.fn.pages;
-  text : (lines : List (List ℕ)) → AllZip (IsLine l.fn.settings) (pages_from l.left l.generator) lines
+  text : (lines : List (List ℕ)) → AllZip (IsDemoLine l.fn.settings) (pages_from l.left l.generator) lines
       → IsDemoText l.fn.pages l.fn.settings (l.text.items ++ concat lines);
 }
 

@@ -32,8 +32,8 @@ returns-clause-row c = λ page level follows limit.
     c.of-place.ensures.part c.deref.ensures.value c.deref-2.ensures.value (before_within (length c.deref.result.now) u) (omega (arith, wide, room.some_columns))
     ∙ ap (λ x. mixed_column page f.radius c.args.times c.args.y x) same in
     let all : c.args.times * (page.width + 2) ≡ c.args.times * f.width + 2 * c.args.times = rw page_wide (omega arith) in
-    let bright : (a b : ℕ) → page.sample a b ≤ page.white = λ a b. rw follows.holds.white (follows.holds.bright a b) in
-    let same : c.args.limit ≡ dark_limit page.white c.args.times level = limit ∙ ap (λ w. dark_limit w c.args.times level) (sym follows.holds.white) in
+    let bright : (a b : ℕ) → page.sample a b ≤ page.maxval = λ a b. rw follows.holds.maxval (follows.holds.bright a b) in
+    let same : c.args.limit ≡ dark_limit page.maxval c.args.times level = limit ∙ ap (λ w. dark_limit w c.args.times level) (sym follows.holds.maxval) in
     c.pack_row.ensures ∙ packed_same (c.args.times * f.width) (dark c.mix_row.new.mixed c.args.times c.args.limit) (λ X. is_black page f.radius c.args.times level X c.args.y)
     (λ X h. dark_is page f.radius c.args.times c.args.limit c.args.y X c.mix_row.new.mixed columns
     (after-within c.args.times X (c.args.times * f.width) (page.width + 2) c.requires.least h (omega (arith, all)))

@@ -38,7 +38,7 @@ returns-clause-holds c = λ page holds.
     record {
       width = holds.width;
       height = holds.height;
-      white = holds.white;
+      maxval = holds.maxval;
       bright = holds.bright;
       held = λ j from. holds.held j (omega (arith, from));
       sums = λ x within.

@@ -33,7 +33,7 @@ returns-clause-lower c = λ page holds.
       record {
         width = holds.width;
         height = holds.height;
-        white = holds.white;
+        maxval = holds.maxval;
         bright = holds.bright;
         held = holds.held;
         sums = holds.sums;

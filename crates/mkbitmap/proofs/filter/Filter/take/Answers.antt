@@ -11,9 +11,9 @@ pub keep-requires-clause-small : goal.keep-requires-clause-small
 keep-requires-clause-small c = λ x.
     let room = c.requires.along.room in
     let f = c.args.self.now in
-    let small : get_or f.columns.items x 0 ≤ (f.taken - first_held f) * f.white = sums_small c.requires.along.page f room c.requires.along.holds x in
-    let bound : (f.taken - first_held f) * f.white ≤ 129 * 65535 = mul-le (f.taken - first_held f) f.white 129 65535 (omega (arith, room.radius, c.requires.room)) room.white in
-    rw c.deref_mut.ensures.value (omega (arith, small, bound, room.white))
+    let small : get_or f.columns.items x 0 ≤ (f.taken - first_held f) * f.maxval = sums_small c.requires.along.page f room c.requires.along.holds x in
+    let bound : (f.taken - first_held f) * f.maxval ≤ 129 * 65535 = mul-le (f.taken - first_held f) f.maxval 129 65535 (omega (arith, room.radius, c.requires.room)) room.maxval in
+    rw c.deref_mut.ensures.value (omega (arith, small, bound, room.maxval))
 
 pub returns-clause-room : goal.returns-clause-room
 returns-clause-room c =
@@ -27,7 +27,7 @@ returns-clause-room c =
       some_rows = room.some_rows;
       most_columns = room.most_columns;
       most_rows = room.most_rows;
-      white = room.white;
+      maxval = room.maxval;
       radius = room.radius;
       slots = length-set f.ring.items (f.taken % c.len.result) c.keep.new.self ∙ room.slots;
       slot = slot_next (2 * f.radius + 1) (f.taken % c.len.result) f.width f.ring.items c.keep.new.self (omega (arith, below, room.slots)) room.slot
@@ -53,14 +53,14 @@ returns-clause-taken c = λ page follows row.
       holds = record {
         width = holds.width;
         height = holds.height;
-        white = holds.white;
+        maxval = holds.maxval;
         bright = holds.bright;
         held = rw slots (held_next (2 * f.radius + 1) (first_held f) f.taken f.width f.ring.items page.sample c.keep.new.self (omega arith) room.slots c.requires.room holds.held
-            (λ x within. c.keep.ensures.kept x (omega (arith, within, c.requires.whole)) ∙ ap (λ w. min (get_or c.args.row.now x 0) w) (sym holds.white) ∙ sym (row.sample x (omega (arith, within, holds.width)))));
+            (λ x within. c.keep.ensures.kept x (omega (arith, within, c.requires.whole)) ∙ ap (λ w. min (get_or c.args.row.now x 0) w) (sym holds.maxval) ∙ sym (row.sample x (omega (arith, within, holds.width)))));
         sums = λ x within.
             let item : get_or c.deref_mut.result.now x 0 ≡ get_or f.columns.items x 0 = ap (λ l. get_or l x 0) c.deref_mut.ensures.value in
-            let sample : page.sample x f.taken ≡ min (get_or c.args.row.now x 0) f.white
-            = row.sample x (omega (arith, within, holds.width)) ∙ ap (λ w. min (get_or c.args.row.now x 0) w) holds.white in
+            let sample : page.sample x f.taken ≡ min (get_or c.args.row.now x 0) f.maxval
+            = row.sample x (omega (arith, within, holds.width)) ∙ ap (λ w. min (get_or c.args.row.now x 0) w) holds.maxval in
             let grown : sum_between (page.sample x) (first_held f) (suc f.taken) ≡ sum_between (page.sample x) (first_held f) f.taken + page.sample x f.taken
             = sum-grown (page.sample x) (first_held f) f.taken room.low in
             let one : f.taken + 1 ≡ suc f.taken = omega arith in

@@ -3,7 +3,7 @@ use Rattle.std.proofs.lemmas.Int.{ints, to_z-of_z}
 use Rattle.std.specs.Prelude.{unsigned_abs}
 use Rattle.pt_base.specs.ClosedWalk.{point_at}
 use Rattle.pt_base.proofs.Sizes.{back}
-use Rattle.prefix_moments.specs.Sums.{spread_of, right_of, above_of}
+use Rattle.prefix_moments.specs.Sums.{spread_of, rightward_of, above_of}
 use Rattle.prefix_moments.proofs.Cornered.{wrapped_total}
 use Rattle.prefix_moments.proofs.Fitting.{coordinate_is}
 use Rattle.prefix_moments.proofs.Prefixes.{segment_is, whole_back}
@@ -23,7 +23,7 @@ is c =
     let sums = whole_back points on_page i (j - i + 1) c.minus.result c.raw-sums.result (omega (arith, c.requires.steps)) rest r.x r.y r.xx r.xy r.yy in
     let here = start.on_page in
     let last = c.place-last.ensures in
-    let right : to_z w64 (of_z w64 c.between-right.result) ≡ right_of points i j =
+    let right : to_z w64 (of_z w64 c.between-right.result) ≡ rightward_of points i j =
     back c.between-right.result (omega (arith, c.between-right.ensures.most))
     ∙ right_is points i j start.place c.place-last.result c.between-right.result here last.on_page start.place_is last.value c.between-right.ensures.value in
     let above : to_z w64 (of_z w64 c.between-above.result) ≡ above_of points i j =
@@ -31,7 +31,7 @@ is c =
     ∙ above_is points i j start.place c.place-last.result c.between-above.result here last.on_page start.place_is last.value c.between-above.ensures.value in
     let x = coordinate_is start.place.x c.from.result here.left here.right c.from.ensures ∙ ap (λ v. v.x) start.place_is in
     let y = coordinate_is start.place.y c.from-2.result here.bottom here.top c.from-2.ensures ∙ ap (λ v. v.y) start.place_is in
-    let number : to_z w64 (of_z w64 c.crossed-start.result) ≡ (point_at points i).x *ℤ above_of points i j -ℤ (point_at points i).y *ℤ right_of points i j =
+    let number : to_z w64 (of_z w64 c.crossed-start.result) ≡ (point_at points i).x *ℤ above_of points i j -ℤ (point_at points i).y *ℤ rightward_of points i j =
     to_z-of_z w64 c.crossed-start.result (record { sfits = c.crossed-start.type_inv }) ∙ c.crossed-start.ensures ∙ rw (x, y, right, above) refl in
     wrapped_total points i j c.raw-sums.result (to_z w64 (of_z w64 c.from-3.result)) (to_z w64 (of_z w64 c.between-right.result))
     (to_z w64 (of_z w64 c.between-above.result)) (to_z w64 (of_z w64 c.crossed-start.result)) c.wrapped_spread-total.result

@@ -5,7 +5,7 @@ use Rattle.pt_base.proofs.Sizes.{product_most}
 use Rattle.straight_paths.specs.Cones.{IsShort, cross_of}
 use Rattle.straight_paths.specs.Strips.{IsFromTo, IsStrip}
 use Rattle.straight_paths.specs.Wedges.{IsSign}
-use Rattle.straight_paths.specs.declared.offset.Offset.{Offset}
+use Rattle.straight_paths.specs.declared.vector.Vector.{Vector}
 use Rattle.straight_paths.specs.declared.strip.Strip.{Strip}
 use Rattle.straight_paths.proofs.Stepping.{stays_before, strip_before}
 use Rattle.straight_paths.proofs.strip.Strip.earlier.Goals as goal
@@ -24,7 +24,7 @@ breadth_most strip is =
     let y = sign_most strip.quarter.up strip.way.y 65535 is.quarter.up is.short.y in
     omega (arith, ints)
 
-cross_most : (way step : Offset) (z : ℤ) → IsShort 65535 way → IsShort 1 step → z ≡ cross_of way step → unsigned_abs z ≤ 131070
+cross_most : (way step : Vector) (z : ℤ) → IsShort 65535 way → IsShort 1 step → z ≡ cross_of way step → unsigned_abs z ≤ 131070
 cross_most way step z short unit is =
     let p = product_most way.x step.y 65535 1 short.x unit.y in
     let q = product_most way.y step.x 65535 1 short.y unit.x in

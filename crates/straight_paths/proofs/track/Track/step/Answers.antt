@@ -3,10 +3,10 @@ use Rattle.std.proofs.lemmas.Int.{ints}
 use Rattle.pt_base.specs.ClosedWalk.{IsUnitStep, point_at}
 use Rattle.pt_base.specs.declared.point.Point.{Point}
 use Rattle.straight_paths.specs.Cones.{IsShort}
-use Rattle.straight_paths.specs.Straight.{offset_of}
+use Rattle.straight_paths.specs.Straight.{vector_of}
 use Rattle.straight_paths.proofs.track.Track.step.Goals as goal
 
-unit_short : (p q : Point) → IsUnitStep p q → IsShort 1 (offset_of p q)
+unit_short : (p q : Point) → IsUnitStep p q → IsShort 1 (vector_of p q)
 unit_short p q step = elim step [
   | inl row ↦ elim row.1 [
     | inl e ↦ let same = row.0 in record { x = omega (arith, ints); y = omega (arith, ints) }
