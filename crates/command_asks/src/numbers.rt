@@ -6,7 +6,7 @@ ghost use Rattle.command_asks.specs.Asked.{IsMicroOr, IsWholeOf, IsWholeOr};
 use pt_base::{read_micro, read_whole};
 
 /// The whole number of this text from least to most, or the default where there is no text.
-pub fn whole_or(text: Option<&str>, default: u32, least: u32, most: u32) -> Option<u32>
+pub(crate) fn whole_or(text: Option<&str>, default: u32, least: u32, most: u32) -> Option<u32>
     ensures taken { IfSome result
         (IsWholeOr (option_map (λ s. s.now) text.entry) default least most) }
     ensures refused { IfNone result ((n : ℕ)
@@ -19,7 +19,7 @@ pub fn whole_or(text: Option<&str>, default: u32, least: u32, most: u32) -> Opti
 }
 
 /// The whole number of this text from least to most, if there is a text.
-pub fn whole_of(text: Option<&str>, least: u32, most: u32) -> Option<u32>
+pub(crate) fn whole_of(text: Option<&str>, least: u32, most: u32) -> Option<u32>
     ensures taken { IfSome result (IsWholeOf (option_map (λ s. s.now) text.entry) least most) }
     ensures refused { IfNone result ((n : ℕ)
         → IsWholeOf (option_map (λ s. s.now) text.entry) least most n → ⊥) }
@@ -32,7 +32,7 @@ pub fn whole_of(text: Option<&str>, least: u32, most: u32) -> Option<u32>
 
 /// The millionths of the decimal number of this text, if they are at most so many, or the default where
 /// there is no text.
-pub fn micro_or(text: Option<&str>, default: u32, most: u32) -> Option<u32>
+pub(crate) fn micro_or(text: Option<&str>, default: u32, most: u32) -> Option<u32>
     requires { most ≤ 1000 * 10 ^ 6 }
     ensures taken { IfSome result (IsMicroOr (option_map (λ s. s.now) text.entry) default most) }
     ensures refused { IfNone result ((n : ℕ)

@@ -45,7 +45,7 @@ const GREATEST_LEVEL: u32 = 1_000_000;
 
 /// The settings that the options give, if each value is in its range, at most one backend is named, and no
 /// certificate is asked for of a polygon through any point.
-pub fn settings_given(given: &Given) -> Option<Settings>
+pub(crate) fn settings_given(given: &Given) -> Option<Settings>
     ensures given { IfSome result (GivesSettings given.now) }
     ensures refused { IfNone result ((settings : Settings) → GivesSettings given.now settings → ⊥) }
 {

@@ -37,7 +37,7 @@ const OPTIONS: &[OptionRow<'static>] = &[
 ];
 
 /// The program's command. Its words come without the program's name.
-pub fn program<'a>(alloc: Global) -> Result<Command<'a>, AllocError>
+pub(crate) fn program<'a>(alloc: Global) -> Result<Command<'a>, AllocError>
     ensures { IfOk result (λ c. app_of c ≡ command) }
 {
     let command = Command::new(alloc, "potrace").no_binary_name(true);

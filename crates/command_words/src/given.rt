@@ -62,7 +62,7 @@ impl<'w> Model for Given<'w> {
 }
 
 /// Reads what `clap` found. `--cleartext` has no effect, and isn't looked at.
-pub fn given_of<'w>(alloc: Global, matches: &ArgMatches<'w>) -> Result<Given<'w>, AllocError>
+pub(crate) fn given_of<'w>(alloc: Global, matches: &ArgMatches<'w>) -> Result<Given<'w>, AllocError>
     ensures { IfOk result (λ given. given ≡ given_of (rows_of (found_of matches.now))) }
 {
     let files = files_of(alloc, matches)?;

@@ -10,15 +10,15 @@ use crate::page::{HEIGHT, WIDTH};
 use crate::rectangle::Rectangle;
 
 /// The columns of a bar.
-pub const BAR_LENGTH: u32 = 64;
+pub(crate) const BAR_LENGTH: u32 = 64;
 
 /// The pixels of a bar in each of its columns.
-pub const BAR_HEIGHT: u32 = 6;
+pub(crate) const BAR_HEIGHT: u32 = 6;
 
 /// A bar that rises by a row every `run` columns. Its first column is `left`, and its lowest pixel there is
 /// in row `bottom`.
 #[derive(Clone, Copy)]
-pub struct Bar {
+pub(crate) struct Bar {
     pub left: u32,
     pub bottom: u32,
     pub run: u32,

@@ -6,7 +6,7 @@ use std::marker::Model;
 
 /// A generator of numbers of 16 bits. Contracts see its state.
 #[derive(Drop)]
-pub struct Generator {
+pub(crate) struct Generator {
     state: u32,
 }
 
@@ -19,14 +19,14 @@ impl Model for Generator {
 }
 
 impl Generator {
-    pub fn new(state: u32) -> Generator
+    pub(crate) fn new(state: u32) -> Generator
         ensures { result ≡ state }
     {
         Generator { state }
     }
 
     /// The next number.
-    pub fn draw(&mut self) -> u32
+    pub(crate) fn draw(&mut self) -> u32
         ensures state { self.new ≡ next_state self.old }
         ensures number { result ≡ number_at self.old }
     {

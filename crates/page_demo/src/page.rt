@@ -12,16 +12,16 @@ use pt_base::NoMemory;
 use std::alloc::Global;
 
 /// The width of each page, in pixels.
-pub const WIDTH: u32 = 256;
+pub(crate) const WIDTH: u32 = 256;
 
 /// The height of each page, in pixels.
-pub const HEIGHT: u32 = 192;
+pub(crate) const HEIGHT: u32 = 192;
 
 /// The rectangles of each page.
-pub const RECTANGLES: u32 = 40;
+pub(crate) const RECTANGLES: u32 = 40;
 
 /// The bars of each page.
-pub const BARS: u32 = 4;
+pub(crate) const BARS: u32 = 4;
 
 /// The next pages, so many of them, and the generator goes on behind them.
 pub(crate) fn next_pages(

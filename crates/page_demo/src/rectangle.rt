@@ -10,7 +10,7 @@ use crate::page::{HEIGHT, WIDTH};
 
 /// The pixels in so many columns from `left` on, and in so many rows from `bottom` up.
 #[derive(Clone, Copy)]
-pub struct Rectangle {
+pub(crate) struct Rectangle {
     pub left: u32,
     pub bottom: u32,
     pub width: u32,

@@ -19,7 +19,7 @@ use crate::trail::Upright;
 // for each line; and it needs no order. In order, what lies between the two lines of a pair could be inverted once,
 // and the area would be the sum of these spans; but to sort them took an eighth to a quarter of the time on the pages
 // of bench/runs/2026-11-27/spans.txt, and on none of them, a comb and a spiral of 4096 pixels among them, did it pay.
-pub fn invert(page: &mut Bitmap, lines: &[Upright], column: u32)
+pub(crate) fn invert(page: &mut Bitmap, lines: &[Upright], column: u32)
     requires on_page { All (λ (line : Upright). (line.x ≤ page.old.width) × (line.y < page.old.height))
         lines.now }
     requires even { (y : ℕ) → is_odd (count_by (λ (line : Upright). nat_eq line.y y) lines.now) ≡ false }

@@ -6,14 +6,14 @@ use std::alloc::Global;
 
 /// The left side of pixel (x, y).
 #[derive(Clone, Copy, Debug)]
-pub struct Upright {
+pub(crate) struct Upright {
     pub x: u32,
     pub y: u32,
 }
 
 /// What is noted down of a walk along a boundary. A trail serves for one walk after another.
 #[derive(Debug, Drop)]
-pub struct Trail {
+pub(crate) struct Trail {
     /// The corners where its edges begin.
     pub points: Vec<Point>,
     /// The upright lines that it goes along.
@@ -26,7 +26,7 @@ pub struct Trail {
 
 impl Trail {
     /// The trail of no walk.
-    pub fn new(alloc: Global) -> Trail {
+    pub(crate) fn new(alloc: Global) -> Trail {
         Trail {
             points: Vec::new(alloc),
             lines: Vec::new(alloc),
@@ -36,7 +36,7 @@ impl Trail {
     }
 
     /// Forgets the walk.
-    pub fn clear(&mut self)
+    pub(crate) fn clear(&mut self)
         ensures points { self.new.points.items ≡ [] }
         ensures lines { self.new.lines.items ≡ [] }
         ensures up { self.new.up ≡ 0 }

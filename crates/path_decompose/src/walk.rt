@@ -21,7 +21,7 @@ use turn_policies::{Dir, Edge, turned_at};
 // shoelace formula of surveyors. For that it has to be known which side of each line is inside, which is proved step
 // by step: a turn to the left keeps the pixel on the left, one to the right the pixel on the right, and straight on
 // both pixels are as they were. The columns are summed up here, where the heading is known.
-pub fn walk_round(
+pub(crate) fn walk_round(
     page: &Bitmap,
     x: u32,
     y: u32,

@@ -10,14 +10,14 @@ const HELP: &[u8] = b"usage: potrace [options] [file...]\n\
 const VERSION: &[u8] = b"potrace, integer profile 1\n";
 
 /// How the program is used, in two lines.
-pub fn help_text() -> &'static [u8]
+pub(crate) fn help_text() -> &'static [u8]
     ensures { result.now ≡ help_text }
 {
     HELP
 }
 
 /// Which version the program is, in a line.
-pub fn version_text() -> &'static [u8]
+pub(crate) fn version_text() -> &'static [u8]
     ensures { result.now ≡ version_text }
 {
     VERSION

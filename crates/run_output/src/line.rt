@@ -84,7 +84,7 @@ fn say_of_numbered<E: Sink>(errs: &mut E, program: &str, name: &str, page: &str,
 }
 
 /// Writes the pieces of a line one after another, and gives up the rest where a write fails.
-pub fn say<E: Sink>(errs: &mut E, pieces: &[&[u8]])
+pub(crate) fn say<E: Sink>(errs: &mut E, pieces: &[&[u8]])
     requires { E.is_ready errs.old ≡ true }
     ensures said { IsSaid (E.documents errs.old) (E.documents errs.new) (E.faults errs.old)
         (E.faults errs.new) (concat (map (λ piece. piece.now) pieces.now)) }

@@ -68,7 +68,7 @@ const PROLOG: &[u8] = b"%!PS-Adobe-3.0\n%%Pages: (atend)\n%%EndComments\n";
 /// document, where the part ends it.
 ///
 /// After a fault nothing more is written: the part is cut off there.
-pub fn write_part<O: Outputs>(
+pub(crate) fn write_part<O: Outputs>(
     outs: &mut O,
     name: &str,
     begins: bool,

@@ -9,7 +9,7 @@ use bit_image::Bitmap;
 
 /// The square of 64 pixels with corner (x, y) at its middle: bits 0 to 7 are its lowest row from the
 /// left, bits 8 to 15 the next one, and so on.
-pub fn square(page: &Bitmap, x: u32, y: u32) -> u64
+pub(crate) fn square(page: &Bitmap, x: u32, y: u32) -> u64
     requires x { x ≤ 32767 }
     requires y { y ≤ 32767 }
     ensures { IsSquare result (image_of page.now) x y }

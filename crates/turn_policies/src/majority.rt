@@ -35,7 +35,7 @@ pub fn major(page: &Bitmap, at: Point) -> bool
 /// Whether black is in the majority around corner (x, y).
 //
 // Black alone is counted, by a mask for each ring, since a ring has 8r - 4 pixels, which is a lemma.
-pub fn major_at(page: &Bitmap, x: u32, y: u32) -> bool
+pub(crate) fn major_at(page: &Bitmap, x: u32, y: u32) -> bool
     requires x { x ≤ 32767 }
     requires y { y ≤ 32767 }
     ensures { result ≡ major (image_of page.now) x y }

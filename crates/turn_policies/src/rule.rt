@@ -30,7 +30,7 @@ pub fn turn(page: &Bitmap, at: Point, heading: Dir, policy: Policy, sign: Sign) 
 
 /// Where a path goes on that comes to corner (x, y) with a heading.
 #[inline(always)]
-pub fn turn_at(page: &Bitmap, x: u32, y: u32, heading: Dir, policy: Policy, sign: Sign) -> Dir
+pub(crate) fn turn_at(page: &Bitmap, x: u32, y: u32, heading: Dir, policy: Policy, sign: Sign) -> Dir
     requires x { x ≤ 32767 }
     requires y { y ≤ 32767 }
     ensures { result ≡ turn (image_of page.now) policy sign x y heading }
