@@ -6,8 +6,7 @@
 //!
 //! ```rust
 //! use page_trace::document::document;
-//! use pt_base::Policy;
-//! use pt_base::{Backend, Settings};
+//! use pt_base::{Backend, Policy, Settings};
 //!
 //! // A page as SVG, under the settings that the program has by itself.
 //! let settings = Settings {
