@@ -17,3 +17,22 @@ walk_by-requires-clause-nexts c =
     let same : c.deref-3.result.now ≡ c.fill_ways.new.nexts =
     c.deref-3.ensures.value ∙ whole c.fill_ways.new.nexts _ _ (omega (arith, c.fill_ways.auto.nexts)) in
     subst P (sym same) c.fill_ways.ensures.nexts
+
+-- the lists have a place for each piece, and one more
+pub fill_ways-requires-clause-count_places : goal.fill_ways-requires-clause-count_places
+fill_ways-requires-clause-count_places c = omega (arith, c.deref_mut.ensures.len, c.in_ok-counts.ensures.len, c.len-places.ensures)
+
+pub fill_ways-requires-clause-cost_places : goal.fill_ways-requires-clause-cost_places
+fill_ways-requires-clause-cost_places c = omega (arith, c.deref_mut-2.ensures.len, c.in_ok-costs.ensures.len, c.len-places.ensures)
+
+pub fill_ways-requires-clause-next_places : goal.fill_ways-requires-clause-next_places
+fill_ways-requires-clause-next_places c = omega (arith, c.deref_mut-3.ensures.len, c.in_ok-nexts.ensures.len, c.len-places.ensures)
+
+pub walk_by-requires-clause-count_places : goal.walk_by-requires-clause-count_places
+walk_by-requires-clause-count_places c = omega (arith, c.deref.ensures.len, c.in_ok-counts.ensures.len, c.len-places.ensures)
+
+pub walk_by-requires-clause-cost_places : goal.walk_by-requires-clause-cost_places
+walk_by-requires-clause-cost_places c = omega (arith, c.deref-2.ensures.len, c.in_ok-costs.ensures.len, c.len-places.ensures)
+
+pub walk_by-requires-clause-next_places : goal.walk_by-requires-clause-next_places
+walk_by-requires-clause-next_places c = omega (arith, c.deref-3.ensures.len, c.in_ok-nexts.ensures.len, c.len-places.ensures)

@@ -158,3 +158,33 @@ returns-clause-cost c =
     let place : IsPlace size (IsUpToLast lasts) 0 = (0, place_at_start size (IsUpToLast lasts) counts c.requires.fewest) in
     subst (IsLeastCost size (IsUpToLast lasts) (penalty_of s.moments.now) 0) (sym (all.kept 0 (omega arith) (omega arith) (omega arith)))
     (all.are 0 (omega arith) (omega arith) place)
+
+-- where the next window begins is looked for on the path
+pub begin_from-begin-requires-clause-within : goal.begin_from-begin-requires-clause-within
+begin_from-begin-requires-clause-within c = omega (arith, c.args.segments.now.places, c.requires.count_places)
+
+pub begin_from-begin-requires-clause-few : goal.begin_from-begin-requires-clause-few
+begin_from-begin-requires-clause-few c = omega (arith, c.args.segments.now.few, c.requires.count_places)
+
+pub begin_from-begin-requires-clause-falling : goal.begin_from-begin-requires-clause-falling
+begin_from-begin-requires-clause-falling c = λ j k low on most. c.requires.falling j k (omega arith) on (omega (arith, most, c.requires.count_places))
+
+pub begin_from-begin-requires-clause-later : goal.begin_from-begin-requires-clause-later
+begin_from-begin-requires-clause-later c = λ inside.
+    let size = length c.args.segments.now.moments.now in
+    let counts = c.args.counts.now in
+    let low : c.loop-from.from ≡ c.loop-from.from - 1 + 1 = omega arith in
+    let end : size ≡ length counts - 1 = omega (arith, c.requires.count_places) in
+    let begin = c.loop-from.invariant.begin (omega (arith, inside, c.requires.count_places)) in
+    subst (λ i. IsBegin (length counts - 1) counts i c.loop-from.begin) low (subst (λ n. IsBegin n counts c.loop-from.from c.loop-from.begin) end begin)
+
+-- and there are as many slots as there were
+pub cheapest_from-onward-requires-clause-from : goal.cheapest_from-onward-requires-clause-from
+cheapest_from-onward-requires-clause-from c = omega (arith, c.args.segments.now.places)
+
+pub cheapest_from-onward-requires-clause-onwards : goal.cheapest_from-onward-requires-clause-onwards
+cheapest_from-onward-requires-clause-onwards c = c.begin_from-begin.ensures.above
+
+pub cheapest_from-onward-requires-clause-slots : goal.cheapest_from-onward-requires-clause-slots
+cheapest_from-onward-requires-clause-slots c = λ k most.
+    omega (arith, c.requires.slots k most, c.loop-from.auto.costs, length-set c.args.costs.now c.slot.result 0)

@@ -26,3 +26,22 @@ walk_along-requires-clause-nexts c =
     let same : c.deref-5.result.now ≡ c.fill_costs.new.nexts =
     c.deref-5.ensures.value ∙ whole c.fill_costs.new.nexts _ _ (omega (arith, c.fill_costs.auto.nexts)) in
     subst P (sym same) c.fill_costs.ensures.nexts
+
+-- the lists have a place for each point, and one more
+pub fill_counts-requires : goal.fill_counts-requires
+fill_counts-requires c = record { places = omega (arith, c.deref_mut.ensures.len, c.in_ok-counts.ensures.len, c.len-places.ensures, c.args.segments.now.places) }
+
+pub farthest-requires-clause-places : goal.farthest-requires-clause-places
+farthest-requires-clause-places c = omega (arith, c.deref.ensures.len, c.in_ok-counts.ensures.len, c.len-places.ensures, c.args.segments.now.places)
+
+pub fill_costs-requires-clause-count_places : goal.fill_costs-requires-clause-count_places
+fill_costs-requires-clause-count_places c = omega (arith, c.deref-2.ensures.len, c.in_ok-counts.ensures.len, c.len-places.ensures, c.args.segments.now.places)
+
+pub fill_costs-requires-clause-next_places : goal.fill_costs-requires-clause-next_places
+fill_costs-requires-clause-next_places c = omega (arith, c.deref_mut-3.ensures.len, c.in_ok-nexts.ensures.len, c.len-places.ensures, c.args.segments.now.places)
+
+pub walk_along-requires-clause-count_places : goal.walk_along-requires-clause-count_places
+walk_along-requires-clause-count_places c = omega (arith, c.deref-4.ensures.len, c.in_ok-counts.ensures.len, c.len-places.ensures, c.args.segments.now.places)
+
+pub walk_along-requires-clause-next_places : goal.walk_along-requires-clause-next_places
+walk_along-requires-clause-next_places c = omega (arith, c.deref-5.ensures.len, c.in_ok-nexts.ensures.len, c.len-places.ensures, c.args.segments.now.places)
