@@ -1,0 +1,13 @@
+-- The texts of shapes, by what a format writes at each mark.
+--   start_text: the beginning of an outline
+--   line_text: a line from one point to another, by its step
+--   steps_text: the steps from one point to three others
+--   curve_text: a curve, whose two controls and end are relative to its beginning
+--   piece_text: a piece that begins at `from`
+--   pieces_text: the pieces, each of which begins where the one before ends
+--   outline_text: a closed subpath
+--   more_text: further outlines of a shape
+--   shape_text: a shape of an outline and some more
+--   flat_text: one shape of all outlines, or none where there is no outline
+--   group_text: a shape and its holes
+pub mod Shapes
