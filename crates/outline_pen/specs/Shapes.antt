@@ -18,14 +18,11 @@ start_text pen unit at = pen mark.Start ++ place_text unit at ++ pen mark.Starte
 abbrev pub line_text : (Mark → List ℕ) → ℕ → Point → Point → List ℕ
 line_text pen unit from to = pen mark.Line ++ step_text unit from to ++ pen mark.Lined
 
--- the steps from one point to three others
-abbrev pub steps_text : ℕ → Point → Point → Point → Point → List ℕ
-steps_text unit from first second end =
-    step_text unit from first ++ codes " " ++ step_text unit from second ++ codes " " ++ step_text unit from end
-
 -- a curve, whose two controls and end are relative to its beginning
 abbrev pub curve_text : (Mark → List ℕ) → ℕ → Point → Point → Point → Point → List ℕ
-curve_text pen unit from first second end = pen mark.Curve ++ steps_text unit from first second end ++ pen mark.Curved
+curve_text pen unit from first second end =
+    pen mark.Curve ++ step_text unit from first ++ codes " " ++ step_text unit from second ++ codes " " ++ step_text unit from end
+    ++ pen mark.Curved
 
 -- a piece that begins at `from`: two lines, each relative to the point before; or a curve
 abbrev pub piece_text : (Mark → List ℕ) → ℕ → Point → Piece → List ℕ

@@ -1,6 +1,6 @@
 //! The strokes of an outline.
 ghost use Rattle.std.specs.Prelude.{◌≡◌, ◌≤◌, ◌++◌, OnOk};
-ghost use Rattle.outline_pen.specs.Shapes.{curve_text, line_text, outline_text, piece_text, pieces_text, start_text, steps_text};
+ghost use Rattle.outline_pen.specs.Shapes.{curve_text, line_text, outline_text, piece_text, pieces_text, start_text};
 
 use crate::pen::{Mark, Pen, put_mark};
 use pt_base::{NoMemory, Piece, Point, end_of, put_place, put_step, start_of};
@@ -108,29 +108,11 @@ fn put_curve<P: Pen>(
         ++ curve_text P.mark_text unit from first second end) }
 {
     put_mark::<P>(out, Mark::Curve)?;
-    put_steps(out, unit, from, first, second, end)?;
-    put_mark::<P>(out, Mark::Curved)?;
-    Ok(())
-}
-
-/// Appends the steps from one point to three others, with a space between two of them.
-fn put_steps(
-    out: &mut Vec<u8>,
-    unit: u32,
-    from: Point,
-    first: Point,
-    second: Point,
-    end: Point,
-) -> Result<(), NoMemory>
-    requires some { 1 ≤ unit }
-    requires most { unit ≤ 1000 }
-    ensures { OnOk result (out.new.items ≡ out.old.items
-        ++ steps_text unit from first second end) }
-{
     put_step(out, unit, from, first)?;
     out.extend_from_slice(b" ")?;
     put_step(out, unit, from, second)?;
     out.extend_from_slice(b" ")?;
     put_step(out, unit, from, end)?;
+    put_mark::<P>(out, Mark::Curved)?;
     Ok(())
 }
