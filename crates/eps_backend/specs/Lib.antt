@@ -1,13 +1,8 @@
 -- The text of a page as Encapsulated PostScript.
---   line_text: a line from one point to another, by its step
---   curve_text: a curve, whose two controls and end are relative to its beginning
---   piece_text: a piece that begins at `from`
---   pieces_text: the pieces, each of which begins where the one before ends
---   move_text: the line that begins an outline
---   outline_text: a closed subpath
---   group_text: a shape and its holes, filled together by the even-odd rule
+--   eps_mark: what stands around the numbers of a path
 --   comments_text: the comments
 --   scale_text: from here on a pixel has so many units
+--   drawing_text: the shapes of a page, each filled with its holes left out
 --   ps_page_text: a page of a document of several, where a pixel has so many units
 --   eps_text: the whole document, where a pixel has so many units
 pub mod EpsText

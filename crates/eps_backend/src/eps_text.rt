@@ -1,10 +1,10 @@
 //! The document of a page, and a page of a document of several.
-ghost use Rattle.std.specs.Prelude.{◌≡◌, ◌≤◌, ◌++◌, flat_map, IfOk, OnOk};
-ghost use Rattle.pt_base.specs.Outlines.{outline_at};
-ghost use Rattle.eps_backend.specs.EpsText.{comments_text, eps_text, group_text, outline_text, ps_page_text, scale_text};
+ghost use Rattle.std.specs.Prelude.{◌≡◌, ◌≤◌, ◌++◌, IfOk, OnOk};
+ghost use Rattle.eps_backend.specs.EpsText.{comments_text, drawing_text, eps_text, ps_page_text, scale_text};
 
-use crate::outline::put_outline;
-use pt_base::{Group, NoMemory, Piece, Sequence, Settings, Trace, pieces_at, put_number};
+use crate::pen::EpsPen;
+use outline_pen::put_groups;
+use pt_base::{NoMemory, Settings, Trace, put_number};
 use std::alloc::Global;
 
 /// The document of a page's trace: each shape is filled with its holes left out, by the even-odd rule.
@@ -17,17 +17,10 @@ pub fn eps(alloc: Global, trace: &Trace, settings: &Settings) -> Result<Vec<u8>,
     requires most { settings.now.unit ≤ 1000 }
     ensures { IfOk result (λ text. text.items ≡ eps_text settings.now.unit trace.now) }
 {
-    let unit = settings.unit;
     let mut out = Vec::new(alloc);
     put_comments(&mut out, trace.width, trace.height)?;
-    put_scale(&mut out, unit)?;
-    put_groups(
-        &mut out,
-        unit,
-        trace.outlines.as_slice(),
-        trace.groups.as_slice(),
-    )?;
-    out.extend_from_slice(b"grestore\n%%EOF\n")?;
+    put_drawing(&mut out, settings.unit, trace)?;
+    out.extend_from_slice(b"%%EOF\n")?;
     Ok(out)
 }
 
@@ -39,16 +32,9 @@ pub fn ps_body(alloc: Global, trace: &Trace, settings: &Settings) -> Result<Vec<
     requires most { settings.now.unit ≤ 1000 }
     ensures { IfOk result (λ text. text.items ≡ ps_page_text settings.now.unit trace.now) }
 {
-    let unit = settings.unit;
     let mut out = Vec::new(alloc);
-    put_scale(&mut out, unit)?;
-    put_groups(
-        &mut out,
-        unit,
-        trace.outlines.as_slice(),
-        trace.groups.as_slice(),
-    )?;
-    out.extend_from_slice(b"grestore\nshowpage\n")?;
+    put_drawing(&mut out, settings.unit, trace)?;
+    out.extend_from_slice(b"showpage\n")?;
     Ok(out)
 }
 
@@ -74,57 +60,15 @@ fn put_scale(out: &mut Vec<u8>, unit: u32) -> Result<(), NoMemory>
     Ok(())
 }
 
-/// Appends the shapes with their holes.
-fn put_groups(
-    out: &mut Vec<u8>,
-    unit: u32,
-    outlines: &[Sequence<Piece>],
-    groups: &[Group],
-) -> Result<(), NoMemory>
+/// Appends what draws a page.
+fn put_drawing(out: &mut Vec<u8>, unit: u32, trace: &Trace) -> Result<(), NoMemory>
     requires some { 1 ≤ unit }
     requires most { unit ≤ 1000 }
-    ensures { OnOk result (out.new.items ≡ out.old.items
-        ++ flat_map (group_text unit outlines.now) groups.now) }
+    ensures { OnOk result (out.new.items ≡ out.old.items ++ drawing_text unit trace.now) }
 {
-    for group in groups {
-        put_group(out, unit, outlines, group)?;
-    }
-    Ok(())
-}
-
-/// Appends a shape with its holes.
-fn put_group(
-    out: &mut Vec<u8>,
-    unit: u32,
-    outlines: &[Sequence<Piece>],
-    group: &Group,
-) -> Result<(), NoMemory>
-    requires some { 1 ≤ unit }
-    requires most { unit ≤ 1000 }
-    ensures { OnOk result (out.new.items ≡ out.old.items
-        ++ group_text unit outlines.now group.now) }
-{
-    put_outline(out, unit, pieces_at(outlines, group.outer))?;
-    put_holes(out, unit, outlines, group.holes.as_slice())?;
-    out.extend_from_slice(b"eofill\n")?;
-    Ok(())
-}
-
-/// Appends the outlines of these numbers.
-fn put_holes(
-    out: &mut Vec<u8>,
-    unit: u32,
-    outlines: &[Sequence<Piece>],
-    holes: &[u32],
-) -> Result<(), NoMemory>
-    requires some { 1 ≤ unit }
-    requires most { unit ≤ 1000 }
-    ensures { OnOk result (out.new.items
-        ≡ out.old.items ++ flat_map (λ hole. outline_text unit (outline_at outlines.now hole))
-        holes.now) }
-{
-    for hole in holes {
-        put_outline(out, unit, pieces_at(outlines, *hole))?;
-    }
+    put_scale(out, unit)?;
+    let outlines = trace.outlines.as_slice();
+    put_groups::<EpsPen>(out, unit, outlines, trace.groups.as_slice())?;
+    out.extend_from_slice(b"grestore\n")?;
     Ok(())
 }

@@ -13,6 +13,6 @@
 #![tactic(auto)]
 
 pub mod eps_text;
-mod outline;
+mod pen;
 
 pub use eps_text::{eps, ps_body};

@@ -12,6 +12,7 @@ use Rattle.mkbitmap.specs.Enlarged.{after_of, distance_behind, before_within, mi
 use Rattle.mkbitmap.specs.Packing.{padded}
 use Rattle.mkbitmap.specs.Follows.{HasRoom, HoldsRows, Follows, AreRaised}
 use Rattle.mkbitmap.specs.declared.filter.Filter.{Filter}
+use Rattle.mkbitmap.specs.declared.limits.TheConstants.{GREATEST_RELIEF}
 use Rattle.mkbitmap.proofs.Raising.{raised-most}
 
 -- a box has a pixel
@@ -32,7 +33,7 @@ raised_of-most page radius x y bright in_row in_page =
 
 -- the reliefs that are held fit
 pub held_most : (page : Gray) (f : Filter) (reliefs : List ℕ) (u : ℕ) → HasRoom f → HoldsRows page f → length reliefs ≡ f.width
-    → AreRaised page f reliefs (before_within f.height u) → (x : ℕ) → get_or reliefs x 0 ≤ 33553920
+    → AreRaised page f reliefs (before_within f.height u) → (x : ℕ) → get_or reliefs x 0 ≤ GREATEST_RELIEF
 held_most page f reliefs u room holds wide raised x =
     elim (cases_lt x f.width) [
       | inl within ↦

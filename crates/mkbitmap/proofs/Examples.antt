@@ -1,5 +1,5 @@
 -- The definitions on two pixels: a dark one and a bright one.
-use Rattle.std.proofs.Common.{◌≡◌, ℕ, [], ◌∷◌, refl}
+use Rattle.std.proofs.Common.{◌≡◌, [], ◌∷◌, refl}
 use Rattle.bit_image.specs.PbmText.{row_text}
 use Rattle.mkbitmap.specs.Box.{Gray, gray_of, box_sum}
 use Rattle.mkbitmap.specs.Enlarged.{is_black, need}

@@ -1,5 +1,5 @@
 -- The rows of the larger page one below another: which rows of the page they are mixed of, and which they need.
-use Rattle.std.proofs.Common.{◌≡◌, ℕ, suc, ◌+◌, ◌*◌, ◌<◌, ◌≤◌, min, arith}
+use Rattle.std.proofs.Common.{◌≡◌, ℕ, suc, ◌+◌, ◌*◌, ◌<◌, ◌≤◌, arith}
 use Rattle.std.proofs.lemmas.Nat.{div_below, le-div}
 use Rattle.mkbitmap.specs.Enlarged.{after_of, need}
 use Rattle.mkbitmap.proofs.Lifting.{need-is}

@@ -4,7 +4,7 @@ use Rattle.pt_base.specs.declared.limits.TheConstants.{LONGEST_SIDE}
 use Rattle.mkbitmap.specs.Box.{Gray, sum_between}
 use Rattle.mkbitmap.specs.Relief.{raised_of}
 use Rattle.mkbitmap.specs.Enlarged.{before_within}
-use Rattle.mkbitmap.specs.declared.limits.TheConstants.{GREATEST_RADIUS}
+use Rattle.mkbitmap.specs.declared.limits.TheConstants.{GREATEST_MAXVAL, GREATEST_RADIUS}
 use Rattle.mkbitmap.specs.declared.filter.Filter.{Filter}
 
 -- how many rows' reliefs were made
@@ -21,7 +21,7 @@ pub record HasRoom (f : Filter) : Type 0 where
   pub some_rows : 1 ≤ f.height
   pub most_columns : f.width ≤ LONGEST_SIDE
   pub most_rows : f.height ≤ LONGEST_SIDE
-  pub maxval : f.maxval ≤ 65535
+  pub maxval : f.maxval ≤ GREATEST_MAXVAL
   pub radius : f.radius ≤ GREATEST_RADIUS
   pub slots : length f.ring.items ≡ 2 * f.radius + 1
   pub slot : (k : ℕ) → k < 2 * f.radius + 1 → length (get_or f.ring.items k []) ≡ f.width

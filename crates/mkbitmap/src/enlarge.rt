@@ -3,7 +3,7 @@ ghost use Rattle.std.specs.Prelude.{◌≡◌, ℕ, ◌+◌, ◌-◌, ◌*◌, �
 ghost use Rattle.mkbitmap.specs.Enlarged.{before_within, mix, dark};
 ghost use Rattle.mkbitmap.specs.Packing.{bit, byte_of, padded};
 ghost use Rattle.mkbitmap.specs.Place.{IsPlaceOf};
-ghost use Rattle.mkbitmap.specs.declared.limits.TheConstants.{GREATEST_TIMES};
+ghost use Rattle.mkbitmap.specs.declared.limits.TheConstants.{GREATEST_RELIEF, GREATEST_TIMES};
 ghost use Rattle.pt_base.specs.declared.limits.TheConstants.{LONGEST_SIDE};
 ghost use Rattle.bit_image.specs.PbmText.{row_text};
 
@@ -15,8 +15,8 @@ pub(crate) fn mix_row(upper: &[u32], lower: &[u32], part: u32, whole: u32, mixed
     requires room { length mixed.old ≡ length upper.now + 2 }
     requires part { part < whole }
     requires whole { whole ≤ 16 }
-    requires upper { (x : ℕ) → get_or upper.now x 0 ≤ 33553920 }
-    requires lower { (x : ℕ) → get_or lower.now x 0 ≤ 33553920 }
+    requires upper { (x : ℕ) → get_or upper.now x 0 ≤ GREATEST_RELIEF }
+    requires lower { (x : ℕ) → get_or lower.now x 0 ≤ GREATEST_RELIEF }
     ensures same_room { length mixed.new ≡ length mixed.old }
     ensures value { (u : ℕ) → u < length mixed.old → get_or mixed.new u 0
         ≡ mix whole part (get_or upper.now (before_within (length upper.now) u) 0)

@@ -2,13 +2,13 @@
 ghost use Rattle.std.specs.Prelude.{◌≡◌, ℕ, ◌+◌, ◌-◌, ◌*◌, ◌≤◌, ◌<◌, length, get_or, if◌then◌else◌, nat_eq};
 ghost use Rattle.mkbitmap.specs.Box.{sum_between, box_from, box_end, box_count};
 ghost use Rattle.mkbitmap.specs.Relief.{raised_by};
-ghost use Rattle.mkbitmap.specs.declared.limits.TheConstants.{GREATEST_RADIUS};
+ghost use Rattle.mkbitmap.specs.declared.limits.TheConstants.{GREATEST_MAXVAL, GREATEST_RADIUS, GREATEST_SUM, LARGEST_BOX, LONGEST_BOX};
 
 /// The relief of a sample, raised, where the box around it has this sum and so many pixels.
 fn raised(sample: u32, sum: u32, area: u32, maxval: u32) -> u32
     requires some { 0 < area }
-    requires area { area ≤ 16641 }
-    requires maxval { maxval ≤ 65535 }
+    requires area { area ≤ LARGEST_BOX }
+    requires maxval { maxval ≤ GREATEST_MAXVAL }
     requires sample { sample ≤ maxval }
     requires sum { sum ≤ area * maxval }
     ensures value { result ≡ raised_by sample sum area maxval }
@@ -34,7 +34,7 @@ fn with_column(columns: &[u32], at: usize, sum: u32) -> u32
 fn slid(columns: &[u32], x: usize, radius: usize, sum: u32) -> u32
     requires column { x < length columns.now }
     requires radius { radius ≤ GREATEST_RADIUS }
-    requires columns { (a : ℕ) → get_or columns.now a 0 ≤ 8454015 }
+    requires columns { (a : ℕ) → get_or columns.now a 0 ≤ GREATEST_SUM }
     requires sum { sum
         ≡ sum_between (λ a. get_or columns.now a 0) (x - (radius + 1)) (x + radius) }
     ensures { result
@@ -60,9 +60,9 @@ fn raise_by_boxes(
     requires whole { length samples.now ≡ length columns.now }
     requires room { length relief.old ≡ length columns.now }
     requires some { 0 < rows }
-    requires rows { rows ≤ 129 }
+    requires rows { rows ≤ LONGEST_BOX }
     requires radius { radius ≤ GREATEST_RADIUS }
-    requires maxval { maxval ≤ 65535 }
+    requires maxval { maxval ≤ GREATEST_MAXVAL }
     requires samples { (x : ℕ) → get_or samples.now x 0 ≤ maxval }
     requires columns { (x : ℕ) → get_or columns.now x 0 ≤ rows * maxval }
     ensures same_room { length relief.new ≡ length relief.old }
@@ -87,7 +87,7 @@ fn raise_by_boxes(
 /// The samples of a row as reliefs, raised, where boxes are no larger than pixels.
 fn raise_plainly(samples: &[u16], maxval: u32, relief: &mut [u32])
     requires room { length relief.old ≡ length samples.now }
-    requires maxval { maxval ≤ 65535 }
+    requires maxval { maxval ≤ GREATEST_MAXVAL }
     ensures same_room { length relief.new ≡ length relief.old }
     ensures value { (x : ℕ) → x < length samples.now
         → get_or relief.new x 0 ≡ 256 * get_or samples.now x 0 + 128 * maxval }
@@ -109,9 +109,9 @@ pub(crate) fn raise_row(
     requires whole { length samples.now ≡ length columns.now }
     requires room { length relief.old ≡ length columns.now }
     requires some { 0 < rows }
-    requires rows { rows ≤ 129 }
+    requires rows { rows ≤ LONGEST_BOX }
     requires radius { radius ≤ GREATEST_RADIUS }
-    requires maxval { maxval ≤ 65535 }
+    requires maxval { maxval ≤ GREATEST_MAXVAL }
     requires samples { (x : ℕ) → get_or samples.now x 0 ≤ maxval }
     requires columns { (x : ℕ) → get_or columns.now x 0 ≤ rows * maxval }
     ensures same_room { length relief.new ≡ length relief.old }

@@ -6,7 +6,7 @@ use Rattle.std.proofs.lemmas.List.{append-nil, get_or-drop, get_or_past, drop_mo
 use Rattle.std.proofs.lemmas.Bool.{cases_lt}
 use Rattle.std.proofs.lemmas.List.Elements.{All-nil, All-cons, All-head, All-tail, All-append}
 use Rattle.list_reader.specs.Numbers.{EndsDigits}
-use Rattle.outline_check.specs.LineTexts.{IsEntryLine, IsSomeLine}
+use Rattle.outline_check.specs.LineTexts.{AreEntries, IsEntryLine, IsSomeLine}
 
 -- the byte at a place of a text
 pub front : (text : List ℕ) (here : ℕ) → get_or (drop here text) 0 0 ≡ get_or text here 0
@@ -21,11 +21,6 @@ not_byte text here byte some none same =
 
 pub is_byte : (text : List ℕ) (here byte : ℕ) → (here < length text) × (get_or text here 0 ≡ byte) → drop here text ≡ byte ∷ drop (here + 1) text
 is_byte text here byte there = drop_more text here 0 there.0 ∙ ap (λ b. b ∷ drop (here + 1) text) there.1
-
--- how the text of a value begins, and that it is the text of one value
-pub record AreEntries (A : Type 0) (text : A → List ℕ) (IsIn : A → Type 0) : Type 0 where
-  pub spaced : (x : A) → (rest : List ℕ) × (text x ≡ 32 ∷ rest)
-  pub one : (x y : A) (r s : List ℕ) → IsIn x → IsIn y → EndsDigits r → EndsDigits s → text x ++ r ≡ text y ++ s → (x ≡ y) × (r ≡ s)
 
 -- some values of a line were read, and it goes on here
 pub record IsReading (A : Type 0) (text : A → List ℕ) (IsIn : A → Type 0) (bytes : List ℕ) (xs : List A) (here : List ℕ) : Type 0 where

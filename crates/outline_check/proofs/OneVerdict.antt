@@ -1,10 +1,9 @@
 -- A text has one verdict.
-use Rattle.std.proofs.Common.{◌≡◌, ℕ, ◌+◌, ◌<◌, ◌≤◌, List, length, length-take, take, get_or, refl, ap, sym, ◌∙◌, subst, inl, inr, arith}
+use Rattle.std.proofs.Common.{◌≡◌, ℕ, ◌+◌, ◌<◌, List, length, length-take, take, refl, ap, sym, ◌∙◌, subst, inl, inr, arith}
 use Rattle.std.proofs.lemmas.Bool.{cases_order}
 use Rattle.std.proofs.lemmas.List.{get_or-take}
 use Rattle.std.specs.List.{All}
 use Rattle.outline_check.specs.ProofsText.{Certified}
-use Rattle.outline_check.specs.Texts.{IsProofs}
 use Rattle.outline_check.specs.Verdicts.{IsFirstBad, IsGood, IsVerdict, no_certified}
 use Rattle.outline_check.specs.declared.verdict.Verdict.{Verdict}
 use Rattle.outline_check.specs.declared.verdict.Verdict.TheVariants.{BadProofs, Right, Wrong}

@@ -13,7 +13,7 @@ use Rattle.outline_check.specs.declared.label.Label.{Label}
 use Rattle.outline_check.specs.Entries.{IsEntry, IsPair}
 use Rattle.outline_check.specs.ProofsText.{label_text}
 use Rattle.outline_check.specs.Texts.{IsInPage, IsIndex, IsShortLabel}
-use Rattle.outline_check.proofs.LineReading.{AreEntries}
+use Rattle.outline_check.specs.LineTexts.{AreEntries}
 use Rattle.outline_check.proofs.Right.{label_same}
 
 -- what follows the first byte

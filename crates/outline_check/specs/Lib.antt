@@ -41,6 +41,7 @@ pub mod Texts
 --   IsEntry: the text of a value stands at the front, and no digit behind it
 pub mod Entries
 -- Lines: the texts of values, and a line feed.
+--   AreEntries: how the text of a value begins, and that it is the text of one value
 --   IsEntryLine: the values stand at the front, and then a line feed and the rest
 --   IsSomeLine: so they do, and there is one at least
 pub mod LineTexts

@@ -1,11 +1,5 @@
 -- The text of a page as Scalable Vector Graphics (SVG 1.0, sections 8.3 and 8.4 on path data).
---   piece_text: a piece that begins at `from`
---   pieces_text: the pieces, each of which begins where the one before ends
---   outline_text: a closed subpath
---   more_text: a space before each outline's text
---   path_line: a line with a path of an outline and some more, with a space between two of them
---   flat_text: one path of all outlines, or none where there is no outline
---   group_text: a path of a shape and its holes
+--   svg_mark: what stands around the numbers of a path
 --   paths_text: the paths
 --   size_text: the width and the height
 --   view_text: how many units the page is wide and high

@@ -1,54 +1,28 @@
 -- The text of a page as Scalable Vector Graphics (SVG 1.0, sections 8.3 and 8.4 on path data). The
 -- layout of its lines is our own.
-use Rattle.std.specs.Prelude.{ℕ, Bool, ◌*◌, List, [], ◌∷◌, ◌++◌, codes, decimal, flat_map, map, if◌then◌else◌}
-use Rattle.pt_base.specs.declared.piece.Piece.{Piece}
-use Rattle.pt_base.specs.declared.piece.Piece.TheVariants.{Corner, Curve}
-use Rattle.pt_base.specs.declared.point.Point.{Point}
-use Rattle.pt_base.specs.declared.trace.Group.{Group}
+use Rattle.std.specs.Prelude.{ℕ, Bool, ◌*◌, List, [], ◌++◌, codes, decimal, flat_map, if◌then◌else◌}
+use Rattle.outline_pen.specs.Shapes.{flat_text, group_text}
+use Rattle.outline_pen.specs.declared.pen.Mark.{Mark}
+use Rattle.outline_pen.specs.declared.pen.Mark.TheVariants as mark
 use Rattle.pt_base.specs.declared.trace.Trace.{Trace}
-use Rattle.pt_base.specs.ClosedWalk.{origin}
-use Rattle.pt_base.specs.Outlines.{end_of, outline_at, start_from}
-use Rattle.pt_base.specs.UnitText.{place_text, step_text}
 
--- a piece that begins at `from`: two lines, each relative to the point before; or a curve, whose two
--- controls and end are relative to its beginning
-abbrev pub piece_text : ℕ → Point → Piece → List ℕ
-piece_text unit from (Corner at end) = codes " l" ++ step_text unit from at ++ codes " l" ++ step_text unit at end
-piece_text unit from (Curve first second end al) =
-    codes " c" ++ step_text unit from first ++ codes " " ++ step_text unit from second ++ codes " " ++ step_text unit from end
-
--- the pieces, each of which begins where the one before ends
-abbrev pub pieces_text : ℕ → Point → List Piece → List ℕ
-pieces_text unit from [] = []
-pieces_text unit from (piece ∷ pieces) = piece_text unit from piece ++ pieces_text unit (end_of piece) pieces
-
--- a closed subpath
-abbrev pub outline_text : ℕ → List Piece → List ℕ
-outline_text unit pieces =
-    codes "M" ++ place_text unit (start_from origin pieces) ++ pieces_text unit (start_from origin pieces) pieces ++ codes " z"
-
--- a space before each outline's text
-abbrev pub more_text : ℕ → List (List Piece) → List ℕ
-more_text unit outlines = flat_map (λ pieces. codes " " ++ outline_text unit pieces) outlines
-
--- a line with a path of an outline and some more, with a space between two of them
-abbrev pub path_line : ℕ → List Piece → List (List Piece) → List ℕ
-path_line unit first more =
-    codes "<path fill-rule=\"evenodd\" d=\"" ++ outline_text unit first ++ more_text unit more ++ codes "\"/>\n"
-
--- one path of all outlines, or none where there is no outline
-abbrev pub flat_text : ℕ → List (List Piece) → List ℕ
-flat_text unit [] = []
-flat_text unit (first ∷ more) = path_line unit first more
-
--- a path of a shape and its holes
-abbrev pub group_text : ℕ → List (List Piece) → Group → List ℕ
-group_text unit outlines group = path_line unit (outline_at outlines group.outer) (map (outline_at outlines) group.holes)
+-- what stands around the numbers of a path: two outlines of one path have a space between them
+abbrev pub svg_mark : Mark → List ℕ
+svg_mark mark.Shape = codes "<path fill-rule=\"evenodd\" d=\""
+svg_mark mark.Next = codes " "
+svg_mark mark.Start = codes "M"
+svg_mark mark.Started = []
+svg_mark mark.Line = codes " l"
+svg_mark mark.Lined = []
+svg_mark mark.Curve = codes " c"
+svg_mark mark.Curved = []
+svg_mark mark.Closed = codes " z"
+svg_mark mark.Shaped = codes "\"/>\n"
 
 -- the paths: one for each shape with its holes, or one of all outlines
 abbrev pub paths_text : ℕ → Bool → Trace → List ℕ
 paths_text unit flat trace =
-    if flat then flat_text unit trace.outlines else flat_map (group_text unit trace.outlines) trace.groups
+    if flat then flat_text svg_mark unit trace.outlines else flat_map (group_text svg_mark unit trace.outlines) trace.groups
 
 -- the width and the height: a pixel is a point
 abbrev pub size_text : ℕ → ℕ → List ℕ

@@ -8,7 +8,7 @@
 //! ```
 #![tactic(auto)]
 
-mod outline;
+mod pen;
 pub mod svg_text;
 
 pub use svg_text::svg;

@@ -1,10 +1,10 @@
 //! The document of a page.
-ghost use Rattle.std.specs.Prelude.{◌≡◌, ◌≤◌, ◌<◌, ◌++◌, ◌*◌, ◌^◌, ℕ, List, codes, decimal, flat_map, map, length, All, IfOk, OnOk, slice_index_or, true, false};
-ghost use Rattle.pt_base.specs.Outlines.{outline_at};
-ghost use Rattle.svg_backend.specs.SvgText.{flat_text, group_head, group_text, head_text, more_text, sides_text, size_text, svg_text, view_text};
+ghost use Rattle.std.specs.Prelude.{◌≡◌, ◌≤◌, ◌++◌, ◌*◌, IfOk, OnOk};
+ghost use Rattle.svg_backend.specs.SvgText.{group_head, head_text, sides_text, size_text, svg_text, view_text};
 
-use crate::outline::put_outline;
-use pt_base::{Group, NoMemory, Piece, Sequence, Settings, Trace, pieces_at, put_number};
+use crate::pen::SvgPen;
+use outline_pen::{put_groups, put_one};
+use pt_base::{NoMemory, Settings, Trace, put_number};
 use std::alloc::Global;
 
 /// The document of a page's trace: one path for each shape with its holes, or one path for all
@@ -23,9 +23,9 @@ pub fn svg(alloc: Global, trace: &Trace, settings: &Settings) -> Result<Vec<u8>,
     let mut out = Vec::new(alloc);
     put_head(&mut out, unit, trace.width, trace.height)?;
     if settings.flat {
-        put_flat(&mut out, unit, outlines)?;
+        put_one::<SvgPen>(&mut out, unit, outlines)?;
     } else {
-        put_groups(&mut out, unit, outlines, trace.groups.as_slice())?;
+        put_groups::<SvgPen>(&mut out, unit, outlines, trace.groups.as_slice())?;
     }
     out.extend_from_slice(b"</g>\n</svg>\n")?;
     Ok(out)
@@ -95,88 +95,4 @@ fn side_in_units(side: u32, unit: u32) -> u64
     ensures { result ≡ side * unit }
 {
     u64::from(side) * u64::from(unit)
-}
-
-/// Appends one path of all outlines.
-fn put_flat(out: &mut Vec<u8>, unit: u32, outlines: &[Sequence<Piece>]) -> Result<(), NoMemory>
-    requires some { 1 ≤ unit }
-    requires most { unit ≤ 1000 }
-    ensures { OnOk result (out.new.items ≡ out.old.items ++ flat_text unit outlines.now) }
-{
-    if let Some((first, more)) = outlines.split_first() {
-        out.extend_from_slice(b"<path fill-rule=\"evenodd\" d=\"")?;
-        put_outline(out, unit, first.as_slice())?;
-        put_more(out, unit, more)?;
-        out.extend_from_slice(b"\"/>\n")?;
-    }
-    Ok(())
-}
-
-/// Appends outlines, a space before each.
-fn put_more(out: &mut Vec<u8>, unit: u32, outlines: &[Sequence<Piece>]) -> Result<(), NoMemory>
-    requires some { 1 ≤ unit }
-    requires most { unit ≤ 1000 }
-    ensures { OnOk result (out.new.items ≡ out.old.items ++ more_text unit outlines.now) }
-{
-    for outline in outlines {
-        out.extend_from_slice(b" ")?;
-        put_outline(out, unit, outline.as_slice())?;
-    }
-    Ok(())
-}
-
-/// Appends a path for each group.
-fn put_groups(
-    out: &mut Vec<u8>,
-    unit: u32,
-    outlines: &[Sequence<Piece>],
-    groups: &[Group],
-) -> Result<(), NoMemory>
-    requires some { 1 ≤ unit }
-    requires most { unit ≤ 1000 }
-    ensures { OnOk result (out.new.items ≡ out.old.items
-        ++ flat_map (group_text unit outlines.now) groups.now) }
-{
-    for group in groups {
-        put_group(out, unit, outlines, group)?;
-    }
-    Ok(())
-}
-
-/// Appends the path of a shape and its holes.
-fn put_group(
-    out: &mut Vec<u8>,
-    unit: u32,
-    outlines: &[Sequence<Piece>],
-    group: &Group,
-) -> Result<(), NoMemory>
-    requires some { 1 ≤ unit }
-    requires most { unit ≤ 1000 }
-    ensures { OnOk result (out.new.items ≡ out.old.items
-        ++ group_text unit outlines.now group.now) }
-{
-    out.extend_from_slice(b"<path fill-rule=\"evenodd\" d=\"")?;
-    put_outline(out, unit, pieces_at(outlines, group.outer))?;
-    put_holes(out, unit, outlines, group.holes.as_slice())?;
-    out.extend_from_slice(b"\"/>\n")?;
-    Ok(())
-}
-
-/// Appends the outlines of these numbers, a space before each.
-fn put_holes(
-    out: &mut Vec<u8>,
-    unit: u32,
-    outlines: &[Sequence<Piece>],
-    holes: &[u32],
-) -> Result<(), NoMemory>
-    requires some { 1 ≤ unit }
-    requires most { unit ≤ 1000 }
-    ensures { OnOk result (out.new.items ≡ out.old.items
-        ++ more_text unit (map (outline_at outlines.now) holes.now)) }
-{
-    for hole in holes {
-        out.extend_from_slice(b" ")?;
-        put_outline(out, unit, pieces_at(outlines, *hole))?;
-    }
-    Ok(())
 }

@@ -3,6 +3,7 @@ use Rattle.std.proofs.lemmas.Nat.{mul-le, mod_below}
 use Rattle.std.proofs.lemmas.List.{length-set, with_items_is}
 use Rattle.mkbitmap.specs.Box.{sum_between}
 use Rattle.mkbitmap.specs.Follows.{first_held}
+use Rattle.mkbitmap.specs.declared.limits.TheConstants.{GREATEST_MAXVAL, LONGEST_BOX}
 use Rattle.mkbitmap.proofs.Adding.{sum-grown}
 use Rattle.mkbitmap.proofs.Following.{held_next, slot_next, slot_is, sums_small}
 use Rattle.mkbitmap.proofs.filter.Filter.take.Goals as goal
@@ -12,7 +13,7 @@ keep-requires-clause-small c = λ x.
     let room = c.requires.along.room in
     let f = c.args.self.now in
     let small : get_or f.columns.items x 0 ≤ (f.taken - first_held f) * f.maxval = sums_small c.requires.along.page f room c.requires.along.holds x in
-    let bound : (f.taken - first_held f) * f.maxval ≤ 129 * 65535 = mul-le (f.taken - first_held f) f.maxval 129 65535 (omega (arith, room.radius, c.requires.room)) room.maxval in
+    let bound : (f.taken - first_held f) * f.maxval ≤ LONGEST_BOX * GREATEST_MAXVAL = mul-le (f.taken - first_held f) f.maxval LONGEST_BOX GREATEST_MAXVAL (omega (arith, room.radius, c.requires.room)) room.maxval in
     rw c.deref_mut.ensures.value (omega (arith, small, bound, room.maxval))
 
 pub returns-clause-room : goal.returns-clause-room

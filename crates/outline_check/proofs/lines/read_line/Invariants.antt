@@ -1,0 +1,14 @@
+use Rattle.std.proofs.Common.{◌-◌, ◌≤◌, drop, length}
+use Rattle.outline_check.proofs.LineReading.{IsReading}
+use Rattle.outline_check.proofs.lines.read_line.Given as goal
+
+-- the values so far are the first of the line, and it goes on here
+abbrev pub invariant-loop-entry : goal.invariant-loop-entry
+invariant-loop-entry g l = record {
+  onwards : l.at ≤ l.here;
+  within : l.here ≤ length l.text;
+  reading : IsReading _ g.E.Entries.text_of (g.E.Entries.IsIn l.kind) (drop l.at l.text) l.values.items (drop l.here l.text);
+}
+
+abbrev pub decreases-loop-entry : goal.decreases-loop-entry
+decreases-loop-entry g l = length l.text - l.here

@@ -1,9 +1,0 @@
-use Rattle.std.proofs.Common.{sym}
-use Rattle.svg_backend.specs.SvgText.{group_text}
-use Rattle.pt_base.proofs.Appending.{one_more}
-use Rattle.svg_backend.proofs.svg_text.put_groups.Goals as goal
-
-pub loop-group-preserved : goal.loop-group-preserved
-loop-group-preserved c =
-    one_more (group_text c.args.unit c.args.outlines.now) c.args.groups.now c.loop-group.group-index c.loop-group.out.items
-    c.put_group.new.out.items _ c.group-item.result c.loop-group-test.true (sym c.group-item.is) c.in_ok-put_group.ensures c.loop-group.invariant
