@@ -14,7 +14,7 @@ ghost use Rattle.small_program.specs.declared.input.TheConstants.{MOST_BYTES};
 ghost use Rattle.point_fill.specs.Reply.{IsFillReply, filler};
 ghost use Rattle.fill_run.specs.Round.{GivesBack};
 
-use bit_image::pbm::pbm;
+use bit_image::pbm;
 use point_fill::{FillFault, fill};
 use pt_base::{Inputs, NoMemory, Outputs, Sink};
 use small_program::{Reply, Task, run};

@@ -9,7 +9,7 @@ use Rattle.least_walk.specs.Suffix.{HasFewest}
 use Rattle.least_walk.specs.LeastWalk.{IsFewestPlace}
 use Rattle.least_walk.specs.Places.{IsMarked, HasMarks}
 use Rattle.least_walk.specs.Windows.{IsWindow, AreWindows, AreNone}
-use Rattle.least_walk.specs.declared.windows.Window.{Window}
+use Rattle.least_walk.specs.declared.window.Window.{Window}
 use Rattle.least_walk.proofs.Going.{length-steps_from}
 use Rattle.least_walk.proofs.Places.{stands_after, some_place, is_fewest}
 

@@ -1,7 +1,7 @@
 -- Windows: where walks of fewest steps stand after so many steps.
 use Rattle.std.specs.Prelude.{◌≡◌, ℕ, ◌+◌, ◌≤◌, List, length, slice_get, Some}
 use Rattle.least_walk.specs.LeastWalk.{step_count, IsFewest, IsFewestPlace}
-use Rattle.least_walk.specs.declared.windows.Window.{Window}
+use Rattle.least_walk.specs.declared.window.Window.{Window}
 
 -- the window goes from the least to the greatest index at which walks of fewest steps stand after c
 -- steps

@@ -17,8 +17,8 @@ mod marks;
 pub mod steps;
 mod suffixes;
 pub mod walk;
-pub mod windows;
+pub mod window;
 
 pub use steps::Steps;
 pub use walk::{Walk, least, walk_by};
-pub use windows::Window;
+pub use window::{Window, windows};

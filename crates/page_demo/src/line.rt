@@ -3,8 +3,7 @@ ghost use Rattle.std.specs.Prelude.{◌≡◌, length, sum_by, IfOk};
 ghost use Rattle.page_demo.specs.Line.{demo_line};
 
 use bit_image::Bitmap;
-use page_trace::document::document;
-use page_trace::trace;
+use page_trace::{document, trace};
 use page_workers::PageJob;
 use pt_base::{NoMemory, Piece, Polygon, Sequence, Settings, Trace, put_number};
 use std::alloc::Global;

@@ -4,8 +4,7 @@ ghost use Rattle.bit_image.specs.Page.{IsPage, Page};
 ghost use Rattle.page_trace.specs.Document.{CanWrite, IsDocument};
 
 use bit_image::Bitmap;
-use page_trace::document::document;
-use page_trace::pages_have_documents;
+use page_trace::{document, pages_have_documents};
 use page_workers::PageJob;
 use pt_base::{NoMemory, Settings};
 use std::alloc::Global;

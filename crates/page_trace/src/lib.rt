@@ -5,7 +5,7 @@
 //! them. A document is the text of that, and what a text doesn't show isn't made for it.
 //!
 //! ```rust
-//! use page_trace::document::document;
+//! use page_trace::document;
 //! use pt_base::{Backend, Policy, Settings};
 //!
 //! // A page as SVG, under the settings that the program has by itself.
@@ -26,7 +26,7 @@
 //! ```
 #![tactic(auto)]
 
-pub mod document;
+pub mod documents;
 mod fitting;
 pub mod laws;
 mod outlines;
@@ -34,6 +34,6 @@ mod paths;
 mod polygons;
 pub mod tracing;
 
-pub use document::backend_of;
+pub use documents::{backend_of, document};
 pub use laws::pages_have_documents;
 pub use tracing::trace;

@@ -19,12 +19,12 @@ use Rattle.page_batches.specs.Items.{Doc, GoesOn, Item}
 use Rattle.page_batches.specs.Items.Item.{Missing, Note, Stop, Write}
 use Rattle.page_batches.specs.Outcome.{AreCarriedOut, HasEnded}
 use Rattle.run_output.specs.Told.{Sinks, Source}
-use Rattle.file_trace.specs.Items.{AreItems, AreWhole, IsAbsent, Nothing, told_contents}
-use Rattle.file_trace.specs.Manner.{HasTexts, Manner}
-use Rattle.file_trace.specs.Outcome.{IsOutcome}
-use Rattle.file_trace.proofs.Closing.{AreWhole-front, alone_end, carried_closed, items_end, nothing_ends}
-use Rattle.file_trace.proofs.Exists.{items_found}
-use Rattle.file_trace.proofs.Joining.{items_behind}
+use Rattle.file_documents.specs.Items.{AreItems, AreWhole, IsAbsent, Nothing, told_contents}
+use Rattle.file_documents.specs.Manner.{HasTexts, Manner}
+use Rattle.file_documents.specs.Outcome.{IsOutcome}
+use Rattle.file_documents.proofs.Closing.{AreWhole-front, alone_end, carried_closed, items_end, nothing_ends}
+use Rattle.file_documents.proofs.Exists.{items_found}
+use Rattle.file_documents.proofs.Joining.{items_behind}
 use Rattle.page_demo.proofs.Found.{demo_found}
 use Rattle.potrace_main.specs.Run.{AreItemsOf, BindsApart, EndsMissing, EndsRefused, FailureCount, IsComplete, IsMissing, IsOutcomeOf, IsRun, OutputsMove, RefusesWords, manner_under, names_of}
 use Rattle.potrace_main.specs.Usage.{help_text, version_text}

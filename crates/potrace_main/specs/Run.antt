@@ -18,11 +18,11 @@ use Rattle.page_batches.specs.Items.{Doc, GoesOn, Item}
 use Rattle.page_batches.specs.Items.Item.{Missing, Stop}
 use Rattle.page_batches.specs.Outcome.{AreCarriedOut, HasEnded}
 use Rattle.run_output.specs.Told.{Sinks, Source}
-use Rattle.file_trace.specs.Items.{AreItems, IsAbsent, Nothing, told_contents}
-use Rattle.file_trace.specs.Manner.{Manner, manner_by}
-use Rattle.file_trace.specs.OnePass.{IsOnePass}
-use Rattle.file_trace.specs.Outcome.{IsOutcome, OpensFirst}
-use Rattle.file_trace.specs.Progress.{InputCount}
+use Rattle.file_documents.specs.Items.{AreItems, IsAbsent, Nothing, told_contents}
+use Rattle.file_documents.specs.Manner.{Manner, manner_by}
+use Rattle.file_documents.specs.OnePass.{IsOnePass}
+use Rattle.file_documents.specs.Outcome.{IsOutcome, OpensFirst}
+use Rattle.file_documents.specs.Progress.{InputCount}
 use Rattle.page_trace.specs.Document.{IsDocument}
 use Rattle.page_demo.specs.Line.{IsDemoText}
 use Rattle.potrace_main.specs.Usage.{help_text, version_text}

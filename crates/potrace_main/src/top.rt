@@ -11,15 +11,15 @@ ghost use Rattle.page_batches.specs.Desks.{Keeps, sinks_at};
 ghost use Rattle.page_batches.specs.Items.{Doc, Item};
 ghost use Rattle.page_batches.specs.Outcome.{HasEnded};
 ghost use Rattle.run_output.specs.Told.{sinks_of, source_of};
-ghost use Rattle.file_trace.specs.Items.{IsAbsent, told_contents};
-ghost use Rattle.file_trace.specs.Outcome.{OpensFirst};
-ghost use Rattle.file_trace.specs.Progress.{InputCount};
+ghost use Rattle.file_documents.specs.Items.{IsAbsent, told_contents};
+ghost use Rattle.file_documents.specs.Outcome.{OpensFirst};
+ghost use Rattle.file_documents.specs.Progress.{InputCount};
 ghost use Rattle.potrace_main.specs.Run.{AreItemsOf, BindsApart, FailureCount, IsCodeOf, IsComplete, IsMissing, IsOnePassOf, IsOutcomeOf, IsRun, OutputsMove, RefusesWords, names_of};
 
 use command_asks::{Ask, WordFault, settings_of};
 use command_words::Name;
 use crate::usage::{help_text, version_text};
-use file_trace::{Task, trace_files};
+use file_documents::{Task, convert_files};
 use page_batches::{Desk, Plan};
 use page_demo::demo_text;
 use page_documents::DocumentJob;
@@ -197,7 +197,7 @@ fn carry_out<'a, R: Threads + Sync, I: Inputs, O: Outputs, E: Sink, G: Gate + Sy
                 output,
                 backend: settings.backend,
             };
-            trace_files(&task, names.as_slice(), inputs, desk)
+            convert_files(&task, names.as_slice(), inputs, desk)
         }
     }
 }

@@ -1,8 +1,7 @@
 //! Windows that were found by hand.
 
 use crate::tests::table::{Listed, Table};
-use least_walk::Window;
-use least_walk::windows::windows;
+use least_walk::{Window, windows};
 use std::test::Fail;
 
 /// A case, the size, the steps, and each window.

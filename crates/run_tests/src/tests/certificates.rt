@@ -5,7 +5,7 @@ use crate::tests::cases::{Case, PLAIN, Page, check_pages, named, split};
 use crate::tests::pages::PAGES;
 use outline_check::{Verdict, check_proofs};
 use page_samples::numbered;
-use page_trace::document::document;
+use page_trace::document;
 use pt_base::{Backend, MemInputs, MemOutputs, MemSink, NoGate, NoMemory, Policy, Settings};
 use std::alloc::Global;
 use std::test::Fail;

@@ -1,0 +1,15 @@
+pub mod Closing
+pub mod Counting
+pub mod Ending
+pub mod Exists
+pub mod Filing
+pub mod Finishing
+pub mod OnePass
+pub mod Joining
+pub mod Keeping
+pub mod OneItems
+pub mod Paging
+pub mod Passing
+pub mod Reading
+pub mod Running
+pub mod Converting

@@ -1,0 +1,147 @@
+-- Files converted one after another.
+use Rattle.std.proofs.Common.{◌≡◌, ◌<◌, ℕ, ◌+◌, false, min, List, [], ◌∷◌, ◌++◌, length, take, drop, get_or, Option, IfSome, inr, refl, sym, ◌∙◌, ap, subst, append-nil, arith}
+use Rattle.std.proofs.lemmas.List.{length-take-le, take-append-drop, take_more}
+use Rattle.pt_base.specs.Counts.{last_count, next_count}
+use Rattle.pt_base.specs.Files.{Contents}
+use Rattle.run_output.specs.Made.{Past, no_past}
+use Rattle.run_output.specs.Parts.{is_begun}
+use Rattle.run_output.specs.declared.part.Binding.{Binding}
+use Rattle.run_output.specs.declared.part.Binding.TheVariants.{Apart, Together}
+use Rattle.run_output.specs.declared.status.Status.{Status}
+use Rattle.run_output.specs.declared.status.Status.TheVariants as status
+use Rattle.page_batches.specs.Held.{AreHeld, Held, Holds, pages_held}
+use Rattle.page_batches.specs.Items.{Item}
+use Rattle.page_batches.specs.Outcome.{AreCarriedOut, HasEnded, IsHalt, IsUnwritten}
+use Rattle.run_output.specs.Told.{Sinks, Source}
+use Rattle.page_batches.proofs.Carrying.{carried_on, ended_on}
+use Rattle.page_batches.proofs.Holding.{all_held, holds_goes_on, holds_on}
+use Rattle.file_documents.specs.Items.{AreItems, Nothing}
+use Rattle.file_documents.specs.Manner.{Manner}
+use Rattle.file_documents.specs.OnePass.{IsOnePass}
+use Rattle.file_documents.specs.Outcome.{IsOutcomeBehind, OpensFirst, opened_name}
+use Rattle.file_documents.specs.Progress.{EndsWith, ConvertsFile}
+use Rattle.file_documents.proofs.Ending.{outcome_of_halt}
+use Rattle.file_documents.proofs.Joining.{items_join, one_pass_on, outcome_on}
+use Rattle.file_documents.proofs.OnePass.{part_halts, pass_of_part}
+
+-- these are the items of these files; the first are carried out, and the others are held
+pub record AreDone (size : ℕ) (contents : Option Contents) (manner : Manner) (front : List (List ℕ)) (past : Past) (held : List Held) (a b : Sinks) : Type 0 where
+  pub items : List Item
+  pub are : AreItems contents manner (EndsWith past) front no_past items
+  pub holds : Holds manner.binding size manner.belongs items held a b
+
+pub none_done : (size : ℕ) (contents : Option Contents) (manner : Manner) (a : Sinks) → AreDone size contents manner [] no_past [] a a
+none_done size contents manner a = record { items = []; are = (refl, refl); holds = all_held manner.binding size manner.belongs [] [] a refl }
+
+-- before a file's first page no document is open
+pub none_begun : (b : Binding) → is_begun b 0 ≡ false
+none_begun Apart = refl
+none_begun Together = refl
+
+-- one file more
+pub one_done : (size : ℕ) (contents : Option Contents) (manner : Manner) (names : List (List ℕ)) (i : ℕ) (name : List ℕ) (past past_now : Past) (held held_now : List Held) (a b c : Sinks)
+    → i < length names → name ≡ get_or names i name → AreDone size contents manner (take i names) past held a b
+    → ConvertsFile size contents manner name past past_now held held_now b c → AreDone size contents manner (take (i + 1) names) past_now held_now a c
+one_done size contents manner names i name past past_now held held_now a b c within is front file =
+    let more : take (i + 1) names ≡ take i names ++ name ∷ [] = take_more names i name within ∙ ap (λ n. take i names ++ n ∷ []) (sym is) in
+    let goes = holds_goes_on manner.binding size manner.belongs front.items held a b front.holds in
+    let are = items_join contents manner (EndsWith past_now) (name ∷ []) past file.items file.are (take i names) no_past front.items goes front.are in
+    record {
+      items = front.items ++ file.items;
+      are = subst (λ ns. AreItems contents manner (EndsWith past_now) ns no_past (front.items ++ file.items)) (sym more) are;
+      holds = holds_on manner.binding size manner.belongs front.items file.items held held_now a b c front.holds file.holds;
+    }
+
+-- the items of all files
+all_items : (size : ℕ) (contents : Option Contents) (manner : Manner) (names : List (List ℕ)) (past : Past) (held : List Held) (a b : Sinks) → (all : AreDone size contents manner names past held a b)
+    → AreItems contents manner Nothing names no_past all.items
+all_items size contents manner names past held a b all =
+    let goes = holds_goes_on manner.binding size manner.belongs all.items held a b all.holds in
+    let are = items_join contents manner Nothing [] past [] refl names no_past all.items goes all.are in
+    subst (λ ns. AreItems contents manner Nothing ns no_past all.items) (append-nil names)
+    (subst (λ (l : List Item). AreItems contents manner Nothing (names ++ []) no_past l) (append-nil all.items) are)
+
+-- all files are read, and what is held then is carried out
+pub all_done : (size : ℕ) (contents : Option Contents) (manner : Manner) (names : List (List ℕ)) (past : Past) (held : List Held) (source now : Source) (a b c : Sinks) → AreDone size contents manner names past held a b
+    → ((items : List Item) → AreHeld manner.binding manner.belongs held items → AreCarriedOut items [] b c) → now.openings ≡ min (source.openings + length names) last_count
+    → IsOutcomeBehind status.Done [] contents manner names no_past source now a c
+all_done size contents manner names past held source now a b c all carried opens =
+    let h = all.holds in (
+      all.items,
+      all_items size contents manner names past held a b all,
+      subst (λ l. AreCarriedOut l [] a c) (sym h.split) (carried_on h.done h.left [] a b c h.carried (carried h.left h.are_held)),
+      opens,
+    )
+
+-- or as far as the status says
+pub ends_after : (s : Status) → IsHalt s → (size : ℕ) (contents : Option Contents) (manner : Manner) (names : List (List ℕ)) (past : Past) (held : List Held) (source now : Source) (a b c : Sinks)
+    → AreDone size contents manner names past held a b → ((items : List Item) → AreHeld manner.binding manner.belongs held items → HasEnded s items b c)
+    → IsOutcomeBehind s [] contents manner names no_past source now a c
+ends_after s which size contents manner names past held source now a b c all ended =
+    let h = all.holds in
+    outcome_of_halt s which [] contents manner names no_past source now a c
+    (all.items, all_items size contents manner names past held a b all, subst (λ l. HasEnded s l a c) (sym h.split) (ended_on s h.done h.left a b c h.carried (ended h.left h.are_held)))
+
+-- a list around its i-th item
+around : (names : List (List ℕ)) (i : ℕ) (name : List ℕ) → i < length names → name ≡ get_or names i name → names ≡ take i names ++ name ∷ drop (i + 1) names
+around names i name within is =
+    let more : take (i + 1) names ≡ take i names ++ name ∷ [] = take_more names i name within ∙ ap (λ n. take i names ++ n ∷ []) (sym is) in
+    sym (take-append-drop (i + 1) names) ∙ ap (λ l. l ++ drop (i + 1) names) more ∙ assoc_one (take i names) name (drop (i + 1) names) where
+      assoc_one : (xs : List (List ℕ)) (x : List ℕ) (ys : List (List ℕ)) → (xs ++ x ∷ []) ++ ys ≡ xs ++ x ∷ ys
+      assoc_one [] x ys = refl
+      assoc_one (y ∷ xs) x ys = ap (λ l. y ∷ l) (assoc_one xs x ys)
+
+opened_more : (n k m o : ℕ) → m ≡ min (n + k) last_count → o ≡ next_count m → o ≡ min (n + (k + 1)) last_count
+opened_more n k m o e f = omega (arith, e, f)
+
+pub openings_more : (n k m o : ℕ) → m ≡ min (n + k) last_count → o ≡ next_count m → o ≡ min (n + (k + 1)) last_count
+openings_more = opened_more
+
+-- the i-th file was opened
+pub opens_to : (names : List (List ℕ)) (i : ℕ) (name : List ℕ) (source then now : Source) → i < length names → name ≡ get_or names i name
+    → then.openings ≡ min (source.openings + i) last_count → now.openings ≡ next_count then.openings → IfSome (opened_name now.files) (λ opened. opened ≡ name)
+    → OpensFirst names source now
+opens_to names i name source then now within is openings one named =
+    let short : length (take i names) ≡ i = length-take-le i names (omega (arith, within)) in
+    inr (
+      name,
+      take i names,
+      record {
+        back = drop (i + 1) names;
+        listed = around names i name within is;
+        grew = opened_more source.openings (length (take i names)) then.openings now.openings (rw short openings) one;
+      },
+      named,
+    )
+
+-- the run ends in the i-th file
+pub ends_in : (s : Status) (size : ℕ) (contents : Option Contents) (manner : Manner) (names : List (List ℕ)) (i : ℕ) (name : List ℕ) (past : Past) (held : List Held) (source then now : Source) (a b c : Sinks)
+    → i < length names → name ≡ get_or names i name → AreDone size contents manner (take i names) past held a b
+    → then.openings ≡ min (source.openings + i) last_count → then.faults ≡ source.faults
+    → ((back : List (List ℕ)) (first : List Item) → AreHeld manner.binding manner.belongs held first → IsOutcomeBehind s first contents manner (name ∷ back) past then now b c)
+    → IsOutcomeBehind s [] contents manner names no_past source now a c
+ends_in s size contents manner names i name past held source then now a b c within is front openings faults ends =
+    let short : length (take i names) ≡ i = length-take-le i names (omega (arith, within)) in
+    let all = outcome_on s size contents manner (take i names) (name ∷ drop (i + 1) names) no_past past [] front.items held source then now a b c front.are front.holds
+    (rw short openings) faults (ends (drop (i + 1) names)) in
+    subst (λ ns. IsOutcomeBehind s [] contents manner ns no_past source now a c) (sym (around names i name within is)) all
+
+-- and how far it has read
+pub passes_in : (size : ℕ) → 0 < size → (contents : Option Contents) (manner : Manner) (names : List (List ℕ)) (i : ℕ) (name : List ℕ) (past : Past) (held : List Held) (source then now : Source) (a b c : Sinks)
+    → i < length names → name ≡ get_or names i name → AreDone size contents manner (take i names) past held a b
+    → then.openings ≡ min (source.openings + i) last_count → then.faults ≡ source.faults
+    → ((back : List (List ℕ)) (first : List Item) → AreHeld manner.binding manner.belongs held first → IsOnePass size first contents manner (name ∷ back) past then now b c)
+    → IsOnePass size [] contents manner names no_past source now a c
+passes_in size some contents manner names i name past held source then now a b c within is front openings faults passes =
+    let short : length (take i names) ≡ i = length-take-le i names (omega (arith, within)) in
+    let all = one_pass_on size some contents manner (take i names) (name ∷ drop (i + 1) names) no_past past [] front.items held source then now a b c front.are front.holds
+    (rw short openings) faults (passes (drop (i + 1) names)) in
+    subst (λ ns. IsOnePass size [] contents manner ns no_past source now a c) (sym (around names i name within is)) all
+
+-- all files are read, and a document of what is held then couldn't be written
+pub passes_after : (size : ℕ) → 0 < size → (contents : Option Contents) (manner : Manner) (names : List (List ℕ)) (past : Past) (held : List Held) (source now : Source) (a b c : Sinks)
+    → AreDone size contents manner names past held a b → pages_held held < size → ((items : List Item) → AreHeld manner.binding manner.belongs held items → IsUnwritten items b c)
+    → IsOnePass size [] contents manner names no_past source now a c
+passes_after size some contents manner names past held source now a b c all few unwritten =
+    pass_of_part size some [] contents manner names no_past source now a c all.items [] all.items (all_items size contents manner names past held a b all)
+    (part_halts size manner all.items held a b c all.holds unwritten few) (sym (append-nil all.items)) refl

@@ -1,0 +1,183 @@
+use Rattle.std.proofs.Common.{◌≡◌, ◌∙◌, ◌∷◌, ◌*◌, Err, ap, refl, subst, arith}
+use Rattle.pt_base.specs.Files.{Lacks}
+use Rattle.run_output.specs.declared.status.Status.TheVariants as status
+use Rattle.page_batches.specs.Desks.{sinks_at}
+use Rattle.file_documents.specs.Items.{told_contents}
+use Rattle.run_output.specs.Told.{source_of}
+use Rattle.file_documents.specs.Progress.{InputCount}
+use Rattle.file_documents.specs.Tasks.{manner_of}
+use Rattle.file_documents.proofs.Counting.{faults_from, input_by, rose_by}
+use Rattle.file_documents.proofs.Ending.{ends_at_once, ends_behind, file_ends, file_halted, input_count, input_of_halt, input_unopened, unopened_by, unopened_ends}
+use Rattle.file_documents.proofs.Filing.{file_goes_on, halts_named, halts_unwritten, has_bytes, converted_named}
+use Rattle.file_documents.proofs.Finishing.{end_named}
+use Rattle.file_documents.proofs.Keeping.{keeps_on}
+use Rattle.file_documents.proofs.Passing.{pass_ended, pass_halted, pass_unopened}
+use Rattle.file_documents.proofs.Reading.{contents_through, contents_unopened, name-with_file, no_name}
+use Rattle.file_documents.proofs.file.convert_file.Goals as goal
+
+-- the file can't be opened
+pub returns-in-Err-clause-converted : goal.returns-in-Err-clause-converted
+returns-in-Err-clause-converted g c = λ names first are.
+    let manner = manner_of g.J.PageJob c.args.task.now in
+    let old = source_of g.I.Inputs c.args.inputs.now in
+    let now = source_of g.I.Inputs c.open.new.self in
+    let cause = unopened_by old.files c.args.name.now old.faults now.faults c.in-Err.field-0 (λ e. c.in-Err.ensures.absent.0 (ap Err e)) (λ e. c.in-Err.ensures.cause (ap Err e)) in (
+      unopened_ends manner c.requires.texts c.args.name.now c.args.made.now c.args.batch.now old now _ _ c.in-Err.ensures.one_more c.in-Err.ensures.none_opened cause
+          c.end_unopened.result c.end_unopened.ensures.ends names first are,
+      λ is. pass_unopened (2 * c.args.task.now.plan.workers) (omega (arith, c.args.task.now.plan.some_worker)) manner c.requires.texts c.args.name.now c.args.made.now c.args.batch.now old now _ _
+          c.requires.going.waits.few cause c.end_unopened.result c.end_unopened.ensures.ends is names first are,
+    )
+
+pub returns-in-Err-clause-asked : goal.returns-in-Err-clause-asked
+returns-in-Err-clause-asked g c = record {
+  one_more = c.in-Err.ensures.one_more;
+  named = rw c.in-Err.ensures.no_file (no_name (g.I.Inputs.files c.args.inputs.now) c.args.name.now);
+  contents = contents_unopened (g.I.Inputs.files c.args.inputs.now) _ c.in-Err.ensures.no_file;
+}
+
+pub returns-in-Err-clause-input : goal.returns-in-Err-clause-input
+returns-in-Err-clause-input g c = input_unopened c.end_unopened.result c.end_unopened.ensures.status _ _
+
+-- memory ran out before the file's name was made
+pub returns-in_default-clause-converted : goal.returns-in_default-clause-converted
+returns-in_default-clause-converted g c = λ names first are. (
+  ends_at_once (told_contents (g.I.Inputs.files c.args.inputs.now)) (manner_of g.J.PageJob c.args.task.now) c.requires.texts (c.args.name.now ∷ names) c.args.made.now _ _
+      (record { outs = refl; opened = refl })
+      (record { said = c.say_out_of_memory.ensures.said; given_up = c.say_out_of_memory.ensures.given_up; never_falls = c.say_out_of_memory.ensures.never_falls }) first,
+  λ is. absurd (let no : status.OutOfMemory ≡ status.Unwritten = is in cc),
+)
+
+pub returns-in_default-clause-asked : goal.returns-in_default-clause-asked
+returns-in_default-clause-asked g c = record {
+  one_more = c.in-Ok.ensures.one_more;
+  named = rw c.in-Ok.ensures.file (name-with_file (g.I.Inputs.files c.args.inputs.now) c.args.name.now);
+  contents = contents_through (g.I.Inputs.files c.args.inputs.now) _ _ c.args.name.now c.in-Ok.ensures.file refl;
+}
+
+-- the run ends within the file's pages
+pub returns-in-Err-convert_pages-clause-converted : goal.returns-in-Err-convert_pages-clause-converted
+returns-in-Err-convert_pages-clause-converted g c = λ names first are.
+    let manner = manner_of g.J.PageJob c.args.task.now in
+    let old = source_of g.I.Inputs c.args.inputs.now in
+    let now = source_of g.I.Inputs c.convert_pages.new.inputs in
+    let start = g.I.Inputs.files c.open.new.self in
+    let there : Lacks old.files c.args.name.now → ⊥ = λ lacking. let clash = c.in-Ok.ensures.absent.1 lacking in cc in
+    let ended = c.in-Err-convert_pages.ensures.converted in
+    let halts = halts_named c.in-Err-convert_pages.status _ manner _ _ _ _ _ _ _ _ (c.deref.ensures ∙ c.in-Ok-base_name.ensures) ended.1 in (
+      file_halted _ manner c.requires.texts c.args.name.now c.args.made.now start c.args.batch.now old now _ _ c.in-Err-convert_pages.status c.in-Ok.ensures.file there ended.0 halts names first are,
+      λ is. pass_halted (2 * c.args.task.now.plan.workers) (omega (arith, c.args.task.now.plan.some_worker)) manner c.requires.texts c.args.name.now c.args.made.now start old now
+          c.in-Ok.ensures.file there (c.convert_pages.ensures.stays.openings ∙ c.in-Ok.ensures.one_more) c.convert_pages.ensures.stays.contents c.convert_pages.ensures.stays.name
+          c.args.batch.now _ _ (halts_unwritten _ _ manner _ _ _ _ _ _ _ is halts) names first are,
+    )
+
+pub returns-in-Err-convert_pages-clause-asked : goal.returns-in-Err-convert_pages-clause-asked
+returns-in-Err-convert_pages-clause-asked g c = record {
+  one_more = c.convert_pages.ensures.stays.openings ∙ c.in-Ok.ensures.one_more;
+  named = rw (c.convert_pages.ensures.stays.name, c.in-Ok.ensures.file) (name-with_file (g.I.Inputs.files c.args.inputs.now) c.args.name.now);
+  contents = contents_through (g.I.Inputs.files c.args.inputs.now) _ _ c.args.name.now c.in-Ok.ensures.file c.convert_pages.ensures.stays.contents;
+}
+
+pub returns-in-Err-convert_pages-clause-input : goal.returns-in-Err-convert_pages-clause-input
+returns-in-Err-convert_pages-clause-input g c = input_of_halt c.in-Err-convert_pages.status c.in-Err-convert_pages.ensures.converted.0 _ _
+
+-- the run ends with the file's pages
+pub returns-in-Err-finish-clause-converted : goal.returns-in-Err-finish-clause-converted
+returns-in-Err-finish-clause-converted g c = λ names first are.
+    let manner = manner_of g.J.PageJob c.args.task.now in
+    let old = source_of g.I.Inputs c.args.inputs.now in
+    let now = source_of g.I.Inputs c.convert_pages.new.inputs in
+    let start = g.I.Inputs.files c.open.new.self in
+    let there : Lacks old.files c.args.name.now → ⊥ = λ lacking. let clash = c.in-Ok.ensures.absent.1 lacking in cc in
+    let end = c.in-Ok-convert_pages.converted.end in
+    let converted = converted_named _ manner _ _ _ _ _ _ _ _ _ _ _ (c.deref.ensures ∙ c.in-Ok-base_name.ensures) c.in-Ok-convert_pages.ensures.converted in
+    let rose = rose_by end _ _ (faults_from end _ _ _ c.in-Ok.ensures.steady c.in-Ok-convert_pages.ensures.input) in (
+      file_ends _ manner c.requires.texts c.args.name.now c.args.made.now start c.in-Ok-convert_pages.converted.pages c.args.batch.now c.convert_pages.new.batch old now _ _ _
+          c.in-Ok.ensures.file there (c.convert_pages.ensures.stays.openings ∙ c.in-Ok.ensures.one_more) c.convert_pages.ensures.stays.contents c.convert_pages.ensures.stays.name
+          c.in-Err-finish.status end rose converted c.in-Err-finish.ensures.ended names first are,
+      λ is. pass_ended (2 * c.args.task.now.plan.workers) (omega (arith, c.args.task.now.plan.some_worker)) manner c.requires.texts c.args.name.now c.args.made.now start old now
+          c.in-Ok.ensures.file there (c.convert_pages.ensures.stays.openings ∙ c.in-Ok.ensures.one_more) c.convert_pages.ensures.stays.contents c.convert_pages.ensures.stays.name
+          c.in-Ok-convert_pages.converted.pages c.args.batch.now c.convert_pages.new.batch _ _ _ end rose converted c.in-Ok-convert_pages.ensures.going.waits.few
+          (rw is at c.in-Err-finish.ensures.ended) (c.in-Err-finish.ensures.because.unwritten is) names first are,
+    )
+
+pub returns-in-Err-finish-clause-asked : goal.returns-in-Err-finish-clause-asked
+returns-in-Err-finish-clause-asked g c = record {
+  one_more = c.convert_pages.ensures.stays.openings ∙ c.in-Ok.ensures.one_more;
+  named = rw (c.convert_pages.ensures.stays.name, c.in-Ok.ensures.file) (name-with_file (g.I.Inputs.files c.args.inputs.now) c.args.name.now);
+  contents = contents_through (g.I.Inputs.files c.args.inputs.now) _ _ c.args.name.now c.in-Ok.ensures.file c.convert_pages.ensures.stays.contents;
+}
+
+pub returns-in-Err-finish-clause-input : goal.returns-in-Err-finish-clause-input
+returns-in-Err-finish-clause-input g c =
+    let end = c.in-Ok-convert_pages.converted.end in
+    input_count c.in-Err-finish.status end _ _ c.in-Err-finish.ensures.because.which (input_by end _ _ (faults_from end _ _ _ c.in-Ok.ensures.steady c.in-Ok-convert_pages.ensures.input))
+
+pub returns-in-Err-finish-clause-keeps : goal.returns-in-Err-finish-clause-keeps
+returns-in-Err-finish-clause-keeps g c = keeps_on _ _ _ _ _ c.convert_pages.ensures.keeps c.finish.ensures.keeps
+
+-- the file is read
+pub returns-in-Ok-add-clause-converted : goal.returns-in-Ok-add-clause-converted
+returns-in-Ok-add-clause-converted g c =
+    let manner = manner_of g.J.PageJob c.args.task.now in
+    let told = g.I.Inputs.files c.args.inputs.now in
+    let start = g.I.Inputs.files c.open.new.self in
+    let there : Lacks told c.args.name.now → ⊥ = λ lacking. let clash = c.in-Ok.ensures.absent.1 lacking in cc in
+    let converted = converted_named _ manner _ _ _ _ _ _ _ _ _ _ _ (c.deref.ensures ∙ c.in-Ok-base_name.ensures) c.in-Ok-convert_pages.ensures.converted in
+    rw (c.in-Ok-add.ensures.added, c.documents_in.ensures.value, c.in-Ok-base_name.ensures)
+    (file_goes_on (told_contents told) manner c.args.name.now c.args.made.now _ start (g.I.Inputs.files c.convert_pages.new.inputs) c.in-Ok-convert_pages.converted.pages
+    c.args.batch.now c.convert_pages.new.batch _ _ (has_bytes told start c.args.name.now c.in-Ok.ensures.file there) c.in-Ok-convert_pages.converted.end converted c.finish.new.batch _
+    (end_named _ manner c.args.name.now _ _ c.args.made.now c.in-Ok-convert_pages.converted.end c.in-Ok-convert_pages.converted.pages c.convert_pages.new.batch c.finish.new.batch
+    (sinks_at g.O.Sink g.E.Sink c.convert_pages.new.desk) (sinks_at g.O.Sink g.E.Sink c.finish.new.desk) (c.deref-2.ensures ∙ c.in-Ok-base_name.ensures) (λ left are. c.in-Ok-finish.ensures.ended left are))
+    c.in-Ok-finish.ensures.because)
+
+pub returns-in-Ok-add-clause-asked : goal.returns-in-Ok-add-clause-asked
+returns-in-Ok-add-clause-asked g c = record {
+  one_more = c.convert_pages.ensures.stays.openings ∙ c.in-Ok.ensures.one_more;
+  named = rw (c.convert_pages.ensures.stays.name, c.in-Ok.ensures.file) (name-with_file (g.I.Inputs.files c.args.inputs.now) c.args.name.now);
+  contents = contents_through (g.I.Inputs.files c.args.inputs.now) _ _ c.args.name.now c.in-Ok.ensures.file c.convert_pages.ensures.stays.contents;
+}
+
+pub returns-in-Ok-add-clause-input : goal.returns-in-Ok-add-clause-input
+returns-in-Ok-add-clause-input g c =
+    let end = c.in-Ok-convert_pages.converted.end in
+    let count = input_by end _ _ (faults_from end _ _ _ c.in-Ok.ensures.steady c.in-Ok-convert_pages.ensures.input) in
+    subst (λ s. InputCount s (g.I.Inputs.faults c.args.inputs.now) (g.I.Inputs.faults c.convert_pages.new.inputs)) c.in-Ok-finish.ensures.because count
+
+pub returns-in-Ok-add-clause-keeps : goal.returns-in-Ok-add-clause-keeps
+returns-in-Ok-add-clause-keeps g c = keeps_on _ _ _ _ _ c.convert_pages.ensures.keeps c.finish.ensures.keeps
+
+-- memory ran out when its documents were to be counted
+pub returns-in-Err-add-clause-converted : goal.returns-in-Err-add-clause-converted
+returns-in-Err-add-clause-converted g c = λ names first are.
+    let manner = manner_of g.J.PageJob c.args.task.now in
+    let told = g.I.Inputs.files c.args.inputs.now in
+    let start = g.I.Inputs.files c.open.new.self in
+    let there : Lacks told c.args.name.now → ⊥ = λ lacking. let clash = c.in-Ok.ensures.absent.1 lacking in cc in
+    let converted = converted_named _ manner _ _ _ _ _ _ _ _ _ _ _ (c.deref.ensures ∙ c.in-Ok-base_name.ensures) c.in-Ok-convert_pages.ensures.converted in (
+      ends_behind _ (told_contents told) manner c.requires.texts c.args.name.now c.args.made.now _ c.args.batch.now c.finish.new.batch _ _ _
+          (file_goes_on (told_contents told) manner c.args.name.now c.args.made.now _ start (g.I.Inputs.files c.convert_pages.new.inputs) c.in-Ok-convert_pages.converted.pages
+          c.args.batch.now c.convert_pages.new.batch _ _ (has_bytes told start c.args.name.now c.in-Ok.ensures.file there) c.in-Ok-convert_pages.converted.end converted c.finish.new.batch _
+          (end_named _ manner c.args.name.now _ _ c.args.made.now c.in-Ok-convert_pages.converted.end c.in-Ok-convert_pages.converted.pages c.convert_pages.new.batch c.finish.new.batch
+          (sinks_at g.O.Sink g.E.Sink c.convert_pages.new.desk) (sinks_at g.O.Sink g.E.Sink c.finish.new.desk) (c.deref-2.ensures ∙ c.in-Ok-base_name.ensures) (λ left are. c.in-Ok-finish.ensures.ended left are))
+          c.in-Ok-finish.ensures.because)
+          (record { outs = refl; opened = refl })
+          (record { said = c.say_out_of_memory-in-Err-add.ensures.said; given_up = c.say_out_of_memory-in-Err-add.ensures.given_up; never_falls = c.say_out_of_memory-in-Err-add.ensures.never_falls })
+          names first are,
+      λ is. absurd (let no : status.OutOfMemory ≡ status.Unwritten = is in cc),
+    )
+
+pub returns-in-Err-add-clause-asked : goal.returns-in-Err-add-clause-asked
+returns-in-Err-add-clause-asked g c = record {
+  one_more = c.convert_pages.ensures.stays.openings ∙ c.in-Ok.ensures.one_more;
+  named = rw (c.convert_pages.ensures.stays.name, c.in-Ok.ensures.file) (name-with_file (g.I.Inputs.files c.args.inputs.now) c.args.name.now);
+  contents = contents_through (g.I.Inputs.files c.args.inputs.now) _ _ c.args.name.now c.in-Ok.ensures.file c.convert_pages.ensures.stays.contents;
+}
+
+pub returns-in-Err-add-clause-keeps : goal.returns-in-Err-add-clause-keeps
+returns-in-Err-add-clause-keeps g c =
+    keeps_on _ _ _ _ _ (keeps_on _ _ _ _ _ c.convert_pages.ensures.keeps c.finish.ensures.keeps)
+    (record { outs = refl; errs = refl; ready = c.say_out_of_memory-in-Err-add.ensures.stays_ready; never_falls = omega arith })
+
+-- a file's pages are as many as a run accepts
+pub add-requires-clause-room : goal.add-requires-clause-room
+add-requires-clause-room g c = c.in-Ok-convert_pages.ensures.converted.few

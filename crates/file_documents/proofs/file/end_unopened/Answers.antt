@@ -1,0 +1,17 @@
+use Rattle.std.proofs.Common.{inr, refl}
+use Rattle.file_documents.proofs.Ending.{halts_in, unopened_said}
+use Rattle.file_documents.proofs.file.end_unopened.Goals as goal
+
+-- all that was held is carried out
+pub returns-in-Ok-clause-ends : goal.returns-in-Ok-clause-ends
+returns-in-Ok-clause-ends g c = λ first are.
+    unopened_said c.args.name.now first _ _ _ (c.in-Ok.ensures.ended first are) (record { outs = refl; opened = refl })
+    (record { said = c.say_not_opened.ensures.said; given_up = c.say_not_opened.ensures.given_up; never_falls = c.say_not_opened.ensures.never_falls })
+
+-- or it isn't
+pub returns-in-Err-clause-ends : goal.returns-in-Err-clause-ends
+returns-in-Err-clause-ends g c = λ first are.
+    inr (halts_in c.in-Err.status _ _ _ _ _ c.in-Err.ensures.left, c.in-Err.ensures.ended first are)
+
+pub returns-in-Err-clause-status : goal.returns-in-Err-clause-status
+returns-in-Err-clause-status g c = inr (halts_in c.in-Err.status _ _ _ _ _ c.in-Err.ensures.left)

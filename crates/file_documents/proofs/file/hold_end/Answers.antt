@@ -1,0 +1,30 @@
+use Rattle.std.proofs.Common.{option_map, refl}
+use Rattle.run_output.specs.Names.{next_name}
+use Rattle.page_batches.specs.Held.{end_notes}
+use Rattle.page_batches.proofs.Carrying.{memory_out}
+use Rattle.page_batches.proofs.Holding.{all_held, end_is_held}
+use Rattle.page_batches.proofs.Waiting.{end_waits}
+use Rattle.file_documents.proofs.file.hold_end.Goals as goal
+
+-- the items of the end stand behind those of what was held
+pub returns-in-Ok-clause-held : goal.returns-in-Ok-clause-held
+returns-in-Ok-clause-held g c = λ first are.
+    let b = c.args.task.now.plan.binding in
+    let name = next_name c.args.base.now c.args.made.now.made in
+    let notes = end_notes (option_map (λ s. s.now) c.args.trailing) c.args.pages in
+    rw c.in-Ok.ensures.held (all_held b _ _ _ _ _ (end_is_held b _ c.args.batch.now name c.args.pages notes first are))
+
+pub returns-in-Ok-clause-going : goal.returns-in-Ok-clause-going
+returns-in-Ok-clause-going g c =
+    let b = c.args.task.now.plan.binding in
+    let name = next_name c.args.base.now c.args.made.now.made in
+    let notes = end_notes (option_map (λ s. s.now) c.args.trailing) c.args.pages in
+    record { waits = rw c.in-Ok.ensures.held (end_waits b _ c.args.pages _ c.args.batch.now name notes c.requires.going.waits); ready = c.requires.going.ready }
+
+-- memory ran out
+pub returns-in-Err-clause-out : goal.returns-in-Err-clause-out
+returns-in-Err-clause-out g c = (
+  refl,
+  λ items. memory_out items _ _ (record { outs = refl; opened = refl })
+      (record { said = c.say_out_of_memory.ensures.said; given_up = c.say_out_of_memory.ensures.given_up; never_falls = c.say_out_of_memory.ensures.never_falls }),
+)

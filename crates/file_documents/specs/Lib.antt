@@ -1,0 +1,89 @@
+-- The manner in which files become documents.
+--   Manner: how pages are read, how documents are named and pages bound, and which texts belong to a page
+--   manner_by: the manner of these
+--   shown_by: the page that is read of a raw one
+--   base_by: the name by which all documents of a file go
+--   HasTexts: a text belongs to each page
+--   HasOneText: and only one
+pub mod Manner
+-- A task over files.
+--   manner_of: its manner
+pub mod Tasks
+-- What a run over files is to write, in order.
+--   too_many: the pages of the run are more than it accepts
+--   told_contents: what the files hold, where that is told
+--   IsAbsent: it is told that there is no file of this name
+--   HoldsPages: the file of this name holds these pages, and ends so
+--   Rest: how a list of items goes on
+--   Nothing: nothing follows
+--   PagesAlone: nothing follows the pages of a file
+--   page_item: the page of this text, as a part of its document
+--   AreEndItems: what follows the pages of a file that ends like this
+--   ArePageItems: the items of the pages of a file, and what follows them
+--   FileEnds: what follows the pages of a file that ends like this, and then what follows the file
+--   AreItems: the items of files in order, and what follows them
+--   AreWhole: each part of the items is a whole document
+pub mod Items
+-- What a run has done, against the items that it was to write.
+--   OpensUpTo: the file of this name is listed, and there were as many openings as there are files up to it
+--   opened_name: the name of the opened file, where that is told and a file is opened
+--   OpensFirst: nothing was opened; or the first of these files were
+--   IsUnopened: a file can't be opened
+--   BeginsWith: the first pages of the bytes are these, and `rest` is what follows them
+--   LeavesBehind: the first pages of the bytes are these, and this is what follows those that they take
+--   BeginsSettled: the first pages of the bytes are these, none of them by the end of the bytes
+--   is_later: a page came before, or one of these did
+--   StopsReading: a read failed behind these pages
+--   HoldsBytes: the bytes of a file are those that were taken and those still unread
+--   IsUnread: a read failed
+--   ReadsNear: the bytes are read at most 65,536 farther than these pages and what decides what follows them
+--   ReadsFileNear: the same of a file, where its bytes are told
+--   IsStopped: a page is refused
+--   IsOutcomeBehind: what was done of first items, and of those of files
+--   IsOutcome: what was done of the items of files
+pub mod Outcome
+-- How far a run has read where a document couldn't be written.
+--   batch_end: how many pages there are up to the end of the batch of a document
+--   ReadsTo: so many pages were read, and at most 65,536 bytes behind them
+--   IfReadsTo: the same, where it is told what the files hold
+--   IsOnePass: no more was read than the batch of the document that couldn't be written
+pub mod OnePass
+-- How far the reading of a file has come.
+--   AreConverted: these are the texts of these pages, in order
+--   text_items: the items of pages of these texts
+--   ahead: the bytes that the reader has still to read pages from, where they are told
+--   Settles: this page stands there, not by the end of the bytes
+--   ReadsPage: the next page of what is ahead was read
+--   TakesNeeded: bytes were taken, as far as what stands ahead needs them
+--   EndsBy: no further page was read for this reason
+--   status_of: the status with which a run ends where the pages of a file end so
+--   InputCount: how the inputs' count of faults moved
+--   FaultsBy: how it moved where the reading of pages ends so
+--   CanRead: a file is opened, and the reader stands in it
+--   EndsReading: the reading of pages ended for this reason
+--   Answered: the next page was read, or none was for this reason
+--   TakesBytes: bytes were taken of the opened file, and no file was opened
+--   OpensNoFile: no file was opened
+--   CanHold: what is held waits for a page of a file
+--   IsAtStart: a file was opened, and nothing is read of it
+--   AsksFor: the file of this name was asked for
+--   HasUnread: a read failed behind these pages
+--   Converts: k pages were read, and then the reading ended so
+--   IsInPart: a document couldn't be written, and the items behind whole batches fill no batch
+--   IsInBatch: a document of the last batch couldn't be written
+--   Halts: some pages were read, and then what was held couldn't be carried out
+--   EndsPages: the reading of pages ended
+--   items_at_end: the items of the end of a file
+--   end_message: what is said where the run ends with the pages of a file
+--   EndsWithFile: the run ends with the pages of a file
+--   RunsOut: memory ran out before any items were carried out
+--   EndsWith: nothing follows, and this was made so far
+--   ConvertsFile: the items of a file are carried out or held
+--   EndsWithPages: the end of a file's pages is held, or the run ends there
+--   EndsBecause: the status of a run that ends with the pages of a file
+--   GoesOnAfter: the run goes on behind the pages of a file, or it ends there
+--   EndsFile: a file was converted, or the run ends there
+pub mod Progress
+-- How a run ends where a file can't be opened.
+--   EndsUnopened: all that was held is carried out, and that is said
+pub mod Unopened

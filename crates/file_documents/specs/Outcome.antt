@@ -1,0 +1,157 @@
+-- What a run has done, against the items that it was to write.
+use Rattle.std.specs.Prelude.{◌≡◌, ℕ, ◌+◌, ◌≤◌, ◌⊎◌, Bool, true, false, List, [], ◌∷◌, ◌++◌, length, min, drop, Option, None, Some, IfSome, option_map}
+use Rattle.std.specs.FinMap.{get}
+use Rattle.pt_base.specs.Counts.{Rose, last_count}
+use Rattle.pt_base.specs.Files.{Contents, Files}
+use Rattle.pt_base.specs.declared.inputs.Inputs.{Ghosts as InputGhosts}
+use Rattle.bitmap_input.specs.Cut.{is_by_end}
+use Rattle.bitmap_input.specs.FaultText.{cause_text}
+use Rattle.bitmap_input.specs.Raw.{Raw}
+use Rattle.bitmap_input.specs.Reading.Cause.{Device}
+use Rattle.bitmap_input.specs.Front.{front, page_at}
+use Rattle.bitmap_input.specs.Front.Answer.{Page}
+use Rattle.bitmap_input.specs.FilePages.{next_begins}
+use Rattle.run_output.specs.Made.{Past, no_past}
+use Rattle.run_output.specs.Messages.{not_opened, page_line}
+use Rattle.run_output.specs.declared.status.Status.{Status}
+use Rattle.run_output.specs.declared.status.Status.TheVariants as status
+use Rattle.page_batches.specs.Items.{Item}
+use Rattle.page_batches.specs.Items.Item.{Stop}
+use Rattle.page_batches.specs.Outcome.{AreCarriedOut, HasEnded}
+use Rattle.run_output.specs.Told.{Sinks, Source}
+use Rattle.file_documents.specs.Items.{AreItems, ArePageItems, IsAbsent, Nothing, PagesAlone, told_contents}
+use Rattle.file_documents.specs.Manner.{Manner, base_by}
+
+-- the file of this name is listed, and there were as many openings as there are files up to it. Which names these
+-- had isn't said
+pub record OpensUpTo (names : List (List ℕ)) (name : List ℕ) (front : List (List ℕ)) (openings openings_now : ℕ) : Type 0 where
+  pub back : List (List ℕ)
+  pub listed : names ≡ front ++ name ∷ back
+  pub grew : openings_now ≡ min (openings + (length front + 1)) last_count
+
+-- the name of the opened file, where that is told and a file is opened
+abbrev pub opened_name : Option Files → Option (List ℕ)
+opened_name None = None
+opened_name (Some files) = option_map (λ file. file.name) files.opened
+
+-- nothing was opened; or there were as many openings as there are files up to some file of the list, and that
+-- file is the opened one, where that is told
+abbrev pub OpensFirst : List (List ℕ) → Source → Source → Type 0
+OpensFirst names source source_now =
+    ((source_now.openings ≡ source.openings) × (source_now.files ≡ source.files))
+    ⊎ ((name : List ℕ) × (front : List (List ℕ)) × OpensUpTo names name front source.openings source_now.openings
+    × IfSome (opened_name source_now.files) (λ opened. opened ≡ name))
+
+-- a file can't be opened: it isn't there, or a device failed. The first items, and all items of the files in
+-- front of it, are carried out, and its message is the last one.
+pub record IsUnopened (first : List Item) (contents : Option Contents) (manner : Manner) (names : List (List ℕ)) (past : Past) (source source_now : Source) (old new : Sinks) : Type 0 where
+  pub name : List ℕ
+  pub front : List (List ℕ)
+  pub before : List Item
+  pub reached : OpensUpTo names name front source.openings source_now.openings
+  pub closed : source_now.is_opened ≡ false
+  pub cause : IsAbsent contents name ⊎ Rose source.faults source_now.faults
+  pub items : AreItems contents manner Nothing front past before
+  pub done : AreCarriedOut (first ++ before) (not_opened name ∷ []) old new
+
+-- the first pages of the bytes are these, and `rest` is what follows them
+abbrev pub BeginsWith : Bool → List ℕ → List Raw → List ℕ → Type 0
+BeginsWith later bytes [] rest = bytes ≡ rest
+BeginsWith later bytes (raw ∷ raws) rest =
+    (used : ℕ) × (front later bytes ≡ Page raw used) × BeginsWith true (drop (next_begins bytes raw used) bytes) raws rest
+
+-- the first pages of the bytes are these, and `behind` is what follows those that they take: of it the last page may
+-- claim some
+abbrev pub LeavesBehind : Bool → List ℕ → List Raw → List ℕ → Type 0
+LeavesBehind later bytes [] behind = bytes ≡ behind
+LeavesBehind later bytes (raw ∷ []) behind = (used : ℕ) × (front later bytes ≡ Page raw used) × (behind ≡ drop used bytes)
+LeavesBehind later bytes (raw ∷ next ∷ raws) behind =
+    (used : ℕ) × (front later bytes ≡ Page raw used) × LeavesBehind true (drop (next_begins bytes raw used) bytes) (next ∷ raws) behind
+
+-- the first pages of the bytes are these, none of them is by the end of the bytes, and `rest` is what follows them
+abbrev pub BeginsSettled : Bool → List ℕ → List Raw → List ℕ → Type 0
+BeginsSettled later bytes [] rest = bytes ≡ rest
+BeginsSettled later bytes (raw ∷ raws) rest =
+    (used : ℕ) × (front later bytes ≡ Page raw used) × (is_by_end (page_at later bytes) ≡ false)
+    × BeginsSettled true (drop (next_begins bytes raw used) bytes) raws rest
+
+-- a page came before, or one of these did
+abbrev pub is_later : Bool → List Raw → Bool
+is_later later [] = later
+is_later later (raw ∷ raws) = true
+
+-- a read failed behind these pages: the bytes that were taken of the file begin with them, and what follows
+-- is cut short by the end of those bytes
+pub record StopsReading (taken : List ℕ) (raws : List Raw) : Type 0 where
+  pub left : List ℕ
+  pub pages : BeginsSettled false taken raws left
+  pub by_end : is_by_end (page_at (is_later false raws) left) ≡ true
+
+-- the bytes of the file of this name, where they are told, are those that were taken and those still unread
+abbrev pub HoldsBytes : Option Contents → List ℕ → List ℕ → List ℕ → Type 0
+HoldsBytes None name taken rest = Unit {0}
+HoldsBytes (Some contents) name taken rest = get contents name ≡ Some (taken ++ rest)
+
+-- a read failed: the first items, all items of the files in front of the opened one, and the parts that are its
+-- pages that had been taken whole, are carried out, and the message of the page behind them is the last one
+pub record IsUnread (first : List Item) (contents : Option Contents) (manner : Manner) (names : List (List ℕ)) (past : Past) (source source_now : Source) (old new : Sinks) : Type 0 where
+  pub name : List ℕ
+  pub front : List (List ℕ)
+  pub taken : List ℕ
+  pub rest : List ℕ
+  pub raws : List Raw
+  pub before : List Item
+  pub reached : OpensUpTo names name front source.openings source_now.openings
+  pub opened : IfSome source_now.files (λ files. files.opened ≡ Some (record { name = name; rest = rest }))
+  pub bytes : HoldsBytes contents name taken rest
+  pub rose : Rose source.faults source_now.faults
+  pub stops : StopsReading taken raws
+  pub items : AreItems contents manner
+      (λ past items. ArePageItems manner name (base_by manner name) PagesAlone raws 0 past items) front past before
+  pub done : AreCarriedOut (first ++ before) (page_line name (length raws + 1) (cause_text Device) ∷ []) old new
+
+-- of these bytes, which begin with these pages, the `rest` ones are unread: no more than 65,536 were taken behind those
+-- that the pages take, or behind so many that it isn't settled yet what follows the pages
+abbrev pub ReadsNear : List ℕ → List Raw → List ℕ → Type 0
+ReadsNear bytes raws rest =
+    ((behind : List ℕ) × LeavesBehind false bytes raws behind × (length behind ≤ length rest + 65536))
+    ⊎ ((unsettled : List ℕ) × (behind : List ℕ) × (bytes ≡ unsettled ++ behind) × StopsReading unsettled raws × (length behind ≤ length rest + 65536))
+
+-- the same of the file of this name, where its bytes are told
+abbrev pub ReadsFileNear : Option Contents → List ℕ → List Raw → List ℕ → Type 0
+ReadsFileNear None name raws rest = Unit {0}
+ReadsFileNear (Some contents) name raws rest = (bytes : List ℕ) × (get contents name ≡ Some bytes) × ReadsNear bytes raws rest
+
+-- a page is refused: the first items, all items of the files in front of the opened one, and the parts that are its pages
+-- in front of that page are carried out, and its message is the last one. No other file was opened, and this one is
+-- read no farther than that decides, but for 65,536 bytes.
+pub record IsStopped (first : List Item) (contents : Option Contents) (manner : Manner) (names : List (List ℕ)) (past : Past) (source source_now : Source) (old new : Sinks) : Type 0 where
+  pub name : List ℕ
+  pub front : List (List ℕ)
+  pub raws : List Raw
+  pub rest : List ℕ
+  pub before : List Item
+  pub message : List ℕ
+  pub reached : OpensUpTo names name front source.openings source_now.openings
+  pub opened : IfSome source_now.files (λ files. files.opened ≡ Some (record { name = name; rest = rest }))
+  pub near : ReadsFileNear contents name raws rest
+  pub items : AreItems contents manner
+      (λ past items. ArePageItems manner name (base_by manner name) PagesAlone raws 0 past items) front past before
+  pub all : AreItems contents manner Nothing names past (before ++ Stop message ∷ [])
+  pub done : AreCarriedOut (first ++ before) (message ∷ []) old new
+
+-- what was done of these first items and those of the files of these names, after what was made before
+abbrev pub IsOutcomeBehind : Status → List Item → Option Contents → Manner → List (List ℕ) → Past → Source → Source → Sinks → Sinks → Type 0
+IsOutcomeBehind status.Unread first contents manner names past source source_now old new =
+    IsUnopened first contents manner names past source source_now old new ⊎ IsUnread first contents manner names past source source_now old new
+IsOutcomeBehind status.Done first contents manner names past source source_now old new =
+    (items : List Item) × AreItems contents manner Nothing names past items × HasEnded status.Done (first ++ items) old new
+    × (source_now.openings ≡ min (source.openings + length names) last_count)
+IsOutcomeBehind status.Refused first contents manner names past source source_now old new =
+    IsStopped first contents manner names past source source_now old new
+IsOutcomeBehind s first contents manner names past source source_now old new =
+    (items : List Item) × AreItems contents manner Nothing names past items × HasEnded s (first ++ items) old new
+
+-- what was done of the items of the files of these names
+abbrev pub IsOutcome : Status → Manner → List (List ℕ) → Source → Source → Sinks → Sinks → Type 0
+IsOutcome s manner names source source_now old new = IsOutcomeBehind s [] (told_contents source.files) manner names no_past source source_now old new

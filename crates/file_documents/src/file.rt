@@ -1,0 +1,226 @@
+//! A whole file: opened, its pages read and held by batches, and how it ended said.
+ghost use Rattle.std.specs.Prelude.{◌≡◌, ◌*◌, ◌⊎◌, ◌++◌, List, IfErr, OnOk, option_map};
+ghost use Rattle.run_output.specs.Names.{next_name};
+ghost use Rattle.run_output.specs.declared.status.Status.{Status};
+ghost use Rattle.page_batches.specs.Desks.{Keeps, sinks_at};
+ghost use Rattle.page_batches.specs.Held.{AreHeld, Holds, end_held, end_notes};
+ghost use Rattle.page_batches.specs.Items.{Item, end_items};
+ghost use Rattle.page_batches.specs.Outcome.{IsHalt, ended_with};
+ghost use Rattle.file_documents.specs.Manner.{HasTexts};
+ghost use Rattle.run_output.specs.Told.{source_of};
+ghost use Rattle.file_documents.specs.Progress.{AsksFor, CanHold, EndsFile, EndsWithPages, GoesOnAfter, InputCount, RunsOut, status_of};
+ghost use Rattle.file_documents.specs.declared.pages.PagesEnd.{PagesEnd};
+ghost use Rattle.file_documents.specs.Tasks.{manner_of};
+ghost use Rattle.file_documents.specs.Unopened.{EndsUnopened};
+
+use bitmap_input::{InFault, PageReader};
+use crate::pages::{PagesEnd, Converted, convert_pages};
+use crate::task::Task;
+use page_batches::{Batch, Desk};
+use page_workers::PageJob;
+use pt_base::{Gate, Inputs, NoMemory, Outputs, Sink};
+use run_output::{Binding, Made, Status, base_name, document_name, say_not_opened, say_of_page, say_out_of_memory};
+use std::alloc::Global;
+use std::thread::Threads;
+
+/// Opens a file and reads its pages into the batch, which is carried out where it is full. An `Err` says how
+/// the run ends in this file: whole pages in front of that are converted and written first.
+pub(crate) fn convert_file<
+    R: Threads + Sync,
+    J: PageJob + Sync,
+    G: Gate + Sync,
+    I: Inputs,
+    O: Outputs,
+    E: Sink,
+>(
+    task: &Task<R, J, G>,
+    name: &str,
+    made: &mut Made,
+    batch: &mut Batch,
+    reader: &mut PageReader,
+    inputs: &mut I,
+    desk: &mut Desk<O, E>,
+) -> Result<(), Status>
+    requires texts { HasTexts (manner_of J.PageJob task.now) }
+    requires going { CanHold O.Sink E.Sink task.now.plan.binding (2 * task.now.plan.workers) 0 desk.old batch.old }
+    ensures converted { EndsFile result (2 * task.now.plan.workers) (manner_of J.PageJob task.now) name.now
+        made.old made.new batch.old batch.new
+        (source_of I.Inputs inputs.old) (source_of I.Inputs inputs.new)
+        (sinks_at O.Sink E.Sink desk.old) (sinks_at O.Sink E.Sink desk.new) }
+    ensures going { OnOk result (CanHold O.Sink E.Sink task.now.plan.binding (2 * task.now.plan.workers) 0
+        desk.new batch.new) }
+    ensures asked { AsksFor name.now (source_of I.Inputs inputs.old) (source_of I.Inputs inputs.new) }
+    ensures input { InputCount (ended_with result) (I.faults inputs.old) (I.faults inputs.new) }
+    ensures keeps { Keeps O.Sink E.Sink desk.old desk.new }
+{
+    match inputs.open(name) {
+        Ok(()) => {}
+        Err(_) => return Err(end_unopened(task, name, batch, desk)),
+    }
+    let Ok(base) = base_name(task.plan.alloc, task.output, task.backend, name) else {
+        say_out_of_memory(desk.errs);
+        return Err(Status::OutOfMemory);
+    };
+    reader.start();
+    let converted = match convert_pages(task, &base, made, batch, reader, inputs, desk) {
+        Ok(converted) => converted,
+        Err(status) => return Err(status),
+    };
+    let pages = converted.pages;
+    match finish(task, name, &base, made, converted, batch, desk) {
+        Ok(()) => {}
+        Err(status) => return Err(status),
+    }
+    match made.add(base, task.plan.binding.documents_in(pages), pages) {
+        Ok(()) => Ok(()),
+        Err(_) => {
+            say_out_of_memory(desk.errs);
+            Err(Status::OutOfMemory)
+        }
+    }
+}
+
+/// Carries out all that is held, and then says that a file couldn't be opened. Answers how the run ends: so, or
+/// where that couldn't be carried out.
+fn end_unopened<R: Threads + Sync, J: PageJob + Sync, G: Gate + Sync, O: Outputs, E: Sink>(
+    task: &Task<R, J, G>,
+    name: &str,
+    batch: &mut Batch,
+    desk: &mut Desk<O, E>,
+) -> Status
+    requires going { CanHold O.Sink E.Sink task.now.plan.binding (2 * task.now.plan.workers) 0 desk.old batch.old }
+    ensures ends { (first : List Item)
+        → AreHeld task.now.plan.binding (J.belongs task.now.plan.job.now) batch.old first
+        → EndsUnopened name.now result first
+        (sinks_at O.Sink E.Sink desk.old) (sinks_at O.Sink E.Sink desk.new) }
+    ensures status { (result ≡ Status.Unread) ⊎ IsHalt result }
+    ensures keeps { Keeps O.Sink E.Sink desk.old desk.new }
+{
+    match batch.carry_out(&task.plan, desk) {
+        Ok(()) => {
+            say_not_opened(desk.errs, name);
+            Status::Unread
+        }
+        Err(status) => status,
+    }
+}
+
+/// Holds what is to be done at the end of a file's pages, whose documents have this base name. Where the run ends
+/// there, all that is held is carried out first, but for want of memory.
+fn finish<R: Threads + Sync, J: PageJob + Sync, G: Gate + Sync, O: Outputs, E: Sink>(
+    task: &Task<R, J, G>,
+    name: &str,
+    base: &str,
+    made: &Made,
+    converted: Converted,
+    batch: &mut Batch,
+    desk: &mut Desk<O, E>,
+) -> Result<(), Status>
+    requires going { CanHold O.Sink E.Sink task.now.plan.binding (2 * task.now.plan.workers) converted.pages
+        desk.old batch.old }
+    ensures ended { (first : List Item)
+        → AreHeld task.now.plan.binding (J.belongs task.now.plan.job.now) batch.old first
+        → EndsWithPages result (2 * task.now.plan.workers) (manner_of J.PageJob task.now) name.now
+        base.now made.now converted.end converted.pages first batch.new
+        (sinks_at O.Sink E.Sink desk.old) (sinks_at O.Sink E.Sink desk.new) }
+    ensures because { GoesOnAfter result converted.end }
+    ensures going { OnOk result (CanHold O.Sink E.Sink task.now.plan.binding (2 * task.now.plan.workers) 0
+        desk.new batch.new) }
+    ensures keeps { Keeps O.Sink E.Sink desk.old desk.new }
+{
+    let pages = converted.pages;
+    let (status, text) = match converted.end {
+        PagesEnd::End => return hold_end(task, base, made, pages, None, batch, desk),
+        PagesEnd::Trailing => return hold_end(task, base, made, pages, Some(name), batch, desk),
+        PagesEnd::TooMany => (Status::Refused, "too many pages"),
+        PagesEnd::Fault(InFault::NoMemory) => {
+            say_out_of_memory(desk.errs);
+            return Err(Status::OutOfMemory);
+        }
+        PagesEnd::Fault(fault) => (status_of(fault), fault.text()),
+    };
+    match batch.carry_out(&task.plan, desk) {
+        Ok(()) => {
+            say_of_page(desk.errs, name, u64::from(pages) + 1, text);
+            Err(status)
+        }
+        Err(status) => Err(status),
+    }
+}
+
+/// Holds the end of a file of so many pages, whose documents have this base name. Where `trailing` is its name, bytes
+/// follow its pages that begin none. An `Err` says that the run ends for want of memory: that is said.
+fn hold_end<R: Threads + Sync, J: PageJob + Sync, G: Gate + Sync, O: Outputs, E: Sink>(
+    task: &Task<R, J, G>,
+    base: &str,
+    made: &Made,
+    pages: u32,
+    trailing: Option<&str>,
+    batch: &mut Batch,
+    desk: &mut Desk<O, E>,
+) -> Result<(), Status>
+    requires going { CanHold O.Sink E.Sink task.now.plan.binding (2 * task.now.plan.workers) pages
+        desk.old batch.old }
+    ensures held { OnOk result ((first : List Item)
+        → AreHeld task.now.plan.binding (J.belongs task.now.plan.job.now) batch.old first
+        → Holds task.now.plan.binding (2 * task.now.plan.workers) (J.belongs task.now.plan.job.now)
+        (first ++ end_items task.now.plan.binding (next_name base.now made.now.made) pages
+        (end_notes (option_map (λ s. s.now) trailing.entry) pages)) batch.new
+        (sinks_at O.Sink E.Sink desk.old) (sinks_at O.Sink E.Sink desk.new)) }
+    ensures going { OnOk result (CanHold O.Sink E.Sink task.now.plan.binding (2 * task.now.plan.workers) 0
+        desk.new batch.new) }
+    ensures out { IfErr result (λ status. RunsOut status
+        (sinks_at O.Sink E.Sink desk.old) (sinks_at O.Sink E.Sink desk.new)) }
+    ensures keeps { Keeps O.Sink E.Sink desk.old desk.new }
+{
+    match push_end(
+        task.plan.alloc,
+        task.plan.binding,
+        base,
+        made,
+        pages,
+        trailing,
+        batch,
+    ) {
+        Ok(()) => Ok(()),
+        Err(_) => {
+            say_out_of_memory(desk.errs);
+            Err(Status::OutOfMemory)
+        }
+    }
+}
+
+/// Holds the end of a file of so many pages, with the name of its document where they are bound together.
+fn push_end(
+    alloc: Global,
+    binding: Binding,
+    base: &str,
+    made: &Made,
+    pages: u32,
+    trailing: Option<&str>,
+    batch: &mut Batch,
+) -> Result<(), NoMemory>
+    ensures held { OnOk result (batch.new ≡ batch.old ++ end_held binding (next_name base.now made.now.made) pages
+        (end_notes (option_map (λ s. s.now) trailing.entry) pages)) }
+{
+    match binding {
+        Binding::Apart => batch.hold_end(alloc, Binding::Apart, base, pages, trailing),
+        Binding::Together => {
+            let Ok(name) = document_name(alloc, base, made.count(base) + 1) else {
+                return Err(NoMemory);
+            };
+            batch.hold_end(alloc, Binding::Together, &name, pages, trailing)
+        }
+    }
+}
+
+/// The status of a run that ends with a page that can't be read.
+fn status_of(fault: InFault) -> Status
+    ensures { result ≡ status_of (PagesEnd.Fault fault) }
+{
+    match fault {
+        InFault::ReadFault => Status::Unread,
+        InFault::NoMemory => Status::OutOfMemory,
+        _ => Status::Refused,
+    }
+}

@@ -1,0 +1,42 @@
+//! What follows from the definitions alone.
+ghost use Rattle.std.specs.Prelude.{◌≡◌, ℕ, Bool, List, Option, Some};
+ghost use Rattle.pt_base.specs.Files.{Contents};
+ghost use Rattle.pt_base.specs.declared.settings.Backend.{Backend};
+ghost use Rattle.run_output.specs.Made.{Past};
+ghost use Rattle.run_output.specs.declared.part.Binding.{Binding};
+ghost use Rattle.page_batches.specs.Items.{Item};
+ghost use Rattle.file_documents.specs.Items.{AreItems, AreWhole, Nothing};
+ghost use Rattle.file_documents.specs.Manner.{HasTexts, manner_by};
+
+use page_workers::PageJob;
+use run_output::Binding;
+
+/// Whatever the files hold, there is a list of what a run is to write, where a text belongs to each page.
+pub fn files_have_items<J: PageJob>(job: &J)
+    ensures { (level : ℕ) (invert : Bool) (output : Option (List ℕ)) (backend : Backend) (binding : Binding)
+        → HasTexts (manner_by level invert output backend binding (J.belongs job.now))
+        → (contents : Option Contents) (names : List (List ℕ)) (past : Past) → (items : List Item)
+        × AreItems contents (manner_by level invert output backend binding (J.belongs job.now))
+        Nothing names past items }
+{}
+
+/// Where it is told what the files hold there is only one such list: it is a function of that, of how pages are read
+/// and documents named, and of the names.
+pub fn items_are_one<J: PageJob>(job: &J)
+    ensures { (level : ℕ) (invert : Bool) (output : Option (List ℕ)) (backend : Backend) (binding : Binding)
+        (contents : Contents) (names : List (List ℕ)) (past : Past) (items others : List Item)
+        → AreItems (Some contents) (manner_by level invert output backend binding (J.belongs job.now))
+        Nothing names past items
+        → AreItems (Some contents) (manner_by level invert output backend binding (J.belongs job.now))
+        Nothing names past others
+        → items ≡ others }
+{}
+
+/// Where each page is a document of its own, each document of such a list is one part: it is written whole, or cut off.
+pub fn documents_are_whole<J: PageJob>(job: &J)
+    ensures { (level : ℕ) (invert : Bool) (output : Option (List ℕ)) (backend : Backend)
+        (contents : Option Contents) (names : List (List ℕ)) (past : Past) (items : List Item)
+        → AreItems contents (manner_by level invert output backend Binding.Apart (J.belongs job.now))
+        Nothing names past items
+        → AreWhole items }
+{}
