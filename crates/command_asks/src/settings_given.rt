@@ -5,8 +5,8 @@ ghost use Rattle.pt_base.specs.declared.policy.Policy.{Policy};
 ghost use Rattle.pt_base.specs.declared.settings.Backend.{Backend};
 ghost use Rattle.pt_base.specs.declared.settings.Settings.{Settings};
 
-use command_words::Given;
 use crate::numbers::{micro_or, whole_or};
+use command_words::Given;
 use page_trace::backend_of;
 use pt_base::{Backend, Policy, Settings};
 

@@ -5,10 +5,10 @@ ghost use Rattle.run_output.specs.Names.{dash};
 ghost use Rattle.command_asks.specs.Asked.{AreProper, Asks, AsksOf, CanBeDone, GivesSettings, IsAsked, IsWholeOf, IsWholeOr, inputs_of};
 ghost use Rattle.command_asks.specs.declared.ask.Ask.{Ask};
 
-use command_words::{Given, Name, Names, Parsed, parse};
 use crate::ask::{Ask, WordFault};
 use crate::numbers::{whole_of, whole_or};
 use crate::settings_given::settings_given;
+use command_words::{Given, Name, Names, Parsed, parse};
 use pt_base::Settings;
 use std::alloc::{AllocError, Global};
 

@@ -2,9 +2,9 @@
 ghost use Rattle.std.specs.Prelude.{◌≡◌, IfOk, map, string_bytes};
 ghost use Rattle.command_words.specs.Parsed.{parsed};
 
-use clap::error::ErrorKind;
 use crate::command::program;
 use crate::given::{Given, given_of};
+use clap::error::ErrorKind;
 use std::alloc::{AllocError, Global};
 
 /// What the words come to.

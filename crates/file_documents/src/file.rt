@@ -13,13 +13,15 @@ ghost use Rattle.file_documents.specs.declared.pages.PagesEnd.{PagesEnd};
 ghost use Rattle.file_documents.specs.Tasks.{manner_of};
 ghost use Rattle.file_documents.specs.Unopened.{EndsUnopened};
 
-use bitmap_input::{InFault, PageReader};
-use crate::pages::{PagesEnd, Converted, convert_pages};
+use crate::pages::{Converted, PagesEnd, convert_pages};
 use crate::task::Task;
+use bitmap_input::{InFault, PageReader};
 use page_batches::{Batch, Desk};
 use page_workers::PageJob;
 use pt_base::{Gate, Inputs, NoMemory, Outputs, Sink};
-use run_output::{Binding, Made, Status, base_name, document_name, say_not_opened, say_of_page, say_out_of_memory};
+use run_output::{
+    Binding, Made, Status, base_name, document_name, say_not_opened, say_of_page, say_out_of_memory,
+};
 use std::alloc::Global;
 use std::thread::Threads;
 

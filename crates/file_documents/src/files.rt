@@ -11,10 +11,10 @@ ghost use Rattle.run_output.specs.Told.{source_of};
 ghost use Rattle.file_documents.specs.Progress.{InputCount};
 ghost use Rattle.file_documents.specs.Tasks.{manner_of};
 
-use bitmap_input::PageReader;
-use command_words::Name;
 use crate::file::convert_file;
 use crate::task::Task;
+use bitmap_input::PageReader;
+use command_words::Name;
 use page_batches::{Batch, Desk};
 use page_workers::PageJob;
 use pt_base::{Gate, Inputs, Outputs, Sink};

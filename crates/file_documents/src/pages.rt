@@ -14,9 +14,9 @@ ghost use Rattle.run_output.specs.Told.{source_of};
 ghost use Rattle.file_documents.specs.Progress.{Answered, CanHold, CanRead, EndsPages, EndsReading, FaultsBy, IsAtStart, OpensNoFile, TakesBytes};
 ghost use Rattle.file_documents.specs.Tasks.{manner_of};
 
+use crate::task::Task;
 use bit_image::Bitmap;
 use bitmap_input::{InFault, Next, PageReader};
-use crate::task::Task;
 use page_batches::{Batch, Desk};
 use page_workers::PageJob;
 use pt_base::{Gate, Inputs, Outputs, Sink};

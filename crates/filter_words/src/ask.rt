@@ -2,9 +2,9 @@
 ghost use Rattle.std.specs.Prelude.{◌≡◌, IfOk, IsErrOf, map, string_bytes};
 ghost use Rattle.filter_words.specs.Asked.{CanFilter, IsFilterAsked};
 
-use clap::error::ErrorKind;
 use crate::command::filter_command;
 use crate::setup::{Setup, setup_of};
+use clap::error::ErrorKind;
 use std::alloc::Global;
 
 /// What the words ask for.

@@ -11,11 +11,11 @@ ghost use Rattle.mk_run.specs.Work.{IsGrayHead};
 ghost use Rattle.mkbitmap.specs.declared.limits.TheConstants.{GREATEST_TIMES};
 ghost use Rattle.pt_base.specs.declared.limits.TheConstants.{LONGEST_SIDE};
 
-use bitmap_input::{GrayHead, GrayReader, InFault};
 use crate::fault::Break;
 use crate::put::put_page;
 use crate::say::{NAME, say_fault, say_not_written, say_out_of_memory};
 use crate::work::Work;
+use bitmap_input::{GrayHead, GrayReader, InFault};
 use filter_words::Setup;
 use pt_base::{Inputs, LONGEST_SIDE, Outputs, Sink};
 use run_output::{say_of_file, say_of_file_page};

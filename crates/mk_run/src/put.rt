@@ -10,10 +10,10 @@ ghost use Rattle.mk_run.specs.Put.{BreaksPage, BreaksRow, BreaksRows, GoesWell, 
 ghost use Rattle.mk_run.specs.Result.{result_head, result_text};
 ghost use Rattle.mk_run.specs.Work.{GivesRows, GoesAlong, HasRooms, IsAtWork, header_of};
 
-use bitmap_input::GrayReader;
 use crate::fault::Break;
 use crate::rooms::Rooms;
 use crate::rows::make_ready;
+use bitmap_input::GrayReader;
 use filter_words::Setup;
 use mkbitmap::{Filter, limit};
 use pt_base::{Inputs, Outputs, write_whole};

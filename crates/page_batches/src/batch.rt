@@ -11,10 +11,10 @@ ghost use Rattle.page_batches.specs.Items.{Item};
 ghost use Rattle.page_batches.specs.Items.Item.{Write};
 ghost use Rattle.page_batches.specs.Outcome.{AreCarriedOut, HasEnded, IsHalt, IsUnwritten, ended_with};
 
-use bit_image::Bitmap;
 use crate::desk::Desk;
 use crate::laws::held_items_are_one;
 use crate::plan::Plan;
+use bit_image::Bitmap;
 use page_workers::{PageJob, trace_all};
 use pt_base::{Gate, NoMemory, Outputs, Sink, SinkFault};
 use run_output::{Binding, Status, say_out_of_memory, say_trailing};

@@ -4,10 +4,10 @@ ghost use Rattle.bit_image.specs.Page.{SameSides, image_of};
 ghost use Rattle.page_demo.specs.Generator.{state_after};
 ghost use Rattle.page_demo.specs.Picture.{bar_at, inverted_area, is_in_bar};
 
-use bit_image::Bitmap;
 use crate::generator::Generator;
 use crate::page::{HEIGHT, WIDTH};
 use crate::rectangle::Rectangle;
+use bit_image::Bitmap;
 
 /// The columns of a bar.
 pub(crate) const BAR_LENGTH: u32 = 64;

@@ -4,10 +4,10 @@ ghost use Rattle.bit_image.specs.Page.{SameSides, image_of};
 ghost use Rattle.page_demo.specs.Generator.{state_after};
 ghost use Rattle.page_demo.specs.Picture.{pages_from, picture_page, with_bars, with_rectangles};
 
-use bit_image::Bitmap;
 use crate::bar::Bar;
 use crate::generator::Generator;
 use crate::rectangle::Rectangle;
+use bit_image::Bitmap;
 use pt_base::NoMemory;
 use std::alloc::Global;
 

@@ -4,9 +4,9 @@ ghost use Rattle.bit_image.specs.Page.{SameSides, image_of};
 ghost use Rattle.page_demo.specs.Generator.{state_after};
 ghost use Rattle.page_demo.specs.Picture.{inverted_area, is_in_rectangle, rectangle_at};
 
-use bit_image::Bitmap;
 use crate::generator::Generator;
 use crate::page::{HEIGHT, WIDTH};
+use bit_image::Bitmap;
 
 /// The pixels in so many columns from `left` on, and in so many rows from `bottom` up.
 #[derive(Clone, Copy)]

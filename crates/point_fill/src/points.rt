@@ -14,9 +14,9 @@ ghost use Rattle.point_fill.specs.PointsFile.{IsToldPath};
 ghost use Rattle.point_fill.specs.Reading.{IsPointAt, IsNoPointAt, IsHeadAt, IsNoHeadAt, AreLoopAt, IsNoLoopAt, IsPathAt, IsNoPathAt, ArePathsAt, IsSpelled};
 ghost use Rattle.point_fill.specs.Swept.{AreMarked};
 
-use bit_image::Bitmap;
 use crate::number::{is_at, number_at};
 use crate::step::mark_step;
+use bit_image::Bitmap;
 use pt_base::Point;
 
 /// A point, and the place behind it.

@@ -16,9 +16,9 @@ ghost use Rattle.file_documents.specs.Outcome.{OpensFirst};
 ghost use Rattle.file_documents.specs.Progress.{InputCount};
 ghost use Rattle.potrace_main.specs.Run.{AreItemsOf, BindsApart, FailureCount, IsCodeOf, IsComplete, IsMissing, IsOnePassOf, IsOutcomeOf, IsRun, OutputsMove, RefusesWords, names_of};
 
+use crate::usage::{help_text, version_text};
 use command_asks::{Ask, WordFault, settings_of};
 use command_words::Name;
-use crate::usage::{help_text, version_text};
 use file_documents::{Task, convert_files};
 use page_batches::{Desk, Plan};
 use page_demo::demo_text;

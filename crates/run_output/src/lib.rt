@@ -16,7 +16,9 @@ pub mod status;
 pub use document::write_document;
 pub use line::{say_line, say_of_file, say_of_file_page};
 pub use made::Made;
-pub use message::{say_bad_words, say_not_opened, say_not_written, say_of_page, say_out_of_memory, say_trailing};
+pub use message::{
+    say_bad_words, say_not_opened, say_not_written, say_of_page, say_out_of_memory, say_trailing,
+};
 pub use names::{base_name, document_name};
 pub use part::{Binding, write_end_part, write_page_part};
 pub use status::Status;

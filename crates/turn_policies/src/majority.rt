@@ -6,8 +6,8 @@ ghost use Rattle.turn_policies.specs.Corner.{IsCorner};
 ghost use Rattle.turn_policies.specs.Majority.{black_in_ring, major};
 ghost use Rattle.turn_policies.specs.Square.{IsSquare};
 
-use bit_image::Bitmap;
 use crate::around::square;
+use bit_image::Bitmap;
 use pt_base::Point;
 
 /// Whether black is in the majority around a corner.

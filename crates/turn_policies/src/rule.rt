@@ -7,10 +7,10 @@ ghost use Rattle.turn_policies.specs.Corner.{IsCorner};
 ghost use Rattle.turn_policies.specs.Majority.{major};
 ghost use Rattle.turn_policies.specs.Turn.{goes_right, turn, next};
 
-use bit_image::Bitmap;
 use crate::edge::Edge;
 use crate::heading::Dir;
 use crate::majority::major_at;
+use bit_image::Bitmap;
 use pt_base::{Point, Policy, Sign};
 
 /// Where a path goes on that comes to a corner with a heading.
@@ -30,7 +30,14 @@ pub fn turn(page: &Bitmap, at: Point, heading: Dir, policy: Policy, sign: Sign) 
 
 /// Where a path goes on that comes to corner (x, y) with a heading.
 #[inline(always)]
-pub(crate) fn turn_at(page: &Bitmap, x: u32, y: u32, heading: Dir, policy: Policy, sign: Sign) -> Dir
+pub(crate) fn turn_at(
+    page: &Bitmap,
+    x: u32,
+    y: u32,
+    heading: Dir,
+    policy: Policy,
+    sign: Sign,
+) -> Dir
     requires x { x ≤ 32767 }
     requires y { y ≤ 32767 }
     ensures { result ≡ turn (image_of page.now) policy sign x y heading }

@@ -1,9 +1,9 @@
 //! Pieces that were worked out by hand.
 
+use super::samples::{Place, Row, pieces, points_at};
 use corner_smooth::smooth;
 use std::alloc::Global;
 use std::test::Fail;
-use super::samples::{Place, Row, pieces, points_at};
 
 /// Whether the outline round these places has these pieces.
 fn is_smoothed(alloc: Global, places: &[Place], alphamax: u32, rows: &[Row]) -> Result<bool, Fail> {

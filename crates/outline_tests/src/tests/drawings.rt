@@ -1,8 +1,8 @@
 //! DXF and GeoJSON documents. The points of the curve come from exact fractions.
 
+use super::samples::{CURVE, MIDDLE, NINE, PIXEL, Row, trace_of};
 use dxf_geojson::{dxf, geojson};
 use std::test::Fail;
-use super::samples::{CURVE, MIDDLE, NINE, PIXEL, Row, trace_of};
 
 const ROUND_A_PIXEL: &str = "0\nSECTION\n2\nENTITIES\n0\nPOLYLINE\n8\n0\n66\n1\n70\n1\n\
 0\nVERTEX\n8\n0\n10\n0.500\n20\n1.000\n\

@@ -3,12 +3,12 @@ ghost use Rattle.std.specs.Prelude.{◌≡◌, ◌≤◌, ◌<◌, ◌^◌, leng
 ghost use Rattle.curve_join.specs.Cubic.{LiesWithin};
 ghost use Rattle.curve_join.specs.Vector.{IsPlaced};
 
+use super::samples::{self, Place, Row, at, points_at};
 use corner_smooth::smooth;
 use curve_join::{Cubic, Vector, join, joined, touching};
 use pt_base::{Piece, Point};
 use std::alloc::Global;
 use std::test::Fail;
-use super::samples::{self, Place, Row, at, points_at};
 
 /// Whether the joined outline round these places has these pieces. Its corners are at least as sharp as 1.
 fn is_joined(alloc: Global, places: &[Place], tol: u16, rows: &[Row]) -> Result<bool, Fail> {

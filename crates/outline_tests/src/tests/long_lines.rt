@@ -1,11 +1,11 @@
 //! Lines of the longest segments, that another program worked out in whole numbers without bounds.
 
+use super::segments::segment_sums;
 use page_samples::{hooked_stairs, round, triangle};
 use prefix_moments::{Moments, Sums};
 use pt_base::{MOST_STEPS, NoMemory, Point, is_closed_walk};
 use std::alloc::Global;
 use std::test::Fail;
-use super::segments::segment_sums;
 use vertex_adjust::{Line, line_of};
 
 /// A walk as long as the greatest page has room for.

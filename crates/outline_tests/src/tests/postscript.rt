@@ -1,8 +1,8 @@
 //! EPS documents that were written down by hand.
 
+use super::samples::{CURVE, MIDDLE, NINE, Row, settings, trace_of};
 use eps_backend::eps;
 use std::test::Fail;
-use super::samples::{CURVE, MIDDLE, NINE, Row, settings, trace_of};
 
 /// A square round 64 pixels.
 const BOARD: &[Row] = &[

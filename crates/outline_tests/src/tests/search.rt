@@ -1,9 +1,9 @@
 //! The search for a vertex, beside the plain one.
 ghost use Rattle.std.specs.Prelude.{IsTrue, pos, unsigned_abs, ◌≤◌, ◌≤ℤ◌, ◌^◌};
 
-use pt_base::{LONGEST_SIDE, Point};
 use super::lot::Lot;
 use super::plain::{best_of_all, best_of_column, moved};
+use pt_base::{LONGEST_SIDE, Point};
 use vertex_adjust::{Line, column, vertex};
 
 /// How large the numbers of a normal are, and how far from the point a line's centre may lie: lines that meet

@@ -1,7 +1,7 @@
 //! SVG documents that were written down by hand.
 
-use std::test::Fail;
 use super::samples::{CURVE, MIDDLE, NINE, Row, settings, trace_of};
+use std::test::Fail;
 use svg_backend::svg;
 
 const A_PATH_FOR_EACH_SHAPE: &str = "<?xml version=\"1.0\" standalone=\"no\"?>\n\

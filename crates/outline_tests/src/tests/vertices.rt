@@ -1,12 +1,12 @@
 //! Lines of segments and vertices of polygons that another program worked out, in whole numbers without bounds.
 ghost use Rattle.std.specs.Prelude.{◌≡◌, IfOk};
 
+use super::samples::{Place, points_at};
+use super::segments::{is_polygon, segment_sums};
 use prefix_moments::Moments;
 use pt_base::{MOST_STEPS, NoMemory, Polygon, Sequence, is_closed_walk};
 use std::alloc::Global;
 use std::test::Fail;
-use super::samples::{Place, points_at};
-use super::segments::{is_polygon, segment_sums};
 use vertex_adjust::{Line, adjust, line_of};
 
 const PIXEL: &[Place] = &[(0, 1), (0, 0), (1, 0), (1, 1)];

@@ -1,7 +1,7 @@
 //! Reaches, corners and best polygons of the paths of pages, beside those of plain programs.
 
-use bit_image::Bitmap;
 use crate::tests::plain_best::plain_polygon;
+use bit_image::Bitmap;
 use page_samples::{Shape, checkered, next_corner, noise, numbered, reaches, shaped};
 use path_decompose::decompose;
 use polygon_optimal::polygon;

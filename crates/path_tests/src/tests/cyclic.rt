@@ -1,8 +1,8 @@
 //! Cyclic polygons beside a search over all lists of vertices, and beside the best polygons from each starting point.
 
-use bit_image::Bitmap;
 use crate::tests::best::best_round;
 use crate::tests::polygons::bits_of;
+use bit_image::Bitmap;
 use cyclic_optimal::cyclic_polygon;
 use page_samples::{Shape, drawn, noise, numbered, shaped};
 use path_decompose::decompose;

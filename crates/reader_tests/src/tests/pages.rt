@@ -1,7 +1,7 @@
 //! PBM pages, faults' texts, and reads that fail.
 
-use bitmap_input::InFault;
 use crate::tests::answers::{tells, tells_at, tells_failing};
+use bitmap_input::InFault;
 use std::test::Fail;
 
 /// Files, and what the reader answers.

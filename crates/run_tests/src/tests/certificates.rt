@@ -1,8 +1,8 @@
 //! Certificates of pages, and runs of their checker.
 
-use check_run::check_run;
 use crate::tests::cases::{Case, PLAIN, Page, check_pages, named, split};
 use crate::tests::pages::PAGES;
+use check_run::check_run;
 use outline_check::{Verdict, check_proofs};
 use page_samples::numbered;
 use page_trace::document;

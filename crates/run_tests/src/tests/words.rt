@@ -1,8 +1,8 @@
 //! What words ask for: which of them `clap` takes how, and which values are in their ranges.
 
+use crate::tests::cases::split;
 use command_asks::{Ask, WordFault, settings_of};
 use command_words::Name;
-use crate::tests::cases::split;
 use pt_base::{Backend, Policy, Settings};
 use std::alloc::Global;
 use std::test::Fail;
