@@ -12,7 +12,6 @@ mod header;
 mod palette;
 mod pixels;
 
-use bit_image::Bitmap;
 use crate::bmp::header::{Header, read_header};
 use crate::bmp::palette::read_palette;
 use crate::bmp::pixels::{Tone, read_rows};
@@ -20,6 +19,7 @@ use crate::extent::{ReadPage, known};
 use crate::skip::skip_block;
 use crate::stop::Stop;
 use crate::window::Window;
+use bit_image::Bitmap;
 use pt_base::Inputs;
 use std::alloc::Global;
 use threshold_map::Level;

@@ -16,9 +16,9 @@ use crate::raw::read_raw_rows;
 use crate::samples::{
     Shading, brightest_black, read_plain_sample_rows, read_raw_sample_rows, row_bytes,
 };
-use bit_image::Bitmap;
 use crate::stop::Stop;
 use crate::window::Window;
+use bit_image::Bitmap;
 use pt_base::Inputs;
 use std::alloc::Global;
 use threshold_map::Level;

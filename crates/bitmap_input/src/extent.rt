@@ -3,8 +3,8 @@ ghost use Rattle.std.specs.Prelude.{◌≡◌};
 ghost use Rattle.bit_image.specs.Page.{image_of, page_of};
 ghost use Rattle.bitmap_input.specs.Behind.{claiming_none};
 
-use bit_image::{Bitmap, pages_are_known_by_pixels};
 use crate::stop::Stop;
+use bit_image::{Bitmap, pages_are_known_by_pixels};
 
 /// A page that was read, and how many bytes it claims behind those that it takes.
 #[derive(Debug, Drop)]

@@ -7,11 +7,11 @@ ghost use Rattle.bitmap_input.specs.Parts.{pixel, repeated};
 ghost use Rattle.bitmap_input.specs.Front.{plain_pixel};
 ghost use Rattle.bitmap_input.specs.Raster.{with_row, with_rows, with_pixels};
 
-use bit_image::Bitmap;
 use crate::fault::InFault;
 use crate::run::{Run, skip};
 use crate::stop::Stop;
 use crate::window::{Look, Window};
+use bit_image::Bitmap;
 use pt_base::Inputs;
 
 /// The character of a pixel: whether it is black.

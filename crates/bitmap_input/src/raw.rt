@@ -8,10 +8,10 @@ ghost use Rattle.bitmap_input.specs.Front.{raw_row};
 ghost use Rattle.bitmap_input.specs.Raw.{row_bytes, unpacked};
 ghost use Rattle.bitmap_input.specs.Raster.{with_row, with_rows};
 
-use bit_image::Bitmap;
 use crate::fault::InFault;
 use crate::stop::Stop;
 use crate::window::{Look, Window};
+use bit_image::Bitmap;
 use pt_base::{Inputs, LONGEST_SIDE};
 
 /// As many bytes as the row is long.

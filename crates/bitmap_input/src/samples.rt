@@ -11,7 +11,6 @@ ghost use Rattle.bitmap_input.specs.Raster.{with_row, with_rows};
 ghost use Rattle.bitmap_input.specs.Shading.{brightness, brightness_at, IsCappedBrightness, is_black_at, black_of, black_in, IsInRange};
 ghost use Rattle.bitmap_input.specs.declared.channels.Channels.TheVariants as channels;
 
-use bit_image::Bitmap;
 use crate::channels::Channels;
 use crate::header::GREATEST_MAXVAL;
 use crate::number::{Part, read_number_behind_gap};
@@ -19,6 +18,7 @@ use crate::raw::read_block;
 use crate::stop::Stop;
 use crate::window::Window;
 use crate::words::with_pixel;
+use bit_image::Bitmap;
 use pt_base::{Inputs, LONGEST_SIDE};
 use threshold_map::Level;
 
@@ -153,7 +153,11 @@ pub(crate) fn row_bytes(channels: Channels, width: u32, maxval: u32) -> usize
     ensures { result ≡ sample_bytes maxval (samples_in channels * width) }
 {
     let samples = (channels.samples() * width) as usize;
-    if is_wide(maxval) { 2 * samples } else { samples }
+    if is_wide(maxval) {
+        2 * samples
+    } else {
+        samples
+    }
 }
 
 /// A sample of a row, where all are wide or none is.

@@ -11,13 +11,13 @@ ghost use Rattle.bitmap_input.specs.BmpRaster.{color_at, bit_at, half_at, palett
 ghost use Rattle.bitmap_input.specs.BmpHead.{IsPaletteTable, IsReadable, bits_in, shade_in, row_place, row_bytes_by};
 ghost use Rattle.bitmap_input.specs.Raster.{with_row, with_placed};
 
-use bit_image::Bitmap;
 use crate::bmp::fields::Depth;
 use crate::bmp::header::Header;
 use crate::raw::{place_row as place_bits, read_block};
 use crate::stop::Stop;
 use crate::window::Window;
 use crate::words::with_pixel;
+use bit_image::Bitmap;
 use pt_base::{Inputs, LONGEST_SIDE};
 use threshold_map::Level;
 
