@@ -1,8 +1,8 @@
 -- What the reading of a page says of the reader's answer.
-use Rattle.std.proofs.Common.{◌≤◌, arith, ◌⊎◌, inl, inr, option_map, ◌≡◌, refl, ℕ, ◌+◌, ◌-◌, Bool, true, false, List, [], ◌++◌, length, take, drop, ap, sym, ◌∙◌, subst, Option, Some, None, IfSome, Result, Ok, Err, append-nil, append_assoc}
-use Rattle.std.proofs.lemmas.List.{take-append-drop, drop-append-le, drop-drop}
+use Rattle.std.proofs.Common.{◌≤◌, arith, ◌⊎◌, inl, inr, ◌≡◌, refl, ℕ, ◌+◌, ◌-◌, Bool, true, false, List, [], ◌++◌, length, drop, ap, sym, ◌∙◌, subst, Option, Some, None, IfSome, Result, Ok, Err, append-nil}
+use Rattle.std.proofs.lemmas.List.{drop-append-le, drop-drop}
 use Rattle.std.proofs.Math.Seq.{drop-length}
-use Rattle.pt_base.specs.Files.{Files, Opened, unread, unread_of, taken_of, with_read}
+use Rattle.pt_base.specs.Files.{Files, unread}
 use Rattle.bit_image.specs.Page.{Page as Pixels}
 use Rattle.std.specs.Prelude.{IsErrOf}
 use Rattle.pt_base.specs.Counts.{Rose}
@@ -20,11 +20,12 @@ use Rattle.bitmap_input.specs.declared.extent.ReadPage.{ReadPage}
 use Rattle.bitmap_input.specs.Front.{Answer, front, page_at, answer_of}
 use Rattle.bitmap_input.specs.Front.Answer.{Page, Ends}
 use Rattle.bitmap_input.specs.FilePages.{next_begins}
-use Rattle.bitmap_input.specs.Reading.{Buffered, AtEnd, Moves, AreNeeded, Cause, cause_of, cause_of_fault, StopsBy, Reads, CountsBy}
+use Rattle.bitmap_input.specs.Reading.{Buffered, AtEnd, AreNeeded, Cause, cause_of, cause_of_fault, StopsBy, Reads, CountsBy}
 use Rattle.bitmap_input.specs.Reading.Cause.{Says, Device, Memory}
 use Rattle.bitmap_input.specs.Reader.{Reader, is_later, ahead, Answers, GivesPage, GivesEnding, ReadFails, MemoryFails, TellsPage, IfSays, IsAnswer}
 use Rattle.bitmap_input.proofs.FrontStays.{front_stays}
 use Rattle.bitmap_input.proofs.Needing.{needs_as}
+use Rattle.bitmap_input.proofs.Rests.{none_left, rest_after, taken_first, where_told}
 use Rattle.bitmap_input.proofs.Telling.{not_true}
 use Rattle.bitmap_input.proofs.FrontKeeps.{rest_behind}
 use Rattle.bitmap_input.proofs.Behind.{forget, forget-page, is_by_end-forget, stops_forget, begins_behind, front_within, begins_with_more, ahead_with_more}
@@ -32,34 +33,6 @@ use Rattle.bitmap_input.proofs.Behind.{forget, forget-page, is_by_end-forget, st
 -- a reader that holds this
 abbrev pub reader_of : Buffered → ℕ → ℕ → Bool → Reader
 reader_of h skip pages over = record { bytes = h.bytes; skip = skip; pages = pages; ended = h.ended; over = over }
-
--- Where the file's rest is told.
-
-end_of : (file : Option Opened) (n : ℕ) (rest : List ℕ) → option_map unread_of file ≡ Some rest →
-    IfSome (option_map unread_of (option_map (taken_of n) file)) (λ rest. rest ≡ []) → drop n rest ≡ []
-end_of None n rest h end = cc
-end_of (Some file) n rest h end = let same : file.rest ≡ rest = cc in ap (drop n) (sym same) ∙ end
-
-end_after : (before : Option Files) (n : ℕ) (rest : List ℕ) → unread before ≡ Some rest → AtEnd (with_read before n) → drop n rest ≡ []
-end_after None n rest h end = cc
-end_after (Some files) n rest h end = end_of files.opened n rest h end
-
-rest_of : (file : Option Opened) (n : ℕ) (rest more : List ℕ) → option_map unread_of file ≡ Some rest →
-    option_map unread_of (option_map (taken_of n) file) ≡ Some more → more ≡ drop n rest
-rest_of None n rest more h k = cc
-rest_of (Some file) n rest more h k =
-    let same : file.rest ≡ rest = cc in
-    let same2 : drop n file.rest ≡ more = cc in sym same2 ∙ ap (drop n) same
-
-rest_after : (before : Option Files) (n : ℕ) (rest more : List ℕ) → unread before ≡ Some rest → unread (with_read before n) ≡ Some more →
-    more ≡ drop n rest
-rest_after None n rest more h k = cc
-rest_after (Some files) n rest more h k = rest_of files.opened n rest more h k
-
--- this holds of the rest of the file, where it is told
-where_told : (o : Option (List ℕ)) (P : List ℕ → Type 0) → ((rest : List ℕ) → o ≡ Some rest → P rest) → IfSome o P
-where_told None P each = tt
-where_told (Some rest) P each = each rest refl
 
 if_nothing : (o : Option (List ℕ)) → IfSome o (λ _. Unit {0})
 if_nothing None = tt
@@ -155,45 +128,23 @@ module _ (level : ℕ) (invert : Bool) (h h2 : Buffered) (skip skip2 pages pages
   wants_memory stop r counted is_over =
       record { more = r.more; moves = r.moves; needed = needed_ahead r.needed; counted = counted; over = is_over }
 
-  -- no byte is left of the rest: by then all of it had been taken
-  none_left : {more : List ℕ} (rest : List ℕ) → (h.ended ≡ true → AtEnd before) → unread before ≡ Some rest →
-      Moves h.ended before h2.ended now more → more ≡ take (length more) rest → h2.ended ≡ true → more ≡ rest
-  none_left {more} rest at_end is moves front_of ended = elim (moves.end ended) [
-    | inl was_ended ↦
-        let end = subst (λ (o : Option (List ℕ)). IfSome o (λ rest. rest ≡ [])) is (at_end was_ended) in
-        (moves.stopped was_ended).0 ∙ sym end
-    | inr now_end ↦
-        let end : drop (length more) rest ≡ [] = end_after before (length more) rest is (subst AtEnd moves.files now_end) in
-        front_of ∙ sym (append-nil (take (length more) rest)) ∙ ap (λ xs. take (length more) rest ++ xs) (sym end) ∙ take-append-drop (length more) rest
-  ]
-
-  -- the bytes that were taken are a front of the rest
-  taken_first : {more : List ℕ} (rest : List ℕ) → unread before ≡ Some rest → Moves h.ended before h2.ended now more →
-      (more ≡ take (length more) rest) × (h.bytes ++ rest ≡ (h.bytes ++ more) ++ drop (length more) rest)
-  taken_first {more} rest is moves =
-      let front_of = subst (λ (o : Option (List ℕ)). IfSome o (λ rest. more ≡ take (length more) rest)) is moves.told in (
-        front_of,
-        ap (λ xs. h.bytes ++ xs) (sym (take-append-drop (length more) rest) ∙ ap (λ xs. xs ++ drop (length more) rest) (sym front_of)) ∙
-            sym (append_assoc h.bytes more (drop (length more) rest)),
-      )
-
   -- the bytes ahead, where the rest is told: those that were taken and what follows them
   ahead_told : {answer : Answer} (t : Bool) (rest : List ℕ) → (h.ended ≡ true → AtEnd before) → unread before ≡ Some rest →
       (a : Answers old before answer new now) → is_by_end (page_at (is_later old) (ahead old a.more)) ≡ t →
       ahead old rest ≡ ahead old a.more ++ drop (length a.more) rest
   ahead_told true rest at_end is a test =
-      let same : a.more ≡ rest = none_left rest at_end is a.moves (taken_first rest is a.moves).0 (a.settled test) in
+      let same : a.more ≡ rest = none_left h h2 before now a.more rest at_end is a.moves (a.settled test) in
       let none : drop (length a.more) rest ≡ [] = ap (λ xs. drop (length xs) rest) same ∙ drop-length rest in
       ap (ahead old) (sym same) ∙ sym (append-nil (ahead old a.more)) ∙ ap (λ xs. ahead old a.more ++ xs) (sym none)
   ahead_told false rest at_end is a test =
-      ap (drop skip) (taken_first rest is a.moves).1 ∙ ahead_with_more skip (is_later old) (h.bytes ++ a.more) (drop (length a.more) rest) test
+      ap (drop skip) (taken_first h h2 before now a.more rest at_end is a.moves).1 ∙ ahead_with_more skip (is_later old) (h.bytes ++ a.more) (drop (length a.more) rest) test
 
   -- what the bytes that were taken say, the whole rest says
   answer_told : {answer : Answer} (t : Bool) (rest : List ℕ) → (h.ended ≡ true → AtEnd before) → unread before ≡ Some rest →
       (a : Answers old before answer new now) → is_by_end (page_at (is_later old) (ahead old a.more)) ≡ t →
       front (is_later old) (ahead old rest) ≡ answer
   answer_told true rest at_end is a test =
-      let same : a.more ≡ rest = none_left rest at_end is a.moves (taken_first rest is a.moves).0 (a.settled test) in
+      let same : a.more ≡ rest = none_left h h2 before now a.more rest at_end is a.moves (a.settled test) in
       ap (λ xs. front (is_later old) (ahead old xs)) (sym same) ∙ a.is
   answer_told false rest at_end is a test =
       ap (front (is_later old)) (ahead_told false rest at_end is a test) ∙

@@ -31,6 +31,7 @@ pub mod BmpLengths
 pub mod FrontKeeps
 pub mod Spelling
 pub mod Behind
+pub mod Rests
 pub mod Answering
 pub mod Longest
 pub mod Files

@@ -5,7 +5,7 @@ use Rattle.bit_image.specs.Page.{image_of}
 use Rattle.bitmap_input.specs.Front.{plain_pixel}
 use Rattle.bitmap_input.specs.Raster.{with_rows}
 use Rattle.bitmap_input.proofs.Appending.{times_stay, plain_pixel_stays}
-use Rattle.bitmap_input.proofs.Painting.{painting_goes_on, painting_stops, painting_ends}
+use Rattle.bitmap_input.proofs.Gathering.{gathering_goes_on, gathering_stops, gathering_ends}
 use Rattle.bitmap_input.proofs.Placing.{row_painted}
 use Rattle.bitmap_input.proofs.plain.read_plain_rows.Goals as goal
 
@@ -15,7 +15,7 @@ loop-y-preserved g c =
     let one : c.loop-y.y ≡ suc (c.loop-y.y - 1) = omega arith in
     let row = rw c.loop-y.invariant.sides.width at c.in_ok-read_plain_row.ensures.reads in
     record {
-      so_far = painting_goes_on (λ rows. with_rows (image_of c.read_plain_row.new.page) (c.loop-y.y - 1) (map (map (differ c.args.invert)) rows)) (times_stay plain_pixel plain_pixel_stays c.args.page.now.width)
+      so_far = gathering_goes_on (λ rows. with_rows (image_of c.read_plain_row.new.page) (c.loop-y.y - 1) (map (map (differ c.args.invert)) rows)) (times_stay plain_pixel plain_pixel_stays c.args.page.now.width)
           c.loop-y.invariant.so_far one row
           (λ a painted rows. row_painted (image_of c.loop-y.page) (image_of c.read_plain_row.new.page) c.loop-y.y (c.loop-y.y - 1) (map (differ c.args.invert) a) one painted
           (map (map (differ c.args.invert)) rows));
@@ -29,8 +29,8 @@ returns-in_err-read_plain_row-clause-reads g c =
     let p = err_from_is_err_and c.from_residual.result c.from_residual.ensures.1 in
     let one : c.loop-y.y ≡ suc (c.loop-y.y - 1) = omega arith in
     let row = rw c.loop-y.invariant.sides.width at c.in_err-read_plain_row.ensures.reads in
-    rw (p.1, p.2) (painting_stops (image_of c.read_plain_row.new.page) c.loop-y.invariant.so_far one row)
+    rw (p.1, p.2) (gathering_stops (image_of c.read_plain_row.new.page) c.loop-y.invariant.so_far one row)
 
 pub returns-clause-reads : goal.returns-clause-reads
 returns-clause-reads g c =
-    painting_ends (image_of c.loop-y.page) c.loop-y.invariant.so_far (omega arith) refl
+    gathering_ends (image_of c.loop-y.page) c.loop-y.invariant.so_far (omega arith) refl

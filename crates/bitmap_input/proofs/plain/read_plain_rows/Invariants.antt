@@ -5,14 +5,14 @@ use Rattle.bit_image.specs.Page.{SameSides, image_of}
 use Rattle.bitmap_input.specs.Parts.{repeated}
 use Rattle.bitmap_input.specs.Front.{plain_pixel}
 use Rattle.bitmap_input.specs.Raster.{with_rows}
-use Rattle.bitmap_input.proofs.Painting.{IsPaintedSoFar}
+use Rattle.bitmap_input.proofs.Gathering.{IsGatheredSoFar}
 use Rattle.bitmap_input.proofs.plain.read_plain_rows.Given as goal
 
 abbrev pub invariant-loop-y : goal.invariant-loop-y
 invariant-loop-y g l =
     let source = g.I.Inputs in
     record {
-      so_far : IsPaintedSoFar (repeated plain_pixel l.fn.page.width) l.fn.window (source.files l.fn.inputs) (λ rows. with_rows (image_of l.fn.page) l.fn.page.height (map (map (differ l.invert)) rows)) l.fn.page.height
+      so_far : IsGatheredSoFar (repeated plain_pixel l.fn.page.width) l.fn.window (source.files l.fn.inputs) (λ rows. with_rows (image_of l.fn.page) l.fn.page.height (map (map (differ l.invert)) rows)) l.fn.page.height
           l.window (source.files l.inputs) (λ rows. with_rows (image_of l.page) l.y (map (map (differ l.invert)) rows)) l.y;
       sides : SameSides l.fn.page l.page;
       within : l.y ≤ l.fn.page.height;

@@ -7,7 +7,7 @@ use Rattle.bitmap_input.specs.Raw.{unpacked}
 use Rattle.bitmap_input.specs.Raster.{with_row, with_rows}
 use Rattle.bitmap_input.proofs.Appending.{raw_row_stays}
 use Rattle.bitmap_input.proofs.Telling.{reads_map, reads_stop}
-use Rattle.bitmap_input.proofs.Painting.{painting_goes_on, painting_stops, painting_ends}
+use Rattle.bitmap_input.proofs.Gathering.{gathering_goes_on, gathering_stops, gathering_ends}
 use Rattle.bitmap_input.proofs.Placing.{row_painted}
 use Rattle.bitmap_input.proofs.raw.read_raw_rows.Goals as goal
 
@@ -19,7 +19,7 @@ loop-y-preserved g c =
     let row = rw c.loop-y.invariant.row at c.in_ok-read_block.ensures.reads in
     let pixels = rw c.loop-y.invariant.sides.width at c.place_row.ensures.pixels in
     record {
-      so_far = painting_goes_on (λ rows. with_rows (image_of c.place_row.new.page) (c.loop-y.y - 1) (map turn rows)) (raw_row_stays c.args.page.now.width)
+      so_far = gathering_goes_on (λ rows. with_rows (image_of c.place_row.new.page) (c.loop-y.y - 1) (map turn rows)) (raw_row_stays c.args.page.now.width)
           c.loop-y.invariant.so_far one (reads_map {js = λ _ pixels. image_of c.place_row.new.page ≡ with_row (image_of c.loop-y.page) (c.loop-y.y - 1) (turn pixels)}
           (λ bytes. take c.args.page.now.width (unpacked bytes))
           (λ _ bytes same. pixels ∙ ap (λ bytes. with_row (image_of c.loop-y.page) (c.loop-y.y - 1) (turn (take c.args.page.now.width (unpacked bytes)))) (sym same)) row)
@@ -35,9 +35,9 @@ returns-in_err-read_block-clause-reads g c =
     let p = err_from_is_err_and c.from_residual.result c.from_residual.ensures.1 in
     let one : c.loop-y.y ≡ suc (c.loop-y.y - 1) = omega arith in
     let row = rw c.loop-y.invariant.row at c.in_err-read_block.ensures.reads in
-    rw (p.1, p.2) (painting_stops {X = Unit {0}} {is = λ _ pixels. image_of c.loop-y.page ≡ with_row (image_of c.loop-y.page) (c.loop-y.y - 1) pixels} (image_of c.loop-y.page) c.loop-y.invariant.so_far one
+    rw (p.1, p.2) (gathering_stops {X = Unit {0}} {is = λ _ pixels. image_of c.loop-y.page ≡ with_row (image_of c.loop-y.page) (c.loop-y.y - 1) pixels} (image_of c.loop-y.page) c.loop-y.invariant.so_far one
     (reads_stop (λ bytes rest. Takes false (take c.args.page.now.width (unpacked bytes)) rest) row))
 
 pub returns-clause-reads : goal.returns-clause-reads
 returns-clause-reads g c =
-    painting_ends (image_of c.loop-y.page) c.loop-y.invariant.so_far (omega arith) refl
+    gathering_ends (image_of c.loop-y.page) c.loop-y.invariant.so_far (omega arith) refl

@@ -4,7 +4,8 @@ use Rattle.bit_image.specs.Page.{image_of}
 use Rattle.bitmap_input.specs.Raster.{with_pixels}
 use Rattle.bitmap_input.specs.Shading.{black_of}
 use Rattle.bitmap_input.proofs.Appending.{plain_samples_stay}
-use Rattle.bitmap_input.proofs.Painting.{painting_goes_on, painting_stops, painting_ends, pixel_painted}
+use Rattle.bitmap_input.proofs.Gathering.{gathering_goes_on, gathering_stops, gathering_ends}
+use Rattle.bitmap_input.proofs.Painting.{pixel_painted}
 use Rattle.bitmap_input.proofs.Graying.{capped_black}
 use Rattle.bitmap_input.proofs.samples.read_plain_row.Goals as goal
 
@@ -12,13 +13,13 @@ pub returns-in_err-brightness-clause-reads : goal.returns-in_err-brightness-clau
 returns-in_err-brightness-clause-reads g c =
     let p = err_from_is_err_and c.from_residual.result c.from_residual.ensures.1 in
     let one : c.args.page.now.width - c.loop-x.x ≡ suc (c.args.page.now.width - (c.loop-x.x + 1)) = omega arith in
-    rw (p.1, p.2) (painting_stops (image_of c.loop-x.page) c.loop-x.invariant.so_far one c.in_err-brightness.ensures.reads)
+    rw (p.1, p.2) (gathering_stops (image_of c.loop-x.page) c.loop-x.invariant.so_far one c.in_err-brightness.ensures.reads)
 
 pub loop-x-preserved : goal.loop-x-preserved
 loop-x-preserved g c =
     let one : c.args.page.now.width - c.loop-x.x ≡ suc (c.args.page.now.width - (c.loop-x.x + 1)) = omega arith in
     record {
-      so_far = painting_goes_on (λ row. with_pixels (image_of c.set.new.self) c.args.y (c.loop-x.x + 1) (map (black_of c.args.shading.now) row)) (plain_samples_stay c.args.shading.now.channels)
+      so_far = gathering_goes_on (λ row. with_pixels (image_of c.set.new.self) c.args.y (c.loop-x.x + 1) (map (black_of c.args.shading.now) row)) (plain_samples_stay c.args.shading.now.channels)
           c.loop-x.invariant.so_far one c.in_ok-brightness.ensures.reads
           (λ a capped. pixel_painted (black_of c.args.shading.now) (image_of c.loop-x.page) (image_of c.set.new.self) c.loop-x.x c.args.y _ a c.set.ensures.pixels
           (capped_black c.args.shading.now c.requires.range _ a capped ∙ sym c.black.ensures));
@@ -29,4 +30,4 @@ loop-x-preserved g c =
 
 pub returns-clause-reads : goal.returns-clause-reads
 returns-clause-reads g c =
-    painting_ends (image_of c.loop-x.page) c.loop-x.invariant.so_far (omega arith) refl
+    gathering_ends (image_of c.loop-x.page) c.loop-x.invariant.so_far (omega arith) refl

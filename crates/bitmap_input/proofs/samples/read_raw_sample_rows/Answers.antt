@@ -8,7 +8,7 @@ use Rattle.bitmap_input.specs.Shading.{black_of}
 use Rattle.bitmap_input.specs.Raster.{with_row, with_rows}
 use Rattle.bitmap_input.proofs.Appending.{raw_samples_row_stays}
 use Rattle.bitmap_input.proofs.Telling.{reads_map, reads_stop}
-use Rattle.bitmap_input.proofs.Painting.{painting_goes_on, painting_stops, painting_ends}
+use Rattle.bitmap_input.proofs.Gathering.{gathering_goes_on, gathering_stops, gathering_ends}
 use Rattle.bitmap_input.proofs.Placing.{row_painted}
 use Rattle.bitmap_input.proofs.samples.read_raw_sample_rows.Goals as goal
 
@@ -22,7 +22,7 @@ loop-y-preserved g c =
     let row = rw c.loop-y.invariant.row at c.in_ok-read_block.ensures.reads in
     let pixels = rw c.loop-y.invariant.sides.width at c.place_row.ensures.pixels in
     record {
-      so_far = painting_goes_on (λ rows. with_rows (image_of c.place_row.new.page) (c.loop-y.y - 1) (map pixels_of rows)) (raw_samples_row_stays kind c.args.shading.now.maxval c.args.page.now.width)
+      so_far = gathering_goes_on (λ rows. with_rows (image_of c.place_row.new.page) (c.loop-y.y - 1) (map pixels_of rows)) (raw_samples_row_stays kind c.args.shading.now.maxval c.args.page.now.width)
           c.loop-y.invariant.so_far one (reads_map {js = λ _ row. image_of c.place_row.new.page ≡ with_row (image_of c.loop-y.page) (c.loop-y.y - 1) (pixels_of row)}
           values
           (λ _ bytes same. pixels ∙ ap (λ bytes. with_row (image_of c.loop-y.page) (c.loop-y.y - 1) (pixels_of (values bytes))) (sym same)) row)
@@ -38,9 +38,9 @@ returns-in_err-read_block-clause-reads g c =
     let p = err_from_is_err_and c.from_residual.result c.from_residual.ensures.1 in
     let one : c.loop-y.y ≡ suc (c.loop-y.y - 1) = omega arith in
     let row = rw c.loop-y.invariant.row at c.in_err-read_block.ensures.reads in
-    rw (p.1, p.2) (painting_stops {X = Unit {0}} {is = λ _ row. image_of c.loop-y.page ≡ image_of c.loop-y.page} (image_of c.loop-y.page) c.loop-y.invariant.so_far one
+    rw (p.1, p.2) (gathering_stops {X = Unit {0}} {is = λ _ row. image_of c.loop-y.page ≡ image_of c.loop-y.page} (image_of c.loop-y.page) c.loop-y.invariant.so_far one
     (reads_stop (λ bytes rest. Takes false (grouped c.args.shading.now.channels (samples (is_wide c.args.shading.now.maxval) bytes)) rest) row))
 
 pub returns-clause-reads : goal.returns-clause-reads
 returns-clause-reads g c =
-    painting_ends (image_of c.loop-y.page) c.loop-y.invariant.so_far (omega arith) refl
+    gathering_ends (image_of c.loop-y.page) c.loop-y.invariant.so_far (omega arith) refl

@@ -11,7 +11,7 @@ use Rattle.bitmap_input.specs.Raster.{with_row, with_placed}
 use Rattle.bitmap_input.proofs.BmpStays.{color_row_stays}
 use Rattle.bitmap_input.proofs.BmpPixels.{shade_is, shades_are, placed_painted}
 use Rattle.bitmap_input.proofs.Telling.{reads_map, reads_stop}
-use Rattle.bitmap_input.proofs.Painting.{painting_goes_on, painting_stops, painting_ends}
+use Rattle.bitmap_input.proofs.Gathering.{gathering_goes_on, gathering_stops, gathering_ends}
 use Rattle.bitmap_input.proofs.bmp.pixels.read_rows.Goals as goal
 
 pub loop-i-preserved : goal.loop-i-preserved
@@ -30,7 +30,7 @@ loop-i-preserved g c =
       so_far = λ color table.
           let shades = λ (bytes : List ℕ). shades_are (shade_in c.args.header.now.depth level invert c.args.table.now bytes) (black level invert) (pixel_in bits color bytes)
           (shade_is c.args.header.now.depth level invert color c.args.table.now bytes table) (range_with_len 0 width) in
-          painting_goes_on (λ rows. with_placed place (image_of c.place_row.new.page) (c.loop-i.i + 1) (map (map (black level invert)) rows))
+          gathering_goes_on (λ rows. with_placed place (image_of c.place_row.new.page) (c.loop-i.i + 1) (map (map (black level invert)) rows))
           (color_row_stays (row_bytes_by c.args.header.now) bits color width) (c.loop-i.invariant.so_far color table) one
           (reads_map {js = λ _ entries. image_of c.place_row.new.page ≡ with_row old (place c.loop-i.i) (map (black level invert) entries)}
           (λ bytes. map (pixel_in bits color bytes) (range_with_len 0 width))
@@ -48,8 +48,8 @@ returns-in_err-read_block-clause-reads g c =
     let p = err_from_is_err_and c.from_residual.result c.from_residual.ensures.1 in
     let one : c.args.page.now.height - c.loop-i.i ≡ suc (c.args.page.now.height - (c.loop-i.i + 1)) = omega arith in
     let row = rw c.loop-i.invariant.row at c.in_err-read_block.ensures.reads in
-    λ color table. rw (p.1, p.2) (painting_stops {X = Unit {0}} {is = λ _ row. image_of c.loop-i.page ≡ image_of c.loop-i.page} (image_of c.loop-i.page) (c.loop-i.invariant.so_far color table) one
+    λ color table. rw (p.1, p.2) (gathering_stops {X = Unit {0}} {is = λ _ row. image_of c.loop-i.page ≡ image_of c.loop-i.page} (image_of c.loop-i.page) (c.loop-i.invariant.so_far color table) one
     (reads_stop (λ bytes rest. Takes false (map (pixel_in (bits_in c.args.header.now.depth) color bytes) (range_with_len 0 c.args.page.now.width)) rest) row))
 
 pub returns-clause-reads : goal.returns-clause-reads
-returns-clause-reads g c = λ color table. painting_ends (image_of c.loop-i.page) (c.loop-i.invariant.so_far color table) (omega arith) refl
+returns-clause-reads g c = λ color table. gathering_ends (image_of c.loop-i.page) (c.loop-i.invariant.so_far color table) (omega arith) refl

@@ -5,7 +5,7 @@ use Rattle.bitmap_input.specs.Raw.{Entry, black}
 use Rattle.bitmap_input.specs.BmpRaster.{color_row}
 use Rattle.bitmap_input.specs.BmpHead.{IsPaletteTable, bits_in, row_place, row_bytes_by}
 use Rattle.bitmap_input.specs.Raster.{with_placed}
-use Rattle.bitmap_input.proofs.Painting.{IsPaintedSoFar}
+use Rattle.bitmap_input.proofs.Gathering.{IsGatheredSoFar}
 use Rattle.bitmap_input.proofs.bmp.pixels.read_rows.Given as goal
 
 abbrev pub invariant-loop-i : goal.invariant-loop-i
@@ -13,7 +13,7 @@ invariant-loop-i g l =
     let source = g.I.Inputs in
     record {
       so_far : (color : ℕ → Entry) → IsPaletteTable l.tone.level l.tone.invert color l.table →
-          IsPaintedSoFar (color_row (row_bytes_by l.header) (bits_in l.header.depth) color l.fn.page.width) l.fn.window (source.files l.fn.inputs)
+          IsGatheredSoFar (color_row (row_bytes_by l.header) (bits_in l.header.depth) color l.fn.page.width) l.fn.window (source.files l.fn.inputs)
           (λ rows. with_placed (row_place l.header.top_down l.fn.page.height) (image_of l.fn.page) 0 (map (map (black l.tone.level l.tone.invert)) rows)) l.fn.page.height
           l.window (source.files l.inputs)
           (λ rows. with_placed (row_place l.header.top_down l.fn.page.height) (image_of l.page) l.i (map (map (black l.tone.level l.tone.invert)) rows)) (l.fn.page.height - l.i);
