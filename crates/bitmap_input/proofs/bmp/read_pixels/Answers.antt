@@ -23,4 +23,4 @@ returns-in_err-read_rows-clause-reads g c =
 
 pub returns-clause-reads : goal.returns-clause-reads
 returns-clause-reads g c = λ color table. picture_shown c.args.tone.now.level c.args.tone.now.invert c.args.header.now color c.in_ok-page.page _
-    c.in_ok-page.ensures.width c.in_ok-page.ensures.height c.in_ok-page.ensures.maxval c.in_ok-read_rows.ensures.sides c.known.ensures (c.in_ok-read_rows.ensures.reads color table)
+    c.in_ok-page.ensures.width c.in_ok-page.ensures.height c.in_ok-page.ensures.white c.in_ok-read_rows.ensures.sides c.known.ensures (c.in_ok-read_rows.ensures.reads color table)

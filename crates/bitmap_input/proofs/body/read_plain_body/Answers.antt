@@ -31,4 +31,4 @@ pub returns-clause-reads : goal.returns-clause-reads
 returns-clause-reads g c level =
     reads_on sides_stay c.in_ok-sides.ensures.reads
     (λ s is. rows_shown level c.args.invert (λ b. Bit b) (differ c.args.invert) (repeated plain_pixel) c.in_ok-page.page c.in_ok-sides.sides s is c.in_ok-page.ensures.width c.in_ok-page.ensures.height
-    c.read_plain_rows.new.page (λ _. refl) c.in_ok-page.ensures.maxval c.in_ok-read_plain_rows.ensures.sides c.known.ensures c.in_ok-read_plain_rows.ensures.reads)
+    c.read_plain_rows.new.page (λ _. refl) c.in_ok-page.ensures.white c.in_ok-read_plain_rows.ensures.sides c.known.ensures c.in_ok-read_plain_rows.ensures.reads)

@@ -53,4 +53,4 @@ returns-clause-reads g c =
     (λ s is. reads_on maxval_stays c.in_ok-maxval.ensures.reads
     (λ n same. rw same (rows_shown level invert (as_entry kind maxval) (λ a. differ invert (nat_le (brightness kind a) c.brightest_black.result)) (repeated (plain_samples kind))
     c.in_ok-page.page c.in_ok-sides.sides s is c.in_ok-page.ensures.width c.in_ok-page.ensures.height
-    c.read_plain_sample_rows.new.page (λ a. ap (differ invert) (c.brightest_black.ensures.black a)) c.in_ok-page.ensures.maxval c.in_ok-read_plain_sample_rows.ensures.sides c.known.ensures c.in_ok-read_plain_sample_rows.ensures.reads)))
+    c.read_plain_sample_rows.new.page (λ a. ap (differ invert) (c.brightest_black.ensures.black a)) c.in_ok-page.ensures.white c.in_ok-read_plain_sample_rows.ensures.sides c.known.ensures c.in_ok-read_plain_sample_rows.ensures.reads)))

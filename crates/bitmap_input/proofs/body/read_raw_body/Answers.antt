@@ -41,4 +41,4 @@ returns-clause-reads g c level =
     reads_on sides_stay c.in_ok-sides.ensures.reads
     (λ s is. reads_on space_stays c.in_ok-skip_space.ensures.reads
     (λ _ _. rows_shown level c.args.invert (λ b. Bit b) (differ c.args.invert) raw_row c.in_ok-page.page c.in_ok-sides.sides s is c.in_ok-page.ensures.width c.in_ok-page.ensures.height
-    c.read_raw_rows.new.page (λ _. refl) c.in_ok-page.ensures.maxval c.in_ok-read_raw_rows.ensures.sides c.known.ensures c.in_ok-read_raw_rows.ensures.reads))
+    c.read_raw_rows.new.page (λ _. refl) c.in_ok-page.ensures.white c.in_ok-read_raw_rows.ensures.sides c.known.ensures c.in_ok-read_raw_rows.ensures.reads))

@@ -71,4 +71,4 @@ returns-clause-reads g c =
     (λ n same. rw same (reads_on space_stays c.in_ok-skip_space.ensures.reads
     (λ _ _. rows_shown level invert (as_entry kind maxval) (λ a. differ invert (nat_le (brightness kind a) c.brightest_black.result)) (raw_samples_row kind maxval)
     c.in_ok-page.page c.in_ok-sides.sides s is c.in_ok-page.ensures.width c.in_ok-page.ensures.height
-    c.read_raw_sample_rows.new.page (λ a. ap (differ invert) (c.brightest_black.ensures.black a)) c.in_ok-page.ensures.maxval c.in_ok-read_raw_sample_rows.ensures.sides c.known.ensures c.in_ok-read_raw_sample_rows.ensures.reads))))
+    c.read_raw_sample_rows.new.page (λ a. ap (differ invert) (c.brightest_black.ensures.black a)) c.in_ok-page.ensures.white c.in_ok-read_raw_sample_rows.ensures.sides c.known.ensures c.in_ok-read_raw_sample_rows.ensures.reads))))
