@@ -10,23 +10,21 @@ use Rattle.straight_paths.specs.declared.quarter.Quarter.{Quarter}
 use Rattle.straight_paths.specs.declared.strip.Extent.{Extent}
 use Rattle.straight_paths.specs.declared.strip.Strip.{Strip}
 
--- along the way, with so much room to the right of the extent
-abbrev pub strip_by : Quarter → Vector → Extent → ℤ → ℤ → Strip
-strip_by quarter way extent breadth room = record {
+-- along the way, no broader than the extent
+abbrev pub strip_by : Quarter → Vector → Extent → ℤ → Strip
+strip_by quarter way extent breadth = record {
   quarter = quarter;
   way = way;
   breadth = breadth;
-  at = room -ℤ extent.across.least;
+  across = extent.across;
   back = record { x = pos 0 -ℤ extent.right.least; y = pos 0 -ℤ extent.up.least };
 }
 
-module _ (quarter : Quarter) (way : Vector) (extent : Extent) (breadth room : ℤ) (small : IsSmallExtent extent)
-    (some : pos 0 ≤ℤ room) (rest : room ≤ℤ (breadth -ℤ (extent.across.greatest -ℤ extent.across.least))) where
+module _ (quarter : Quarter) (way : Vector) (extent : Extent) (breadth : ℤ) (small : IsSmallExtent extent)
+    (narrow : (extent.across.greatest -ℤ extent.across.least) ≤ℤ breadth) where
   pub is_strip : IsQuarter quarter → IsShort 65535 way → pos 0 ≤ℤ (quarter.right *ℤ way.x) → pos 0 ≤ℤ (quarter.up *ℤ way.y)
-      → breadth ≡ far_of quarter way → pos 0 <ℤ breadth → IsStrip (strip_by quarter way extent breadth room)
+      → breadth ≡ far_of quarter way → pos 0 <ℤ breadth → IsStrip (strip_by quarter way extent breadth)
   is_strip is_quarter short right up is goes =
-      let least = small.across.least.most in
-      let greatest = small.across.greatest.least in
       let x_least = small.right.least.least in
       let x_most = small.right.least.most in
       let y_least = small.up.least.least in
@@ -38,17 +36,16 @@ module _ (quarter : Quarter) (way : Vector) (extent : Extent) (breadth room : �
         up = up;
         breadth = is;
         some = goes;
-        at = record { least = omega (arith, ints); most = omega (arith, ints) };
+        least = small.across.least.most;
+        greatest = small.across.greatest.least;
+        narrow = narrow;
         back_x = record { least = omega (arith, ints); most = omega (arith, ints) };
         back_y = record { least = omega (arith, ints); most = omega (arith, ints) };
       }
 
-  pub stays_in : (path : ℕ → Point) (count : ℕ) → IsExtent quarter way path count extent → StaysIn (strip_by quarter way extent breadth room) path count
+  pub stays_in : (path : ℕ → Point) (count : ℕ) → IsExtent quarter way path count extent → StaysIn (strip_by quarter way extent breadth) path count
   stays_in path count is = record {
-    inside = λ k h.
-        let least = (is.across k h).least in
-        let most = (is.across k h).most in
-        record { least = omega (arith, ints); most = omega (arith, ints) };
+    inside = is.across;
     right = is.on_right;
     up = is.on_up;
     back_x = λ k h. let least = (is.right k h).least in omega (arith, ints);

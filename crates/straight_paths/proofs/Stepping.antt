@@ -8,16 +8,17 @@ use Rattle.straight_paths.specs.Corners.{step_from}
 use Rattle.straight_paths.specs.Cones.{cross_of}
 use Rattle.straight_paths.specs.Strips.{IsFromTo, IsOnward, IsStrip, StaysIn, across_at, right_at, up_at}
 use Rattle.straight_paths.specs.declared.vector.Vector.{Vector}
+use Rattle.straight_paths.specs.declared.strip.Span.{Span}
 use Rattle.straight_paths.specs.declared.strip.Strip.{Strip}
 use Rattle.straight_paths.proofs.Pieces.{rest_of}
 
 -- the strip as it is seen from there
-abbrev pub seen_from : Strip → ℤ → ℤ → ℤ → Strip
-seen_from strip at x y = record {
+abbrev pub seen_from : Strip → Span → ℤ → ℤ → Strip
+seen_from strip across x y = record {
   quarter = strip.quarter;
   way = strip.way;
   breadth = strip.breadth;
-  at = at;
+  across = across;
   back = record { x = x; y = y };
 }
 
@@ -66,24 +67,24 @@ module _ (f g : ℕ → ℤ) (c : ℤ) (start : f 0 ≡ pos 0) (later : (k : ℕ
       let d = behind k (omega arith) in
       omega (arith, ints)
 
-  pub inside_before : (at new breadth : ℤ) → ((k : ℕ) → k ≤ count → IsFromTo (pos 0) breadth (at +ℤ g k)) → new ≡ at -ℤ c
-      → IsFromTo (pos 0) breadth new → (k : ℕ) → k ≤ suc count → IsFromTo (pos 0) breadth (new +ℤ f k)
-  inside_before at new breadth old is here zero h =
-      let least = here.least in
-      let most = here.most in
-      record { least = omega (arith, ints); most = omega (arith, ints) }
-  inside_before at new breadth old is here (suc k) h =
+  pub inside_before : (old new : Span) → ((k : ℕ) → k ≤ count → IsFromTo old.least old.greatest (g k))
+      → new.least ≤ℤ pos 0 → pos 0 ≤ℤ new.greatest → new.least ≤ℤ (old.least +ℤ c) → (old.greatest +ℤ c) ≤ℤ new.greatest
+      → (k : ℕ) → k ≤ suc count → IsFromTo new.least new.greatest (f k)
+  inside_before old new is low high least greatest zero h = record { least = omega (arith, ints); most = omega (arith, ints) }
+  inside_before old new is low high least greatest (suc k) h =
       let e = later k in
-      let least = (old k (omega arith)).least in
-      let most = (old k (omega arith)).most in
+      let here = is k (omega arith) in
+      let here_least = here.least in
+      let here_most = here.most in
       record { least = omega (arith, ints); most = omega (arith, ints) }
 
-pub stays_before : (strip : Strip) (at x y : ℤ) (step : Vector) (path : ℕ → Point) (count : ℕ) → step ≡ step_from path 0
-    → at ≡ strip.at -ℤ cross_of strip.way step → IsFromTo (pos 0) strip.breadth at
+pub stays_before : (strip : Strip) (across : Span) (x y : ℤ) (step : Vector) (path : ℕ → Point) (count : ℕ) → step ≡ step_from path 0
+    → across.least ≤ℤ pos 0 → pos 0 ≤ℤ across.greatest
+    → across.least ≤ℤ (strip.across.least +ℤ cross_of strip.way step) → (strip.across.greatest +ℤ cross_of strip.way step) ≤ℤ across.greatest
     → pos 0 ≤ℤ x → (strip.back.x -ℤ strip.quarter.right *ℤ step.x) ≤ℤ x → x ≤ℤ pos 1
     → pos 0 ≤ℤ y → (strip.back.y -ℤ strip.quarter.up *ℤ step.y) ≤ℤ y → y ≤ℤ pos 1
-    → StaysIn strip (rest_of path) count → StaysIn (seen_from strip at x y) path (suc count)
-stays_before strip at x y step path count is at_is here x_some x_more x_most y_some y_more y_most stays =
+    → StaysIn strip (rest_of path) count → StaysIn (seen_from strip across x y) path (suc count)
+stays_before strip across x y step path count is low high least greatest x_some x_more x_most y_some y_more y_most stays =
     let q = strip.quarter in
     let w = strip.way in
     let p = path 0 in
@@ -91,7 +92,8 @@ stays_before strip at x y step path count is at_is here x_some x_more x_most y_s
     let c : ℤ = cross_of w (step_from path 0) in
     let cx : ℤ = q.right *ℤ (step_from path 0).x in
     let cy : ℤ = q.up *ℤ (step_from path 0).y in
-    let at_by : at ≡ strip.at -ℤ c = subst (λ (o : Vector). at ≡ strip.at -ℤ cross_of w o) is at_is in
+    let least_by : across.least ≤ℤ (strip.across.least +ℤ c) = subst (λ (o : Vector). across.least ≤ℤ (strip.across.least +ℤ cross_of w o)) is least in
+    let greatest_by : (strip.across.greatest +ℤ c) ≤ℤ across.greatest = subst (λ (o : Vector). (strip.across.greatest +ℤ cross_of w o) ≤ℤ across.greatest) is greatest in
     let x_by : (strip.back.x -ℤ cx) ≤ℤ x = subst (λ (o : Vector). (strip.back.x -ℤ q.right *ℤ o.x) ≤ℤ x) is x_more in
     let y_by : (strip.back.y -ℤ cy) ≤ℤ y = subst (λ (o : Vector). (strip.back.y -ℤ q.up *ℤ o.y) ≤ℤ y) is y_more in
     let across_start : across_at w path 0 ≡ pos 0 = cross_start w.x w.y p.x p.y in
@@ -101,23 +103,26 @@ stays_before strip at x y step path count is at_is here x_some x_more x_most y_s
     let right_later = λ (k : ℕ). part_by q.right (path (suc k)).x p.x n.x in
     let up_later = λ (k : ℕ). part_by q.up (path (suc k)).y p.y n.y in
     record {
-      inside = inside_before (across_at w path) (across_at w (rest_of path)) c across_start across_later count strip.at at strip.breadth stays.inside at_by here;
+      inside = inside_before (across_at w path) (across_at w (rest_of path)) c across_start across_later count strip.across across stays.inside low high least_by greatest_by;
       right = onward_before (right_at q path) (right_at q (rest_of path)) cx right_start right_later count strip.back.x stays.right stays.back_x (omega (arith, ints));
       up = onward_before (up_at q path) (up_at q (rest_of path)) cy up_start up_later count strip.back.y stays.up stays.back_y (omega (arith, ints));
       back_x = back_before (right_at q path) (right_at q (rest_of path)) cx right_start right_later count strip.back.x x stays.back_x x_some x_by;
       back_y = back_before (up_at q path) (up_at q (rest_of path)) cy up_start up_later count strip.back.y y stays.back_y y_some y_by;
     }
 
-pub strip_before : (strip : Strip) (at x y : ℤ) → IsStrip strip → IsFromTo (pos 0) strip.breadth at → IsFromTo (pos 0) (pos 1) x → IsFromTo (pos 0) (pos 1) y
-    → IsStrip (seen_from strip at x y)
-strip_before strip at x y is here in_x in_y = record {
+pub strip_before : (strip : Strip) (across : Span) (x y : ℤ) → IsStrip strip
+    → across.least ≤ℤ pos 0 → pos 0 ≤ℤ across.greatest → (across.greatest -ℤ across.least) ≤ℤ strip.breadth
+    → IsFromTo (pos 0) (pos 1) x → IsFromTo (pos 0) (pos 1) y → IsStrip (seen_from strip across x y)
+strip_before strip across x y is low high narrow in_x in_y = record {
   quarter = is.quarter;
   short = is.short;
   right = is.right;
   up = is.up;
   breadth = is.breadth;
   some = is.some;
-  at = here;
+  least = low;
+  greatest = high;
+  narrow = narrow;
   back_x = in_x;
   back_y = in_y;
 }

@@ -1,7 +1,7 @@
 -- Strips of the plane that are as broad as a line drawn in pixels: from one border to the other the cross product
 -- with the strip's way grows by what the way goes along rows and columns together (Reveillès' standard digital lines,
 -- 1991, with both borders).
-use Rattle.std.specs.Prelude.{◌≡◌, ℕ, ◌≤◌, ◌^◌, ℤ, pos, negsuc, neg_ℤ, ◌+ℤ◌, ◌*ℤ◌, ◌≤ℤ◌, ◌<ℤ◌}
+use Rattle.std.specs.Prelude.{◌≡◌, ℕ, ◌≤◌, ◌^◌, ℤ, pos, negsuc, neg_ℤ, ◌+ℤ◌, ◌-ℤ◌, ◌*ℤ◌, ◌≤ℤ◌, ◌<ℤ◌}
 use Rattle.pt_base.specs.declared.point.Point.{Point}
 use Rattle.straight_paths.specs.Cones.{cross_of, IsShort}
 use Rattle.straight_paths.specs.Tails.{way_along}
@@ -17,7 +17,8 @@ pub record IsFromTo (low high z : ℤ) : Type 0 where
   pub least : low ≤ℤ z
   pub most : z ≤ℤ high
 
--- the strip's way is short and goes into its quarter, and the point from which it is seen lies in it
+-- the strip's way is short and goes into its quarter, the point from which it is seen lies in it, and it isn't broader
+-- than the way allows
 pub record IsStrip (strip : Strip) : Type 0 where
   pub quarter : IsQuarter strip.quarter
   pub short : IsShort 65535 strip.way
@@ -25,7 +26,9 @@ pub record IsStrip (strip : Strip) : Type 0 where
   pub up : pos 0 ≤ℤ (strip.quarter.up *ℤ strip.way.y)
   pub breadth : strip.breadth ≡ far_of strip.quarter strip.way
   pub some : pos 0 <ℤ strip.breadth
-  pub at : IsFromTo (pos 0) strip.breadth strip.at
+  pub least : strip.across.least ≤ℤ pos 0
+  pub greatest : pos 0 ≤ℤ strip.across.greatest
+  pub narrow : (strip.across.greatest -ℤ strip.across.least) ≤ℤ strip.breadth
   pub back_x : IsFromTo (pos 0) (pos 1) strip.back.x
   pub back_y : IsFromTo (pos 0) (pos 1) strip.back.y
 
@@ -46,7 +49,7 @@ up_at quarter path k = quarter.up *ℤ (way_along path k).y
 -- the path's first `count` steps stay in the strip, never go back in its quarter by more than 1, and never farther
 -- behind the start than the strip says
 pub record StaysIn (strip : Strip) (path : ℕ → Point) (count : ℕ) : Type 0 where
-  pub inside : (k : ℕ) → k ≤ count → IsFromTo (pos 0) strip.breadth (strip.at +ℤ across_at strip.way path k)
+  pub inside : (k : ℕ) → k ≤ count → IsFromTo strip.across.least strip.across.greatest (across_at strip.way path k)
   pub right : IsOnward (right_at strip.quarter path) count
   pub up : IsOnward (up_at strip.quarter path) count
   pub back_x : (k : ℕ) → k ≤ count → neg_ℤ strip.back.x ≤ℤ right_at strip.quarter path k

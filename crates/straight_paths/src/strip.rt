@@ -3,7 +3,7 @@
 // A path that goes back by 1 at most and stays in such a strip is clear: of three of its points the middle one is
 // near the half-line from the first to the last. A strip that holds what is straight from a point on mostly holds
 // the point before as well, so one sum tells that nothing ends sooner there.
-ghost use Rattle.std.specs.Prelude.{◌≡◌, ◌⊎◌, ◌+◌, ◌^◌, ◌<◌, ◌≤◌, ◌+ℤ◌, ◌*ℤ◌, neg_ℤ, ◌≤ℤ◌, ℕ, ℤ, suc, pos, length, IfSome};
+ghost use Rattle.std.specs.Prelude.{◌≡◌, ◌⊎◌, ◌+◌, ◌^◌, ◌<◌, ◌≤◌, ◌+ℤ◌, ◌*ℤ◌, neg_ℤ, ◌≤ℤ◌, ℕ, ℤ, suc, pos, length, unsigned_abs, IfSome};
 ghost use Rattle.pt_base.specs.declared.point.Point.{Point};
 ghost use Rattle.straight_paths.specs.Cones.{IsShort};
 ghost use Rattle.straight_paths.specs.Corners.{step_from};
@@ -20,17 +20,21 @@ use crate::vector::Vector;
 /// A subpath of fewer steps gets the strip along its chord alone.
 const SHORT: usize = 8;
 
-/// A strip, as it is seen from a point of the path in it. A place lies in it where the cross product of the strip's
-/// way with the way to the place is from `-at` to `breadth - at`.
+/// A strip, as it is seen from a point of the path in it. A place lies in it where the cross product of the strip's way
+/// with the way to the place is one of `across`.
+//
+// Its borders are as near as the path lets them be, so that it may still be shifted to either side: a point that is
+// beyond one of them is taken in as long as the strip isn't broader than its way allows. Borders that are fixed
+// where the strip is found, with as much room on the one side as on the other, held fewer points.
 #[derive(Clone, Copy)]
 pub(crate) struct Strip {
     /// The quarter into which its way goes.
     pub quarter: Quarter,
     pub way: Vector,
-    /// What the way goes along rows and columns together.
+    /// What the way goes along rows and columns together: what a strip may be broad.
     pub breadth: i64,
-    /// How far the point is from the border on its right.
-    pub at: i64,
+    /// How far the path goes across the way, to each side of the point.
+    pub across: Span,
     /// How far later points are behind this one at most, along rows and along columns: 0 or 1.
     pub back: Vector,
 }
@@ -51,7 +55,8 @@ pub(crate) struct Extent {
 }
 
 impl Strip {
-    /// The same seen from one step earlier, if that point lies in it and later ones are behind it by 1 at most.
+    /// The same seen from one step earlier, if it isn't too broad with that point and later ones are behind the point by
+    /// 1 at most.
     pub(crate) fn earlier(self, step: Vector) -> Option<Strip>
         requires strip { IsStrip self }
         requires step { IsShort 1 step }
@@ -59,11 +64,8 @@ impl Strip {
         ensures stays { IfSome result (λ strip. (path : ℕ → Point) (count : ℕ) → step ≡ step_from path 0
             → StaysIn self (λ k. path (suc k)) count → StaysIn strip path (count + 1)) }
     {
-        let at = self.at - self.way.cross(step);
-        if at < 0 {
-            return None;
-        }
-        if self.breadth < at {
+        let across = self.across.shifted(self.way.cross(step));
+        if self.breadth < across.greatest - across.least {
             return None;
         }
         let onward = self.quarter.turned(step);
@@ -79,7 +81,7 @@ impl Strip {
             quarter: self.quarter,
             way: self.way,
             breadth: self.breadth,
-            at,
+            across,
             back: Vector {
                 x: back_x,
                 y: back_y,
@@ -96,6 +98,20 @@ impl Span {
         Span {
             least: 0,
             greatest: 0,
+        }
+    }
+
+    /// Of the numbers that are greater by so much, and of 0.
+    fn shifted(self, by: i64) -> Span
+        requires small { IsSpan (neg_ℤ (pos 131072)) (pos 131072) self }
+        requires by { unsigned_abs by ≤ 131072 }
+        ensures small { IsSpan (neg_ℤ (pos 262144)) (pos 262144) result }
+        ensures least { result.least ≤ℤ (self.least +ℤ by) }
+        ensures greatest { (self.greatest +ℤ by) ≤ℤ result.greatest }
+    {
+        Span {
+            least: lesser(0, self.least + by),
+            greatest: greater(0, self.greatest + by),
         }
     }
 
@@ -159,8 +175,7 @@ impl Extent {
         })
     }
 
-    /// The strip along the way that takes in all of it, with as much room on the one side as on the other, if there
-    /// is one.
+    /// The strip along the way that takes in all of it, if there is one.
     fn strip(self, quarter: Quarter, way: Vector) -> Option<Strip>
         requires small { IsSmallExtent self }
         requires quarter { IsQuarter quarter }
@@ -175,15 +190,14 @@ impl Extent {
         if breadth < 1 {
             return None;
         }
-        let room = breadth - (self.across.greatest - self.across.least);
-        if room < 0 {
+        if breadth < self.across.greatest - self.across.least {
             return None;
         }
         Some(Strip {
             quarter,
             way,
             breadth,
-            at: half(room) - self.across.least,
+            across: self.across,
             back: Vector {
                 x: -self.right.least,
                 y: -self.up.least,
@@ -192,13 +206,13 @@ impl Extent {
     }
 }
 
-/// Half of a number, rounded down.
-fn half(number: i64) -> i64
-    requires { pos 0 ≤ℤ number }
-    ensures some { pos 0 ≤ℤ result }
-    ensures most { result ≤ℤ number }
+/// The lesser of two numbers.
+fn lesser(a: i64, b: i64) -> i64
+    ensures first { result ≤ℤ a }
+    ensures second { result ≤ℤ b }
+    ensures one { (result ≡ a) ⊎ (result ≡ b) }
 {
-    number / 2
+    if b < a { b } else { a }
 }
 
 /// The greater of two numbers.
@@ -214,9 +228,9 @@ fn greater(a: i64, b: i64) -> i64
 /// along the chord, and along the ways farthest to the left and to the right.
 //
 // Found by trial, it needs no lemma on which is best: the path is looked at once more, a corner at a time, for how
-// far it goes across a way to both sides, and where that is no more than the breadth the strip lies round it with as
-// much room on the one side as on the other, so that it lasts. The price: a strip is no longer than its numbers say,
-// and on ragged rims it holds two or three points, so that half of the points are still scanned.
+// far it goes across a way to both sides, and where that is no more than the breadth it is a strip. The price: a strip
+// is no longer than its numbers say, and on ragged rims it holds two or three points, so that two points of five are
+// still scanned.
 pub(crate) fn strip_from(track: &Track, first: usize, steps: usize) -> Option<Strip>
     requires first { first < length track.now }
     requires steps { steps < length track.now }

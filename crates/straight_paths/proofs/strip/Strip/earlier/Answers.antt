@@ -1,9 +1,9 @@
-use Rattle.std.proofs.Common.{◌≡◌, ℕ, suc, false, ◌+◌, ◌≤◌, ℤ, pos, ◌-ℤ◌, ◌*ℤ◌, ◌≤ℤ◌, unsigned_abs, FitsSigned, w64, to_z, of_z, inl, inr, ap, sym, subst, arith}
+use Rattle.std.proofs.Common.{◌≡◌, ℕ, suc, false, ◌+◌, ◌≤◌, ℤ, pos, neg_ℤ, ◌+ℤ◌, ◌-ℤ◌, ◌*ℤ◌, ◌≤ℤ◌, ◌<ℤ◌, unsigned_abs, FitsSigned, w64, to_z, of_z, inl, inr, sym, subst, arith}
 use Rattle.std.proofs.lemmas.Int.{ints, to_z-of_z}
 use Rattle.std.specs.Int.Signed.{lt_z}
 use Rattle.pt_base.proofs.Sizes.{product_most}
 use Rattle.straight_paths.specs.Cones.{IsShort, cross_of}
-use Rattle.straight_paths.specs.Strips.{IsFromTo, IsStrip}
+use Rattle.straight_paths.specs.Strips.{IsFromTo, IsSpan, IsStrip}
 use Rattle.straight_paths.specs.Wedges.{IsSign}
 use Rattle.straight_paths.specs.declared.vector.Vector.{Vector}
 use Rattle.straight_paths.specs.declared.strip.Strip.{Strip}
@@ -30,44 +30,65 @@ cross_most way step z short unit is =
     let q = product_most way.y step.x 65535 1 short.y unit.x in
     omega (arith, ints)
 
-pub overflow_sub-at : goal.overflow_sub-at
-overflow_sub-at c =
-    let strip = c.requires.strip in
-    let least = strip.at.least in
-    let most = strip.at.most in
-    let breadth = breadth_most c.args.self strip in
-    let cross = cross_most c.args.self.way c.args.step c.cross.result strip.short c.requires.step c.cross.ensures in
+-- how far the path goes to each side, as small numbers
+across_small : (strip : Strip) → IsStrip strip → IsSpan (neg_ℤ (pos 131072)) (pos 131072) strip.across
+across_small strip is =
+    let least = is.least in
+    let greatest = is.greatest in
+    let narrow = is.narrow in
+    let breadth = breadth_most strip is in
+    record {
+      least = record { least = omega (arith, ints); most = least };
+      greatest = record { least = greatest; most = omega (arith, ints) };
+    }
+
+pub shifted-across-requires-clause-small : goal.shifted-across-requires-clause-small
+shifted-across-requires-clause-small c =
+    across_small c.args.self c.requires.strip
+
+pub shifted-across-requires-clause-by : goal.shifted-across-requires-clause-by
+shifted-across-requires-clause-by c =
+    let cross = cross_most c.args.self.way c.args.step c.cross.result c.requires.strip.short c.requires.step c.cross.ensures in
+    omega (arith, ints)
+
+pub overflow_sub-across : goal.overflow_sub-across
+overflow_sub-across c =
+    let a = c.shifted-across.ensures.small.least.least in
+    let b = c.shifted-across.ensures.small.least.most in
+    let d = c.shifted-across.ensures.small.greatest.least in
+    let e = c.shifted-across.ensures.small.greatest.most in
     omega (arith, ints)
 
 -- one step in the quarter
 onward_most : (s z r : ℤ) → IsSign s → unsigned_abs z ≤ 1 → r ≡ s *ℤ z → unsigned_abs r ≤ 1
 onward_most s z r sign small is = let P : ℤ → Type 0 = λ u. unsigned_abs u ≤ 1 in subst P (sym is) (sign_most s z 1 sign small)
 
+back_fits : (b o : ℤ) → IsFromTo (pos 0) (pos 1) b → unsigned_abs o ≤ 1 → FitsSigned w64 (to_z w64 (of_z w64 b) -ℤ to_z w64 (of_z w64 o))
+back_fits b o behind small =
+    let least = behind.least in
+    let most = behind.most in
+    omega (arith, ints)
+
 pub overflow_sub-self : goal.overflow_sub-self
 overflow_sub-self c =
-    let strip = c.requires.strip in
-    let least = strip.back_x.least in
-    let most = strip.back_x.most in
-    let onward = onward_most _ _ c.turned-onward.result.x strip.quarter.right c.requires.step.x c.turned-onward.ensures.x in
-    omega (arith, ints)
+    back_fits c.args.self.back.x c.turned-onward.result.x c.requires.strip.back_x
+    (onward_most _ _ c.turned-onward.result.x c.requires.strip.quarter.right c.requires.step.x c.turned-onward.ensures.x)
 
 pub overflow_sub-self-2 : goal.overflow_sub-self-2
 overflow_sub-self-2 c =
-    let strip = c.requires.strip in
-    let least = strip.back_y.least in
-    let most = strip.back_y.most in
-    let onward = onward_most _ _ c.turned-onward.result.y strip.quarter.up c.requires.step.y c.turned-onward.ensures.y in
-    omega (arith, ints)
+    back_fits c.args.self.back.y c.turned-onward.result.y c.requires.strip.back_y
+    (onward_most _ _ c.turned-onward.result.y c.requires.strip.quarter.up c.requires.step.y c.turned-onward.ensures.y)
 
 -- what the tests tell, in whole numbers
-at_tested : (at cross breadth : ℤ) → IsFromTo (pos 0) breadth at → breadth ≤ℤ pos 131070 → unsigned_abs cross ≤ 131070
-    → lt_z (to_z w64 (of_z w64 (to_z w64 (of_z w64 at) -ℤ to_z w64 (of_z w64 cross)))) (pos 0) ≡ false
-    → lt_z (to_z w64 (of_z w64 breadth)) (to_z w64 (of_z w64 (to_z w64 (of_z w64 at) -ℤ to_z w64 (of_z w64 cross)))) ≡ false
-    → IsFromTo (pos 0) breadth (at -ℤ cross)
-at_tested at cross breadth here most small above below =
-    let least = here.least in
-    let greatest = here.most in
-    record { least = omega (arith, ints); most = omega (arith, ints) }
+narrow_tested : (l g breadth : ℤ) → IsFromTo (neg_ℤ (pos 262144)) (pos 0) l → IsFromTo (pos 0) (pos 262144) g → pos 0 <ℤ breadth → breadth ≤ℤ pos 131070
+    → lt_z (to_z w64 (of_z w64 breadth)) (to_z w64 (of_z w64 (to_z w64 (of_z w64 g) -ℤ to_z w64 (of_z w64 l)))) ≡ false
+    → (g -ℤ l) ≤ℤ breadth
+narrow_tested l g breadth in_l in_g some most tested =
+    let a = in_l.least in
+    let b = in_l.most in
+    let d = in_g.least in
+    let e = in_g.most in
+    omega (arith, ints)
 
 back_tested : (b o r : ℤ) → IsFromTo (pos 0) (pos 1) b → unsigned_abs o ≤ 1 → FitsSigned w64 r → pos 0 ≤ℤ r
     → to_z w64 (of_z w64 (to_z w64 (of_z w64 b) -ℤ to_z w64 (of_z w64 o))) ≤ℤ r → lt_z (pos 1) (to_z w64 (of_z w64 r)) ≡ false
@@ -80,51 +101,53 @@ back_tested b o r behind small fits some more most =
 pub returns-clause-strip : goal.returns-clause-strip
 returns-clause-strip c =
     let strip = c.requires.strip in
-    let least = strip.at.least in
-    let most = strip.at.most in
     let some = strip.some in
     let breadth = breadth_most c.args.self strip in
-    let cross = cross_most c.args.self.way c.args.step c.cross.result strip.short c.requires.step c.cross.ensures in
+    let small = c.shifted-across.ensures.small in
     let onward_x = onward_most _ _ c.turned-onward.result.x strip.quarter.right c.requires.step.x c.turned-onward.ensures.x in
     let onward_y = onward_most _ _ c.turned-onward.result.y strip.quarter.up c.requires.step.y c.turned-onward.ensures.y in
     let f1 : FitsSigned w64 c.args.self.breadth = omega (arith, ints) in
-    let f2 : FitsSigned w64 c.args.self.at = omega (arith, ints) in
-    let f3 : FitsSigned w64 c.cross.result = omega (arith, ints) in
-    let f4 : FitsSigned w64 (c.args.self.at -ℤ c.cross.result) = omega (arith, ints) in
     let f5 : FitsSigned w64 c.greater-back_x.result = omega (arith, ints) in
     let f6 : FitsSigned w64 c.greater-back_y.result = omega (arith, ints) in
-    let here = at_tested c.args.self.at c.cross.result c.args.self.breadth strip.at breadth cross c.if-at-lt0.false c.if-self-at.false in
+    let narrow = narrow_tested c.shifted-across.result.least c.shifted-across.result.greatest c.args.self.breadth small.least small.greatest some breadth
+    c.if-self-across.false in
     let back_x = back_tested c.args.self.back.x c.turned-onward.result.x c.greater-back_x.result strip.back_x onward_x f5
     c.greater-back_x.ensures.first c.greater-back_x.ensures.second c.if-back_x-gt1.false in
     let back_y = back_tested c.args.self.back.y c.turned-onward.result.y c.greater-back_y.result strip.back_y onward_y f6
     c.greater-back_y.ensures.first c.greater-back_y.ensures.second c.if-back_y-gt1.false in
-    simp to_z-of_z (strip_before c.args.self (c.args.self.at -ℤ c.cross.result) c.greater-back_x.result c.greater-back_y.result strip here back_x.1 back_y.1)
+    simp to_z-of_z (strip_before c.args.self c.shifted-across.result c.greater-back_x.result c.greater-back_y.result strip
+    small.least.most small.greatest.least narrow back_x.1 back_y.1)
 
 pub returns-clause-stays : goal.returns-clause-stays
 returns-clause-stays c = λ path count is stays.
     let strip = c.requires.strip in
-    let least = strip.at.least in
-    let most = strip.at.most in
     let some = strip.some in
     let breadth = breadth_most c.args.self strip in
+    let small = c.shifted-across.ensures.small in
+    let span = across_small c.args.self strip in
+    let l_least = span.least.least in
+    let l_most = span.least.most in
+    let g_least = span.greatest.least in
+    let g_most = span.greatest.most in
     let cross = cross_most c.args.self.way c.args.step c.cross.result strip.short c.requires.step c.cross.ensures in
     let onward_x = onward_most _ _ c.turned-onward.result.x strip.quarter.right c.requires.step.x c.turned-onward.ensures.x in
     let onward_y = onward_most _ _ c.turned-onward.result.y strip.quarter.up c.requires.step.y c.turned-onward.ensures.y in
     let f1 : FitsSigned w64 c.args.self.breadth = omega (arith, ints) in
-    let f2 : FitsSigned w64 c.args.self.at = omega (arith, ints) in
-    let f3 : FitsSigned w64 c.cross.result = omega (arith, ints) in
-    let f4 : FitsSigned w64 (c.args.self.at -ℤ c.cross.result) = omega (arith, ints) in
     let f5 : FitsSigned w64 c.greater-back_x.result = omega (arith, ints) in
     let f6 : FitsSigned w64 c.greater-back_y.result = omega (arith, ints) in
-    let here = at_tested c.args.self.at c.cross.result c.args.self.breadth strip.at breadth cross c.if-at-lt0.false c.if-self-at.false in
     let back_x = back_tested c.args.self.back.x c.turned-onward.result.x c.greater-back_x.result strip.back_x onward_x f5
     c.greater-back_x.ensures.first c.greater-back_x.ensures.second c.if-back_x-gt1.false in
     let back_y = back_tested c.args.self.back.y c.turned-onward.result.y c.greater-back_y.result strip.back_y onward_y f6
     c.greater-back_y.ensures.first c.greater-back_y.ensures.second c.if-back_y-gt1.false in
-    let at_is : (c.args.self.at -ℤ c.cross.result) ≡ c.args.self.at -ℤ cross_of c.args.self.way c.args.step =
-    ap (λ z. c.args.self.at -ℤ z) c.cross.ensures in
+    let least_more = c.shifted-across.ensures.least in
+    let greatest_more = c.shifted-across.ensures.greatest in
+    let least_is : c.shifted-across.result.least ≤ℤ (c.args.self.across.least +ℤ c.cross.result) = omega (arith, ints) in
+    let greatest_is : (c.args.self.across.greatest +ℤ c.cross.result) ≤ℤ c.shifted-across.result.greatest = omega (arith, ints) in
+    let least = subst (λ (z : ℤ). c.shifted-across.result.least ≤ℤ (c.args.self.across.least +ℤ z)) c.cross.ensures least_is in
+    let greatest = subst (λ (z : ℤ). (c.args.self.across.greatest +ℤ z) ≤ℤ c.shifted-across.result.greatest) c.cross.ensures greatest_is in
     let x_more = subst (λ (z : ℤ). (c.args.self.back.x -ℤ z) ≤ℤ c.greater-back_x.result) c.turned-onward.ensures.x back_x.0 in
     let y_more = subst (λ (z : ℤ). (c.args.self.back.y -ℤ z) ≤ℤ c.greater-back_y.result) c.turned-onward.ensures.y back_y.0 in
     let e : count + 1 ≡ suc count = omega arith in
-    rw e (simp to_z-of_z (stays_before c.args.self (c.args.self.at -ℤ c.cross.result) c.greater-back_x.result c.greater-back_y.result c.args.step path count is
-    at_is here back_x.1.least x_more back_x.1.most back_y.1.least y_more back_y.1.most stays))
+    rw e (simp to_z-of_z (stays_before c.args.self c.shifted-across.result c.greater-back_x.result c.greater-back_y.result c.args.step path count is
+    small.least.most small.greatest.least least greatest
+    back_x.1.least x_more back_x.1.most back_y.1.least y_more back_y.1.most stays))
