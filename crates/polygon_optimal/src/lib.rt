@@ -43,5 +43,5 @@ pub mod optimal;
 mod search;
 pub mod segments;
 
-pub use optimal::{polygon, polygon_by};
+pub use optimal::{polygon, polygon_with_moments};
 pub use segments::lasts;

@@ -2,10 +2,11 @@
 ghost use Rattle.std.specs.Prelude.{◌≡◌, IfOk};
 ghost use Rattle.pt_base.specs.ClosedWalk.{IsClosedWalk};
 ghost use Rattle.pt_base.specs.OnPage.{AreOnPage};
+ghost use Rattle.polygon_optimal.specs.Lasts.{HasLasts};
 ghost use Rattle.polygon_optimal.specs.Polygon.{IsBestPolygon, total_penalty};
 
 use crate::search::least_by_windows;
-use crate::segments::Segments;
+use crate::segments::{Segments, lasts};
 use prefix_moments::Moments;
 use pt_base::{NoMemory, Point, Polygon};
 use std::alloc::Global;
@@ -17,19 +18,36 @@ pub fn polygon(alloc: Global, points: &[Point]) -> Result<Polygon, NoMemory>
     ensures best { IfOk result (λ polygon. IsBestPolygon points.now polygon.at) }
     ensures cost { IfOk result (λ polygon. polygon.cost ≡ total_penalty points.now polygon.at) }
 {
-    let moments = Moments::of(alloc, points)?;
-    polygon_by(alloc, points, &moments)
+    let (polygon, _) = polygon_with_moments(alloc, points)?;
+    Ok(polygon)
 }
 
-/// The same, where the walk's sums are made already.
-pub fn polygon_by(alloc: Global, points: &[Point], moments: &Moments) -> Result<Polygon, NoMemory>
+/// The same polygon, and the walk's sums, of which it was found.
+//
+// How far segments reach is measured before the points are summed up: the one takes 36 bytes a point, which are given
+// back, the other 32, which stay. In the other order a spiral of walls took a quarter more memory.
+pub fn polygon_with_moments(alloc: Global, points: &[Point]) -> Result<(Polygon, Moments), NoMemory>
     requires closed { IsClosedWalk points.now }
     requires on_page { AreOnPage points.now }
-    requires moments { moments.now ≡ points.now }
-    ensures best { IfOk result (λ polygon. IsBestPolygon points.now polygon.at) }
-    ensures cost { IfOk result (λ polygon. polygon.cost ≡ total_penalty points.now polygon.at) }
+    ensures best { IfOk result (λ both. IsBestPolygon points.now both.0.at) }
+    ensures cost { IfOk result (λ both. both.0.cost ≡ total_penalty points.now both.0.at) }
+    ensures moments { IfOk result (λ both. both.1 ≡ points.now) }
 {
-    let segments = Segments::of(alloc, points, moments)?;
+    let lasts = lasts(alloc, points)?;
+    let moments = Moments::of(alloc, points)?;
+    let polygon = polygon_of(alloc, &moments, lasts)?;
+    Ok((polygon, moments))
+}
+
+/// The best polygon of a walk that is summed up, where its longest segments lead to these points.
+fn polygon_of(alloc: Global, moments: &Moments, lasts: Vec<u32>) -> Result<Polygon, NoMemory>
+    requires closed { IsClosedWalk moments.now }
+    requires on_page { AreOnPage moments.now }
+    requires lasts { HasLasts moments.now lasts.items }
+    ensures best { IfOk result (λ polygon. IsBestPolygon moments.now polygon.at) }
+    ensures cost { IfOk result (λ polygon. polygon.cost ≡ total_penalty moments.now polygon.at) }
+{
+    let segments = Segments::of(moments, lasts);
     let walk = least_by_windows(alloc, &segments)?;
     Ok(Polygon {
         at: walk.at,

@@ -35,20 +35,15 @@ pub(crate) struct Segments<'a> {
 }
 
 impl<'a> Segments<'a> {
-    /// Measures a closed walk on a page, by the sums that are made of it.
-    pub(crate) fn of(
-        alloc: Global,
-        points: &[Point],
-        moments: &'a Moments,
-    ) -> Result<Segments<'a>, NoMemory>
-        requires closed { IsClosedWalk points.now }
-        requires on_page { AreOnPage points.now }
-        requires moments { moments.now ≡ points.now }
-        ensures points { IfOk result (λ segments. segments.moments.now ≡ points.now) }
-        ensures lasts { IfOk result (λ segments. HasLasts points.now segments.lasts.items) }
+    /// The segments of a closed walk on a page that is summed up, whose longest ones lead to these points.
+    pub(crate) fn of(moments: &'a Moments, lasts: Vec<u32>) -> Segments<'a>
+        requires closed { IsClosedWalk moments.now }
+        requires on_page { AreOnPage moments.now }
+        requires lasts { HasLasts moments.now lasts.items }
+        ensures points { result.moments.now ≡ moments.now }
+        ensures lasts { HasLasts moments.now result.lasts.items }
     {
-        let lasts = lasts(alloc, points)?;
-        Ok(Segments { moments, lasts })
+        Segments { moments, lasts }
     }
 }
 
