@@ -12,9 +12,6 @@ use std::alloc::Global;
 /// How far apart two places are that stand in one column, one above the other.
 pub(crate) const ROW: u32 = 65536;
 
-/// How many rows a path may cross.
-pub(crate) const ROWS: u32 = 32768;
-
 /// Where a path starts.
 #[derive(Clone, Copy, PartialEq, Eq)]
 pub(crate) struct Start {
@@ -82,16 +79,28 @@ fn place_of_start(path: &Path) -> u32
     ROW * (corner.y.unsigned_abs() - 1) + corner.x.unsigned_abs()
 }
 
-/// Which rows have a start.
+/// Which rows have a start, up to the last one that has.
 pub(crate) fn rows_of(alloc: Global, starts: &[Start]) -> Result<Vec<bool>, NoMemory>
-    requires { All (λ start. start.place / ROW < ROWS) starts.now }
+    requires { IsNonDecreasingBy (λ start. start.place) starts.now }
     ensures { IfOk result
         (λ rows. All (λ start. slice_index_or rows.items (start.place / ROW) false ≡ true)
         starts.now) }
 {
-    let mut rows = vec![in alloc; false; ROWS as usize]?;
+    let count = rows_to_last(starts);
+    let mut rows = vec![in alloc; false; count]?;
     for start in starts {
         rows[(start.place / ROW) as usize] = true;
     }
     Ok(rows)
+}
+
+/// How many rows there are up to the last one that has a start.
+fn rows_to_last(starts: &[Start]) -> usize
+    requires { IsNonDecreasingBy (λ start. start.place) starts.now }
+    ensures { All (λ start. start.place / ROW < result) starts.now }
+{
+    match starts.last() {
+        Some(last) => (last.place / ROW) as usize + 1,
+        None => 0,
+    }
 }

@@ -1,23 +1,19 @@
-use Rattle.std.proofs.Common.{◌≡◌, ◌+◌, ◌/◌, ◌%◌, ◌<◌, ◌≤◌, Option, ℕ, List, All, length, ap, sym, subst, ◌∙◌, arith}
+use Rattle.std.proofs.Common.{◌≡◌, ◌+◌, ◌%◌, ◌<◌, ◌≤◌, Option, ℕ, List, All, length, ap, sym, subst, ◌∙◌, arith}
 use Rattle.std.proofs.lemmas.List.Sorted.{All-permutation}
 use Rattle.path_tree.specs.declared.starts.Start.{Start}
-use Rattle.path_tree.specs.declared.starts.TheConstants.{ROW, ROWS}
+use Rattle.path_tree.specs.declared.starts.TheConstants.{ROW}
 use Rattle.path_tree.specs.Starts.{is_in, marked, starts_from}
 use Rattle.std.specs.List.Sorted.{IsNonDecreasingBy}
 use Rattle.pt_base.specs.ClosedWalk.{IsClosedWalk}
 use Rattle.pt_base.specs.declared.path.Path.{Path}
 use Rattle.path_decompose.specs.Bounds.{IsCornerOf}
 use Rattle.path_tree.proofs.Holding.{IsHeld, come_back, held_all, held_more}
-use Rattle.path_tree.proofs.Listing.{starts_columns, starts_low, starts_within}
+use Rattle.path_tree.proofs.Listing.{starts_columns, starts_within}
 use Rattle.path_tree.proofs.Marking.{all_below, length-marked}
 use Rattle.path_tree.proofs.holders.holders_of.Goals as goal
 
 pub rows_of-requires : goal.rows_of-requires
-rows_of-requires c =
-    let paths = c.args.paths.now in
-    rw c.deref.ensures.value
-    (All-permutation (λ s. s.place / ROW < ROWS) (starts_from 0 paths) c.in_ok-starts.starts.items c.in_ok-starts.ensures.those
-    (starts_low paths c.requires.closed c.requires.corners))
+rows_of-requires c = rw c.deref.ensures.value c.in_ok-starts.ensures.order
 
 pub hold-requires-clause-within : goal.hold-requires-clause-within
 hold-requires-clause-within c =
