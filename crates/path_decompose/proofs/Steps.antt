@@ -1,5 +1,5 @@
 -- The walk step by step: as long as its first edge hasn't come again, no edge has come twice, and there are only so many.
-use Rattle.std.proofs.Common.{◌≡◌, ◌≢◌, ℕ, suc, ◌*◌, ◌<◌, ◌++◌, List, [], ◌∷◌, map, get_or, AllPairs, All, ap, sym, subst, ◌∙◌, inl, inr, arith}
+use Rattle.std.proofs.Common.{◌≡◌, ◌≢◌, ℕ, suc, ◌*◌, ◌<◌, ◌++◌, List, [], ◌∷◌, map, AllPairs, All, ap, sym, subst, ◌∙◌, inl, inr, arith}
 use Rattle.std.proofs.lemmas.Bool.{cases_order}
 use Rattle.std.proofs.lemmas.List.{map-append}
 use Rattle.pt_base.specs.declared.point.Point.{Point}

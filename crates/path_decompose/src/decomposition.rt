@@ -1,6 +1,7 @@
 //! The paths of a page, one after another.
 ghost use Rattle.std.specs.Prelude.{◌≡◌, ℕ, ◌+◌, ◌*◌, ◌<◌, ◌≤◌, ◌≤ℤ◌, pos, List, [], ◌∷◌, ◌++◌, All, length, OnOk, OnErr, IfOk};
 ghost use Rattle.pt_base.specs.ClosedWalk.{point_at, IsClosedWalk};
+ghost use Rattle.pt_base.specs.declared.limits.TheConstants.{LONGEST_SIDE};
 ghost use Rattle.bit_image.specs.FirstBlack.{IsFirstBlack};
 ghost use Rattle.bit_image.specs.Image.{Fits};
 ghost use Rattle.bit_image.specs.Page.{SameSides, image_of};
@@ -11,10 +12,10 @@ ghost use Rattle.path_decompose.specs.Start.{IsWhiteThrough, IsStart};
 ghost use Rattle.path_decompose.specs.Sums.{IsEvenOdd, IsEdgesOnce};
 ghost use Rattle.pt_base.specs.declared.path.Path.{Path};
 
-use bit_image::Bitmap;
 use crate::inversion::invert;
 use crate::trail::Trail;
 use crate::walk::walk_round;
+use bit_image::Bitmap;
 use pt_base::{NoMemory, Path, Point, Policy, Sequence, Sign};
 use std::alloc::Global;
 
@@ -153,6 +154,9 @@ fn next_path(
     requires first { IsFirstBlack (image_of rest.old) x y }
     requires column { x < rest.old.width }
     requires sides { SameSides page.now rest.old }
+    requires width { rest.old.width ≤ LONGEST_SIDE }
+    requires height { rest.old.height ≤ LONGEST_SIDE }
+    requires fits { Fits (image_of rest.old) rest.old.width rest.old.height }
     ensures sides { SameSides rest.old rest.new }
     ensures path { IfOk result (λ told. IsNextPath page.now policy (image_of rest.old)
         (path_of told.0 told.1 trail.new.points.items)) }

@@ -5,8 +5,8 @@ ghost use Rattle.bit_image.specs.Page.{SameSides, image_of};
 ghost use Rattle.path_decompose.specs.Inside.{is_odd};
 ghost use Rattle.path_decompose.specs.declared.trail.Upright.{Upright};
 
-use bit_image::Bitmap;
 use crate::trail::Upright;
+use bit_image::Bitmap;
 
 /// Inverts each pixel that has an odd number of these lines on its left in its row: with the upright lines
 /// of a path, the pixels inside.

@@ -1,8 +1,9 @@
 //! The walk along a boundary, once round.
 ghost use Rattle.std.specs.Prelude.{◌≡◌, ◌≢◌, ℕ, ◌+◌, ◌++◌, ◌∷◌, [], false, nat_eq, IfOk, OnOk, All, count_by, MatchBool, ◌^◌, ◌<◌, ◌≤◌};
 ghost use Rattle.bit_image.specs.FirstBlack.{IsFirstBlack};
-ghost use Rattle.bit_image.specs.Image.{is_from};
+ghost use Rattle.bit_image.specs.Image.{Fits, is_from};
 ghost use Rattle.bit_image.specs.Page.{image_of};
+ghost use Rattle.pt_base.specs.declared.limits.TheConstants.{LONGEST_SIDE};
 ghost use Rattle.path_decompose.specs.declared.trail.Upright.{Upright};
 ghost use Rattle.path_decompose.specs.Inside.{is_odd, inside, black_count};
 ghost use Rattle.path_decompose.specs.Trail.{upright_of, column_up, column_down};
@@ -10,8 +11,8 @@ ghost use Rattle.path_decompose.specs.Walk.{first_edge, start_of, IsBoundaryWalk
 ghost use Rattle.turn_policies.specs.Boundary.{IsBoundary};
 ghost use Rattle.turn_policies.specs.Turn.{next};
 
-use bit_image::Bitmap;
 use crate::trail::{Trail, Upright};
+use bit_image::Bitmap;
 use pt_base::{NoMemory, Point, Policy, Sign};
 use turn_policies::{Dir, Edge, turned_at};
 
@@ -29,7 +30,10 @@ pub fn walk_round(
     sign: Sign,
     trail: &mut Trail,
 ) -> Result<(), NoMemory>
-    requires { IsFirstBlack (image_of page.now) x y }
+    requires first { IsFirstBlack (image_of page.now) x y }
+    requires width { page.now.width ≤ LONGEST_SIDE }
+    requires height { page.now.height ≤ LONGEST_SIDE }
+    requires fits { Fits (image_of page.now) page.now.width page.now.height }
     ensures walk { OnOk result
         (IsBoundaryWalk (image_of page.now) policy sign x y trail.new.points.items) }
 
@@ -46,8 +50,6 @@ pub fn walk_round(
         (black_count (inside trail.new.points.items) page.now.width page.now.height + trail.new.down
         ≡ trail.new.up) }
 {
-    // The sides are asked, so that the proof sees how many edges the page can have.
-    let _ = page.width();
     trail.clear();
     let mut here = Edge {
         x,
@@ -72,6 +74,9 @@ fn step(
     trail: &mut Trail,
 ) -> Result<Edge, NoMemory>
     requires boundary { IsBoundary (image_of page.now) edge }
+    requires width { page.now.width ≤ LONGEST_SIDE }
+    requires height { page.now.height ≤ LONGEST_SIDE }
+    requires fits { Fits (image_of page.now) page.now.width page.now.height }
     requires up { trail.old.up < 2 ^ 63 }
     requires down { trail.old.down < 2 ^ 63 }
     ensures value { IfOk result (λ after. after ≡ next (image_of page.now) policy sign edge) }
@@ -83,9 +88,6 @@ fn step(
     ensures up { OnOk result (trail.new.up ≡ trail.old.up + column_up edge) }
     ensures down { OnOk result (trail.new.down ≡ trail.old.down + column_down edge) }
 {
-    // A boundary edge lies on the page, so its end has small coordinates too.
-    let (width, height) = (page.width(), page.height());
-    prove!(edge.x <= width && edge.y <= height);
     let Edge { x, y, heading } = edge;
     trail.points.push(Point {
         x: x as i32,

@@ -11,16 +11,16 @@ use Rattle.path_decompose.proofs.walk.step.Goals as goal
 pub turned_at-requires-clause-y : goal.turned_at-requires-clause-y
 turned_at-requires-clause-y c =
     let page = c.args.page.now in
-    let on = edge_on (image_of page) page.width page.height c.width-width.ensures.fits c.args.edge c.requires.boundary in
+    let on = edge_on (image_of page) page.width page.height c.requires.fits c.args.edge c.requires.boundary in
     let row : suc c.args.edge.y ≤ page.height = subst (λ d. end_y c.args.edge.y d ≤ page.height) c.in-North.is on.end_row in
-    omega (arith, row, c.width-width.ensures.page.most_height)
+    omega (arith, row, c.requires.height)
 
 pub turned_at-requires-in-East-clause-x : goal.turned_at-requires-in-East-clause-x
 turned_at-requires-in-East-clause-x c =
     let page = c.args.page.now in
-    let on = edge_on (image_of page) page.width page.height c.width-width.ensures.fits c.args.edge c.requires.boundary in
+    let on = edge_on (image_of page) page.width page.height c.requires.fits c.args.edge c.requires.boundary in
     let column : suc c.args.edge.x ≤ page.width = subst (λ d. end_x c.args.edge.x d ≤ page.width) c.in-East.is on.end_column in
-    omega (arith, column, c.width-width.ensures.page.most_width)
+    omega (arith, column, c.requires.width)
 
 pub returns-in_ok-push-in-North-clause-value : goal.returns-in_ok-push-in-North-clause-value
 returns-in_ok-push-in-North-clause-value c =
