@@ -6,9 +6,9 @@ ghost use Rattle.page_trace.specs.Document.{CanWrite, IsDocument, backend_word};
 ghost use Rattle.pt_base.specs.declared.settings.Backend.{Backend};
 ghost use Rattle.pt_base.specs.declared.settings.Backend.TheVariants.{Proofs};
 
-use bit_image::Bitmap;
 use crate::paths::kept_paths;
 use crate::tracing::{polygons_alone, trace};
+use bit_image::Bitmap;
 use dxf_geojson::{dxf, geojson};
 use eps_backend::{eps, ps_body};
 use outline_check::proofs;

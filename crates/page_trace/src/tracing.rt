@@ -7,11 +7,11 @@ ghost use Rattle.pt_base.specs.OnPage.{AreOnPage};
 ghost use Rattle.page_trace.specs.Document.{CanTrace};
 ghost use Rattle.page_trace.specs.Trace.{HasPolygons, IsTrace};
 
-use bit_image::Bitmap;
 use crate::fitting::{Fitted, fit_all};
 use crate::outlines::all_outlines;
 use crate::paths::kept_paths;
 use crate::polygons::best_polygons;
+use bit_image::Bitmap;
 use path_tree::group;
 use pt_base::{NoMemory, Sequence, Settings, Trace};
 use std::alloc::Global;
