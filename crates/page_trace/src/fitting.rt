@@ -6,8 +6,7 @@ ghost use Rattle.pt_base.specs.OnPage.{AreOnPage};
 ghost use Rattle.corner_smooth.specs.Corner.{IsNearWidePage};
 ghost use Rattle.page_trace.specs.Trace.{AreVerticesOf, IsPolygonOf};
 
-use crate::polygons::polygon_of;
-use prefix_moments::Moments;
+use crate::polygons::measured;
 use pt_base::{NoMemory, Path, Point, Polygon, Sequence, Settings};
 use std::alloc::Global;
 use vertex_adjust::adjust_by;
@@ -61,8 +60,7 @@ fn fit(
     ensures most { IfOk result (λ both. length both.1 ≤ 2 ^ 31) }
 {
     let points = path.points.as_slice();
-    let moments = Moments::of(alloc, points)?;
-    let best = polygon_of(alloc, path, &moments, settings)?;
+    let (best, moments) = measured(alloc, path, settings)?;
     let adjusted = adjust_by(alloc, points, &moments, &best)?;
     Ok((best, adjusted))
 }

@@ -6,7 +6,7 @@ ghost use Rattle.pt_base.specs.OnPage.{AreOnPage};
 ghost use Rattle.page_trace.specs.Trace.{IsPolygonOf};
 
 use cyclic_optimal::cyclic_polygon_by;
-use polygon_optimal::polygon_by;
+use polygon_optimal::polygon_with_moments;
 use prefix_moments::Moments;
 use pt_base::{NoMemory, Path, Polygon, Settings};
 use std::alloc::Global;
@@ -25,30 +25,30 @@ pub(crate) fn best_polygons(
 {
     let mut polygons = Vec::with_capacity(alloc, paths.len())?;
     for path in paths {
-        let moments = Moments::of(alloc, path.points.as_slice())?;
-        let polygon = polygon_of(alloc, path, &moments, settings)?;
+        let (polygon, _) = measured(alloc, path, settings)?;
         polygons.push(polygon)?;
     }
     Ok(polygons)
 }
 
-/// The polygon of a path, whose sums are made already: the best one through the path's first point, or, where the
-/// settings ask for it, the least one over all starting points.
-pub(crate) fn polygon_of(
+/// The polygon of a path, and the path's sums: the best one through the path's first point, or, where the settings ask
+/// for it, the least one over all starting points.
+pub(crate) fn measured(
     alloc: Global,
     path: &Path,
-    moments: &Moments,
     settings: &Settings,
-) -> Result<Polygon, NoMemory>
+) -> Result<(Polygon, Moments), NoMemory>
     requires closed { IsClosedWalk path.now.points }
     requires on_page { AreOnPage path.now.points }
-    requires moments { moments.now ≡ path.now.points }
-    ensures { IfOk result (IsPolygonOf settings.now path.now) }
+    ensures polygon { IfOk result (λ both. IsPolygonOf settings.now path.now both.0) }
+    ensures moments { IfOk result (λ both. both.1 ≡ path.now.points) }
 {
     let points = path.points.as_slice();
     if settings.cyclic {
-        cyclic_polygon_by(alloc, points, moments)
+        let moments = Moments::of(alloc, points)?;
+        let polygon = cyclic_polygon_by(alloc, points, &moments)?;
+        Ok((polygon, moments))
     } else {
-        polygon_by(alloc, points, moments)
+        polygon_with_moments(alloc, points)
     }
 }
