@@ -6,8 +6,8 @@ ghost use Rattle.mk_run.specs.Result.{pbm_head};
 ghost use Rattle.mk_run.specs.Rows.{fits_result};
 ghost use Rattle.mk_run.specs.Work.{HasRooms, IsAtWork, IsGrayHead};
 
-use bitmap_input::GrayHead;
 use crate::rooms::Rooms;
+use bitmap_input::GrayHead;
 use filter_words::Setup;
 use mkbitmap::Filter;
 use pt_base::{NoMemory, put_number};
