@@ -1,8 +1,8 @@
 //! Gray pages that are read row by row.
 ghost use Rattle.std.specs.Prelude.{◌≤◌};
 
-use bitmap_input::GrayReader;
 use crate::tests::answers::{ended, file};
+use bitmap_input::GrayReader;
 use pt_base::{InCall, Inputs};
 use std::alloc::Global;
 use std::test::Fail;
