@@ -19,6 +19,7 @@ pub mod Result
 pub mod Rows
 -- What a run holds and has done, between rows of the result.
 --   header_of: the header that a reader has read
+--   MayRead: rows of an opened file may be read
 --   GivesRows: a reader gave these rows
 --   HasFirstRows: a page of this header whose first rows are these
 --   FitsWork: a reader and a filter that are at work on one page

@@ -1,10 +1,11 @@
 -- What a run holds and has done, between rows of the result.
 use Rattle.std.specs.Prelude.{◌≡◌, ℕ, ◌+◌, ◌*◌, ◌/◌, ◌<◌, ◌≤◌, true, false, List, [], ◌++◌, length, get_or, min, Option}
 use Rattle.pt_base.specs.Files.{Files}
+use Rattle.pt_base.specs.declared.inputs.Inputs.{Ghosts}
 use Rattle.pt_base.specs.declared.limits.TheConstants.{LONGEST_SIDE}
 use Rattle.bitmap_input.specs.Cut.Ending.{End, Trailing, Refused}
 use Rattle.bitmap_input.specs.GrayReader.{FailsToRead, GraySource, Refuses}
-use Rattle.bitmap_input.specs.Reading.{Cause, Moves}
+use Rattle.bitmap_input.specs.Reading.{AtEnd, Cause, Moves}
 use Rattle.bitmap_input.specs.Reading.Cause.{Says, Device, Memory}
 use Rattle.bitmap_input.specs.declared.gray_reader.GrayHead.{GrayHead}
 use Rattle.mk_run.specs.Header.{PageHeader}
@@ -19,6 +20,13 @@ use Rattle.mk_run.specs.declared.rooms.Rooms.{Rooms}
 -- the header that a reader has read
 abbrev pub header_of : GraySource → PageHeader
 header_of reader = record { plain = reader.plain; width = reader.head.width; height = reader.head.height; maxval = reader.head.maxval }
+
+-- rows of an opened file may be read: where a read has given nothing, no byte is left, and no more bytes are held than
+-- a reader has room for
+pub record MayRead {A : Type 0} (told : Ghosts A) (reader : GraySource) (inputs : A) : Type 0 where
+  pub opened : told.is_opened inputs ≡ true
+  pub at_end : reader.ended ≡ true → AtEnd (told.files inputs)
+  pub within : length reader.bytes ≤ 65536
 
 -- a reader gave these rows: bytes were taken, and the rows stand at the front of those at hand and these, whatever
 -- comes behind them

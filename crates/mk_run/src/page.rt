@@ -1,13 +1,13 @@
 //! Filtering the page on standard input.
 ghost use Rattle.std.specs.Prelude.{◌≡◌, ◌≤◌, false, true, length, IfErr, IfOk, OnOk};
-ghost use Rattle.bitmap_input.specs.Reading.{AtEnd, CountsBy, cause_of_fault};
+ghost use Rattle.bitmap_input.specs.Reading.{CountsBy, cause_of_fault};
 ghost use Rattle.bitmap_input.specs.GrayReader.{GivesHead, gray_at_start};
 ghost use Rattle.run_output.specs.Told.{Source, sinks_of, source_of};
 ghost use Rattle.filter_words.specs.Asked.{CanFilter};
 ghost use Rattle.mk_run.specs.Head.{StandsBehindHead, StopsHead};
 ghost use Rattle.mk_run.specs.Outcome.{IsPageRun};
 ghost use Rattle.mk_run.specs.Rows.{fits_result};
-ghost use Rattle.mk_run.specs.Work.{IsGrayHead};
+ghost use Rattle.mk_run.specs.Work.{IsGrayHead, MayRead};
 ghost use Rattle.mkbitmap.specs.declared.limits.TheConstants.{GREATEST_TIMES};
 ghost use Rattle.pt_base.specs.declared.limits.TheConstants.{LONGEST_SIDE};
 
@@ -65,9 +65,7 @@ fn read_head<I: Inputs>(reader: &mut GrayReader, inputs: &mut I) -> Result<GrayH
         (I.files inputs.old) (I.files inputs.new)) }
     ensures counts { IfErr result (λ fault.
         CountsBy (cause_of_fault fault) (I.faults inputs.old) (I.faults inputs.new)) }
-    ensures still_at_end { reader.new.ended ≡ true → AtEnd (I.files inputs.new) }
-    ensures within { length reader.new.bytes ≤ 65536 }
-    ensures stays_opened { I.is_opened inputs.new ≡ true }
+    ensures reading { MayRead I.Inputs reader.new inputs.new }
     ensures same_openings { I.openings inputs.new ≡ I.openings inputs.old }
 {
     let head = reader.head(inputs)?;
@@ -89,9 +87,7 @@ fn filter_page<I: Inputs, O: Outputs, E: Sink>(
     requires read { reader.head ≡ head }
     requires none_given { reader.given ≡ 0 }
     requires going_on { reader.failed ≡ false }
-    requires opened { I.is_opened inputs.old ≡ true }
-    requires at_end { reader.ended ≡ true → AtEnd (I.files inputs.old) }
-    requires within { length reader.bytes ≤ 65536 }
+    requires reading { MayRead I.Inputs reader inputs.old }
     requires closed { O.is_ready outs.old ≡ false }
     requires ready { E.is_ready errs.old ≡ true }
     ensures { (source : Source)

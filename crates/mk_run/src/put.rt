@@ -1,14 +1,13 @@
 //! Writing the result, row by row, while the page's rows come.
 ghost use Rattle.std.specs.Prelude.{◌≡◌, ℕ, ◌+◌, ◌*◌, ◌<◌, ◌≤◌, List, [], ◌++◌, length, false, true, IfErr, OnOk};
 ghost use Rattle.pt_base.specs.Documents.{with_whole};
-ghost use Rattle.bitmap_input.specs.Reading.{AtEnd};
 ghost use Rattle.mkbitmap.specs.Enlarged.{after_of, need};
 ghost use Rattle.mkbitmap.specs.Follows.{SameSetup};
 ghost use Rattle.run_output.specs.Names.{dash};
 ghost use Rattle.run_output.specs.Told.{told_of};
 ghost use Rattle.mk_run.specs.Put.{BreaksPage, BreaksRow, BreaksRows, GoesWell, PutsRow, PutsRows, StaysOpen};
 ghost use Rattle.mk_run.specs.Result.{result_head, result_text};
-ghost use Rattle.mk_run.specs.Work.{GivesRows, GoesAlong, HasRooms, IsAtWork, header_of};
+ghost use Rattle.mk_run.specs.Work.{GivesRows, GoesAlong, HasRooms, IsAtWork, header_of, MayRead};
 
 use crate::fault::Break;
 use crate::rooms::Rooms;
@@ -28,9 +27,7 @@ fn put_row<I: Inputs, O: Outputs>(
     inputs: &mut I,
     outs: &mut O,
 ) -> Result<(), Break>
-    requires opened { I.is_opened inputs.old ≡ true }
-    requires at_end { reader.old.ended ≡ true → AtEnd (I.files inputs.old) }
-    requires within { length reader.old.bytes ≤ 65536 }
+    requires reading { MayRead I.Inputs reader.old inputs.old }
     requires rooms { HasRooms setup filter.old.width rooms.old }
     requires at_work { (rows : List (List ℕ)) × IsAtWork setup reader.old filter.old rows }
     requires row { y < setup.times * filter.old.height }
@@ -52,9 +49,7 @@ fn put_row<I: Inputs, O: Outputs>(
         (I.files inputs.new) (I.faults inputs.new) (told_of O.Sink outs.new)) }
     ensures setup { SameSetup filter.old filter.new }
     ensures same_rooms { HasRooms setup filter.old.width rooms.new }
-    ensures still_at_end { reader.new.ended ≡ true → AtEnd (I.files inputs.new) }
-    ensures within { length reader.new.bytes ≤ 65536 }
-    ensures stays_opened { I.is_opened inputs.new ≡ true }
+    ensures reading { MayRead I.Inputs reader.new inputs.new }
     ensures same_openings { I.openings inputs.new ≡ I.openings inputs.old }
     ensures stays_ready { O.is_ready outs.new ≡ true }
 {
@@ -79,9 +74,7 @@ fn put_rows<I: Inputs, O: Outputs>(
     inputs: &mut I,
     outs: &mut O,
 ) -> Result<(), Break>
-    requires opened { I.is_opened inputs.old ≡ true }
-    requires at_end { reader.old.ended ≡ true → AtEnd (I.files inputs.old) }
-    requires within { length reader.old.bytes ≤ 65536 }
+    requires reading { MayRead I.Inputs reader.old inputs.old }
     requires rooms { HasRooms setup filter.old.width rooms.old }
     requires at_work { IsAtWork setup reader.old filter.old [] }
     requires none { filter.old.pairs ≡ 0 }
@@ -96,9 +89,7 @@ fn put_rows<I: Inputs, O: Outputs>(
     ensures breaks { IfErr result (λ why. BreaksRows why setup reader.old (I.files inputs.old)
         (I.faults inputs.old) (told_of O.Sink outs.old) reader.new (I.files inputs.new)
         (I.faults inputs.new) (told_of O.Sink outs.new)) }
-    ensures still_at_end { reader.new.ended ≡ true → AtEnd (I.files inputs.new) }
-    ensures within { length reader.new.bytes ≤ 65536 }
-    ensures stays_opened { I.is_opened inputs.new ≡ true }
+    ensures reading { MayRead I.Inputs reader.new inputs.new }
     ensures same_openings { I.openings inputs.new ≡ I.openings inputs.old }
     ensures stays_ready { O.is_ready outs.new ≡ true }
 {
@@ -124,9 +115,7 @@ pub(crate) fn put_page<I: Inputs, O: Outputs>(
     inputs: &mut I,
     outs: &mut O,
 ) -> Result<(), Break>
-    requires opened { I.is_opened inputs.old ≡ true }
-    requires at_end { reader.old.ended ≡ true → AtEnd (I.files inputs.old) }
-    requires within { length reader.old.bytes ≤ 65536 }
+    requires reading { MayRead I.Inputs reader.old inputs.old }
     requires head { head.now ≡ result_head setup (header_of reader.old) }
     requires rooms { HasRooms setup filter.old.width rooms.old }
     requires at_work { IsAtWork setup reader.old filter.old [] }
@@ -144,8 +133,7 @@ pub(crate) fn put_page<I: Inputs, O: Outputs>(
         (I.faults inputs.old) (told_of O.Sink outs.old) reader.new (I.files inputs.new)
         (I.faults inputs.new) (told_of O.Sink outs.new)) }
     ensures open { IfErr result (λ why. StaysOpen why (O.is_ready outs.new)) }
-    ensures still_at_end { reader.new.ended ≡ true → AtEnd (I.files inputs.new) }
-    ensures within { length reader.new.bytes ≤ 65536 }
+    ensures reading { MayRead I.Inputs reader.new inputs.new }
     ensures same_openings { I.openings inputs.new ≡ I.openings inputs.old }
 {
     match outs.begin("-") {

@@ -1,9 +1,9 @@
 //! Reading rows of the page, as far as a row of the result needs them.
 ghost use Rattle.std.specs.Prelude.{◌≡◌, ℕ, ◌+◌, ◌*◌, ◌<◌, ◌≤◌, List, [], ◌∷◌, length, min, true, IfErr, OnOk};
-ghost use Rattle.bitmap_input.specs.Reading.{AtEnd, CountsBy, cause_of_fault};
+ghost use Rattle.bitmap_input.specs.Reading.{CountsBy, cause_of_fault};
 ghost use Rattle.mkbitmap.specs.Enlarged.{after_of, need};
 ghost use Rattle.mkbitmap.specs.Follows.{SameSetup};
-ghost use Rattle.mk_run.specs.Work.{GivesRows, GoesAlong, IsAtWork, StopsBehind, StopsRow};
+ghost use Rattle.mk_run.specs.Work.{GivesRows, GoesAlong, IsAtWork, StopsBehind, StopsRow, MayRead};
 
 use bitmap_input::{GrayReader, InFault};
 use filter_words::Setup;
@@ -18,8 +18,7 @@ pub(crate) fn take_row<I: Inputs>(
     inputs: &mut I,
     row: &mut [u16],
 ) -> Result<(), InFault>
-    requires opened { I.is_opened inputs.old ≡ true }
-    requires at_end { reader.old.ended ≡ true → AtEnd (I.files inputs.old) }
+    requires reading { MayRead I.Inputs reader.old inputs.old }
     requires width { length row.old ≡ reader.old.head.width }
     requires at_work { (rows : List (List ℕ)) × IsAtWork setup reader.old filter.old rows }
     requires wanted { filter.old.taken
@@ -36,9 +35,7 @@ pub(crate) fn take_row<I: Inputs>(
         CountsBy (cause_of_fault fault) (I.faults inputs.old) (I.faults inputs.new)) }
     ensures setup { SameSetup filter.old filter.new }
     ensures same_room { length row.new ≡ length row.old }
-    ensures still_at_end { reader.new.ended ≡ true → AtEnd (I.files inputs.new) }
-    ensures within { length reader.new.bytes ≤ 65536 }
-    ensures stays_opened { I.is_opened inputs.new ≡ true }
+    ensures reading { MayRead I.Inputs reader.new inputs.new }
     ensures same_openings { I.openings inputs.new ≡ I.openings inputs.old }
 {
     reader.row(inputs, row)?;
@@ -55,9 +52,7 @@ pub(crate) fn make_ready<I: Inputs>(
     inputs: &mut I,
     row: &mut [u16],
 ) -> Result<(), InFault>
-    requires opened { I.is_opened inputs.old ≡ true }
-    requires at_end { reader.old.ended ≡ true → AtEnd (I.files inputs.old) }
-    requires within { length reader.old.bytes ≤ 65536 }
+    requires reading { MayRead I.Inputs reader.old inputs.old }
     requires width { length row.old ≡ reader.old.head.width }
     requires at_work { (rows : List (List ℕ)) × IsAtWork setup reader.old filter.old rows }
     requires row { y < setup.times * filter.old.height }
@@ -78,9 +73,7 @@ pub(crate) fn make_ready<I: Inputs>(
         CountsBy (cause_of_fault fault) (I.faults inputs.old) (I.faults inputs.new)) }
     ensures setup { SameSetup filter.old filter.new }
     ensures same_room { length row.new ≡ length row.old }
-    ensures still_at_end { reader.new.ended ≡ true → AtEnd (I.files inputs.new) }
-    ensures within { length reader.new.bytes ≤ 65536 }
-    ensures stays_opened { I.is_opened inputs.new ≡ true }
+    ensures reading { MayRead I.Inputs reader.new inputs.new }
     ensures same_openings { I.openings inputs.new ≡ I.openings inputs.old }
 {
     'rows: while !filter.is_ready(y, setup.times) {

@@ -135,7 +135,9 @@ fn mark_path(text: &[u8], at: usize, page: &mut Bitmap) -> Option<usize>
 
 /// Marks so many paths that stand at a place, if they are all that is left.
 pub(crate) fn mark_paths(text: &[u8], at: usize, count: u32, page: &mut Bitmap) -> bool
-    requires { at ≤ length text.now }
+    requires at { at ≤ length text.now }
+    requires wide { page.old.width ≤ LONGEST_SIDE }
+    requires high { page.old.height ≤ LONGEST_SIDE }
     ensures sides { SameSides page.old page.new }
     ensures paths { MatchBool result
         ((paths : List Path)
@@ -144,8 +146,6 @@ pub(crate) fn mark_paths(text: &[u8], at: usize, count: u32, page: &mut Bitmap) 
         ((paths : List Path) → ArePathsAt text.now at count page.old.width page.old.height paths
         → ⊥) }
 {
-    // The width is asked, so that the proof sees how large a page may be.
-    let _ = page.width();
     let mut end = at;
     let mut left = count;
     'paths: while left > 0 {

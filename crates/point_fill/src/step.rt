@@ -31,13 +31,12 @@ pub(crate) fn mark_step(page: &mut Bitmap, from: Point, to: Point) -> bool
     ensures marked { MatchBool result
         (AreMarked page.old page.new (λ u v. is_crossed u v (line_between from to))) Unit }
 {
-    // The width is asked, so that the proof sees where a page's corners lie.
-    let _ = page.width();
+    let width = page.width();
     if !is_step(from, to) {
         return false;
     }
     if let Some((x, y)) = upright_between(from, to) {
-        if x < page.width() {
+        if x < width {
             page.flip_span(y, x, x + 1);
         }
     }

@@ -9,3 +9,4 @@ mod gray;
 mod gray_rows;
 mod pages;
 mod rows;
+mod tables;

@@ -1,5 +1,6 @@
 //! BMP pictures.
-use crate::tests::answers::{tells, tells_at, tells_failing};
+use crate::tests::answers::{tells, tells_at};
+use crate::tests::tables::{Cut, Failing, check_cuts, check_failing};
 use std::alloc::Global;
 use std::test::Fail;
 
@@ -227,40 +228,27 @@ const TWO_HIGH: &[u8] =
     b"BM\x3e\0\0\0\0\0\0\0\x36\0\0\0\x28\0\0\0\x01\0\0\0\xfe\xff\xff\xff\x01\0\x18\0\0\0\0\0\x08\0\0\0\0\0\0\0\0\0\0\0\0\0\0\0\0\0\0\0\0\0\0\0\xff\xff\xff\0";
 
 /// How many bytes of it are there, at least and at most, and the answer.
-const CUTS: [(usize, usize, &str); 3] = [
-    (0, 1, "unknown format"),
-    (2, 61, "truncated"),
-    (62, 62, "#/./ end"),
+const CUTS: [Cut; 3] = [
+    (TWO_HIGH, 0, 1, "unknown format"),
+    (TWO_HIGH, 2, 61, "truncated"),
+    (TWO_HIGH, 62, 62, "#/./ end"),
 ];
 
 #[test]
 fn cut_pictures(rt: HostRuntime) -> Result<(), Fail> {
-    for (first, last, text) in CUTS {
-        for n in first..=last {
-            if let Some(part) = TWO_HIGH.get(..n) {
-                let same = tells(rt.alloc(), part, text)?;
-                assert!(rt; same, "{n} bytes");
-            }
-        }
-    }
-    Ok(())
+    check_cuts(&rt, rt.alloc(), &CUTS)
 }
 
-/// The read that fails, and the answer.
-const FAILING: [(u64, &str); 4] = [
-    (1, "read fault"),
-    (62, "read fault"),
-    (63, "#/./ read fault"),
-    (64, "#/./ end"),
+const FAILING: [Failing; 4] = [
+    (TWO_HIGH, 1, 1, "read fault"),
+    (TWO_HIGH, 62, 62, "read fault"),
+    (TWO_HIGH, 63, 63, "#/./ read fault"),
+    (TWO_HIGH, 64, 64, "#/./ end"),
 ];
 
 #[test]
 fn failing_reads_of_pictures(rt: HostRuntime) -> Result<(), Fail> {
-    for (k, text) in FAILING {
-        let same = tells_failing(rt.alloc(), TWO_HIGH, k, text)?;
-        assert!(rt; same, "read {k} fails");
-    }
-    Ok(())
+    check_failing(&rt, rt.alloc(), &FAILING)
 }
 
 // The rows end at place 70.

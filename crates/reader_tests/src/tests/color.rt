@@ -1,5 +1,6 @@
 //! Pages of colours, of which three samples make a pixel.
-use crate::tests::answers::{tells, tells_at, tells_failing};
+use crate::tests::answers::{tells, tells_at};
+use crate::tests::tables::{Cut, Failing, check_cuts, check_failing, check_files};
 use std::test::Fail;
 
 /// #.#
@@ -128,20 +129,16 @@ const FILES: [(&[u8], &str); 22] = [
 
 #[test]
 fn files_of_colors(rt: HostRuntime) -> Result<(), Fail> {
-    for (bytes, text) in FILES {
-        let same = tells(rt.alloc(), bytes, text)?;
-        assert!(rt; same, "{bytes:?}");
-    }
-    Ok(())
+    check_files(&rt, rt.alloc(), &FILES)
 }
 
 const PLAIN: &[u8] = b"P3 2 1 #c\n9 0 0\t13 9 9 9\n";
 
 const RAW: &[u8] = b"P6 2 1 9\n\x00\x00\x0d\x09\x09\x09";
 
-/// A file, how many of its bytes are there, at least and at most, and the answer. The last sample of a plain
-/// page ends with the byte behind it, or with the end of the file, and the last one of a raw page with its own byte.
-const CUTS: [(&[u8], usize, usize, &str); 6] = [
+// The last sample of a plain page ends with the byte behind it, or with the end of the file, and the last one of a raw page
+// with its own byte.
+const CUTS: [Cut; 6] = [
     (PLAIN, 0, 1, "unknown format"),
     (PLAIN, 2, 23, "truncated"),
     (PLAIN, 24, 25, "#./ end"),
@@ -152,19 +149,10 @@ const CUTS: [(&[u8], usize, usize, &str); 6] = [
 
 #[test]
 fn cut_pages_of_colors(rt: HostRuntime) -> Result<(), Fail> {
-    for (bytes, first, last, text) in CUTS {
-        for n in first..=last {
-            if let Some(part) = bytes.get(..n) {
-                let same = tells(rt.alloc(), part, text)?;
-                assert!(rt; same, "{n} bytes of {bytes:?}");
-            }
-        }
-    }
-    Ok(())
+    check_cuts(&rt, rt.alloc(), &CUTS)
 }
 
-/// A page, the first and the last of the reads of which one fails, and the answer.
-const FAILING: [(&[u8], u64, u64, &str); 6] = [
+const FAILING: [Failing; 6] = [
     (PLAIN, 1, 25, "read fault"),
     (PLAIN, 26, 26, "#./ read fault"),
     (PLAIN, 27, 27, "#./ end"),
@@ -175,11 +163,5 @@ const FAILING: [(&[u8], u64, u64, &str); 6] = [
 
 #[test]
 fn failing_reads_of_colors(rt: HostRuntime) -> Result<(), Fail> {
-    for (bytes, first, last, text) in FAILING {
-        for k in first..=last {
-            let same = tells_failing(rt.alloc(), bytes, k, text)?;
-            assert!(rt; same, "read {k} of {bytes:?} fails");
-        }
-    }
-    Ok(())
+    check_failing(&rt, rt.alloc(), &FAILING)
 }

@@ -1,5 +1,6 @@
 //! Gray pages, levels and inversion.
-use crate::tests::answers::{tells, tells_at, tells_failing};
+use crate::tests::answers::{tells, tells_at};
+use crate::tests::tables::{Failing, check_failing, check_files};
 use std::test::Fail;
 
 /// #.#
@@ -103,31 +104,23 @@ const REFUSED: [(&[u8], &str); 22] = [
 
 #[test]
 fn refused_gray_pages(rt: HostRuntime) -> Result<(), Fail> {
-    for (bytes, text) in REFUSED {
-        let same = tells(rt.alloc(), bytes, text)?;
-        assert!(rt; same, "{bytes:?}");
-    }
-    Ok(())
+    check_files(&rt, rt.alloc(), &REFUSED)
 }
 
-/// A page, the read that fails, and the answer. The last sample of a plain page ends with the byte behind it, or
-/// with the end of the file, and the last one of a raw page with its own byte.
-const FAILING: [(&[u8], u64, &str); 6] = [
-    (b"P2 1 1 255 0", 12, "read fault"),
-    (b"P2 1 1 255 0", 13, "read fault"),
-    (b"P2 1 1 255 0", 14, "#/ end"),
-    (b"P2 1 1 255 0\n", 14, "#/ read fault"),
-    (b"P5 1 1 255 \x00", 12, "read fault"),
-    (b"P5 1 1 255 \x00", 13, "#/ read fault"),
+// The last sample of a plain page ends with the byte behind it, or with the end of the file, and the last one of a raw page
+// with its own byte.
+const FAILING: [Failing; 6] = [
+    (b"P2 1 1 255 0", 12, 12, "read fault"),
+    (b"P2 1 1 255 0", 13, 13, "read fault"),
+    (b"P2 1 1 255 0", 14, 14, "#/ end"),
+    (b"P2 1 1 255 0\n", 14, 14, "#/ read fault"),
+    (b"P5 1 1 255 \x00", 12, 12, "read fault"),
+    (b"P5 1 1 255 \x00", 13, 13, "#/ read fault"),
 ];
 
 #[test]
 fn failing_reads_of_gray_pages(rt: HostRuntime) -> Result<(), Fail> {
-    for (bytes, k, text) in FAILING {
-        let same = tells_failing(rt.alloc(), bytes, k, text)?;
-        assert!(rt; same, "read {k} of {bytes:?} fails");
-    }
-    Ok(())
+    check_failing(&rt, rt.alloc(), &FAILING)
 }
 
 #[test]

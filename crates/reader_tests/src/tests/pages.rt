@@ -1,6 +1,7 @@
 //! PBM pages, faults' texts, and reads that fail.
 
-use crate::tests::answers::{tells, tells_at, tells_failing};
+use crate::tests::answers::tells_at;
+use crate::tests::tables::{Cut, Failing, check_cuts, check_failing, check_files};
 use bitmap_input::InFault;
 use std::test::Fail;
 
@@ -25,19 +26,14 @@ const FILES: [(&[u8], &str); 15] = [
 
 #[test]
 fn whole_files(rt: HostRuntime) -> Result<(), Fail> {
-    for (bytes, text) in FILES {
-        let same = tells(rt.alloc(), bytes, text)?;
-        assert!(rt; same, "{bytes:?}");
-    }
-    Ok(())
+    check_files(&rt, rt.alloc(), &FILES)
 }
 
 const COMMENTS: &[u8] = b"P1 # c\n2 #d\n1\n1#x\n0";
 
 const PAGES: &[u8] = b"P4 1 1\n\x80P4 1 1\n\x80xyz";
 
-/// A file, how many of its bytes are there, at least and at most, and the answer.
-const CUTS: [(&[u8], usize, usize, &str); 10] = [
+const CUTS: [Cut; 10] = [
     (COMMENTS, 0, 1, "unknown format"),
     (COMMENTS, 2, 18, "truncated"),
     (COMMENTS, 19, 19, "#./ end"),
@@ -52,36 +48,23 @@ const CUTS: [(&[u8], usize, usize, &str); 10] = [
 
 #[test]
 fn cut_files(rt: HostRuntime) -> Result<(), Fail> {
-    for (bytes, first, last, text) in CUTS {
-        for n in first..=last {
-            if let Some(part) = bytes.get(..n) {
-                let same = tells(rt.alloc(), part, text)?;
-                assert!(rt; same, "{n} bytes of {bytes:?}");
-            }
-        }
-    }
-    Ok(())
+    check_cuts(&rt, rt.alloc(), &CUTS)
 }
+
+const TWO: &[u8] = b"P4 1 1\n\x80P1 1 1\n0";
 
 // The first page is whole with its eighth byte, the second with the sixteenth, and the seventeenth
 // read finds the end.
-/// The first and the last of the reads of which one fails, and the answer.
-const FAILING: [(u64, u64, &str); 4] = [
-    (1, 8, "read fault"),
-    (9, 16, "#/ read fault"),
-    (17, 17, "#/ ./ read fault"),
-    (18, 18, "#/ ./ end"),
+const FAILING: [Failing; 4] = [
+    (TWO, 1, 8, "read fault"),
+    (TWO, 9, 16, "#/ read fault"),
+    (TWO, 17, 17, "#/ ./ read fault"),
+    (TWO, 18, 18, "#/ ./ end"),
 ];
 
 #[test]
 fn failing_reads(rt: HostRuntime) -> Result<(), Fail> {
-    for (first, last, text) in FAILING {
-        for k in first..=last {
-            let same = tells_failing(rt.alloc(), b"P4 1 1\n\x80P1 1 1\n0", k, text)?;
-            assert!(rt; same, "read {k} fails");
-        }
-    }
-    Ok(())
+    check_failing(&rt, rt.alloc(), &FAILING)
 }
 
 #[test]

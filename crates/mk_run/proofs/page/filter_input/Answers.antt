@@ -44,4 +44,4 @@ returns-in-Err-read_head g c =
     (g.I.Inputs.files c.open.new.self) (c.read_head.ensures.same_openings ∙ c.open.ensures.one_more)
     (nothing_taken _ _ c.in-Ok.ensures.file (λ lacks. let never = c.in-Ok.ensures.absent.1 lacks in cc))
     (subst (λ (n : ℕ). CountsBy (cause_of_fault c.in-Err-read_head.fault) n (g.I.Inputs.faults c.read_head.new.inputs)) c.in-Ok.ensures.steady c.in-Err-read_head.ensures.counts)
-    c.in-Err-read_head.ensures.stops c.read_head.ensures.still_at_end (record { same = refl; same_open = refl; says = c.say_fault.ensures.says }))
+    c.in-Err-read_head.ensures.stops c.read_head.ensures.reading.at_end (record { same = refl; same_open = refl; says = c.say_fault.ensures.says }))

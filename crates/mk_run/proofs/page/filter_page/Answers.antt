@@ -19,7 +19,7 @@ put_page-put-requires-clause-at_work g c = c.in-Ok.ensures.at_work c.args.reader
 -- the result is too large
 pub returns-then-not-fits : goal.returns-then-not-fits
 returns-then-not-fits g c = λ source stands.
-    run_too_large source (source_of g.I.Inputs c.args.inputs.now) c.args.reader stands c.requires.at_end c.args.setup _ _
+    run_too_large source (source_of g.I.Inputs c.args.inputs.now) c.args.reader stands c.requires.reading.at_end c.args.setup _ _
     (ap (λ (h : GrayHead). fits_result c.args.setup h.width h.height) c.requires.read ∙ sym c.if-not-fits.ensures)
     (record { same = refl; same_open = refl; says = record { said = c.say_of_file_page.ensures.said; given_up = c.say_of_file_page.ensures.given_up; never_falls = c.say_of_file_page.ensures.never_falls } })
 
@@ -27,7 +27,7 @@ returns-then-not-fits g c = λ source stands.
 pub returns-in_default : goal.returns-in_default
 returns-in_default g c = λ source stands.
     rw c.say_out_of_memory.ensures.ending (run_out_of_memory c.args.setup source (source_of g.I.Inputs c.args.inputs.now) _ _ stands.opened stands.steady
-    (there_behind_head source (source_of g.I.Inputs c.args.inputs.now) c.args.reader stands c.requires.at_end) (record { same = refl; same_open = refl; says = c.say_out_of_memory.ensures.says }))
+    (there_behind_head source (source_of g.I.Inputs c.args.inputs.now) c.args.reader stands c.requires.reading.at_end) (record { same = refl; same_open = refl; says = c.say_out_of_memory.ensures.says }))
 
 -- the document is whole
 pub returns-in-Ok-put : goal.returns-in-Ok-put
@@ -35,7 +35,7 @@ returns-in-Ok-put g c = λ source stands.
     let (rows, gives, all, documents) = c.in-Ok-put.ensures.puts in
     run_done source (source_of g.I.Inputs c.args.inputs.now) c.args.reader stands c.args.setup (source_of g.I.Inputs c.put_page-put.new.inputs) _ _
     (ap (λ (h : GrayHead). fits_result c.args.setup h.width h.height) c.requires.read ∙ sym c.if-not-fits.ensures) c.put_page-put.ensures.same_openings c.put_page-put.new.reader rows gives
-    c.put_page-put.ensures.still_at_end all c.in-Ok-put.ensures.steady
+    c.put_page-put.ensures.reading.at_end all c.in-Ok-put.ensures.steady
     (record { documents = documents; closed = c.in-Ok-put.ensures.closed; steady = c.in-Ok-put.ensures.went.steady; went = c.in-Ok-put.ensures.went.went; silent = refl })
 
 -- a row of the page isn't there
@@ -45,8 +45,8 @@ returns-in-Err-Input g c = λ source stands.
     let (last, stop, documents, counts, well) = rw is at c.put_page-put.ensures.breaks in
     let open_still = rw is at c.put_page-put.ensures.open in
     rw c.say_fault.ensures.ending
-    (run_at_row source (source_of g.I.Inputs c.args.inputs.now) c.args.reader stands c.requires.at_end c.args.setup (source_of g.I.Inputs c.put_page-put.new.inputs) _ _ _ c.put_page-put.new.reader last
-    (ap (λ (h : GrayHead). fits_result c.args.setup h.width h.height) c.requires.read ∙ sym c.if-not-fits.ensures) c.put_page-put.ensures.same_openings stop c.put_page-put.ensures.still_at_end counts
+    (run_at_row source (source_of g.I.Inputs c.args.inputs.now) c.args.reader stands c.requires.reading.at_end c.args.setup (source_of g.I.Inputs c.put_page-put.new.inputs) _ _ _ c.put_page-put.new.reader last
+    (ap (λ (h : GrayHead). fits_result c.args.setup h.width h.height) c.requires.read ∙ sym c.if-not-fits.ensures) c.put_page-put.ensures.same_openings stop c.put_page-put.ensures.reading.at_end counts
     (record { documents = documents; still_open = open_still; steady = well.steady; went = well.went; says = c.say_fault.ensures.says }))
 
 -- the document couldn't be written
@@ -58,5 +58,5 @@ returns g c = λ source stands.
     rw c.say_not_written.ensures.ending
     (run_unwritten source (source_of g.I.Inputs c.args.inputs.now) c.args.reader stands c.args.setup (source_of g.I.Inputs c.put_page-put.new.inputs) _ _
     (ap (λ (h : GrayHead). fits_result c.args.setup h.width h.height) c.requires.read ∙ sym c.if-not-fits.ensures) c.put_page-put.ensures.same_openings c.put_page-put.new.reader rows gives
-    c.put_page-put.ensures.still_at_end c.put_page-put.ensures.within (cut_few c.args.setup _ c.requires.setup.some_times tall rows _ _ cut) c.requires.setup.some_times tall steady cut down.rose down.failed
+    c.put_page-put.ensures.reading.at_end c.put_page-put.ensures.reading.within (cut_few c.args.setup _ c.requires.setup.some_times tall rows _ _ cut) c.requires.setup.some_times tall steady cut down.rose down.failed
     c.say_not_written.ensures.says)

@@ -36,10 +36,8 @@ loop-y-preserved g c =
     let read : length (held.rows ++ next) ≡ need_of c.args.setup (header_of c.loop-y.reader) c.loop-y.y =
     given_is c.args.setup c.loop-y.reader c.loop-y.filter held.rows c.put_row.new.reader c.put_row.new.filter (held.rows ++ next) c.loop-y.y held.work work c.in-Ok.ensures.taken in
     record {
-      opened = c.put_row.ensures.stays_opened;
+      reading = c.put_row.ensures.reading;
       ready = c.put_row.ensures.stays_ready;
-      at_end = c.put_row.ensures.still_at_end;
-      within = c.put_row.ensures.within;
       rooms = rw c.put_row.ensures.setup.width c.put_row.ensures.same_rooms;
       steady = c.in-Ok.ensures.steady ∙ held.steady;
       openings = c.put_row.ensures.same_openings ∙ held.openings;

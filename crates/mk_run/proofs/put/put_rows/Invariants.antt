@@ -1,10 +1,9 @@
 use Rattle.std.proofs.Common.{◌≡◌, ℕ, ◌+◌, ◌-◌, ◌≤◌, true, List, length}
-use Rattle.bitmap_input.specs.Reading.{AtEnd}
 use Rattle.mkbitmap.specs.Enlarged.{after_of}
 use Rattle.mkbitmap.specs.Follows.{SameSetup}
 use Rattle.run_output.specs.Told.{told_of}
 use Rattle.mk_run.specs.Put.{GoesWell, PutsRows, need_of}
-use Rattle.mk_run.specs.Work.{GivesRows, HasRooms, IsAtWork, header_of}
+use Rattle.mk_run.specs.Work.{GivesRows, HasRooms, IsAtWork, header_of, MayRead}
 use Rattle.mk_run.proofs.put.put_rows.Given as goal
 
 -- the rows above this one are written
@@ -14,10 +13,8 @@ invariant-loop-y g l =
     let outs = g.O.Sink in
     let entry = l.fn in
     record {
-      opened : inputs.is_opened l.inputs ≡ true;
+      reading : MayRead inputs l.reader l.inputs;
       ready : outs.is_ready l.outs ≡ true;
-      at_end : l.reader.ended ≡ true → AtEnd (inputs.files l.inputs);
-      within : length l.reader.bytes ≤ 65536;
       rooms : HasRooms l.setup l.filter.width l.rooms;
       steady : inputs.faults l.inputs ≡ inputs.faults entry.inputs;
       openings : inputs.openings l.inputs ≡ inputs.openings entry.inputs;

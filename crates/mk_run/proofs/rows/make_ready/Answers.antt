@@ -10,9 +10,7 @@ use Rattle.mk_run.proofs.rows.make_ready.Goals as goal
 
 pub rows-init : goal.rows-init
 rows-init g c = record {
-  opened = c.requires.opened;
-  at_end = c.requires.at_end;
-  within = c.requires.within;
+  reading = c.requires.reading;
   width = c.requires.width;
   same_room = refl;
   steady = refl;
@@ -39,9 +37,7 @@ rows-preserved-in-Ok g c =
     let tall : 1 ≤ n.height = omega (arith, work.fits.room.some_rows, same.height) in
     let (row, gives, along) = c.in-Ok.ensures.takes in
     record {
-      opened = c.take_row.ensures.stays_opened;
-      at_end = c.take_row.ensures.still_at_end;
-      within = c.take_row.ensures.within;
+      reading = c.take_row.ensures.reading;
       width = c.take_row.ensures.same_room ∙ held.width ∙ sym (ap (λ (h : GrayHead). h.width) gives.same_head);
       same_room = c.take_row.ensures.same_room ∙ held.same_room;
       steady = c.in-Ok.ensures.steady ∙ held.steady;
@@ -103,9 +99,7 @@ rows-preserved g c =
     let ready : f.taken ≡ min f.height (f.pairs + f.radius + 1) = omega (arith, none, work.due) in
     let tall : 1 ≤ n.height = omega (arith, work.fits.room.some_rows, same.height) in
     record {
-      opened = held.opened;
-      at_end = held.at_end;
-      within = held.within;
+      reading = held.reading;
       width = held.width;
       same_room = held.same_room;
       steady = held.steady;

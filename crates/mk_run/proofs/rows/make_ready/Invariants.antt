@@ -1,8 +1,7 @@
-use Rattle.std.proofs.Common.{◌≡◌, ℕ, ◌+◌, ◌-◌, ◌≤◌, true, List, length}
-use Rattle.bitmap_input.specs.Reading.{AtEnd}
+use Rattle.std.proofs.Common.{◌≡◌, ℕ, ◌+◌, ◌-◌, ◌≤◌, List, length}
 use Rattle.mkbitmap.specs.Enlarged.{after_of, need}
 use Rattle.mkbitmap.specs.Follows.{SameSetup}
-use Rattle.mk_run.specs.Work.{GivesRows, GoesAlong}
+use Rattle.mk_run.specs.Work.{GivesRows, GoesAlong, MayRead}
 use Rattle.mk_run.proofs.rows.make_ready.Given as goal
 
 -- some rows more were read and taken, no more than the row of the result needs
@@ -11,9 +10,7 @@ invariant-rows g l =
     let inputs = g.I.Inputs in
     let entry = l.fn in
     record {
-      opened : inputs.is_opened l.inputs ≡ true;
-      at_end : l.reader.ended ≡ true → AtEnd (inputs.files l.inputs);
-      within : length l.reader.bytes ≤ 65536;
+      reading : MayRead inputs l.reader l.inputs;
       width : length l.row ≡ l.reader.head.width;
       same_room : length l.row ≡ length entry.row;
       steady : inputs.faults l.inputs ≡ inputs.faults entry.inputs;

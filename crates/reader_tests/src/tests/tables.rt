@@ -1,0 +1,52 @@
+//! Tables of files, and what the reader answers on each.
+use crate::tests::answers::{tells, tells_failing};
+use std::alloc::Global;
+use std::process::Abort;
+use std::test::Fail;
+
+/// Looks at each file's answer.
+pub(super) fn check_files(
+    rt: &impl Abort,
+    alloc: Global,
+    files: &[(&[u8], &str)],
+) -> Result<(), Fail> {
+    for (bytes, text) in files {
+        let same = tells(alloc, bytes, text)?;
+        assert!(rt; same, "{bytes:?}");
+    }
+    Ok(())
+}
+
+/// A file, how many of its bytes are there, at least and at most, and the answer.
+pub(super) type Cut<'a> = (&'a [u8], usize, usize, &'a str);
+
+/// Looks at the answer to each front of a file.
+pub(super) fn check_cuts(rt: &impl Abort, alloc: Global, cuts: &[Cut]) -> Result<(), Fail> {
+    for (bytes, first, last, text) in cuts {
+        for n in *first..=*last {
+            if let Some(part) = bytes.get(..n) {
+                let same = tells(alloc, part, text)?;
+                assert!(rt; same, "{n} bytes of {bytes:?}");
+            }
+        }
+    }
+    Ok(())
+}
+
+/// A file, the first and the last of the reads of which one fails, and the answer.
+pub(super) type Failing<'a> = (&'a [u8], u64, u64, &'a str);
+
+/// Looks at the answer where each of these reads fails.
+pub(super) fn check_failing(
+    rt: &impl Abort,
+    alloc: Global,
+    failing: &[Failing],
+) -> Result<(), Fail> {
+    for (bytes, first, last, text) in failing {
+        for k in *first..=*last {
+            let same = tells_failing(alloc, bytes, k, text)?;
+            assert!(rt; same, "read {k} of {bytes:?} fails");
+        }
+    }
+    Ok(())
+}
