@@ -18,4 +18,5 @@ pub mod Usage
 --   IsComplete: what the status is where no device failed, unless memory ran out
 --   IsOnePassOf: no more was read than the batch of a document that couldn't be written
 --   IsRun: all that a run does that is asked for this
+--   IsRunBy: all that a run does of these words
 pub mod Run

@@ -3,6 +3,7 @@ use Rattle.std.specs.Prelude.{◌≡◌, ℕ, ◌*◌, ◌⊎◌, false, List, [
 use Rattle.pt_base.specs.Counts.{Rose}
 use Rattle.pt_base.specs.Failures.{Failures, after_err}
 use Rattle.pt_base.specs.Files.{Contents}
+use Rattle.pt_base.specs.declared.inputs.Inputs.{Ghosts as InputGhosts}
 use Rattle.pt_base.specs.declared.settings.Settings.{Settings}
 use Rattle.run_output.specs.Made.{no_past}
 use Rattle.run_output.specs.Messages.{bad_words, out_of_memory}
@@ -12,12 +13,13 @@ use Rattle.run_output.specs.Status.{code_of}
 use Rattle.run_output.specs.declared.part.Binding.TheVariants.{Apart}
 use Rattle.run_output.specs.declared.status.Status.{Status}
 use Rattle.run_output.specs.declared.status.Status.TheVariants as status
+use Rattle.command_asks.specs.Asked.{IsAsked}
 use Rattle.command_asks.specs.declared.ask.Ask.{Ask}
 use Rattle.command_asks.specs.declared.ask.Ask.TheVariants as asks
 use Rattle.page_batches.specs.Items.{Doc, GoesOn, Item}
 use Rattle.page_batches.specs.Items.Item.{Missing, Stop}
 use Rattle.page_batches.specs.Outcome.{AreCarriedOut, HasEnded}
-use Rattle.run_output.specs.Told.{Sinks, Source}
+use Rattle.run_output.specs.Told.{Sinks, Source, source_of}
 use Rattle.file_documents.specs.Items.{AreItems, IsAbsent, Nothing, told_contents}
 use Rattle.file_documents.specs.Manner.{Manner, manner_by}
 use Rattle.file_documents.specs.OnePass.{IsOnePass}
@@ -66,10 +68,7 @@ IsMissing names contents = (name : List ℕ) × (front : List (List ℕ)) × (ba
 abbrev pub RefusesWords : Status → Sinks → Sinks → Type 0
 RefusesWords status.BadWords old new = AreCarriedOut [] (bad_words ∷ []) old new
 RefusesWords status.OutOfMemory old new = AreCarriedOut [] (out_of_memory ∷ []) old new
-RefusesWords status.Done old new = ⊥
-RefusesWords status.Refused old new = ⊥
-RefusesWords status.Unread old new = ⊥
-RefusesWords status.Unwritten old new = ⊥
+RefusesWords s old new = ⊥
 
 -- what the calls of the outputs answered: where a document couldn't be written one failed, and it was the last one;
 -- else none did
@@ -121,3 +120,12 @@ pub record IsRun (ask : Ask) (s : Status) (source source_now : Source) (old new 
   pub opened : OpensFirst (names_of ask) source source_now
   pub input : InputCount s source.faults source_now.faults
   pub one_pass : s ≡ status.Unwritten → IsOnePassOf ask source source_now old new
+
+-- all that a run does of these words: what they ask for; or they ask for nothing, and that is said. And each count of
+-- faults moved as the status says
+pub record IsRunBy {A : Type 0} (of_inputs : InputGhosts A) (words : List (List ℕ)) (s : Status) (inputs inputs_now : A) (old new : Sinks) : Type 0 where
+  pub ran : (ask : Ask) → IsAsked words ask → IsRun ask s (source_of of_inputs inputs) (source_of of_inputs inputs_now) old new
+  pub bad_words : s ≡ status.BadWords → (ask : Ask) → IsAsked words ask → ⊥
+  pub refused : ((ask : Ask) → IsAsked words ask → ⊥) → (inputs_now ≡ inputs) × RefusesWords s old new
+  pub input : InputCount s (of_inputs.faults inputs) (of_inputs.faults inputs_now)
+  pub output : OutputsMove ((ask : Ask) → IsAsked words ask → BindsApart ask) s old new

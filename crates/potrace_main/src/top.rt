@@ -14,7 +14,7 @@ ghost use Rattle.run_output.specs.Told.{sinks_of, source_of};
 ghost use Rattle.file_documents.specs.Items.{IsAbsent, told_contents};
 ghost use Rattle.file_documents.specs.Outcome.{OpensFirst};
 ghost use Rattle.file_documents.specs.Progress.{InputCount};
-ghost use Rattle.potrace_main.specs.Run.{AreItemsOf, BindsApart, FailureCount, IsCodeOf, IsComplete, IsMissing, IsOnePassOf, IsOutcomeOf, IsRun, OutputsMove, RefusesWords, names_of};
+ghost use Rattle.potrace_main.specs.Run.{AreItemsOf, BindsApart, FailureCount, IsCodeOf, IsComplete, IsMissing, IsOnePassOf, IsOutcomeOf, IsRun, IsRunBy, RefusesWords, names_of};
 
 use crate::usage::{help_text, version_text};
 use command_asks::{Ask, WordFault, settings_of};
@@ -107,12 +107,30 @@ pub fn run<R: Threads + Sync, I: Inputs, O: Outputs, E: Sink, G: Gate + Sync>(
         → result ≢ code_of Status.Unwritten → O.is_ready outs.new ≡ false }
 {
     pages_have_documents();
-    let mut desk = Desk { outs, errs };
-    answer(rt, alloc, words, inputs, &mut desk, gate).code()
+    answer(rt, alloc, words, inputs, outs, errs, gate).code()
 }
 
-/// Does all that the words ask for.
+/// Does all that the words ask for, and answers how that ended.
 fn answer<R: Threads + Sync, I: Inputs, O: Outputs, E: Sink, G: Gate + Sync>(
+    rt: &R,
+    alloc: Global,
+    words: &[String],
+    inputs: &mut I,
+    outs: &mut O,
+    errs: &mut E,
+    gate: &G,
+) -> Status
+    requires closed { O.is_ready outs.old ≡ false }
+    requires ready { E.is_ready errs.old ≡ true }
+    ensures { IsRunBy I.Inputs (map string_bytes words.now) result inputs.old inputs.new
+        (sinks_of O.Sink E.Sink outs.old errs.old) (sinks_of O.Sink E.Sink outs.new errs.new) }
+{
+    let mut desk = Desk { outs, errs };
+    answer_at(rt, alloc, words, inputs, &mut desk, gate)
+}
+
+/// The same, where outputs and messages are at a desk.
+fn answer_at<R: Threads + Sync, I: Inputs, O: Outputs, E: Sink, G: Gate + Sync>(
     rt: &R,
     alloc: Global,
     words: &[String],
@@ -122,15 +140,7 @@ fn answer<R: Threads + Sync, I: Inputs, O: Outputs, E: Sink, G: Gate + Sync>(
 ) -> Status
     requires closed { O.is_ready desk.old.outs.now ≡ false }
     requires ready { E.is_ready desk.old.errs.now ≡ true }
-    ensures ran { (ask : Ask) → IsAsked (map string_bytes words.now) ask → IsRun ask result
-        (source_of I.Inputs inputs.old) (source_of I.Inputs inputs.new)
-        (sinks_at O.Sink E.Sink desk.old) (sinks_at O.Sink E.Sink desk.new) }
-    ensures bad_words { result ≡ Status.BadWords → (ask : Ask) → IsAsked (map string_bytes words.now) ask → ⊥ }
-    ensures refused { ((ask : Ask) → IsAsked (map string_bytes words.now) ask → ⊥)
-        → (inputs.new ≡ inputs.old) × RefusesWords result
-        (sinks_at O.Sink E.Sink desk.old) (sinks_at O.Sink E.Sink desk.new) }
-    ensures input { InputCount result (I.faults inputs.old) (I.faults inputs.new) }
-    ensures output { OutputsMove ((ask : Ask) → IsAsked (map string_bytes words.now) ask → BindsApart ask) result
+    ensures answered { IsRunBy I.Inputs (map string_bytes words.now) result inputs.old inputs.new
         (sinks_at O.Sink E.Sink desk.old) (sinks_at O.Sink E.Sink desk.new) }
     ensures keeps { Keeps O.Sink E.Sink desk.old desk.new }
 {

@@ -1,27 +1,32 @@
-use Rattle.std.proofs.Common.{◌≡◌, ◌<◌, false, ◌∙◌, ap, inl, inr, map, rules, sym}
+use Rattle.std.proofs.Common.{◌∙◌, ap, inl, inr, map, sym}
 use Rattle.std.specs.Prelude.{string_bytes}
-use Rattle.pt_base.specs.Counts.{Rose}
 use Rattle.run_output.specs.Status.{code_of}
 use Rattle.command_asks.proofs.Possible.{possible}
-use Rattle.potrace_main.specs.Run.{FailureCount}
 use Rattle.potrace_main.proofs.Completing.{closed_else, code_one, failed_by, rose_by, run_absent, run_complete, run_unread, unwritten_by}
 use Rattle.potrace_main.proofs.top.run.Goals as goal
+
+pub returns-clause-outcome : goal.returns-clause-outcome
+returns-clause-outcome g c = λ ask asked. (c.answer.result, c.code.ensures, (c.answer.ensures.ran ask asked).outcome)
 
 pub returns-clause-complete : goal.returns-clause-complete
 returns-clause-complete g c = λ ask asked.
     let all = run_complete (λ settings can output page is. c.pages_have_documents.ensures page settings is can) ask c.answer.result _ _ _ _ (possible (map string_bytes c.args.words.now) ask asked) (c.answer.ensures.ran ask asked) in (
       all.0,
       all.1,
-      λ no_read no_write.
-          let none : Rose (g.O.Sink.faults c.args.outs.now) (g.O.Sink.faults c.answer.new.desk.outs.now) → ⊥ = search rules in
-          (c.answer.result, c.code.ensures, all.2 no_read none),
+      λ no_read no_write. (c.answer.result, c.code.ensures, all.2 no_read no_write),
     )
 
 pub returns-clause-bad_words : goal.returns-clause-bad_words
 returns-clause-bad_words g c = λ is. c.answer.ensures.bad_words (code_one c.answer.result _ (sym c.code.ensures ∙ is))
 
+pub returns-clause-refused : goal.returns-clause-refused
+returns-clause-refused g c = λ none. let (same, refuses) = c.answer.ensures.refused none in (same, (c.answer.result, c.code.ensures, refuses))
+
 pub returns-clause-opened : goal.returns-clause-opened
 returns-clause-opened g c = λ ask asked. (c.answer.ensures.ran ask asked).opened
+
+pub returns-clause-one_pass : goal.returns-clause-one_pass
+returns-clause-one_pass g c = λ ask asked is. (c.answer.ensures.ran ask asked).one_pass (code_one c.answer.result _ (sym c.code.ensures ∙ is))
 
 pub returns-clause-unread : goal.returns-clause-unread
 returns-clause-unread g c = λ ask asked is.
@@ -39,22 +44,13 @@ returns-clause-read g c = (c.answer.result, c.code.ensures, c.answer.ensures.inp
 
 -- what the outputs did
 pub returns-clause-unwritten : goal.returns-clause-unwritten
-returns-clause-unwritten g c = λ is.
-    let rose : Rose (g.O.Sink.faults c.args.outs.now) (g.O.Sink.faults c.answer.new.desk.outs.now) =
-    rose_by _ c.answer.result _ _ c.answer.ensures.output (code_one c.answer.result _ (sym c.code.ensures ∙ is)) in search rules
+returns-clause-unwritten g c = λ is. rose_by _ c.answer.result _ _ c.answer.ensures.output (code_one c.answer.result _ (sym c.code.ensures ∙ is))
 
 pub returns-clause-unwritten_always : goal.returns-clause-unwritten_always
-returns-clause-unwritten_always g c = λ less.
-    let rises : g.O.Sink.faults c.args.outs.now < g.O.Sink.faults c.answer.new.desk.outs.now = search rules in
-    c.code.ensures ∙ ap code_of (unwritten_by _ c.answer.result _ _ c.answer.ensures.output rises)
+returns-clause-unwritten_always g c = λ less. c.code.ensures ∙ ap code_of (unwritten_by _ c.answer.result _ _ c.answer.ensures.output less)
 
 pub returns-clause-failed : goal.returns-clause-failed
-returns-clause-failed g c =
-    let failed : FailureCount c.answer.result (g.O.Sink.failures c.args.outs.now) (g.O.Sink.failures c.answer.new.desk.outs.now) =
-    failed_by _ c.answer.result _ _ c.answer.ensures.output in
-    (c.answer.result, c.code.ensures, search rules)
+returns-clause-failed g c = (c.answer.result, c.code.ensures, failed_by _ c.answer.result _ _ c.answer.ensures.output)
 
 pub returns-clause-closed : goal.returns-clause-closed
-returns-clause-closed g c = λ apart other.
-    let shut : g.O.Sink.is_ready c.answer.new.desk.outs.now ≡ false =
-    closed_else _ c.answer.result _ _ c.answer.ensures.output apart (λ is. other (c.code.ensures ∙ ap code_of is)) in search rules
+returns-clause-closed g c = λ apart other. closed_else _ c.answer.result _ _ c.answer.ensures.output apart (λ is. other (c.code.ensures ∙ ap code_of is))
