@@ -1,7 +1,7 @@
 //! Shapes with long sides, with many corners, and round ones.
 
-use bit_image::Bitmap;
 use crate::pages::{NoPage, put, white};
+use bit_image::Bitmap;
 use std::alloc::Global;
 
 /// What is black on a square page.
