@@ -1,4 +1,4 @@
-//! Pages, walks and plain programs that the tests are made of.
+//! Pages, walks, plain programs and runs in memory that the tests are made of.
 #![tactic(auto)]
 
 pub mod gates;
@@ -6,6 +6,7 @@ pub mod pages;
 pub mod plain;
 pub mod plain_cones;
 pub mod plain_page;
+pub mod runs;
 pub mod shapes;
 pub mod walks;
 
@@ -14,5 +15,6 @@ pub use pages::{checkered, drawn, noise, numbered};
 pub use plain::is_possible;
 pub use plain_cones::{next_corner, reaches};
 pub use plain_page::PlainPage;
+pub use runs::{first_of, listed, named, split};
 pub use shapes::{Shape, shaped};
 pub use walks::{draw, hooked_stairs, round, triangle};

@@ -1,8 +1,7 @@
 //! Runs of `mkbitmap` over standard input in memory, and what is to come of them.
-ghost use Rattle.std.specs.Prelude.{◌≡◌, IfOk, string_bytes};
-
 use mk_run::mk_run;
-use pt_base::{InCall, MemInputs, MemOutputs, MemSink, NamedBytes, NoMemory, OutCall};
+use page_samples::{first_of, listed, named, split};
+use pt_base::{InCall, MemInputs, MemOutputs, MemSink, NoMemory, OutCall};
 use std::alloc::Global;
 use std::process::Abort;
 use std::test::Fail;
@@ -10,7 +9,7 @@ use std::test::Fail;
 /// What a run is made of, and what is to come of it.
 #[derive(Clone, Copy)]
 pub struct Case<'a> {
-    /// The words, with blanks between them.
+    /// The words, with a space between them.
     pub words: &'a str,
     /// The name of the one file, and its bytes.
     pub name: &'a str,
@@ -51,7 +50,7 @@ pub const PLAIN: Case<'static> = Case {
 impl<'a> Case<'a> {
     /// Runs, and looks at all that came of it.
     pub fn check(&self, rt: &impl Abort, alloc: Global) -> Result<(), Fail> {
-        let words = words_of(alloc, self.words)?;
+        let words = split(alloc, self.words)?;
         let mut inputs = self.inputs(alloc)?;
         let most = self.most.max(1);
         let mut outs = MemOutputs::new(alloc, most, listed(alloc, self.unwritten)?, 2, 100_000)?;
@@ -71,44 +70,6 @@ impl<'a> Case<'a> {
         let unread = listed(alloc, self.unread)?;
         Ok(MemInputs::new(vec![in alloc; file]?, self.most.max(1), unread))
     }
-}
-
-/// The one document, if there is one, and whether it is whole.
-fn first_of(outs: &MemOutputs) -> Option<(&[u8], bool)> {
-    if outs.count() == 1 {
-        Some((outs.text(0), outs.whole(0)))
-    } else {
-        None
-    }
-}
-
-/// The words of a line.
-fn words_of(alloc: Global, line: &str) -> Result<Vec<String>, NoMemory> {
-    let mut words = Vec::new(alloc);
-    for word in line.split(' ') {
-        if !word.is_empty() {
-            words.push(String::from_str(alloc, word)?)?;
-        }
-    }
-    Ok(words)
-}
-
-/// One call or none.
-fn listed<T: Copy>(alloc: Global, call: Option<T>) -> Result<Vec<T>, NoMemory> {
-    let mut calls = Vec::new(alloc);
-    if let Some(call) = call {
-        calls.push(call)?;
-    }
-    Ok(calls)
-}
-
-fn named(alloc: Global, name: &str, bytes: &[u8]) -> Result<NamedBytes, NoMemory>
-    ensures { IfOk result (λ file. string_bytes file.name ≡ name.now) }
-{
-    Ok(NamedBytes {
-        name: String::from_str(alloc, name)?,
-        bytes: Vec::from_slice(alloc, bytes)?,
-    })
 }
 
 /// Runs each case.
