@@ -1,8 +1,7 @@
 //! Runs of `point_fill` over standard input in memory, and what is to come of them.
-ghost use Rattle.std.specs.Prelude.{◌≡◌, IfOk, string_bytes};
-
 use fill_run::fill_run;
-use pt_base::{InCall, MemInputs, MemOutputs, MemSink, NamedBytes, NoMemory, OutCall};
+use page_samples::{first_of, listed, named};
+use pt_base::{InCall, MemInputs, MemOutputs, MemSink, NoMemory, OutCall};
 use std::alloc::Global;
 use std::process::Abort;
 use std::test::Fail;
@@ -74,33 +73,6 @@ impl<'a> Case<'a> {
         let unread = listed(alloc, self.unread)?;
         Ok(MemInputs::new(vec![in alloc; file]?, self.most.max(1), unread))
     }
-}
-
-/// The one document, if there is one, and whether it is whole.
-fn first_of(outs: &MemOutputs) -> Option<(&[u8], bool)> {
-    if outs.count() == 1 {
-        Some((outs.text(0), outs.whole(0)))
-    } else {
-        None
-    }
-}
-
-/// One call or none.
-fn listed<T: Copy>(alloc: Global, call: Option<T>) -> Result<Vec<T>, NoMemory> {
-    let mut calls = Vec::new(alloc);
-    if let Some(call) = call {
-        calls.push(call)?;
-    }
-    Ok(calls)
-}
-
-fn named(alloc: Global, name: &str, bytes: &[u8]) -> Result<NamedBytes, NoMemory>
-    ensures { IfOk result (λ file. string_bytes file.name ≡ name.now) }
-{
-    Ok(NamedBytes {
-        name: String::from_str(alloc, name)?,
-        bytes: Vec::from_slice(alloc, bytes)?,
-    })
 }
 
 /// Runs each case.
