@@ -1,5 +1,5 @@
 -- The starts of the paths of minus sign, and the places of those in a list.
-use Rattle.std.proofs.Common.{◌≡◌, ℕ, zero, suc, ◌+◌, ◌/◌, ◌%◌, ◌<◌, ◌≤◌, Bool, true, false, cond, not, ◌&&◌, ◌||◌, nat_abs, nat_eq, nat_lt, ℤ, pos, ◌≤ℤ◌, List, [], ◌∷◌, ◌++◌, length, get_or, take, All, refl, ap, sym, subst, ◌∙◌, arith, append_assoc}
+use Rattle.std.proofs.Common.{◌≡◌, ℕ, zero, suc, ◌+◌, ◌%◌, ◌<◌, ◌≤◌, Bool, true, false, cond, not, ◌&&◌, ◌||◌, nat_abs, nat_eq, nat_lt, ℤ, pos, ◌≤ℤ◌, List, [], ◌∷◌, ◌++◌, length, get_or, take, All, refl, ap, sym, subst, ◌∙◌, arith, append_assoc}
 use Rattle.std.specs.List.{list_any}
 use Rattle.std.proofs.lemmas.Bool.{eq-eqb, ne_eqb}
 use Rattle.std.proofs.lemmas.Int.{ints}
@@ -95,14 +95,6 @@ starts_on path closed corners =
     let column : nat_abs (point_at path.points 0).x ≤ 32767 = low_abs (point_at path.points 0).x here.from_left here.to_right in
     let row : nat_abs (point_at path.points 0).y ≤ 32767 = low_abs (point_at path.points 0).y here.from_bottom here.to_top in
     record { column = column; row = omega arith }
-
-pub starts_low : (paths : List Path) → All (λ path. IsClosedWalk path.points) paths → All (λ path. All (IsCornerOf 32767 32767) path.points) paths
-    → All (λ s. s.place / ROW < 32768) (starts_from 0 paths)
-starts_low paths closed corners =
-    all_starts (λ s. s.place / ROW < 32768) 0 paths (λ m h. row_below (get_or paths m no_path) (starts_on (get_or paths m no_path) (closed m no_path h) (corners m no_path h)))
-  where
-    row_below : (path : Path) → StartsOn path → order_at (start_column path) (start_row path) / ROW < 32768
-    row_below path on = let column = on.column in let row = on.row in omega arith
 
 pub starts_columns : (paths : List Path) → All (λ path. IsClosedWalk path.points) paths → All (λ path. All (IsCornerOf 32767 32767) path.points) paths
     → All (λ s. s.place % ROW ≤ 32767) (starts_from 0 paths)

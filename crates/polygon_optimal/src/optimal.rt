@@ -25,7 +25,7 @@ pub fn polygon(alloc: Global, points: &[Point]) -> Result<Polygon, NoMemory>
 /// The same polygon, and the walk's sums, of which it was found.
 //
 // How far segments reach is measured before the points are summed up: the one takes 36 bytes a point, which are given
-// back, the other 32, which stay. In the other order a spiral of walls took a quarter more memory.
+// back, the other 32, which stay. In the other order a spiral of walls took a fifth more memory.
 pub fn polygon_with_moments(alloc: Global, points: &[Point]) -> Result<(Polygon, Moments), NoMemory>
     requires closed { IsClosedWalk points.now }
     requires on_page { AreOnPage points.now }
