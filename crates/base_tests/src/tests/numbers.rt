@@ -1,6 +1,6 @@
 //! Numbers as people write them, and roots.
 
-use pt_base::{BadDecimal, isqrt, read_micro, read_whole};
+use pt_base::{BadDecimal, isqrt, quotient_root, read_micro, read_whole};
 
 #[test]
 fn decimals_in_millionths(rt: HostRuntime) {
@@ -61,4 +61,17 @@ fn roots(rt: HostRuntime) {
     for (n, root) in table {
         assert_eq!(rt; isqrt(n), root, "{n}");
     }
+}
+
+// Where a guess would be farthest off: the test would then take longer than it may.
+#[test]
+fn roots_of_quotients(rt: HostRuntime) {
+    let roots = (
+        quotient_root(0, 864_691_128_455_135_232),
+        quotient_root(1, 864_691_128_455_135_232),
+        quotient_root(2, 1),
+        quotient_root(3_458_764_513_820_540_927, 864_691_128_455_135_232),
+        quotient_root(3_458_764_513_820_540_928, 864_691_128_455_135_232),
+    );
+    assert_eq!(rt; roots, (0, 0, 92_681, 131_071, 131_072));
 }
