@@ -12,7 +12,7 @@ use Rattle.pt_base.specs.declared.piece.Piece.{Piece}
 use Rattle.pt_base.specs.declared.piece.Piece.TheVariants.{Corner}
 use Rattle.pt_base.specs.declared.point.Point.{Point}
 use Rattle.pt_base.specs.declared.settings.Settings.{Settings}
-use Rattle.corner_smooth.specs.Corner.{piece_of, pieces_of, corner_piece as smoothed_at}
+use Rattle.corner_smooth.specs.Corner.{corner_piece, piece_of, pieces_of}
 use Rattle.least_walk.specs.LeastWalk.{IsWalk, Step, steps_from, steps_of}
 use Rattle.curve_join.specs.Bends.{bends_of}
 use Rattle.curve_join.specs.Choice.{IsBestJoin, MayBeOne, run_piece}
@@ -60,7 +60,7 @@ each_of size is_allowed (i ∷ rest) is all =
 
 -- ---- where no piece is a curve
 
-module _ (tol : ℕ) (o : Outline) (corners : (k : ℕ) → k < length o.pieces → is_curve (corner_piece o.pieces k) ≡ false) where
+module _ (tol : ℕ) (o : Outline) (corners : (k : ℕ) → k < length o.pieces → is_curve (piece_at o.pieces k) ≡ false) where
   not_joined : (i j : ℕ) → i < j → j ≤ length o.pieces → 2 ≤ length (slice_range (bends_of o) i j) → ¬ MayJoin tol (slice_range (bends_of o) i j)
   not_joined i j rises within some may =
       let round = may.round 0 no_bend (omega arith) in
@@ -99,15 +99,15 @@ module _ (tol : ℕ) (o : Outline) (corners : (k : ℕ) → k < length o.pieces 
 -- ---- where no sharpness is asked for
 
 corner_at : (alphamax : ℕ) (vertices : List Point) → alphamax ≡ 0 → (k : ℕ) → k < length (pieces_of alphamax vertices)
-    → is_curve (corner_piece (pieces_of alphamax vertices) k) ≡ false
+    → is_curve (piece_at (pieces_of alphamax vertices) k) ≡ false
 corner_at alphamax vertices e k h =
     let before : Point = point_at vertices (k + (length vertices - 1)) in
     let at : Point = point_at vertices k in
     let after : Point = point_at vertices (k + 1) in
-    let count = length-map-range_with_len (smoothed_at alphamax vertices) 0 (length vertices) in
+    let count = length-map-range_with_len (corner_piece alphamax vertices) 0 (length vertices) in
     let place : (k % length (pieces_of alphamax vertices)) ≡ k = mod-eq_of_lt h in
     ap (λ n. is_curve (slice_index_or (pieces_of alphamax vertices) n (Corner origin origin))) place
-    ∙ ap is_curve (get_or-map-range_with_len (smoothed_at alphamax vertices) 0 (length vertices) k k (Corner origin origin) (omega (arith, count)) (omega arith))
+    ∙ ap is_curve (get_or-map-range_with_len (corner_piece alphamax vertices) 0 (length vertices) k k (Corner origin origin) (omega (arith, count)) (omega arith))
     ∙ ap (λ n. is_curve (piece_of n before at after)) e
     ∙ ap is_curve (always_corner before at after)
 
