@@ -7,7 +7,6 @@ pub mod Appending
 pub mod BmpStays
 pub mod FrontStays
 pub mod Needing
-pub mod Leaving
 pub mod Telling
 pub mod Places
 pub mod Filling

@@ -10,7 +10,6 @@ use Rattle.bitmap_input.specs.Shading.{brightness}
 use Rattle.bitmap_input.proofs.Appending.{sides_stay, maxval_stays, space_stays}
 use Rattle.bitmap_input.proofs.Telling.{reads_on, reads_stop, reads_memory}
 use Rattle.bitmap_input.proofs.Bodies.{rows_shown, rows_stopped}
-use Rattle.bitmap_input.proofs.Leaving.{leaves_memory, leaves_on, leaves_stop, leaves_value}
 use Rattle.bitmap_input.proofs.body.read_raw_samples_body.Goals as goal
 
 pub returns-in_err-sides-clause-reads : goal.returns-in_err-sides-clause-reads
@@ -73,30 +72,3 @@ returns-clause-reads g c =
     (λ _ _. rows_shown level invert (as_entry kind maxval) (λ a. differ invert (nat_le (brightness kind a) c.brightest_black.result)) (raw_samples_row kind maxval)
     c.in_ok-page.page c.in_ok-sides.sides s is c.in_ok-page.ensures.width c.in_ok-page.ensures.height
     c.read_raw_sample_rows.new.page (λ a. ap (differ invert) (c.brightest_black.ensures.black a)) c.in_ok-page.ensures.white c.in_ok-read_raw_sample_rows.ensures.sides c.known.ensures c.in_ok-read_raw_sample_rows.ensures.reads))))
-
-pub returns-in_err-sides-clause-leaves : goal.returns-in_err-sides-clause-leaves
-returns-in_err-sides-clause-leaves g c =
-    let p = err_from_is_err_and c.from_residual.result c.from_residual.ensures.1 in rw (p.1, p.2) (leaves_stop c.in_err-sides.ensures.leaves)
-
-pub returns-in_err-maxval-clause-leaves : goal.returns-in_err-maxval-clause-leaves
-returns-in_err-maxval-clause-leaves g c =
-    let p = err_from_is_err_and c.from_residual-in_err-maxval.result c.from_residual-in_err-maxval.ensures.1 in rw (p.1, p.2) (leaves_on c.in_ok-sides.ensures.leaves (leaves_stop c.in_err-maxval.ensures.leaves))
-
-pub returns-in_err-skip_space-clause-leaves : goal.returns-in_err-skip_space-clause-leaves
-returns-in_err-skip_space-clause-leaves g c =
-    let p = err_from_is_err_and c.from_residual-in_err-skip_space.result c.from_residual-in_err-skip_space.ensures.1 in rw (p.1, p.2) (leaves_on c.in_ok-sides.ensures.leaves (leaves_on c.in_ok-maxval.ensures.leaves (leaves_stop c.in_err-skip_space.ensures.leaves)))
-
-pub returns-in_err-page-clause-leaves : goal.returns-in_err-page-clause-leaves
-returns-in_err-page-clause-leaves g c =
-    let p = err_from_is_err_and c.from_residual-in_err-page.result c.from_residual-in_err-page.ensures.1 in rw (p.1, p.2) (leaves_memory (leaves_on c.in_ok-sides.ensures.leaves (leaves_on c.in_ok-maxval.ensures.leaves c.in_ok-skip_space.ensures.leaves)))
-
-pub returns-in_err-row-clause-leaves : goal.returns-in_err-row-clause-leaves
-returns-in_err-row-clause-leaves g c =
-    let p = err_from_is_err_and c.from_residual-in_err-row.result c.from_residual-in_err-row.ensures.1 in rw (p.1, p.2) (leaves_memory (leaves_on c.in_ok-sides.ensures.leaves (leaves_on c.in_ok-maxval.ensures.leaves c.in_ok-skip_space.ensures.leaves)))
-
-pub returns-in_err-read_raw_sample_rows-clause-leaves : goal.returns-in_err-read_raw_sample_rows-clause-leaves
-returns-in_err-read_raw_sample_rows-clause-leaves g c =
-    let p = err_from_is_err_and c.from_residual-in_err-read_raw_sample_rows.result c.from_residual-in_err-read_raw_sample_rows.ensures.1 in rw (p.1, p.2) (leaves_on c.in_ok-sides.ensures.leaves (leaves_on c.in_ok-maxval.ensures.leaves (leaves_on c.in_ok-skip_space.ensures.leaves (leaves_stop c.in_err-read_raw_sample_rows.ensures.leaves))))
-
-pub returns-clause-leaves : goal.returns-clause-leaves
-returns-clause-leaves g c = leaves_on c.in_ok-sides.ensures.leaves (leaves_on c.in_ok-maxval.ensures.leaves (leaves_on c.in_ok-skip_space.ensures.leaves (leaves_value _ c.in_ok-read_raw_sample_rows.ensures.leaves)))
