@@ -1,9 +1,9 @@
 -- A block that is read piece by piece.
-use Rattle.std.proofs.Common.{subst, ◌≡◌, refl, ℕ, ◌+◌, ◌-◌, ◌≤◌, ◌<◌, true, false, List, [], ◌++◌, length, take, drop, arith, ap, sym, ◌∙◌, Option, Result, Err, append_assoc, append-nil}
+use Rattle.std.proofs.Common.{subst, ◌≡◌, refl, ℕ, ◌+◌, ◌-◌, ◌≤◌, ◌<◌, true, false, List, [], ◌++◌, length, take, drop, arith, ap, sym, ◌∙◌, Option, Result, Ok, Err, append_assoc, append-nil}
 use Rattle.std.specs.Prelude.{nat_lt}
-use Rattle.std.proofs.lemmas.List.{length-append, length-take, length-take-le, take-append-drop, take-take}
-use Rattle.std.proofs.lemmas.Bool.{lt-ltb}
-use Rattle.std.proofs.Math.Seq.{take-append-add}
+use Rattle.std.proofs.lemmas.List.{length-append, length-take, length-take-le, take-append-drop, take-take, take_all}
+use Rattle.std.proofs.lemmas.Bool.{lt-ltb, le-ltb}
+use Rattle.std.proofs.Math.Seq.{take-append-add, take-append_seam, drop-append_seam}
 use Rattle.std.proofs.lemmas.Slice.{take-put_mid}
 use borrow.Rule.Slice.PartMut.{put_mid}
 use Rattle.pt_base.specs.Files.{Files}
@@ -13,12 +13,12 @@ use Rattle.bitmap_input.specs.declared.stop.Stop.TheVariants as stop
 use Rattle.bitmap_input.specs.Cut.{is_by_end}
 use Rattle.bitmap_input.specs.Cut.Kind.{Truncated}
 use Rattle.bitmap_input.specs.Cut.Ending.{Refused}
-use Rattle.bitmap_input.specs.Cut.Cut.{Stops}
+use Rattle.bitmap_input.specs.Cut.Cut.{Takes, Stops}
 use Rattle.bitmap_input.specs.Parts.{block}
 use Rattle.bitmap_input.specs.Reading.{Buffered, Moves, AreNeeded, Reads}
 use Rattle.bitmap_input.specs.Window.{ReadsOn}
 use Rattle.bitmap_input.proofs.Needing.{needs_none, needs_look}
-use Rattle.bitmap_input.proofs.Telling.{stand, move_on}
+use Rattle.bitmap_input.proofs.Telling.{not_true, stand, move_on}
 use Rattle.bitmap_input.proofs.Running.{two_splits}
 
 -- the first bytes of a block of n bytes were read, `done` of them
@@ -31,6 +31,13 @@ pub record IsBlockSoFar (n : ℕ) (old : Buffered) (before : Option Files) (done
 -- a block that isn't there
 no_block : (n : ℕ) (bytes : List ℕ) → length bytes < n → block n bytes ≡ Stops true (Refused Truncated)
 no_block n bytes less = let test : nat_lt (length bytes) n ≡ true = lt-ltb (length bytes) n less in rw test refl
+
+-- a block that is there
+the_block : (row rest : List ℕ) (n : ℕ) → length row ≡ n → block n (row ++ rest) ≡ Takes false row rest
+the_block row rest n len =
+    let within : n ≤ length (row ++ rest) = omega (arith, length-append row rest) in
+    let test : nat_lt (length (row ++ rest)) n ≡ false = le-ltb (length (row ++ rest)) n within in
+    rw (test, ← len, take-append_seam, drop-append_seam) refl
 
 -- a block of another length that is the same
 pub block_as : {X : Type 0} {is : X → List ℕ → Type 0} {old new : Buffered} {files now : Option Files} {result : Result X Stop} {m n : ℕ} →
@@ -76,6 +83,18 @@ block_is_short {old} {held} {new} n done row now_row s len less on none ended =
       moves = move_on s.moves on.moves;
       needed = block_needs s less on;
       gives = (true, rw whole (no_block n (take done row) (rw length-take (omega arith))), λ _. ended);
+    }
+
+-- all of it was read
+pub block_ends : {old held : Buffered} {before files : Option Files} {n done : ℕ} {row : List ℕ} → IsBlockSoFar n old before done row held files → length row ≡ n → n ≤ done →
+    Reads (λ _ bytes. bytes ≡ row) (block n) old before (Ok (tt {0})) held files
+block_ends {held = held} {n = n} {done = done} {row = row} s len all =
+    let whole : take done row ≡ row = take_all done row (omega (arith, len)) in
+    record {
+      more = s.more;
+      moves = s.moves;
+      needed = s.needed;
+      gives = (false, row, refl, rw (s.split, whole) (the_block row held.bytes n len), λ h. absurd (not_true h));
     }
 
 -- the row that was filled up to a place, and k bytes further

@@ -1,6 +1,8 @@
 -- Numbers that are read one digit after another.
-use Rattle.std.proofs.Common.{◌≡◌, refl, ℕ, ◌+◌, ◌-◌, ◌*◌, true, min, List, [], ◌∷◌, ◌++◌, arith}
+use Rattle.std.proofs.Common.{◌≡◌, refl, ℕ, ◌+◌, ◌-◌, ◌*◌, true, false, min, List, [], ◌∷◌, ◌++◌, arith}
 use Rattle.bitmap_input.specs.Cut.{Kind}
+use Rattle.bitmap_input.specs.Cut.Ending.{Refused}
+use Rattle.bitmap_input.specs.Cut.Cut.{Stops}
 use Rattle.bitmap_input.specs.Parts.{is_digit, value, number}
 use Rattle.bitmap_input.specs.Run.{cap, IsCapped, digits}
 
@@ -15,3 +17,7 @@ capped_more x y v k a b = omega arith
 -- a number that begins with this digit is the digits from here on
 pub number_at : (kind : Kind) (b : ℕ) (xs : List ℕ) → is_digit b ≡ true → number kind (b ∷ xs) ≡ digits (b ∷ xs)
 number_at kind b xs test = rw test refl
+
+-- no number begins with another byte than a digit
+pub no_number_at : (kind : Kind) (b : ℕ) (xs : List ℕ) → is_digit b ≡ false → number kind (b ∷ xs) ≡ Stops false (Refused kind)
+no_number_at kind b xs test = rw test refl

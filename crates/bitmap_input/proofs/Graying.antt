@@ -1,6 +1,6 @@
 -- Samples that become pixels: how a row of bytes holds them, and when numbers that were cut are the same
 -- pixel as the whole ones.
-use Rattle.std.proofs.Common.{◌≡◌, refl, ℕ, zero, suc, ◌+◌, ◌*◌, ◌≤◌, ◌<◌, inl, inr, Bool, true, false, List, [], ◌∷◌, length, map, get_or, arith, ap, sym, ◌∙◌, Option, Ok}
+use Rattle.std.proofs.Common.{◌≡◌, refl, ℕ, zero, suc, ◌+◌, ◌*◌, ◌≤◌, ◌<◌, inl, inr, Bool, true, false, List, [], ◌∷◌, length, map, get_or, arith, ap, sym, ◌∙◌, Option, Ok, Fits, w16}
 use Rattle.std.specs.Prelude.{if◌then◌else◌, nat_le}
 use Rattle.std.proofs.lemmas.Bool.{lt-leb, le-leb, cases_lt}
 use Rattle.std.proofs.lemmas.List.{get_or-map}
@@ -9,6 +9,7 @@ use Rattle.bit_image.specs.Image.{differ}
 use Rattle.bitmap_input.specs.Cut.{Cut}
 use Rattle.bitmap_input.specs.Samples.{PixelSamples, samples_in, samples, grouped}
 use Rattle.bitmap_input.specs.Shading.{brightness, brightness_at, IsCappedBrightness, is_black_at, black_of, IsInRange}
+use Rattle.bitmap_input.specs.GrayRows.{lowered}
 use Rattle.bitmap_input.specs.Run.{cap, IsCapped}
 use Rattle.bitmap_input.specs.Reading.{Buffered, Reads}
 use Rattle.bitmap_input.specs.declared.channels.Channels.{Channels}
@@ -43,6 +44,12 @@ wide_sample (suc i) (a ∷ b ∷ bytes) h =
     let first : 2 * suc i ≡ suc (suc (2 * i)) = omega arith in
     let second : 2 * suc i + 1 ≡ suc (suc (2 * i + 1)) = omega arith in
     rw (second, first) (wide_sample i bytes (omega arith))
+
+-- samples of two bytes are given as they are
+pub lowered_row : (row : List ℕ) → ((i : ℕ) → Fits w16 (get_or row i 0)) → map lowered row ≡ row
+lowered_row [] within = refl
+lowered_row (x ∷ row) within =
+    let first : lowered x ≡ x = omega (arith, within 0) in rw (first, lowered_row row (λ i. within (suc i))) refl
 
 -- no sample has less than a byte
 wide_samples-most : (bytes : List ℕ) → length (samples true bytes) ≤ length bytes

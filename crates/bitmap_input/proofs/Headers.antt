@@ -1,19 +1,21 @@
 -- The parts of a header at their first byte, and the check of its sides.
 use Rattle.std.proofs.Common.{subst, Option, Result, Ok, Err, append-nil, ◌++◌, ◌≡◌, refl, ℕ, zero, suc, ◌≤◌, ◌<◌, Bool, true, false, ◌||◌, ◌⊎◌, inl, inr, List, [], ◌∷◌, arith, ap, sym, ◌∙◌}
-use Rattle.std.specs.Prelude.{nat_lt}
+use Rattle.std.specs.Prelude.{nat_lt, if◌then◌else◌}
 use Rattle.std.proofs.lemmas.Bool.{lt-ltb, le-ltb}
 use Rattle.bitmap_input.specs.Cut.{Kind, Ending, is_by_end}
-use Rattle.bitmap_input.specs.Cut.Kind.{ZeroSide, TooLarge, BadHeader}
-use Rattle.bitmap_input.specs.Cut.Ending.{Refused}
+use Rattle.bitmap_input.specs.Cut.Kind.{UnknownFormat, ZeroSide, TooLarge, BadHeader}
+use Rattle.bitmap_input.specs.Cut.Ending.{End, Trailing, Refused}
 use Rattle.bitmap_input.specs.Cut.Cut.{Takes, Stops}
 use Rattle.bitmap_input.specs.Parts.{is_zero, gap_length, gap, some_gap}
-use Rattle.bitmap_input.specs.Front.{checked, checked_maxval, greatest_maxval, magic, magic_behind}
+use Rattle.bitmap_input.specs.Front.{checked, checked_maxval, greatest_maxval, magic, magic_behind, no_magic}
 use Rattle.bitmap_input.specs.Run.{IsCapped}
+use Rattle.bitmap_input.specs.declared.fault.InFault.TheVariants as fault
 use Rattle.bitmap_input.specs.declared.stop.Stop.{Stop}
+use Rattle.bitmap_input.specs.declared.stop.Stop.TheVariants as stop
 use Rattle.bitmap_input.specs.declared.header.Sides.{Sides}
 use Rattle.bitmap_input.specs.Header.{IsSides, Checks, ChecksMaxval}
 use Rattle.pt_base.specs.Files.{Files}
-use Rattle.bitmap_input.specs.Reading.{Buffered, StopsBy, Reads, Same}
+use Rattle.bitmap_input.specs.Reading.{Buffered, cause_of, StopsBy, Reads, Same}
 use Rattle.bitmap_input.proofs.Needing.{needs_none}
 use Rattle.bitmap_input.proofs.Telling.{not_true, stand}
 use Rattle.bitmap_input.specs.Reading.Cause.{Says}
@@ -23,6 +25,10 @@ use Rattle.pt_base.specs.declared.limits.TheConstants.{LONGEST_SIDE}
 pub some_gap_at : (kind : Kind) (b n : ℕ) (bs : List ℕ) → gap_length false (b ∷ bs) ≡ suc n → some_gap kind (b ∷ bs) ≡ gap (b ∷ bs)
 some_gap_at kind b n bs some = rw (ap is_zero some) refl
 
+-- another byte than a gap's
+pub no_gap_at : (kind : Kind) (b : ℕ) (bs : List ℕ) → gap_length false (b ∷ bs) ≡ 0 → some_gap kind (b ∷ bs) ≡ Stops false (Refused kind)
+no_gap_at kind b bs none = rw (ap is_zero none) refl
+
 pub magic_at : (later : Bool) (a : ℕ) (bs : List ℕ) → magic later (a ∷ bs) ≡ magic_behind later a bs
 magic_at true a bs = refl
 magic_at false a bs = refl
@@ -30,6 +36,25 @@ magic_at false a bs = refl
 pub magic_of_none : (later : Bool) → is_by_end (magic later []) ≡ true
 magic_of_none true = refl
 magic_of_none false = refl
+
+-- what it means that no magic stands there
+abbrev pub without_magic : Bool → Ending
+without_magic true = Trailing
+without_magic false = Refused UnknownFormat
+
+pub no_magic_stops : (e later : Bool) → no_magic e later ≡ Stops e (without_magic later)
+no_magic_stops e true = refl
+no_magic_stops e false = refl
+
+pub no_magic_says : (later : Bool) (s : Stop) → s ≡ (if later then stop.Trailing else stop.Fault fault.UnknownFormat) → cause_of s ≡ Says (without_magic later)
+no_magic_says true s is = ap cause_of is
+no_magic_says false s is = ap cause_of is
+
+pub later_ends : (later : Bool) → later ≡ true → magic later [] ≡ Stops true End
+later_ends later is = rw is refl
+
+pub first_ends : (later : Bool) → later ≡ false → magic later [] ≡ Stops true (Refused UnknownFormat)
+first_ends later is = rw is refl
 
 some_zero : (m n : ℕ) → (m ≡ 0) ⊎ (n ≡ 0) → (is_zero m || is_zero n) ≡ true
 some_zero zero n h = refl

@@ -9,9 +9,11 @@ pub mod FrontStays
 pub mod Needing
 pub mod Telling
 pub mod Places
+pub mod Filling
 pub mod Running
 pub mod Digits
 pub mod Headers
+pub mod Pixels
 pub mod Painting
 pub mod Blocks
 pub mod Skipping

@@ -6,7 +6,7 @@ use Rattle.pt_base.specs.Files.{Files, Opened, taken_of, with_read, unread_of, u
 use Rattle.bitmap_input.specs.declared.stop.Stop.{Stop}
 use Rattle.bitmap_input.specs.declared.stop.Stop.TheVariants as stop
 use Rattle.bitmap_input.specs.declared.fault.InFault.TheVariants as fault
-use Rattle.bitmap_input.specs.Cut.{Cut, is_by_end, after, ◌>>=◌}
+use Rattle.bitmap_input.specs.Cut.{Ending, Cut, is_by_end, after, ◌>>=◌}
 use Rattle.bitmap_input.proofs.Appending.{with_more}
 use Rattle.bitmap_input.specs.Cut.Cut.{Takes, Stops}
 use Rattle.bitmap_input.specs.Reading.{Buffered, AtEnd, Moves, Cause, cause_of, StopsBy, Gives, Reads}
@@ -289,3 +289,36 @@ reads_fault {part = part} {old = old} {files = files} by_end same same_files non
       needed = needs_none (λ bytes. part (old.bytes ++ bytes));
       gives = (ap (λ bytes. is_by_end (part (bytes ++ []))) none ∙ by_end, going_on);
     }
+
+-- a part stops at the bytes at hand
+pub reads_nothing : {A X : Type 0} {is : X → A → Type 0} {part : List ℕ → Cut A} {held : Buffered} {files : Option Files} {s : Stop} (e : Bool) (ending : Ending) →
+    part (held.bytes ++ []) ≡ Stops e ending → cause_of s ≡ Says ending → (e ≡ true → held.ended ≡ true) → Reads is part held files (Err s) held files
+reads_nothing {part = part} {held = held} {files = files} e ending stops cause settled =
+    let here : StopsBy (part (held.bytes ++ [])) (Says ending) held = (e, stops, settled) in
+    record {
+      more = [];
+      moves = stand held.ended files;
+      needed = needs_none (λ bytes. part (held.bytes ++ bytes));
+      gives = subst (λ why. StopsBy (part (held.bytes ++ [])) why held) (sym cause) here;
+    }
+
+-- no byte comes any more where one is due
+pub reads_end : {A X : Type 0} {is : X → A → Type 0} {part : List ℕ → Cut A} {old new : Buffered} {files now : Option Files} {s : Stop} (ending : Ending) →
+    part [] ≡ Stops true ending → cause_of s ≡ Says ending → ReadsOn old files new now → new.bytes ≡ [] → new.ended ≡ true →
+    Reads is part old files (Err s) new now
+reads_end {part = part} ending stops cause on none ended =
+    reads_after (ap is_by_end stops) on (reads_nothing true ending (ap (λ bytes. part (bytes ++ [])) none ∙ stops) cause (λ _. ended))
+
+-- the part stops at the byte that is there
+pub reads_refused : {A X : Type 0} {is : X → A → Type 0} {part : List ℕ → Cut A} {old mid : Buffered} {files fmid : Option Files} {s : Stop} {b : ℕ} (ending : Ending) →
+    is_by_end (part []) ≡ true → (look : (bs : List ℕ) × (mid.bytes ≡ b ∷ bs)) → ReadsOn old files mid fmid →
+    ((xs : List ℕ) → part (b ∷ xs) ≡ Stops false ending) → cause_of s ≡ Says ending → Reads is part old files (Err s) mid fmid
+reads_refused ending by_end (bs, here) on stops cause =
+    reads_after by_end on (reads_nothing false ending (rw here (stops (bs ++ []))) cause (λ h. absurd (not_true h)))
+
+-- the part stops behind the byte that was there
+pub reads_behind : {A X : Type 0} {is : X → A → Type 0} {part : List ℕ → Cut A} {old mid passed : Buffered} {files fmid : Option Files} {s : Stop} {b : ℕ} (ending : Ending) →
+    is_by_end (part []) ≡ true → (look : (bs : List ℕ) × (mid.bytes ≡ b ∷ bs)) → ReadsOn old files mid fmid → passed.bytes ≡ drop 1 mid.bytes → passed.ended ≡ mid.ended →
+    ((xs : List ℕ) → part (b ∷ xs) ≡ Stops false ending) → cause_of s ≡ Says ending → Reads is part old files (Err s) passed fmid
+reads_behind ending by_end look on bytes ended stops cause =
+    reads_pass {other = λ _. Stops false ending} by_end look on bytes ended stops (reads_nothing false ending refl cause (λ h. absurd (not_true h)))

@@ -3,7 +3,7 @@ ghost use Rattle.std.specs.Prelude.{◌≡◌};
 ghost use Rattle.bitmap_input.specs.Samples.{samples_in};
 
 /// The samples of a pixel.
-#[derive(Clone, Copy, Debug)]
+#[derive(Clone, Copy)]
 pub(crate) enum Channels {
     /// One sample, of gray.
     Gray,

@@ -7,7 +7,7 @@ use crate::stop::Stop;
 use bit_image::{Bitmap, pages_are_known_by_pixels};
 
 /// A page that was read, and how many bytes it claims behind those that it takes.
-#[derive(Debug, Drop)]
+#[derive(Drop)]
 pub(crate) struct ReadPage {
     pub(crate) page: Bitmap,
     pub(crate) behind: u32,

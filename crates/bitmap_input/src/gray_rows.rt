@@ -19,7 +19,7 @@ use crate::window::Window;
 use pt_base::{Inputs, LONGEST_SIDE};
 
 /// The header of a gray page.
-#[derive(Clone, Copy, Debug)]
+#[derive(Clone, Copy)]
 pub(crate) struct GrayHeader {
     pub(crate) plain: bool,
     pub(crate) width: u32,

@@ -17,7 +17,7 @@ use pt_base::{Inputs, LONGEST_SIDE};
 pub(crate) const GREATEST_MAXVAL: u32 = 65535;
 
 /// The format of a page, which its magic names.
-#[derive(Clone, Copy, Debug)]
+#[derive(Clone, Copy)]
 pub(crate) enum Format {
     /// `P1`, plain PBM.
     PlainBits,
@@ -32,7 +32,7 @@ pub(crate) enum Format {
 }
 
 /// The sides of a page in pixels, each from 1 to the longest one.
-#[derive(Clone, Copy, Debug)]
+#[derive(Clone, Copy)]
 pub(crate) struct Sides {
     pub(crate) width: u32,
     pub(crate) height: u32,

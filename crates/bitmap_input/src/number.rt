@@ -22,7 +22,7 @@ use pt_base::Inputs;
 pub(crate) const CAP: u32 = 200000;
 
 /// A part of a page, to which a number belongs.
-#[derive(Clone, Copy, Debug)]
+#[derive(Clone, Copy)]
 pub(crate) enum Part {
     Header,
     Raster,

@@ -13,7 +13,7 @@ use pt_base::Inputs;
 pub(crate) const LONGEST: u32 = 1048576;
 
 /// A run of bytes, as far as it is known what may come next in it.
-#[derive(Clone, Copy, Debug)]
+#[derive(Clone, Copy)]
 pub(crate) enum Run {
     /// Whitespace alone.
     Space,

@@ -23,7 +23,7 @@ use pt_base::{Inputs, LONGEST_SIDE};
 use threshold_map::Level;
 
 /// How the samples of a page become pixels.
-#[derive(Clone, Copy, Debug)]
+#[derive(Clone, Copy)]
 pub(crate) struct Shading {
     pub(crate) channels: Channels,
     /// The sample that is white, from 1 to 65535.

@@ -8,7 +8,7 @@ use pt_base::NoMemory;
 use std::alloc::AllocError;
 
 /// Why no page was read: there is none, or there is one that can't be read.
-#[derive(Clone, Copy, Debug)]
+#[derive(Clone, Copy)]
 pub(crate) enum Stop {
     /// The file ends where a page may end.
     End,

@@ -37,7 +37,7 @@ impl Model for Window {
 }
 
 /// What stands at the front of what is still to be used.
-#[derive(Clone, Copy, Debug)]
+#[derive(Clone, Copy)]
 pub(crate) enum Look {
     Byte(u8),
     /// No byte is left.

@@ -27,7 +27,7 @@ use std::thread::Threads;
 const MOST_PAGES: u32 = 65536;
 
 /// Why no further page of a file was read.
-#[derive(Debug, Drop)]
+#[derive(Drop)]
 pub(crate) enum PagesEnd {
     /// The file ends where a page may end.
     End,
@@ -40,7 +40,7 @@ pub(crate) enum PagesEnd {
 }
 
 /// How many pages of a file were read, and why no further one was.
-#[derive(Debug, Drop)]
+#[derive(Drop)]
 pub(crate) struct Converted {
     pub(crate) pages: u32,
     pub(crate) end: PagesEnd,

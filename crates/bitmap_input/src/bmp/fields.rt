@@ -6,7 +6,7 @@ ghost use Rattle.bitmap_input.specs.BmpHead.{HasInfo, IsKnownDepth, IsDepth, IsM
 use crate::bmp::head::Head;
 
 /// How many bits a pixel has.
-#[derive(Clone, Copy, Debug)]
+#[derive(Clone, Copy)]
 pub(crate) enum Depth {
     One,
     Four,

@@ -14,7 +14,7 @@ use std::marker::Model;
 const ROOM: usize = 136;
 
 /// The bytes of a header that were read so far. Places count from the magic's first byte.
-#[derive(Debug, Drop)]
+#[derive(Drop)]
 pub(crate) struct Head {
     bytes: [u8; ROOM],
     len: usize,

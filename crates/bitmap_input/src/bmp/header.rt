@@ -18,7 +18,7 @@ use crate::window::Window;
 use pt_base::Inputs;
 
 /// What the header of a BMP picture says.
-#[derive(Clone, Copy, Debug)]
+#[derive(Clone, Copy)]
 pub(crate) struct Header {
     pub(crate) width: u32,
     pub(crate) height: u32,

@@ -22,7 +22,7 @@ use pt_base::{Inputs, LONGEST_SIDE};
 use threshold_map::Level;
 
 /// How the colours of a picture become pixels.
-#[derive(Clone, Copy, Debug)]
+#[derive(Clone, Copy)]
 pub(crate) struct Tone {
     pub(crate) level: Level,
     pub(crate) invert: bool,

@@ -1,7 +1,8 @@
-use Rattle.std.proofs.Common.{true, false, arith, rules, ◌≡◌, refl}
+use Rattle.std.proofs.Common.{true, false, arith, rules, ◌≡◌, refl, ℕ, List}
+use Rattle.bitmap_input.specs.Cut.Cut.{Takes}
 use Rattle.bitmap_input.specs.Parts.{run_length, is_digit, value}
-use Rattle.bitmap_input.proofs.Telling.{reads_map}
-use Rattle.bitmap_input.proofs.Running.{run_begins, run_ends_at, run_ends_last, run_goes_on}
+use Rattle.bitmap_input.proofs.Telling.{reads_map, reads_stop}
+use Rattle.bitmap_input.proofs.Running.{run_begins, run_ends_at, run_ends_last, run_fails, run_is_long, run_goes_on}
 use Rattle.bitmap_input.proofs.Digits.{value_more, capped_more}
 use Rattle.bitmap_input.proofs.number.read_digits.Goals as goal
 
@@ -47,3 +48,18 @@ loop-n-preserved g c =
       most = omega arith;
       leaves = search rules;
     }
+
+pub returns-in-Fault-clause-reads : goal.returns-in-Fault-clause-reads
+returns-in-Fault-clause-reads g c =
+    let look = c.in-Fault.ensures.looks in
+    reads_stop (λ ds rest. Takes false (value 0 ds) rest)
+    (run_fails (run_length is_digit) (run_length is_digit) c.args.window.now c.loop-n.window c.look.new.self
+    (g.I.Inputs.files c.args.inputs.now) (g.I.Inputs.files c.loop-n.inputs) (g.I.Inputs.files c.look.new.inputs) c.loop-n.n c.loop-n.invariant.so_far
+    (λ (x : ℕ) (ds : List ℕ). Unit {0}) look.0 look.1 look.2 look.3 refl (omega arith))
+
+pub returns-clause-reads : goal.returns-clause-reads
+returns-clause-reads g c =
+    reads_stop (λ ds rest. Takes false (value 0 ds) rest)
+    (run_is_long (run_length is_digit) (run_length is_digit) c.args.window.now c.loop-n.window c.loop-n.window
+    (g.I.Inputs.files c.args.inputs.now) (g.I.Inputs.files c.loop-n.inputs) (g.I.Inputs.files c.loop-n.inputs) c.loop-n.n c.loop-n.invariant.so_far
+    (λ (x : ℕ) (ds : List ℕ). Unit {0}) (omega arith))

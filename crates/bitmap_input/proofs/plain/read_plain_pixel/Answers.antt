@@ -1,9 +1,28 @@
-use Rattle.std.proofs.Common.{refl}
+use Rattle.std.proofs.Common.{◌≡◌, refl, true, false, rules}
+use Rattle.bitmap_input.specs.Cut.Kind.{Truncated}
+use Rattle.bitmap_input.specs.Cut.Ending.{Refused}
+use Rattle.bitmap_input.specs.Cut.Cut.{Takes}
 use Rattle.bitmap_input.specs.Parts.{pixel}
+use Rattle.bitmap_input.specs.Front.{plain_pixel}
 use Rattle.std.proofs.lemmas.Result.{err_from_is_err_and}
 use Rattle.bitmap_input.proofs.Appending.{gap_stays}
-use Rattle.bitmap_input.proofs.Telling.{reads_on, reads_stop, reads_after, reads_fault}
+use Rattle.bitmap_input.proofs.Telling.{reads_on, reads_stop, reads_after, reads_pass, reads_value, reads_end, reads_fault}
+use Rattle.bitmap_input.proofs.Pixels.{plain_white_at, plain_black_at}
 use Rattle.bitmap_input.proofs.plain.read_plain_pixel.Goals as goal
+
+pub returns-in-Byte-eq48-clause-reads : goal.returns-in-Byte-eq48-clause-reads
+returns-in-Byte-eq48-clause-reads g c =
+    let look = c.in-Byte-eq48.ensures.looks in
+    let here : c.in-Byte-eq48.field-0 ≡ 48 = search rules in
+    reads_pass {part = plain_pixel} {other = Takes false false} refl look.1 look.0 c.pass.ensures.bytes c.pass.ensures.ended
+    (λ xs. plain_white_at c.in-Byte-eq48.field-0 xs here) (reads_value refl)
+
+pub returns-in-Byte-eq49-clause-reads : goal.returns-in-Byte-eq49-clause-reads
+returns-in-Byte-eq49-clause-reads g c =
+    let look = c.in-Byte-eq49.ensures.looks in
+    let here : c.in-Byte-eq49.field-0 ≡ 49 = search rules in
+    reads_pass {part = plain_pixel} {other = Takes false true} refl look.1 look.0 c.pass-in-Byte-eq49.ensures.bytes c.pass-in-Byte-eq49.ensures.ended
+    (λ xs. plain_black_at c.in-Byte-eq49.field-0 xs here) (reads_value refl)
 
 pub returns-in_err-skip-in-Byte-clause-reads : goal.returns-in_err-skip-in-Byte-clause-reads
 returns-in_err-skip-in-Byte-clause-reads g c =
@@ -13,6 +32,10 @@ returns-in_err-skip-in-Byte-clause-reads g c =
 pub returns-in_ok-skip-in-Byte-clause-reads : goal.returns-in_ok-skip-in-Byte-clause-reads
 returns-in_ok-skip-in-Byte-clause-reads g c =
     reads_after refl c.in-Byte.ensures.looks.0 (reads_on gap_stays c.in_ok-skip-in-Byte.ensures.reads (λ _ _. c.read_pixel.ensures.reads))
+
+pub returns-in-End-clause-reads : goal.returns-in-End-clause-reads
+returns-in-End-clause-reads g c =
+    let look = c.in-End.ensures.looks in reads_end {part = plain_pixel} (Refused Truncated) refl refl look.0 look.1.0 look.1.1
 
 pub returns-in-Fault-clause-reads : goal.returns-in-Fault-clause-reads
 returns-in-Fault-clause-reads g c =

@@ -1,7 +1,8 @@
-use Rattle.std.proofs.Common.{arith, rules}
+use Rattle.std.proofs.Common.{arith, rules, List, ℕ}
+use Rattle.bitmap_input.specs.Reading.{Any}
 use Rattle.bitmap_input.specs.Run.{run_size}
 use Rattle.bitmap_input.proofs.Telling.{reads_weaken}
-use Rattle.bitmap_input.proofs.Running.{length_of-nil, run_begins, run_ends_at, run_ends_last, run_goes_on}
+use Rattle.bitmap_input.proofs.Running.{length_of-nil, run_begins, run_ends_at, run_ends_last, run_fails, run_is_long, run_goes_on}
 use Rattle.bitmap_input.proofs.run.skip.Goals as goal
 
 pub loop-n-init : goal.loop-n-init
@@ -39,3 +40,16 @@ loop-n-preserved g c =
       most = omega arith;
       leaves = search rules;
     }
+
+pub returns-in-Fault-clause-reads : goal.returns-in-Fault-clause-reads
+returns-in-Fault-clause-reads g c =
+    let look = c.in-Fault.ensures.looks in
+    run_fails (run_size c.args.run) (run_size c.loop-n.run) c.args.window.now c.loop-n.window c.look.new.self
+    (g.I.Inputs.files c.args.inputs.now) (g.I.Inputs.files c.loop-n.inputs) (g.I.Inputs.files c.look.new.inputs) c.loop-n.n c.loop-n.invariant.so_far
+    (Any {X = Unit {0}} {A = List ℕ}) look.0 look.1 look.2 look.3 (length_of-nil c.loop-n.run) (omega arith)
+
+pub returns-clause-reads : goal.returns-clause-reads
+returns-clause-reads g c =
+    run_is_long (run_size c.args.run) (run_size c.loop-n.run) c.args.window.now c.loop-n.window c.loop-n.window
+    (g.I.Inputs.files c.args.inputs.now) (g.I.Inputs.files c.loop-n.inputs) (g.I.Inputs.files c.loop-n.inputs) c.loop-n.n c.loop-n.invariant.so_far
+    (Any {X = Unit {0}} {A = List ℕ}) (omega arith)

@@ -1,8 +1,9 @@
-use Rattle.std.proofs.Common.{◌≡◌, ◌∙◌, ◌∷◌, ◌*◌, Err, ap, refl, subst, arith}
+use Rattle.std.proofs.Common.{◌≡◌, ◌∙◌, ◌∷◌, ◌*◌, ℕ, List, Err, ap, refl, subst, arith}
 use Rattle.pt_base.specs.Files.{Lacks}
 use Rattle.run_output.specs.declared.status.Status.TheVariants as status
 use Rattle.page_batches.specs.Desks.{sinks_at}
 use Rattle.file_documents.specs.Items.{told_contents}
+use Rattle.file_documents.specs.Manner.{base_by}
 use Rattle.run_output.specs.Told.{source_of}
 use Rattle.file_documents.specs.Progress.{InputCount}
 use Rattle.file_documents.specs.Tasks.{manner_of}
@@ -21,10 +22,12 @@ returns-in-Err-clause-converted g c = λ names first are.
     let manner = manner_of g.J.PageJob c.args.task.now in
     let old = source_of g.I.Inputs c.args.inputs.now in
     let now = source_of g.I.Inputs c.open.new.self in
+    let before = sinks_at g.O.Sink g.E.Sink c.args.desk.now in
+    let after = sinks_at g.O.Sink g.E.Sink c.end_unopened.new.desk in
     let cause = unopened_by old.files c.args.name.now old.faults now.faults c.in-Err.field-0 (λ e. c.in-Err.ensures.absent.0 (ap Err e)) (λ e. c.in-Err.ensures.cause (ap Err e)) in (
-      unopened_ends manner c.requires.texts c.args.name.now c.args.made.now c.args.batch.now old now _ _ c.in-Err.ensures.one_more c.in-Err.ensures.none_opened cause
+      unopened_ends manner c.requires.texts c.args.name.now c.args.made.now c.args.batch.now old now before after c.in-Err.ensures.one_more c.in-Err.ensures.none_opened cause
           c.end_unopened.result c.end_unopened.ensures.ends names first are,
-      λ is. pass_unopened (2 * c.args.task.now.plan.workers) (omega (arith, c.args.task.now.plan.some_worker)) manner c.requires.texts c.args.name.now c.args.made.now c.args.batch.now old now _ _
+      λ is. pass_unopened (2 * c.args.task.now.plan.workers) (omega (arith, c.args.task.now.plan.some_worker)) manner c.requires.texts c.args.name.now c.args.made.now c.args.batch.now old now before after
           c.requires.going.waits.few cause c.end_unopened.result c.end_unopened.ensures.ends is names first are,
     )
 
@@ -32,11 +35,11 @@ pub returns-in-Err-clause-asked : goal.returns-in-Err-clause-asked
 returns-in-Err-clause-asked g c = record {
   one_more = c.in-Err.ensures.one_more;
   named = rw c.in-Err.ensures.no_file (no_name (g.I.Inputs.files c.args.inputs.now) c.args.name.now);
-  contents = contents_unopened (g.I.Inputs.files c.args.inputs.now) _ c.in-Err.ensures.no_file;
+  contents = contents_unopened (g.I.Inputs.files c.args.inputs.now) (g.I.Inputs.files c.open.new.self) c.in-Err.ensures.no_file;
 }
 
 pub returns-in-Err-clause-input : goal.returns-in-Err-clause-input
-returns-in-Err-clause-input g c = input_unopened c.end_unopened.result c.end_unopened.ensures.status _ _
+returns-in-Err-clause-input g c = input_unopened c.end_unopened.result c.end_unopened.ensures.status (g.I.Inputs.faults c.args.inputs.now) (g.I.Inputs.faults c.open.new.self)
 
 -- memory ran out before the file's name was made
 pub returns-in_default-clause-converted : goal.returns-in_default-clause-converted
@@ -51,7 +54,7 @@ pub returns-in_default-clause-asked : goal.returns-in_default-clause-asked
 returns-in_default-clause-asked g c = record {
   one_more = c.in-Ok.ensures.one_more;
   named = rw c.in-Ok.ensures.file (name-with_file (g.I.Inputs.files c.args.inputs.now) c.args.name.now);
-  contents = contents_through (g.I.Inputs.files c.args.inputs.now) _ _ c.args.name.now c.in-Ok.ensures.file refl;
+  contents = contents_through (g.I.Inputs.files c.args.inputs.now) (g.I.Inputs.files c.open.new.self) (g.I.Inputs.files c.open.new.self) c.args.name.now c.in-Ok.ensures.file refl;
 }
 
 -- the run ends within the file's pages
@@ -63,22 +66,26 @@ returns-in-Err-convert_pages-clause-converted g c = λ names first are.
     let start = g.I.Inputs.files c.open.new.self in
     let there : Lacks old.files c.args.name.now → ⊥ = λ lacking. let clash = c.in-Ok.ensures.absent.1 lacking in cc in
     let ended = c.in-Err-convert_pages.ensures.converted in
-    let halts = halts_named c.in-Err-convert_pages.status _ manner _ _ _ _ _ _ _ _ (c.deref.ensures ∙ c.in-Ok-base_name.ensures) ended.1 in (
-      file_halted _ manner c.requires.texts c.args.name.now c.args.made.now start c.args.batch.now old now _ _ c.in-Err-convert_pages.status c.in-Ok.ensures.file there ended.0 halts names first are,
+    let before = sinks_at g.O.Sink g.E.Sink c.args.desk.now in
+    let mid = sinks_at g.O.Sink g.E.Sink c.convert_pages.new.desk in
+    let size : ℕ = 2 * c.args.task.now.plan.workers in
+    let base : List ℕ = base_by manner c.args.name.now in
+    let halts = halts_named c.in-Err-convert_pages.status size manner c.deref.result.now base c.args.made.now start now.files c.args.batch.now before mid (c.deref.ensures ∙ c.in-Ok-base_name.ensures) ended.1 in (
+      file_halted size manner c.requires.texts c.args.name.now c.args.made.now start c.args.batch.now old now before mid c.in-Err-convert_pages.status c.in-Ok.ensures.file there ended.0 halts names first are,
       λ is. pass_halted (2 * c.args.task.now.plan.workers) (omega (arith, c.args.task.now.plan.some_worker)) manner c.requires.texts c.args.name.now c.args.made.now start old now
           c.in-Ok.ensures.file there (c.convert_pages.ensures.stays.openings ∙ c.in-Ok.ensures.one_more) c.convert_pages.ensures.stays.contents c.convert_pages.ensures.stays.name
-          c.args.batch.now _ _ (halts_unwritten _ _ manner _ _ _ _ _ _ _ is halts) names first are,
+          c.args.batch.now before mid (halts_unwritten c.in-Err-convert_pages.status size manner base c.args.made.now start now.files c.args.batch.now before mid is halts) names first are,
     )
 
 pub returns-in-Err-convert_pages-clause-asked : goal.returns-in-Err-convert_pages-clause-asked
 returns-in-Err-convert_pages-clause-asked g c = record {
   one_more = c.convert_pages.ensures.stays.openings ∙ c.in-Ok.ensures.one_more;
   named = rw (c.convert_pages.ensures.stays.name, c.in-Ok.ensures.file) (name-with_file (g.I.Inputs.files c.args.inputs.now) c.args.name.now);
-  contents = contents_through (g.I.Inputs.files c.args.inputs.now) _ _ c.args.name.now c.in-Ok.ensures.file c.convert_pages.ensures.stays.contents;
+  contents = contents_through (g.I.Inputs.files c.args.inputs.now) (g.I.Inputs.files c.open.new.self) (g.I.Inputs.files c.convert_pages.new.inputs) c.args.name.now c.in-Ok.ensures.file c.convert_pages.ensures.stays.contents;
 }
 
 pub returns-in-Err-convert_pages-clause-input : goal.returns-in-Err-convert_pages-clause-input
-returns-in-Err-convert_pages-clause-input g c = input_of_halt c.in-Err-convert_pages.status c.in-Err-convert_pages.ensures.converted.0 _ _
+returns-in-Err-convert_pages-clause-input g c = input_of_halt c.in-Err-convert_pages.status c.in-Err-convert_pages.ensures.converted.0 (g.I.Inputs.faults c.args.inputs.now) (g.I.Inputs.faults c.convert_pages.new.inputs)
 
 -- the run ends with the file's pages
 pub returns-in-Err-finish-clause-converted : goal.returns-in-Err-finish-clause-converted
@@ -89,14 +96,19 @@ returns-in-Err-finish-clause-converted g c = λ names first are.
     let start = g.I.Inputs.files c.open.new.self in
     let there : Lacks old.files c.args.name.now → ⊥ = λ lacking. let clash = c.in-Ok.ensures.absent.1 lacking in cc in
     let end = c.in-Ok-convert_pages.converted.end in
-    let converted = converted_named _ manner _ _ _ _ _ _ _ _ _ _ _ (c.deref.ensures ∙ c.in-Ok-base_name.ensures) c.in-Ok-convert_pages.ensures.converted in
-    let rose = rose_by end _ _ (faults_from end _ _ _ c.in-Ok.ensures.steady c.in-Ok-convert_pages.ensures.input) in (
-      file_ends _ manner c.requires.texts c.args.name.now c.args.made.now start c.in-Ok-convert_pages.converted.pages c.args.batch.now c.convert_pages.new.batch old now _ _ _
+    let before = sinks_at g.O.Sink g.E.Sink c.args.desk.now in
+    let mid = sinks_at g.O.Sink g.E.Sink c.convert_pages.new.desk in
+    let after = sinks_at g.O.Sink g.E.Sink c.finish.new.desk in
+    let size : ℕ = 2 * c.args.task.now.plan.workers in
+    let base : List ℕ = base_by manner c.args.name.now in
+    let converted = converted_named size manner c.deref.result.now base c.args.made.now start now.files c.args.batch.now c.convert_pages.new.batch before mid c.in-Ok-convert_pages.converted.pages end (c.deref.ensures ∙ c.in-Ok-base_name.ensures) c.in-Ok-convert_pages.ensures.converted in
+    let rose = rose_by end old.faults now.faults (faults_from end (g.I.Inputs.faults c.args.inputs.now) (g.I.Inputs.faults c.open.new.self) (g.I.Inputs.faults c.convert_pages.new.inputs) c.in-Ok.ensures.steady c.in-Ok-convert_pages.ensures.input) in (
+      file_ends size manner c.requires.texts c.args.name.now c.args.made.now start c.in-Ok-convert_pages.converted.pages c.args.batch.now c.convert_pages.new.batch old now before mid after
           c.in-Ok.ensures.file there (c.convert_pages.ensures.stays.openings ∙ c.in-Ok.ensures.one_more) c.convert_pages.ensures.stays.contents c.convert_pages.ensures.stays.name
           c.in-Err-finish.status end rose converted c.in-Err-finish.ensures.ended names first are,
       λ is. pass_ended (2 * c.args.task.now.plan.workers) (omega (arith, c.args.task.now.plan.some_worker)) manner c.requires.texts c.args.name.now c.args.made.now start old now
           c.in-Ok.ensures.file there (c.convert_pages.ensures.stays.openings ∙ c.in-Ok.ensures.one_more) c.convert_pages.ensures.stays.contents c.convert_pages.ensures.stays.name
-          c.in-Ok-convert_pages.converted.pages c.args.batch.now c.convert_pages.new.batch _ _ _ end rose converted c.in-Ok-convert_pages.ensures.going.waits.few
+          c.in-Ok-convert_pages.converted.pages c.args.batch.now c.convert_pages.new.batch before mid after end rose converted c.in-Ok-convert_pages.ensures.going.waits.few
           (rw is at c.in-Err-finish.ensures.ended) (c.in-Err-finish.ensures.because.unwritten is) names first are,
     )
 
@@ -104,16 +116,16 @@ pub returns-in-Err-finish-clause-asked : goal.returns-in-Err-finish-clause-asked
 returns-in-Err-finish-clause-asked g c = record {
   one_more = c.convert_pages.ensures.stays.openings ∙ c.in-Ok.ensures.one_more;
   named = rw (c.convert_pages.ensures.stays.name, c.in-Ok.ensures.file) (name-with_file (g.I.Inputs.files c.args.inputs.now) c.args.name.now);
-  contents = contents_through (g.I.Inputs.files c.args.inputs.now) _ _ c.args.name.now c.in-Ok.ensures.file c.convert_pages.ensures.stays.contents;
+  contents = contents_through (g.I.Inputs.files c.args.inputs.now) (g.I.Inputs.files c.open.new.self) (g.I.Inputs.files c.convert_pages.new.inputs) c.args.name.now c.in-Ok.ensures.file c.convert_pages.ensures.stays.contents;
 }
 
 pub returns-in-Err-finish-clause-input : goal.returns-in-Err-finish-clause-input
 returns-in-Err-finish-clause-input g c =
     let end = c.in-Ok-convert_pages.converted.end in
-    input_count c.in-Err-finish.status end _ _ c.in-Err-finish.ensures.because.which (input_by end _ _ (faults_from end _ _ _ c.in-Ok.ensures.steady c.in-Ok-convert_pages.ensures.input))
+    input_count c.in-Err-finish.status end (g.I.Inputs.faults c.args.inputs.now) (g.I.Inputs.faults c.convert_pages.new.inputs) c.in-Err-finish.ensures.because.which (input_by end (g.I.Inputs.faults c.args.inputs.now) (g.I.Inputs.faults c.convert_pages.new.inputs) (faults_from end (g.I.Inputs.faults c.args.inputs.now) (g.I.Inputs.faults c.open.new.self) (g.I.Inputs.faults c.convert_pages.new.inputs) c.in-Ok.ensures.steady c.in-Ok-convert_pages.ensures.input))
 
 pub returns-in-Err-finish-clause-keeps : goal.returns-in-Err-finish-clause-keeps
-returns-in-Err-finish-clause-keeps g c = keeps_on _ _ _ _ _ c.convert_pages.ensures.keeps c.finish.ensures.keeps
+returns-in-Err-finish-clause-keeps g c = keeps_on g.O.Sink g.E.Sink c.args.desk.now c.convert_pages.new.desk c.finish.new.desk c.convert_pages.ensures.keeps c.finish.ensures.keeps
 
 -- the file is read
 pub returns-in-Ok-add-clause-converted : goal.returns-in-Ok-add-clause-converted
@@ -122,29 +134,35 @@ returns-in-Ok-add-clause-converted g c =
     let told = g.I.Inputs.files c.args.inputs.now in
     let start = g.I.Inputs.files c.open.new.self in
     let there : Lacks told c.args.name.now → ⊥ = λ lacking. let clash = c.in-Ok.ensures.absent.1 lacking in cc in
-    let converted = converted_named _ manner _ _ _ _ _ _ _ _ _ _ _ (c.deref.ensures ∙ c.in-Ok-base_name.ensures) c.in-Ok-convert_pages.ensures.converted in
+    let before = sinks_at g.O.Sink g.E.Sink c.args.desk.now in
+    let mid = sinks_at g.O.Sink g.E.Sink c.convert_pages.new.desk in
+    let after = sinks_at g.O.Sink g.E.Sink c.finish.new.desk in
+    let size : ℕ = 2 * c.args.task.now.plan.workers in
+    let base : List ℕ = base_by manner c.args.name.now in
+    let now = g.I.Inputs.files c.convert_pages.new.inputs in
+    let converted = converted_named size manner c.deref.result.now base c.args.made.now start now c.args.batch.now c.convert_pages.new.batch before mid c.in-Ok-convert_pages.converted.pages c.in-Ok-convert_pages.converted.end (c.deref.ensures ∙ c.in-Ok-base_name.ensures) c.in-Ok-convert_pages.ensures.converted in
     rw (c.in-Ok-add.ensures.added, c.documents_in.ensures.value, c.in-Ok-base_name.ensures)
-    (file_goes_on (told_contents told) manner c.args.name.now c.args.made.now _ start (g.I.Inputs.files c.convert_pages.new.inputs) c.in-Ok-convert_pages.converted.pages
-    c.args.batch.now c.convert_pages.new.batch _ _ (has_bytes told start c.args.name.now c.in-Ok.ensures.file there) c.in-Ok-convert_pages.converted.end converted c.finish.new.batch _
-    (end_named _ manner c.args.name.now _ _ c.args.made.now c.in-Ok-convert_pages.converted.end c.in-Ok-convert_pages.converted.pages c.convert_pages.new.batch c.finish.new.batch
-    (sinks_at g.O.Sink g.E.Sink c.convert_pages.new.desk) (sinks_at g.O.Sink g.E.Sink c.finish.new.desk) (c.deref-2.ensures ∙ c.in-Ok-base_name.ensures) (λ left are. c.in-Ok-finish.ensures.ended left are))
+    (file_goes_on (told_contents told) manner c.args.name.now c.args.made.now size start now c.in-Ok-convert_pages.converted.pages
+    c.args.batch.now c.convert_pages.new.batch before mid (has_bytes told start c.args.name.now c.in-Ok.ensures.file there) c.in-Ok-convert_pages.converted.end converted c.finish.new.batch after
+    (end_named size manner c.args.name.now c.deref-2.result.now base c.args.made.now c.in-Ok-convert_pages.converted.end c.in-Ok-convert_pages.converted.pages c.convert_pages.new.batch c.finish.new.batch
+    mid after (c.deref-2.ensures ∙ c.in-Ok-base_name.ensures) (λ left are. c.in-Ok-finish.ensures.ended left are))
     c.in-Ok-finish.ensures.because)
 
 pub returns-in-Ok-add-clause-asked : goal.returns-in-Ok-add-clause-asked
 returns-in-Ok-add-clause-asked g c = record {
   one_more = c.convert_pages.ensures.stays.openings ∙ c.in-Ok.ensures.one_more;
   named = rw (c.convert_pages.ensures.stays.name, c.in-Ok.ensures.file) (name-with_file (g.I.Inputs.files c.args.inputs.now) c.args.name.now);
-  contents = contents_through (g.I.Inputs.files c.args.inputs.now) _ _ c.args.name.now c.in-Ok.ensures.file c.convert_pages.ensures.stays.contents;
+  contents = contents_through (g.I.Inputs.files c.args.inputs.now) (g.I.Inputs.files c.open.new.self) (g.I.Inputs.files c.convert_pages.new.inputs) c.args.name.now c.in-Ok.ensures.file c.convert_pages.ensures.stays.contents;
 }
 
 pub returns-in-Ok-add-clause-input : goal.returns-in-Ok-add-clause-input
 returns-in-Ok-add-clause-input g c =
     let end = c.in-Ok-convert_pages.converted.end in
-    let count = input_by end _ _ (faults_from end _ _ _ c.in-Ok.ensures.steady c.in-Ok-convert_pages.ensures.input) in
+    let count = input_by end (g.I.Inputs.faults c.args.inputs.now) (g.I.Inputs.faults c.convert_pages.new.inputs) (faults_from end (g.I.Inputs.faults c.args.inputs.now) (g.I.Inputs.faults c.open.new.self) (g.I.Inputs.faults c.convert_pages.new.inputs) c.in-Ok.ensures.steady c.in-Ok-convert_pages.ensures.input) in
     subst (λ s. InputCount s (g.I.Inputs.faults c.args.inputs.now) (g.I.Inputs.faults c.convert_pages.new.inputs)) c.in-Ok-finish.ensures.because count
 
 pub returns-in-Ok-add-clause-keeps : goal.returns-in-Ok-add-clause-keeps
-returns-in-Ok-add-clause-keeps g c = keeps_on _ _ _ _ _ c.convert_pages.ensures.keeps c.finish.ensures.keeps
+returns-in-Ok-add-clause-keeps g c = keeps_on g.O.Sink g.E.Sink c.args.desk.now c.convert_pages.new.desk c.finish.new.desk c.convert_pages.ensures.keeps c.finish.ensures.keeps
 
 -- memory ran out when its documents were to be counted
 pub returns-in-Err-add-clause-converted : goal.returns-in-Err-add-clause-converted
@@ -153,12 +171,18 @@ returns-in-Err-add-clause-converted g c = λ names first are.
     let told = g.I.Inputs.files c.args.inputs.now in
     let start = g.I.Inputs.files c.open.new.self in
     let there : Lacks told c.args.name.now → ⊥ = λ lacking. let clash = c.in-Ok.ensures.absent.1 lacking in cc in
-    let converted = converted_named _ manner _ _ _ _ _ _ _ _ _ _ _ (c.deref.ensures ∙ c.in-Ok-base_name.ensures) c.in-Ok-convert_pages.ensures.converted in (
-      ends_behind _ (told_contents told) manner c.requires.texts c.args.name.now c.args.made.now _ c.args.batch.now c.finish.new.batch _ _ _
-          (file_goes_on (told_contents told) manner c.args.name.now c.args.made.now _ start (g.I.Inputs.files c.convert_pages.new.inputs) c.in-Ok-convert_pages.converted.pages
-          c.args.batch.now c.convert_pages.new.batch _ _ (has_bytes told start c.args.name.now c.in-Ok.ensures.file there) c.in-Ok-convert_pages.converted.end converted c.finish.new.batch _
-          (end_named _ manner c.args.name.now _ _ c.args.made.now c.in-Ok-convert_pages.converted.end c.in-Ok-convert_pages.converted.pages c.convert_pages.new.batch c.finish.new.batch
-          (sinks_at g.O.Sink g.E.Sink c.convert_pages.new.desk) (sinks_at g.O.Sink g.E.Sink c.finish.new.desk) (c.deref-2.ensures ∙ c.in-Ok-base_name.ensures) (λ left are. c.in-Ok-finish.ensures.ended left are))
+    let before = sinks_at g.O.Sink g.E.Sink c.args.desk.now in
+    let mid = sinks_at g.O.Sink g.E.Sink c.convert_pages.new.desk in
+    let after = sinks_at g.O.Sink g.E.Sink c.finish.new.desk in
+    let size : ℕ = 2 * c.args.task.now.plan.workers in
+    let base : List ℕ = base_by manner c.args.name.now in
+    let now = g.I.Inputs.files c.convert_pages.new.inputs in
+    let converted = converted_named size manner c.deref.result.now base c.args.made.now start now c.args.batch.now c.convert_pages.new.batch before mid c.in-Ok-convert_pages.converted.pages c.in-Ok-convert_pages.converted.end (c.deref.ensures ∙ c.in-Ok-base_name.ensures) c.in-Ok-convert_pages.ensures.converted in (
+      ends_behind size (told_contents told) manner c.requires.texts c.args.name.now c.args.made.now _ c.args.batch.now c.finish.new.batch before after _
+          (file_goes_on (told_contents told) manner c.args.name.now c.args.made.now size start now c.in-Ok-convert_pages.converted.pages
+          c.args.batch.now c.convert_pages.new.batch before mid (has_bytes told start c.args.name.now c.in-Ok.ensures.file there) c.in-Ok-convert_pages.converted.end converted c.finish.new.batch after
+          (end_named size manner c.args.name.now c.deref-2.result.now base c.args.made.now c.in-Ok-convert_pages.converted.end c.in-Ok-convert_pages.converted.pages c.convert_pages.new.batch c.finish.new.batch
+          mid after (c.deref-2.ensures ∙ c.in-Ok-base_name.ensures) (λ left are. c.in-Ok-finish.ensures.ended left are))
           c.in-Ok-finish.ensures.because)
           (record { outs = refl; opened = refl })
           (record { said = c.say_out_of_memory-in-Err-add.ensures.said; given_up = c.say_out_of_memory-in-Err-add.ensures.given_up; never_falls = c.say_out_of_memory-in-Err-add.ensures.never_falls })
@@ -170,12 +194,12 @@ pub returns-in-Err-add-clause-asked : goal.returns-in-Err-add-clause-asked
 returns-in-Err-add-clause-asked g c = record {
   one_more = c.convert_pages.ensures.stays.openings ∙ c.in-Ok.ensures.one_more;
   named = rw (c.convert_pages.ensures.stays.name, c.in-Ok.ensures.file) (name-with_file (g.I.Inputs.files c.args.inputs.now) c.args.name.now);
-  contents = contents_through (g.I.Inputs.files c.args.inputs.now) _ _ c.args.name.now c.in-Ok.ensures.file c.convert_pages.ensures.stays.contents;
+  contents = contents_through (g.I.Inputs.files c.args.inputs.now) (g.I.Inputs.files c.open.new.self) (g.I.Inputs.files c.convert_pages.new.inputs) c.args.name.now c.in-Ok.ensures.file c.convert_pages.ensures.stays.contents;
 }
 
 pub returns-in-Err-add-clause-keeps : goal.returns-in-Err-add-clause-keeps
 returns-in-Err-add-clause-keeps g c =
-    keeps_on _ _ _ _ _ (keeps_on _ _ _ _ _ c.convert_pages.ensures.keeps c.finish.ensures.keeps)
+    keeps_on _ _ _ _ _ (keeps_on g.O.Sink g.E.Sink c.args.desk.now c.convert_pages.new.desk c.finish.new.desk c.convert_pages.ensures.keeps c.finish.ensures.keeps)
     (record { outs = refl; errs = refl; ready = c.say_out_of_memory-in-Err-add.ensures.stays_ready; never_falls = omega arith })
 
 -- a file's pages are as many as a run accepts

@@ -2,6 +2,7 @@ use Rattle.std.proofs.Common.{◌≡◌, ◌∙◌, ◌*◌, [], length, inl, re
 use Rattle.std.proofs.lemmas.List.{take_all}
 use Rattle.run_output.specs.Made.{no_past}
 use Rattle.run_output.specs.declared.status.Status.TheVariants as status
+use Rattle.page_batches.specs.Desks.{sinks_at}
 use Rattle.file_documents.specs.Items.{told_contents}
 use Rattle.run_output.specs.Told.{source_of}
 use Rattle.file_documents.specs.Tasks.{manner_of}
@@ -14,7 +15,7 @@ use Rattle.file_documents.proofs.files.convert_files.Goals as goal
 -- no file is done yet
 pub loop-name-init : goal.loop-name-init
 loop-name-init g c = record {
-  done = rw (c.new-made.ensures, c.new-batch.ensures) (none_done _ (told_contents (g.I.Inputs.files c.args.inputs.now)) (manner_of g.J.PageJob c.args.task.now) _);
+  done = rw (c.new-made.ensures, c.new-batch.ensures) (none_done (2 * c.args.task.now.plan.workers) (told_contents (g.I.Inputs.files c.args.inputs.now)) (manner_of g.J.PageJob c.args.task.now) (sinks_at g.O.Sink g.E.Sink c.args.desk.now));
   within = omega arith;
   going = record { waits = rw c.new-batch.ensures (record { few = omega (arith, c.args.task.now.plan.some_worker); turn = tt; next = c.requires.closed ∙ sym (none_begun c.args.task.now.plan.binding) }); ready = c.requires.ready };
   openings = (let most = g.met.I.Inputs.openings_counted c.args.inputs.now in omega (arith, most));
@@ -30,15 +31,16 @@ loop-name-preserved g c =
     let file = rw (c.loop-name.invariant.contents, c.as_str.ensures) at c.in-Ok-converted.ensures.converted in
     let asked = rw c.as_str.ensures at c.convert_file-converted.ensures.asked in
     record {
-      done = one_done _ _ (manner_of g.J.PageJob c.args.task.now) _ c.loop-name.name-index c.name-item.result _ _ _ _ _ _ _ c.loop-name-test.true c.name-item.is c.loop-name.invariant.done file;
+      done = one_done (2 * c.args.task.now.plan.workers) (told_contents (g.I.Inputs.files c.args.inputs.now)) (manner_of g.J.PageJob c.args.task.now) c.args.names.now c.loop-name.name-index c.name-item.result c.loop-name.made c.convert_file-converted.new.made c.loop-name.batch c.convert_file-converted.new.batch
+          (sinks_at g.O.Sink g.E.Sink c.args.desk.now) (sinks_at g.O.Sink g.E.Sink c.loop-name.desk) (sinks_at g.O.Sink g.E.Sink c.convert_file-converted.new.desk) c.loop-name-test.true c.name-item.is c.loop-name.invariant.done file;
       within = omega (arith, c.loop-name-test.true);
       going = c.in-Ok-converted.ensures.going;
-      openings = openings_more _ c.loop-name.name-index _ _ c.loop-name.invariant.openings asked.one_more;
+      openings = openings_more (g.I.Inputs.openings c.args.inputs.now) c.loop-name.name-index (g.I.Inputs.openings c.loop-name.inputs) (g.I.Inputs.openings c.convert_file-converted.new.inputs) c.loop-name.invariant.openings asked.one_more;
       opened = opens_to c.args.names.now c.loop-name.name-index c.name-item.result
           (source_of g.I.Inputs c.args.inputs.now) (source_of g.I.Inputs c.loop-name.inputs) (source_of g.I.Inputs c.convert_file-converted.new.inputs) c.loop-name-test.true c.name-item.is c.loop-name.invariant.openings asked.one_more asked.named;
       contents = asked.contents ∙ c.loop-name.invariant.contents;
       input = c.in-Ok-converted.ensures.input ∙ c.loop-name.invariant.input;
-      keeps = keeps_on _ _ _ _ _ c.loop-name.invariant.keeps c.convert_file-converted.ensures.keeps;
+      keeps = keeps_on g.O.Sink g.E.Sink c.args.desk.now c.loop-name.desk c.convert_file-converted.new.desk c.loop-name.invariant.keeps c.convert_file-converted.ensures.keeps;
     }
 
 -- memory ran out before the first file
@@ -58,15 +60,17 @@ returns-in-Err g c =
     let ends = rw (c.loop-name.invariant.contents, c.as_str.ensures) at c.in-Err.ensures.converted in
     let asked = rw c.as_str.ensures at c.convert_file-converted.ensures.asked in
     record {
-      outcome = ends_in c.in-Err.status _ _ (manner_of g.J.PageJob c.args.task.now) _ c.loop-name.name-index c.name-item.result _ _ _ _ _ _ _ _ c.loop-name-test.true c.name-item.is c.loop-name.invariant.done
+      outcome = ends_in c.in-Err.status (2 * c.args.task.now.plan.workers) (told_contents (g.I.Inputs.files c.args.inputs.now)) (manner_of g.J.PageJob c.args.task.now) c.args.names.now c.loop-name.name-index c.name-item.result c.loop-name.made c.loop-name.batch (source_of g.I.Inputs c.args.inputs.now) (source_of g.I.Inputs c.loop-name.inputs) (source_of g.I.Inputs c.convert_file-converted.new.inputs)
+          (sinks_at g.O.Sink g.E.Sink c.args.desk.now) (sinks_at g.O.Sink g.E.Sink c.loop-name.desk) (sinks_at g.O.Sink g.E.Sink c.convert_file-converted.new.desk) c.loop-name-test.true c.name-item.is c.loop-name.invariant.done
           c.loop-name.invariant.openings c.loop-name.invariant.input (λ back first are. (ends back first are).0);
       opened = opens_to c.args.names.now c.loop-name.name-index c.name-item.result
           (source_of g.I.Inputs c.args.inputs.now) (source_of g.I.Inputs c.loop-name.inputs) (source_of g.I.Inputs c.convert_file-converted.new.inputs) c.loop-name-test.true c.name-item.is c.loop-name.invariant.openings asked.one_more asked.named;
       one_pass = λ is.
-          passes_in (2 * c.args.task.now.plan.workers) (omega (arith, c.args.task.now.plan.some_worker)) _ (manner_of g.J.PageJob c.args.task.now) _ c.loop-name.name-index c.name-item.result _ _ _ _ _ _ _ _
+          passes_in (2 * c.args.task.now.plan.workers) (omega (arith, c.args.task.now.plan.some_worker)) (told_contents (g.I.Inputs.files c.args.inputs.now)) (manner_of g.J.PageJob c.args.task.now) c.args.names.now c.loop-name.name-index c.name-item.result c.loop-name.made c.loop-name.batch (source_of g.I.Inputs c.args.inputs.now) (source_of g.I.Inputs c.loop-name.inputs) (source_of g.I.Inputs c.convert_file-converted.new.inputs)
+          (sinks_at g.O.Sink g.E.Sink c.args.desk.now) (sinks_at g.O.Sink g.E.Sink c.loop-name.desk) (sinks_at g.O.Sink g.E.Sink c.convert_file-converted.new.desk)
           c.loop-name-test.true c.name-item.is c.loop-name.invariant.done c.loop-name.invariant.openings c.loop-name.invariant.input (λ back first are. (ends back first are).1 is);
-      input = input_from c.in-Err.status _ _ _ c.loop-name.invariant.input c.in-Err.ensures.input;
-      keeps = keeps_on _ _ _ _ _ c.loop-name.invariant.keeps c.convert_file-converted.ensures.keeps;
+      input = input_from c.in-Err.status (g.I.Inputs.faults c.args.inputs.now) (g.I.Inputs.faults c.loop-name.inputs) (g.I.Inputs.faults c.convert_file-converted.new.inputs) c.loop-name.invariant.input c.in-Err.ensures.input;
+      keeps = keeps_on g.O.Sink g.E.Sink c.args.desk.now c.loop-name.desk c.convert_file-converted.new.desk c.loop-name.invariant.keeps c.convert_file-converted.ensures.keeps;
     }
 
 -- all files are done, and what is held then is carried out
@@ -74,12 +78,12 @@ pub returns-in-Ok-carry_out : goal.returns-in-Ok-carry_out
 returns-in-Ok-carry_out g c =
     let all : c.loop-name.name-index ≡ length c.args.names.now = omega (arith, c.loop-name.invariant.within, c.loop-name-test.false) in
     record {
-      outcome = all_done _ _ (manner_of g.J.PageJob c.args.task.now) _ _ _ (source_of g.I.Inputs c.args.inputs.now) (source_of g.I.Inputs c.loop-name.inputs) _ _ _
+      outcome = all_done (2 * c.args.task.now.plan.workers) (told_contents (g.I.Inputs.files c.args.inputs.now)) (manner_of g.J.PageJob c.args.task.now) c.args.names.now c.loop-name.made c.loop-name.batch (source_of g.I.Inputs c.args.inputs.now) (source_of g.I.Inputs c.loop-name.inputs) (sinks_at g.O.Sink g.E.Sink c.args.desk.now) (sinks_at g.O.Sink g.E.Sink c.loop-name.desk) (sinks_at g.O.Sink g.E.Sink c.carry_out.new.desk)
           (rw (take_all c.loop-name.name-index c.args.names.now c.loop-name-test.false) at c.loop-name.invariant.done) c.in-Ok-carry_out.ensures.ended (rw all at c.loop-name.invariant.openings);
       opened = c.loop-name.invariant.opened;
       one_pass = λ is. absurd (let no : status.Done ≡ status.Unwritten = is in cc);
       input = c.loop-name.invariant.input;
-      keeps = keeps_on _ _ _ _ _ c.loop-name.invariant.keeps c.carry_out.ensures.keeps;
+      keeps = keeps_on g.O.Sink g.E.Sink c.args.desk.now c.loop-name.desk c.carry_out.new.desk c.loop-name.invariant.keeps c.carry_out.ensures.keeps;
     }
 
 -- or it isn't
@@ -88,10 +92,12 @@ returns g c =
     let done = rw (take_all c.loop-name.name-index c.args.names.now c.loop-name-test.false) at c.loop-name.invariant.done in
     let which = halts_in c.in-Err-carry_out.status _ _ _ _ _ c.in-Err-carry_out.ensures.left in
     record {
-      outcome = ends_after c.in-Err-carry_out.status which _ _ (manner_of g.J.PageJob c.args.task.now) _ _ _ _ _ _ _ _ done c.in-Err-carry_out.ensures.ended;
+      outcome = ends_after c.in-Err-carry_out.status which (2 * c.args.task.now.plan.workers) (told_contents (g.I.Inputs.files c.args.inputs.now)) (manner_of g.J.PageJob c.args.task.now) c.args.names.now c.loop-name.made c.loop-name.batch (source_of g.I.Inputs c.args.inputs.now) (source_of g.I.Inputs c.loop-name.inputs)
+          (sinks_at g.O.Sink g.E.Sink c.args.desk.now) (sinks_at g.O.Sink g.E.Sink c.loop-name.desk) (sinks_at g.O.Sink g.E.Sink c.carry_out.new.desk) done c.in-Err-carry_out.ensures.ended;
       opened = c.loop-name.invariant.opened;
       one_pass = λ is.
-          passes_after (2 * c.args.task.now.plan.workers) (omega (arith, c.args.task.now.plan.some_worker)) _ (manner_of g.J.PageJob c.args.task.now) _ _ _ _ _ _ _ _ done c.loop-name.invariant.going.waits.few (rw is at c.in-Err-carry_out.ensures.ended);
-      input = input_of_halt c.in-Err-carry_out.status which _ _;
-      keeps = keeps_on _ _ _ _ _ c.loop-name.invariant.keeps c.carry_out.ensures.keeps;
+          passes_after (2 * c.args.task.now.plan.workers) (omega (arith, c.args.task.now.plan.some_worker)) (told_contents (g.I.Inputs.files c.args.inputs.now)) (manner_of g.J.PageJob c.args.task.now) c.args.names.now c.loop-name.made c.loop-name.batch (source_of g.I.Inputs c.args.inputs.now) (source_of g.I.Inputs c.loop-name.inputs)
+          (sinks_at g.O.Sink g.E.Sink c.args.desk.now) (sinks_at g.O.Sink g.E.Sink c.loop-name.desk) (sinks_at g.O.Sink g.E.Sink c.carry_out.new.desk) done c.loop-name.invariant.going.waits.few (rw is at c.in-Err-carry_out.ensures.ended);
+      input = input_of_halt c.in-Err-carry_out.status which (g.I.Inputs.faults c.args.inputs.now) (g.I.Inputs.faults c.loop-name.inputs);
+      keeps = keeps_on g.O.Sink g.E.Sink c.args.desk.now c.loop-name.desk c.carry_out.new.desk c.loop-name.invariant.keeps c.carry_out.ensures.keeps;
     }

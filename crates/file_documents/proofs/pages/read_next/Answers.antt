@@ -16,8 +16,8 @@ pub returns-in-Page-clause-answer : goal.returns-in-Page-clause-answer
 returns-in-Page-clause-answer g c =
     let gives = rw (c.in-Page.is) at c.in-Ok.ensures.page in
     let tells = rw (c.in-Page.is) at c.in-Ok.ensures.told_page in (
-      reads_page (manner_of g.J.PageJob c.args.task.now) _ _ _ _ _ gives tells c.in-Ok.ensures.still_at_end c.in-Ok.ensures.within,
-      given_page (manner_of g.J.PageJob c.args.task.now) _ _ _ _ _ gives,
+      reads_page (manner_of g.J.PageJob c.args.task.now) c.args.reader.now c.next.new.self (g.I.Inputs.files c.args.inputs.now) (g.I.Inputs.files c.next.new.inputs) _ gives tells c.in-Ok.ensures.still_at_end c.in-Ok.ensures.within,
+      given_page (manner_of g.J.PageJob c.args.task.now) c.args.reader.now c.next.new.self (g.I.Inputs.files c.args.inputs.now) (g.I.Inputs.files c.next.new.inputs) _ gives,
       c.in-Ok.ensures.steady,
       c.in-Ok.ensures.stays_opened,
       c.in-Ok.ensures.still_at_end,
@@ -26,7 +26,7 @@ returns-in-Page-clause-answer g c =
 pub returns-in-Page-clause-takes : goal.returns-in-Page-clause-takes
 returns-in-Page-clause-takes g c =
     let gives = rw (c.in-Page.is) at c.in-Ok.ensures.page in
-    record { needed = takes_page (manner_of g.J.PageJob c.args.task.now) _ _ _ _ _ gives; openings = c.in-Ok.ensures.same_openings }
+    record { needed = takes_page (manner_of g.J.PageJob c.args.task.now) c.args.reader.now c.next.new.self (g.I.Inputs.files c.args.inputs.now) (g.I.Inputs.files c.next.new.inputs) _ gives; openings = c.in-Ok.ensures.same_openings }
 
 -- the pages end
 pub returns-in-End-clause-answer : goal.returns-in-End-clause-answer
@@ -40,7 +40,7 @@ returns-in-End-clause-answer g c = (
 )
 
 pub returns-in-End-clause-takes : goal.returns-in-End-clause-takes
-returns-in-End-clause-takes g c = record { needed = takes_ending End _ _ _ _ (rw c.in-End.is at c.in-Ok.ensures.ending); openings = c.in-Ok.ensures.same_openings }
+returns-in-End-clause-takes g c = record { needed = takes_ending End c.args.reader.now c.next.new.self (g.I.Inputs.files c.args.inputs.now) (g.I.Inputs.files c.next.new.inputs) (rw c.in-End.is at c.in-Ok.ensures.ending); openings = c.in-Ok.ensures.same_openings }
 
 pub returns-in-Trailing-clause-answer : goal.returns-in-Trailing-clause-answer
 returns-in-Trailing-clause-answer g c = (
@@ -53,7 +53,7 @@ returns-in-Trailing-clause-answer g c = (
 )
 
 pub returns-in-Trailing-clause-takes : goal.returns-in-Trailing-clause-takes
-returns-in-Trailing-clause-takes g c = record { needed = takes_ending Trailing _ _ _ _ (rw c.in-Trailing.is at c.in-Ok.ensures.ending); openings = c.in-Ok.ensures.same_openings }
+returns-in-Trailing-clause-takes g c = record { needed = takes_ending Trailing c.args.reader.now c.next.new.self (g.I.Inputs.files c.args.inputs.now) (g.I.Inputs.files c.next.new.inputs) (rw c.in-Trailing.is at c.in-Ok.ensures.ending); openings = c.in-Ok.ensures.same_openings }
 
 -- why the reader gave no page
 pub returns-in-Err-clause-answer : goal.returns-in-Err-clause-answer
@@ -62,13 +62,13 @@ returns-in-Err-clause-answer g c = (
     ends = mapped (unread (g.I.Inputs.files c.args.inputs.now)) (ahead c.args.reader.now)
         (λ all. IfSays (cause_of_fault c.in-Err.fault) (λ ending. front (is_later c.args.reader.now) all ≡ Ends ending)) c.in-Err.ensures.told_ending;
     read_fault = λ e. let is : c.in-Err.fault ≡ fault.ReadFault = cc in c.in-Err.ensures.read_fault (ap Err is);
-    faults = fault_counts c.in-Err.fault _ _ c.in-Err.ensures.steady_ending (λ e. c.in-Err.ensures.cause (ap Err e));
+    faults = fault_counts c.in-Err.fault (g.I.Inputs.faults c.args.inputs.now) (g.I.Inputs.faults c.next.new.inputs) c.in-Err.ensures.steady_ending (λ e. c.in-Err.ensures.cause (ap Err e));
   },
   λ e. cc,
 )
 
 pub returns-in-Err-clause-takes : goal.returns-in-Err-clause-takes
 returns-in-Err-clause-takes g c = record {
-  needed = fault_takes c.in-Err.fault _ _ _ _ c.in-Err.ensures.ending (λ e. c.in-Err.ensures.read_fault (ap Err e)) (λ e. c.in-Err.ensures.no_memory (ap Err e));
+  needed = fault_takes c.in-Err.fault c.args.reader.now c.next.new.self (g.I.Inputs.files c.args.inputs.now) (g.I.Inputs.files c.next.new.inputs) c.in-Err.ensures.ending (λ e. c.in-Err.ensures.read_fault (ap Err e)) (λ e. c.in-Err.ensures.no_memory (ap Err e));
   openings = c.in-Err.ensures.same_openings;
 }

@@ -4,6 +4,7 @@ use Rattle.bitmap_input.specs.Cut.Ending.{End, Trailing}
 use Rattle.bitmap_input.specs.Reading.{cause_of, cause_of_fault}
 use Rattle.bitmap_input.specs.Reader.{Reader}
 use Rattle.bitmap_input.proofs.Answering.{reader_of, gives_page, gives_ending, fails_read, wants_memory, if_says, told_page, told_says, over_comes, page_comes, end_comes, trailing_comes, fault_comes}
+use Rattle.bitmap_input.proofs.GrayAnswers.{still_at_end}
 use Rattle.bitmap_input.proofs.reader.PageReader.next.Goals as goal
 use Rattle.bitmap_input.proofs.reader.PageReader.next.Goals.{in-End, in-Trailing, in-Fault}
 
@@ -79,3 +80,13 @@ returns-after-stop-clause-always g c =
       | in-Trailing w ↦ rw w.result-is (trailing_comes c.args.level.now c.args.invert reader _ _ _ (rw w.in-Trailing.is at told))
       | in-Fault w ↦ rw w.result-is (fault_comes c.args.level.now c.args.invert w.in-Fault.fault reader _ _ _ (rw w.in-Fault.is at told) (rw w.in-Fault.is at c.in-Err.ensures.leaves.counts))
     ])
+
+pub returns-in-Ok-clause-still_at_end : goal.returns-in-Ok-clause-still_at_end
+returns-in-Ok-clause-still_at_end g c = λ ended.
+    let at_end = rw (← c.self.view_is) at c.requires.at_end in
+    still_at_end _ _ _ _ _ _ c.in-Ok.ensures.reads at_end ended
+
+pub returns-after-stop-clause-still_at_end : goal.returns-after-stop-clause-still_at_end
+returns-after-stop-clause-still_at_end g c = λ ended.
+    let at_end = rw (← c.self.view_is) at c.requires.at_end in
+    still_at_end _ _ _ _ _ _ c.in-Err.ensures.reads at_end ended

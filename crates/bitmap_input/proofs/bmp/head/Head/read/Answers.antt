@@ -8,3 +8,6 @@ pub returns-in_err-read_into-clause-reads : goal.returns-in_err-read_into-clause
 returns-in_err-read_into-clause-reads g c =
     let p = err_from_is_err_and c.from_residual.result c.from_residual.ensures.1 in
     rw (p.1, p.2) (block_as (reads_failed c.in_err-read_into.ensures.reads) (omega arith))
+
+pub returns-clause-reads : goal.returns-clause-reads
+returns-clause-reads g c = rw (← c.self.view_is) (block_as c.in_ok-read_into.ensures.reads (omega arith))
