@@ -55,14 +55,40 @@ pub(crate) fn first_vertex(
 {
     let sides = Sides::of(alloc, points, moments)?;
     let narrow = narrowest(&sides);
-    let last = sides.last(narrow);
-    if last - narrow <= FEW {
+    if sides.last(narrow) - narrow <= FEW {
         return first_after(alloc, &sides, narrow);
     }
-    let count = fewest_among(alloc, &sides, narrow + 1, last + 1)?;
-    let nexts = nexts(alloc, &all_leaps(alloc, &sides, count.saturating_sub(1))?)?;
-    let sparse = sparsest(alloc, &sides, &nexts, narrow)?;
-    let fans = all_fans(alloc, &sides, &nexts)?;
+    let nexts = nexts_round(alloc, &sides, narrow)?;
+    first_by_sparsest(alloc, sides, &nexts, narrow)
+}
+
+/// For each point, the nearest one from which the polygon's other segments can lead round to it, where this point has
+/// the narrowest window.
+fn nexts_round(alloc: Global, sides: &Sides, narrow: usize) -> Result<Vec<usize>, NoMemory>
+    requires point { narrow < length sides.now.moments.now }
+    requires within { (j : ℕ) → IsPossible sides.now.moments.now narrow j
+        → j < length sides.now.moments.now }
+    ensures { IfOk result (λ nexts. length nexts.items ≡ length sides.now.moments.now) }
+{
+    let count = fewest_among(alloc, sides, narrow + 1, sides.last(narrow) + 1)?;
+    nexts(alloc, &all_leaps(alloc, sides, count.saturating_sub(1))?)
+}
+
+/// The first vertex of the least cyclic polygon, by the sparsest window, where this point has the narrowest.
+fn first_by_sparsest(
+    alloc: Global,
+    sides: Sides,
+    nexts: &[usize],
+    narrow: usize,
+) -> Result<u32, NoMemory>
+    requires places { length nexts.now ≡ length sides.moments.now }
+    requires point { narrow < length sides.moments.now }
+    requires within { (j : ℕ) → IsPossible sides.moments.now narrow j → j < length sides.moments.now }
+    ensures first { IfOk result (IsFirstVertex sides.entry.moments.now) }
+    ensures point { IfOk result (λ first. first < length sides.entry.moments.now) }
+{
+    let sparse = sparsest(alloc, &sides, nexts, narrow)?;
+    let fans = all_fans(alloc, &sides, nexts)?;
     first_after(alloc, &sides.with_fans(fans), sparse)
 }
 

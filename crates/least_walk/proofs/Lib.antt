@@ -1,4 +1,5 @@
 pub mod OneLeast
+pub mod Lists
 pub mod Going
 pub mod Before
 pub mod Walks

@@ -71,3 +71,46 @@ returns-clause-on_page c =
     let page = c.args.page.now in
     let found = above_at_end page c.args.policy _ c.args.limit _ _ _ c.paths.invariant.paths c.paths.invariant.start c.in_default.is in
     all_above c.args.limit (IsPathOn page.width page.height) _ _ found.2 (page_paths_on page _ c.args.policy _ c.in_ok-rest.ensures c.height.ensures.page c.height.ensures.fits found.1)
+
+-- the sides stay those of the page, and each start is a black pixel of it
+pub overflow_sub-height : goal.overflow_sub-height
+overflow_sub-height c = omega (arith, c.height.ensures.value, c.height.ensures.page.some_height)
+
+pub first_black-start-requires : goal.first_black-start-requires
+first_black-start-requires c = omega (arith, c.height.ensures.value, c.height.ensures.page.some_height)
+
+pub next_path-requires-clause-first : goal.next_path-requires-clause-first
+next_path-requires-clause-first c = subst (IsStart (image_of c.paths.rest)) c.in-Some.is c.paths.invariant.start
+
+pub next_path-requires-clause-column : goal.next_path-requires-clause-column
+next_path-requires-clause-column c =
+    let first : IsFirstBlack (image_of c.paths.rest) c.in-Some.x c.in-Some.y = subst (IsStart (image_of c.paths.rest)) c.in-Some.is c.paths.invariant.start in
+    (c.paths.invariant.fits c.in-Some.x c.in-Some.y first.black).0
+
+pub next_path-requires-clause-sides : goal.next_path-requires-clause-sides
+next_path-requires-clause-sides c = c.paths.invariant.sides
+
+pub next_path-requires-clause-width : goal.next_path-requires-clause-width
+next_path-requires-clause-width c = omega (arith, c.paths.invariant.sides.width, ap (λ (p : Page). p.width) c.in_ok-rest.ensures, c.height.ensures.page.most_width)
+
+pub next_path-requires-clause-height : goal.next_path-requires-clause-height
+next_path-requires-clause-height c = omega (arith, c.paths.invariant.sides.height, ap (λ (p : Page). p.height) c.in_ok-rest.ensures, c.height.ensures.page.most_height)
+
+pub next_path-requires-clause-fits : goal.next_path-requires-clause-fits
+next_path-requires-clause-fits c = c.paths.invariant.fits
+
+pub start_after-start-requires-clause-white : goal.start_after-start-requires-clause-white
+start_after-start-requires-clause-white c = c.in_ok-sign.ensures.white
+
+pub start_after-start-requires-clause-row : goal.start_after-start-requires-clause-row
+start_after-start-requires-clause-row c =
+    let first : IsFirstBlack (image_of c.paths.rest) c.in-Some.x c.in-Some.y = subst (IsStart (image_of c.paths.rest)) c.in-Some.is c.paths.invariant.start in
+    omega (arith, (c.paths.invariant.fits c.in-Some.x c.in-Some.y first.black).1, c.in_ok-sign.ensures.sides.height)
+
+pub start_after-start-requires-clause-column : goal.start_after-start-requires-clause-column
+start_after-start-requires-clause-column c =
+    let first : IsFirstBlack (image_of c.paths.rest) c.in-Some.x c.in-Some.y = subst (IsStart (image_of c.paths.rest)) c.in-Some.is c.paths.invariant.start in
+    omega (arith, (c.paths.invariant.fits c.in-Some.x c.in-Some.y first.black).0, c.in_ok-sign.ensures.sides.width)
+
+pub returns-clause-few : goal.returns-clause-few
+returns-clause-few c = omega (arith, c.paths.invariant.few)

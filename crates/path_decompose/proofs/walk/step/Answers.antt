@@ -1,12 +1,23 @@
 -- Each heading's end, which lies on the page, and the turn there.
 use Rattle.std.proofs.Common.{◌≡◌, ◌-◌, ◌+◌, ◌≤◌, suc, pred, refl, sym, subst, arith}
-use Rattle.bit_image.specs.Page.{image_of}
+use Rattle.std.proofs.lemmas.Int.{ints}
+use Rattle.pt_base.specs.declared.limits.TheConstants.{LONGEST_SIDE}
+use Rattle.bit_image.specs.Image.{Fits}
+use Rattle.bit_image.specs.Page.{Page, image_of}
 use Rattle.turn_policies.specs.Boundary.{IsBoundary}
+use Rattle.turn_policies.specs.declared.edge.Edge.{Edge}
 use Rattle.turn_policies.specs.declared.heading.Dir.TheVariants.{North, East, South, West}
 use Rattle.turn_policies.specs.Heading.{end_x, end_y}
 use Rattle.turn_policies.proofs.Turning.{next_boundary, next_is}
 use Rattle.path_decompose.proofs.OnPage.{edge_on}
 use Rattle.path_decompose.proofs.walk.step.Goals as goal
+
+-- a corner of the page, the longest of which has short sides
+corner : (page : Page) → page.width ≤ LONGEST_SIDE → page.height ≤ LONGEST_SIDE → Fits (image_of page) page.width page.height → (edge : Edge) → IsBoundary (image_of page) edge
+    → (edge.x ≤ LONGEST_SIDE) × (edge.y ≤ LONGEST_SIDE)
+corner page wide high fits edge boundary =
+    let on = edge_on (image_of page) page.width page.height fits edge boundary in
+    (omega (arith, on.column), omega (arith, on.row))
 
 pub turned_at-requires-clause-y : goal.turned_at-requires-clause-y
 turned_at-requires-clause-y c =
@@ -61,3 +72,40 @@ returns-in-West-clause-value c =
 pub returns-in-West-clause-boundary : goal.returns-in-West-clause-boundary
 returns-in-West-clause-boundary c =
     subst (IsBoundary (image_of c.args.page.now)) (sym (returns-in-West-clause-value c)) (next_boundary _ _ _ _ c.requires.boundary)
+
+-- a corner of the page is met, and its numbers are small
+pub turned_at-requires-clause-x : goal.turned_at-requires-clause-x
+turned_at-requires-clause-x c = omega (arith, corner c.args.page.now c.requires.width c.requires.height c.requires.fits c.args.edge c.requires.boundary)
+
+pub turned_at-requires-in-East-clause-y : goal.turned_at-requires-in-East-clause-y
+turned_at-requires-in-East-clause-y c = omega (arith, corner c.args.page.now c.requires.width c.requires.height c.requires.fits c.args.edge c.requires.boundary)
+
+pub turned_at-requires-in-South-clause-x : goal.turned_at-requires-in-South-clause-x
+turned_at-requires-in-South-clause-x c = omega (arith, corner c.args.page.now c.requires.width c.requires.height c.requires.fits c.args.edge c.requires.boundary)
+
+pub turned_at-requires-in-South-clause-y : goal.turned_at-requires-in-South-clause-y
+turned_at-requires-in-South-clause-y c = omega (arith, corner c.args.page.now c.requires.width c.requires.height c.requires.fits c.args.edge c.requires.boundary)
+
+pub turned_at-requires-in-West-clause-x : goal.turned_at-requires-in-West-clause-x
+turned_at-requires-in-West-clause-x c = omega (arith, corner c.args.page.now c.requires.width c.requires.height c.requires.fits c.args.edge c.requires.boundary)
+
+pub turned_at-requires-in-West-clause-y : goal.turned_at-requires-in-West-clause-y
+turned_at-requires-in-West-clause-y c = omega (arith, corner c.args.page.now c.requires.width c.requires.height c.requires.fits c.args.edge c.requires.boundary)
+
+pub overflow_add-x : goal.overflow_add-x
+overflow_add-x c = omega (arith, corner c.args.page.now c.requires.width c.requires.height c.requires.fits c.args.edge c.requires.boundary)
+
+pub overflow_add-y : goal.overflow_add-y
+overflow_add-y c = omega (arith, corner c.args.page.now c.requires.width c.requires.height c.requires.fits c.args.edge c.requires.boundary)
+
+pub overflow_cast-x : goal.overflow_cast-x
+overflow_cast-x c = omega (arith, ints, corner c.args.page.now c.requires.width c.requires.height c.requires.fits c.args.edge c.requires.boundary)
+
+pub overflow_cast-y : goal.overflow_cast-y
+overflow_cast-y c = omega (arith, ints, corner c.args.page.now c.requires.width c.requires.height c.requires.fits c.args.edge c.requires.boundary)
+
+pub overflow_add-trail : goal.overflow_add-trail
+overflow_add-trail c = omega (arith, c.from.ensures, c.requires.up, corner c.args.page.now c.requires.width c.requires.height c.requires.fits c.args.edge c.requires.boundary)
+
+pub overflow_add-trail-in-South : goal.overflow_add-trail-in-South
+overflow_add-trail-in-South c = omega (arith, c.from-in-South.ensures, c.requires.down, corner c.args.page.now c.requires.width c.requires.height c.requires.fits c.args.edge c.requires.boundary)

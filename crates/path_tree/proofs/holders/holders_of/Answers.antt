@@ -1,4 +1,6 @@
-use Rattle.std.proofs.Common.{◌≡◌, ◌+◌, ◌%◌, ◌<◌, ◌≤◌, Option, ℕ, List, All, length, ap, sym, subst, ◌∙◌, arith}
+use Rattle.std.proofs.Common.{◌≡◌, ◌+◌, ◌%◌, ◌<◌, ◌≤◌, Option, None, ℕ, List, All, length, get_or, ap, sym, subst, ◌∙◌, arith, rules}
+use Rattle.std.proofs.Math.ListN.{replicate}
+use Rattle.std.proofs.lemmas.List.{get_or-replicate, length-replicate}
 use Rattle.std.proofs.lemmas.List.Sorted.{All-permutation}
 use Rattle.path_tree.specs.declared.starts.Start.{Start}
 use Rattle.path_tree.specs.declared.starts.TheConstants.{ROW}
@@ -7,7 +9,7 @@ use Rattle.std.specs.List.Sorted.{IsNonDecreasingBy}
 use Rattle.pt_base.specs.ClosedWalk.{IsClosedWalk}
 use Rattle.pt_base.specs.declared.path.Path.{Path}
 use Rattle.path_decompose.specs.Bounds.{IsCornerOf}
-use Rattle.path_tree.proofs.Holding.{IsHeld, come_back, held_all, held_more}
+use Rattle.path_tree.proofs.Holding.{IsHeld, come_back, held_all, held_more, held_none}
 use Rattle.path_tree.proofs.Listing.{starts_columns, starts_within}
 use Rattle.path_tree.proofs.Marking.{all_below, length-marked}
 use Rattle.path_tree.proofs.holders.holders_of.Goals as goal
@@ -92,3 +94,15 @@ pub hold-requires-clause-order : goal.hold-requires-clause-order
 hold-requires-clause-order c =
     let P : List Start → Type 0 = λ ss. IsNonDecreasingBy (λ s. s.place) ss in
     subst P (sym c.deref-in-loop-path.ensures.value) c.in_ok-starts.ensures.order
+
+-- at first no path has a holder
+pub loop-path-init : goal.loop-path-init
+loop-path-init c =
+    let paths = c.args.paths.now in
+    let holders = c.in_ok-holders.holders.items in
+    let none : holders ≡ replicate (length paths) None = c.in_ok-holders.ensures.items_if_clones_equal (λ y same. search rules) in
+    held_none paths holders (ap length none ∙ length-replicate (length paths) None)
+    (λ k below. ap (λ hs. get_or hs k None) none ∙ get_or-replicate (length paths) k None None below)
+
+pub overflow_cast-path : goal.overflow_cast-path
+overflow_cast-path c = omega (arith, c.requires.few, c.loop-path-test.true)

@@ -3,7 +3,7 @@ use Rattle.std.proofs.Common.{◌≡◌, ◌+◌, ◌∷◌, ◌++◌, All, drop
 use Rattle.std.proofs.lemmas.List.Elements.{All-head, All-tail}
 use Rattle.pt_base.specs.ClosedWalk.{origin}
 use Rattle.path_decompose.specs.Bounds.{IsCornerOf}
-use Rattle.path_decompose.specs.Inside.{line_between, lines_to}
+use Rattle.path_decompose.specs.Inside.{line_between, lines_of, lines_to}
 use Rattle.path_decompose.proofs.Corners.{lines_to-drop}
 use Rattle.path_tree.specs.Starts.{place_of_line, places_of}
 use Rattle.path_tree.proofs.lines.gather_lines.Goals as goal
@@ -36,4 +36,21 @@ corners-preserved c =
           ∙ append_assoc c.corners.places.items (place_of_line rows line) (places_of rows rest)
           ∙ ap (λ ls. c.corners.places.items ++ places_of rows ls) (sym lines)
           ∙ c.corners.invariant.gathered;
+    }
+
+pub add_line-requires-clause-start : goal.add_line-requires-clause-start
+add_line-requires-clause-start c = c.corners.invariant.from
+
+pub add_line-requires-in-Some-clause-start : goal.add_line-requires-in-Some-clause-start
+add_line-requires-in-Some-clause-start c = c.corners.invariant.from
+
+-- at first all lines are still to come
+pub corners-init : goal.corners-init
+corners-init c =
+    let first = c.in-Some.first.now in
+    let rest = c.in-Some.rest.now in
+    let rows = c.args.rows.now in
+    record {
+      from = All-head (IsCornerOf 32767 32767) first rest (subst (All (IsCornerOf 32767 32767)) c.in-Some.ensures.cases.0 c.requires);
+      gathered = ap (λ places. places ++ places_of rows (lines_to first first rest)) c.clear.ensures.items ∙ ap (λ points. places_of rows (lines_of points)) (sym c.in-Some.ensures.cases.0);
     }

@@ -1,13 +1,10 @@
-use Rattle.std.proofs.Common.{◌≡◌, ℕ, List, ◌++◌, length, take, sym, ap, ◌∙◌, subst, arith}
-use Rattle.std.proofs.Math.Seq.{take-append_seam}
+use Rattle.std.proofs.Common.{◌≡◌, ℕ, List, length, sym, ◌∙◌, subst, arith}
 use Rattle.least_walk.specs.Suffix.{HasFewest, HasNexts}
+use Rattle.least_walk.proofs.Lists.{whole}
 use Rattle.polygon_optimal.specs.Lasts.{IsUpToLast}
 use Rattle.polygon_optimal.specs.Polygon.{penalty_of}
+use Rattle.polygon_optimal.specs.Search.{AreFalling}
 use Rattle.polygon_optimal.proofs.search.least_by_windows.Goals as goal
-
--- what was written through a slice of a whole vector
-whole : (written rest : List ℕ) (len : ℕ) → len ≡ length written → take len (written ++ rest) ≡ written
-whole written rest len all = ap (λ n. take n (written ++ rest)) all ∙ take-append_seam written rest
 
 pub walk_along-requires-clause-counts : goal.walk_along-requires-clause-counts
 walk_along-requires-clause-counts c =
@@ -45,3 +42,33 @@ walk_along-requires-clause-count_places c = omega (arith, c.deref-4.ensures.len,
 
 pub walk_along-requires-clause-next_places : goal.walk_along-requires-clause-next_places
 walk_along-requires-clause-next_places c = omega (arith, c.deref-5.ensures.len, c.in_ok-nexts.ensures.len, c.len-places.ensures, c.args.segments.now.places)
+
+pub overflow_add-places : goal.overflow_add-places
+overflow_add-places c = omega (arith, c.len-places.ensures, c.args.segments.now.places, c.args.segments.now.few)
+
+pub fill_costs-requires-clause-slots : goal.fill_costs-requires-clause-slots
+fill_costs-requires-clause-slots c = λ k most.
+    omega (arith, c.deref_mut-2.ensures.len, c.in_ok-costs.ensures.len, c.min.ensures, c.len-places.ensures, c.args.segments.now.places)
+
+-- and the counts are read as they were written
+pub farthest-requires-clause-fewest : goal.farthest-requires-clause-fewest
+farthest-requires-clause-fewest c =
+    let s = c.args.segments.now in
+    let P : List ℕ → Type 0 = λ counts. HasFewest (length s.moments.now) (IsUpToLast s.lasts.items) 0 counts in
+    subst P (sym (c.deref.ensures.value ∙ whole c.fill_counts.new.counts _ _ (omega (arith, c.deref_mut.ensures.len, c.fill_counts.auto.counts)))) c.fill_counts.ensures.fewest
+
+pub farthest-requires-clause-falling : goal.farthest-requires-clause-falling
+farthest-requires-clause-falling c =
+    let P : List ℕ → Type 0 = λ counts. AreFalling (length c.args.segments.now.moments.now) 0 counts in
+    subst P (sym (c.deref.ensures.value ∙ whole c.fill_counts.new.counts _ _ (omega (arith, c.deref_mut.ensures.len, c.fill_counts.auto.counts)))) c.fill_counts.ensures.falling
+
+pub fill_costs-requires-clause-fewest : goal.fill_costs-requires-clause-fewest
+fill_costs-requires-clause-fewest c =
+    let s = c.args.segments.now in
+    let P : List ℕ → Type 0 = λ counts. HasFewest (length s.moments.now) (IsUpToLast s.lasts.items) 0 counts in
+    subst P (sym (c.deref-2.ensures.value ∙ whole c.fill_counts.new.counts _ _ (omega (arith, c.deref_mut.ensures.len, c.fill_counts.auto.counts)))) c.fill_counts.ensures.fewest
+
+pub fill_costs-requires-clause-falling : goal.fill_costs-requires-clause-falling
+fill_costs-requires-clause-falling c =
+    let P : List ℕ → Type 0 = λ counts. AreFalling (length c.args.segments.now.moments.now) 0 counts in
+    subst P (sym (c.deref-2.ensures.value ∙ whole c.fill_counts.new.counts _ _ (omega (arith, c.deref_mut.ensures.len, c.fill_counts.auto.counts)))) c.fill_counts.ensures.falling
