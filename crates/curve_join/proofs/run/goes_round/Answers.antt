@@ -1,4 +1,4 @@
-use Rattle.std.proofs.Common.{◌≡◌, ◌^◌, ◌≤◌, true, false, refl, ℤ, pos, ◌<ℤ◌, ◌≤ℤ◌, unsigned_abs, w64, to_z, of_z, arith}
+use Rattle.std.proofs.Common.{◌≡◌, ◌^◌, ◌≤◌, true, false, refl, ℤ, pos, ◌<ℤ◌, unsigned_abs, w64, to_z, of_z, arith}
 use Rattle.std.proofs.lemmas.Int.{ints}
 use Rattle.std.specs.Int.Signed.{lt_z}
 use lib.Signed.{le_z}
