@@ -4,6 +4,19 @@ use Rattle.std.proofs.lemmas.Int.{ints}
 use Rattle.corner_smooth.specs.Corner.{IsInReach}
 use Rattle.pt_base.proofs.Sizes.{back}
 
+-- a number is passed as it is
+pub coordinate_back : (z : ℤ) → IsInReach z → to_z w32 (of_z w32 z) ≡ z
+coordinate_back z is =
+    let low = is.low in
+    let high = is.high in
+    omega (arith, ints)
+
+pub reach_passed : (z : ℤ) → IsInReach z → IsInReach (to_z w32 (of_z w32 z))
+reach_passed z is = rw (coordinate_back z is) is
+
+pub difference_passed : (z : ℤ) → unsigned_abs z ≤ 2 ^ 25 → unsigned_abs (to_z w64 (of_z w64 z)) ≤ 2 ^ 25
+difference_passed z h = rw (back z (omega arith)) h
+
 -- the value of a difference of coordinates
 pub difference_is : (from to d : ℤ) → IsInReach from → IsInReach to → d ≡ to_z w32 (of_z w32 to) -ℤ to_z w32 (of_z w32 from) → d ≡ to -ℤ from
 difference_is from to d f t e =

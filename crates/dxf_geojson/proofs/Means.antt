@@ -27,6 +27,12 @@ weighted_least w (negsuc n) s =
     let most : w * suc n ≤ w * 2147483648 = mul-le w (suc n) w 2147483648 (omega arith) few in
     rw (*ℤ-negsuc (pos w) n) (omega (arith, ints))
 
+pub weighted_fits : (w : ℕ) (c f g : ℤ) → w ≤ 512 → IsShort c → f ≡ pos w → g ≡ c → FitsSigned w64 (to_z w64 (of_z w64 f) *ℤ to_z w64 (of_z w64 g))
+weighted_fits w c f g few s ef eg =
+    let short : unsigned_abs c ≤ 2 ^ 31 = omega (arith, ints, s.least, s.most) in
+    let most : unsigned_abs (pos w *ℤ c) ≤ 512 * 2 ^ 31 = product_most (pos w) c 512 (2 ^ 31) few short in
+    rw (ef, eg, back (pos w) (omega arith), back c (omega arith)) (fits_signed_from_abs w64 (pos w *ℤ c) (omega arith))
+
 pub weighted_back : (w : ℕ) (c f g : ℤ) → w ≤ 512 → IsShort c → f ≡ pos w → g ≡ c
     → to_z w64 (of_z w64 (to_z w64 (of_z w64 f) *ℤ to_z w64 (of_z w64 g))) ≡ pos w *ℤ c
 weighted_back w c f g few s ef eg =

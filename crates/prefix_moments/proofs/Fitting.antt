@@ -1,11 +1,53 @@
 -- Numbers that fit their types.
-use Rattle.std.proofs.Common.{◌≡◌, ℕ, ◌+◌, ◌*◌, ◌<◌, ◌≤◌, ◌^◌, ℤ, pos, ◌+ℤ◌, ◌-ℤ◌, ◌*ℤ◌, ◌≤ℤ◌, w32, w64, to_z, of_z, refl, sym, ap, ◌∙◌, arith}
+use Rattle.std.proofs.Common.{◌≡◌, ℕ, ◌+◌, ◌-◌, ◌*◌, ◌<◌, ◌≤◌, ◌^◌, ℤ, pos, ◌+ℤ◌, ◌-ℤ◌, ◌*ℤ◌, ◌≤ℤ◌, w32, w64, to_z, of_z, refl, sym, ap, ◌∙◌, arith}
 use Rattle.std.proofs.lemmas.Int.{ints, fits_signed_from_abs}
 use Rattle.std.specs.Prelude.{unsigned_abs}
 use Rattle.std.specs.Int.RustNames.{FitsSigned}
 use mir.Syntax.{w128}
 use Rattle.pt_base.specs.declared.limits.TheConstants.{LONGEST_SIDE, MOST_STEPS}
 use Rattle.pt_base.proofs.Sizes.{back, long_back, product_most}
+
+-- a number of 64 bits as a call is passed it
+pub passed : (z : ℤ) (n : ℕ) → unsigned_abs z ≤ n → n < 2 ^ 63 → unsigned_abs (to_z w64 (of_z w64 z)) ≤ n
+passed z n h k = rw (back z (omega arith)) h
+
+pub side_back : (z : ℤ) → unsigned_abs z ≤ LONGEST_SIDE → to_z w64 (of_z w64 z) ≡ z
+side_back z h = back z (omega arith)
+
+pub square_back : (z : ℤ) → unsigned_abs z ≤ LONGEST_SIDE * LONGEST_SIDE → to_z w64 (of_z w64 z) ≡ z
+square_back z h = back z (omega arith)
+
+pub side_passed : (z : ℤ) → unsigned_abs z ≤ LONGEST_SIDE → unsigned_abs (to_z w64 (of_z w64 z)) ≤ LONGEST_SIDE
+side_passed z h = passed z LONGEST_SIDE h (omega arith)
+
+-- a sum of coordinates, and one of their products
+pub sum_passed : (z : ℤ) → unsigned_abs z ≤ (MOST_STEPS + 1) * LONGEST_SIDE → unsigned_abs (to_z w64 (of_z w64 z)) ≤ (MOST_STEPS + 1) * LONGEST_SIDE
+sum_passed z h = passed z ((MOST_STEPS + 1) * LONGEST_SIDE) h (omega arith)
+
+pub products_passed : (z : ℤ) → unsigned_abs z ≤ (MOST_STEPS + 1) * LONGEST_SIDE * LONGEST_SIDE
+    → unsigned_abs (to_z w64 (of_z w64 z)) ≤ (MOST_STEPS + 1) * LONGEST_SIDE * LONGEST_SIDE
+products_passed z h = passed z ((MOST_STEPS + 1) * LONGEST_SIDE * LONGEST_SIDE) h (omega arith)
+
+-- a sum of offsets
+pub offsets_passed : (z : ℤ) → unsigned_abs z ≤ 2 * (MOST_STEPS + 1) * LONGEST_SIDE → unsigned_abs (to_z w64 (of_z w64 z)) ≤ 2 * (MOST_STEPS + 1) * LONGEST_SIDE
+offsets_passed z h = passed z (2 * (MOST_STEPS + 1) * LONGEST_SIDE) h (omega arith)
+
+pub square_passed : (z : ℤ) → unsigned_abs z ≤ LONGEST_SIDE * LONGEST_SIDE → unsigned_abs (to_z w64 (of_z w64 z)) ≤ LONGEST_SIDE * LONGEST_SIDE
+square_passed z h = passed z (LONGEST_SIDE * LONGEST_SIDE) h (omega arith)
+
+-- a product fits
+pub product_fits : (a b : ℤ) (m n : ℕ) → unsigned_abs a ≤ m → unsigned_abs b ≤ n → m < 2 ^ 63 → n < 2 ^ 63 → m * n < 2 ^ 63
+    → FitsSigned w64 (to_z w64 (of_z w64 a) *ℤ to_z w64 (of_z w64 b))
+product_fits a b m n h k short_m short_n short =
+    rw (back a (omega arith), back b (omega arith)) (fits_signed_from_abs w64 (a *ℤ b) (let most = product_most a b m n h k in omega arith))
+
+pub difference_most : (a b : ℤ) (m n : ℕ) → unsigned_abs a ≤ m → unsigned_abs b ≤ n → unsigned_abs (a -ℤ b) ≤ m + n
+difference_most a b m n h k = omega (arith, ints)
+
+pub difference_fits : (a b : ℤ) → unsigned_abs a < 2 ^ 62 → unsigned_abs b < 2 ^ 62 → FitsSigned w64 (to_z w64 (of_z w64 a) -ℤ to_z w64 (of_z w64 b))
+difference_fits a b h k =
+    rw (back a (omega arith), back b (omega arith))
+    (fits_signed_from_abs w64 (a -ℤ b) (let most = difference_most a b (2 ^ 62) (2 ^ 62 - 1) (omega arith) (omega arith) in omega arith))
 
 -- the value of a difference
 pub difference_back : (a b s : ℤ) → unsigned_abs a < 2 ^ 62 → unsigned_abs b < 2 ^ 62 → b ≡ s

@@ -6,7 +6,7 @@ ghost use Rattle.prefix_moments.specs.Table.{spread_by, spread_from};
 use pt_base::{LONGEST_SIDE, MOST_STEPS};
 
 /// The sums of some points' coordinates, of their squares and of their products.
-#[derive(Clone, Copy, Debug)]
+#[derive(Clone, Copy)]
 pub(crate) struct Raw {
     pub(crate) x: i64,
     pub(crate) y: i64,

@@ -1,13 +1,17 @@
-use Rattle.std.proofs.Common.{◌^◌, ◌≤◌, ℕ, refl, sym, subst, arith}
-use Rattle.std.proofs.lemmas.Int.{ints}
-use Rattle.corner_smooth.proofs.Fitting.{difference_is, product_is, size_is, size_most}
+use Rattle.std.proofs.Common.{◌^◌, ◌≤◌, ℕ, ℤ, ◌-ℤ◌, unsigned_abs, w64, to_z, of_z, refl, sym, subst, arith}
+use Rattle.std.proofs.lemmas.Int.{fits_signed_from_abs}
+use Rattle.std.specs.Int.RustNames.{FitsSigned}
+use Rattle.pt_base.proofs.Sizes.{back}
+use Rattle.corner_smooth.proofs.Fitting.{difference_is, difference_passed, reach_passed, product_is, size_is, size_most}
 use Rattle.corner_smooth.proofs.triangle.area.Goals as goal
 
+products_differ : (p q : ℤ) → unsigned_abs p ≤ 2 ^ 50 → unsigned_abs q ≤ 2 ^ 50 → FitsSigned w64 (to_z w64 (of_z w64 p) -ℤ to_z w64 (of_z w64 q))
+products_differ p q h k =
+    let most = size_most p q h k in
+    rw (back p (omega arith), back q (omega arith)) (fits_signed_from_abs w64 (p -ℤ q) (omega arith))
+
 pub overflow_sub-across : goal.overflow_sub-across
-overflow_sub-across c =
-    let p = c.product-across.ensures.most in
-    let q = c.product-along.ensures.most in
-    omega (arith, ints)
+overflow_sub-across c = products_differ c.product-across.result c.product-along.result c.product-across.ensures.most c.product-along.ensures.most
 
 pub returns-clause-value : goal.returns-clause-value
 returns-clause-value c =
@@ -30,3 +34,40 @@ returns-clause-most c =
     let P : ℕ → Type 0 = λ n. n ≤ 2 ^ 51 in
     subst P (sym (size_is c.product-across.result c.product-along.result _ _ c.unsigned_abs.result p q refl refl c.unsigned_abs.ensures.value))
     (size_most c.product-across.result c.product-along.result p q)
+
+-- the numbers are passed as they are
+pub between-requires-clause-from : goal.between-requires-clause-from
+between-requires-clause-from c = reach_passed c.args.before.x c.requires.before.x
+
+pub between-requires-clause-to : goal.between-requires-clause-to
+between-requires-clause-to c = reach_passed c.args.at.x c.requires.at.x
+
+pub between-requires-2-clause-from : goal.between-requires-2-clause-from
+between-requires-2-clause-from c = reach_passed c.args.before.y c.requires.before.y
+
+pub between-requires-2-clause-to : goal.between-requires-2-clause-to
+between-requires-2-clause-to c = reach_passed c.args.after.y c.requires.after.y
+
+pub between-requires-3-clause-from : goal.between-requires-3-clause-from
+between-requires-3-clause-from c = reach_passed c.args.before.y c.requires.before.y
+
+pub between-requires-3-clause-to : goal.between-requires-3-clause-to
+between-requires-3-clause-to c = reach_passed c.args.at.y c.requires.at.y
+
+pub between-requires-4-clause-from : goal.between-requires-4-clause-from
+between-requires-4-clause-from c = reach_passed c.args.before.x c.requires.before.x
+
+pub between-requires-4-clause-to : goal.between-requires-4-clause-to
+between-requires-4-clause-to c = reach_passed c.args.after.x c.requires.after.x
+
+pub product-across-requires-clause-a : goal.product-across-requires-clause-a
+product-across-requires-clause-a c = difference_passed c.between.result c.between.ensures.most
+
+pub product-across-requires-clause-b : goal.product-across-requires-clause-b
+product-across-requires-clause-b c = difference_passed c.between-2.result c.between-2.ensures.most
+
+pub product-along-requires-clause-a : goal.product-along-requires-clause-a
+product-along-requires-clause-a c = difference_passed c.between-3.result c.between-3.ensures.most
+
+pub product-along-requires-clause-b : goal.product-along-requires-clause-b
+product-along-requires-clause-b c = difference_passed c.between-4.result c.between-4.ensures.most

@@ -1,8 +1,10 @@
-use Rattle.std.proofs.Common.{◌∙◌, ap, w64, arith, rules}
+use Rattle.std.proofs.Common.{◌≡◌, ◌≤◌, ◌^◌, ℤ, ◌*ℤ◌, ◌∙◌, ap, w64, to_z, of_z, arith, rules}
+use Rattle.std.proofs.lemmas.Int.{fits_signed_from_abs}
+use mir.Syntax.{w128}
 use Rattle.std.specs.Prelude.{unsigned_abs}
 use Rattle.std.specs.Int.RustNames.{FitsSigned}
 use Rattle.curve_join.proofs.Division.{shift_is, short_shift}
-use Rattle.curve_join.proofs.Fitting.{back, long_back}
+use Rattle.curve_join.proofs.Fitting.{back, long_back, product_most}
 use Rattle.curve_join.proofs.meeting.part_of.Goals as goal
 
 -- the short form
@@ -40,3 +42,14 @@ returns-else-unsigned_abs-clause-most c =
     c.div_floor.result c.requires.top c.requires.way c.requires.some fits
     c.from-else-unsigned_abs.ensures c.from-else-unsigned_abs-2.ensures c.from-else-unsigned_abs-3.ensures c.div_floor.ensures.value in
     rw (long_back c.div_floor.result (let h = shift.1 in omega arith)) (shift.1)
+
+products_fit : (t v p q : ℤ) → unsigned_abs t ≤ 2 ^ 58 → unsigned_abs v ≤ 2 ^ 27 → p ≡ to_z w64 (of_z w64 t) → q ≡ to_z w64 (of_z w64 v)
+    → FitsSigned w128 (to_z w128 (of_z w128 p) *ℤ to_z w128 (of_z w128 q))
+products_fit t v p q h k e f =
+    let most = product_most t v (2 ^ 58) (2 ^ 27) h k in
+    rw (e, f, back t (omega arith), back v (omega arith), long_back t (omega arith), long_back v (omega arith)) (fits_signed_from_abs w128 (t *ℤ v) (omega arith))
+
+pub overflow_mul-from : goal.overflow_mul-from
+overflow_mul-from c =
+    products_fit c.args.top c.args.way c.from-else-unsigned_abs.result c.from-else-unsigned_abs-2.result c.requires.top c.requires.way
+    c.from-else-unsigned_abs.ensures c.from-else-unsigned_abs-2.ensures

@@ -1,6 +1,6 @@
 use Rattle.std.proofs.Common.{◌≡◌, ℕ, List, ◌++◌, length, take, sym, ap, ◌∙◌, subst, arith}
 use Rattle.std.proofs.Math.Seq.{take-append_seam}
-use Rattle.least_walk.specs.Suffix.{HasNexts}
+use Rattle.least_walk.specs.Suffix.{HasCosts, HasFewest, HasNexts}
 use Rattle.curve_join.specs.Choice.{MayBeOne, run_penalty}
 use Rattle.curve_join.proofs.search.least_by_runs.Goals as goal
 
@@ -36,3 +36,29 @@ walk_by-requires-clause-cost_places c = omega (arith, c.deref-2.ensures.len, c.i
 
 pub walk_by-requires-clause-next_places : goal.walk_by-requires-clause-next_places
 walk_by-requires-clause-next_places c = omega (arith, c.deref-3.ensures.len, c.in_ok-nexts.ensures.len, c.len-places.ensures)
+
+pub walk_by-requires-clause-counts : goal.walk_by-requires-clause-counts
+walk_by-requires-clause-counts c =
+    let runs = c.args.runs.now in
+    let bends = runs.bends.items in
+    let P : List ℕ → Type 0 = λ counts. HasFewest (length bends) (MayBeOne runs.tol bends) 0 counts in
+    let len = c.deref_mut.ensures.len in
+    let same : c.deref.result.now ≡ c.fill_ways.new.counts =
+    c.deref.ensures.value ∙ whole c.fill_ways.new.counts _ _ (omega (arith, len, c.fill_ways.auto.counts)) in
+    subst P (sym same) c.fill_ways.ensures.counts
+
+pub walk_by-requires-clause-costs : goal.walk_by-requires-clause-costs
+walk_by-requires-clause-costs c =
+    let runs = c.args.runs.now in
+    let bends = runs.bends.items in
+    let P : List ℕ → Type 0 = λ costs. HasCosts (length bends) (MayBeOne runs.tol bends) (run_penalty bends) 0 costs in
+    let len = c.deref_mut-2.ensures.len in
+    let same : c.deref-2.result.now ≡ c.fill_ways.new.costs =
+    c.deref-2.ensures.value ∙ whole c.fill_ways.new.costs _ _ (omega (arith, len, c.fill_ways.auto.costs)) in
+    subst P (sym same) c.fill_ways.ensures.costs
+
+pub overflow_add-places : goal.overflow_add-places
+overflow_add-places c = record { fits = omega (arith, c.len-places.ensures, c.args.runs.now.most, c.args.runs.now.bends.ok.0) }
+
+pub returns : goal.returns
+returns c = c.walk_by.ensures.least

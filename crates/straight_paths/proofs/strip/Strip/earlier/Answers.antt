@@ -1,21 +1,17 @@
-use Rattle.std.proofs.Common.{◌≡◌, ℕ, suc, false, ◌+◌, ◌≤◌, ℤ, pos, neg_ℤ, ◌+ℤ◌, ◌-ℤ◌, ◌*ℤ◌, ◌≤ℤ◌, ◌<ℤ◌, unsigned_abs, FitsSigned, w64, to_z, of_z, inl, inr, sym, subst, arith}
+use Rattle.std.proofs.Common.{◌≡◌, suc, false, ◌+◌, ◌≤◌, ℤ, pos, neg_ℤ, ◌+ℤ◌, ◌-ℤ◌, ◌*ℤ◌, ◌≤ℤ◌, ◌<ℤ◌, unsigned_abs, FitsSigned, w64, to_z, of_z, sym, ◌∙◌, subst, arith}
 use Rattle.std.proofs.lemmas.Int.{ints, to_z-of_z}
 use Rattle.std.specs.Int.Signed.{lt_z}
-use Rattle.pt_base.proofs.Sizes.{product_most}
+use Rattle.pt_base.proofs.Sizes.{back, product_most}
 use Rattle.straight_paths.specs.Cones.{IsShort, cross_of}
 use Rattle.straight_paths.specs.Strips.{IsFromTo, IsSpan, IsStrip}
 use Rattle.straight_paths.specs.Wedges.{IsSign}
 use Rattle.straight_paths.specs.declared.vector.Vector.{Vector}
+use Rattle.straight_paths.specs.declared.strip.Span.{Span}
 use Rattle.straight_paths.specs.declared.strip.Strip.{Strip}
+use Rattle.straight_paths.proofs.Bounds.{difference_fits}
+use Rattle.straight_paths.proofs.Quarters.{sign_most}
 use Rattle.straight_paths.proofs.Stepping.{stays_before, strip_before}
 use Rattle.straight_paths.proofs.strip.Strip.earlier.Goals as goal
-
--- a number times a sign, or times one that is at most 1
-sign_most : (s z : ℤ) (n : ℕ) → IsSign s → unsigned_abs z ≤ n → unsigned_abs (s *ℤ z) ≤ n
-sign_most s z n sign h = elim sign [
-  | inl e ↦ let P : ℤ → Type 0 = λ u. unsigned_abs (u *ℤ z) ≤ n in subst P (sym e) (omega (arith, ints))
-  | inr e ↦ let P : ℤ → Type 0 = λ u. unsigned_abs (u *ℤ z) ≤ n in subst P (sym e) (omega (arith, ints))
-]
 
 breadth_most : (strip : Strip) → IsStrip strip → strip.breadth ≤ℤ pos 131070
 breadth_most strip is =
@@ -46,18 +42,24 @@ pub shifted-across-requires-clause-small : goal.shifted-across-requires-clause-s
 shifted-across-requires-clause-small c =
     across_small c.args.self c.requires.strip
 
+cross_passed : (z : ℤ) → unsigned_abs z ≤ 131070 → unsigned_abs (to_z w64 (of_z w64 z)) ≤ 131072
+cross_passed z h = rw (back z (omega arith)) (omega arith)
+
 pub shifted-across-requires-clause-by : goal.shifted-across-requires-clause-by
 shifted-across-requires-clause-by c =
-    let cross = cross_most c.args.self.way c.args.step c.cross.result c.requires.strip.short c.requires.step c.cross.ensures in
-    omega (arith, ints)
+    cross_passed c.cross.result (cross_most c.args.self.way c.args.step c.cross.result c.requires.strip.short c.requires.step c.cross.ensures)
+
+span_fits : (span : Span) → IsSpan (neg_ℤ (pos 262144)) (pos 262144) span
+    → FitsSigned w64 (to_z w64 (of_z w64 span.greatest) -ℤ to_z w64 (of_z w64 span.least))
+span_fits span small =
+    let a = small.least.least in
+    let b = small.least.most in
+    let d = small.greatest.least in
+    let e = small.greatest.most in
+    difference_fits span.greatest span.least (omega (arith, ints)) (omega (arith, ints))
 
 pub overflow_sub-across : goal.overflow_sub-across
-overflow_sub-across c =
-    let a = c.shifted-across.ensures.small.least.least in
-    let b = c.shifted-across.ensures.small.least.most in
-    let d = c.shifted-across.ensures.small.greatest.least in
-    let e = c.shifted-across.ensures.small.greatest.most in
-    omega (arith, ints)
+overflow_sub-across c = span_fits c.shifted-across.result c.shifted-across.ensures.small
 
 -- one step in the quarter
 onward_most : (s z r : ℤ) → IsSign s → unsigned_abs z ≤ 1 → r ≡ s *ℤ z → unsigned_abs r ≤ 1
@@ -98,6 +100,9 @@ back_tested b o r behind small fits some more most =
     let greatest = behind.most in
     (omega (arith, ints), record { least = omega (arith, ints); most = omega (arith, ints) })
 
+breadth_fits : (b : ℤ) → pos 0 <ℤ b → b ≤ℤ pos 131070 → FitsSigned w64 b
+breadth_fits b some most = omega (arith, ints)
+
 pub returns-clause-strip : goal.returns-clause-strip
 returns-clause-strip c =
     let strip = c.requires.strip in
@@ -106,9 +111,9 @@ returns-clause-strip c =
     let small = c.shifted-across.ensures.small in
     let onward_x = onward_most _ _ c.turned-onward.result.x strip.quarter.right c.requires.step.x c.turned-onward.ensures.x in
     let onward_y = onward_most _ _ c.turned-onward.result.y strip.quarter.up c.requires.step.y c.turned-onward.ensures.y in
-    let f1 : FitsSigned w64 c.args.self.breadth = omega (arith, ints) in
-    let f5 : FitsSigned w64 c.greater-back_x.result = omega (arith, ints) in
-    let f6 : FitsSigned w64 c.greater-back_y.result = omega (arith, ints) in
+    let f1 : FitsSigned w64 c.args.self.breadth = breadth_fits c.args.self.breadth some breadth in
+    let f5 : FitsSigned w64 c.greater-back_x.result = record { sfits = c.greater-back_x.type_inv } in
+    let f6 : FitsSigned w64 c.greater-back_y.result = record { sfits = c.greater-back_y.type_inv } in
     let narrow = narrow_tested c.shifted-across.result.least c.shifted-across.result.greatest c.args.self.breadth small.least small.greatest some breadth
     c.if-self-across.false in
     let back_x = back_tested c.args.self.back.x c.turned-onward.result.x c.greater-back_x.result strip.back_x onward_x f5
@@ -124,27 +129,19 @@ returns-clause-stays c = λ path count is stays.
     let some = strip.some in
     let breadth = breadth_most c.args.self strip in
     let small = c.shifted-across.ensures.small in
-    let span = across_small c.args.self strip in
-    let l_least = span.least.least in
-    let l_most = span.least.most in
-    let g_least = span.greatest.least in
-    let g_most = span.greatest.most in
-    let cross = cross_most c.args.self.way c.args.step c.cross.result strip.short c.requires.step c.cross.ensures in
     let onward_x = onward_most _ _ c.turned-onward.result.x strip.quarter.right c.requires.step.x c.turned-onward.ensures.x in
     let onward_y = onward_most _ _ c.turned-onward.result.y strip.quarter.up c.requires.step.y c.turned-onward.ensures.y in
-    let f1 : FitsSigned w64 c.args.self.breadth = omega (arith, ints) in
-    let f5 : FitsSigned w64 c.greater-back_x.result = omega (arith, ints) in
-    let f6 : FitsSigned w64 c.greater-back_y.result = omega (arith, ints) in
+    let f1 : FitsSigned w64 c.args.self.breadth = breadth_fits c.args.self.breadth some breadth in
+    let f5 : FitsSigned w64 c.greater-back_x.result = record { sfits = c.greater-back_x.type_inv } in
+    let f6 : FitsSigned w64 c.greater-back_y.result = record { sfits = c.greater-back_y.type_inv } in
     let back_x = back_tested c.args.self.back.x c.turned-onward.result.x c.greater-back_x.result strip.back_x onward_x f5
     c.greater-back_x.ensures.first c.greater-back_x.ensures.second c.if-back_x-gt1.false in
     let back_y = back_tested c.args.self.back.y c.turned-onward.result.y c.greater-back_y.result strip.back_y onward_y f6
     c.greater-back_y.ensures.first c.greater-back_y.ensures.second c.if-back_y-gt1.false in
-    let least_more = c.shifted-across.ensures.least in
-    let greatest_more = c.shifted-across.ensures.greatest in
-    let least_is : c.shifted-across.result.least ≤ℤ (c.args.self.across.least +ℤ c.cross.result) = omega (arith, ints) in
-    let greatest_is : (c.args.self.across.greatest +ℤ c.cross.result) ≤ℤ c.shifted-across.result.greatest = omega (arith, ints) in
-    let least = subst (λ (z : ℤ). c.shifted-across.result.least ≤ℤ (c.args.self.across.least +ℤ z)) c.cross.ensures least_is in
-    let greatest = subst (λ (z : ℤ). (c.args.self.across.greatest +ℤ z) ≤ℤ c.shifted-across.result.greatest) c.cross.ensures greatest_is in
+    let by : to_z w64 (of_z w64 c.cross.result) ≡ cross_of c.args.self.way c.args.step =
+    to_z-of_z w64 c.cross.result (record { sfits = c.cross.type_inv }) ∙ c.cross.ensures in
+    let least = subst (λ (z : ℤ). c.shifted-across.result.least ≤ℤ (c.args.self.across.least +ℤ z)) by c.shifted-across.ensures.least in
+    let greatest = subst (λ (z : ℤ). (c.args.self.across.greatest +ℤ z) ≤ℤ c.shifted-across.result.greatest) by c.shifted-across.ensures.greatest in
     let x_more = subst (λ (z : ℤ). (c.args.self.back.x -ℤ z) ≤ℤ c.greater-back_x.result) c.turned-onward.ensures.x back_x.0 in
     let y_more = subst (λ (z : ℤ). (c.args.self.back.y -ℤ z) ≤ℤ c.greater-back_y.result) c.turned-onward.ensures.y back_y.0 in
     let e : count + 1 ≡ suc count = omega arith in

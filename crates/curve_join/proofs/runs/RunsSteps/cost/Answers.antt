@@ -1,0 +1,15 @@
+use Rattle.curve_join.proofs.Slices.{joinable, penalty_is}
+use Rattle.curve_join.proofs.runs.RunsSteps.cost.Goals as goal
+
+-- the run may be joined
+pub joined_run-requires-clause-some : goal.joined_run-requires-clause-some
+joined_run-requires-clause-some c = (joinable c.args.self.now.bends.items c.deref.result.now c.args.from c.args.to c.deref.ensures.value c.if-to-from-eq1.false c.args.self.now.tol c.requires.allowed).some
+
+pub joined_run-requires-clause-few : goal.joined_run-requires-clause-few
+joined_run-requires-clause-few c = (joinable c.args.self.now.bends.items c.deref.result.now c.args.from c.args.to c.deref.ensures.value c.if-to-from-eq1.false c.args.self.now.tol c.requires.allowed).few
+
+pub returns : goal.returns
+returns c = penalty_is c.args.self.now.bends.items c.deref.result.now c.args.from c.args.to c.deref.ensures.value c.if-to-from-eq1.false c.in-Some.penalty c.in-Some.ensures.penalty
+
+pub unreachable-requires : goal.unreachable-requires
+unreachable-requires c = c.in-None.ensures.none (joinable c.args.self.now.bends.items c.deref.result.now c.args.from c.args.to c.deref.ensures.value c.if-to-from-eq1.false c.args.self.now.tol c.requires.allowed)

@@ -1,0 +1,58 @@
+use Rattle.std.proofs.Common.{◌≡◌, ℕ, ◌+◌, ◌-◌, ◌<◌, inr, refl, ap, ◌∙◌, subst, arith}
+use Rattle.curve_join.specs.Costs.{slice_most}
+use Rattle.curve_join.specs.Search.{IsNotBehind, paid}
+use Rattle.curve_join.specs.declared.search.WayOn.{WayOn}
+use Rattle.curve_join.proofs.Slices.{joinable, may_be_one, penalty_is, some_of_slice}
+use Rattle.curve_join.proofs.search.better.Goals as goal
+
+not_single : (i j : ℕ) → i + 1 < j → ¬ (j - i ≡ 1)
+not_single i j onwards = λ e. omega arith
+
+-- the run is looked at through a slice
+pub joined_round-requires-clause-some : goal.joined_round-requires-clause-some
+joined_round-requires-clause-some c = rw c.deref.ensures.value (some_of_slice c.args.runs.now.bends.items c.args.from c.args.way.next c.requires.onwards c.requires.within)
+
+pub joined_round-requires-clause-few : goal.joined_round-requires-clause-few
+joined_round-requires-clause-few c = omega (arith, slice_most c.deref.result.now c.args.from c.args.way.next, c.requires.few)
+
+pub joined_round-requires-clause-round : goal.joined_round-requires-clause-round
+joined_round-requires-clause-round c = rw c.deref.ensures.value c.requires.round
+
+-- what comes behind without the penalty does so with it
+behind_paid : (best way : WayOn) (penalty : ℕ) → IsNotBehind best way → IsNotBehind best (paid penalty way)
+behind_paid best way penalty is = record {
+  count = is.count;
+  cost = λ same. omega (arith, is.cost same);
+  next = λ same cost. let least = is.cost same in is.next same (omega (arith, least, cost));
+}
+
+no_worse : (way : WayOn) → IsNotBehind way way
+no_worse way = record { count = omega arith; cost = λ _. omega arith; next = λ _ _. omega arith }
+
+paid_same : (way : WayOn) (n m : ℕ) → n ≡ m → IsNotBehind (paid n way) (paid m way)
+paid_same way n m e = subst (λ k. IsNotBehind (paid n way) (paid k way)) e (no_worse (paid n way))
+
+pub returns-then-not-is_before-clause-run : goal.returns-then-not-is_before-clause-run
+returns-then-not-is_before-clause-run c = λ may. behind_paid c.args.best c.args.way _ (c.if-not-is_before.ensures.not refl)
+
+pub returns-in_default-clause-run : goal.returns-in_default-clause-run
+returns-in_default-clause-run c = λ may. absurd (c.in_default.ensures.none (joinable c.args.runs.now.bends.items c.deref.result.now c.args.from c.args.way.next c.deref.ensures.value (not_single c.args.from c.args.way.next c.requires.onwards) c.args.runs.now.tol may))
+
+pub returns-then-is_before-clause-run : goal.returns-then-is_before-clause-run
+returns-then-is_before-clause-run c = λ may. paid_same c.args.way _ _ (c.from.ensures ∙ penalty_is c.args.runs.now.bends.items c.deref.result.now c.args.from c.args.way.next c.deref.ensures.value (not_single c.args.from c.args.way.next c.requires.onwards) c.in-Some.penalty c.in-Some.ensures.penalty)
+
+pub returns-then-is_before-clause-one : goal.returns-then-is_before-clause-one
+returns-then-is_before-clause-one c =
+    inr (
+      may_be_one c.args.runs.now.bends.items c.deref.result.now c.args.from c.args.way.next c.deref.ensures.value (not_single c.args.from c.args.way.next c.requires.onwards) c.args.runs.now.tol c.requires.within c.in-Some.ensures.some,
+      ap (λ n. paid n c.args.way) (c.from.ensures ∙ penalty_is c.args.runs.now.bends.items c.deref.result.now c.args.from c.args.way.next c.deref.ensures.value (not_single c.args.from c.args.way.next c.requires.onwards) c.in-Some.penalty c.in-Some.ensures.penalty),
+    )
+
+pub returns-then-not-is_before-clause-best : goal.returns-then-not-is_before-clause-best
+returns-then-not-is_before-clause-best c = no_worse c.args.best
+
+pub returns-in_default-clause-best : goal.returns-in_default-clause-best
+returns-in_default-clause-best c = no_worse c.args.best
+
+pub returns-else-is_before-clause-best : goal.returns-else-is_before-clause-best
+returns-else-is_before-clause-best c = no_worse c.args.best
