@@ -2,7 +2,7 @@
 ghost use Rattle.std.specs.Prelude.{◌≡◌, ℕ, IfNone, IfOk, IfSome};
 ghost use Rattle.outline_check.specs.Verdicts.{IsVerdict};
 ghost use Rattle.outline_check.specs.declared.verdict.Verdict.TheVariants.{Right};
-ghost use Rattle.page_trace.specs.Document.{CanWrite, IsDocument, backend_word};
+ghost use Rattle.page_trace.specs.Document.{CanWrite, IsDocument, IsDrawn, backend_word};
 ghost use Rattle.pt_base.specs.declared.settings.Backend.{Backend};
 ghost use Rattle.pt_base.specs.declared.settings.Backend.TheVariants.{Proofs};
 
@@ -60,25 +60,22 @@ pub fn document(alloc: Global, page: &Bitmap, settings: &Settings) -> Result<Vec
             let text = proofs(alloc, &trace)?;
             Ok(text)
         }
-        Backend::Svg => {
-            let trace = trace(alloc, page, settings)?;
-            svg(alloc, &trace, settings)
-        }
-        Backend::Eps => {
-            let trace = trace(alloc, page, settings)?;
-            eps(alloc, &trace, settings)
-        }
-        Backend::Ps => {
-            let trace = trace(alloc, page, settings)?;
-            ps_body(alloc, &trace, settings)
-        }
-        Backend::Dxf => {
-            let trace = trace(alloc, page, settings)?;
-            dxf(alloc, &trace)
-        }
-        Backend::GeoJson => {
-            let trace = trace(alloc, page, settings)?;
-            geojson(alloc, &trace)
-        }
+        _ => drawing(alloc, page, settings),
+    }
+}
+
+/// The text of a page's whole trace, under a backend that draws it.
+fn drawing(alloc: Global, page: &Bitmap, settings: &Settings) -> Result<Vec<u8>, NoMemory>
+    requires written { CanWrite settings.now }
+    requires drawn { IsDrawn settings.now.backend }
+    ensures { IfOk result (λ text. IsDocument page.now settings.now text.items) }
+{
+    let trace = trace(alloc, page, settings)?;
+    match settings.backend {
+        Backend::Svg => svg(alloc, &trace, settings),
+        Backend::Eps => eps(alloc, &trace, settings),
+        Backend::Ps => ps_body(alloc, &trace, settings),
+        Backend::Dxf => dxf(alloc, &trace),
+        _ => geojson(alloc, &trace),
     }
 }
