@@ -17,8 +17,8 @@ pub mod Trace
 --   IsTextOf: the text is that of a trace
 --   IsDocumentUnder: the text is the page's under a backend
 --   IsDocument: the text is the page's document
---   CanTrace: what a whole trace needs of the settings
 --   IsDrawn: the backend draws a whole trace
+--   CanTrace: what a whole trace needs of the settings
 --   CanDraw: what a text in units needs besides
 --   CanWriteUnder: what a document needs of the settings, under a backend
 --   CanWrite: what a document needs of the settings
