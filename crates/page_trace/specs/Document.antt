@@ -64,6 +64,17 @@ IsDocumentUnder GeoJson page settings text =
 abbrev pub IsDocument : Page → Settings → List ℕ → Type 0
 IsDocument page settings text = IsDocumentUnder settings.backend page settings text
 
+-- the backend draws a whole trace; the others list what a part of one has
+abbrev pub IsDrawn : Backend → Type 0
+IsDrawn Points = ⊥
+IsDrawn Polygons = ⊥
+IsDrawn Proofs = ⊥
+IsDrawn Svg = Unit {0}
+IsDrawn Eps = Unit {0}
+IsDrawn Ps = Unit {0}
+IsDrawn Dxf = Unit {0}
+IsDrawn GeoJson = Unit {0}
+
 -- what a whole trace needs of the settings: a corner threshold and a tolerance of at most 1000
 pub record CanTrace (settings : Settings) : Type 0 where
   pub alphamax : settings.alphamax ≤ 1000000000

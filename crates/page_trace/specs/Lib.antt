@@ -17,6 +17,7 @@ pub mod Trace
 --   IsTextOf: the text is that of a trace
 --   IsDocumentUnder: the text is the page's under a backend
 --   IsDocument: the text is the page's document
+--   IsDrawn: the backend draws a whole trace
 --   CanTrace: what a whole trace needs of the settings
 --   CanDraw: what a text in units needs besides
 --   CanWriteUnder: what a document needs of the settings, under a backend

@@ -1,8 +1,8 @@
 //! The document of a page: all that a backend is stands here, but the suffix of its documents' names.
-ghost use Rattle.std.specs.Prelude.{◌≡◌, ℕ, IfNone, IfOk, IfSome};
+ghost use Rattle.std.specs.Prelude.{◌≡◌, ℕ, false, IfNone, IfOk, IfSome};
 ghost use Rattle.outline_check.specs.Verdicts.{IsVerdict};
 ghost use Rattle.outline_check.specs.declared.verdict.Verdict.TheVariants.{Right};
-ghost use Rattle.page_trace.specs.Document.{CanWrite, IsDocument, backend_word};
+ghost use Rattle.page_trace.specs.Document.{CanWrite, IsDocument, IsDocumentUnder, IsDrawn, IsTextOf, backend_word};
 ghost use Rattle.pt_base.specs.declared.settings.Backend.{Backend};
 ghost use Rattle.pt_base.specs.declared.settings.Backend.TheVariants.{Proofs};
 
@@ -12,7 +12,7 @@ use bit_image::Bitmap;
 use dxf_geojson::{dxf, geojson};
 use eps_backend::{eps, ps_body};
 use outline_check::proofs;
-use pt_base::{Backend, NoMemory, Settings, points, polygons};
+use pt_base::{Backend, NoMemory, Settings, Trace, points, polygons};
 use std::alloc::Global;
 use svg_backend::svg;
 
@@ -55,30 +55,43 @@ pub fn document(alloc: Global, page: &Bitmap, settings: &Settings) -> Result<Vec
             let trace = polygons_alone(alloc, page, settings)?;
             polygons(alloc, &trace)
         }
-        Backend::Proofs => {
-            let trace = polygons_alone(alloc, page, settings)?;
-            let text = proofs(alloc, &trace)?;
-            Ok(text)
-        }
-        Backend::Svg => {
-            let trace = trace(alloc, page, settings)?;
-            svg(alloc, &trace, settings)
-        }
-        Backend::Eps => {
-            let trace = trace(alloc, page, settings)?;
-            eps(alloc, &trace, settings)
-        }
-        Backend::Ps => {
-            let trace = trace(alloc, page, settings)?;
-            ps_body(alloc, &trace, settings)
-        }
-        Backend::Dxf => {
-            let trace = trace(alloc, page, settings)?;
-            dxf(alloc, &trace)
-        }
-        Backend::GeoJson => {
-            let trace = trace(alloc, page, settings)?;
-            geojson(alloc, &trace)
-        }
+        Backend::Proofs => certificates(alloc, page, settings),
+        _ => drawing(alloc, page, settings),
+    }
+}
+
+/// The certificates of a page's polygons.
+fn certificates(alloc: Global, page: &Bitmap, settings: &Settings) -> Result<Vec<u8>, NoMemory>
+    requires { settings.now.cyclic ≡ false }
+    ensures document { IfOk result (λ text. IsDocumentUnder Proofs page.now settings.now text.items) }
+    ensures certified { IfOk result (λ text. (paths : ℕ) × IsVerdict text.items (Right paths)) }
+{
+    let trace = polygons_alone(alloc, page, settings)?;
+    let text = proofs(alloc, &trace)?;
+    Ok(text)
+}
+
+/// The text of a page's whole trace, under a backend that draws it.
+fn drawing(alloc: Global, page: &Bitmap, settings: &Settings) -> Result<Vec<u8>, NoMemory>
+    requires written { CanWrite settings.now }
+    requires drawn { IsDrawn settings.now.backend }
+    ensures { IfOk result (λ text. IsDocument page.now settings.now text.items) }
+{
+    let trace = trace(alloc, page, settings)?;
+    drawn(alloc, &trace, settings)
+}
+
+/// The text of a trace, under a backend that draws it.
+fn drawn(alloc: Global, trace: &Trace, settings: &Settings) -> Result<Vec<u8>, NoMemory>
+    requires written { CanWrite settings.now }
+    requires drawn { IsDrawn settings.now.backend }
+    ensures { IfOk result (λ text. IsTextOf settings.now trace.now text.items) }
+{
+    match settings.backend {
+        Backend::Svg => svg(alloc, trace, settings),
+        Backend::Eps => eps(alloc, trace, settings),
+        Backend::Ps => ps_body(alloc, trace, settings),
+        Backend::Dxf => dxf(alloc, trace),
+        _ => geojson(alloc, trace),
     }
 }
