@@ -2,13 +2,13 @@
 ghost use Rattle.std.specs.Prelude.{◌≡◌};
 ghost use Rattle.bitmap_input.specs.FaultText.{fault_text};
 
-use std::error::Error;
-use std::fmt;
+use thiserror::Error;
 
 /// Why the next page of a file can't be read.
 ///
 /// The first offending place of the page decides. After any of these the reader is over.
-#[derive(Clone, Copy, Debug, PartialEq, Eq)]
+#[derive(Clone, Copy, Debug, PartialEq, Eq, Error)]
+#[error("{}", self.text())]
 pub enum InFault {
     /// The file doesn't begin with the magic of a known format.
     UnknownFormat,
@@ -55,11 +55,3 @@ impl InFault {
         }
     }
 }
-
-impl fmt::Display for InFault {
-    fn fmt<W: fmt::Write>(&self, f: &mut fmt::Formatter<W>) -> fmt::Result {
-        f.write_str(self.text())
-    }
-}
-
-impl Error for InFault {}
