@@ -2,10 +2,10 @@
 use Rattle.std.proofs.Common.{◌≤◌, arith, ◌⊎◌, inl, inr, ◌≡◌, refl, ℕ, ◌+◌, ◌-◌, Bool, true, false, List, [], ◌++◌, length, drop, ap, sym, ◌∙◌, subst, Option, Some, None, IfSome, Result, Ok, Err, append-nil}
 use Rattle.std.proofs.lemmas.List.{drop-append-le, drop-drop}
 use Rattle.std.proofs.Math.Seq.{drop-length}
-use Rattle.pt_base.specs.Files.{Files, unread}
+use Rattle.pt_core.specs.Files.{Files, unread}
 use Rattle.bit_image.specs.Page.{Page as Pixels}
 use Rattle.std.specs.Prelude.{IsErrOf}
-use Rattle.pt_base.specs.Counts.{Rose}
+use Rattle.pt_core.specs.Counts.{Rose}
 use Rattle.bitmap_input.specs.declared.stop.Stop.{Stop}
 use Rattle.bitmap_input.specs.declared.fault.InFault.{InFault}
 use Rattle.bitmap_input.specs.declared.fault.InFault.TheVariants as fault

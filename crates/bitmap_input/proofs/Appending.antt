@@ -15,7 +15,7 @@ use Rattle.bitmap_input.specs.Samples.{samples_in, plain_sample, plain_samples, 
 use Rattle.bitmap_input.specs.declared.channels.Channels.{Channels}
 use Rattle.bitmap_input.specs.declared.channels.Channels.TheVariants.{Gray, Color}
 use Rattle.bitmap_input.proofs.Bytes.{run_length-le, run_length-append-le, run_length-append, gap_length-le, gap_length-append-le, gap_length-append}
-use Rattle.pt_base.specs.declared.limits.TheConstants.{LONGEST_SIDE}
+use Rattle.pt_core.specs.declared.limits.TheConstants.{LONGEST_SIDE}
 
 -- the same cut of a list to which bytes were added
 abbrev pub with_more : {A : Type 0} → List ℕ → Cut A → Cut A

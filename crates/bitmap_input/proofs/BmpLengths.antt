@@ -19,7 +19,7 @@ use Rattle.bitmap_input.specs.BmpRaster.{palette_color, pixel_in, bmp_row, pictu
 use Rattle.bitmap_input.specs.Bmp.{passes, start, info, masks, placed, header, bmp}
 use Rattle.bitmap_input.specs.BmpHead.{HasInfo, IsHeaderStart, IsInfo, IsWholeHeader}
 use Rattle.bitmap_input.proofs.Showing.{after_takes}
-use Rattle.pt_base.specs.declared.limits.TheConstants.{LONGEST_SIDE}
+use Rattle.pt_core.specs.declared.limits.TheConstants.{LONGEST_SIDE}
 
 -- the value and the rest of the cut, where it takes a front, meet this
 abbrev pub Cuts : {A : Type 0} → (A → List ℕ → Type 0) → Cut A → Type 0

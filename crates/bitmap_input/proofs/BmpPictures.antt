@@ -5,7 +5,7 @@ use Rattle.std.proofs.Math.Path.{fun_ext}
 use Rattle.std.proofs.Math.ListN.{get_or-map}
 use Rattle.std.proofs.lemmas.List.{get_or-reverse, length-map}
 use Rattle.std.proofs.lemmas.Bool.{lt-ltb, le-ltb, cases_lt}
-use Rattle.pt_base.specs.Files.{Files}
+use Rattle.pt_core.specs.Files.{Files}
 use Rattle.bit_image.specs.Image.{Image, IsWhite}
 use Rattle.bit_image.specs.Page.{Page as Pixels, SameSides, image_of, page_of}
 use Rattle.bitmap_input.specs.declared.stop.Stop.{Stop}

@@ -1,7 +1,7 @@
 -- Steps that read the header of a BMP picture.
 use Rattle.std.proofs.lemmas.List.{length-append}
 use Rattle.std.proofs.Common.{◌≡◌, refl, ◌+◌, ◌-◌, ◌<◌, arith, length, Bool, true, false, List, [], ◌++◌, sym, subst, Option, Result, Ok, Err, ap, ◌∙◌, append-nil, ℕ}
-use Rattle.pt_base.specs.Files.{Files}
+use Rattle.pt_core.specs.Files.{Files}
 use Rattle.bitmap_input.specs.declared.stop.Stop.{Stop}
 use Rattle.bitmap_input.specs.Cut.{Kind, Cut}
 use Rattle.bitmap_input.specs.Cut.Ending.{Refused}

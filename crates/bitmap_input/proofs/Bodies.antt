@@ -1,6 +1,6 @@
 -- The rows behind a header, read into a page of its sides.
 use Rattle.std.proofs.Common.{◌≡◌, ℕ, List, map, ◌∙◌, sym, subst, Bool, false, Option, Ok, Err}
-use Rattle.pt_base.specs.Files.{Files}
+use Rattle.pt_core.specs.Files.{Files}
 use Rattle.bit_image.specs.Image.{IsWhite}
 use Rattle.bit_image.specs.Page.{Page as Pixels, SameSides, image_of, page_of}
 use Rattle.bitmap_input.specs.declared.stop.Stop.{Stop}

@@ -4,7 +4,7 @@ use Rattle.std.specs.Prelude.{nat_eq}
 use Rattle.std.proofs.lemmas.List.{length-take, length-take-le, length-drop, take-take, take-append-le}
 use Rattle.std.proofs.lemmas.Option.{IfSome_then}
 use Rattle.std.proofs.lemmas.Bool.{eqb-true, eqb-false}
-use Rattle.pt_base.specs.Files.{Files, IsFront, with_read, unread}
+use Rattle.pt_core.specs.Files.{Files, IsFront, with_read, unread}
 use Rattle.bitmap_input.specs.Reading.{AtEnd, Moves}
 use Rattle.bitmap_input.proofs.Telling.{not_true, with_read-none}
 

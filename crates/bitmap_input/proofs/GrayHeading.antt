@@ -1,6 +1,6 @@
 -- The header of a gray page, read part by part.
 use Rattle.std.proofs.Common.{refl, ℕ, Bool, true, false, [], ◌++◌, ap, sym, ◌∙◌, subst, Option, Result, Ok, Err, append-nil}
-use Rattle.pt_base.specs.Files.{Files}
+use Rattle.pt_core.specs.Files.{Files}
 use Rattle.bitmap_input.specs.declared.stop.Stop.{Stop}
 use Rattle.bitmap_input.specs.declared.header.Format.{Format}
 use Rattle.bitmap_input.specs.Cut.{◌>>=◌}

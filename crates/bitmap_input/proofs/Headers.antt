@@ -14,12 +14,12 @@ use Rattle.bitmap_input.specs.declared.stop.Stop.{Stop}
 use Rattle.bitmap_input.specs.declared.stop.Stop.TheVariants as stop
 use Rattle.bitmap_input.specs.declared.header.Sides.{Sides}
 use Rattle.bitmap_input.specs.Header.{IsSides, Checks, ChecksMaxval}
-use Rattle.pt_base.specs.Files.{Files}
+use Rattle.pt_core.specs.Files.{Files}
 use Rattle.bitmap_input.specs.Reading.{Buffered, cause_of, StopsBy, Reads, Same}
 use Rattle.bitmap_input.proofs.Needing.{needs_none}
 use Rattle.bitmap_input.proofs.Telling.{not_true, stand}
 use Rattle.bitmap_input.specs.Reading.Cause.{Says}
-use Rattle.pt_base.specs.declared.limits.TheConstants.{LONGEST_SIDE}
+use Rattle.pt_core.specs.declared.limits.TheConstants.{LONGEST_SIDE}
 
 -- a gap that begins at this byte
 pub some_gap_at : (kind : Kind) (b n : ℕ) (bs : List ℕ) → gap_length false (b ∷ bs) ≡ suc n → some_gap kind (b ∷ bs) ≡ gap (b ∷ bs)

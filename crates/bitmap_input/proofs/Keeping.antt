@@ -13,7 +13,7 @@ use Rattle.bitmap_input.specs.Samples.{samples_in, plain_sample, plain_samples, 
 use Rattle.bitmap_input.specs.declared.channels.Channels.{Channels}
 use Rattle.bitmap_input.specs.declared.channels.Channels.TheVariants.{Gray, Color}
 use Rattle.bitmap_input.proofs.Showing.{after_takes}
-use Rattle.pt_base.specs.declared.limits.TheConstants.{LONGEST_SIDE}
+use Rattle.pt_core.specs.declared.limits.TheConstants.{LONGEST_SIDE}
 
 -- a list ends with this one
 abbrev pub IsRest : List ℕ → List ℕ → Type 0

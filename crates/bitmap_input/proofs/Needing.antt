@@ -1,6 +1,6 @@
 -- Bytes are taken only where what was taken before doesn't decide.
 use Rattle.std.proofs.Common.{◌≡◌, refl, ℕ, ◌≤◌, ◌⊎◌, inl, inr, true, false, List, [], ◌∷◌, ◌++◌, length, arith, ap, sym, ◌∙◌, Option, append_assoc, append-nil}
-use Rattle.pt_base.specs.Files.{Files}
+use Rattle.pt_core.specs.Files.{Files}
 use Rattle.bitmap_input.specs.Cut.{Cut, is_by_end, ◌>>=◌}
 use Rattle.bitmap_input.specs.Cut.Cut.{Takes, Stops}
 use Rattle.bitmap_input.specs.Reading.{Buffered, AreNeeded}

@@ -3,7 +3,7 @@ use Rattle.std.proofs.Common.{◌*◌, ℕ, zero, suc, Bool, true, false, ◌||�
 use Rattle.std.specs.Prelude.{if◌then◌else◌, nat_lt}
 use Rattle.bitmap_input.specs.Cut.{Kind, Cut, after, ◌>>=◌}
 use Rattle.std.proofs.Common.{Option, Some, None}
-use Rattle.pt_base.specs.declared.limits.TheConstants.{LONGEST_SIDE}
+use Rattle.pt_core.specs.declared.limits.TheConstants.{LONGEST_SIDE}
 use Rattle.bitmap_input.specs.Cut.Kind.{BadHeader, BadRaster, TooLong, ZeroSide, TooLarge, Truncated}
 use Rattle.bitmap_input.specs.Front.Magic.{PlainBits, RawBits, PlainSamples, RawSamples, Picture}
 use Rattle.bitmap_input.specs.Cut.Ending.{End, Trailing, Refused}

@@ -1,7 +1,7 @@
 -- The rest of a file, where it is told.
 use Rattle.std.proofs.Common.{◌≡◌, refl, ℕ, inl, inr, true, List, ◌++◌, ap, sym, ◌∙◌, subst, Option, Some, None, IfSome, option_map, [], length, take, drop, append-nil, append_assoc}
 use Rattle.std.proofs.lemmas.List.{take-append-drop}
-use Rattle.pt_base.specs.Files.{Files, Opened, unread, unread_of, taken_of, with_read}
+use Rattle.pt_core.specs.Files.{Files, Opened, unread, unread_of, taken_of, with_read}
 use Rattle.bitmap_input.specs.Reading.{Buffered, AtEnd, Moves}
 
 end_of : (file : Option Opened) (n : ℕ) (rest : List ℕ) → option_map unread_of file ≡ Some rest →

@@ -1,6 +1,6 @@
 -- The bytes of a BMP header in the program, and what it makes of them.
 use Rattle.std.specs.Prelude.{◌≡◌, ℕ, ◌+◌, ◌-◌, ◌^◌, ◌≤◌, ◌<◌, true, false, Bool, List, length, slice_index_or, suc, ◌*◌, ◌/◌, reverse, if◌then◌else◌, Option, Some, None, Result, Ok, Err}
-use Rattle.pt_base.specs.declared.limits.TheConstants.{LONGEST_SIDE}
+use Rattle.pt_core.specs.declared.limits.TheConstants.{LONGEST_SIDE}
 use Rattle.bitmap_input.specs.Cut.{Ending, Cut, ◌>>=◌}
 use Rattle.bitmap_input.specs.Cut.Cut.{Takes, Stops}
 use Rattle.bitmap_input.specs.Reading.{cause_of}

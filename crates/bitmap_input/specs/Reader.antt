@@ -1,6 +1,6 @@
 -- The reader of a file's pages, and what its answers say of the file.
 use Rattle.std.specs.Prelude.{◌≡◌, ℕ, ◌+◌, ◌-◌, Bool, true, false, nat_lt, List, [], ◌++◌, drop, Option, IfSome, Result, Ok, Err}
-use Rattle.pt_base.specs.Files.{Files, unread}
+use Rattle.pt_core.specs.Files.{Files, unread}
 use Rattle.bit_image.specs.Page.{Page as Pixels}
 use Rattle.bitmap_input.specs.declared.fault.InFault.{InFault}
 use Rattle.bitmap_input.specs.declared.next.Next.{Next}

@@ -1,9 +1,9 @@
 -- Reading from inputs through a window: what is taken from the inputs, and what part of a page the
 -- bytes at hand and those taken are.
 use Rattle.std.specs.Prelude.{◌≡◌, ℕ, ◌≤◌, Bool, true, false, ◌⊎◌, List, [], ◌++◌, length, take, Option, IfSome, Result, Ok, Err}
-use Rattle.pt_base.specs.Files.{Files, with_read, unread}
-use Rattle.pt_base.specs.Counts.{Rose}
-use Rattle.pt_base.specs.declared.inputs.Inputs.{Ghosts}
+use Rattle.pt_core.specs.Files.{Files, with_read, unread}
+use Rattle.pt_core.specs.Counts.{Rose}
+use Rattle.pt_core.specs.declared.inputs.Inputs.{Ghosts}
 use Rattle.bitmap_input.specs.declared.fault.InFault.{InFault}
 use Rattle.bitmap_input.specs.declared.fault.InFault.TheVariants as fault
 use Rattle.bitmap_input.specs.declared.stop.Stop.{Stop}

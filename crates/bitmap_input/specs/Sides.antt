@@ -1,6 +1,6 @@
 -- The sides of a page.
 use Rattle.std.specs.Prelude.{ℕ, false, ◌||◌, List, if◌then◌else◌, nat_lt}
-use Rattle.pt_base.specs.declared.limits.TheConstants.{LONGEST_SIDE}
+use Rattle.pt_core.specs.declared.limits.TheConstants.{LONGEST_SIDE}
 use Rattle.bitmap_input.specs.Cut.{Cut}
 use Rattle.bitmap_input.specs.Cut.Kind.{ZeroSide, TooLarge}
 use Rattle.bitmap_input.specs.Cut.Ending.{Refused}

@@ -1,7 +1,7 @@
 -- A look at the next byte through a window.
 use Rattle.std.specs.Prelude.{◌≡◌, ℕ, ◌≤◌, ◌⊎◌, true, false, List, [], ◌∷◌, ◌++◌, length, Option, Some, None}
-use Rattle.pt_base.specs.Counts.{Rose}
-use Rattle.pt_base.specs.Files.{Files}
+use Rattle.pt_core.specs.Counts.{Rose}
+use Rattle.pt_core.specs.Files.{Files}
 use Rattle.bitmap_input.specs.Reading.{Buffered, Moves}
 use Rattle.bitmap_input.specs.declared.window.Look.{Look}
 use Rattle.bitmap_input.specs.declared.window.Look.TheVariants.{Byte, End, Fault}

@@ -20,7 +20,7 @@ use crate::skip::skip_block;
 use crate::stop::Stop;
 use crate::window::Window;
 use bit_image::Bitmap;
-use pt_base::Inputs;
+use pt_core::Inputs;
 use std::alloc::Global;
 use threshold_map::Level;
 

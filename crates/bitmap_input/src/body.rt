@@ -19,7 +19,7 @@ use crate::samples::{
 use crate::stop::Stop;
 use crate::window::Window;
 use bit_image::Bitmap;
-use pt_base::Inputs;
+use pt_core::Inputs;
 use std::alloc::Global;
 use threshold_map::Level;
 

@@ -1,7 +1,7 @@
 //! The reader of a gray page, row by row.
 ghost use Rattle.std.specs.Prelude.{◌≡◌, ℕ, ◌+◌, ◌*◌, ◌<◌, ◌≤◌, ◌⊎◌, true, false, length, map, IfOk, IfSome, OnOk, IsErrOf};
-ghost use Rattle.pt_base.specs.Counts.{Rose};
-ghost use Rattle.pt_base.specs.Files.{unread};
+ghost use Rattle.pt_core.specs.Counts.{Rose};
+ghost use Rattle.pt_core.specs.Files.{unread};
 ghost use Rattle.bitmap_input.specs.Reading.{AtEnd, Reads, Leaves, HasMemory, TakesNone, cause_of, cause_of_fault};
 ghost use Rattle.bitmap_input.specs.GrayRows.{gray_header, gray_row, lowered};
 ghost use Rattle.bitmap_input.specs.GrayReader.{gray_at_start, GivesHead, GivesRow, Refuses, FailsToRead, IfRefused, IsNoFault, TellsHead, TellsRow, RefusesPart, held_of};
@@ -13,7 +13,7 @@ use crate::header::GREATEST_MAXVAL;
 use crate::samples::row_bytes;
 use crate::stop::Stop;
 use crate::window::Window;
-use pt_base::{Inputs, LONGEST_SIDE, NoMemory};
+use pt_core::{Inputs, LONGEST_SIDE, NoMemory};
 use std::alloc::Global;
 use std::marker::Model;
 
@@ -40,7 +40,7 @@ pub struct GrayReader {
 
 impl Model for GrayReader {
     ghost use Rattle.std.specs.Prelude.{◌≡◌, ◌≤◌, ◌*◌, length};
-    ghost use Rattle.pt_base.specs.declared.limits.TheConstants.{LONGEST_SIDE};
+    ghost use Rattle.pt_core.specs.declared.limits.TheConstants.{LONGEST_SIDE};
     ghost use Rattle.bitmap_input.specs.GrayReader.{GraySource};
 
     ghost Value = { GraySource };

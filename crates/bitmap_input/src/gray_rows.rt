@@ -16,7 +16,7 @@ use crate::run::{Run, skip};
 use crate::samples::{is_wide, sample_at};
 use crate::stop::Stop;
 use crate::window::Window;
-use pt_base::{Inputs, LONGEST_SIDE};
+use pt_core::{Inputs, LONGEST_SIDE};
 
 /// The header of a gray page.
 #[derive(Clone, Copy)]

@@ -11,7 +11,7 @@ use crate::number::{Part, read_number_behind_gap};
 use crate::run::is_space;
 use crate::stop::Stop;
 use crate::window::{Look, Window};
-use pt_base::{Inputs, LONGEST_SIDE};
+use pt_core::{Inputs, LONGEST_SIDE};
 
 /// The greatest value that the sample for white may have.
 pub(crate) const GREATEST_MAXVAL: u32 = 65535;

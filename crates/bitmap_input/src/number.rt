@@ -11,7 +11,7 @@ use crate::fault::InFault;
 use crate::run::{LONGEST, Run, behind, skip};
 use crate::stop::Stop;
 use crate::window::{Look, Window};
-use pt_base::Inputs;
+use pt_core::Inputs;
 
 /// A number is cut here where it is larger: it is too large for a side, for the sample for white and for a
 /// sample of a black pixel either way.

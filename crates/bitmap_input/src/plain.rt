@@ -12,7 +12,7 @@ use crate::run::{Run, skip};
 use crate::stop::Stop;
 use crate::window::{Look, Window};
 use bit_image::Bitmap;
-use pt_base::Inputs;
+use pt_core::Inputs;
 
 /// The character of a pixel: whether it is black.
 fn read_pixel<I: Inputs>(window: &mut Window, inputs: &mut I) -> Result<bool, Stop>

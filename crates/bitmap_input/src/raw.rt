@@ -12,7 +12,7 @@ use crate::fault::InFault;
 use crate::stop::Stop;
 use crate::window::{Look, Window};
 use bit_image::Bitmap;
-use pt_base::{Inputs, LONGEST_SIDE};
+use pt_core::{Inputs, LONGEST_SIDE};
 
 /// As many bytes as the row is long.
 pub(crate) fn read_block<I: Inputs>(

@@ -1,7 +1,7 @@
 //! The reader of the pages of a file.
 ghost use Rattle.std.specs.Prelude.{◌≡◌, ℕ, ◌<◌, ◌≤◌, ◌⊎◌, true, false, length, drop, IfOk, IfSome, OnOk, IsErrOf};
-ghost use Rattle.pt_base.specs.Counts.{Rose};
-ghost use Rattle.pt_base.specs.Files.{unread};
+ghost use Rattle.pt_core.specs.Counts.{Rose};
+ghost use Rattle.pt_core.specs.Files.{unread};
 ghost use Rattle.bitmap_input.specs.Reading.{AtEnd, Reads, Leaves};
 ghost use Rattle.bitmap_input.specs.Raw.{IsShown};
 ghost use Rattle.bitmap_input.specs.Front.{front, page_at};
@@ -18,7 +18,7 @@ use crate::run::{Run, skip};
 use crate::skip::pass_over;
 use crate::stop::Stop;
 use crate::window::Window;
-use pt_base::{Inputs, NoMemory};
+use pt_core::{Inputs, NoMemory};
 use std::alloc::Global;
 use std::marker::Model;
 use threshold_map::Level;

@@ -7,7 +7,7 @@ ghost use Rattle.bitmap_input.specs.Run.{run_size, run_part, Continues};
 use crate::fault::InFault;
 use crate::stop::Stop;
 use crate::window::{Look, Window};
-use pt_base::Inputs;
+use pt_core::Inputs;
 
 /// The most bytes of a gap, and of a run of digits.
 pub(crate) const LONGEST: u32 = 1048576;

@@ -19,7 +19,7 @@ use crate::stop::Stop;
 use crate::window::Window;
 use crate::words::with_pixel;
 use bit_image::Bitmap;
-use pt_base::{Inputs, LONGEST_SIDE};
+use pt_core::{Inputs, LONGEST_SIDE};
 use threshold_map::Level;
 
 /// How the samples of a page become pixels.

@@ -7,7 +7,7 @@ ghost use Rattle.bitmap_input.specs.Skip.{passed_over};
 use crate::fault::InFault;
 use crate::stop::Stop;
 use crate::window::{Look, Window};
-use pt_base::Inputs;
+use pt_core::Inputs;
 
 /// Goes on behind n bytes, or behind all where there are fewer: how many were missing.
 ///

@@ -4,7 +4,7 @@ ghost use Rattle.bitmap_input.specs.declared.fault.InFault.TheVariants.{NoMemory
 ghost use Rattle.bitmap_input.specs.declared.stop.Stop.TheVariants.{Fault as fault};
 
 use crate::fault::InFault;
-use pt_base::NoMemory;
+use pt_core::NoMemory;
 use std::alloc::AllocError;
 
 /// Why no page was read: there is none, or there is one that can't be read.

@@ -1,10 +1,10 @@
 //! The bytes that were taken from the inputs and not used yet.
 ghost use Rattle.std.specs.Prelude.{◌≡◌, ℕ, ◌≤◌, ◌<◌, true, false, length, take, drop, [], ◌∷◌, ◌++◌, IfOk, OnOk, OnErr};
-ghost use Rattle.pt_base.specs.Counts.{Rose};
+ghost use Rattle.pt_core.specs.Counts.{Rose};
 ghost use Rattle.bitmap_input.specs.Reading.{Moves};
 ghost use Rattle.bitmap_input.specs.Window.{IsFirst, Looks, CountsLook};
 
-use pt_base::{DeviceFault, Inputs, NoMemory};
+use pt_core::{DeviceFault, Inputs, NoMemory};
 use std::alloc::Global;
 use std::marker::Model;
 

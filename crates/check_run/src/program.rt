@@ -12,7 +12,7 @@ ghost use Rattle.small_program.specs.declared.ending.Ending.{Ending};
 ghost use Rattle.small_program.specs.declared.ending.Ending.TheVariants.{Done};
 
 use crate::task::Checking;
-use pt_base::{Inputs, Outputs, Sink};
+use pt_core::{Inputs, Outputs, Sink};
 use small_program::run;
 use std::alloc::Global;
 

@@ -3,7 +3,7 @@ ghost use Rattle.std.specs.Prelude.{◌≡◌, ◌++◌, codes, decimal, string_
 ghost use Rattle.check_run.specs.Verdict.{verdict_line};
 
 use outline_check::{Verdict, check_proofs};
-use pt_base::{NoMemory, put_number};
+use pt_core::{NoMemory, put_number};
 use small_program::{Reply, Task};
 use std::alloc::Global;
 

@@ -1,11 +1,11 @@
 -- Words ask for one thing, and what they ask for can be done.
 use Rattle.std.proofs.Common.{◌≡◌, ◌∙◌, ℕ, Bool, true, false, List, Option, Some, None, refl, sym, ap, sum, arith}
 use Rattle.pt_base.proofs.Decimals.{one_micro}
-use Rattle.pt_base.specs.declared.policy.Policy.{Policy}
-use Rattle.pt_base.specs.declared.policy.Policy.TheVariants.{Left, Right, Black, White, Majority, Minority}
-use Rattle.pt_base.specs.declared.settings.Backend.{Backend}
-use Rattle.pt_base.specs.declared.settings.Backend.TheVariants.{Eps, Ps, Svg, Dxf, GeoJson, Points, Polygons, Proofs}
-use Rattle.pt_base.specs.declared.settings.Settings.{Settings}
+use Rattle.pt_core.specs.declared.policy.Policy.{Policy}
+use Rattle.pt_core.specs.declared.policy.Policy.TheVariants.{Left, Right, Black, White, Majority, Minority}
+use Rattle.pt_core.specs.declared.settings.Backend.{Backend}
+use Rattle.pt_core.specs.declared.settings.Backend.TheVariants.{Eps, Ps, Svg, Dxf, GeoJson, Points, Polygons, Proofs}
+use Rattle.pt_core.specs.declared.settings.Settings.{Settings}
 use Rattle.command_words.specs.Given.{Given}
 use Rattle.command_words.specs.Parsed.{parsed}
 use Rattle.command_words.specs.declared.parsed.Parsed.{Parsed}
@@ -13,7 +13,7 @@ use Rattle.command_words.specs.declared.parsed.Parsed.TheVariants as words
 use Rattle.command_asks.specs.declared.ask.Ask.{Ask}
 use Rattle.command_asks.specs.declared.ask.Ask.TheVariants.{Help, Version, Demo, Files}
 use Rattle.command_asks.specs.Asked.{Asks, AsksOf, GivesSettings, IsAsked, IsMicroOr, IsWholeOf, IsWholeOr, NamesBackend, NamesPolicy, policy_word}
-use Rattle.page_trace.specs.Document.{backend_word}
+use Rattle.pt_core.specs.Needs.{backend_word}
 
 -- One ask.
 

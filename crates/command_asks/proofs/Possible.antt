@@ -1,11 +1,11 @@
 -- What words ask for can be done.
 use Rattle.std.proofs.Common.{◌≡◌, ◌≢◌, ◌≤◌, ℕ, Bool, true, false, List, [], ◌∷◌, Option, Some, None, All, sym, ap, subst, codes, length, refl, arith}
 use Rattle.std.proofs.lemmas.List.Elements.{All-cons, All-nil}
-use Rattle.pt_base.specs.declared.settings.Backend.{Backend}
-use Rattle.pt_base.specs.declared.settings.Backend.TheVariants.{Eps, Ps, Svg, Dxf, GeoJson, Points, Polygons, Proofs}
-use Rattle.pt_base.specs.declared.settings.Settings.{Settings}
-use Rattle.page_trace.specs.Document.{CanDraw, CanTrace, CanWriteUnder}
-use Rattle.page_trace.specs.Offered.{IsOffered}
+use Rattle.pt_core.specs.declared.settings.Backend.{Backend}
+use Rattle.pt_core.specs.declared.settings.Backend.TheVariants.{Eps, Ps, Svg, Dxf, GeoJson, Points, Polygons, Proofs}
+use Rattle.pt_core.specs.declared.settings.Settings.{Settings}
+use Rattle.pt_core.specs.Needs.{CanDraw, CanTrace, CanWriteUnder}
+use Rattle.pt_core.specs.Needs.{IsOffered}
 use Rattle.command_words.specs.Given.{Given}
 use Rattle.command_words.specs.Parsed.{parsed}
 use Rattle.command_words.specs.declared.parsed.Parsed.{Parsed}

@@ -3,13 +3,13 @@ use Rattle.std.specs.Prelude.{◌≡◌, ◌≢◌, ℕ, ◌≤◌, Bool, true, 
 use Rattle.std.specs.Str.{bytes_eq}
 use Rattle.pt_base.specs.Micro.{IsMicro}
 use Rattle.pt_base.specs.Whole.{IsWhole}
-use Rattle.pt_base.specs.declared.policy.Policy.{Policy}
-use Rattle.pt_base.specs.declared.policy.Policy.TheVariants.{Left, Right, Black, White, Majority, Minority}
-use Rattle.pt_base.specs.declared.settings.Backend.{Backend}
-use Rattle.pt_base.specs.declared.settings.Backend.TheVariants.{Eps, Svg, Proofs}
-use Rattle.pt_base.specs.declared.settings.Settings.{Settings}
-use Rattle.page_trace.specs.Document.{CanTrace, backend_word}
-use Rattle.page_trace.specs.Offered.{IsOffered}
+use Rattle.pt_core.specs.declared.policy.Policy.{Policy}
+use Rattle.pt_core.specs.declared.policy.Policy.TheVariants.{Left, Right, Black, White, Majority, Minority}
+use Rattle.pt_core.specs.declared.settings.Backend.{Backend}
+use Rattle.pt_core.specs.declared.settings.Backend.TheVariants.{Eps, Svg, Proofs}
+use Rattle.pt_core.specs.declared.settings.Settings.{Settings}
+use Rattle.pt_core.specs.Needs.{CanTrace, backend_word}
+use Rattle.pt_core.specs.Needs.{IsOffered}
 use Rattle.command_words.specs.Given.{Given}
 use Rattle.command_words.specs.Parsed.{parsed}
 use Rattle.command_words.specs.declared.parsed.Parsed.{Parsed}

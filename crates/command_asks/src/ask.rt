@@ -1,7 +1,7 @@
 //! What the words of the command line ask for.
 
 use command_words::{Name, Names};
-use pt_base::Settings;
+use pt_core::Settings;
 
 /// What the words ask for.
 #[derive(Debug, Drop)]

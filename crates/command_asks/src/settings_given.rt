@@ -1,14 +1,13 @@
 //! The settings that the options give.
 ghost use Rattle.std.specs.Prelude.{◌≡◌, IfNone, IfSome, option_map};
 ghost use Rattle.command_asks.specs.Asked.{GivesSettings, NamesBackend, NamesPolicy, policy_word};
-ghost use Rattle.pt_base.specs.declared.policy.Policy.{Policy};
-ghost use Rattle.pt_base.specs.declared.settings.Backend.{Backend};
-ghost use Rattle.pt_base.specs.declared.settings.Settings.{Settings};
+ghost use Rattle.pt_core.specs.declared.policy.Policy.{Policy};
+ghost use Rattle.pt_core.specs.declared.settings.Backend.{Backend};
+ghost use Rattle.pt_core.specs.declared.settings.Settings.{Settings};
 
 use crate::numbers::{micro_or, whole_or};
 use command_words::Given;
-use page_trace::backend_of;
-use pt_base::{Backend, Policy, Settings};
+use pt_core::{Backend, Policy, Settings, backend_of};
 
 /// The speckle limit where no word says one, in pixels.
 const DEFAULT_SPECKLE: u32 = 2;

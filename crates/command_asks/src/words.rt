@@ -9,7 +9,7 @@ use crate::ask::{Ask, WordFault};
 use crate::numbers::{whole_of, whole_or};
 use crate::settings_given::settings_given;
 use command_words::{Given, Name, Names, Parsed, parse};
-use pt_base::Settings;
+use pt_core::Settings;
 use std::alloc::{AllocError, Global};
 
 /// The number of workers where no word says one.

@@ -1,7 +1,7 @@
 -- The definitions on squares, and on a line that leads there and back.
 use Rattle.std.proofs.Common.{◌≡◌, ℕ, pos, negsuc, List, [], ◌∷◌, refl}
-use Rattle.pt_base.specs.declared.piece.Piece.TheVariants.{Corner, Curve}
-use Rattle.pt_base.specs.declared.point.Point.{Point}
+use Rattle.pt_core.specs.declared.piece.Piece.TheVariants.{Corner, Curve}
+use Rattle.pt_core.specs.declared.point.Point.{Point}
 use Rattle.corner_smooth.specs.Corner.{al_of, corner_piece, middle_of, piece_of, pieces_of, sharpness_of}
 
 abbrev place : ℕ → ℕ → Point

@@ -2,7 +2,7 @@
 use Rattle.std.proofs.Common.{◌≡◌, ℕ, ◌≤◌, ◌^◌, ℤ, ◌-ℤ◌, ◌*ℤ◌, unsigned_abs, w32, w64, to_z, of_z, arith}
 use Rattle.std.proofs.lemmas.Int.{ints}
 use Rattle.corner_smooth.specs.Corner.{IsInReach}
-use Rattle.pt_base.proofs.Sizes.{back}
+use Rattle.pt_core.proofs.Sizes.{back}
 
 -- a number is passed as it is
 pub coordinate_back : (z : ℤ) → IsInReach z → to_z w32 (of_z w32 z) ≡ z

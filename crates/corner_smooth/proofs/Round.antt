@@ -4,9 +4,9 @@ use Rattle.std.proofs.Math.Nat.{mod-eq_of_lt, mod-eq-sub-mod}
 use Rattle.std.proofs.lemmas.List.Elements.{All-append}
 use Rattle.std.proofs.lemmas.List.FromFn.{map-range_with_len_more}
 use Rattle.std.specs.List.{All, range_with_len}
-use Rattle.pt_base.specs.ClosedWalk.{origin, point_at}
-use Rattle.pt_base.specs.declared.piece.Piece.{Piece}
-use Rattle.pt_base.specs.declared.point.Point.{Point}
+use Rattle.pt_core.specs.ClosedWalk.{origin, point_at}
+use Rattle.pt_core.specs.declared.piece.Piece.{Piece}
+use Rattle.pt_core.specs.declared.point.Point.{Point}
 use Rattle.corner_smooth.specs.Corner.{corner_piece, piece_of}
 
 pub here : (vertices : List Point) (j : ℕ) → j < length vertices → get_or vertices j origin ≡ point_at vertices j

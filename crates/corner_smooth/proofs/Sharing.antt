@@ -5,9 +5,9 @@ use Rattle.std.proofs.lemmas.Nat.{mul-le}
 use Rattle.std.proofs.Math.IntN.{*ℤ-negsuc}
 use Rattle.std.specs.Int.{int_div_euclid}
 use Rattle.std.specs.Int.RustNames.{FitsSigned}
-use Rattle.pt_base.specs.Floor.{floor_of}
+use Rattle.pt_core.specs.Floor.{floor_of}
 use Rattle.corner_smooth.specs.Corner.{IsInReach, part_of}
-use Rattle.pt_base.proofs.Sizes.{back, divided, product_most}
+use Rattle.pt_core.proofs.Sizes.{back, divided, product_most}
 
 -- no more than the whole way forth
 floor_forth : (n m : ℕ) → n ≤ 131072 → n * m / 131072 ≤ m

@@ -3,11 +3,11 @@
 -- own. Places are in units of 1/1024 pixel.
 use Rattle.std.specs.Prelude.{ℕ, ◌+◌, ◌-◌, ◌*◌, ◌/◌, ◌≤◌, min, max, ℤ, pos, neg_ℤ, ◌+ℤ◌, ◌-ℤ◌, ◌*ℤ◌, ◌≤ℤ◌, unsigned_abs, Bool, nat_eq, nat_le, if◌then◌else◌, List, length, map}
 use Rattle.std.specs.List.{range_with_len}
-use Rattle.pt_base.specs.declared.piece.Piece.{Piece}
-use Rattle.pt_base.specs.declared.piece.Piece.TheVariants.{Corner, Curve}
-use Rattle.pt_base.specs.declared.point.Point.{Point}
-use Rattle.pt_base.specs.ClosedWalk.{point_at}
-use Rattle.pt_base.specs.Floor.{floor_of}
+use Rattle.pt_core.specs.declared.piece.Piece.{Piece}
+use Rattle.pt_core.specs.declared.piece.Piece.TheVariants.{Corner, Curve}
+use Rattle.pt_core.specs.declared.point.Point.{Point}
+use Rattle.pt_core.specs.ClosedWalk.{point_at}
+use Rattle.pt_core.specs.Floor.{floor_of}
 use Rattle.corner_smooth.specs.declared.corner.Fraction.{Fraction}
 
 -- the coordinate is on a page with sides of 32767 pixels, or at most half a pixel off it

@@ -3,7 +3,7 @@ ghost use Rattle.std.specs.Prelude.{◌≡◌, ◌≤◌, ◌<◌, ◌*◌, ◌^
 ghost use Rattle.corner_smooth.specs.Corner.{IsNearWidePage, al_of, is_corner, sharpness_by, sharpness_of};
 
 use crate::triangle::{area, distance};
-use pt_base::Point;
+use pt_core::Point;
 
 /// A fraction, not in lowest terms.
 #[derive(Clone, Copy)]

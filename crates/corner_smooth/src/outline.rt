@@ -4,7 +4,7 @@ ghost use Rattle.std.specs.List.{All};
 ghost use Rattle.corner_smooth.specs.Corner.{IsNearWidePage, HasRoundness, StaysNear, pieces_of};
 
 use crate::vertex::piece;
-use pt_base::{NoMemory, Piece, Point, Sequence};
+use pt_core::{NoMemory, Piece, Point, Sequence};
 use std::alloc::Global;
 
 /// The smooth outline of a polygon: one piece for each vertex, in order.

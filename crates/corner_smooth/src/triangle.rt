@@ -4,7 +4,7 @@
 ghost use Rattle.std.specs.Prelude.{◌≡◌, ◌≤◌, ◌^◌, ◌-ℤ◌, ◌*ℤ◌, unsigned_abs};
 ghost use Rattle.corner_smooth.specs.Corner.{IsInReach, IsNearWidePage, area_of, grid_distance_of};
 
-use pt_base::Point;
+use pt_core::Point;
 
 /// Twice the triangle's area, in units of 1/1024 pixel each way.
 pub(crate) fn area(before: Point, at: Point, after: Point) -> u64

@@ -1,11 +1,11 @@
 //! The piece of an outline at a vertex.
 ghost use Rattle.std.specs.Prelude.{◌≡◌, ◌≤◌, ◌+◌, ◌^◌, ◌+ℤ◌, ◌*ℤ◌, pos, unsigned_abs};
-ghost use Rattle.pt_base.specs.Floor.{floor_of};
+ghost use Rattle.pt_core.specs.Floor.{floor_of};
 ghost use Rattle.corner_smooth.specs.Corner.{IsInReach, IsNearWidePage, HasRoundness, StaysNear, control_of, curve_of, middle_of, part_of, piece_of};
 
 use crate::corner::{al, is_corner, sharpness};
 use crate::triangle::between;
-use pt_base::{Piece, Point};
+use pt_core::{Piece, Point};
 
 /// The piece at a vertex between its neighbours: a corner where it is as sharp as `alphamax` millionths.
 #[tactic(auto, unfolding(crate::specs::Corner::piece_of))]

@@ -4,8 +4,8 @@ use Rattle.std.proofs.lemmas.Int.{ints}
 use Rattle.std.proofs.lemmas.Nat.{mul-le, pow-add}
 use Rattle.std.proofs.Math.Decide.{dec_lt}
 use Rattle.std.specs.Prelude.{unsigned_abs}
-use Rattle.pt_base.proofs.Terms.{Term, same_value}
-use Rattle.pt_base.proofs.Terms.Term.{num, plus, times}
+use Rattle.pt_core.proofs.Terms.{Term, same_value}
+use Rattle.pt_core.proofs.Terms.Term.{num, plus, times}
 use Rattle.curve_join.proofs.Crossing.{least_found}
 use Rattle.curve_join.specs.Cubic.{AreWithin, quadratic}
 use Rattle.curve_join.specs.Least.{IsFirstLeast}

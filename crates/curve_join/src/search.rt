@@ -16,7 +16,7 @@ use crate::run::{joined_round, round_count};
 use crate::runs::Runs;
 use crate::sense::Sense;
 use least_walk::{Walk, walk_by};
-use pt_base::NoMemory;
+use pt_core::NoMemory;
 use std::alloc::Global;
 
 /// A way on from a piece.

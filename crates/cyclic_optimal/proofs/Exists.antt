@@ -3,8 +3,8 @@ use Rattle.std.proofs.Common.{◌≡◌, ℕ, zero, suc, ◌+◌, ◌-◌, ◌<�
 use Rattle.std.proofs.lemmas.Bool.{cases_lt, cases_order}
 use Rattle.std.proofs.lemmas.List.{length-map}
 use Rattle.std.proofs.lemmas.List.Elements.{All-head}
-use Rattle.pt_base.specs.ClosedWalk.{IsClosedWalk}
-use Rattle.pt_base.specs.declared.point.Point.{Point}
+use Rattle.pt_core.specs.ClosedWalk.{IsClosedWalk}
+use Rattle.pt_core.specs.declared.point.Point.{Point}
 use Rattle.straight_paths.specs.Straight.{IsPossible}
 use Rattle.straight_paths.proofs.Decided.{is_possible}
 use Rattle.straight_paths.proofs.Far.{step_possible}

@@ -5,7 +5,7 @@ use Rattle.std.proofs.lemmas.Bool.{cases_lt}
 use Rattle.std.proofs.lemmas.Nat.{mod-mul-add}
 use Rattle.std.proofs.lemmas.List.{append_cancel_right, length-map}
 use Rattle.std.proofs.lemmas.List.Elements.{All-head, All-tail}
-use Rattle.pt_base.specs.declared.point.Point.{Point}
+use Rattle.pt_core.specs.declared.point.Point.{Point}
 use Rattle.straight_paths.specs.Straight.{IsPossible}
 use Rattle.least_walk.specs.LeastWalk.{total_cost}
 use Rattle.least_walk.specs.Suffix.{WalksOn}

@@ -5,8 +5,8 @@ use Rattle.std.proofs.Math.Nat.{div-add-mod, mod-lt}
 use Rattle.std.specs.List.{All}
 use Rattle.std.proofs.lemmas.Bool.{lt-ltb, le-ltb, cases_lt}
 use Rattle.std.proofs.lemmas.List.Elements.{All-head, All-tail}
-use Rattle.pt_base.specs.declared.point.Point.{Point}
-use Rattle.pt_base.specs.OnPage.{AreOnPage}
+use Rattle.pt_core.specs.declared.point.Point.{Point}
+use Rattle.pt_core.specs.OnPage.{AreOnPage}
 use Rattle.straight_paths.specs.Straight.{IsFarthest, IsPossible}
 use Rattle.least_walk.specs.LeastWalk.{total_cost}
 use Rattle.least_walk.specs.Suffix.{WalksOn}

@@ -1,6 +1,6 @@
 -- Penalties that are written down.
 use Rattle.std.specs.Prelude.{◌≡◌, ℕ, ◌+◌, ◌-◌, ◌<◌, cond, nat_lt, List, length, get_or, slice_index}
-use Rattle.pt_base.specs.declared.point.Point.{Point}
+use Rattle.pt_core.specs.declared.point.Point.{Point}
 use Rattle.polygon_optimal.specs.Polygon.{penalty_of}
 use Rattle.cyclic_optimal.specs.declared.fans.Fan.{Fan}
 

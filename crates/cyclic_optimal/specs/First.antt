@@ -1,6 +1,6 @@
 -- Where the least cyclic polygon begins.
 use Rattle.std.specs.Prelude.{◌≡◌, ℕ, ◌≤◌, List, ◌∷◌, length}
-use Rattle.pt_base.specs.declared.point.Point.{Point}
+use Rattle.pt_core.specs.declared.point.Point.{Point}
 use Rattle.cyclic_optimal.specs.Cyclic.{IsCyclicPolygon, round_penalty}
 
 -- a cyclic polygon begins at this point that has the fewest segments and, of several such, the least penalty; and

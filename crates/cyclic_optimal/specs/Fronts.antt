@@ -1,6 +1,6 @@
 -- What the search for the first vertex of the least cyclic polygon knows of ways round a path.
 use Rattle.std.specs.Prelude.{◌≡◌, ℕ, ◌+◌, ◌-◌, ◌*◌, ◌<◌, ◌≤◌, ◌^◌, cond, nat_lt, List, ◌∷◌, length, slice_index}
-use Rattle.pt_base.specs.declared.point.Point.{Point}
+use Rattle.pt_core.specs.declared.point.Point.{Point}
 use Rattle.straight_paths.specs.Straight.{IsPossible}
 use Rattle.least_walk.specs.LeastWalk.{total_cost}
 use Rattle.least_walk.specs.Suffix.{WalksOn}

@@ -3,7 +3,7 @@ ghost use Rattle.std.specs.Prelude.{◌≡◌, ◌+◌, ◌-◌, ◌<◌, ◌≤
 ghost use Rattle.cyclic_optimal.specs.Fans.{HasFans, IsFanOf};
 
 use crate::sides::Sides;
-use pt_base::NoMemory;
+use pt_core::NoMemory;
 use std::alloc::Global;
 
 /// So many penalties are written down at most: 32 megabytes. What isn't written down is worked out each time.

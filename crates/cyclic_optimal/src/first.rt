@@ -4,8 +4,8 @@
 //! the points after k up to there, the window after k, and it is enough to look at the ways once round from these few
 //! points.
 ghost use Rattle.std.specs.Prelude.{◌≡◌, ℕ, ◌+◌, ◌<◌, ◌≤◌, length, IfOk};
-ghost use Rattle.pt_base.specs.ClosedWalk.{IsClosedWalk};
-ghost use Rattle.pt_base.specs.OnPage.{AreOnPage};
+ghost use Rattle.pt_core.specs.ClosedWalk.{IsClosedWalk};
+ghost use Rattle.pt_core.specs.OnPage.{AreOnPage};
 ghost use Rattle.straight_paths.specs.Straight.{IsPossible};
 ghost use Rattle.least_walk.specs.Suffix.{IsFewestFrom};
 ghost use Rattle.cyclic_optimal.specs.First.{IsFirstVertex};
@@ -17,7 +17,7 @@ use crate::leaps::{all_leaps, nexts};
 use crate::sides::Sides;
 use crate::windows::{narrowest, sparsest};
 use prefix_moments::Moments;
-use pt_base::{NoMemory, Point};
+use pt_core::{NoMemory, Point};
 use std::alloc::Global;
 
 /// A window of at most so many points is looked through as it stands. There is one behind each corner.

@@ -14,7 +14,7 @@ ghost use Rattle.cyclic_optimal.specs.Fronts.{AreTops, IsBestFrom, IsFrontOf, Is
 use crate::fans::Fan;
 use crate::first::Best;
 use crate::sides::Sides;
-use pt_base::NoMemory;
+use pt_core::NoMemory;
 use std::alloc::Global;
 
 /// What no way counts.

@@ -5,7 +5,7 @@
 ghost use Rattle.std.specs.Prelude.{◌≡◌, ◌+◌, ◌<◌, ◌≤◌, ◌^◌, length, IfOk};
 
 use crate::sides::Sides;
-use pt_base::NoMemory;
+use pt_core::NoMemory;
 use std::alloc::Global;
 
 /// How many points so many longest segments in a row lead on, from each point; or a lap, where that is less.

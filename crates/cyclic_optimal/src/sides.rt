@@ -1,7 +1,7 @@
 //! The possible segments of a path, counted on past its end, and what they count.
 ghost use Rattle.std.specs.Prelude.{◌≡◌, ℕ, ◌+◌, ◌*◌, ◌<◌, ◌≤◌, ◌^◌, length, IfNone, IfOk, IfSome};
-ghost use Rattle.pt_base.specs.ClosedWalk.{IsClosedWalk};
-ghost use Rattle.pt_base.specs.OnPage.{AreOnPage};
+ghost use Rattle.pt_core.specs.ClosedWalk.{IsClosedWalk};
+ghost use Rattle.pt_core.specs.OnPage.{AreOnPage};
 ghost use Rattle.straight_paths.specs.Straight.{IsPossible};
 ghost use Rattle.prefix_moments.specs.Sums.{IsPenalty};
 ghost use Rattle.polygon_optimal.specs.Polygon.{penalty_of};
@@ -10,7 +10,7 @@ ghost use Rattle.cyclic_optimal.specs.Fronts.{IsLongest, worth_of};
 
 use crate::fans::Fan;
 use prefix_moments::Moments;
-use pt_base::{NoMemory, Point};
+use pt_core::{NoMemory, Point};
 use std::alloc::Global;
 use straight_paths::Reach;
 

@@ -5,7 +5,7 @@ ghost use Rattle.std.specs.Prelude.{◌≡◌, ℕ, ◌+◌, ◌<◌, length, If
 ghost use Rattle.straight_paths.specs.Straight.{IsPossible};
 
 use crate::sides::Sides;
-use pt_base::NoMemory;
+use pt_core::NoMemory;
 use std::alloc::Global;
 
 /// A point from which no segment leads past the path's end, and of these one whose longest segment is shortest.

@@ -5,8 +5,8 @@ use Rattle.std.proofs.lemmas.Nat.{mul-le}
 use Rattle.std.proofs.Math.IntN.{*ℤ-negsuc}
 use Rattle.std.specs.Int.{int_div_euclid}
 use Rattle.std.specs.Int.RustNames.{FitsSigned}
-use Rattle.pt_base.specs.Floor.{floor_of}
-use Rattle.pt_base.proofs.Sizes.{back, divided, product_most}
+use Rattle.pt_core.specs.Floor.{floor_of}
+use Rattle.pt_core.proofs.Sizes.{back, divided, product_most}
 
 -- a number of 32 bits
 pub record IsShort (c : ℤ) : Type 0 where

@@ -1,11 +1,11 @@
 -- Outlines as closed polygons: a curve, a cubic Bezier curve, is replaced by chords between points on it.
 use Rattle.std.specs.Prelude.{ℕ, ◌*◌, ◌-◌, ℤ, pos, ◌+ℤ◌, ◌*ℤ◌, List, [], ◌∷◌, ◌++◌, map}
-use Rattle.pt_base.specs.declared.piece.Piece.{Piece}
-use Rattle.pt_base.specs.declared.piece.Piece.TheVariants.{Corner, Curve}
-use Rattle.pt_base.specs.declared.point.Point.{Point}
-use Rattle.pt_base.specs.ClosedWalk.{origin}
-use Rattle.pt_base.specs.Floor.{floor_of}
-use Rattle.pt_base.specs.Outlines.{end_of, start_from}
+use Rattle.pt_core.specs.declared.piece.Piece.{Piece}
+use Rattle.pt_core.specs.declared.piece.Piece.TheVariants.{Corner, Curve}
+use Rattle.pt_core.specs.declared.point.Point.{Point}
+use Rattle.pt_core.specs.ClosedWalk.{origin}
+use Rattle.pt_core.specs.Floor.{floor_of}
+use Rattle.pt_core.specs.Outlines.{end_of, start_from}
 
 -- a weighted mean of four coordinates, where the weights come to 512, rounded down
 abbrev pub mean_of : ℕ → ℕ → ℕ → ℕ → ℤ → ℤ → ℤ → ℤ → ℤ

@@ -1,11 +1,11 @@
 -- The text of a page as an AutoCAD Drawing Interchange File (DXF Reference, section ENTITIES): a line with the
 -- number of a group, and a line with its value.
 use Rattle.std.specs.Prelude.{ℕ, ℤ, ◌-◌, List, ◌++◌, codes, flat_map, length, take}
-use Rattle.pt_base.specs.declared.piece.Piece.{Piece}
-use Rattle.pt_base.specs.declared.point.Point.{Point}
-use Rattle.pt_base.specs.declared.trace.Trace.{Trace}
-use Rattle.pt_base.specs.FixedText.{fixed_text}
-use Rattle.pt_base.specs.Floor.{rounded}
+use Rattle.pt_core.specs.declared.piece.Piece.{Piece}
+use Rattle.pt_core.specs.declared.point.Point.{Point}
+use Rattle.pt_core.specs.declared.trace.Trace.{Trace}
+use Rattle.pt_core.specs.FixedText.{fixed_text}
+use Rattle.pt_core.specs.Floor.{rounded}
 use Rattle.dxf_geojson.specs.Chords.{chord_points}
 
 -- a coordinate in pixels, rounded to thousandths

@@ -2,11 +2,11 @@
 -- against the clock, and the rings of its holes run with it. The layout of the lines is our own.
 use Rattle.std.specs.Prelude.{ℕ, List, [], ◌∷◌, ◌++◌, codes, flat_map, reverse}
 use Rattle.std.specs.List.{join_by}
-use Rattle.pt_base.specs.declared.piece.Piece.{Piece}
-use Rattle.pt_base.specs.declared.point.Point.{Point}
-use Rattle.pt_base.specs.declared.trace.Group.{Group}
-use Rattle.pt_base.specs.declared.trace.Trace.{Trace}
-use Rattle.pt_base.specs.Outlines.{outline_at}
+use Rattle.pt_core.specs.declared.piece.Piece.{Piece}
+use Rattle.pt_core.specs.declared.point.Point.{Point}
+use Rattle.pt_core.specs.declared.trace.Group.{Group}
+use Rattle.pt_core.specs.declared.trace.Trace.{Trace}
+use Rattle.pt_core.specs.Outlines.{outline_at}
 use Rattle.dxf_geojson.specs.Chords.{chord_points}
 use Rattle.dxf_geojson.specs.DxfText.{pixels_text}
 

@@ -3,7 +3,7 @@ ghost use Rattle.std.specs.Prelude.{◌≡◌, ◌+◌, ◌++◌, IfOk, OnOk};
 ghost use Rattle.dxf_geojson.specs.Chords.{chord_points, curve_points, piece_points, points_from};
 
 use crate::mean::mean_point;
-use pt_base::{NoMemory, Piece, Point, end_of, start_of};
+use pt_core::{NoMemory, Piece, Point, end_of, start_of};
 
 /// Makes `points` those of an outline: its start, and then the ends of its lines and chords. The last
 /// one is the start again.

@@ -4,7 +4,7 @@ ghost use Rattle.dxf_geojson.specs.DxfText.{all_but_last, dxf_text, polyline_tex
 
 use crate::chords::gather_chords;
 use crate::fixed::put_pixels;
-use pt_base::{NoMemory, Piece, Point, Sequence, Trace};
+use pt_core::{NoMemory, Piece, Point, Sequence, Trace};
 use std::alloc::Global;
 
 /// The document of a page's trace: a closed polyline for each path, in their order.

@@ -1,12 +1,12 @@
 //! A page as a collection of GeoJSON's features.
 ghost use Rattle.std.specs.Prelude.{◌≡◌, ◌++◌, codes, flat_map, IfOk, OnOk};
 ghost use Rattle.std.specs.List.{join_by};
-ghost use Rattle.pt_base.specs.Outlines.{outline_at};
+ghost use Rattle.pt_core.specs.Outlines.{outline_at};
 ghost use Rattle.dxf_geojson.specs.GeoJsonText.{feature_text, features_text, geojson_text, hole_text, position_text, ring_text};
 
 use crate::chords::gather_chords;
 use crate::fixed::put_pixels;
-use pt_base::{Group, NoMemory, Piece, Point, Sequence, Trace, pieces_at};
+use pt_core::{Group, NoMemory, Piece, Point, Sequence, Trace, pieces_at};
 use std::alloc::Global;
 
 /// The document of a page's trace: a polygon for each shape, whose first ring is its outline, and whose other

@@ -2,7 +2,7 @@
 ghost use Rattle.std.specs.Prelude.{◌≡◌, ◌++◌, OnOk};
 ghost use Rattle.dxf_geojson.specs.DxfText.{pixels_text};
 
-use pt_base::{NoMemory, put_fixed, round_unit};
+use pt_core::{NoMemory, put_fixed, round_unit};
 
 /// Appends a coordinate in pixels, rounded to thousandths.
 pub(crate) fn put_pixels(out: &mut Vec<u8>, c: i32) -> Result<(), NoMemory>

@@ -2,7 +2,7 @@
 ghost use Rattle.std.specs.Prelude.{◌≡◌, ◌+◌, ◌*◌, ◌-◌, ◌^◌, ◌≤◌, pos, ◌*ℤ◌, ◌≤ℤ◌, neg_ℤ};
 ghost use Rattle.dxf_geojson.specs.Chords.{mean_of, mean_point};
 
-use pt_base::Point;
+use pt_core::Point;
 
 /// The mean of four points with these weights, which come to 512, rounded down.
 //

@@ -4,7 +4,7 @@ use Rattle.std.specs.Prelude.{ℕ, List, [], ◌++◌, codes, decimal, flat_map}
 use Rattle.outline_pen.specs.Shapes.{group_text}
 use Rattle.outline_pen.specs.declared.pen.Mark.{Mark}
 use Rattle.outline_pen.specs.declared.pen.Mark.TheVariants as mark
-use Rattle.pt_base.specs.declared.trace.Trace.{Trace}
+use Rattle.pt_core.specs.declared.trace.Trace.{Trace}
 
 -- what stands around the numbers of a path: operators follow them
 abbrev pub eps_mark : Mark → List ℕ

@@ -4,7 +4,7 @@ ghost use Rattle.eps_backend.specs.EpsText.{comments_text, drawing_text, eps_tex
 
 use crate::pen::EpsPen;
 use outline_pen::put_groups;
-use pt_base::{NoMemory, Settings, Trace, put_number};
+use pt_core::{NoMemory, Settings, Trace, put_number};
 use std::alloc::Global;
 
 /// The document of a page's trace: each shape is filled with its holes left out, by the even-odd rule.

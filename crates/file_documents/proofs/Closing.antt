@@ -1,7 +1,7 @@
 -- Where each page is a document of its own, each document of a run over files is whole or cut off: none is left open
 -- between two items.
 use Rattle.std.proofs.Common.{◌≡◌, ℕ, suc, Bool, false, not, List, [], ◌∷◌, ◌++◌, map, Option, inl, inr, refl, sym, ◌∙◌, ap, subst}
-use Rattle.pt_base.specs.Files.{Contents}
+use Rattle.pt_core.specs.Files.{Contents}
 use Rattle.bitmap_input.specs.Cut.{Ending}
 use Rattle.bitmap_input.specs.Cut.Ending.{End, Trailing, Refused}
 use Rattle.bitmap_input.specs.Raw.{Raw}

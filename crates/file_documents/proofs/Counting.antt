@@ -1,6 +1,6 @@
 -- How the counts of faults move.
 use Rattle.std.proofs.Common.{◌≡◌, ℕ, subst}
-use Rattle.pt_base.specs.Counts.{Rose}
+use Rattle.pt_core.specs.Counts.{Rose}
 use Rattle.bitmap_input.specs.declared.fault.InFault.TheVariants as fault
 use Rattle.run_output.specs.declared.status.Status.{Status}
 use Rattle.file_documents.specs.Progress.{FaultsBy, InputCount, status_of}

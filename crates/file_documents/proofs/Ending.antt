@@ -1,10 +1,10 @@
 -- How a run ends in a file.
 use Rattle.std.proofs.Common.{◌≡◌, ◌≢◌, ◌≤◌, ◌⊎◌, ℕ, ◌+◌, Bool, false, List, [], ◌∷◌, ◌++◌, length, Option, None, Some, IfSome, option_map, Err, inl, inr, refl, sym, ◌∙◌, ap, subst, append-nil, append_assoc, arith}
 use Rattle.std.specs.FinMap.{get}
-use Rattle.pt_base.specs.Counts.{Rose, next_count}
-use Rattle.pt_base.specs.Files.{Contents, Files, Lacks, Opened, unread, unread_of, with_file}
-use Rattle.pt_base.specs.declared.fault.OpenFault.{OpenFault}
-use Rattle.pt_base.specs.declared.fault.OpenFault.TheVariants as opening
+use Rattle.pt_core.specs.Counts.{Rose, next_count}
+use Rattle.pt_core.specs.Files.{Contents, Files, Lacks, Opened, unread, unread_of, with_file}
+use Rattle.pt_core.specs.declared.fault.OpenFault.{OpenFault}
+use Rattle.pt_core.specs.declared.fault.OpenFault.TheVariants as opening
 use Rattle.bitmap_input.specs.declared.fault.InFault.{InFault}
 use Rattle.bitmap_input.specs.declared.fault.InFault.TheVariants as fault
 use Rattle.bitmap_input.specs.FaultText.{cause_text}

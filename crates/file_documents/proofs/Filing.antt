@@ -1,7 +1,7 @@
 -- What the end of a file's pages means for the run.
 use Rattle.std.proofs.Common.{◌≡◌, ◌≤◌, ℕ, suc, ◌+◌, Bool, true, false, List, [], ◌∷◌, ◌++◌, length, drop, Option, None, Some, IfSome, option_map, inl, inr, refl, sym, ◌∙◌, ap, subst, append_assoc, arith, append-nil}
 use Rattle.std.specs.FinMap.{get}
-use Rattle.pt_base.specs.Files.{Contents, Files, Lacks, unread, unread_of, with_file}
+use Rattle.pt_core.specs.Files.{Contents, Files, Lacks, unread, unread_of, with_file}
 use Rattle.bitmap_input.specs.Cut.{Ending, Kind}
 use Rattle.bitmap_input.specs.Cut.Ending.{End, Trailing, Refused}
 use Rattle.bitmap_input.specs.FaultText.{cause_text, fault_text, kind_text}

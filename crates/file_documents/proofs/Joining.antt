@@ -1,7 +1,7 @@
 -- The items of files, and then those of the files behind them.
 use Rattle.std.proofs.Common.{◌≡◌, ℕ, suc, ◌+◌, ◌*◌, ◌<◌, ◌⊎◌, min, List, [], ◌∷◌, ◌++◌, length, Option, None, Some, inl, inr, sym, ◌∙◌, ap, subst, append_assoc, length-append, arith}
-use Rattle.pt_base.specs.Counts.{Rose, last_count}
-use Rattle.pt_base.specs.Files.{Contents}
+use Rattle.pt_core.specs.Counts.{Rose, last_count}
+use Rattle.pt_core.specs.Files.{Contents}
 use Rattle.bitmap_input.specs.Cut.{Ending}
 use Rattle.bitmap_input.specs.Cut.Ending.{End, Trailing, Refused}
 use Rattle.bitmap_input.specs.FaultText.{cause_text}

@@ -1,6 +1,6 @@
 -- What stays the same from call to call.
 use Rattle.std.proofs.Common.{ℕ, List, Err, ◌∙◌, arith}
-use Rattle.pt_base.specs.declared.sink.Sink.{Ghosts as SinkGhosts}
+use Rattle.pt_core.specs.declared.sink.Sink.{Ghosts as SinkGhosts}
 use Rattle.bit_image.specs.Page.{Page as Pixels}
 use Rattle.bitmap_input.specs.Reader.{Reader}
 use Rattle.run_output.specs.declared.part.Binding.{Binding}

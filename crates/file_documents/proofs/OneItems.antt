@@ -1,6 +1,6 @@
 -- What a run is to write is one list, where it is told what the files hold.
 use Rattle.std.proofs.Common.{◌≡◌, ℕ, suc, inl, inr, false, None, Some, List, [], ◌∷◌, ◌++◌, sym, ◌∙◌, ap, subst, arith}
-use Rattle.pt_base.specs.Files.{Contents}
+use Rattle.pt_core.specs.Files.{Contents}
 use Rattle.bitmap_input.specs.Cut.{Ending}
 use Rattle.bitmap_input.specs.Cut.Ending.{End, Trailing, Refused}
 use Rattle.bitmap_input.specs.Raw.{Raw}

@@ -1,8 +1,8 @@
 -- How far a run has read where a document couldn't be written.
 use Rattle.std.proofs.Common.{◌≡◌, ◌≤◌, ◌<◌, ℕ, ◌+◌, ◌*◌, ◌/◌, ◌%◌, List, [], ◌∷◌, ◌++◌, Option, ◌∙◌, ap, subst, add-mul, div-add-mod', div-mul-le_self, mod-lt, mul-le-mul_right, arith}
 use Rattle.std.proofs.lemmas.Nat.{div_below, le-div}
-use Rattle.pt_base.specs.Counts.{Rose}
-use Rattle.pt_base.specs.Files.{Contents}
+use Rattle.pt_core.specs.Counts.{Rose}
+use Rattle.pt_core.specs.Files.{Contents}
 use Rattle.page_batches.specs.Held.{AreHeld, Held, Holds, pages_held}
 use Rattle.run_output.specs.Made.{Past}
 use Rattle.run_output.specs.Parts.{Part}

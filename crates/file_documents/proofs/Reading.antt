@@ -3,8 +3,8 @@ use Rattle.std.proofs.Common.{◌≡◌, ◌≤◌, ℕ, ◌+◌, ◌-◌, Bool,
 use Rattle.std.specs.FinMap.{get}
 use Rattle.std.proofs.lemmas.List.{drop-append-le, drop-drop, length-drop, take-append-drop}
 use Rattle.std.proofs.lemmas.List.Elements.{All-head}
-use Rattle.pt_base.specs.Counts.{Rose}
-use Rattle.pt_base.specs.Files.{Files, Opened, taken_of, unread, unread_of, with_file, with_no_file, with_read}
+use Rattle.pt_core.specs.Counts.{Rose}
+use Rattle.pt_core.specs.Files.{Files, Opened, taken_of, unread, unread_of, with_file, with_no_file, with_read}
 use Rattle.bit_image.specs.Page.{IsPage, Page as Pixels}
 use Rattle.bitmap_input.specs.declared.fault.InFault.{InFault}
 use Rattle.bitmap_input.specs.declared.fault.InFault.TheVariants as fault

@@ -1,8 +1,8 @@
 -- Files converted one after another.
 use Rattle.std.proofs.Common.{◌≡◌, ◌<◌, ℕ, ◌+◌, false, min, List, [], ◌∷◌, ◌++◌, length, take, drop, get_or, Option, IfSome, inr, refl, sym, ◌∙◌, ap, subst, append-nil, arith}
 use Rattle.std.proofs.lemmas.List.{length-take-le, take-append-drop, take_more}
-use Rattle.pt_base.specs.Counts.{last_count, next_count}
-use Rattle.pt_base.specs.Files.{Contents}
+use Rattle.pt_core.specs.Counts.{last_count, next_count}
+use Rattle.pt_core.specs.Files.{Contents}
 use Rattle.run_output.specs.Made.{Past, no_past}
 use Rattle.run_output.specs.Parts.{is_begun}
 use Rattle.run_output.specs.declared.part.Binding.{Binding}

@@ -1,7 +1,7 @@
 -- What a run over files is to write, in order: it follows from the words and from what the files hold.
 use Rattle.std.specs.Prelude.{◌≡◌, ℕ, suc, ◌+◌, ◌<◌, ◌≤◌, ◌⊎◌, false, List, [], ◌∷◌, ◌++◌, codes, Option, None, Some}
 use Rattle.std.specs.FinMap.{get}
-use Rattle.pt_base.specs.Files.{Contents, Files}
+use Rattle.pt_core.specs.Files.{Contents, Files}
 use Rattle.bitmap_input.specs.Cut.{Ending}
 use Rattle.bitmap_input.specs.Cut.Ending.{End, Trailing, Refused}
 use Rattle.bitmap_input.specs.FaultText.{kind_text}

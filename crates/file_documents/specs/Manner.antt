@@ -1,6 +1,6 @@
 -- The manner in which files become documents.
 use Rattle.std.specs.Prelude.{◌≡◌, ℕ, Bool, List, Option}
-use Rattle.pt_base.specs.declared.settings.Backend.{Backend}
+use Rattle.pt_core.specs.declared.settings.Backend.{Backend}
 use Rattle.bit_image.specs.Page.{IsPage, Page as Pixels}
 use Rattle.bitmap_input.specs.Raw.{Raw, shown}
 use Rattle.run_output.specs.Names.{base_name}

@@ -1,8 +1,8 @@
 -- How far a run has read where a document couldn't be written: to the end of that document's batch.
 use Rattle.std.specs.Prelude.{◌≡◌, ◌≢◌, ℕ, ◌+◌, ◌*◌, ◌/◌, ◌≤◌, false, List, [], ◌++◌, length, Option, None, Some, IfSome}
 use Rattle.std.specs.FinMap.{get}
-use Rattle.pt_base.specs.Counts.{Rose}
-use Rattle.pt_base.specs.Files.{Contents}
+use Rattle.pt_core.specs.Counts.{Rose}
+use Rattle.pt_core.specs.Files.{Contents}
 use Rattle.bitmap_input.specs.Raw.{Raw}
 use Rattle.run_output.specs.Made.{Past}
 use Rattle.page_batches.specs.Items.{GoesOn, Item, page_count}

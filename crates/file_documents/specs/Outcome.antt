@@ -1,9 +1,9 @@
 -- What a run has done, against the items that it was to write.
 use Rattle.std.specs.Prelude.{◌≡◌, ℕ, ◌+◌, ◌≤◌, ◌⊎◌, Bool, true, false, List, [], ◌∷◌, ◌++◌, length, min, drop, Option, None, Some, IfSome, option_map}
 use Rattle.std.specs.FinMap.{get}
-use Rattle.pt_base.specs.Counts.{Rose, last_count}
-use Rattle.pt_base.specs.Files.{Contents, Files}
-use Rattle.pt_base.specs.declared.inputs.Inputs.{Ghosts as InputGhosts}
+use Rattle.pt_core.specs.Counts.{Rose, last_count}
+use Rattle.pt_core.specs.Files.{Contents, Files}
+use Rattle.pt_core.specs.declared.inputs.Inputs.{Ghosts as InputGhosts}
 use Rattle.bitmap_input.specs.Cut.{is_by_end}
 use Rattle.bitmap_input.specs.FaultText.{cause_text}
 use Rattle.bitmap_input.specs.Raw.{Raw}

@@ -1,8 +1,8 @@
 -- How far the converting of a file has come: its first pages are converted.
 use Rattle.std.specs.Prelude.{◌≡◌, ◌≢◌, ◌⊎◌, ℕ, suc, ◌+◌, ◌*◌, ◌<◌, ◌≤◌, Bool, false, true, List, [], ◌∷◌, ◌++◌, length, drop, Option, Some, IfSome, option_map, Result, Ok, Err}
-use Rattle.pt_base.specs.Counts.{Rose, next_count}
-use Rattle.pt_base.specs.declared.sink.Sink.{Ghosts as SinkGhosts}
-use Rattle.pt_base.specs.Files.{Contents, Files, unread}
+use Rattle.pt_core.specs.Counts.{Rose, next_count}
+use Rattle.pt_core.specs.declared.sink.Sink.{Ghosts as SinkGhosts}
+use Rattle.pt_core.specs.Files.{Contents, Files, unread}
 use Rattle.bit_image.specs.Page.{IsPage, Page as Pixels}
 use Rattle.bitmap_input.specs.declared.fault.InFault.TheVariants as fault
 use Rattle.bitmap_input.specs.Cut.{is_by_end}

@@ -18,7 +18,7 @@ use crate::task::Task;
 use bitmap_input::{InFault, PageReader};
 use page_batches::{Batch, Desk};
 use page_workers::PageJob;
-use pt_base::{Gate, Inputs, NoMemory, Outputs, Sink};
+use pt_core::{Gate, Inputs, NoMemory, Outputs, Sink};
 use run_output::{
     Binding, Made, Status, base_name, document_name, say_not_opened, say_of_page, say_out_of_memory,
 };

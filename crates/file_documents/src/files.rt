@@ -17,7 +17,7 @@ use bitmap_input::PageReader;
 use command_words::Name;
 use page_batches::{Batch, Desk};
 use page_workers::PageJob;
-use pt_base::{Gate, Inputs, Outputs, Sink};
+use pt_core::{Gate, Inputs, Outputs, Sink};
 use run_output::{Made, Status, say_out_of_memory};
 use std::thread::Threads;
 

@@ -1,7 +1,7 @@
 //! What follows from the definitions alone.
 ghost use Rattle.std.specs.Prelude.{◌≡◌, ℕ, Bool, List, Option, Some};
-ghost use Rattle.pt_base.specs.Files.{Contents};
-ghost use Rattle.pt_base.specs.declared.settings.Backend.{Backend};
+ghost use Rattle.pt_core.specs.Files.{Contents};
+ghost use Rattle.pt_core.specs.declared.settings.Backend.{Backend};
 ghost use Rattle.run_output.specs.Made.{Past};
 ghost use Rattle.run_output.specs.declared.part.Binding.{Binding};
 ghost use Rattle.page_batches.specs.Items.{Item};

@@ -19,7 +19,7 @@ use bit_image::Bitmap;
 use bitmap_input::{InFault, Next, PageReader};
 use page_batches::{Batch, Desk};
 use page_workers::PageJob;
-use pt_base::{Gate, Inputs, Outputs, Sink};
+use pt_core::{Gate, Inputs, Outputs, Sink};
 use run_output::{Made, Status, document_name, say_out_of_memory};
 use std::thread::Threads;
 

@@ -1,7 +1,7 @@
 //! What stays the same through a run over files.
 use page_batches::Plan;
 use page_workers::PageJob;
-use pt_base::{Backend, Gate};
+use pt_core::{Backend, Gate};
 use std::thread::Threads;
 use threshold_map::Level;
 

@@ -1,6 +1,6 @@
 -- Points texts that potrace wrote, filled again.
 use Rattle.std.specs.Prelude.{◌≡◌, ◌⊎◌}
-use Rattle.pt_base.specs.Counts.{Rose}
+use Rattle.pt_core.specs.Counts.{Rose}
 use Rattle.bit_image.specs.Page.{Page}
 use Rattle.bit_image.specs.PbmText.{pbm_text}
 use Rattle.run_output.specs.Told.{Sinks, Source}

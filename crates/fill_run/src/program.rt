@@ -1,8 +1,8 @@
 //! All that the program does.
 ghost use Rattle.std.specs.Prelude.{◌≡◌, ◌≤◌, List, false, length, true};
 ghost use Rattle.pt_base.specs.PointsText.{points_text};
-ghost use Rattle.pt_base.specs.declared.path.Path.{Path};
-ghost use Rattle.pt_base.specs.declared.policy.Policy.{Policy};
+ghost use Rattle.pt_core.specs.declared.path.Path.{Path};
+ghost use Rattle.pt_core.specs.declared.policy.Policy.{Policy};
 ghost use Rattle.bit_image.specs.Page.{IsPage, Page};
 ghost use Rattle.path_decompose.specs.Decomposition.{IsDecomposition, kept};
 ghost use Rattle.run_output.specs.Told.{sinks_of, source_of};
@@ -16,7 +16,7 @@ ghost use Rattle.fill_run.specs.Round.{GivesBack};
 
 use bit_image::pbm;
 use point_fill::{FillFault, fill};
-use pt_base::{Inputs, NoMemory, Outputs, Sink};
+use pt_core::{Inputs, NoMemory, Outputs, Sink};
 use small_program::{Reply, Task, run};
 use std::alloc::Global;
 

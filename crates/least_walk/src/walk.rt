@@ -6,7 +6,7 @@ ghost use Rattle.least_walk.specs.Suffix.{HasFewest, HasCosts, HasNexts};
 use crate::marks::fill_marks;
 use crate::steps::Steps;
 use crate::suffixes::{fill_costs, fill_counts};
-use pt_base::{NoMemory, Sequence};
+use pt_core::{NoMemory, Sequence};
 use std::alloc::Global;
 
 /// A walk from 0 to the size of its `Steps`.

@@ -7,7 +7,7 @@ ghost use Rattle.least_walk.specs.Places.{HasMarks};
 use crate::marks::fill_marks;
 use crate::steps::Steps;
 use crate::suffixes::fill_counts;
-use pt_base::NoMemory;
+use pt_core::NoMemory;
 use std::alloc::Global;
 
 /// From where to where walks of fewest steps stand, after some number of steps.

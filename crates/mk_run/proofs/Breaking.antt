@@ -2,9 +2,9 @@
 use Rattle.std.proofs.Common.{◌≡◌, ℕ, suc, ◌+◌, ◌-◌, ◌*◌, ◌≤◌, ◌<◌, inr, true, List, [], ◌++◌, length, take, ap, sym, ◌∙◌, subst, arith, Option, length-append}
 use Rattle.std.proofs.lemmas.List.{take_all}
 use Rattle.std.proofs.lemmas.Nat.{mul-le}
-use Rattle.pt_base.specs.Counts.{Rose, next_count}
-use Rattle.pt_base.specs.Documents.{Documents, with_bytes, with_end, with_open, with_whole}
-use Rattle.pt_base.specs.Files.{Files}
+use Rattle.pt_core.specs.Counts.{Rose, next_count}
+use Rattle.pt_core.specs.Documents.{Documents, with_bytes, with_end, with_open, with_whole}
+use Rattle.pt_core.specs.Files.{Files}
 use Rattle.pt_base.proofs.Writing.{with_bytes-with_bytes}
 use Rattle.bitmap_input.specs.GrayReader.{GraySource}
 use Rattle.bitmap_input.specs.Reading.{CountsBy, cause_of_fault}

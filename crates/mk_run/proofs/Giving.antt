@@ -1,7 +1,7 @@
 -- Rows that a reader gives, one after another.
 use Rattle.std.proofs.Common.{◌≡◌, ℕ, zero, suc, ◌≤◌, true, List, [], ◌∷◌, ◌++◌, map, refl, ap, sym, ◌∙◌, subst, arith, Option, append_assoc, append-nil, length-append, min, get_or}
 use Rattle.std.proofs.lemmas.List.{get_or_append_left}
-use Rattle.pt_base.specs.Files.{Files}
+use Rattle.pt_core.specs.Files.{Files}
 use Rattle.bitmap_input.specs.GrayReader.{GivesRow, GraySource}
 use Rattle.bitmap_input.specs.GrayRows.{lowered}
 use Rattle.bitmap_input.proofs.GrayHeading.{gray_row_stays}

@@ -1,7 +1,7 @@
 -- How a run ends that stops at the page's header.
 use Rattle.std.proofs.Common.{◌≡◌, ℕ, ◌⊎◌, inl, inr, Bool, true, false, ◌||◌, List, [], ◌++◌, refl, ap, sym, ◌∙◌, subst, codes, Option}
-use Rattle.pt_base.specs.Counts.{Rose, next_count}
-use Rattle.pt_base.specs.Files.{Files, Lacks}
+use Rattle.pt_core.specs.Counts.{Rose, next_count}
+use Rattle.pt_core.specs.Files.{Files, Lacks}
 use Rattle.bitmap_input.specs.Cut.{Cut, Kind, is_by_end, ◌>>=◌}
 use Rattle.bitmap_input.specs.Cut.Ending.{End, Trailing, Refused}
 use Rattle.bitmap_input.specs.Cut.Cut.{Takes, Stops}
@@ -11,8 +11,8 @@ use Rattle.bitmap_input.specs.GrayRows.{gray_header}
 use Rattle.bitmap_input.specs.Reading.{AtEnd, Cause, CountsBy, cause_of_fault}
 use Rattle.bitmap_input.specs.declared.fault.InFault.{InFault}
 use Rattle.bitmap_input.specs.declared.fault.InFault.TheVariants as fault
-use Rattle.pt_base.specs.declared.fault.OpenFault.{OpenFault}
-use Rattle.pt_base.specs.declared.fault.OpenFault.TheVariants as faults
+use Rattle.pt_core.specs.declared.fault.OpenFault.{OpenFault}
+use Rattle.pt_core.specs.declared.fault.OpenFault.TheVariants as faults
 use Rattle.bitmap_input.specs.Reading.Cause.{Says, Device, Memory}
 use Rattle.bitmap_input.specs.declared.gray_reader.GrayHead.{GrayHead}
 use Rattle.mk_run.specs.Header.{PageHeader, page_header}

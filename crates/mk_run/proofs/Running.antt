@@ -1,8 +1,8 @@
 -- How a run ends, by what was read of the page and what was written.
 use Rattle.std.proofs.Common.{◌≡◌, ℕ, suc, ◌-◌, ◌≤◌, ◌<◌, ◌&&◌, inl, inr, Bool, true, false, List, [], ◌++◌, length, refl, ap, sym, ◌∙◌, subst, arith, codes, nat_eq, if◌then◌else◌, append_assoc, append-nil, Option}
-use Rattle.pt_base.specs.Counts.{Rose, next_count}
-use Rattle.pt_base.specs.Failures.{after_err}
-use Rattle.pt_base.specs.Files.{Files}
+use Rattle.pt_core.specs.Counts.{Rose, next_count}
+use Rattle.pt_core.specs.Failures.{after_err}
+use Rattle.pt_core.specs.Files.{Files}
 use Rattle.bitmap_input.specs.Cut.{Cut, Kind, is_by_end}
 use Rattle.bitmap_input.specs.Cut.Ending.{Refused}
 use Rattle.bitmap_input.specs.Cut.Cut.{Takes, Stops}

@@ -1,7 +1,7 @@
 -- What was taken of standard input, and what it holds.
 use Rattle.std.proofs.Common.{◌≡◌, ℕ, Bool, true, List, [], ◌++◌, length, take, drop, refl, ap, sym, ◌∙◌, subst, Option, None, Some, append_assoc}
 use Rattle.std.proofs.lemmas.List.{take-append-drop}
-use Rattle.pt_base.specs.Files.{Files, with_read}
+use Rattle.pt_core.specs.Files.{Files, with_read}
 use Rattle.bitmap_input.specs.Reading.{AtEnd, Moves}
 use Rattle.small_program.specs.Input.{HasInput, HasTaken}
 

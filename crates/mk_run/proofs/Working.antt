@@ -1,7 +1,7 @@
 -- A reader and a filter that go along a page together.
 use Rattle.std.proofs.Common.{◌≡◌, ℕ, suc, ◌+◌, ◌-◌, ◌*◌, ◌≤◌, ◌<◌, List, [], ◌∷◌, ◌++◌, length, min, nat_eq, nat_le, nat_lt, ◌&&◌, zero, true, false, refl, ap, sym, ◌∙◌, subst, arith, Option, length-append}
 use Rattle.std.proofs.lemmas.List.{get_or_push}
-use Rattle.pt_base.specs.Files.{Files}
+use Rattle.pt_core.specs.Files.{Files}
 use Rattle.bitmap_input.specs.GrayReader.{GivesRow, GraySource}
 use Rattle.bitmap_input.specs.declared.gray_reader.GrayHead.{GrayHead}
 use Rattle.mk_run.specs.Header.{PageHeader}

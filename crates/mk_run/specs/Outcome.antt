@@ -1,9 +1,9 @@
 -- What a run of the program has done.
 use Rattle.std.specs.Prelude.{◌≡◌, ℕ, ◌<◌, ◌≤◌, ◌⊎◌, Bool, true, false, List, ◌++◌, codes, length}
-use Rattle.pt_base.specs.Counts.{Rose, next_count}
-use Rattle.pt_base.specs.Documents.{IsCutOff, with_open}
-use Rattle.pt_base.specs.Failures.{after_err}
-use Rattle.pt_base.specs.Files.{Lacks}
+use Rattle.pt_core.specs.Counts.{Rose, next_count}
+use Rattle.pt_core.specs.Documents.{IsCutOff, with_open}
+use Rattle.pt_core.specs.Failures.{after_err}
+use Rattle.pt_core.specs.Files.{Lacks}
 use Rattle.bitmap_input.specs.Cut.{Kind, is_by_end}
 use Rattle.bitmap_input.specs.Cut.Ending.{Refused}
 use Rattle.bitmap_input.specs.Cut.Cut.{Stops, Takes}

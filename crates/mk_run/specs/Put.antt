@@ -1,9 +1,9 @@
 -- What of the document a run wrote, and why it broke off.
 use Rattle.std.specs.Prelude.{◌≡◌, ℕ, ◌+◌, ◌*◌, ◌<◌, ◌≤◌, ◌⊎◌, Bool, true, List, [], ◌++◌, length, take, Option}
-use Rattle.pt_base.specs.Counts.{Rose}
-use Rattle.pt_base.specs.Documents.{Documents, IsCutOff, with_bytes, with_open}
-use Rattle.pt_base.specs.Failures.{after_err}
-use Rattle.pt_base.specs.Files.{Files}
+use Rattle.pt_core.specs.Counts.{Rose}
+use Rattle.pt_core.specs.Documents.{Documents, IsCutOff, with_bytes, with_open}
+use Rattle.pt_core.specs.Failures.{after_err}
+use Rattle.pt_core.specs.Files.{Files}
 use Rattle.bitmap_input.specs.GrayReader.{GraySource}
 use Rattle.bitmap_input.specs.Reading.{CountsBy, cause_of_fault}
 use Rattle.mk_run.specs.Header.{PageHeader}

@@ -1,8 +1,8 @@
 -- What a run holds and has done, between rows of the result.
 use Rattle.std.specs.Prelude.{◌≡◌, ℕ, ◌+◌, ◌*◌, ◌/◌, ◌<◌, ◌≤◌, true, false, List, [], ◌++◌, length, get_or, min, Option}
-use Rattle.pt_base.specs.Files.{Files}
-use Rattle.pt_base.specs.declared.inputs.Inputs.{Ghosts}
-use Rattle.pt_base.specs.declared.limits.TheConstants.{LONGEST_SIDE}
+use Rattle.pt_core.specs.Files.{Files}
+use Rattle.pt_core.specs.declared.inputs.Inputs.{Ghosts}
+use Rattle.pt_core.specs.declared.limits.TheConstants.{LONGEST_SIDE}
 use Rattle.bitmap_input.specs.Cut.Ending.{End, Trailing, Refused}
 use Rattle.bitmap_input.specs.GrayReader.{FailsToRead, GraySource, Refuses}
 use Rattle.bitmap_input.specs.Reading.{AtEnd, Cause, Moves}

@@ -9,7 +9,7 @@ ghost use Rattle.mk_run.specs.Outcome.{IsPageRun};
 ghost use Rattle.mk_run.specs.Rows.{fits_result};
 ghost use Rattle.mk_run.specs.Work.{IsGrayHead, MayRead};
 ghost use Rattle.mkbitmap.specs.declared.limits.TheConstants.{GREATEST_TIMES};
-ghost use Rattle.pt_base.specs.declared.limits.TheConstants.{LONGEST_SIDE};
+ghost use Rattle.pt_core.specs.declared.limits.TheConstants.{LONGEST_SIDE};
 
 use crate::fault::Break;
 use crate::put::put_page;
@@ -17,7 +17,7 @@ use crate::say::{NAME, say_fault, say_not_written, say_out_of_memory};
 use crate::work::Work;
 use bitmap_input::{GrayHead, GrayReader, InFault};
 use filter_words::Setup;
-use pt_base::{Inputs, LONGEST_SIDE, Outputs, Sink};
+use pt_core::{Inputs, LONGEST_SIDE, Outputs, Sink};
 use run_output::{say_of_file, say_of_file_page};
 use small_program::Ending;
 use std::alloc::Global;

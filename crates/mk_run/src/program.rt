@@ -10,7 +10,7 @@ ghost use Rattle.small_program.specs.declared.ending.Ending.TheVariants as endin
 use crate::page::filter_input;
 use crate::say::{NAME, say_not_written, say_out_of_memory};
 use filter_words::{AskFault, FilterAsk, filter_ask_of};
-use pt_base::{Inputs, Outputs, Sink};
+use pt_core::{Inputs, Outputs, Sink};
 use run_output::{say_line, write_document};
 use small_program::Ending;
 use std::alloc::Global;

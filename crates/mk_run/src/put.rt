@@ -1,6 +1,6 @@
 //! Writing the result, row by row, while the page's rows come.
 ghost use Rattle.std.specs.Prelude.{◌≡◌, ℕ, ◌+◌, ◌*◌, ◌<◌, ◌≤◌, List, [], ◌++◌, length, false, true, IfErr, OnOk};
-ghost use Rattle.pt_base.specs.Documents.{with_whole};
+ghost use Rattle.pt_core.specs.Documents.{with_whole};
 ghost use Rattle.mkbitmap.specs.Enlarged.{after_of, need};
 ghost use Rattle.mkbitmap.specs.Follows.{SameSetup};
 ghost use Rattle.run_output.specs.Names.{dash};
@@ -15,7 +15,8 @@ use crate::rows::make_ready;
 use bitmap_input::GrayReader;
 use filter_words::Setup;
 use mkbitmap::{Filter, limit};
-use pt_base::{Inputs, Outputs, write_whole};
+use pt_base::write_whole;
+use pt_core::{Inputs, Outputs};
 
 /// Reads rows of the page as far as a row of the result needs them, and writes that one.
 fn put_row<I: Inputs, O: Outputs>(

@@ -8,7 +8,7 @@ ghost use Rattle.mk_run.specs.Work.{GivesRows, GoesAlong, IsAtWork, StopsBehind,
 use bitmap_input::{GrayReader, InFault};
 use filter_words::Setup;
 use mkbitmap::Filter;
-use pt_base::Inputs;
+use pt_core::Inputs;
 
 /// Reads the next row of the page, and has the filter take it.
 pub(crate) fn take_row<I: Inputs>(

@@ -9,7 +9,7 @@ ghost use Rattle.mk_run.specs.Outcome.{cause_ending, filter_name};
 ghost use Rattle.small_program.specs.declared.ending.Ending.TheVariants as ending;
 
 use bitmap_input::InFault;
-use pt_base::Sink;
+use pt_core::Sink;
 use run_output::{say_line, say_of_file, say_of_file_page};
 use small_program::Ending;
 

@@ -10,7 +10,7 @@ use crate::rooms::Rooms;
 use bitmap_input::GrayHead;
 use filter_words::Setup;
 use mkbitmap::Filter;
-use pt_base::{NoMemory, put_number};
+use pt_core::{NoMemory, put_number};
 use std::alloc::Global;
 
 /// All that a run needs memory for, but its reader.

@@ -4,7 +4,7 @@ use Rattle.std.specs.Prelude.{if◌then◌else◌, nat_eq, nat_le}
 use Rattle.std.proofs.lemmas.Int.{ints}
 use Rattle.std.proofs.lemmas.Nat.{div-mul-add, div-add-mod', mod_below, mul-le}
 use Rattle.std.proofs.lemmas.Bool.{cases_lt}
-use Rattle.pt_base.specs.Floor.{floor_of}
+use Rattle.pt_core.specs.Floor.{floor_of}
 use Rattle.mkbitmap.specs.Box.{Gray, box_from, box_end, box_count, box_area, column_sum, box_sum}
 use Rattle.mkbitmap.specs.Relief.{relief_by, relief_of, raised_by, raised_of}
 use Rattle.mkbitmap.specs.Enlarged.{centre_of, centre_before, behind_of, clamped, relief_near, mixed, is_black, after_of, distance_behind, before_within, mixed_raised, dark_limit, need}

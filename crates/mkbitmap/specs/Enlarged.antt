@@ -1,7 +1,7 @@
 -- The page made larger: between the centres of four pixels their reliefs are mixed, each the more the
 -- nearer it is.
 use Rattle.std.specs.Prelude.{ℕ, List, get_or, ◌+◌, ◌-◌, ◌*◌, ◌/◌, ◌%◌, min, ℤ, pos, negsuc, ◌+ℤ◌, ◌-ℤ◌, ◌*ℤ◌, Bool, int_le, nat_le}
-use Rattle.pt_base.specs.Floor.{floor_of}
+use Rattle.pt_core.specs.Floor.{floor_of}
 use Rattle.mkbitmap.specs.Box.{Gray}
 use Rattle.mkbitmap.specs.Relief.{relief_of, raised_of}
 

@@ -1,6 +1,6 @@
 -- What the filter holds of the page that it goes along.
 use Rattle.std.specs.Prelude.{◌≡◌, ℕ, ◌+◌, ◌-◌, ◌*◌, ◌%◌, ◌<◌, ◌≤◌, min, List, [], length, get_or}
-use Rattle.pt_base.specs.declared.limits.TheConstants.{LONGEST_SIDE}
+use Rattle.pt_core.specs.declared.limits.TheConstants.{LONGEST_SIDE}
 use Rattle.mkbitmap.specs.Box.{Gray, sum_between}
 use Rattle.mkbitmap.specs.Relief.{raised_of}
 use Rattle.mkbitmap.specs.Enlarged.{before_within}

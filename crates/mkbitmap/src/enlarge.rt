@@ -4,7 +4,7 @@ ghost use Rattle.mkbitmap.specs.Enlarged.{before_within, mix, dark};
 ghost use Rattle.mkbitmap.specs.Packing.{bit, byte_of, padded};
 ghost use Rattle.mkbitmap.specs.Place.{IsPlaceOf};
 ghost use Rattle.mkbitmap.specs.declared.limits.TheConstants.{GREATEST_RELIEF, GREATEST_TIMES};
-ghost use Rattle.pt_base.specs.declared.limits.TheConstants.{LONGEST_SIDE};
+ghost use Rattle.pt_core.specs.declared.limits.TheConstants.{LONGEST_SIDE};
 ghost use Rattle.bit_image.specs.PbmText.{row_text};
 
 /// Mixes the reliefs above and below a row of the larger page. The columns of the page are those from

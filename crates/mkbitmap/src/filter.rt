@@ -1,6 +1,6 @@
 //! The filter, which goes along a page and holds no more rows of it than a box has.
 ghost use Rattle.std.specs.Prelude.{◌≡◌, ℕ, ◌+◌, ◌*◌, ◌/◌, ◌≤◌, ◌<◌, length, get_or, min, nat_eq, nat_lt, [], IfOk, vec_len};
-ghost use Rattle.pt_base.specs.declared.limits.TheConstants.{LONGEST_SIDE};
+ghost use Rattle.pt_core.specs.declared.limits.TheConstants.{LONGEST_SIDE};
 ghost use Rattle.mkbitmap.specs.Box.{Gray};
 ghost use Rattle.mkbitmap.specs.Enlarged.{after_of, is_black, dark_limit};
 ghost use Rattle.mkbitmap.specs.Packing.{padded};
@@ -11,7 +11,7 @@ ghost use Rattle.mkbitmap.specs.Follows.{IsAlong, HasRoom, HoldsRows, AreRaised,
 use crate::enlarge::{Place, mix_row, pack_row};
 use crate::relief::raise_row;
 use crate::sums::{enter, leave};
-use pt_base::NoMemory;
+use pt_core::NoMemory;
 use std::alloc::Global;
 use std::marker::Model;
 

@@ -1,7 +1,7 @@
 -- The first line of a certificates' text.
 use Rattle.std.proofs.Common.{◌≡◌, ℕ, ◌-◌, ◌^◌, List, ◌++◌, length, refl, sym, ◌∙◌, codes, flat_map, arith}
 use Rattle.std.specs.Prelude.{decimal}
-use Rattle.pt_base.specs.declared.limits.TheConstants.{LONGEST_SIDE}
+use Rattle.pt_core.specs.declared.limits.TheConstants.{LONGEST_SIDE}
 use Rattle.list_reader.specs.Numbers.{IsNumeral}
 use Rattle.list_reader.proofs.Runs.{one_number}
 use Rattle.outline_check.specs.Heads.{IsHead}

@@ -8,9 +8,9 @@ use Rattle.std.proofs.Math.ListN.{get_or-append}
 use Rattle.std.proofs.Math.Seq.{get_or-append_seam, take-append_seam}
 use Rattle.std.specs.List.{All}
 use Rattle.std.specs.Prelude.{decimal}
-use Rattle.pt_base.specs.OnPage.{AreOnPage}
-use Rattle.pt_base.specs.ClosedWalk.{origin}
-use Rattle.pt_base.specs.declared.limits.TheConstants.{LONGEST_SIDE}
+use Rattle.pt_core.specs.OnPage.{AreOnPage}
+use Rattle.pt_core.specs.ClosedWalk.{origin}
+use Rattle.pt_core.specs.declared.limits.TheConstants.{LONGEST_SIDE}
 use Rattle.outline_check.specs.Groups.{IsGroup}
 use Rattle.outline_check.specs.Heads.{IsHead}
 use Rattle.outline_check.specs.ProofsText.{Certified, certified_text}

@@ -2,9 +2,9 @@
 use Rattle.std.proofs.Common.{◌≡◌, ℕ, ◌+◌, ◌<◌, ◌≤◌, List, [], ◌∷◌, ◌++◌, length, take, get_or, refl, ap, sym, ◌∙◌, subst, append_assoc, flat_map, arith}
 use Rattle.std.proofs.lemmas.Grind.{flat_map-append}
 use Rattle.std.proofs.lemmas.List.{append-nil, take_more, take_all}
-use Rattle.pt_base.specs.declared.path.Path.{Path}
-use Rattle.pt_base.specs.declared.polygon.Polygon.{Polygon}
-use Rattle.pt_base.specs.declared.trace.Trace.{Trace}
+use Rattle.pt_core.specs.declared.path.Path.{Path}
+use Rattle.pt_core.specs.declared.polygon.Polygon.{Polygon}
+use Rattle.pt_core.specs.declared.trace.Trace.{Trace}
 use Rattle.outline_check.specs.declared.label.Label.{Label}
 use Rattle.outline_check.specs.Certificate.{AreRightLabels}
 use Rattle.outline_check.specs.Printed.{proofs_head, IsPrinted, IsPrintedPath, AreCertified}

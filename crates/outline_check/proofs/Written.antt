@@ -3,12 +3,12 @@ use Rattle.std.proofs.Common.{◌≡◌, ℕ, ◌<◌, ◌≤◌, ◌^◌, List,
 use Rattle.std.proofs.lemmas.List.{get_or_default}
 use Rattle.std.proofs.lemmas.List.Elements.{All-nil, All-cons, All-head, All-tail}
 use Rattle.std.specs.List.{All, AllZip}
-use Rattle.pt_base.specs.ClosedWalk.{IsClosedWalk}
-use Rattle.pt_base.specs.declared.limits.TheConstants.{LONGEST_SIDE}
-use Rattle.pt_base.specs.declared.path.Path.{Path}
-use Rattle.pt_base.specs.declared.point.Point.{Point}
-use Rattle.pt_base.specs.declared.polygon.Polygon.{Polygon}
-use Rattle.pt_base.specs.declared.trace.Trace.{Trace}
+use Rattle.pt_core.specs.ClosedWalk.{IsClosedWalk}
+use Rattle.pt_core.specs.declared.limits.TheConstants.{LONGEST_SIDE}
+use Rattle.pt_core.specs.declared.path.Path.{Path}
+use Rattle.pt_core.specs.declared.point.Point.{Point}
+use Rattle.pt_core.specs.declared.polygon.Polygon.{Polygon}
+use Rattle.pt_core.specs.declared.trace.Trace.{Trace}
 use Rattle.polygon_optimal.specs.Polygon.{IsBestPolygon}
 use Rattle.polygon_optimal.proofs.Vertices.{some_vertices, vertices_below}
 use Rattle.outline_check.specs.declared.label.Label.{Label}

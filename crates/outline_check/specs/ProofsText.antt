@@ -1,6 +1,6 @@
 -- The text of a page's certificates.
 use Rattle.std.specs.Prelude.{ℕ, List, ◌++◌, length, codes, decimal, flat_map}
-use Rattle.pt_base.specs.declared.point.Point.{Point}
+use Rattle.pt_core.specs.declared.point.Point.{Point}
 use Rattle.pt_base.specs.PointsText.{point_text}
 use Rattle.pt_base.specs.PolygonsText.{index_text}
 use Rattle.outline_check.specs.declared.label.Label.{Label}

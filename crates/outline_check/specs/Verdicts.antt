@@ -1,6 +1,6 @@
 -- What the checker says of a text.
 use Rattle.std.specs.Prelude.{◌≡◌, ℕ, ◌+◌, ◌<◌, List, [], All, length, slice_index_or, take, Option, Some, None}
-use Rattle.pt_base.specs.ClosedWalk.{IsClosedWalk}
+use Rattle.pt_core.specs.ClosedWalk.{IsClosedWalk}
 use Rattle.outline_check.specs.Certificate.{IsCertificate}
 use Rattle.outline_check.specs.ProofsText.{Certified}
 use Rattle.outline_check.specs.Texts.{IsProofs}

@@ -1,7 +1,7 @@
 //! The right labels of a path.
 ghost use Rattle.std.specs.Prelude.{◌≡◌, ℕ, ◌+◌, length, IfOk};
-ghost use Rattle.pt_base.specs.ClosedWalk.{IsClosedWalk};
-ghost use Rattle.pt_base.specs.OnPage.{AreOnPage};
+ghost use Rattle.pt_core.specs.ClosedWalk.{IsClosedWalk};
+ghost use Rattle.pt_core.specs.OnPage.{AreOnPage};
 ghost use Rattle.polygon_optimal.specs.Lasts.{IsUpToLast};
 ghost use Rattle.polygon_optimal.specs.Polygon.{penalty_of};
 ghost use Rattle.outline_check.specs.Certificate.{AreRightLabels};
@@ -11,7 +11,7 @@ ghost use Rattle.outline_check.specs.Known.{AreRightDownTo};
 use crate::label::Label;
 use crate::onward::{begin_from, label_from};
 use crate::segments::Segments;
-use pt_base::{NoMemory, Point};
+use pt_core::{NoMemory, Point};
 use std::alloc::Global;
 
 /// The right label of each point of a closed walk on a page, and of its end.

@@ -1,10 +1,10 @@
 //! What follows from the definitions alone.
 ghost use Rattle.std.specs.Prelude.{◌≡◌, ℕ, ◌<◌, ◌≤◌, ◌^◌, List, All, length};
 ghost use Rattle.std.specs.List.{AllZip};
-ghost use Rattle.pt_base.specs.ClosedWalk.{IsClosedWalk};
-ghost use Rattle.pt_base.specs.declared.limits.TheConstants.{LONGEST_SIDE};
-ghost use Rattle.pt_base.specs.declared.point.Point.{Point};
-ghost use Rattle.pt_base.specs.declared.trace.Trace.{Trace};
+ghost use Rattle.pt_core.specs.ClosedWalk.{IsClosedWalk};
+ghost use Rattle.pt_core.specs.declared.limits.TheConstants.{LONGEST_SIDE};
+ghost use Rattle.pt_core.specs.declared.point.Point.{Point};
+ghost use Rattle.pt_core.specs.declared.trace.Trace.{Trace};
 ghost use Rattle.polygon_optimal.specs.Polygon.{IsBestPolygon, total_penalty};
 ghost use Rattle.outline_check.specs.declared.label.Label.{Label};
 ghost use Rattle.outline_check.specs.Certificate.{AreRightLabels, IsCertificate};

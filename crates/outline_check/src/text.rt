@@ -1,14 +1,15 @@
 //! The text of a page's certificates.
 ghost use Rattle.std.specs.Prelude.{◌≡◌, ℕ, ◌++◌, List, All, codes, decimal, flat_map, length, slice_index_or, IfOk, OnOk};
-ghost use Rattle.pt_base.specs.ClosedWalk.{IsClosedWalk};
-ghost use Rattle.pt_base.specs.OnPage.{AreOnPage};
+ghost use Rattle.pt_core.specs.ClosedWalk.{IsClosedWalk};
+ghost use Rattle.pt_core.specs.OnPage.{AreOnPage};
 ghost use Rattle.outline_check.specs.Certificate.{AreRightLabels};
 ghost use Rattle.outline_check.specs.Printed.{IsPrinted, IsPrintedPath, proofs_head};
 ghost use Rattle.outline_check.specs.ProofsText.{label_text};
 
 use crate::label::Label;
 use crate::labels::labels;
-use pt_base::{NoMemory, Point, Trace, put_indices, put_number, put_points, put_sides, put_spaced};
+use pt_base::{put_indices, put_points, put_sides, put_spaced};
+use pt_core::{NoMemory, Point, Trace, put_number};
 use std::alloc::Global;
 
 /// The text of a page's certificates: a line `proofs WIDTH HEIGHT PATHS`, and then three lines for each path,

@@ -3,11 +3,11 @@ use Rattle.std.proofs.Common.{◌≡◌, ℕ, suc, ◌+◌, ◌*◌, ◌<◌, �
 use Rattle.std.proofs.lemmas.Int.{ints}
 use Rattle.std.proofs.Math.Nat.{one-le-mul}
 use Rattle.std.specs.Prelude.{slice_index, unsigned_abs}
-use Rattle.pt_base.specs.ClosedWalk.{IsClosedWalk, point_at}
-use Rattle.pt_base.specs.declared.point.Point.{Point}
-use Rattle.pt_base.proofs.Sizes.{product_most}
-use Rattle.pt_base.proofs.Terms.{same_value}
-use Rattle.pt_base.proofs.Terms.Term.{num, plus, less, times}
+use Rattle.pt_core.specs.ClosedWalk.{IsClosedWalk, point_at}
+use Rattle.pt_core.specs.declared.point.Point.{Point}
+use Rattle.pt_core.proofs.Sizes.{product_most}
+use Rattle.pt_core.proofs.Terms.{same_value}
+use Rattle.pt_core.proofs.Terms.Term.{num, plus, less, times}
 use Rattle.vertex_adjust.specs.Vertex.{AreVertices, segment_end_of}
 use Rattle.outline_distance.specs.Polygons.{IsAnyPolygon}
 use Rattle.outline_distance.proofs.Sides.{possible_at}

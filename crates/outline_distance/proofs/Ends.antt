@@ -2,8 +2,8 @@
 use Rattle.std.proofs.Common.{◌≡◌, inl, inr, ℕ, suc, ◌-◌, ◌<◌, ◌≤◌, ℤ, pos, ◌+ℤ◌, ◌-ℤ◌, ◌*ℤ◌, ◌≤ℤ◌, ap, subst, arith}
 use Rattle.std.proofs.lemmas.Int.{ints}
 use Rattle.std.proofs.lemmas.Bool.{cases_lt}
-use Rattle.pt_base.proofs.Terms.{same_value}
-use Rattle.pt_base.proofs.Terms.Term.{num, plus, less, times}
+use Rattle.pt_core.proofs.Terms.{same_value}
+use Rattle.pt_core.proofs.Terms.Term.{num, plus, less, times}
 use Rattle.straight_paths.specs.Straight.{StaysWithin}
 use Rattle.straight_paths.proofs.Signs.{factor_at_least}
 use Rattle.outline_distance.proofs.Levels.{passed, compared}

@@ -2,8 +2,8 @@
 use Rattle.std.proofs.Common.{◌≡◌, ◌⊎◌, inl, inr, ℕ, zero, suc, ◌+◌, ◌≤◌, ℤ, pos, negsuc, neg_ℤ, ◌+ℤ◌, ◌-ℤ◌, ◌*ℤ◌, ◌≤ℤ◌, ◌<ℤ◌, refl, sym, ◌∙◌, ap, subst, arith}
 use Rattle.std.proofs.lemmas.Int.{ints}
 use Rattle.std.specs.Prelude.{unsigned_abs}
-use Rattle.pt_base.proofs.Terms.{same_value}
-use Rattle.pt_base.proofs.Terms.Term.{num, plus, less, times, opposite}
+use Rattle.pt_core.proofs.Terms.{same_value}
+use Rattle.pt_core.proofs.Terms.Term.{num, plus, less, times, opposite}
 use Rattle.straight_paths.specs.Straight.{StaysWithin}
 use Rattle.straight_paths.proofs.Signs.{product_at_least, factor_at_least, factor_positive}
 

@@ -2,8 +2,8 @@
 use Rattle.std.proofs.Common.{◌≡◌, ◌⊎◌, inl, inr, ℕ, suc, ◌-◌, ◌≤◌, ℤ, pos, neg_ℤ, ◌+ℤ◌, ◌-ℤ◌, ◌*ℤ◌, ◌≤ℤ◌, List, sym, ap, subst, arith}
 use Rattle.std.proofs.lemmas.Int.{ints}
 use Rattle.std.specs.Prelude.{unsigned_abs}
-use Rattle.pt_base.specs.ClosedWalk.{IsClosedWalk, point_at}
-use Rattle.pt_base.specs.declared.point.Point.{Point}
+use Rattle.pt_core.specs.ClosedWalk.{IsClosedWalk, point_at}
+use Rattle.pt_core.specs.declared.point.Point.{Point}
 use Rattle.straight_paths.specs.Straight.{IsPossible, StaysWithin}
 use Rattle.outline_distance.proofs.Levels.{passed, compared}
 use Rattle.outline_distance.proofs.Segments.{half_line}

@@ -2,11 +2,11 @@
 use Rattle.std.proofs.Common.{◌≡◌, ℕ, ◌+◌, ◌*◌, ◌≤◌, ℤ, pos, ◌+ℤ◌, ◌-ℤ◌, ◌*ℤ◌, List, sym, subst, arith}
 use Rattle.std.proofs.lemmas.Int.{ints}
 use Rattle.std.specs.Prelude.{unsigned_abs}
-use Rattle.pt_base.specs.ClosedWalk.{IsClosedWalk, point_at}
-use Rattle.pt_base.specs.declared.point.Point.{Point}
-use Rattle.pt_base.proofs.Terms.{same_value}
-use Rattle.pt_base.proofs.Terms.Term.{num, plus, less, times}
-use Rattle.pt_base.proofs.Sizes.{product_most}
+use Rattle.pt_core.specs.ClosedWalk.{IsClosedWalk, point_at}
+use Rattle.pt_core.specs.declared.point.Point.{Point}
+use Rattle.pt_core.proofs.Terms.{same_value}
+use Rattle.pt_core.proofs.Terms.Term.{num, plus, less, times}
+use Rattle.pt_core.proofs.Sizes.{product_most}
 use Rattle.straight_paths.specs.Straight.{IsPossible}
 use Rattle.outline_distance.specs.Distance.{IsCloseTo, PassesBy, point_place}
 use Rattle.outline_distance.proofs.Ways.{IsNearWay, near_way}

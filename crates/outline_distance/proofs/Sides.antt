@@ -4,10 +4,10 @@ use Rattle.std.proofs.lemmas.Bool.{lt-ltb, le-ltb, cases_lt}
 use Rattle.std.proofs.lemmas.Int.{ints}
 use Rattle.std.proofs.Math.Nat.{mod-eq_of_lt, mod_self}
 use Rattle.std.specs.Prelude.{nat_lt, slice_index, slice_index_or, unsigned_abs}
-use Rattle.pt_base.specs.ClosedWalk.{IsClosedWalk, point_at, origin}
-use Rattle.pt_base.specs.Floor.{floor_of}
-use Rattle.pt_base.specs.declared.point.Point.{Point}
-use Rattle.pt_base.proofs.Sizes.{product_most}
+use Rattle.pt_core.specs.ClosedWalk.{IsClosedWalk, point_at, origin}
+use Rattle.pt_core.specs.Floor.{floor_of}
+use Rattle.pt_core.specs.declared.point.Point.{Point}
+use Rattle.pt_core.proofs.Sizes.{product_most}
 use Rattle.straight_paths.proofs.Cyclic.{lap_on}
 use Rattle.straight_paths.specs.Straight.{IsPossible}
 use Rattle.polygon_optimal.specs.Polygon.{IsSegment}

@@ -5,14 +5,14 @@ use Rattle.std.proofs.lemmas.Bool.{cases_eq, cases_lt, eq-eqb, false≢true, leb
 use Rattle.std.proofs.lemmas.Nat.{mul-le}
 use Rattle.std.proofs.Math.Nat.{lt-mul-div-succ}
 use Rattle.std.specs.Prelude.{unsigned_abs, if◌then◌else◌}
-use Rattle.pt_base.specs.Floor.{floor_of}
-use Rattle.pt_base.specs.Outlines.{end_of}
-use Rattle.pt_base.specs.declared.piece.Piece.{Piece}
-use Rattle.pt_base.specs.declared.piece.Piece.TheVariants.{Corner, Curve}
-use Rattle.pt_base.specs.declared.point.Point.{Point}
-use Rattle.pt_base.proofs.Sizes.{product_most}
-use Rattle.pt_base.proofs.Terms.{same_value}
-use Rattle.pt_base.proofs.Terms.Term.{num, plus, less, times, opposite}
+use Rattle.pt_core.specs.Floor.{floor_of}
+use Rattle.pt_core.specs.Outlines.{end_of}
+use Rattle.pt_core.specs.declared.piece.Piece.{Piece}
+use Rattle.pt_core.specs.declared.piece.Piece.TheVariants.{Corner, Curve}
+use Rattle.pt_core.specs.declared.point.Point.{Point}
+use Rattle.pt_core.proofs.Sizes.{product_most}
+use Rattle.pt_core.proofs.Terms.{same_value}
+use Rattle.pt_core.proofs.Terms.Term.{num, plus, less, times, opposite}
 use Rattle.corner_smooth.specs.Corner.{al_of, area_of, control_of, curve_of, grid_distance_of, is_corner, middle_of, part_of, piece_of, sharpness_by, sharpness_of, signed_area_of}
 use Rattle.curve_join.specs.Outline.{first_of, second_of, is_curve}
 use Rattle.outline_distance.specs.Distance.{LinePassesBy, eightfold_middle, multiple}

@@ -6,9 +6,9 @@ use Rattle.std.proofs.lemmas.List.{get_or-take, length-take}
 use Rattle.std.proofs.lemmas.List.Elements.{All-get_or}
 use Rattle.std.proofs.lemmas.Nat.{mul-le}
 use Rattle.std.specs.Prelude.{slice_range, unsigned_abs}
-use Rattle.pt_base.specs.declared.point.Point.{Point}
-use Rattle.pt_base.proofs.Terms.{same_value}
-use Rattle.pt_base.proofs.Terms.Term.{num, plus, less, times, opposite}
+use Rattle.pt_core.specs.declared.point.Point.{Point}
+use Rattle.pt_core.proofs.Terms.{same_value}
+use Rattle.pt_core.proofs.Terms.Term.{num, plus, less, times, opposite}
 use Rattle.curve_join.specs.Bends.{bend_at, bends_of}
 use Rattle.curve_join.specs.Cubic.{touching_of}
 use Rattle.curve_join.specs.Join.{FollowsSide, MayJoin, cubic_at, inner_bends, no_bend}

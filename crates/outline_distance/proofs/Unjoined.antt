@@ -7,11 +7,11 @@ use Rattle.std.proofs.lemmas.Option.{get_or_from_slice_get}
 use Rattle.std.proofs.Math.Nat.{mod-eq_of_lt}
 use Rattle.std.specs.List.{All}
 use Rattle.std.specs.Prelude.{slice_index, slice_index_or, slice_range}
-use Rattle.pt_base.specs.ClosedWalk.{origin, point_at}
-use Rattle.pt_base.specs.declared.piece.Piece.{Piece}
-use Rattle.pt_base.specs.declared.piece.Piece.TheVariants.{Corner}
-use Rattle.pt_base.specs.declared.point.Point.{Point}
-use Rattle.pt_base.specs.declared.settings.Settings.{Settings}
+use Rattle.pt_core.specs.ClosedWalk.{origin, point_at}
+use Rattle.pt_core.specs.declared.piece.Piece.{Piece}
+use Rattle.pt_core.specs.declared.piece.Piece.TheVariants.{Corner}
+use Rattle.pt_core.specs.declared.point.Point.{Point}
+use Rattle.pt_core.specs.declared.settings.Settings.{Settings}
 use Rattle.corner_smooth.specs.Corner.{corner_piece, piece_of, pieces_of}
 use Rattle.least_walk.specs.LeastWalk.{IsWalk, Step, steps_from, steps_of}
 use Rattle.curve_join.specs.Bends.{bends_of}

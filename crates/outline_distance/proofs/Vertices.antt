@@ -2,8 +2,8 @@
 use Rattle.std.proofs.Common.{ℕ, ◌<◌, ◌≤◌, ℤ, pos, ◌+ℤ◌, ◌-ℤ◌, ◌*ℤ◌, List, length, slice_index, slice_index_or, sym, subst, arith}
 use Rattle.std.proofs.lemmas.Int.{ints}
 use Rattle.std.specs.Prelude.{unsigned_abs}
-use Rattle.pt_base.specs.ClosedWalk.{point_at, origin}
-use Rattle.pt_base.specs.declared.point.Point.{Point}
+use Rattle.pt_core.specs.ClosedWalk.{point_at, origin}
+use Rattle.pt_core.specs.declared.point.Point.{Point}
 use Rattle.vertex_adjust.specs.Vertex.{AreVertices, IsCandidate, moved}
 use Rattle.vertex_adjust.specs.declared.shift.Shift.{Shift}
 use Rattle.outline_distance.specs.Distance.{IsCloseTo, point_place}

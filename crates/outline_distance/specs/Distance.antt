@@ -1,7 +1,7 @@
 -- How far places are from one another: the greater of how far across and how far up. Places are in units
 -- of 1/1024 pixel.
 use Rattle.std.specs.Prelude.{ℕ, ◌+◌, ◌*◌, ◌≤◌, ℤ, pos, ◌+ℤ◌, ◌-ℤ◌, ◌*ℤ◌, unsigned_abs}
-use Rattle.pt_base.specs.declared.point.Point.{Point}
+use Rattle.pt_core.specs.declared.point.Point.{Point}
 
 -- a point of a path, as a place
 abbrev pub point_place : Point → Point

@@ -1,6 +1,6 @@
 -- Polygons that outlines may go round.
 use Rattle.std.specs.Prelude.{ℕ, ◌⊎◌, List}
-use Rattle.pt_base.specs.declared.point.Point.{Point}
+use Rattle.pt_core.specs.declared.point.Point.{Point}
 use Rattle.polygon_optimal.specs.Polygon.{IsPolygon}
 use Rattle.cyclic_optimal.specs.Cyclic.{IsCyclicPolygon}
 

@@ -1,10 +1,10 @@
 //! What follows from the definitions alone.
 ghost use Rattle.std.specs.Prelude.{◌≡◌, false, ℕ, ◌+◌, ◌*◌, ◌<◌, ◌≤◌, ◌+ℤ◌, List, length, slice_index, slice_index_or, slice_range};
-ghost use Rattle.pt_base.specs.ClosedWalk.{IsClosedWalk, point_at, origin};
-ghost use Rattle.pt_base.specs.declared.point.Point.{Point};
-ghost use Rattle.pt_base.specs.declared.piece.Piece.TheVariants.{Corner, Curve};
-ghost use Rattle.pt_base.specs.declared.piece.Piece.{Piece};
-ghost use Rattle.pt_base.specs.declared.settings.Settings.{Settings};
+ghost use Rattle.pt_core.specs.ClosedWalk.{IsClosedWalk, point_at, origin};
+ghost use Rattle.pt_core.specs.declared.point.Point.{Point};
+ghost use Rattle.pt_core.specs.declared.piece.Piece.TheVariants.{Corner, Curve};
+ghost use Rattle.pt_core.specs.declared.piece.Piece.{Piece};
+ghost use Rattle.pt_core.specs.declared.settings.Settings.{Settings};
 ghost use Rattle.straight_paths.specs.Straight.{IsPossible, IsNear, vector_of};
 ghost use Rattle.corner_smooth.specs.Corner.{control_of, middle_of, piece_of, pieces_of};
 ghost use Rattle.vertex_adjust.specs.Vertex.{AreVertices, segment_end_of};

@@ -1,7 +1,7 @@
 //! What a format writes around the numbers of its strokes.
 ghost use Rattle.std.specs.Prelude.{◌≡◌, ◌++◌, ℕ, List, OnOk};
 
-use pt_base::NoMemory;
+use pt_core::NoMemory;
 
 /// Where a format writes something that is no number.
 #[derive(Clone, Copy, Debug)]

@@ -3,7 +3,7 @@ ghost use Rattle.std.specs.Prelude.{◌≡◌, ◌≤◌, ◌++◌, OnOk};
 ghost use Rattle.outline_pen.specs.Shapes.{curve_text, line_text, outline_text, piece_text, pieces_text, start_text};
 
 use crate::pen::{Mark, Pen, put_mark};
-use pt_base::{NoMemory, Piece, Point, end_of, put_place, put_step, start_of};
+use pt_core::{NoMemory, Piece, Point, end_of, put_place, put_step, start_of};
 
 /// Appends a closed subpath.
 pub(crate) fn put_outline<P: Pen>(

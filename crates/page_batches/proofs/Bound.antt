@@ -2,7 +2,7 @@
 use Rattle.std.proofs.Common.{◌≡◌, inl, inr, ℕ, zero, suc, ◌+◌, Option, None, Some, List, [], ◌∷◌, ◌++◌, length, take, refl, sym, ◌∙◌, ap, append_assoc}
 use Rattle.std.specs.List.{concat}
 use Rattle.std.proofs.lemmas.List.{append-nil}
-use Rattle.pt_base.specs.Documents.{Document, Documents, IsCutOff, with_bytes, with_open, with_whole}
+use Rattle.pt_core.specs.Documents.{Document, Documents, IsCutOff, with_bytes, with_open, with_whole}
 use Rattle.run_output.specs.Parts.{IsCutIn, end_part, file_text, page_pieces, pages_text, prolog_text, trailer_text, whole, with_part}
 use Rattle.run_output.specs.declared.part.Binding.TheVariants.{Together}
 use Rattle.page_batches.specs.Items.{end_items, page_items, with_items}

@@ -1,9 +1,9 @@
 -- Items carried out one after another.
 use Rattle.std.proofs.Common.{◌≡◌, not, Bool, true, ℕ, List, [], ◌∷◌, ◌++◌, Option, inl, inr, refl, sym, ◌∙◌, ap, subst, append_assoc}
 use Rattle.std.proofs.lemmas.List.{append-nil}
-use Rattle.pt_base.specs.Counts.{Rose, next_count}
-use Rattle.pt_base.specs.Documents.{Documents}
-use Rattle.pt_base.specs.Failures.{Failures}
+use Rattle.pt_core.specs.Counts.{Rose, next_count}
+use Rattle.pt_core.specs.Documents.{Documents}
+use Rattle.pt_core.specs.Failures.{Failures}
 use Rattle.run_output.specs.Messages.{not_written, out_of_memory}
 use Rattle.run_output.specs.Parts.{IsCutIn, with_part}
 use Rattle.run_output.specs.declared.status.Status.{Status}

@@ -1,7 +1,7 @@
 -- A file of two pages of 8 by 8 black pixels, whose pages are bound together or apart.
 use Rattle.std.proofs.Common.{◌≡◌, ℕ, true, false, None, Some, List, [], ◌∷◌, ◌++◌, refl, codes}
 use Rattle.std.specs.Fmt.{digits}
-use Rattle.pt_base.specs.Documents.{no_documents}
+use Rattle.pt_core.specs.Documents.{no_documents}
 use Rattle.run_output.specs.Messages.{trailing_line}
 use Rattle.run_output.specs.Names.{dash}
 use Rattle.run_output.specs.Parts.{page_part}

@@ -2,8 +2,8 @@
 use Rattle.std.proofs.Common.{◌≡◌, ◌≤◌, ◌⊎◌, ℕ, List, [], ◌∷◌, length, take, inl, inr, refl, sym, ◌∙◌, ap, arith}
 use Rattle.std.specs.List.{concat}
 use Rattle.std.proofs.lemmas.List.{take_all}
-use Rattle.pt_base.specs.Counts.{Rose}
-use Rattle.pt_base.specs.Documents.{IsSaid, with_bytes}
+use Rattle.pt_core.specs.Counts.{Rose}
+use Rattle.pt_core.specs.Documents.{IsSaid, with_bytes}
 use Rattle.pt_base.proofs.Writing.{with_bytes-none, with_bytes-with_bytes}
 use Rattle.page_batches.specs.Outcome.{AreFronts, AreSaid}
 use Rattle.run_output.specs.Told.{IsMessage, Told}

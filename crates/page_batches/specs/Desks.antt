@@ -1,6 +1,6 @@
 -- The outside of a run as one value.
 use Rattle.std.specs.Prelude.{◌≡◌, ◌≤◌, true}
-use Rattle.pt_base.specs.declared.sink.Sink.{Ghosts as SinkGhosts}
+use Rattle.pt_core.specs.declared.sink.Sink.{Ghosts as SinkGhosts}
 use Rattle.page_batches.specs.declared.desk.Desk.{Desk}
 use Rattle.run_output.specs.Told.{Sinks, sinks_of}
 

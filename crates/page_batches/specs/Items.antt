@@ -1,6 +1,6 @@
 -- What a run does, as a list of items in order. An item is done without taking memory.
 use Rattle.std.specs.Prelude.{ℕ, zero, suc, ◌+◌, Bool, true, false, not, List, [], ◌∷◌, ◌++◌, map, Option}
-use Rattle.pt_base.specs.Documents.{Documents}
+use Rattle.pt_core.specs.Documents.{Documents}
 use Rattle.run_output.specs.Parts.{Part, end_part, page_part, whole, with_part}
 use Rattle.run_output.specs.declared.part.Binding.{Binding}
 use Rattle.run_output.specs.declared.part.Binding.TheVariants as binding

@@ -1,7 +1,7 @@
 -- What a run has done, against the items that it was to do.
 use Rattle.std.specs.Prelude.{◌≡◌, ℕ, ◌≤◌, ◌⊎◌, List, [], ◌∷◌, ◌++◌, length, take, Result, Ok, Err}
-use Rattle.pt_base.specs.Counts.{Rose}
-use Rattle.pt_base.specs.Failures.{after_err}
+use Rattle.pt_core.specs.Counts.{Rose}
+use Rattle.pt_core.specs.Failures.{after_err}
 use Rattle.run_output.specs.Messages.{not_written, out_of_memory}
 use Rattle.run_output.specs.Parts.{IsCutIn, Part}
 use Rattle.run_output.specs.Told.{IsMessage, Sinks, Told}

@@ -16,7 +16,7 @@ use crate::laws::held_items_are_one;
 use crate::plan::Plan;
 use bit_image::Bitmap;
 use page_workers::{PageJob, trace_all};
-use pt_base::{Gate, NoMemory, Outputs, Sink, SinkFault};
+use pt_core::{Gate, NoMemory, Outputs, Sink, SinkFault};
 use run_output::{Binding, Status, say_out_of_memory, say_trailing};
 use std::alloc::Global;
 use std::marker::Model;

@@ -7,7 +7,7 @@ ghost use Rattle.page_batches.specs.Items.Item.{Write};
 ghost use Rattle.page_batches.specs.Outcome.{AreCarriedOut, HasEnded, IsUnwritten};
 ghost use Rattle.page_batches.specs.Desks.{Keeps, sinks_at};
 
-use pt_base::{Outputs, Sink, SinkFault};
+use pt_core::{Outputs, Sink, SinkFault};
 use run_output::{Binding, Status, say_not_written, write_end_part, write_page_part};
 
 /// The outputs, and the sink for messages, of a run.

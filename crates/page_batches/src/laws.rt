@@ -2,8 +2,8 @@
 ghost use Rattle.std.specs.Prelude.{◌≡◌, ◌++◌, ◌∷◌, ◌⊎◌, ℕ, List, Option, length};
 ghost use Rattle.std.specs.List.{concat};
 ghost use Rattle.bit_image.specs.Page.{Page};
-ghost use Rattle.pt_base.specs.Counts.{Rose};
-ghost use Rattle.pt_base.specs.Documents.{Documents, IsCutOff, with_bytes, with_open, with_whole};
+ghost use Rattle.pt_core.specs.Counts.{Rose};
+ghost use Rattle.pt_core.specs.Documents.{Documents, IsCutOff, with_bytes, with_open, with_whole};
 ghost use Rattle.run_output.specs.Parts.{IsCutIn, file_text, pages_text, prolog_text, whole, with_part};
 ghost use Rattle.run_output.specs.declared.part.Binding.{Binding};
 ghost use Rattle.page_batches.specs.Held.{AreHeld, Held};

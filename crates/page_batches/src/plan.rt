@@ -2,7 +2,7 @@
 ghost use Rattle.std.specs.Prelude.{◌≤◌};
 
 use page_workers::PageJob;
-use pt_base::Gate;
+use pt_core::Gate;
 use run_output::Binding;
 use std::alloc::Global;
 use std::thread::Threads;

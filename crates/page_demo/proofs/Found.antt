@@ -2,8 +2,8 @@
 use Rattle.std.proofs.Common.{ℕ, zero, suc, ◌+◌, ◌*◌, List, [], ◌∷◌, length, refl}
 use Rattle.std.specs.List.{AllZip, concat}
 use Rattle.bit_image.specs.Page.{IsPage, Page}
-use Rattle.pt_base.specs.declared.settings.Settings.{Settings}
-use Rattle.page_trace.specs.Document.{CanWrite}
+use Rattle.pt_core.specs.declared.settings.Settings.{Settings}
+use Rattle.pt_core.specs.Needs.{CanWrite}
 use Rattle.page_trace.proofs.Exists.{document_found, trace_found}
 use Rattle.page_demo.specs.declared.page.TheConstants.{BARS, RECTANGLES}
 use Rattle.page_demo.specs.Generator.{state_after}

@@ -4,7 +4,7 @@ use Rattle.std.specs.Global.{Vec}
 use Rattle.std.specs.List.{AllZip, concat}
 use Rattle.std.proofs.lemmas.List.Concat.{flat_map-cons}
 use Rattle.bit_image.specs.Page.{Page}
-use Rattle.pt_base.specs.declared.settings.Settings.{Settings}
+use Rattle.pt_core.specs.declared.settings.Settings.{Settings}
 use Rattle.page_demo.specs.Line.{IsDemoLine, IsDemoText}
 use Rattle.page_demo.specs.Picture.{pages_from}
 

@@ -1,8 +1,8 @@
 -- A page has one line, and a number of pages has one text.
 use Rattle.std.proofs.Common.{◌≡◌, ℕ, List, [], ◌∷◌, length, refl, sym, ◌∙◌, ap}
 use Rattle.std.specs.List.{AllZip, concat}
-use Rattle.pt_base.specs.declared.settings.Settings.{Settings}
-use Rattle.pt_base.specs.declared.trace.Trace.{Trace}
+use Rattle.pt_core.specs.declared.settings.Settings.{Settings}
+use Rattle.pt_core.specs.declared.trace.Trace.{Trace}
 use Rattle.bit_image.specs.Page.{Page}
 use Rattle.page_trace.proofs.OneTrace.{one_document, one_trace}
 use Rattle.page_demo.specs.Line.{IsDemoLine, IsDemoText, demo_line}

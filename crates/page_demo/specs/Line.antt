@@ -1,10 +1,11 @@
 -- The text of the demo: a line of counts for each page.
 use Rattle.std.specs.Prelude.{◌≡◌, ℕ, List, ◌++◌, codes, decimal, length, sum_by}
 use Rattle.std.specs.List.{AllZip, concat}
-use Rattle.pt_base.specs.declared.settings.Settings.{Settings}
-use Rattle.pt_base.specs.declared.trace.Trace.{Trace}
+use Rattle.pt_core.specs.declared.settings.Settings.{Settings}
+use Rattle.pt_core.specs.declared.trace.Trace.{Trace}
 use Rattle.bit_image.specs.Page.{Page}
-use Rattle.page_trace.specs.Document.{CanTrace, CanWrite, IsDocument}
+use Rattle.page_trace.specs.Document.{IsDocument}
+use Rattle.pt_core.specs.Needs.{CanTrace, CanWrite}
 use Rattle.page_trace.specs.Trace.{IsTrace}
 use Rattle.page_demo.specs.Picture.{pages_from}
 

@@ -1,13 +1,13 @@
 //! The text of the demo.
 ghost use Rattle.std.specs.Prelude.{◌≡◌, ◌≤◌, ◌++◌, flat_map, IfOk, OnOk};
-ghost use Rattle.page_trace.specs.Document.{CanTrace, CanWrite};
+ghost use Rattle.pt_core.specs.Needs.{CanTrace, CanWrite};
 ghost use Rattle.page_demo.specs.Line.{IsDemoText};
 
 use crate::generator::Generator;
 use crate::line::LineJob;
 use crate::page::next_pages;
 use page_workers::trace_all;
-use pt_base::{Gate, NoMemory, Settings};
+use pt_core::{Gate, NoMemory, Settings};
 use std::alloc::Global;
 use std::thread::Threads;
 

@@ -1,7 +1,7 @@
 //! What follows from the definitions alone.
 ghost use Rattle.std.specs.Prelude.{◌≡◌, ℕ, Bool, List};
-ghost use Rattle.pt_base.specs.declared.settings.Settings.{Settings};
-ghost use Rattle.page_trace.specs.Document.{CanWrite};
+ghost use Rattle.pt_core.specs.declared.settings.Settings.{Settings};
+ghost use Rattle.pt_core.specs.Needs.{CanWrite};
 ghost use Rattle.page_demo.specs.Line.{IsDemoText};
 
 /// There is at most one text of so many pages under some settings.

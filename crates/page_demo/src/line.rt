@@ -5,7 +5,7 @@ ghost use Rattle.page_demo.specs.Line.{demo_line};
 use bit_image::Bitmap;
 use page_trace::{document, trace};
 use page_workers::PageJob;
-use pt_base::{NoMemory, Piece, Polygon, Sequence, Settings, Trace, put_number};
+use pt_core::{NoMemory, Piece, Polygon, Sequence, Settings, Trace, put_number};
 use std::alloc::Global;
 use std::marker::Model;
 
@@ -19,7 +19,7 @@ pub(crate) struct LineJob {
 
 impl Model for LineJob {
     ghost use Rattle.page_demo.specs.Line.{CanCount};
-    ghost use Rattle.pt_base.specs.declared.settings.Settings.{Settings};
+    ghost use Rattle.pt_core.specs.declared.settings.Settings.{Settings};
 
     ghost Value = { Settings };
 

@@ -8,7 +8,7 @@ use crate::bar::Bar;
 use crate::generator::Generator;
 use crate::rectangle::Rectangle;
 use bit_image::Bitmap;
-use pt_base::NoMemory;
+use pt_core::NoMemory;
 use std::alloc::Global;
 
 /// The width of each page, in pixels.

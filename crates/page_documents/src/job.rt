@@ -1,12 +1,13 @@
 //! The document of a page, as a job of the workers.
 ghost use Rattle.std.specs.Prelude.{◌≡◌, ℕ, List};
 ghost use Rattle.bit_image.specs.Page.{IsPage, Page};
-ghost use Rattle.page_trace.specs.Document.{CanWrite, IsDocument};
+ghost use Rattle.page_trace.specs.Document.{IsDocument};
+ghost use Rattle.pt_core.specs.Needs.{CanWrite};
 
 use bit_image::Bitmap;
 use page_trace::{document, pages_have_documents};
 use page_workers::PageJob;
-use pt_base::{NoMemory, Settings};
+use pt_core::{NoMemory, Settings};
 use std::alloc::Global;
 use std::marker::Model;
 
@@ -17,8 +18,8 @@ pub struct DocumentJob {
 }
 
 impl Model for DocumentJob {
-    ghost use Rattle.page_trace.specs.Document.{CanWrite};
-    ghost use Rattle.pt_base.specs.declared.settings.Settings.{Settings};
+    ghost use Rattle.pt_core.specs.Needs.{CanWrite};
+    ghost use Rattle.pt_core.specs.declared.settings.Settings.{Settings};
 
     ghost Value = { Settings };
 

@@ -1,6 +1,6 @@
 //! A gate that shows whether threads share the pages as they go.
 
-use pt_base::Gate;
+use pt_core::Gate;
 use std::sync::atomic::{AtomicU64, Ordering};
 use std::thread;
 

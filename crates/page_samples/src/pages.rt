@@ -3,7 +3,7 @@ ghost use Rattle.std.specs.Prelude.{◌≡◌};
 ghost use Rattle.page_samples.specs.declared.pages.NoPage.{NoPage};
 
 use bit_image::Bitmap;
-use pt_base::{LONGEST_SIDE, NoMemory};
+use pt_core::{LONGEST_SIDE, NoMemory};
 use std::alloc::Global;
 
 /// Why there is no such page.

@@ -1,7 +1,7 @@
 //! Possible segments by the criterion over all triples, word for word, in whole numbers.
 ghost use Rattle.std.specs.Prelude.{◌≤◌, ◌<◌, length};
 
-use pt_base::Point;
+use pt_core::Point;
 
 /// Whether the segment from point `i` to point `j` is possible.
 pub fn is_possible(points: &[Point], i: usize, j: usize) -> bool {

@@ -1,5 +1,5 @@
 //! How far possible segments reach, by cones that walk along every point of the path.
-use pt_base::{MOST_STEPS, NoMemory, Point};
+use pt_core::{MOST_STEPS, NoMemory, Point};
 use std::alloc::Global;
 
 /// How far one point is from another.

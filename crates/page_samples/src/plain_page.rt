@@ -1,7 +1,7 @@
 //! Pages of one entry a pixel.
 
 use bit_image::Bitmap;
-use pt_base::NoMemory;
+use pt_core::NoMemory;
 use std::alloc::Global;
 
 /// A page that keeps one entry for each pixel, row after row from the lowest up; `true` is black.

@@ -1,7 +1,8 @@
 //! What a run in memory is made of, and what it left.
 ghost use Rattle.std.specs.Prelude.{◌≡◌, IfOk, string_bytes};
 
-use pt_base::{MemOutputs, NamedBytes, NoMemory};
+use pt_base::{MemOutputs, NamedBytes};
+use pt_core::NoMemory;
 use std::alloc::Global;
 
 /// One call or none.

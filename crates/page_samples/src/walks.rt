@@ -1,6 +1,6 @@
 //! Closed walks along pixel edges.
 
-use pt_base::{NoMemory, Point};
+use pt_core::{NoMemory, Point};
 use std::alloc::Global;
 
 /// The path round a black rectangle at the lower left corner of a page.

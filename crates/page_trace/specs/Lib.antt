@@ -12,17 +12,9 @@
 --   IsTrace: a trace has the page's paths and polygons, the adjusted vertices of each polygon
 pub mod Trace
 -- The document of a page: all that is said of a backend stands here, but the suffix of its documents' names.
---   backend_word: the word of a backend
 --   IsTextUnder: the text is that of a trace under a backend
 --   IsTextOf: the text is that of a trace
 --   IsDocumentUnder: the text is the page's under a backend
 --   IsDocument: the text is the page's document
 --   IsDrawn: the backend draws a whole trace
---   CanTrace: what a whole trace needs of the settings
---   CanDraw: what a text in units needs besides
---   CanWriteUnder: what a document needs of the settings, under a backend
---   CanWrite: what a document needs of the settings
 pub mod Document
--- What pages can be read and traced under.
---   IsOffered: pages can be read, and documents written, under the settings
-pub mod Offered

@@ -1,10 +1,10 @@
 //! The document of a page: all that a backend is stands here, but the suffix of its documents' names.
-ghost use Rattle.std.specs.Prelude.{◌≡◌, ℕ, false, IfNone, IfOk, IfSome};
+ghost use Rattle.std.specs.Prelude.{◌≡◌, ℕ, false, IfOk};
 ghost use Rattle.outline_check.specs.Verdicts.{IsVerdict};
 ghost use Rattle.outline_check.specs.declared.verdict.Verdict.TheVariants.{Right};
-ghost use Rattle.page_trace.specs.Document.{CanWrite, IsDocument, IsDocumentUnder, IsDrawn, IsTextOf, backend_word};
-ghost use Rattle.pt_base.specs.declared.settings.Backend.{Backend};
-ghost use Rattle.pt_base.specs.declared.settings.Backend.TheVariants.{Proofs};
+ghost use Rattle.page_trace.specs.Document.{IsDocument, IsDocumentUnder, IsDrawn, IsTextOf};
+ghost use Rattle.pt_core.specs.Needs.{CanWrite};
+ghost use Rattle.pt_core.specs.declared.settings.Backend.TheVariants.{Proofs};
 
 use crate::paths::kept_paths;
 use crate::tracing::{polygons_alone, trace};
@@ -12,27 +12,10 @@ use bit_image::Bitmap;
 use dxf_geojson::{dxf, geojson};
 use eps_backend::{eps, ps_body};
 use outline_check::proofs;
-use pt_base::{Backend, NoMemory, Settings, Trace, points, polygons};
+use pt_base::{points, polygons};
+use pt_core::{Backend, NoMemory, Settings, Trace};
 use std::alloc::Global;
 use svg_backend::svg;
-
-/// The backend of this word.
-pub fn backend_of(word: &str) -> Option<Backend>
-    ensures named { IfSome result (λ backend. word.now ≡ backend_word backend) }
-    ensures unnamed { IfNone result ((backend : Backend) → word.now ≡ backend_word backend → ⊥) }
-{
-    match word {
-        "eps" => Some(Backend::Eps),
-        "ps" => Some(Backend::Ps),
-        "svg" => Some(Backend::Svg),
-        "dxf" => Some(Backend::Dxf),
-        "geojson" => Some(Backend::GeoJson),
-        "points" => Some(Backend::Points),
-        "polygons" => Some(Backend::Polygons),
-        "proofs" => Some(Backend::Proofs),
-        _ => None,
-    }
-}
 
 /// The text of a page under the settings' backend.
 ///

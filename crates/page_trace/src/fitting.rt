@@ -1,13 +1,13 @@
 //! The polygons of paths, with their adjusted vertices.
 ghost use Rattle.std.specs.Prelude.{◌≤◌, ◌+◌, ◌^◌, All, IfOk, zip, length};
 ghost use Rattle.std.specs.List.{AllZip};
-ghost use Rattle.pt_base.specs.ClosedWalk.{IsClosedWalk};
-ghost use Rattle.pt_base.specs.OnPage.{AreOnPage};
+ghost use Rattle.pt_core.specs.ClosedWalk.{IsClosedWalk};
+ghost use Rattle.pt_core.specs.OnPage.{AreOnPage};
 ghost use Rattle.corner_smooth.specs.Corner.{IsNearWidePage};
 ghost use Rattle.page_trace.specs.Trace.{AreVerticesOf, IsPolygonOf};
 
 use crate::polygons::measured;
-use pt_base::{NoMemory, Path, Point, Polygon, Sequence, Settings};
+use pt_core::{NoMemory, Path, Point, Polygon, Sequence, Settings};
 use std::alloc::Global;
 use vertex_adjust::adjust_by;
 

@@ -6,7 +6,7 @@
 //!
 //! ```rust
 //! use page_trace::document;
-//! use pt_base::{Backend, Policy, Settings};
+//! use pt_core::{Backend, Policy, Settings};
 //!
 //! // A page as SVG, under the settings that the program has by itself.
 //! let settings = Settings {
@@ -34,6 +34,6 @@ mod paths;
 mod polygons;
 pub mod tracing;
 
-pub use documents::{backend_of, document};
+pub use documents::document;
 pub use laws::pages_have_documents;
 pub use tracing::trace;

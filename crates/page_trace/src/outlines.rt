@@ -3,11 +3,11 @@ ghost use Rattle.std.specs.Prelude.{◌≡◌, ◌≤◌, ◌^◌, All, IfOk, le
 ghost use Rattle.std.specs.List.{AllZip};
 ghost use Rattle.corner_smooth.specs.Corner.{IsNearWidePage};
 ghost use Rattle.page_trace.specs.Trace.{IsOutlineOf, tolerance_of};
-ghost use Rattle.page_trace.specs.Document.{CanTrace};
+ghost use Rattle.pt_core.specs.Needs.{CanTrace};
 
 use corner_smooth::smooth;
 use curve_join::join;
-use pt_base::{NoMemory, Piece, Point, Sequence, Settings};
+use pt_core::{NoMemory, Piece, Point, Sequence, Settings};
 use std::alloc::Global;
 
 /// The outline round each list of vertices.

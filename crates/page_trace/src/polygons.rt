@@ -1,14 +1,14 @@
 //! The polygons of paths.
 ghost use Rattle.std.specs.Prelude.{◌≡◌, All, IfOk};
 ghost use Rattle.std.specs.List.{AllZip};
-ghost use Rattle.pt_base.specs.ClosedWalk.{IsClosedWalk};
-ghost use Rattle.pt_base.specs.OnPage.{AreOnPage};
+ghost use Rattle.pt_core.specs.ClosedWalk.{IsClosedWalk};
+ghost use Rattle.pt_core.specs.OnPage.{AreOnPage};
 ghost use Rattle.page_trace.specs.Trace.{IsPolygonOf};
 
 use cyclic_optimal::cyclic_polygon_by;
 use polygon_optimal::polygon_with_moments;
 use prefix_moments::Moments;
-use pt_base::{NoMemory, Path, Polygon, Settings};
+use pt_core::{NoMemory, Path, Polygon, Settings};
 use std::alloc::Global;
 
 /// The polygon of each path.

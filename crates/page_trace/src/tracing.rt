@@ -2,9 +2,9 @@
 ghost use Rattle.std.specs.Prelude.{◌≡◌, ◌<◌, ◌^◌, [], All, IfOk, OnOk, length};
 ghost use Rattle.bit_image.specs.Page.{IsPage};
 ghost use Rattle.outline_check.specs.Texts.{IsInPage};
-ghost use Rattle.pt_base.specs.ClosedWalk.{IsClosedWalk};
-ghost use Rattle.pt_base.specs.OnPage.{AreOnPage};
-ghost use Rattle.page_trace.specs.Document.{CanTrace};
+ghost use Rattle.pt_core.specs.ClosedWalk.{IsClosedWalk};
+ghost use Rattle.pt_core.specs.OnPage.{AreOnPage};
+ghost use Rattle.pt_core.specs.Needs.{CanTrace};
 ghost use Rattle.page_trace.specs.Trace.{HasPolygons, IsTrace};
 
 use crate::fitting::{Fitted, fit_all};
@@ -13,7 +13,7 @@ use crate::paths::kept_paths;
 use crate::polygons::best_polygons;
 use bit_image::Bitmap;
 use path_tree::group;
-use pt_base::{NoMemory, Sequence, Settings, Trace};
+use pt_core::{NoMemory, Sequence, Settings, Trace};
 use std::alloc::Global;
 
 /// The paths of a page that are no speckles, the polygon of each, its adjusted vertices, the

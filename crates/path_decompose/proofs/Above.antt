@@ -1,8 +1,8 @@
 -- The paths found so far that are above the limit, and the image that they leave.
 use Rattle.std.proofs.Common.{◌≡◌, ℕ, ◌<◌, List, [], ◌∷◌, ◌++◌, All, Option, None, ap, sym, subst, ◌∙◌}
 use Rattle.std.proofs.lemmas.List.Elements.{All-filter, filter-append}
-use Rattle.pt_base.specs.declared.path.Path.{Path}
-use Rattle.pt_base.specs.declared.policy.Policy.{Policy}
+use Rattle.pt_core.specs.declared.path.Path.{Path}
+use Rattle.pt_core.specs.declared.policy.Policy.{Policy}
 use Rattle.bit_image.specs.Image.{Image, Fits}
 use Rattle.bit_image.specs.Page.{Page}
 use Rattle.path_decompose.specs.Decomposition.{above, inverted, is_above, IsNextPath, IsDecomposed}

@@ -6,11 +6,11 @@ use Rattle.std.proofs.lemmas.Int.{ints}
 use Rattle.std.proofs.lemmas.List.{length-map, get_or-map}
 use Rattle.std.proofs.lemmas.List.Elements.{All-map}
 use Rattle.std.proofs.lemmas.Nat.{mul-le, mod_below}
-use Rattle.pt_base.specs.declared.point.Point.{Point}
-use Rattle.pt_base.specs.declared.path.Sign.{Sign}
-use Rattle.pt_base.specs.declared.policy.Policy.{Policy}
-use Rattle.pt_base.specs.ClosedWalk.{origin, point_at, IsNextTo, IsUnitStep, IsClosedWalk}
-use Rattle.pt_base.specs.declared.limits.TheConstants.{LONGEST_SIDE}
+use Rattle.pt_core.specs.declared.point.Point.{Point}
+use Rattle.pt_core.specs.declared.path.Sign.{Sign}
+use Rattle.pt_core.specs.declared.policy.Policy.{Policy}
+use Rattle.pt_core.specs.ClosedWalk.{origin, point_at, IsNextTo, IsUnitStep, IsClosedWalk}
+use Rattle.pt_core.specs.declared.limits.TheConstants.{LONGEST_SIDE}
 use Rattle.bit_image.specs.Image.{Image, Fits, south_west, differ}
 use Rattle.turn_policies.specs.declared.heading.Dir.{Dir}
 use Rattle.turn_policies.specs.declared.heading.Dir.TheVariants.{North, East, South, West}

@@ -2,7 +2,7 @@
 use Rattle.std.proofs.Common.{◌≡◌, ℕ, ◌+◌, ◌<◌, ◌≤◌, List, [], ◌∷◌, length, get_or, drop, refl, ap, add-one}
 use Rattle.std.proofs.Math.Seq.{drop-cons}
 use Rattle.std.proofs.lemmas.List.{drop_all}
-use Rattle.pt_base.specs.declared.point.Point.{Point}
+use Rattle.pt_core.specs.declared.point.Point.{Point}
 use Rattle.path_decompose.specs.Inside.{line_between, lines_to}
 
 pub lines_to-drop : (end from : Point) (rest : List Point) (i : ℕ) (d : Point) → i < length rest → lines_to end from (drop i rest) ≡ line_between from (get_or rest i d) ∷ lines_to end (get_or rest i d) (drop (i + 1) rest)

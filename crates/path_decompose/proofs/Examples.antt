@@ -1,8 +1,8 @@
 -- The definitions on small pages.
 use Rattle.std.proofs.Common.{◌≡◌, ℕ, Bool, true, false, pos, List, [], ◌∷◌, map, refl}
-use Rattle.pt_base.specs.declared.point.Point.{Point}
-use Rattle.pt_base.specs.declared.path.Sign.TheVariants.{Plus}
-use Rattle.pt_base.specs.declared.policy.Policy.TheVariants.{Left, Right, Minority}
+use Rattle.pt_core.specs.declared.point.Point.{Point}
+use Rattle.pt_core.specs.declared.path.Sign.TheVariants.{Plus}
+use Rattle.pt_core.specs.declared.policy.Policy.TheVariants.{Left, Right, Minority}
 use Rattle.bit_image.specs.Page.{Page, image_of}
 use Rattle.turn_policies.specs.declared.heading.Dir.{Dir}
 use Rattle.turn_policies.specs.declared.heading.Dir.TheVariants.{North, East, South, West}

@@ -1,9 +1,9 @@
 -- Each page has a decomposition: the search finds each start, and the walk from there comes back.
 use Rattle.std.proofs.Common.{◌≡◌, ◌≢◌, ℕ, zero, suc, ◌+◌, ◌*◌, ◌<◌, ◌≤◌, ◌⊎◌, Bool, true, false, Option, Some, None, List, [], ◌∷◌, map, refl, ap, ◌∙◌, inl, inr, arith}
 use Rattle.std.proofs.lemmas.Bool.{cases_Bool, cases_eq, cases_lt}
-use Rattle.pt_base.specs.declared.path.Path.{Path}
-use Rattle.pt_base.specs.declared.path.Sign.{Sign}
-use Rattle.pt_base.specs.declared.policy.Policy.{Policy}
+use Rattle.pt_core.specs.declared.path.Path.{Path}
+use Rattle.pt_core.specs.declared.path.Sign.{Sign}
+use Rattle.pt_core.specs.declared.policy.Policy.{Policy}
 use Rattle.bit_image.specs.Image.{Image, Fits}
 use Rattle.bit_image.specs.Page.{Page, IsPage, image_of}
 use Rattle.bit_image.specs.FirstBlack.{IsFirstBlack}

@@ -1,7 +1,7 @@
 -- The path that comes next, by its edges.
 use Rattle.std.proofs.Common.{◌≡◌, ℕ, map, ap, ◌∙◌}
-use Rattle.pt_base.specs.declared.path.Path.{Path}
-use Rattle.pt_base.specs.declared.policy.Policy.{Policy}
+use Rattle.pt_core.specs.declared.path.Path.{Path}
+use Rattle.pt_core.specs.declared.policy.Policy.{Policy}
 use Rattle.bit_image.specs.Image.{Image, Fits, differ}
 use Rattle.bit_image.specs.Page.{Page}
 use Rattle.path_decompose.specs.Line.{Line, is_edge, same_line}

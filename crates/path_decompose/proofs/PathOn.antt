@@ -2,11 +2,11 @@
 use Rattle.std.proofs.Common.{◌≡◌, ℕ, suc, ◌≤◌, ◌≤ℤ◌, pos, List, [], ◌∷◌, All, ap, sym, subst, ◌∙◌, arith}
 use Rattle.std.proofs.lemmas.Int.{ints}
 use Rattle.std.proofs.lemmas.List.Elements.{All-nil, All-cons}
-use Rattle.pt_base.specs.ClosedWalk.{point_at, IsClosedWalk}
-use Rattle.pt_base.specs.declared.path.Path.{Path}
-use Rattle.pt_base.specs.declared.policy.Policy.{Policy}
-use Rattle.pt_base.specs.declared.point.Point.{Point}
-use Rattle.pt_base.specs.declared.limits.TheConstants.{LONGEST_SIDE}
+use Rattle.pt_core.specs.ClosedWalk.{point_at, IsClosedWalk}
+use Rattle.pt_core.specs.declared.path.Path.{Path}
+use Rattle.pt_core.specs.declared.policy.Policy.{Policy}
+use Rattle.pt_core.specs.declared.point.Point.{Point}
+use Rattle.pt_core.specs.declared.limits.TheConstants.{LONGEST_SIDE}
 use Rattle.bit_image.specs.Image.{Image, Fits}
 use Rattle.bit_image.specs.Page.{Page, IsPage, image_of}
 use Rattle.path_decompose.specs.Bounds.{IsCornerOf, IsPathOn}

@@ -6,8 +6,8 @@ use Rattle.std.proofs.lemmas.Bool.{eq-eqb, ne_eqb}
 use Rattle.std.proofs.lemmas.Bool.Decides.{nat_tests}
 use Rattle.std.proofs.lemmas.Int.{ints}
 use Rattle.std.proofs.lemmas.List.{drop_all}
-use Rattle.pt_base.specs.ClosedWalk.{origin, point_at, IsNextTo, IsUnitStep, IsClosedWalk}
-use Rattle.pt_base.specs.declared.point.Point.{Point}
+use Rattle.pt_core.specs.ClosedWalk.{origin, point_at, IsNextTo, IsUnitStep, IsClosedWalk}
+use Rattle.pt_core.specs.declared.point.Point.{Point}
 use Rattle.bit_image.specs.Image.{differ}
 use Rattle.path_decompose.specs.Bounds.{IsCornerOf}
 use Rattle.path_decompose.specs.Inside.{line_at, line_between, lines_to, lines_of, is_odd}

@@ -1,8 +1,8 @@
 -- The paths of a decomposition come to the page, and use each of its edges once.
 use Rattle.std.proofs.Common.{◌≡◌, ℕ, zero, suc, ◌+◌, Bool, true, false, cond, List, [], ◌∷◌, map, count_by, sum_by, refl, ap, sym, ◌∙◌}
 use Rattle.std.proofs.lemmas.List.Sums.{sum_by-cons}
-use Rattle.pt_base.specs.declared.path.Path.{Path}
-use Rattle.pt_base.specs.declared.policy.Policy.{Policy}
+use Rattle.pt_core.specs.declared.path.Path.{Path}
+use Rattle.pt_core.specs.declared.policy.Policy.{Policy}
 use Rattle.bit_image.specs.Image.{Image, IsWhite, differ}
 use Rattle.bit_image.specs.Page.{Page}
 use Rattle.path_decompose.specs.Line.{Line, upright, level, same_line, is_edge}

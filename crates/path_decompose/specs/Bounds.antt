@@ -1,8 +1,8 @@
 -- Where the points of a path lie, and the pixels inside.
 use Rattle.std.specs.Prelude.{ℕ, pos, ◌≤ℤ◌, All}
-use Rattle.pt_base.specs.ClosedWalk.{point_at, IsClosedWalk}
-use Rattle.pt_base.specs.declared.path.Path.{Path}
-use Rattle.pt_base.specs.declared.point.Point.{Point}
+use Rattle.pt_core.specs.ClosedWalk.{point_at, IsClosedWalk}
+use Rattle.pt_core.specs.declared.path.Path.{Path}
+use Rattle.pt_core.specs.declared.point.Point.{Point}
 use Rattle.bit_image.specs.Image.{Fits}
 use Rattle.path_decompose.specs.Inside.{inside}
 

@@ -1,11 +1,11 @@
 -- The decomposition of a page into paths (Selinger, "Potrace", 2003, section 2.1.1), and the removal of
 -- speckles (section 2.1.3).
 use Rattle.std.specs.Prelude.{◌≡◌, ℕ, Bool, true, cond, List, [], ◌∷◌, filter, nat_lt, Option, None, Some}
-use Rattle.pt_base.specs.declared.point.Point.{Point}
-use Rattle.pt_base.specs.declared.path.Path.{Path}
-use Rattle.pt_base.specs.declared.path.Sign.{Sign}
-use Rattle.pt_base.specs.declared.path.Sign.TheVariants.{Plus, Minus}
-use Rattle.pt_base.specs.declared.policy.Policy.{Policy}
+use Rattle.pt_core.specs.declared.point.Point.{Point}
+use Rattle.pt_core.specs.declared.path.Path.{Path}
+use Rattle.pt_core.specs.declared.path.Sign.{Sign}
+use Rattle.pt_core.specs.declared.path.Sign.TheVariants.{Plus, Minus}
+use Rattle.pt_core.specs.declared.policy.Policy.{Policy}
 use Rattle.bit_image.specs.Image.{Image, IsWhite, differ}
 use Rattle.bit_image.specs.Page.{Page, image_of}
 use Rattle.bit_image.specs.FirstBlack.{IsFirstBlack}

@@ -2,7 +2,7 @@
 -- 2.1.1). The rule looks along the row to the left and not along any ray, and an edge at column x
 -- counts, since it is the pixel's own left side.
 use Rattle.std.specs.Prelude.{ℕ, ◌%◌, min, Bool, false, cond, nat_eq, nat_abs, List, [], ◌∷◌, count_by}
-use Rattle.pt_base.specs.declared.point.Point.{Point}
+use Rattle.pt_core.specs.declared.point.Point.{Point}
 use Rattle.bit_image.specs.Image.{Image, is_from}
 use Rattle.turn_policies.specs.Majority.{count_below, sum_below}
 use Rattle.path_decompose.specs.Line.{Line, upright, level}

@@ -1,6 +1,6 @@
 -- What the paths of a page come to together.
 use Rattle.std.specs.Prelude.{◌≡◌, ℕ, cond, List, count_by, sum_by}
-use Rattle.pt_base.specs.declared.path.Path.{Path}
+use Rattle.pt_core.specs.declared.path.Path.{Path}
 use Rattle.bit_image.specs.Image.{Image}
 use Rattle.path_decompose.specs.Line.{Line, same_line, is_edge}
 use Rattle.path_decompose.specs.Inside.{lines_of, is_odd, inside}

@@ -1,8 +1,8 @@
 -- The walk along the boundary edges of an image (Selinger, "Potrace", 2003, section 2.1.1).
 use Rattle.std.specs.Prelude.{◌≡◌, ◌≢◌, ℕ, suc, ◌≤◌, pos, List, [], ◌∷◌, map, length, AllPairs}
-use Rattle.pt_base.specs.declared.point.Point.{Point}
-use Rattle.pt_base.specs.declared.path.Sign.{Sign}
-use Rattle.pt_base.specs.declared.policy.Policy.{Policy}
+use Rattle.pt_core.specs.declared.point.Point.{Point}
+use Rattle.pt_core.specs.declared.path.Sign.{Sign}
+use Rattle.pt_core.specs.declared.policy.Policy.{Policy}
 use Rattle.bit_image.specs.Image.{Image}
 use Rattle.turn_policies.specs.declared.heading.Dir.TheVariants.{South}
 use Rattle.turn_policies.specs.declared.edge.Edge.{Edge}

@@ -1,7 +1,7 @@
 //! The paths of a page, one after another.
 ghost use Rattle.std.specs.Prelude.{◌≡◌, ℕ, ◌+◌, ◌*◌, ◌<◌, ◌≤◌, ◌≤ℤ◌, pos, List, [], ◌∷◌, ◌++◌, All, length, OnOk, OnErr, IfOk};
-ghost use Rattle.pt_base.specs.ClosedWalk.{point_at, IsClosedWalk};
-ghost use Rattle.pt_base.specs.declared.limits.TheConstants.{LONGEST_SIDE};
+ghost use Rattle.pt_core.specs.ClosedWalk.{point_at, IsClosedWalk};
+ghost use Rattle.pt_core.specs.declared.limits.TheConstants.{LONGEST_SIDE};
 ghost use Rattle.bit_image.specs.FirstBlack.{IsFirstBlack};
 ghost use Rattle.bit_image.specs.Image.{Fits};
 ghost use Rattle.bit_image.specs.Page.{SameSides, image_of};
@@ -10,13 +10,13 @@ ghost use Rattle.path_decompose.specs.Decomposition.{above, is_large, kept, path
 ghost use Rattle.path_decompose.specs.Inside.{inside};
 ghost use Rattle.path_decompose.specs.Start.{IsWhiteThrough, IsStart};
 ghost use Rattle.path_decompose.specs.Sums.{IsEvenOdd, IsEdgesOnce};
-ghost use Rattle.pt_base.specs.declared.path.Path.{Path};
+ghost use Rattle.pt_core.specs.declared.path.Path.{Path};
 
 use crate::inversion::invert;
 use crate::trail::Trail;
 use crate::walk::walk_round;
 use bit_image::Bitmap;
-use pt_base::{NoMemory, Path, Point, Policy, Sequence, Sign};
+use pt_core::{NoMemory, Path, Point, Policy, Sequence, Sign};
 use std::alloc::Global;
 
 /// All paths of a page, in the order in which they are found. There are at most as many as pixels, so 32 bits count

@@ -1,11 +1,11 @@
 //! The pixels inside a path.
 ghost use Rattle.std.specs.Prelude.{◌≡◌, All};
-ghost use Rattle.pt_base.specs.ClosedWalk.{IsClosedWalk};
+ghost use Rattle.pt_core.specs.ClosedWalk.{IsClosedWalk};
 ghost use Rattle.path_decompose.specs.Bounds.{IsCornerOf};
 ghost use Rattle.path_decompose.specs.Inside.{line_between, is_crossed, inside};
 
 use crate::line::upright_between;
-use pt_base::{Path, Point};
+use pt_core::{Path, Point};
 
 /// Whether pixel (x, y) is inside a path.
 ///

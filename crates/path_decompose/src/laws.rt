@@ -1,9 +1,9 @@
 //! What the definitions come to.
 ghost use Rattle.std.specs.Prelude.{◌≡◌, ℕ, ◌≤ℤ◌, pos, false, List, All, count_by};
-ghost use Rattle.pt_base.specs.ClosedWalk.{point_at, IsClosedWalk};
-ghost use Rattle.pt_base.specs.declared.path.Path.{Path};
-ghost use Rattle.pt_base.specs.declared.point.Point.{Point};
-ghost use Rattle.pt_base.specs.declared.policy.Policy.{Policy};
+ghost use Rattle.pt_core.specs.ClosedWalk.{point_at, IsClosedWalk};
+ghost use Rattle.pt_core.specs.declared.path.Path.{Path};
+ghost use Rattle.pt_core.specs.declared.point.Point.{Point};
+ghost use Rattle.pt_core.specs.declared.policy.Policy.{Policy};
 ghost use Rattle.bit_image.specs.Page.{Page, IsPage, image_of};
 ghost use Rattle.path_decompose.specs.Bounds.{IsCornerOf};
 ghost use Rattle.path_decompose.specs.Decomposition.{IsDecomposition};

@@ -7,7 +7,7 @@
 //!
 //! ```rust
 //! use path_decompose::decompose_above;
-//! use pt_base::Policy;
+//! use pt_core::Policy;
 //!
 //! // The paths of a page, but for those with two pixels inside or less.
 //! for path in decompose_above(alloc, &page, Policy::Minority, 2)? {

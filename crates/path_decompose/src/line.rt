@@ -3,7 +3,7 @@ ghost use Rattle.std.specs.Prelude.{◌≡◌};
 ghost use Rattle.path_decompose.specs.Inside.{line_between};
 ghost use Rattle.path_decompose.specs.Line.{place_of};
 
-use pt_base::Point;
+use pt_core::Point;
 
 /// The column and the row of the line between two corners one step apart, where it is upright.
 pub fn upright_between(from: Point, to: Point) -> Option<(u32, u32)>

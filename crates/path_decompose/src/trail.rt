@@ -1,7 +1,7 @@
 //! What is noted down of a walk along a boundary.
 ghost use Rattle.std.specs.Prelude.{◌≡◌, []};
 
-use pt_base::Point;
+use pt_core::Point;
 use std::alloc::Global;
 
 /// The left side of pixel (x, y).

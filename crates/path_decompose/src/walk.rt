@@ -3,7 +3,7 @@ ghost use Rattle.std.specs.Prelude.{◌≡◌, ◌≢◌, ℕ, ◌+◌, ◌++◌
 ghost use Rattle.bit_image.specs.FirstBlack.{IsFirstBlack};
 ghost use Rattle.bit_image.specs.Image.{Fits, is_from};
 ghost use Rattle.bit_image.specs.Page.{image_of};
-ghost use Rattle.pt_base.specs.declared.limits.TheConstants.{LONGEST_SIDE};
+ghost use Rattle.pt_core.specs.declared.limits.TheConstants.{LONGEST_SIDE};
 ghost use Rattle.path_decompose.specs.declared.trail.Upright.{Upright};
 ghost use Rattle.path_decompose.specs.Inside.{is_odd, inside, black_count};
 ghost use Rattle.path_decompose.specs.Trail.{upright_of, column_up, column_down};
@@ -13,7 +13,7 @@ ghost use Rattle.turn_policies.specs.Turn.{next};
 
 use crate::trail::{Trail, Upright};
 use bit_image::Bitmap;
-use pt_base::{NoMemory, Point, Policy, Sign};
+use pt_core::{NoMemory, Point, Policy, Sign};
 use turn_policies::{Dir, Edge, turned_at};
 
 /// Walks once round the boundary that starts at the first black pixel, pixel (x, y), and notes it down.

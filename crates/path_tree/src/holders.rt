@@ -2,7 +2,7 @@
 ghost use Rattle.std.specs.Prelude.{◌≡◌, ◌<◌, ◌^◌, ◌/◌, ◌%◌, ◌≤◌, true, false, slice_index_or, All, IfOk, length, map, pos, ◌≤ℤ◌};
 ghost use Rattle.std.specs.List.{range_with_len};
 ghost use Rattle.std.specs.List.Sorted.{IsNonDecreasingBy};
-ghost use Rattle.pt_base.specs.ClosedWalk.{IsClosedWalk, point_at};
+ghost use Rattle.pt_core.specs.ClosedWalk.{IsClosedWalk, point_at};
 ghost use Rattle.path_decompose.specs.Bounds.{IsCornerOf};
 ghost use Rattle.path_tree.specs.Groups.{holder_of};
 ghost use Rattle.path_tree.specs.Starts.{is_in, marked};
@@ -11,7 +11,7 @@ ghost use Rattle.path_tree.specs.declared.starts.TheConstants.{ROW};
 use crate::lines::gather_lines;
 use crate::marks::mark_inside;
 use crate::starts::{Start, rows_of, sorted_starts};
-use pt_base::{NoMemory, Path, Sign};
+use pt_core::{NoMemory, Path, Sign};
 use std::alloc::Global;
 
 /// For each path the path in whose shape it bounds a hole, or none.

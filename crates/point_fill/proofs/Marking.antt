@@ -4,9 +4,9 @@ use Rattle.std.specs.Prelude.{nat_lt}
 use Rattle.std.proofs.lemmas.Bool.{cases_lt, eq-eqb, ne_eqb}
 use Rattle.std.proofs.lemmas.Bool.Decides.{nat_tests}
 use Rattle.std.proofs.lemmas.Int.{ints}
-use Rattle.pt_base.specs.ClosedWalk.{IsNextTo, IsUnitStep}
-use Rattle.pt_base.specs.declared.limits.TheConstants.{LONGEST_SIDE}
-use Rattle.pt_base.specs.declared.point.Point.{Point}
+use Rattle.pt_core.specs.ClosedWalk.{IsNextTo, IsUnitStep}
+use Rattle.pt_core.specs.declared.limits.TheConstants.{LONGEST_SIDE}
+use Rattle.pt_core.specs.declared.point.Point.{Point}
 use Rattle.bit_image.specs.Image.{Image, differ, is_from, is_between}
 use Rattle.bit_image.specs.Page.{Page, image_of}
 use Rattle.path_decompose.specs.Bounds.{IsCornerOf}

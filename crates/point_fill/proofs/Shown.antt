@@ -11,7 +11,7 @@ use Rattle.std.proofs.lemmas.List.{append-nil, length-append, get_or-map, get_or
 use Rattle.std.proofs.lemmas.List.Elements.{All-head, All-tail, All-nil, All-cons}
 use Rattle.std.proofs.lemmas.List.FromFn.{get_or-map-range_with_len, length-map-range_with_len, length-range_with_len}
 use Rattle.pt_base.specs.Whole.{IsDigit}
-use Rattle.pt_base.specs.declared.limits.TheConstants.{LONGEST_SIDE}
+use Rattle.pt_core.specs.declared.limits.TheConstants.{LONGEST_SIDE}
 use Rattle.bit_image.specs.Page.{Page, IsPage, image_of}
 use Rattle.bit_image.proofs.Pages.{page_of-image_of, page_of-same}
 use Rattle.bitmap_input.specs.Cut.{Kind, Cut, ◌>>=◌}

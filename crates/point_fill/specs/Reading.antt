@@ -1,10 +1,10 @@
 -- What stands at a place of a text.
 use Rattle.std.specs.Prelude.{◌≡◌, ◌≢◌, ℕ, suc, ◌<◌, ◌≤◌, ◌^◌, List, ◌∷◌, ◌++◌, length, drop, codes, decimal, flat_map, All}
 use Rattle.pt_base.specs.PointsText.{sign_text, point_text, path_text}
-use Rattle.pt_base.specs.declared.limits.TheConstants.{LONGEST_SIDE}
-use Rattle.pt_base.specs.declared.path.Path.{Path}
-use Rattle.pt_base.specs.declared.path.Sign.{Sign}
-use Rattle.pt_base.specs.declared.point.Point.{Point}
+use Rattle.pt_core.specs.declared.limits.TheConstants.{LONGEST_SIDE}
+use Rattle.pt_core.specs.declared.path.Path.{Path}
+use Rattle.pt_core.specs.declared.path.Sign.{Sign}
+use Rattle.pt_core.specs.declared.point.Point.{Point}
 use Rattle.path_decompose.specs.Bounds.{IsCornerOf}
 use Rattle.list_reader.specs.Numbers.{EndsDigits}
 use Rattle.point_fill.specs.PointsFile.{IsLoop, IsToldPath}

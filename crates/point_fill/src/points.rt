@@ -1,11 +1,11 @@
 //! The paths of a text, marked in the page as they are read.
 ghost use Rattle.std.specs.Prelude.{◌≡◌, ◌≢◌, ℕ, ◌≤◌, ◌<◌, ◌+◌, ◌++◌, List, length, drop, IfSome, IfNone, MatchBool};
 ghost use Rattle.pt_base.specs.PointsText.{sign_text};
-ghost use Rattle.pt_base.specs.declared.path.Path.{Path};
-ghost use Rattle.pt_base.specs.declared.path.Sign.{Sign};
-ghost use Rattle.pt_base.specs.declared.point.Point.{Point};
-ghost use Rattle.pt_base.specs.declared.limits.TheConstants.{LONGEST_SIDE};
-ghost use Rattle.pt_base.specs.ClosedWalk.{IsUnitStep};
+ghost use Rattle.pt_core.specs.declared.path.Path.{Path};
+ghost use Rattle.pt_core.specs.declared.path.Sign.{Sign};
+ghost use Rattle.pt_core.specs.declared.point.Point.{Point};
+ghost use Rattle.pt_core.specs.declared.limits.TheConstants.{LONGEST_SIDE};
+ghost use Rattle.pt_core.specs.ClosedWalk.{IsUnitStep};
 ghost use Rattle.bit_image.specs.Page.{SameSides};
 ghost use Rattle.path_decompose.specs.Bounds.{IsCornerOf};
 ghost use Rattle.path_decompose.specs.Inside.{inside, is_crossed, line_between};
@@ -17,7 +17,7 @@ ghost use Rattle.point_fill.specs.Swept.{AreMarked};
 use crate::number::{is_at, number_at};
 use crate::step::mark_step;
 use bit_image::Bitmap;
-use pt_base::Point;
+use pt_core::Point;
 
 /// A point, and the place behind it.
 #[derive(Clone, Copy, Debug)]

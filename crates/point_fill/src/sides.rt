@@ -3,7 +3,7 @@ ghost use Rattle.std.specs.Prelude.{◌≡◌, ◌≢◌, ◌++◌, ℕ, List, I
 ghost use Rattle.point_fill.specs.Reading.{IsSidesLine, IsNoSidesLine};
 
 use crate::number::{is_at, number_at};
-use pt_base::LONGEST_SIDE;
+use pt_core::LONGEST_SIDE;
 
 /// What the first line tells, and the place behind it.
 #[derive(Clone, Copy, Debug)]

@@ -1,7 +1,7 @@
 //! One step of a path, marked in the page.
 ghost use Rattle.std.specs.Prelude.{ℕ, MatchBool};
-ghost use Rattle.pt_base.specs.ClosedWalk.{IsUnitStep};
-ghost use Rattle.pt_base.specs.declared.limits.TheConstants.{LONGEST_SIDE};
+ghost use Rattle.pt_core.specs.ClosedWalk.{IsUnitStep};
+ghost use Rattle.pt_core.specs.declared.limits.TheConstants.{LONGEST_SIDE};
 ghost use Rattle.bit_image.specs.Page.{SameSides};
 ghost use Rattle.path_decompose.specs.Bounds.{IsCornerOf};
 ghost use Rattle.path_decompose.specs.Inside.{is_crossed, line_between};
@@ -9,7 +9,7 @@ ghost use Rattle.point_fill.specs.Swept.{AreMarked};
 
 use bit_image::Bitmap;
 use path_decompose::upright_between;
-use pt_base::Point;
+use pt_core::Point;
 
 /// Whether two corners are one unit step apart, along a row or along a column.
 fn is_step(from: Point, to: Point) -> bool

@@ -1,7 +1,7 @@
 -- A path has one best polygon.
 use Rattle.std.proofs.Common.{◌≡◌, ℕ, List, [], ◌∷◌, length}
 use Rattle.std.proofs.lemmas.List.{append_cancel_right}
-use Rattle.pt_base.specs.declared.point.Point.{Point}
+use Rattle.pt_core.specs.declared.point.Point.{Point}
 use Rattle.least_walk.specs.LeastWalk.{walk_from}
 use Rattle.least_walk.proofs.OneLeast.{one_least}
 use Rattle.polygon_optimal.specs.Polygon.{IsSegment, IsBestPolygon, penalty_of}

@@ -3,9 +3,9 @@ use Rattle.std.proofs.Common.{◌≡◌, ℕ, pos, List, [], ◌∷◌, refl, ar
 use Rattle.std.specs.Ordering.{nat_cmp}
 use Rattle.std.specs.Cmp.Lexicographic.{slice_cmp}
 use Rattle.std.specs.declared.cmp.Ordering.TheVariants.{Less}
-use Rattle.pt_base.specs.declared.point.Point.{Point}
-use Rattle.pt_base.specs.Root.{IsRoot, root_of}
-use Rattle.pt_base.proofs.Roots.{root_is, root_is_one}
+use Rattle.pt_core.specs.declared.point.Point.{Point}
+use Rattle.pt_core.specs.Root.{IsRoot, root_of}
+use Rattle.pt_core.proofs.Roots.{root_is, root_is_one}
 use Rattle.polygon_optimal.specs.Polygon.{penalty_of, total_penalty}
 
 abbrev corner : ℕ → ℕ → Point

@@ -5,7 +5,7 @@ use Rattle.std.proofs.Math.ListN.{get_or-append}
 use Rattle.std.proofs.Math.Seq.{get_or-append_seam}
 use Rattle.std.specs.Prelude.{slice_index}
 use Rattle.std.proofs.Math.Decide.{dec_lt}
-use Rattle.pt_base.specs.declared.point.Point.{Point}
+use Rattle.pt_core.specs.declared.point.Point.{Point}
 use Rattle.straight_paths.specs.Straight.{IsPossible, IsFarthest}
 use Rattle.straight_paths.proofs.Far.{shorter_possible}
 use Rattle.least_walk.specs.LeastWalk.{IsWalk, IsLeast, walk_from}

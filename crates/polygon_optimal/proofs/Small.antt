@@ -4,12 +4,12 @@ use Rattle.std.proofs.lemmas.Int.{ints}
 use Rattle.std.proofs.lemmas.List.Elements.{All-head, All-tail}
 use Rattle.std.proofs.lemmas.List.Sums.{sum_by-cons}
 use Rattle.std.specs.Prelude.{sum_by, unsigned_abs}
-use Rattle.pt_base.specs.ClosedWalk.{IsClosedWalk}
-use Rattle.pt_base.specs.declared.point.Point.{Point}
+use Rattle.pt_core.specs.ClosedWalk.{IsClosedWalk}
+use Rattle.pt_core.specs.declared.point.Point.{Point}
 use Rattle.std.proofs.lemmas.Nat.{mul-le}
-use Rattle.pt_base.specs.declared.limits.TheConstants.{MOST_STEPS}
-use Rattle.pt_base.proofs.Roots.{root_below}
-use Rattle.pt_base.proofs.Sizes.{product_most}
+use Rattle.pt_core.specs.declared.limits.TheConstants.{MOST_STEPS}
+use Rattle.pt_core.proofs.Roots.{root_below}
+use Rattle.pt_core.proofs.Sizes.{product_most}
 use Rattle.prefix_moments.specs.Sums.{IsPenalty, sum_of, spread_of, chord_cross_of}
 use Rattle.straight_paths.specs.Straight.{IsPossible}
 use Rattle.straight_paths.proofs.Along.{cross_most}

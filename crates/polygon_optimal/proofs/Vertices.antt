@@ -1,8 +1,8 @@
 -- The vertices of a polygon.
 use Rattle.std.proofs.Common.{◌≡◌, ℕ, ◌<◌, ◌≤◌, List, [], ◌∷◌, ◌++◌, length, All, Some, arith}
 use Rattle.std.proofs.lemmas.List.Elements.{All-nil, All-cons, All-head, All-tail}
-use Rattle.pt_base.specs.ClosedWalk.{IsClosedWalk}
-use Rattle.pt_base.specs.declared.point.Point.{Point}
+use Rattle.pt_core.specs.ClosedWalk.{IsClosedWalk}
+use Rattle.pt_core.specs.declared.point.Point.{Point}
 use Rattle.least_walk.specs.LeastWalk.{Step, steps_from}
 use Rattle.polygon_optimal.specs.Polygon.{IsPolygon, IsSegment}
 

@@ -1,7 +1,7 @@
 -- How far the segments of a polygon reach.
 use Rattle.std.specs.Prelude.{◌≡◌, ℕ, ◌+◌, ◌-◌, ◌<◌, ◌≤◌, List, length, slice_index}
-use Rattle.pt_base.specs.declared.point.Point.{Point}
-use Rattle.pt_base.specs.declared.limits.TheConstants.{MOST_STEPS}
+use Rattle.pt_core.specs.declared.point.Point.{Point}
+use Rattle.pt_core.specs.declared.limits.TheConstants.{MOST_STEPS}
 use Rattle.polygon_optimal.specs.Polygon.{IsSegment}
 
 -- the longest segment from point i leads to point `last`

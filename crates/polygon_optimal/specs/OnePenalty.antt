@@ -3,12 +3,12 @@ use Rattle.std.proofs.Common.{◌≡◌, ℕ, ◌+◌, ◌-◌, ◌*◌, ◌/◌
 use Rattle.std.proofs.lemmas.Int.{ints}
 use Rattle.std.specs.Prelude.{unsigned_abs}
 use Rattle.std.proofs.Math.Nat.{div-le_of_le-mul}
-use Rattle.pt_base.specs.declared.point.Point.{Point}
-use Rattle.pt_base.specs.OnPage.{AreOnPage}
-use Rattle.pt_base.specs.declared.limits.TheConstants.{LONGEST_SIDE}
-use Rattle.pt_base.proofs.Roots.{root_is, root_is_one, root_below}
+use Rattle.pt_core.specs.declared.point.Point.{Point}
+use Rattle.pt_core.specs.OnPage.{AreOnPage}
+use Rattle.pt_core.specs.declared.limits.TheConstants.{LONGEST_SIDE}
+use Rattle.pt_core.proofs.Roots.{root_is, root_is_one, root_below}
 use Rattle.prefix_moments.specs.Sums.{IsPenalty, spread_of, chord_cross_of, rightward_of, above_of}
-use Rattle.pt_base.proofs.Sizes.{product_most}
+use Rattle.pt_core.proofs.Sizes.{product_most}
 use Rattle.prefix_moments.proofs.Summing.{sum_most}
 use Rattle.polygon_optimal.specs.Polygon.{penalty_of}
 

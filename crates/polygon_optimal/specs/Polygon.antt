@@ -2,8 +2,8 @@
 -- 2.2.4). That it goes through the path's first point, that penalties are rounded, and the last of the rules
 -- by which one polygon comes before another are our own.
 use Rattle.std.specs.Prelude.{ℕ, ◌+◌, ◌-◌, ◌*◌, ◌/◌, ◌≤◌, unsigned_abs, List, length}
-use Rattle.pt_base.specs.declared.point.Point.{Point}
-use Rattle.pt_base.specs.Root.{root_of}
+use Rattle.pt_core.specs.declared.point.Point.{Point}
+use Rattle.pt_core.specs.Root.{root_of}
 use Rattle.prefix_moments.specs.Sums.{spread_of}
 use Rattle.straight_paths.specs.Straight.{IsPossible}
 use Rattle.least_walk.specs.LeastWalk.{IsWalk, IsLeast, total_cost, walk_from}

@@ -1,7 +1,7 @@
 //! What follows from the definitions alone.
 ghost use Rattle.std.specs.Prelude.{◌≡◌, ℕ, ◌-◌, ◌*◌, ◌<◌, ◌≤◌, List, length, All};
-ghost use Rattle.pt_base.specs.ClosedWalk.{IsClosedWalk};
-ghost use Rattle.pt_base.specs.declared.point.Point.{Point};
+ghost use Rattle.pt_core.specs.ClosedWalk.{IsClosedWalk};
+ghost use Rattle.pt_core.specs.declared.point.Point.{Point};
 ghost use Rattle.prefix_moments.specs.Sums.{IsPenalty};
 ghost use Rattle.polygon_optimal.specs.Polygon.{IsPolygon, IsBestPolygon, penalty_of, total_penalty};
 ghost use Rattle.straight_paths.specs.Straight.{IsPossible};

@@ -22,7 +22,7 @@
 //!
 //! ```rust
 //! use polygon_optimal::polygon;
-//! use pt_base::Point;
+//! use pt_core::Point;
 //!
 //! // The path round the two pixels, down from the upper left corner.
 //! let points = [

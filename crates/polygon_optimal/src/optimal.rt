@@ -1,14 +1,14 @@
 //! The best polygon of a path.
 ghost use Rattle.std.specs.Prelude.{◌≡◌, IfOk};
-ghost use Rattle.pt_base.specs.ClosedWalk.{IsClosedWalk};
-ghost use Rattle.pt_base.specs.OnPage.{AreOnPage};
+ghost use Rattle.pt_core.specs.ClosedWalk.{IsClosedWalk};
+ghost use Rattle.pt_core.specs.OnPage.{AreOnPage};
 ghost use Rattle.polygon_optimal.specs.Lasts.{HasLasts};
 ghost use Rattle.polygon_optimal.specs.Polygon.{IsBestPolygon, total_penalty};
 
 use crate::search::least_by_windows;
 use crate::segments::{Segments, lasts};
 use prefix_moments::Moments;
-use pt_base::{NoMemory, Point, Polygon};
+use pt_core::{NoMemory, Point, Polygon};
 use std::alloc::Global;
 
 /// The best polygon through the first point of a closed walk on a page.

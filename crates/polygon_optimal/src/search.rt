@@ -20,7 +20,7 @@ ghost use Rattle.polygon_optimal.specs.Search.{AreFalling, AreFarthest, HasCheap
 use crate::segments::Segments;
 use least_walk::Walk;
 use prefix_moments::Start;
-use pt_base::{NoMemory, Sequence};
+use pt_core::{NoMemory, Sequence};
 use std::alloc::Global;
 
 /// How many costs are kept: more than the longest segment has steps. As they are a power of two, a slot is

@@ -1,14 +1,14 @@
 //! The segments that a polygon may have, as steps from one point of its path to another.
 ghost use Rattle.std.specs.Prelude.{◌≡◌, ℕ, ◌+◌, ◌<◌, ◌≤◌, ◌^◌, List, length, slice_index, unsigned_abs, IfOk};
-ghost use Rattle.pt_base.specs.ClosedWalk.{IsClosedWalk};
-ghost use Rattle.pt_base.specs.OnPage.{AreOnPage};
+ghost use Rattle.pt_core.specs.ClosedWalk.{IsClosedWalk};
+ghost use Rattle.pt_core.specs.OnPage.{AreOnPage};
 ghost use Rattle.prefix_moments.specs.Sums.{spread_of};
 ghost use Rattle.polygon_optimal.specs.Polygon.{penalty_of};
 ghost use Rattle.polygon_optimal.specs.Lasts.{AreRising, IsLast, HasLasts, LeadsOn, IsUpToLast};
 
 use least_walk::Steps;
 use prefix_moments::Moments;
-use pt_base::{NoMemory, Point};
+use pt_core::{NoMemory, Point};
 use std::alloc::Global;
 use straight_paths::Reach;
 

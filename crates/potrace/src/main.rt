@@ -2,7 +2,8 @@
 #![tactic(auto)]
 
 use potrace_main::run;
-use pt_base::{ErrSink, FileInputs, FileOutputs, NoGate};
+use pt_base::{ErrSink, FileInputs, FileOutputs};
+use pt_core::NoGate;
 use run_output::{say_bad_words, say_out_of_memory};
 use std::env;
 use std::io::ErrorKind;

@@ -1,9 +1,9 @@
 -- What the outcome of a run says where no device failed, and of the causes of its status.
 use Rattle.std.proofs.Common.{◌≡◌, ◌≢◌, ◌<◌, ◌⊎◌, ℕ, false, List, [], ◌∷◌, ◌++◌, Option, None, Some, inl, inr, refl, sym, ◌∙◌, ap, subst, arith}
-use Rattle.pt_base.specs.Counts.{Rose}
-use Rattle.pt_base.specs.Files.{Contents}
-use Rattle.pt_base.specs.declared.settings.Settings.{Settings}
-use Rattle.page_trace.specs.Document.{CanWrite}
+use Rattle.pt_core.specs.Counts.{Rose}
+use Rattle.pt_core.specs.Files.{Contents}
+use Rattle.pt_core.specs.declared.settings.Settings.{Settings}
+use Rattle.pt_core.specs.Needs.{CanWrite}
 use Rattle.run_output.specs.Made.{Past, no_past}
 use Rattle.run_output.specs.Messages.{not_opened, out_of_memory}
 use Rattle.run_output.specs.Parts.{Part}

@@ -1,10 +1,10 @@
 -- What the top call promises.
 use Rattle.std.specs.Prelude.{◌≡◌, ℕ, ◌*◌, ◌⊎◌, false, List, [], ◌∷◌, ◌++◌, Option}
-use Rattle.pt_base.specs.Counts.{Rose}
-use Rattle.pt_base.specs.Failures.{Failures, after_err}
-use Rattle.pt_base.specs.Files.{Contents}
-use Rattle.pt_base.specs.declared.inputs.Inputs.{Ghosts as InputGhosts}
-use Rattle.pt_base.specs.declared.settings.Settings.{Settings}
+use Rattle.pt_core.specs.Counts.{Rose}
+use Rattle.pt_core.specs.Failures.{Failures, after_err}
+use Rattle.pt_core.specs.Files.{Contents}
+use Rattle.pt_core.specs.declared.inputs.Inputs.{Ghosts as InputGhosts}
+use Rattle.pt_core.specs.declared.settings.Settings.{Settings}
 use Rattle.run_output.specs.Made.{no_past}
 use Rattle.run_output.specs.Messages.{bad_words, out_of_memory}
 use Rattle.run_output.specs.Names.{dash}

@@ -1,6 +1,6 @@
 //! The top call: all that the program does.
 ghost use Rattle.std.specs.Prelude.{◌≡◌, ◌≢◌, ◌<◌, ◌≤◌, ◌⊎◌, ◌∷◌, ℕ, List, [], true, false, map, option_map, string_bytes};
-ghost use Rattle.pt_base.specs.Counts.{Rose};
+ghost use Rattle.pt_core.specs.Counts.{Rose};
 ghost use Rattle.run_output.specs.Names.{dash};
 ghost use Rattle.run_output.specs.Status.{code_of};
 ghost use Rattle.run_output.specs.declared.status.Status.{Status};
@@ -24,7 +24,7 @@ use page_batches::{Desk, Plan};
 use page_demo::demo_text;
 use page_documents::DocumentJob;
 use page_trace::pages_have_documents;
-use pt_base::{Gate, Inputs, Outputs, Settings, Sink};
+use pt_core::{Gate, Inputs, Outputs, Settings, Sink};
 use run_output::{Binding, Status, say_bad_words, say_out_of_memory};
 use std::alloc::Global;
 use std::thread::Threads;

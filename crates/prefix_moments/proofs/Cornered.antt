@@ -4,9 +4,9 @@ use Rattle.std.proofs.Math.IntN.{*ℤ-zero, zero-*ℤ}
 use Rattle.std.proofs.lemmas.Int.{ints, int_wrap_fits, fits_signed_from_abs}
 use Rattle.std.specs.Int.{int_wrap}
 use Rattle.std.specs.Prelude.{unsigned_abs}
-use Rattle.pt_base.specs.declared.point.Point.{Point}
-use Rattle.pt_base.specs.ClosedWalk.{point_at}
-use Rattle.pt_base.proofs.Terms.{num, plus, less, times, same_value}
+use Rattle.pt_core.specs.declared.point.Point.{Point}
+use Rattle.pt_core.specs.ClosedWalk.{point_at}
+use Rattle.pt_core.proofs.Terms.{num, plus, less, times, same_value}
 use Rattle.prefix_moments.specs.Sums.{sum_of, spread_of, chord_cross_of, rightward_of, above_of}
 use Rattle.prefix_moments.specs.declared.raw.Raw.{Raw}
 use Rattle.prefix_moments.specs.Table.{raw_of, spread_from}

@@ -1,6 +1,6 @@
 -- The definitions on the path round two pixels in a row.
 use Rattle.std.proofs.Common.{◌≡◌, ℕ, pos, negsuc, List, [], ◌∷◌, refl}
-use Rattle.pt_base.specs.declared.point.Point.{Point}
+use Rattle.pt_core.specs.declared.point.Point.{Point}
 use Rattle.prefix_moments.specs.Sums.{sums_of, chord_cross_of, spread_of}
 use Rattle.prefix_moments.specs.Table.{less_of, points_of, prefix_of}
 

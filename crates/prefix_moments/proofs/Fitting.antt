@@ -4,8 +4,8 @@ use Rattle.std.proofs.lemmas.Int.{ints, fits_signed_from_abs}
 use Rattle.std.specs.Prelude.{unsigned_abs}
 use Rattle.std.specs.Int.RustNames.{FitsSigned}
 use mir.Syntax.{w128}
-use Rattle.pt_base.specs.declared.limits.TheConstants.{LONGEST_SIDE, MOST_STEPS}
-use Rattle.pt_base.proofs.Sizes.{back, long_back, product_most}
+use Rattle.pt_core.specs.declared.limits.TheConstants.{LONGEST_SIDE, MOST_STEPS}
+use Rattle.pt_core.proofs.Sizes.{back, long_back, product_most}
 
 -- a number of 64 bits as a call is passed it
 pub passed : (z : ℤ) (n : ℕ) → unsigned_abs z ≤ n → n < 2 ^ 63 → unsigned_abs (to_z w64 (of_z w64 z)) ≤ n

@@ -1,6 +1,6 @@
 -- Identities over the whole numbers.
 use Rattle.std.proofs.Common.{◌≡◌, ℤ, pos, ◌+ℤ◌, ◌-ℤ◌, ◌*ℤ◌, arith}
-use Rattle.pt_base.proofs.Terms.{num, plus, less, times, same_value}
+use Rattle.pt_core.proofs.Terms.{num, plus, less, times, same_value}
 
 -- one more term of a sum of offsets
 pub step_shift : (s n a c : ℤ) → (s -ℤ n *ℤ a) +ℤ (c -ℤ a) ≡ (s +ℤ c) -ℤ (n +ℤ pos 1) *ℤ a

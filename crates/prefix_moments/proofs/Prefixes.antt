@@ -7,10 +7,10 @@ use Rattle.std.proofs.Math.Decide.{dec_lt}
 use Rattle.std.proofs.lemmas.Int.{ints, unsigned_abs-mul}
 use Rattle.std.proofs.lemmas.List.{get_or_read}
 use Rattle.std.specs.Prelude.{unsigned_abs, slice_index_or}
-use Rattle.pt_base.specs.declared.point.Point.{Point}
-use Rattle.pt_base.specs.ClosedWalk.{point_at, origin}
-use Rattle.pt_base.specs.declared.limits.TheConstants.{MOST_STEPS}
-use Rattle.pt_base.specs.OnPage.{IsOnPage, AreOnPage}
+use Rattle.pt_core.specs.declared.point.Point.{Point}
+use Rattle.pt_core.specs.ClosedWalk.{point_at, origin}
+use Rattle.pt_core.specs.declared.limits.TheConstants.{MOST_STEPS}
+use Rattle.pt_core.specs.OnPage.{IsOnPage, AreOnPage}
 use Rattle.prefix_moments.specs.declared.prefix.Prefix.{Prefix}
 use Rattle.prefix_moments.specs.declared.raw.Raw.{Raw}
 use Rattle.prefix_moments.specs.Sums.{sum_of}

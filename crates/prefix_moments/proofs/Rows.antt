@@ -2,15 +2,15 @@
 use Rattle.std.proofs.Common.{◌≡◌, ℕ, ◌+◌, ◌-◌, ◌*◌, ◌≤◌, ℤ, pos, ◌-ℤ◌, ◌*ℤ◌, ◌≤ℤ◌, List, refl, sym, ap, ◌∙◌, subst, arith}
 use Rattle.std.proofs.lemmas.Int.{ints}
 use Rattle.std.specs.Prelude.{unsigned_abs}
-use Rattle.pt_base.specs.declared.point.Point.{Point}
-use Rattle.pt_base.specs.ClosedWalk.{point_at}
-use Rattle.pt_base.specs.declared.limits.TheConstants.{LONGEST_SIDE, MOST_STEPS}
+use Rattle.pt_core.specs.declared.point.Point.{Point}
+use Rattle.pt_core.specs.ClosedWalk.{point_at}
+use Rattle.pt_core.specs.declared.limits.TheConstants.{LONGEST_SIDE, MOST_STEPS}
 use Rattle.prefix_moments.specs.declared.raw.Raw.{Raw}
 use Rattle.prefix_moments.specs.declared.sums.Sums.{Sums}
-use Rattle.pt_base.specs.OnPage.{IsOnPage, AreOnPage}
+use Rattle.pt_core.specs.OnPage.{IsOnPage, AreOnPage}
 use Rattle.prefix_moments.specs.Sums.{sum_of, sums_of, rightward_of, above_of, spread_of}
 use Rattle.prefix_moments.specs.Table.{raw_of, IsRawOf, offsets_of, spread_by}
-use Rattle.pt_base.proofs.Sizes.{product_most}
+use Rattle.pt_core.proofs.Sizes.{product_most}
 use Rattle.prefix_moments.proofs.Summing.{sum_most, shifted, products_shifted, spread_is, squares_at_least}
 
 abbrev raw : ℤ → ℤ → ℤ → ℤ → ℤ → Raw

@@ -7,16 +7,16 @@ use Rattle.std.proofs.lemmas.Nat.{div_below, mul-le}
 use Rattle.std.specs.Prelude.{unsigned_abs}
 use Rattle.std.specs.Int.RustNames.{FitsSigned}
 use mir.Syntax.{w128}
-use Rattle.pt_base.specs.declared.point.Point.{Point}
-use Rattle.pt_base.specs.ClosedWalk.{point_at}
-use Rattle.pt_base.specs.Root.{IsRoot}
-use Rattle.pt_base.specs.declared.limits.TheConstants.{LONGEST_SIDE}
+use Rattle.pt_core.specs.declared.point.Point.{Point}
+use Rattle.pt_core.specs.ClosedWalk.{point_at}
+use Rattle.pt_core.specs.Root.{IsRoot}
+use Rattle.pt_core.specs.declared.limits.TheConstants.{LONGEST_SIDE}
 use Rattle.prefix_moments.specs.declared.sums.Sums.{Sums}
-use Rattle.pt_base.specs.OnPage.{IsOnPage}
+use Rattle.pt_core.specs.OnPage.{IsOnPage}
 use Rattle.prefix_moments.specs.Sums.{sums_of, spread_of, rightward_of, above_of}
 use Rattle.prefix_moments.specs.Table.{spread_by}
-use Rattle.pt_base.proofs.Roots.{root_below}
-use Rattle.pt_base.proofs.Sizes.{back, long_back}
+use Rattle.pt_core.proofs.Roots.{root_below}
+use Rattle.pt_core.proofs.Sizes.{back, long_back}
 use Rattle.prefix_moments.proofs.Rows.{total_is, spread_at_least}
 
 between_is : (r a b : ℤ) → pos 0 ≤ℤ a → a ≤ℤ pos LONGEST_SIDE → pos 0 ≤ℤ b → b ≤ℤ pos LONGEST_SIDE

@@ -1,9 +1,9 @@
 -- Sums over the points of a segment, and the segment's penalty (Selinger, "Potrace", 2003, sections
 -- 2.2.1 and 2.2.3). The points are numbered round the path: after the last one comes the first again.
 use Rattle.std.specs.Prelude.{ℕ, zero, suc, ◌+◌, ◌-◌, ◌*◌, ◌/◌, ℤ, pos, ◌+ℤ◌, ◌-ℤ◌, ◌*ℤ◌, unsigned_abs, List}
-use Rattle.pt_base.specs.declared.point.Point.{Point}
-use Rattle.pt_base.specs.ClosedWalk.{point_at}
-use Rattle.pt_base.specs.Root.{IsRoot}
+use Rattle.pt_core.specs.declared.point.Point.{Point}
+use Rattle.pt_core.specs.ClosedWalk.{point_at}
+use Rattle.pt_core.specs.Root.{IsRoot}
 use Rattle.prefix_moments.specs.declared.sums.Sums.{Sums}
 
 -- f(0) + f(1) + .., which are `count` numbers

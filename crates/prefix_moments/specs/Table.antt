@@ -1,9 +1,9 @@
 -- What a path's table of sums holds.
 use Rattle.std.specs.Prelude.{◌≡◌, ℕ, ◌+◌, ◌-◌, ◌*◌, ◌%◌, ◌<◌, ◌≤◌, ◌^◌, ℤ, pos, ◌+ℤ◌, ◌-ℤ◌, ◌*ℤ◌, List, [], ◌∷◌, length, slice_index_or, unsigned_abs}
-use Rattle.pt_base.specs.declared.point.Point.{Point}
-use Rattle.pt_base.specs.ClosedWalk.{point_at}
-use Rattle.pt_base.specs.declared.limits.TheConstants.{LONGEST_SIDE}
-use Rattle.pt_base.specs.OnPage.{AreOnPage}
+use Rattle.pt_core.specs.declared.point.Point.{Point}
+use Rattle.pt_core.specs.ClosedWalk.{point_at}
+use Rattle.pt_core.specs.declared.limits.TheConstants.{LONGEST_SIDE}
+use Rattle.pt_core.specs.OnPage.{AreOnPage}
 use Rattle.prefix_moments.specs.Sums.{sum_of}
 use Rattle.prefix_moments.specs.declared.sums.Sums.{Sums}
 use Rattle.prefix_moments.specs.declared.prefix.Prefix.{Prefix}

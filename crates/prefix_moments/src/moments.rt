@@ -1,15 +1,15 @@
 //! The table of a path's sums.
 ghost use Rattle.std.specs.Prelude.{◌≡◌, ℕ, pos, unsigned_abs, ◌-ℤ◌, ◌≤ℤ◌, ◌+◌, ◌-◌, ◌*◌, ◌/◌, ◌%◌, ◌<◌, ◌≤◌, ◌^◌, List, length, IfOk, IfSome, IfNone, IsTrue, ◌↔◌};
-ghost use Rattle.pt_base.specs.ClosedWalk.{IsClosedWalk, point_at};
-ghost use Rattle.pt_base.specs.Root.{IsRoot};
-ghost use Rattle.pt_base.specs.OnPage.{AreOnPage, IsOnPage};
+ghost use Rattle.pt_core.specs.ClosedWalk.{IsClosedWalk, point_at};
+ghost use Rattle.pt_core.specs.Root.{IsRoot};
+ghost use Rattle.pt_core.specs.OnPage.{AreOnPage, IsOnPage};
 ghost use Rattle.prefix_moments.specs.Sums.{sums_of, spread_of, IsPenalty};
 ghost use Rattle.prefix_moments.specs.Table.{raw_of, prefix_of, IsRawOf, IsTable, offsets_of};
 
 use crate::prefix::Prefix;
 use crate::raw::{Raw, moved, moved_products, spread};
 use crate::sums::Sums;
-use pt_base::{LONGEST_SIDE, MOST_STEPS, NoMemory, Point, isqrt};
+use pt_core::{LONGEST_SIDE, MOST_STEPS, NoMemory, Point, isqrt};
 use std::alloc::Global;
 use std::marker::Model;
 
@@ -22,7 +22,7 @@ pub struct Moments {
 
 impl Model for Moments {
     ghost use Rattle.std.specs.Prelude.{List};
-    ghost use Rattle.pt_base.specs.declared.point.Point.{Point};
+    ghost use Rattle.pt_core.specs.declared.point.Point.{Point};
     ghost use Rattle.prefix_moments.specs.Table.{IsTable, points_of};
 
     ghost Value = { List Point };

@@ -1,10 +1,10 @@
 //! Sums over the points before one, as much of them as their differences need.
 ghost use Rattle.std.specs.Prelude.{◌≡◌, ◌+◌, ◌-◌, ◌*◌, ◌%◌, ◌<◌, ◌≤◌, ◌^◌, ℕ, pos, unsigned_abs};
-ghost use Rattle.pt_base.specs.OnPage.{IsOnPage};
+ghost use Rattle.pt_core.specs.OnPage.{IsOnPage};
 ghost use Rattle.prefix_moments.specs.Table.{no_prefix, both_of, less_of, point_between};
 
 use crate::raw::Raw;
-use pt_base::{LONGEST_SIDE, Point};
+use pt_core::{LONGEST_SIDE, Point};
 
 /// The sums of some points' coordinates modulo 2^32, and of their squares and products modulo 2^64.
 #[derive(Clone, Copy, Debug)]

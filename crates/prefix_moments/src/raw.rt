@@ -3,7 +3,7 @@ ghost use Rattle.std.specs.Prelude.{◌≡◌, ◌+◌, ◌*◌, ◌<◌, ◌≤
 ghost use Rattle.std.specs.Int.{int_wrap, w64};
 ghost use Rattle.prefix_moments.specs.Table.{spread_by, spread_from};
 
-use pt_base::{LONGEST_SIDE, MOST_STEPS};
+use pt_core::{LONGEST_SIDE, MOST_STEPS};
 
 /// The sums of some points' coordinates, of their squares and of their products.
 #[derive(Clone, Copy)]

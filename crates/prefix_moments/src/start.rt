@@ -1,14 +1,14 @@
 //! The segments from one point of a path.
 ghost use Rattle.std.specs.Prelude.{◌≡◌, ℕ, ◌+◌, ◌-◌, ◌*◌, ◌<◌, ◌≤◌, ◌^◌, pos, unsigned_abs, length, IfSome, IfNone};
-ghost use Rattle.pt_base.specs.ClosedWalk.{point_at};
-ghost use Rattle.pt_base.specs.OnPage.{IsOnPage};
+ghost use Rattle.pt_core.specs.ClosedWalk.{point_at};
+ghost use Rattle.pt_core.specs.OnPage.{IsOnPage};
 ghost use Rattle.prefix_moments.specs.Sums.{spread_of, IsPenalty};
 ghost use Rattle.prefix_moments.specs.Table.{prefix_of};
 
 use crate::moments::{Moments, between};
 use crate::prefix::Prefix;
 use crate::raw::{crossed, wrapped_spread};
-use pt_base::{MOST_STEPS, Point, isqrt};
+use pt_core::{MOST_STEPS, Point, isqrt};
 
 /// The segments from one point of a path, for whoever asks for many of them: what these have in common is looked up
 /// once.

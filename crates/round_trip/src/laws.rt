@@ -1,7 +1,7 @@
 //! What follows from the definitions alone.
 ghost use Rattle.std.specs.Prelude.{◌≡◌, ℕ, List};
-ghost use Rattle.pt_base.specs.declared.settings.Backend.{Backend};
-ghost use Rattle.pt_base.specs.declared.settings.Settings.{Settings};
+ghost use Rattle.pt_core.specs.declared.settings.Backend.{Backend};
+ghost use Rattle.pt_core.specs.declared.settings.Settings.{Settings};
 ghost use Rattle.bit_image.specs.Page.{IsPage, Page};
 ghost use Rattle.page_trace.specs.Document.{IsDocument};
 ghost use Rattle.point_fill.specs.Filled.{IsFilled};

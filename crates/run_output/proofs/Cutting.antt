@@ -3,7 +3,7 @@ use Rattle.std.proofs.Common.{◌≡◌, ℕ, ◌+◌, Bool, true, false, List, 
 use Rattle.std.specs.Prelude.{decimal}
 use Rattle.std.specs.List.{concat}
 use Rattle.std.proofs.lemmas.List.{take_all}
-use Rattle.pt_base.specs.Documents.{Documents, with_bytes}
+use Rattle.pt_core.specs.Documents.{Documents, with_bytes}
 use Rattle.run_output.specs.Parts.{IsCutIn, begun, end_part, is_first_page, page_part, part_in_pieces, prolog_before}
 use Rattle.run_output.specs.declared.part.Binding.TheVariants.{Together}
 

@@ -2,7 +2,7 @@
 use Rattle.std.proofs.Common.{◌≡◌, ◌∷◌, [], None, refl, codes}
 use Rattle.std.specs.Fmt.{digits}
 use Rattle.run_output.specs.Names.{base_name, document_name, next_name}
-use Rattle.pt_base.specs.declared.settings.Backend.TheVariants.{Eps, GeoJson}
+use Rattle.pt_core.specs.declared.settings.Backend.TheVariants.{Eps, GeoJson}
 
 scan : base_name None Eps (codes "a/scan.pbm") ≡ codes "a/scan.eps"
 scan = refl

@@ -4,7 +4,7 @@ use Rattle.std.specs.List.{concat}
 use Rattle.std.proofs.Math.Seq.{take-append-add, take-suc}
 use Rattle.std.proofs.lemmas.List.Folds.{concat-append}
 use Rattle.std.proofs.lemmas.List.{take-append-drop, map-append, append-nil, take-append-le}
-use Rattle.pt_base.specs.Documents.{Documents, with_bytes}
+use Rattle.pt_core.specs.Documents.{Documents, with_bytes}
 use Rattle.pt_base.proofs.Writing.{with_bytes-with_bytes}
 
 -- the first pieces and the next one

@@ -1,10 +1,10 @@
 -- What surrounds a run, as far as it is told: where its bytes come from, where its documents go, and what it says.
 use Rattle.std.specs.Prelude.{ℕ, ◌≤◌, Bool, List, Option}
-use Rattle.pt_base.specs.Documents.{Documents, IsSaid}
-use Rattle.pt_base.specs.Failures.{Failures, StopsAtFailure}
-use Rattle.pt_base.specs.Files.{Files}
-use Rattle.pt_base.specs.declared.inputs.Inputs.{Ghosts as InputGhosts}
-use Rattle.pt_base.specs.declared.sink.Sink.{Ghosts as SinkGhosts}
+use Rattle.pt_core.specs.Documents.{Documents, IsSaid}
+use Rattle.pt_core.specs.Failures.{Failures, StopsAtFailure}
+use Rattle.pt_core.specs.Files.{Files}
+use Rattle.pt_core.specs.declared.inputs.Inputs.{Ghosts as InputGhosts}
+use Rattle.pt_core.specs.declared.sink.Sink.{Ghosts as SinkGhosts}
 
 -- the inputs: the files that they tell, whether one is opened, how many openings there were, and their count of faults
 pub record Source : Type 0 where

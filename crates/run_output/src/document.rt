@@ -1,11 +1,11 @@
 //! Writing a whole document.
 ghost use Rattle.std.specs.Prelude.{◌≡◌, ◌≤◌, false, OnOk, OnErr};
-ghost use Rattle.pt_base.specs.Counts.{Rose};
-ghost use Rattle.pt_base.specs.Documents.{IsCutOff, with_whole};
-ghost use Rattle.pt_base.specs.Failures.{after_err};
+ghost use Rattle.pt_core.specs.Counts.{Rose};
+ghost use Rattle.pt_core.specs.Documents.{IsCutOff, with_whole};
+ghost use Rattle.pt_core.specs.Failures.{after_err};
 
 use crate::part::write_part;
-use pt_base::{Outputs, SinkFault};
+use pt_core::{Outputs, SinkFault};
 
 /// Begins a document, writes its text and ends it.
 ///

@@ -3,13 +3,13 @@
 //! Where a write fails, the rest of its line is given up: that call was the last one.
 ghost use Rattle.std.specs.Prelude.{◌≡◌, ◌≤◌, ◌∷◌, [], true, codes, map};
 ghost use Rattle.std.specs.List.{concat};
-ghost use Rattle.pt_base.specs.Documents.{IsSaid};
-ghost use Rattle.pt_base.specs.Failures.{StopsAtFailure};
+ghost use Rattle.pt_core.specs.Documents.{IsSaid};
+ghost use Rattle.pt_core.specs.Failures.{StopsAtFailure};
 ghost use Rattle.run_output.specs.Messages.{file_line, file_page_line, program_line};
 
 use crate::pieces::write_pieces;
 use itoa::Buffer;
-use pt_base::Sink;
+use pt_core::Sink;
 
 /// Says something as a program.
 pub fn say_line<E: Sink>(errs: &mut E, program: &str, text: &str)

@@ -3,7 +3,7 @@ ghost use Rattle.std.specs.Prelude.{◌≡◌, ◌+◌, ◌≤◌, OnErr, OnOk, 
 ghost use Rattle.run_output.specs.Made.{documents_of, most_pages, no_past, past_with};
 ghost use Rattle.run_output.specs.Names.{count_of};
 
-use pt_base::NoMemory;
+use pt_core::NoMemory;
 use std::alloc::Global;
 use std::marker::Model;
 

@@ -1,12 +1,12 @@
 //! The lines that `potrace` writes to standard error.
 ghost use Rattle.std.specs.Prelude.{◌≡◌, ◌≤◌, true};
-ghost use Rattle.pt_base.specs.Documents.{IsSaid};
-ghost use Rattle.pt_base.specs.Failures.{StopsAtFailure};
+ghost use Rattle.pt_core.specs.Documents.{IsSaid};
+ghost use Rattle.pt_core.specs.Failures.{StopsAtFailure};
 ghost use Rattle.run_output.specs.Messages.{bad_words, not_opened, not_written, out_of_memory, page_line, trailing_line};
 
 use crate::line::say;
 use itoa::Buffer;
-use pt_base::Sink;
+use pt_core::Sink;
 
 /// Says that the words aren't the program's.
 pub fn say_bad_words<E: Sink>(errs: &mut E)

@@ -4,7 +4,7 @@ ghost use Rattle.std.specs.Str.{IsCharBoundary};
 ghost use Rattle.run_output.specs.Names.{backend_suffix, base_name, document_name, last_place, part_begins, suffix_begins};
 
 use itoa::Buffer;
-use pt_base::Backend;
+use pt_core::Backend;
 use std::alloc::{AllocError, Global};
 
 /// The name by which all documents of a file go.

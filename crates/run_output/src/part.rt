@@ -3,15 +3,15 @@
 //! A part begins its document or goes on with the open one, and ends it or leaves it open. Writing one takes no
 //! memory: its pieces are written one after another.
 ghost use Rattle.std.specs.Prelude.{◌≡◌, ◌≤◌, suc, [], true, false, not, map, OnOk, OnErr};
-ghost use Rattle.pt_base.specs.Counts.{Rose};
-ghost use Rattle.pt_base.specs.Failures.{after_err};
+ghost use Rattle.pt_core.specs.Counts.{Rose};
+ghost use Rattle.pt_core.specs.Failures.{after_err};
 ghost use Rattle.run_output.specs.Made.{documents_before, documents_in};
 ghost use Rattle.run_output.specs.Parts.{IsCutIn, begun, binding_of, end_part, ended, is_begun, is_first_page, page_part, part_in_pieces, prolog_before, with_part};
 ghost use Rattle.run_output.specs.declared.part.Binding.{Binding};
 
 use crate::pieces::write_pieces;
 use itoa::Buffer;
-use pt_base::{Backend, Outputs, SinkFault};
+use pt_core::{Backend, Outputs, SinkFault};
 
 /// How the pages of a file are bound: each is a document, or all together are one.
 #[derive(Clone, Copy, Debug, PartialEq, Eq)]

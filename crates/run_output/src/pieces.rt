@@ -1,11 +1,12 @@
 //! Writing pieces one after another.
 ghost use Rattle.std.specs.Prelude.{◌≡◌, ◌≤◌, ℕ, true, length, map, take, OnOk, OnErr};
 ghost use Rattle.std.specs.List.{concat};
-ghost use Rattle.pt_base.specs.Counts.{Rose};
-ghost use Rattle.pt_base.specs.Documents.{with_bytes};
-ghost use Rattle.pt_base.specs.Failures.{after_err};
+ghost use Rattle.pt_core.specs.Counts.{Rose};
+ghost use Rattle.pt_core.specs.Documents.{with_bytes};
+ghost use Rattle.pt_core.specs.Failures.{after_err};
 
-use pt_base::{Sink, SinkFault, write_whole};
+use pt_base::write_whole;
+use pt_core::{Sink, SinkFault};
 
 /// Writes the pieces one after another.
 ///

@@ -1,7 +1,7 @@
 -- How a run ends.
 use Rattle.std.proofs.Common.{◌≡◌, ℕ, ◌<◌, ◌≤◌, ◌⊎◌, inl, inr, List, length, refl, sym, ◌∙◌, ap, subst, arith, codes}
-use Rattle.pt_base.specs.Counts.{Rose, next_count}
-use Rattle.pt_base.specs.Files.{Lacks}
+use Rattle.pt_core.specs.Counts.{Rose, next_count}
+use Rattle.pt_core.specs.Files.{Lacks}
 use Rattle.run_output.specs.Names.{dash}
 use Rattle.run_output.specs.Told.{Sinks, Source, Told}
 use Rattle.small_program.specs.Input.{HasInput, TellsInput}

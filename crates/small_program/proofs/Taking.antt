@@ -1,7 +1,7 @@
 -- What standard input holds, by what was taken of it.
 use Rattle.std.proofs.Common.{◌≡◌, ℕ, ◌≤◌, List, [], ◌++◌, length, Option, None, Some, refl, sym, ◌∙◌, ap, option_map, arith, length-append}
 use Rattle.std.specs.FinMap.{get}
-use Rattle.pt_base.specs.Files.{Files, Lacks, with_file}
+use Rattle.pt_core.specs.Files.{Files, Lacks, with_file}
 use Rattle.run_output.specs.Names.{dash}
 use Rattle.small_program.specs.Input.{HasInput, HasTaken, TellsInput}
 

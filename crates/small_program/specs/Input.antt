@@ -1,7 +1,7 @@
 -- Standard input, as far as it was read.
 use Rattle.std.specs.Prelude.{◌≡◌, ℕ, List, ◌++◌, Option, None, Some}
 use Rattle.std.specs.FinMap.{get}
-use Rattle.pt_base.specs.Files.{Files}
+use Rattle.pt_core.specs.Files.{Files}
 use Rattle.run_output.specs.Names.{dash}
 
 -- standard input, where it is told, has these bytes

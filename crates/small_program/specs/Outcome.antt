@@ -1,9 +1,9 @@
 -- What a run of a program has done.
 use Rattle.std.specs.Prelude.{◌≡◌, ℕ, ◌<◌, ◌⊎◌, List, codes, false}
-use Rattle.pt_base.specs.Counts.{Rose, next_count}
-use Rattle.pt_base.specs.Documents.{IsCutOff, with_whole}
-use Rattle.pt_base.specs.Failures.{after_err}
-use Rattle.pt_base.specs.Files.{Lacks}
+use Rattle.pt_core.specs.Counts.{Rose, next_count}
+use Rattle.pt_core.specs.Documents.{IsCutOff, with_whole}
+use Rattle.pt_core.specs.Failures.{after_err}
+use Rattle.pt_core.specs.Files.{Lacks}
 use Rattle.run_output.specs.Messages.{file_line, program_line}
 use Rattle.run_output.specs.Names.{dash}
 use Rattle.run_output.specs.Told.{IsMessage, Sinks, Source}

@@ -1,12 +1,12 @@
 //! Standard input, read to its end.
 ghost use Rattle.std.specs.Prelude.{◌≡◌, ℕ, ◌+◌, ◌<◌, ◌≤◌, ◌⊎◌, true, [], List, Option, length, IfOk, IfErr, IfNone, OnOk, OnErr, IsErrOf};
-ghost use Rattle.pt_base.specs.Counts.{next_count, Rose};
-ghost use Rattle.pt_base.specs.Files.{Files, Lacks};
+ghost use Rattle.pt_core.specs.Counts.{next_count, Rose};
+ghost use Rattle.pt_core.specs.Files.{Files, Lacks};
 ghost use Rattle.run_output.specs.Names.{dash};
 ghost use Rattle.small_program.specs.Input.{HasInput, HasTaken};
 ghost use Rattle.small_program.specs.declared.input.InputStop.TheVariants.{TooLong, Unread};
 
-use pt_base::{Inputs, NoMemory};
+use pt_core::{Inputs, NoMemory};
 use std::alloc::Global;
 
 /// The most bytes of standard input that a program takes: 2^30.

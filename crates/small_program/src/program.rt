@@ -7,7 +7,7 @@ ghost use Rattle.small_program.specs.Reply.{reply_ending, reply_text, stop_endin
 use crate::ending::Ending;
 use crate::input::{InputStop, read_all};
 use crate::task::{Reply, Task};
-use pt_base::{Inputs, Outputs, Sink};
+use pt_core::{Inputs, Outputs, Sink};
 use run_output::{say_line, say_of_file, write_document};
 use std::alloc::Global;
 

@@ -3,7 +3,7 @@ ghost use Rattle.std.specs.Prelude.{◌≡◌, ℕ, List, IfOk};
 ghost use Rattle.small_program.specs.Reply.{reply_ending, reply_text};
 ghost use Rattle.small_program.specs.declared.ending.Ending.{Ending};
 
-use pt_base::NoMemory;
+use pt_core::NoMemory;
 use std::alloc::Global;
 
 /// What a task makes of an input.

@@ -5,7 +5,7 @@ ghost use Rattle.run_output.specs.Told.{IsMessage, told_of};
 ghost use Rattle.small_program.specs.declared.ending.Ending.TheVariants.{BadWords, OutOfMemory};
 
 use crate::ending::Ending;
-use pt_base::{NoMemory, Sink};
+use pt_core::{NoMemory, Sink};
 use run_output::say_line;
 use std::alloc::Global;
 use std::env::{self, Args, Env};

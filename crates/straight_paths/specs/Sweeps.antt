@@ -1,6 +1,6 @@
 -- What is straight from an index on, and a strip that holds it.
 use Rattle.std.specs.Prelude.{ℕ, ◌-◌, List, IfSome}
-use Rattle.pt_base.specs.declared.point.Point.{Point}
+use Rattle.pt_core.specs.declared.point.Point.{Point}
 use Rattle.straight_paths.specs.Straight.{path_from}
 use Rattle.straight_paths.specs.Strips.{IsStrip, StaysIn}
 use Rattle.straight_paths.specs.Tails.{IsTail}

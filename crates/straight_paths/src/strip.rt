@@ -4,7 +4,7 @@
 // near the half-line from the first to the last. A strip that holds what is straight from a point on mostly holds
 // the point before as well, so one sum tells that nothing ends sooner there.
 ghost use Rattle.std.specs.Prelude.{◌≡◌, ◌⊎◌, ◌+◌, ◌^◌, ◌<◌, ◌≤◌, ◌+ℤ◌, ◌*ℤ◌, neg_ℤ, ◌≤ℤ◌, ℕ, ℤ, suc, pos, length, unsigned_abs, IfSome};
-ghost use Rattle.pt_base.specs.declared.point.Point.{Point};
+ghost use Rattle.pt_core.specs.declared.point.Point.{Point};
 ghost use Rattle.straight_paths.specs.Cones.{IsShort};
 ghost use Rattle.straight_paths.specs.Corners.{step_from};
 ghost use Rattle.straight_paths.specs.Straight.{path_from};

@@ -4,7 +4,7 @@ use Rattle.std.specs.Prelude.{ℕ, Bool, ◌*◌, List, [], ◌++◌, codes, dec
 use Rattle.outline_pen.specs.Shapes.{flat_text, group_text}
 use Rattle.outline_pen.specs.declared.pen.Mark.{Mark}
 use Rattle.outline_pen.specs.declared.pen.Mark.TheVariants as mark
-use Rattle.pt_base.specs.declared.trace.Trace.{Trace}
+use Rattle.pt_core.specs.declared.trace.Trace.{Trace}
 
 -- what stands around the numbers of a path: two outlines of one path have a space between them
 abbrev pub svg_mark : Mark → List ℕ

@@ -4,7 +4,7 @@ ghost use Rattle.svg_backend.specs.SvgText.{group_head, head_text, sides_text, s
 
 use crate::pen::SvgPen;
 use outline_pen::{put_groups, put_one};
-use pt_base::{NoMemory, Settings, Trace, put_number};
+use pt_core::{NoMemory, Settings, Trace, put_number};
 use std::alloc::Global;
 
 /// The document of a page's trace: one path for each shape with its holes, or one path for all

@@ -1,8 +1,8 @@
 -- The definitions on small pictures.
 use Rattle.std.proofs.Common.{◌≡◌, true, false, cond, ◌&&◌, nat_lt, nat_le, [], ◌∷◌, refl}
-use Rattle.pt_base.specs.declared.path.Sign.TheVariants.{Plus, Minus}
-use Rattle.pt_base.specs.declared.policy.Policy.{Policy}
-use Rattle.pt_base.specs.declared.policy.Policy.TheVariants.{Left, Right, Black, White, Majority, Minority}
+use Rattle.pt_core.specs.declared.path.Sign.TheVariants.{Plus, Minus}
+use Rattle.pt_core.specs.declared.policy.Policy.{Policy}
+use Rattle.pt_core.specs.declared.policy.Policy.TheVariants.{Left, Right, Black, White, Majority, Minority}
 use Rattle.bit_image.specs.Image.{Image, with_pixel}
 use Rattle.bit_image.specs.Page.{Page, image_of}
 use Rattle.turn_policies.specs.declared.heading.Dir.TheVariants.{North, East, South}

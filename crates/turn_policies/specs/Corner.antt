@@ -1,6 +1,6 @@
 -- Corners of pixels, as points of the plane: corner (x, y) is the lower left corner of pixel (x, y).
 use Rattle.std.specs.Prelude.{pos, ◌≤ℤ◌}
-use Rattle.pt_base.specs.declared.point.Point.{Point}
+use Rattle.pt_core.specs.declared.point.Point.{Point}
 
 -- both coordinates are 0 to 32767, so the corner lies on a page or not far beyond
 pub record IsCorner (at : Point) : Type 0 where

@@ -1,10 +1,10 @@
 -- Which way a path turns at a corner (Selinger, "Potrace", 2003, sections 2.1.1 and 2.1.2; the potrace
 -- manual page, option "turnpolicy").
 use Rattle.std.specs.Prelude.{ℕ, Bool, true, false, not, cond}
-use Rattle.pt_base.specs.declared.path.Sign.{Sign}
-use Rattle.pt_base.specs.declared.path.Sign.TheVariants.{Plus, Minus}
-use Rattle.pt_base.specs.declared.policy.Policy.{Policy}
-use Rattle.pt_base.specs.declared.policy.Policy.TheVariants.{Left, Right, Black, White, Majority, Minority}
+use Rattle.pt_core.specs.declared.path.Sign.{Sign}
+use Rattle.pt_core.specs.declared.path.Sign.TheVariants.{Plus, Minus}
+use Rattle.pt_core.specs.declared.policy.Policy.{Policy}
+use Rattle.pt_core.specs.declared.policy.Policy.TheVariants.{Left, Right, Black, White, Majority, Minority}
 use Rattle.bit_image.specs.Image.{Image, south_west}
 use Rattle.turn_policies.specs.declared.heading.Dir.{Dir}
 use Rattle.turn_policies.specs.declared.edge.Edge.{Edge}

@@ -1,7 +1,7 @@
 //! What the walk along a boundary rests on.
 ghost use Rattle.std.specs.Prelude.{◌≡◌, ◌≢◌, ◌≤◌, ℕ};
-ghost use Rattle.pt_base.specs.declared.path.Sign.{Sign};
-ghost use Rattle.pt_base.specs.declared.policy.Policy.{Policy};
+ghost use Rattle.pt_core.specs.declared.path.Sign.{Sign};
+ghost use Rattle.pt_core.specs.declared.policy.Policy.{Policy};
 ghost use Rattle.bit_image.specs.Image.{Image, Fits};
 ghost use Rattle.turn_policies.specs.Boundary.{IsBoundary};
 ghost use Rattle.turn_policies.specs.Heading.{opposite_of};

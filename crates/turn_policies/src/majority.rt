@@ -8,7 +8,7 @@ ghost use Rattle.turn_policies.specs.Square.{IsSquare};
 
 use crate::around::square;
 use bit_image::Bitmap;
-use pt_base::Point;
+use pt_core::Point;
 
 /// Whether black is in the majority around a corner.
 ///

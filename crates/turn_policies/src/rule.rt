@@ -11,7 +11,7 @@ use crate::edge::Edge;
 use crate::heading::Dir;
 use crate::majority::major_at;
 use bit_image::Bitmap;
-use pt_base::{Point, Policy, Sign};
+use pt_core::{Point, Policy, Sign};
 
 /// Where a path goes on that comes to a corner with a heading.
 ///

@@ -1,6 +1,7 @@
 //! Texts of lists.
 
-use pt_base::{NoMemory, Path, Point, Polygon, Sequence, Sign, Trace, points, polygons};
+use pt_base::{points, polygons};
+use pt_core::{NoMemory, Path, Point, Polygon, Sequence, Sign, Trace};
 use std::alloc::Global;
 use std::test::Fail;
 

@@ -1,9 +1,7 @@
 //! The outside in memory. What each call does is a clause; that memory is there isn't.
 
-use pt_base::{
-    DeviceFault, InCall, Inputs, MemInputs, MemOutputs, MemSink, NamedBytes, OutCall, Outputs,
-    Sink, write_whole,
-};
+use pt_base::{InCall, MemInputs, MemOutputs, MemSink, NamedBytes, OutCall, write_whole};
+use pt_core::{DeviceFault, Inputs, Outputs, Sink};
 use std::test::Fail;
 
 #[test]

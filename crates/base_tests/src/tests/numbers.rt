@@ -1,6 +1,7 @@
 //! Numbers as people write them, and roots.
 
-use pt_base::{BadDecimal, isqrt, quotient_root, read_micro, read_whole};
+use pt_base::{BadDecimal, read_micro, read_whole};
+use pt_core::{isqrt, quotient_root};
 
 #[test]
 fn decimals_in_millionths(rt: HostRuntime) {

@@ -1,8 +1,7 @@
 //! Real files and streams, of which no clause tells what they hold.
 
-use pt_base::{
-    DeviceFault, ErrSink, FileInputs, FileOutputs, Inputs, OpenFault, Outputs, write_whole,
-};
+use pt_base::{ErrSink, FileInputs, FileOutputs, write_whole};
+use pt_core::{DeviceFault, Inputs, OpenFault, Outputs};
 use std::test::Fail;
 
 const TEXT: &[u8] = b"P1 1 1 1\n";

@@ -7,7 +7,7 @@ ghost use Rattle.bitmap_input.specs.BmpHeader.{two_at, four_at};
 use crate::raw::read_block;
 use crate::stop::Stop;
 use crate::window::Window;
-use pt_base::Inputs;
+use pt_core::Inputs;
 use std::marker::Model;
 
 /// The most bytes of a header behind its magic.

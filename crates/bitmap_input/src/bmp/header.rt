@@ -15,7 +15,7 @@ use crate::header::check;
 use crate::number::CAP;
 use crate::stop::Stop;
 use crate::window::Window;
-use pt_base::Inputs;
+use pt_core::Inputs;
 
 /// What the header of a BMP picture says.
 #[derive(Clone, Copy)]

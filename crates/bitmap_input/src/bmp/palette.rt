@@ -11,7 +11,7 @@ use crate::bmp::pixels::Tone;
 use crate::raw::read_block;
 use crate::stop::Stop;
 use crate::window::Window;
-use pt_base::Inputs;
+use pt_core::Inputs;
 
 /// Whether a colour of a palette is a black pixel.
 fn is_black(tone: &Tone, colors: u32, size: u32, palette: &[u8], i: u32) -> bool

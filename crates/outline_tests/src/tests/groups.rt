@@ -1,12 +1,12 @@
 //! Shapes with their holes on small pages.
 ghost use Rattle.std.specs.Prelude.{◌≡◌, All, IfOk, pos, ◌≤ℤ◌, ◌<◌, ◌^◌, length};
-ghost use Rattle.pt_base.specs.ClosedWalk.{IsClosedWalk, point_at};
+ghost use Rattle.pt_core.specs.ClosedWalk.{IsClosedWalk, point_at};
 ghost use Rattle.path_decompose.specs.Bounds.{IsCornerOf};
 
 use page_samples::drawn;
 use path_decompose::decompose;
 use path_tree::group;
-use pt_base::{Group, Path, Policy};
+use pt_core::{Group, Path, Policy};
 use std::alloc::Global;
 use std::test::Fail;
 

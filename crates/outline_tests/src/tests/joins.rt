@@ -6,7 +6,7 @@ ghost use Rattle.curve_join.specs.Vector.{IsPlaced};
 use super::samples::{self, Place, Row, at, points_at};
 use corner_smooth::smooth;
 use curve_join::{Cubic, Vector, join, joined, touching};
-use pt_base::{Piece, Point};
+use pt_core::{Piece, Point};
 use std::alloc::Global;
 use std::test::Fail;
 

@@ -3,7 +3,8 @@
 use super::segments::segment_sums;
 use page_samples::{hooked_stairs, round, triangle};
 use prefix_moments::{Moments, Sums};
-use pt_base::{MOST_STEPS, NoMemory, Point, is_closed_walk};
+use pt_base::is_closed_walk;
+use pt_core::{MOST_STEPS, NoMemory, Point};
 use std::alloc::Global;
 use std::test::Fail;
 use vertex_adjust::{Line, line_of};

@@ -1,7 +1,7 @@
 //! Lines and points that look drawn by lot.
 
 use super::plain::moved;
-use pt_base::Point;
+use pt_core::Point;
 use vertex_adjust::Line;
 
 /// Numbers that look drawn by lot, the same ones each time (xorshift).

@@ -1,6 +1,6 @@
 //! Numbers with three decimals, whose texts were written down by hand.
 
-use pt_base::put_fixed;
+use pt_core::put_fixed;
 use std::test::Fail;
 
 #[test]

@@ -1,6 +1,6 @@
 //! The best place of a vertex as it is defined: all places are tried.
 
-use pt_base::Point;
+use pt_core::Point;
 use vertex_adjust::Line;
 
 /// A shift with what decides between shifts, in this order: of two the less one is the better.

@@ -2,7 +2,7 @@
 ghost use Rattle.std.specs.Prelude.{◌≡◌, All, IfOk, length};
 ghost use Rattle.corner_smooth.specs.Corner.{IsNearWidePage};
 
-use pt_base::{Backend, Group, Piece, Point, Policy, Sequence, Settings, Trace};
+use pt_core::{Backend, Group, Piece, Point, Policy, Sequence, Settings, Trace};
 use std::alloc::Global;
 use std::test::Fail;
 

@@ -3,7 +3,7 @@ ghost use Rattle.std.specs.Prelude.{IsTrue, pos, unsigned_abs, ◌≤◌, ◌≤
 
 use super::lot::Lot;
 use super::plain::{best_of_all, best_of_column, moved};
-use pt_base::{LONGEST_SIDE, Point};
+use pt_core::{LONGEST_SIDE, Point};
 use vertex_adjust::{Line, column, vertex};
 
 /// How large the numbers of a normal are, and how far from the point a line's centre may lie: lines that meet

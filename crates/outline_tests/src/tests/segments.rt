@@ -1,11 +1,11 @@
 //! Segments of polygons, as the calls that are tested take them.
 ghost use Rattle.std.specs.Prelude.{◌≡◌, ◌+◌, ◌-◌, ◌≤◌, ◌<◌, ◌^◌, IsTrue, length};
-ghost use Rattle.pt_base.specs.OnPage.{AreOnPage};
+ghost use Rattle.pt_core.specs.OnPage.{AreOnPage};
 ghost use Rattle.vertex_adjust.specs.Line.{AreSums};
 ghost use Rattle.vertex_adjust.specs.Vertex.{IsPolygonAlong, IsSegmentOf, segment_end_of};
 
 use prefix_moments::{Moments, Sums};
-use pt_base::{MOST_STEPS, Point};
+use pt_core::{MOST_STEPS, Point};
 
 /// Whether the indices are those of a polygon of the points.
 pub(super) fn is_polygon(points: &[Point], at: &[u32]) -> bool

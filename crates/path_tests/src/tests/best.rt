@@ -3,7 +3,7 @@
 ghost use Rattle.std.specs.Prelude.{◌≤◌, ◌<◌, length};
 
 use page_samples::is_possible;
-use pt_base::Point;
+use pt_core::Point;
 
 /// The vertices of the best polygon, a bit for each, and its penalty.
 pub(super) fn best(points: &[Point]) -> (u32, u64)

@@ -1,7 +1,7 @@
 //! Texts of certificates, and what becomes of them where a byte or a number is another.
 
 use outline_check::{Verdict, check_proofs};
-use pt_base::{NoMemory, put_number};
+use pt_core::{NoMemory, put_number};
 use std::alloc::Global;
 use std::test::Fail;
 

@@ -7,7 +7,8 @@ use cyclic_optimal::cyclic_polygon;
 use page_samples::{Shape, drawn, noise, numbered, shaped};
 use path_decompose::decompose;
 use polygon_optimal::polygon;
-use pt_base::{NoMemory, Path, Point, Policy, is_closed_walk};
+use pt_base::is_closed_walk;
+use pt_core::{NoMemory, Path, Point, Policy};
 use std::alloc::Global;
 use std::test::Fail;
 

@@ -4,7 +4,8 @@ ghost use Rattle.std.specs.Prelude.{◌≡◌};
 use page_samples::{round, triangle};
 use polygon_optimal::polygon;
 use prefix_moments::Moments;
-use pt_base::{MOST_STEPS, Point, is_closed_walk};
+use pt_base::is_closed_walk;
+use pt_core::{MOST_STEPS, Point};
 use std::alloc::Global;
 use std::test::Fail;
 

@@ -1,10 +1,11 @@
 //! The longest segment that a page has room for.
 ghost use Rattle.std.specs.Prelude.{IfOk};
-ghost use Rattle.pt_base.specs.ClosedWalk.{IsClosedWalk};
-ghost use Rattle.pt_base.specs.OnPage.{AreOnPage};
+ghost use Rattle.pt_core.specs.ClosedWalk.{IsClosedWalk};
+ghost use Rattle.pt_core.specs.OnPage.{AreOnPage};
 
 use page_samples::hooked_stairs;
-use pt_base::{Point, is_closed_walk};
+use pt_base::is_closed_walk;
+use pt_core::Point;
 use std::alloc::Global;
 use std::test::Fail;
 use straight_paths::Reach;

@@ -1,12 +1,13 @@
 //! The paths of small pages, and those of noise beside a plain program.
 ghost use Rattle.std.specs.Prelude.{All};
-ghost use Rattle.pt_base.specs.ClosedWalk.{IsClosedWalk};
+ghost use Rattle.pt_core.specs.ClosedWalk.{IsClosedWalk};
 ghost use Rattle.path_decompose.specs.Bounds.{IsCornerOf};
 
 use crate::tests::plain::paths_to_the_right;
 use page_samples::{checkered, drawn, noise};
 use path_decompose::{decompose, inside, keep};
-use pt_base::{Path, Policy, Sign, points};
+use pt_base::points;
+use pt_core::{Path, Policy, Sign};
 use std::alloc::Global;
 use std::test::Fail;
 

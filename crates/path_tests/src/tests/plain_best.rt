@@ -1,10 +1,10 @@
 //! The plain program: a path's best polygon by each pair of a point and one that its segments reach.
 ghost use Rattle.std.specs.Prelude.{◌≡◌, ◌+◌, ◌<◌, ◌≤◌, length};
-ghost use Rattle.pt_base.specs.ClosedWalk.{IsClosedWalk};
-ghost use Rattle.pt_base.specs.OnPage.{AreOnPage};
+ghost use Rattle.pt_core.specs.ClosedWalk.{IsClosedWalk};
+ghost use Rattle.pt_core.specs.OnPage.{AreOnPage};
 
 use prefix_moments::Moments;
-use pt_base::{MOST_STEPS, NoMemory, Point};
+use pt_core::{MOST_STEPS, NoMemory, Point};
 use std::alloc::Global;
 use straight_paths::Reach;
 

@@ -4,7 +4,8 @@ use crate::tests::best::best;
 use page_samples::numbered;
 use path_decompose::decompose;
 use polygon_optimal::polygon;
-use pt_base::{Point, Policy, is_closed_walk};
+use pt_base::is_closed_walk;
+use pt_core::{Point, Policy};
 use std::alloc::Global;
 use std::test::Fail;
 

@@ -1,12 +1,13 @@
 //! What is known by hand of the paths round rectangles: segments, corners, sums, penalties and polygons.
 ghost use Rattle.std.specs.Prelude.{IfOk};
-ghost use Rattle.pt_base.specs.ClosedWalk.{IsClosedWalk};
-ghost use Rattle.pt_base.specs.OnPage.{AreOnPage};
+ghost use Rattle.pt_core.specs.ClosedWalk.{IsClosedWalk};
+ghost use Rattle.pt_core.specs.OnPage.{AreOnPage};
 
 use page_samples::round;
 use polygon_optimal::polygon;
 use prefix_moments::{Moments, Sums};
-use pt_base::{Point, is_closed_walk};
+use pt_base::is_closed_walk;
+use pt_core::Point;
 use std::alloc::Global;
 use std::test::Fail;
 use straight_paths::Reach;

@@ -2,7 +2,7 @@
 ghost use Rattle.turn_policies.specs.Corner.{IsCorner};
 
 use page_samples::drawn;
-use pt_base::{Point, Policy, Sign};
+use pt_core::{Point, Policy, Sign};
 use std::test::Fail;
 use turn_policies::{Dir, major, turn};
 

@@ -2,7 +2,8 @@
 ghost use Rattle.std.specs.Prelude.{◌≡◌, ◌<◌, length};
 
 use page_samples::{draw, is_possible};
-use pt_base::{Point, is_closed_walk};
+use pt_base::is_closed_walk;
+use pt_core::Point;
 use std::alloc::Global;
 use std::test::Fail;
 use straight_paths::Reach;

@@ -2,9 +2,8 @@
 ghost use Rattle.std.specs.Prelude.{◌≡◌, IfOk, string_bytes};
 
 use potrace_main::run;
-use pt_base::{
-    Gate, InCall, MemInputs, MemOutputs, MemSink, NamedBytes, NoGate, NoMemory, OutCall,
-};
+use pt_base::{InCall, MemInputs, MemOutputs, MemSink, NamedBytes, OutCall};
+use pt_core::{Gate, NoGate, NoMemory};
 use std::alloc::Global;
 use std::process::Abort;
 use std::test::Fail;

@@ -6,7 +6,8 @@ use check_run::check_run;
 use outline_check::{Verdict, check_proofs};
 use page_samples::numbered;
 use page_trace::document;
-use pt_base::{Backend, MemInputs, MemOutputs, MemSink, NoGate, NoMemory, Policy, Settings};
+use pt_base::{MemInputs, MemOutputs, MemSink};
+use pt_core::{Backend, NoGate, NoMemory, Policy, Settings};
 use std::alloc::Global;
 use std::test::Fail;
 

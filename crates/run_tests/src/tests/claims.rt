@@ -3,7 +3,7 @@ ghost use Rattle.std.specs.Prelude.{◌≡◌, IfOk};
 
 use crate::tests::workers_alone::{Width, pages};
 use page_workers::{ClaimSeat, Claims, Done, work};
-use pt_base::{NoGate, NoMemory};
+use pt_core::{NoGate, NoMemory};
 use std::alloc::Global;
 use std::test::Fail;
 

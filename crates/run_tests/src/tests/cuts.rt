@@ -1,7 +1,7 @@
 //! Inputs that are cut off after every number of bytes, and pages with hostile headers.
 
 use crate::tests::cases::{Case, PIXEL, PLAIN, check_all};
-use pt_base::NoGate;
+use pt_core::NoGate;
 use std::test::Fail;
 
 const LEFT: &str = "-b points -t 0";

@@ -1,7 +1,7 @@
 //! One picture in all formats, and a whole scan.
 
 use crate::tests::cases::{Case, PLAIN, Page, check_pages};
-use pt_base::NoGate;
+use pt_core::NoGate;
 use std::alloc::Global;
 use std::test::Fail;
 

@@ -3,7 +3,7 @@
 //! With memory at hand this is met as it stands. It is meant to be run with one growth refused, whichever it is.
 
 use crate::tests::cases::{Case, Done, PIXEL, PIXEL_POLYGON, PLAIN, WHITE, document_at};
-use pt_base::NoGate;
+use pt_core::NoGate;
 use std::test::Fail;
 
 const PAGE: &[u8] = b"P1 1 1 1\n";

@@ -3,7 +3,7 @@
 use crate::tests::cases::split;
 use command_asks::{Ask, WordFault, settings_of};
 use command_words::Name;
-use pt_base::{Backend, Policy, Settings};
+use pt_core::{Backend, Policy, Settings};
 use std::alloc::Global;
 use std::test::Fail;
 

@@ -2,7 +2,7 @@
 
 use crate::tests::cases::{Case, Done, PIXEL, PLAIN, document_at};
 use page_samples::HoldsFirst;
-use pt_base::NoGate;
+use pt_core::NoGate;
 use std::alloc::Global;
 use std::process::Abort;
 use std::test::Fail;

@@ -4,7 +4,7 @@
 use bit_image::Bitmap;
 use page_samples::noise;
 use page_workers::{PageJob, trace_all};
-use pt_base::{Gate, NoGate, NoMemory};
+use pt_core::{Gate, NoGate, NoMemory};
 use std::alloc::Global;
 use std::sync::atomic::{AtomicU64, Ordering};
 use std::test::Fail;

@@ -1,7 +1,7 @@
 use Rattle.std.proofs.Common.{◌<◌, ◌≡◌, ◌⊎◌, arith, rules}
 use Rattle.bitmap_input.proofs.Headers.{checks_zero, checks_large}
 use Rattle.bitmap_input.proofs.header.check.Goals as goal
-use Rattle.pt_base.specs.declared.limits.TheConstants.{LONGEST_SIDE}
+use Rattle.pt_core.specs.declared.limits.TheConstants.{LONGEST_SIDE}
 
 pub returns-then-width-eq0-clause-checks : goal.returns-then-width-eq0-clause-checks
 returns-then-width-eq0-clause-checks c =

@@ -1,6 +1,6 @@
 use Rattle.std.proofs.Common.{◌≡◌, ◌+◌, ◌-◌, length, map}
 use Rattle.std.specs.List.{All, range_with_len}
-use Rattle.pt_base.specs.ClosedWalk.{point_at}
+use Rattle.pt_core.specs.ClosedWalk.{point_at}
 use Rattle.corner_smooth.specs.Corner.{HasRoundness, StaysNear, corner_piece}
 use Rattle.corner_smooth.proofs.outline.smooth.Given as goal
 

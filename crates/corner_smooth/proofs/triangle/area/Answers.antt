@@ -1,7 +1,7 @@
 use Rattle.std.proofs.Common.{◌^◌, ◌≤◌, ℕ, ℤ, ◌-ℤ◌, unsigned_abs, w64, to_z, of_z, refl, sym, subst, arith}
 use Rattle.std.proofs.lemmas.Int.{fits_signed_from_abs}
 use Rattle.std.specs.Int.RustNames.{FitsSigned}
-use Rattle.pt_base.proofs.Sizes.{back}
+use Rattle.pt_core.proofs.Sizes.{back}
 use Rattle.corner_smooth.proofs.Fitting.{difference_is, difference_passed, reach_passed, product_is, size_is, size_most}
 use Rattle.corner_smooth.proofs.triangle.area.Goals as goal
 

@@ -1,6 +1,6 @@
 use Rattle.std.proofs.Common.{◌≡◌, ℕ, ◌+◌, ◌^◌, ◌≤◌, ℤ, ◌-ℤ◌, unsigned_abs, w32, w64, to_z, of_z, refl, ap, ◌∙◌, arith}
 use Rattle.corner_smooth.specs.Corner.{IsInReach}
-use Rattle.pt_base.proofs.Sizes.{back}
+use Rattle.pt_core.proofs.Sizes.{back}
 use Rattle.corner_smooth.proofs.Fitting.{difference_is, difference_passed, reach_passed}
 use Rattle.corner_smooth.proofs.triangle.distance.Goals as goal
 

@@ -1,7 +1,7 @@
 use Rattle.std.proofs.Common.{◌*ℤ◌, ◌^◌, w64, arith}
 use Rattle.std.proofs.lemmas.Int.{to_z-of_z, fits_signed_from_abs}
 use Rattle.std.specs.Int.RustNames.{FitsSigned}
-use Rattle.pt_base.proofs.Sizes.{product_most}
+use Rattle.pt_core.proofs.Sizes.{product_most}
 use Rattle.corner_smooth.proofs.triangle.product.Goals as goal
 
 pub returns-clause-value : goal.returns-clause-value

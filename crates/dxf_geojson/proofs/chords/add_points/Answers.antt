@@ -1,7 +1,7 @@
 use Rattle.std.proofs.Common.{◌≡◌, ℕ, ◌+◌, ◌<◌, List, ◌∷◌, ◌++◌, length, get_or, drop, sym, ap, ◌∙◌, suc, append_assoc, add-one, drop-cons}
-use Rattle.pt_base.specs.Outlines.{end_of}
-use Rattle.pt_base.specs.declared.piece.Piece.{Piece}
-use Rattle.pt_base.specs.declared.point.Point.{Point}
+use Rattle.pt_core.specs.Outlines.{end_of}
+use Rattle.pt_core.specs.declared.piece.Piece.{Piece}
+use Rattle.pt_core.specs.declared.point.Point.{Point}
 use Rattle.dxf_geojson.specs.Chords.{piece_points, points_from}
 use Rattle.dxf_geojson.proofs.chords.add_points.Goals as goal
 

@@ -1,7 +1,7 @@
 use Rattle.std.proofs.Common.{rules, w32}
 use Rattle.std.proofs.lemmas.Int.{to_z-of_z}
 use Rattle.std.specs.Int.RustNames.{FitsSigned}
-use Rattle.pt_base.proofs.Appending.{two, four}
+use Rattle.pt_core.proofs.Appending.{two, four}
 use Rattle.dxf_geojson.proofs.drawing.put_vertex.Goals as goal
 
 pub returns : goal.returns

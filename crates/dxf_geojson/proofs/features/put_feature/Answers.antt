@@ -1,4 +1,4 @@
-use Rattle.pt_base.proofs.Appending.{four}
+use Rattle.pt_core.proofs.Appending.{four}
 use Rattle.dxf_geojson.proofs.features.put_feature.Goals as goal
 
 pub returns : goal.returns

@@ -1,5 +1,5 @@
 use Rattle.std.proofs.Common.{◌≡◌, ◌++◌, drop, flat_map}
-use Rattle.pt_base.specs.Outlines.{outline_at}
+use Rattle.pt_core.specs.Outlines.{outline_at}
 use Rattle.dxf_geojson.specs.GeoJsonText.{hole_text}
 use Rattle.dxf_geojson.proofs.features.put_holes.Given as goal
 

@@ -1,7 +1,7 @@
 -- The sum of the weighted coordinates lies between 512 times the least and 512 times the greatest number of 32 bits.
 use Rattle.std.proofs.Common.{pos, ◌*ℤ◌, w32, ap, ◌∙◌, arith}
 use Rattle.std.proofs.lemmas.Int.{to_z-of_z}
-use Rattle.pt_base.specs.Floor.{floor_of}
+use Rattle.pt_core.specs.Floor.{floor_of}
 use Rattle.dxf_geojson.proofs.Means.{AreWeighted, three_fits, four_fits, quotient_is, quotient_fits, quotient_back, same_sum}
 use Rattle.dxf_geojson.proofs.mean.mean.Goals as goal
 

@@ -1,5 +1,5 @@
 use Rattle.std.proofs.Common.{◌≡◌, ◌∙◌, ◌∷◌, ◌*◌, ℕ, List, Err, ap, refl, subst, arith}
-use Rattle.pt_base.specs.Files.{Lacks}
+use Rattle.pt_core.specs.Files.{Lacks}
 use Rattle.run_output.specs.declared.status.Status.TheVariants as status
 use Rattle.page_batches.specs.Desks.{sinks_at}
 use Rattle.file_documents.specs.Items.{told_contents}

@@ -1,5 +1,5 @@
 use Rattle.std.proofs.Common.{◌≡◌, ◌≤◌, ◌+◌, ◌*◌, length, min, take}
-use Rattle.pt_base.specs.Counts.{last_count}
+use Rattle.pt_core.specs.Counts.{last_count}
 use Rattle.page_batches.specs.Desks.{Keeps, sinks_at}
 use Rattle.file_documents.specs.Items.{told_contents}
 use Rattle.file_documents.specs.Outcome.{OpensFirst}

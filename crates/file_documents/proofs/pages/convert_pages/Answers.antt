@@ -1,7 +1,7 @@
 use Rattle.std.proofs.Common.{◌≡◌, suc, ◌+◌, ◌*◌, ◌∙◌, true, false, ap, refl, sym, arith}
 use Rattle.run_output.specs.Made.{documents_before}
 use Rattle.run_output.proofs.Naming.{next_name-made_with}
-use Rattle.pt_base.specs.Files.{unread}
+use Rattle.pt_core.specs.Files.{unread}
 use Rattle.page_batches.specs.Desks.{sinks_at}
 use Rattle.run_output.specs.Told.{source_of}
 use Rattle.file_documents.specs.Tasks.{manner_of}

@@ -1,5 +1,5 @@
 use Rattle.std.proofs.Common.{◌≡◌, ◌≤◌, ◌*◌, ◌-◌, true}
-use Rattle.pt_base.specs.Files.{unread}
+use Rattle.pt_core.specs.Files.{unread}
 use Rattle.bitmap_input.specs.Reading.{AtEnd}
 use Rattle.page_batches.specs.Desks.{Keeps, sinks_at}
 use Rattle.run_output.specs.Told.{source_of}

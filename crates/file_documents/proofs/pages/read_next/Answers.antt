@@ -1,5 +1,5 @@
 use Rattle.std.proofs.Common.{◌≡◌, Err, ap}
-use Rattle.pt_base.specs.Files.{unread}
+use Rattle.pt_core.specs.Files.{unread}
 use Rattle.bitmap_input.specs.Cut.Ending.{End, Trailing}
 use Rattle.bitmap_input.specs.Front.{front}
 use Rattle.bitmap_input.specs.Front.Answer.{Ends}

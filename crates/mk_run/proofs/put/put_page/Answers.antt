@@ -1,7 +1,7 @@
 use Rattle.std.proofs.Common.{ℕ, ◌≤◌, inl, inr, List, [], length, take, refl, ap, ◌∙◌, subst, arith}
 use Rattle.mk_run.specs.Put.{GoesWell}
 use Rattle.mk_run.specs.Work.{header_of}
-use Rattle.pt_base.specs.Documents.{with_bytes, with_open}
+use Rattle.pt_core.specs.Documents.{with_bytes, with_open}
 use Rattle.run_output.specs.Names.{dash}
 use Rattle.run_output.specs.Told.{told_of}
 use Rattle.mk_run.proofs.Breaking.{down_on, head_put, page_breaks, page_cut, page_put, well_on}

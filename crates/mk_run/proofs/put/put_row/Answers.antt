@@ -1,6 +1,6 @@
 use Rattle.std.proofs.Common.{◌≡◌, ℕ, ◌≤◌, List, ◌++◌, length, take, ap, ◌∙◌, subst}
 use Rattle.std.proofs.lemmas.List.{with_items_is}
-use Rattle.pt_base.specs.Documents.{with_bytes}
+use Rattle.pt_core.specs.Documents.{with_bytes}
 use Rattle.mk_run.specs.Result.{scan_of}
 use Rattle.mk_run.specs.Work.{header_of}
 use Rattle.mk_run.proofs.Cutting.{scan_is}

@@ -1,5 +1,5 @@
 use Rattle.std.proofs.Common.{List, length, IsTrue, sym, subst}
-use Rattle.pt_base.specs.declared.point.Point.{Point}
+use Rattle.pt_core.specs.declared.point.Point.{Point}
 use Rattle.polygon_optimal.specs.Lasts.{IsUpToLast}
 use Rattle.polygon_optimal.specs.Polygon.{IsSegment, penalty_of}
 use Rattle.polygon_optimal.proofs.Reaching.{segment_up_to, up_to_segment}

@@ -1,6 +1,6 @@
 use Rattle.std.proofs.Common.{◌≡◌, ℕ, List, ◌++◌, length, take, sym, ap, ◌∙◌, subst, arith}
 use Rattle.std.proofs.Math.Seq.{take-append_seam}
-use Rattle.pt_base.specs.declared.point.Point.{Point}
+use Rattle.pt_core.specs.declared.point.Point.{Point}
 use Rattle.polygon_optimal.specs.Lasts.{IsUpToLast}
 use Rattle.polygon_optimal.specs.Polygon.{IsSegment, penalty_of}
 use Rattle.polygon_optimal.proofs.Reaching.{segment_up_to, up_to_segment}

@@ -1,4 +1,4 @@
-use Rattle.pt_base.proofs.Appending.{four}
+use Rattle.pt_core.proofs.Appending.{four}
 use Rattle.outline_pen.proofs.strokes.put_curve.Goals as goal
 
 pub returns : goal.returns

@@ -1,6 +1,6 @@
 use Rattle.std.proofs.Common.{◌∙◌, ◌+◌, [], ◌∷◌, drop, refl, sym, subst, arith}
 use Rattle.std.specs.Prelude.{string_bytes}
-use Rattle.pt_base.proofs.Appending.{on_err}
+use Rattle.pt_core.proofs.Appending.{on_err}
 use Rattle.run_output.specs.Messages.{trailing_line}
 use Rattle.page_batches.specs.Entries.{AreInOrder}
 use Rattle.page_batches.proofs.Batching.{end_cut, end_written, entries_from, message_written, none_written, open_behind_page, page_cut, page_written, said_with, turn_at}

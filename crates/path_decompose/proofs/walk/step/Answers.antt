@@ -1,7 +1,7 @@
 -- Each heading's end, which lies on the page, and the turn there.
 use Rattle.std.proofs.Common.{◌≡◌, ◌-◌, ◌+◌, ◌≤◌, suc, pred, refl, sym, subst, arith}
 use Rattle.std.proofs.lemmas.Int.{ints}
-use Rattle.pt_base.specs.declared.limits.TheConstants.{LONGEST_SIDE}
+use Rattle.pt_core.specs.declared.limits.TheConstants.{LONGEST_SIDE}
 use Rattle.bit_image.specs.Image.{Fits}
 use Rattle.bit_image.specs.Page.{Page, image_of}
 use Rattle.turn_policies.specs.Boundary.{IsBoundary}

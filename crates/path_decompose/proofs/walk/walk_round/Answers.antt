@@ -1,6 +1,6 @@
 -- Each edge is one more step of the walk; the first edge comes again before the page has no more edges.
 use Rattle.std.proofs.Common.{◌≡◌, ◌∙◌, ◌<◌, ◌≤◌, ◌*◌, suc, length, ap, sym, arith, add-one}
-use Rattle.pt_base.specs.declared.limits.TheConstants.{LONGEST_SIDE}
+use Rattle.pt_core.specs.declared.limits.TheConstants.{LONGEST_SIDE}
 use Rattle.bit_image.specs.Page.{image_of}
 use Rattle.path_decompose.proofs.Noted.{none_noted, length-push, noted_more, noted_closed, noted_small}
 use Rattle.path_decompose.proofs.OnPage.{edge_on}

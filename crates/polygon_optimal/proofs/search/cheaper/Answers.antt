@@ -1,5 +1,5 @@
 use Rattle.std.proofs.Common.{ℕ, ◌<◌, ◌≤◌, List, length, refl, subst, arith}
-use Rattle.pt_base.specs.declared.point.Point.{Point}
+use Rattle.pt_core.specs.declared.point.Point.{Point}
 use Rattle.prefix_moments.specs.Sums.{IsPenalty}
 use Rattle.polygon_optimal.specs.OnePenalty.{penalty_is, penalty_is_one}
 use Rattle.polygon_optimal.proofs.search.cheaper.Goals as goal

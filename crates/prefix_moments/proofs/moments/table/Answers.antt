@@ -1,8 +1,8 @@
 use Rattle.std.proofs.Common.{◌≡◌, ℕ, length, ap, arith, sym, subst}
 use Rattle.std.proofs.Math.Nat.{mod-eq_of_lt}
 use Rattle.std.specs.Prelude.{slice_index_or}
-use Rattle.pt_base.specs.ClosedWalk.{point_at, origin}
-use Rattle.pt_base.specs.OnPage.{IsOnPage}
+use Rattle.pt_core.specs.ClosedWalk.{point_at, origin}
+use Rattle.pt_core.specs.OnPage.{IsOnPage}
 use Rattle.prefix_moments.proofs.Prefixes.{next_prefix, push_row}
 use Rattle.prefix_moments.proofs.moments.table.Goals as goal
 

@@ -1,7 +1,7 @@
 use Rattle.std.proofs.Common.{◌*◌, ◌≤◌, ℤ, ◌-ℤ◌, ◌*ℤ◌, w64, to_z, of_z, ap, ◌∙◌, arith}
 use Rattle.std.specs.Prelude.{unsigned_abs}
 use Rattle.std.specs.Int.RustNames.{FitsSigned}
-use Rattle.pt_base.specs.declared.limits.TheConstants.{LONGEST_SIDE}
+use Rattle.pt_core.specs.declared.limits.TheConstants.{LONGEST_SIDE}
 use Rattle.prefix_moments.proofs.Fitting.{difference_back, difference_fits, side_back, side_passed, product_value}
 use Rattle.prefix_moments.proofs.raw.crossed.Goals as goal
 

@@ -1,8 +1,8 @@
 use Rattle.std.proofs.Common.{◌≡◌, ℕ, ◌+◌, ◌*◌, ◌≤◌, ℤ, pos, ◌-ℤ◌, ◌*ℤ◌, w64, to_z, of_z, ap, arith}
 use Rattle.std.specs.Prelude.{unsigned_abs}
 use Rattle.std.specs.Int.RustNames.{FitsSigned}
-use Rattle.pt_base.proofs.Sizes.{back, product_most}
-use Rattle.pt_base.specs.declared.limits.TheConstants.{LONGEST_SIDE, MOST_STEPS}
+use Rattle.pt_core.proofs.Sizes.{back, product_most}
+use Rattle.pt_core.specs.declared.limits.TheConstants.{LONGEST_SIDE, MOST_STEPS}
 use Rattle.prefix_moments.proofs.Fitting.{product_fits, difference_back, difference_fits, difference_most}
 use Rattle.prefix_moments.proofs.raw.moved.Goals as goal
 

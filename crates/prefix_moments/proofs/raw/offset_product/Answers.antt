@@ -1,8 +1,8 @@
 use Rattle.std.proofs.Common.{◌*ℤ◌, w64, arith}
 use Rattle.std.proofs.lemmas.Int.{to_z-of_z, fits_signed_from_abs}
 use Rattle.std.specs.Int.RustNames.{FitsSigned}
-use Rattle.pt_base.proofs.Sizes.{product_most}
-use Rattle.pt_base.specs.declared.limits.TheConstants.{LONGEST_SIDE}
+use Rattle.pt_core.proofs.Sizes.{product_most}
+use Rattle.pt_core.specs.declared.limits.TheConstants.{LONGEST_SIDE}
 use Rattle.prefix_moments.proofs.raw.offset_product.Goals as goal
 
 pub returns-clause-value : goal.returns-clause-value

@@ -3,7 +3,7 @@ use Rattle.std.proofs.lemmas.Int.{to_z-of_z, fits_signed_from_abs}
 use Rattle.std.specs.Prelude.{unsigned_abs}
 use Rattle.std.specs.Int.RustNames.{FitsSigned}
 use mir.Syntax.{w128}
-use Rattle.pt_base.proofs.Sizes.{long_back, product_most}
+use Rattle.pt_core.proofs.Sizes.{long_back, product_most}
 use Rattle.prefix_moments.proofs.Fitting.{spread_most, spread_fits, spread_fits_at_first, side_back, side_passed, square_back, square_passed, product_value, spread_value}
 use Rattle.prefix_moments.proofs.raw.spread.Goals as goal
 

@@ -3,8 +3,8 @@ use Rattle.std.proofs.lemmas.Int.{ints, to_z-of_z, fits_signed_from_abs}
 use Rattle.std.specs.Prelude.{unsigned_abs}
 use Rattle.std.specs.Int.RustNames.{FitsSigned}
 use mir.Syntax.{w128}
-use Rattle.pt_base.proofs.Sizes.{back, long_back, product_most}
-use Rattle.pt_base.specs.declared.limits.TheConstants.{LONGEST_SIDE}
+use Rattle.pt_core.proofs.Sizes.{back, long_back, product_most}
+use Rattle.pt_core.specs.declared.limits.TheConstants.{LONGEST_SIDE}
 use Rattle.prefix_moments.proofs.raw.wide.Goals as goal
 
 module _ (a b p q : ℤ) (short : unsigned_abs a ≤ LONGEST_SIDE * LONGEST_SIDE) (fits : FitsSigned w64 b) (is_p : p ≡ to_z w64 (of_z w64 a)) (is_q : q ≡ to_z w64 (of_z w64 b)) where

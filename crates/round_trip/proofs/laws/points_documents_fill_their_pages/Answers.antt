@@ -1,8 +1,8 @@
 use Rattle.std.proofs.Common.{◌≡◌, ℕ, List, sym, ◌∙◌, ap, subst}
 use Rattle.pt_base.specs.PointsText.{points_text}
-use Rattle.pt_base.specs.declared.settings.Backend.{Backend}
-use Rattle.pt_base.specs.declared.settings.Backend.TheVariants as backends
-use Rattle.pt_base.specs.declared.settings.Settings.{Settings}
+use Rattle.pt_core.specs.declared.settings.Backend.{Backend}
+use Rattle.pt_core.specs.declared.settings.Backend.TheVariants as backends
+use Rattle.pt_core.specs.declared.settings.Settings.{Settings}
 use Rattle.bit_image.specs.Page.{IsPage, Page}
 use Rattle.path_decompose.specs.Decomposition.{kept}
 use Rattle.page_trace.specs.Document.{IsDocumentUnder}

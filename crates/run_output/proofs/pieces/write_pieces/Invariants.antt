@@ -1,6 +1,6 @@
 use Rattle.std.proofs.Common.{◌≡◌, map, take, true}
 use Rattle.std.specs.List.{concat}
-use Rattle.pt_base.specs.Documents.{with_bytes}
+use Rattle.pt_core.specs.Documents.{with_bytes}
 use Rattle.run_output.proofs.pieces.write_pieces.Given as goal
 
 -- the pieces so far are written

@@ -1,5 +1,5 @@
 use Rattle.std.proofs.Common.{◌≡◌, ◌+◌, ◌<◌, ◌≤◌, true, [], Option, length, ◌-◌}
-use Rattle.pt_base.specs.Files.{Files}
+use Rattle.pt_core.specs.Files.{Files}
 use Rattle.small_program.specs.Input.{HasTaken}
 use Rattle.small_program.specs.declared.input.TheConstants.{MOST_BYTES}
 use Rattle.small_program.proofs.input.read_on.Given as goal

@@ -2,7 +2,7 @@ use Rattle.std.proofs.Common.{◌≡◌, ◌^◌, ◌<◌, ℤ, pos, ◌-ℤ◌,
 use Rattle.std.proofs.lemmas.Int.{ints, fits_signed_from_abs}
 use Rattle.std.specs.Prelude.{unsigned_abs}
 use Rattle.std.specs.Int.RustNames.{FitsSigned}
-use Rattle.pt_base.proofs.Sizes.{back}
+use Rattle.pt_core.proofs.Sizes.{back}
 use Rattle.vertex_adjust.proofs.spread.across.Goals as goal
 
 -- a number with the other sign

@@ -1,7 +1,7 @@
 use Rattle.std.proofs.Common.{pos, ◌≤ℤ◌, All, subst}
 use Rattle.std.proofs.lemmas.List.Elements.{All-tail}
-use Rattle.pt_base.specs.declared.path.Path.{Path}
-use Rattle.pt_base.specs.ClosedWalk.{point_at}
+use Rattle.pt_core.specs.declared.path.Path.{Path}
+use Rattle.pt_core.specs.ClosedWalk.{point_at}
 use Rattle.path_decompose.specs.Bounds.{IsCornerOf}
 use Rattle.outline_tests.proofs.tests.groups.without_first.Goals as goal
 

@@ -1,5 +1,5 @@
 use Rattle.std.proofs.Common.{ℕ, ◌+◌, ◌-◌, ◌*◌, ◌/◌, subst}
-use Rattle.pt_base.specs.Root.{IsRoot}
+use Rattle.pt_core.specs.Root.{IsRoot}
 use Rattle.prefix_moments.proofs.moments.Moments.penalty.Goals as goal
 
 pub returns : goal.returns

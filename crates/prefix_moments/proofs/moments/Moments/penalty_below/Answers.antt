@@ -1,6 +1,6 @@
 use Rattle.std.proofs.Common.{ℕ, ◌+◌, ◌-◌, ◌*◌, ◌/◌, sym, ◌∙◌, subst, arith}
 use Rattle.std.proofs.lemmas.Bool.{false≢true}
-use Rattle.pt_base.specs.Root.{IsRoot}
+use Rattle.pt_core.specs.Root.{IsRoot}
 use Rattle.prefix_moments.proofs.Totals.{limit_missed, limit_reached}
 use Rattle.prefix_moments.proofs.moments.Moments.penalty_below.Goals as goal
 

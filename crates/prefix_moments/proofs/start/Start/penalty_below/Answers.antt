@@ -1,7 +1,7 @@
 use Rattle.std.proofs.Common.{ℕ, ◌+◌, ◌-◌, ◌*◌, ◌/◌, ◌^◌, ◌<◌, ◌≤◌, ◌≡◌, refl, sym, ap, ◌∙◌, subst, arith}
 use Rattle.std.proofs.lemmas.Nat.{mul-le}
-use Rattle.pt_base.specs.declared.limits.TheConstants.{MOST_STEPS}
-use Rattle.pt_base.specs.Root.{IsRoot}
+use Rattle.pt_core.specs.declared.limits.TheConstants.{MOST_STEPS}
+use Rattle.pt_core.specs.Root.{IsRoot}
 use Rattle.prefix_moments.proofs.Totals.{limit_missed, limit_reached}
 use Rattle.prefix_moments.proofs.start.Start.penalty_below.Goals as goal
 

@@ -1,8 +1,8 @@
 use Rattle.std.proofs.Common.{◌≡◌, ◌+◌, ◌-◌, ◌*ℤ◌, ◌-ℤ◌, ◌≤ℤ◌, pos, w64, to_z, of_z, refl, ap, ◌∙◌, arith}
 use Rattle.std.proofs.lemmas.Int.{ints, to_z-of_z}
 use Rattle.std.specs.Prelude.{unsigned_abs}
-use Rattle.pt_base.specs.ClosedWalk.{point_at}
-use Rattle.pt_base.proofs.Sizes.{back}
+use Rattle.pt_core.specs.ClosedWalk.{point_at}
+use Rattle.pt_core.proofs.Sizes.{back}
 use Rattle.prefix_moments.specs.Sums.{spread_of, rightward_of, above_of}
 use Rattle.prefix_moments.proofs.Cornered.{wrapped_total}
 use Rattle.prefix_moments.proofs.Fitting.{coordinate_is}

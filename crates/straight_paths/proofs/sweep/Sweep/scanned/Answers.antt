@@ -1,5 +1,5 @@
 use Rattle.std.proofs.Common.{ℕ, ◌-◌, IfSome, subst, arith}
-use Rattle.pt_base.specs.declared.point.Point.{Point}
+use Rattle.pt_core.specs.declared.point.Point.{Point}
 use Rattle.straight_paths.specs.Strips.{StaysIn}
 use Rattle.straight_paths.proofs.Ends.{clear_at, path_at_place}
 use Rattle.straight_paths.proofs.sweep.Sweep.scanned.Goals as goal

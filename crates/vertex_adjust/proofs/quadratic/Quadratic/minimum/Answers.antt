@@ -1,7 +1,7 @@
 use Rattle.std.proofs.Common.{◌≡◌, ◌+◌, ◌*◌, ◌≤◌, ◌<◌, ◌^◌, ℤ, pos, ◌+ℤ◌, ◌-ℤ◌, ◌*ℤ◌, w64, to_z, of_z, neg_ℤ, refl, ap, ◌∙◌, subst, arith}
 use Rattle.std.proofs.lemmas.Int.{ints}
 use Rattle.std.specs.Prelude.{unsigned_abs}
-use Rattle.pt_base.proofs.Sizes.{back, product_most}
+use Rattle.pt_core.proofs.Sizes.{back, product_most}
 use Rattle.vertex_adjust.specs.Quadratic.{IsNearest, IsAim}
 use Rattle.vertex_adjust.proofs.Ranges.{fits, small}
 use Rattle.vertex_adjust.proofs.Minima.{yy_least}
