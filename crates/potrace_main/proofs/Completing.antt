@@ -25,7 +25,7 @@ use Rattle.file_documents.specs.Outcome.{IsOutcome}
 use Rattle.file_documents.proofs.Closing.{AreWhole-front, alone_end, carried_closed, items_end, nothing_ends}
 use Rattle.file_documents.proofs.Exists.{items_found}
 use Rattle.file_documents.proofs.Joining.{items_behind}
-use Rattle.page_demo.proofs.Found.{demo_found}
+use Rattle.potrace_main.proofs.Found.{demo_found}
 use Rattle.potrace_main.specs.Run.{AreItemsOf, BindsApart, EndsMissing, EndsRefused, FailureCount, IsComplete, IsMissing, IsOutcomeOf, IsRun, OutputsMove, RefusesWords, manner_under, names_of}
 use Rattle.potrace_main.specs.Usage.{help_text, version_text}
 

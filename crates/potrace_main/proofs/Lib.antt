@@ -1,1 +1,5 @@
 pub mod Completing
+pub mod Found
+pub mod Levels
+pub mod Lines
+pub mod OneText

@@ -1,3 +1,9 @@
+-- The text of the demo.
+--   demo_line: the line of a trace whose document has so many bytes
+--   IsDemoLine: the line is that of a page's trace and document
+--   IsDemoText: the text is the lines of so many pages, in order
+--   CanCount: what a line needs of the settings
+pub mod Line
 -- What the program tells of itself.
 --   help_text: how the program is used
 --   version_text: which version the program is

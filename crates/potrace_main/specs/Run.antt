@@ -26,7 +26,7 @@ use Rattle.file_documents.specs.OnePass.{IsOnePass}
 use Rattle.file_documents.specs.Outcome.{IsOutcome, OpensFirst}
 use Rattle.file_documents.specs.Progress.{InputCount}
 use Rattle.page_trace.specs.Document.{IsDocument}
-use Rattle.page_demo.specs.Line.{IsDemoText}
+use Rattle.potrace_main.specs.Line.{IsDemoText}
 use Rattle.potrace_main.specs.Usage.{help_text, version_text}
 
 -- the exit status is the code of a status of which this holds

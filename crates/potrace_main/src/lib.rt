@@ -1,6 +1,10 @@
 //! All that the program does: its run.
 #![tactic(auto)]
 
+pub mod demo;
+mod job;
+pub mod laws;
+mod line;
 pub mod top;
 pub mod usage;
 

@@ -2,7 +2,7 @@ use Rattle.std.proofs.Common.{[], ◌∷◌, refl}
 use Rattle.run_output.specs.Names.{dash}
 use Rattle.page_batches.specs.Items.{Doc}
 use Rattle.page_batches.proofs.Carrying.{memory_out}
-use Rattle.page_demo.proofs.Found.{demo_found}
+use Rattle.potrace_main.proofs.Found.{demo_found}
 use Rattle.potrace_main.proofs.top.write_demo.Goals as goal
 
 -- memory ran out before the text was made

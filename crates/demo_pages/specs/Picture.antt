@@ -1,0 +1,64 @@
+-- The pages of the demo: 40 rectangles and then 4 slanted bars, each of which inverts its pixels on a page that
+-- begins white.
+use Rattle.std.specs.Prelude.{ℕ, zero, suc, ◌+◌, ◌-◌, ◌*◌, ◌/◌, ◌%◌, Bool, ◌&&◌, List, [], ◌∷◌}
+use Rattle.bit_image.specs.Image.{Image, differ, white, within}
+use Rattle.bit_image.specs.Page.{Page, page_of}
+use Rattle.demo_pages.specs.declared.bar.Bar.{Bar}
+use Rattle.demo_pages.specs.declared.bar.TheConstants.{BAR_HEIGHT, BAR_LENGTH}
+use Rattle.demo_pages.specs.declared.page.TheConstants.{BARS, HEIGHT, RECTANGLES, WIDTH}
+use Rattle.demo_pages.specs.declared.rectangle.Rectangle.{Rectangle}
+use Rattle.demo_pages.specs.Generator.{number_at, state_after}
+
+-- pixel (u, v) lies in the rectangle
+abbrev pub is_in_rectangle : Rectangle → ℕ → ℕ → Bool
+is_in_rectangle r u v = within r.left (r.left + r.width) u && within r.bottom (r.bottom + r.height) v
+
+-- pixel (u, v) lies in the bar: in one of its columns, and there at the bar's height
+abbrev pub is_in_bar : Bar → ℕ → ℕ → Bool
+is_in_bar bar u v =
+    let low = bar.bottom + (u - bar.left) / bar.run in
+    within bar.left (bar.left + BAR_LENGTH) u && within low (low + BAR_HEIGHT) v
+
+-- the image with the pixels of an area inverted
+abbrev pub inverted_area : Image → (ℕ → ℕ → Bool) → Image
+inverted_area b area u v = differ (b u v) (area u v)
+
+-- the rectangle of the four numbers that are drawn from a state on
+abbrev pub rectangle_at : ℕ → Rectangle
+rectangle_at state = record {
+  left = number_at state % 240;
+  bottom = number_at (state_after 1 state) % 176;
+  width = 1 + number_at (state_after 2 state) % 16;
+  height = 1 + number_at (state_after 3 state) % 16;
+}
+
+-- the bar of the three numbers that are drawn from a state on
+abbrev pub bar_at : ℕ → Bar
+bar_at state = record {
+  left = number_at state % 128;
+  bottom = number_at (state_after 1 state) % 96;
+  run = 1 + number_at (state_after 2 state) % 5;
+}
+
+-- an image with the pixels of the first rectangles inverted, of one after another
+unfoldable pub with_rectangles : ℕ → ℕ → Image → Image
+with_rectangles zero state b = b
+with_rectangles (suc n) state b = inverted_area (with_rectangles n state b) (is_in_rectangle (rectangle_at (state_after (4 * n) state)))
+
+-- an image with the pixels of the first bars inverted, of one after another
+unfoldable pub with_bars : ℕ → ℕ → Image → Image
+with_bars zero state b = b
+with_bars (suc n) state b = inverted_area (with_bars n state b) (is_in_bar (bar_at (state_after (3 * n) state)))
+
+-- the image of a page: first the rectangles, and then the bars
+abbrev pub demo_image : ℕ → Image
+demo_image state = with_bars BARS (state_after (4 * RECTANGLES) state) (with_rectangles RECTANGLES state white)
+
+-- the page that is made from a state on
+abbrev pub picture_page : ℕ → Page
+picture_page state = page_of WIDTH HEIGHT (demo_image state)
+
+-- so many pages, each made from where the one before ended, 172 draws on
+unfoldable pub pages_from : ℕ → ℕ → List Page
+pages_from zero state = []
+pages_from (suc n) state = picture_page state ∷ pages_from n (state_after (4 * RECTANGLES + 3 * BARS) state)
