@@ -1,7 +1,7 @@
 //! What a run in memory is made of, and what it left.
 ghost use Rattle.std.specs.Prelude.{◌≡◌, IfOk, string_bytes};
 
-use pt_base::{MemOutputs, NamedBytes};
+use mem_outside::{MemOutputs, NamedBytes};
 use pt_core::NoMemory;
 use std::alloc::Global;
 

@@ -1,6 +1,7 @@
 //! The outside in memory. What each call does is a clause; that memory is there isn't.
 
-use pt_base::{InCall, MemInputs, MemOutputs, MemSink, NamedBytes, OutCall, write_whole};
+use mem_outside::{InCall, MemInputs, MemOutputs, MemSink, NamedBytes, OutCall};
+use pt_base::write_whole;
 use pt_core::{DeviceFault, Inputs, Outputs, Sink};
 use std::test::Fail;
 

@@ -1,7 +1,7 @@
 //! Runs of `point_fill` over standard input in memory, and what is to come of them.
 use fill_run::fill_run;
+use mem_outside::{InCall, MemInputs, MemOutputs, MemSink, OutCall};
 use page_samples::{first_of, listed, named};
-use pt_base::{InCall, MemInputs, MemOutputs, MemSink, OutCall};
 use pt_core::NoMemory;
 use std::alloc::Global;
 use std::process::Abort;

@@ -1,7 +1,7 @@
 //! Words, and devices that fail: nothing more is written after.
 
 use crate::tests::cases::{Case, DIAGONAL_PAGE, PLAIN, check_all};
-use pt_base::{InCall, OutCall};
+use mem_outside::{InCall, OutCall};
 use std::test::Fail;
 
 /// Reads and writes of three bytes.

@@ -1,7 +1,7 @@
 //! Runs of `mkbitmap` over standard input in memory, and what is to come of them.
+use mem_outside::{InCall, MemInputs, MemOutputs, MemSink, OutCall};
 use mk_run::mk_run;
 use page_samples::{first_of, listed, named, split};
-use pt_base::{InCall, MemInputs, MemOutputs, MemSink, OutCall};
 use pt_core::NoMemory;
 use std::alloc::Global;
 use std::process::Abort;

@@ -1,7 +1,7 @@
 //! Devices that fail: nothing more is written after.
 
 use crate::tests::cases::{Case, PLAIN, TWO_TWICE, check_all};
-use pt_base::{InCall, OutCall};
+use mem_outside::{InCall, OutCall};
 use std::test::Fail;
 
 /// Reads and writes of three bytes.

@@ -3,7 +3,7 @@ ghost use Rattle.std.specs.Prelude.{◌≤◌};
 
 use bit_image::Bitmap;
 use bitmap_input::{Next, PageReader};
-use pt_base::{InCall, MemInputs, NamedBytes};
+use mem_outside::{InCall, MemInputs, NamedBytes};
 use pt_core::Inputs;
 use std::alloc::Global;
 use std::test::Fail;

@@ -3,7 +3,7 @@ ghost use Rattle.std.specs.Prelude.{◌≤◌};
 
 use crate::tests::answers::{ended, file};
 use bitmap_input::GrayReader;
-use pt_base::InCall;
+use mem_outside::InCall;
 use pt_core::Inputs;
 use std::alloc::Global;
 use std::test::Fail;

@@ -1,8 +1,8 @@
 //! Runs over files in memory, and what is to come of them.
 ghost use Rattle.std.specs.Prelude.{◌≡◌, IfOk, string_bytes};
 
+use mem_outside::{InCall, MemInputs, MemOutputs, MemSink, NamedBytes, OutCall};
 use potrace_main::run;
-use pt_base::{InCall, MemInputs, MemOutputs, MemSink, NamedBytes, OutCall};
 use pt_core::{Gate, NoGate, NoMemory};
 use std::alloc::Global;
 use std::process::Abort;

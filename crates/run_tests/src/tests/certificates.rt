@@ -3,10 +3,10 @@
 use crate::tests::cases::{Case, PLAIN, Page, check_pages, named, split};
 use crate::tests::pages::PAGES;
 use check_run::check_run;
+use mem_outside::{MemInputs, MemOutputs, MemSink};
 use outline_check::{Verdict, check_proofs};
 use page_samples::numbered;
 use page_trace::document;
-use pt_base::{MemInputs, MemOutputs, MemSink};
 use pt_core::{Backend, NoGate, NoMemory, Policy, Settings};
 use std::alloc::Global;
 use std::test::Fail;

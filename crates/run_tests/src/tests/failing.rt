@@ -1,7 +1,7 @@
 //! Failing devices: what was whole stays, and nothing more is written after.
 
 use crate::tests::cases::{Case, PIXEL, PLAIN, check_all};
-use pt_base::{InCall, OutCall};
+use mem_outside::{InCall, OutCall};
 use std::test::Fail;
 
 /// A stream of two pages and what is no page, by reads that end with the first page.

@@ -1,7 +1,7 @@
 //! Several files: the names of their documents, and what ends a run.
 
 use crate::tests::cases::{Case, PIXEL, PLAIN, WHITE, check_all};
-use pt_base::InCall;
+use mem_outside::InCall;
 use std::test::Fail;
 
 const NO_OUTLINE: &str = "<?xml version=\"1.0\" standalone=\"no\"?>\n\

@@ -2,7 +2,7 @@
 //! bytes a write. What is to come is worked out from the files' bytes and the documents' texts.
 
 use crate::tests::cases::{Case, PIXEL, PLAIN, WHITE, check_all};
-use pt_base::{InCall, OutCall};
+use mem_outside::{InCall, OutCall};
 use std::test::Fail;
 
 /// The first file's pages end behind 8 and 17 bytes; that the rest is no page is decided behind 20. The second

@@ -1,7 +1,7 @@
 //! All pages of a file in one PostScript document: a file's pages are counted, and a document ends with its file alone.
 
 use crate::tests::cases::{Case, PLAIN, check_all};
-use pt_base::{InCall, OutCall};
+use mem_outside::{InCall, OutCall};
 use std::test::Fail;
 
 /// Two pages of 8 by 8 black pixels, of 15 bytes each.
