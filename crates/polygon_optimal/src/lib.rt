@@ -34,7 +34,7 @@
 //!     Point { x: 1, y: 1 },
 //! ];
 //! let best = polygon(alloc, &points)?;
-//! assert_eq!(rt; best.at.as_slice(), [0, 2, 4]);
+//! assert_eq!(rt; best.at.as_slice(), [0, 2, 4].as_slice());
 //! ```
 #![tactic(auto)]
 
