@@ -71,6 +71,13 @@ pub mod Wedges
 --   IsExtent: how far the path's first steps go to each side
 --   TakesIn: the extent takes in what the other one does, and a further place
 pub mod Strips
+-- Numbers for how a path takes its next few steps.
+--   direction_of: the four directions, counted to the left from east
+--   GoesByOne: the step goes by 1 along a row or along a column
+--   IsCoded: the directions of a path's first steps are the code's digits
+--   IsCodeAt: the next eight steps from an index on have this code
+--   TellsClear: for how many of the next eight steps the cones hold, of each path that has this code
+pub mod Codes
 -- What is straight from an index on, and a strip that holds it.
 --   IsSweep
 pub mod Sweeps

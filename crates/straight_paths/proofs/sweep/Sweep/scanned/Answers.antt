@@ -17,4 +17,5 @@ returns-clause-sweep c =
       tail = c.earlier-tail.ensures.tail;
       strip = c.strip_from.ensures.strip;
       stays = subst P (path_at_place c.args.track.now c.place-place.result c.args.index c.place-place.ensures.at) c.strip_from.ensures.stays;
+      code = c.requires.code;
     }
