@@ -9,6 +9,7 @@ ghost use Rattle.page_trace.specs.Trace.{AreVerticesOf, IsPolygonOf};
 use crate::polygons::measured;
 use pt_core::{NoMemory, Path, Point, Polygon, Sequence, Settings};
 use std::alloc::Global;
+use straight_paths::Memo;
 use vertex_adjust::adjust_by;
 
 /// The polygon of each path, and its adjusted vertices.
@@ -37,8 +38,9 @@ pub(crate) fn fit_all(
 {
     let mut polygons = Vec::with_capacity(alloc, paths.len())?;
     let mut vertices = Vec::with_capacity(alloc, paths.len())?;
+    let mut memo = Memo::new(alloc)?;
     for path in paths {
-        let (best, adjusted) = fit(alloc, path, settings)?;
+        let (best, adjusted) = fit(alloc, path, settings, &mut memo)?;
         polygons.push(best)?;
         vertices.push(adjusted)?;
     }
@@ -50,6 +52,7 @@ fn fit(
     alloc: Global,
     path: &Path,
     settings: &Settings,
+    memo: &mut Memo,
 ) -> Result<(Polygon, Sequence<Point>), NoMemory>
     requires closed { IsClosedWalk path.now.points }
     requires on_page { AreOnPage path.now.points }
@@ -60,7 +63,7 @@ fn fit(
     ensures most { IfOk result (λ both. length both.1 ≤ 2 ^ 31) }
 {
     let points = path.points.as_slice();
-    let (best, moments) = measured(alloc, path, settings)?;
+    let (best, moments) = measured(alloc, path, settings, memo)?;
     let adjusted = adjust_by(alloc, points, &moments, &best)?;
     Ok((best, adjusted))
 }

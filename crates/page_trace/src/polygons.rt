@@ -10,6 +10,7 @@ use polygon_optimal::polygon_with_moments;
 use prefix_moments::Moments;
 use pt_core::{NoMemory, Path, Polygon, Settings};
 use std::alloc::Global;
+use straight_paths::Memo;
 
 /// The polygon of each path.
 //
@@ -24,8 +25,9 @@ pub(crate) fn best_polygons(
     ensures { IfOk result (λ polygons. AllZip (IsPolygonOf settings.now) paths.now polygons.items) }
 {
     let mut polygons = Vec::with_capacity(alloc, paths.len())?;
+    let mut memo = Memo::new(alloc)?;
     for path in paths {
-        let (polygon, _) = measured(alloc, path, settings)?;
+        let (polygon, _) = measured(alloc, path, settings, &mut memo)?;
         polygons.push(polygon)?;
     }
     Ok(polygons)
@@ -37,6 +39,7 @@ pub(crate) fn measured(
     alloc: Global,
     path: &Path,
     settings: &Settings,
+    memo: &mut Memo,
 ) -> Result<(Polygon, Moments), NoMemory>
     requires closed { IsClosedWalk path.now.points }
     requires on_page { AreOnPage path.now.points }
@@ -49,6 +52,6 @@ pub(crate) fn measured(
         let polygon = cyclic_polygon_by(alloc, points, &moments)?;
         Ok((polygon, moments))
     } else {
-        polygon_with_moments(alloc, points)
+        polygon_with_moments(alloc, points, memo)
     }
 }

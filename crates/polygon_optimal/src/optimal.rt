@@ -10,6 +10,7 @@ use crate::segments::{Segments, lasts};
 use prefix_moments::Moments;
 use pt_core::{NoMemory, Point, Polygon};
 use std::alloc::Global;
+use straight_paths::Memo;
 
 /// The best polygon through the first point of a closed walk on a page.
 pub fn polygon(alloc: Global, points: &[Point]) -> Result<Polygon, NoMemory>
@@ -18,22 +19,26 @@ pub fn polygon(alloc: Global, points: &[Point]) -> Result<Polygon, NoMemory>
     ensures best { IfOk result (λ polygon. IsBestPolygon points.now polygon.at) }
     ensures cost { IfOk result (λ polygon. polygon.cost ≡ total_penalty points.now polygon.at) }
 {
-    let (polygon, _) = polygon_with_moments(alloc, points)?;
+    let (polygon, _) = polygon_with_moments(alloc, points, &mut Memo::none(alloc))?;
     Ok(polygon)
 }
 
-/// The same polygon, and the walk's sums, of which it was found.
+/// The same polygon, and the walk's sums, of which it was found, by what was found of other walks.
 //
 // How far segments reach is measured before the points are summed up: the one takes 36 bytes a point, which are given
 // back, the other 32, which stay. In the other order a spiral of walls took a fifth more memory.
-pub fn polygon_with_moments(alloc: Global, points: &[Point]) -> Result<(Polygon, Moments), NoMemory>
+pub fn polygon_with_moments(
+    alloc: Global,
+    points: &[Point],
+    memo: &mut Memo,
+) -> Result<(Polygon, Moments), NoMemory>
     requires closed { IsClosedWalk points.now }
     requires on_page { AreOnPage points.now }
     ensures best { IfOk result (λ both. IsBestPolygon points.now both.0.at) }
     ensures cost { IfOk result (λ both. both.0.cost ≡ total_penalty points.now both.0.at) }
     ensures moments { IfOk result (λ both. both.1 ≡ points.now) }
 {
-    let lasts = lasts(alloc, points)?;
+    let lasts = lasts(alloc, points, memo)?;
     let moments = Moments::of(alloc, points)?;
     let polygon = polygon_of(alloc, &moments, lasts)?;
     Ok((polygon, moments))

@@ -10,7 +10,7 @@ use least_walk::Steps;
 use prefix_moments::Moments;
 use pt_core::{NoMemory, Point};
 use std::alloc::Global;
-use straight_paths::Reach;
+use straight_paths::{Memo, Reach};
 
 /// The segments of a closed walk's polygons, and their penalties.
 //
@@ -47,13 +47,13 @@ impl<'a> Segments<'a> {
     }
 }
 
-/// For each point of a walk, where the longest segment from it leads.
-pub fn lasts(alloc: Global, points: &[Point]) -> Result<Vec<u32>, NoMemory>
+/// For each point of a walk, where the longest segment from it leads, by what was found of other walks.
+pub fn lasts(alloc: Global, points: &[Point], memo: &mut Memo) -> Result<Vec<u32>, NoMemory>
     requires closed { IsClosedWalk points.now }
     requires on_page { AreOnPage points.now }
     ensures { IfOk result (λ lasts. HasLasts points.now lasts.items) }
 {
-    let reach = Reach::of(alloc, points)?;
+    let reach = Reach::by(alloc, points, memo)?;
     let size = points.len() as u32;
     let mut lasts = Vec::with_capacity(alloc, points.len())?;
     for i in 0..size {
