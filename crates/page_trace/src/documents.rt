@@ -7,7 +7,7 @@ ghost use Rattle.pt_core.specs.Needs.{CanWrite};
 ghost use Rattle.pt_core.specs.declared.settings.Backend.TheVariants.{Proofs};
 
 use crate::paths::kept_paths;
-use crate::tracing::{polygons_alone, trace};
+use crate::tracing::{outlines_alone, polygons_alone};
 use bit_image::Bitmap;
 use dxf_geojson::{dxf, geojson};
 use eps_backend::{eps, ps_body};
@@ -20,7 +20,8 @@ use svg_backend::svg;
 /// The text of a page under the settings' backend.
 ///
 /// What the text doesn't show isn't made: under `Points` no polygon is looked for, and under `Polygons` and
-/// `Proofs` no vertex is moved.
+/// `Proofs` no vertex is moved. What a drawing doesn't show isn't kept: no path, polygon or vertex of a path
+/// whose outline stands.
 pub fn document(alloc: Global, page: &Bitmap, settings: &Settings) -> Result<Vec<u8>, NoMemory>
     requires { CanWrite settings.now }
     ensures document { IfOk result (λ text. IsDocument page.now settings.now text.items) }
@@ -54,13 +55,13 @@ fn certificates(alloc: Global, page: &Bitmap, settings: &Settings) -> Result<Vec
     Ok(text)
 }
 
-/// The text of a page's whole trace, under a backend that draws it.
+/// The text of a page's trace, under a backend that draws it.
 fn drawing(alloc: Global, page: &Bitmap, settings: &Settings) -> Result<Vec<u8>, NoMemory>
     requires written { CanWrite settings.now }
     requires drawn { IsDrawn settings.now.backend }
     ensures { IfOk result (λ text. IsDocument page.now settings.now text.items) }
 {
-    let trace = trace(alloc, page, settings)?;
+    let trace = outlines_alone(alloc, page, settings)?;
     drawn(alloc, &trace, settings)
 }
 

@@ -48,7 +48,7 @@ pub(crate) fn fit_all(
 }
 
 /// The polygon of a path, and its adjusted vertices: the path is summed up once for both.
-fn fit(
+pub(crate) fn fit(
     alloc: Global,
     path: &Path,
     settings: &Settings,

@@ -2,12 +2,16 @@
 ghost use Rattle.std.specs.Prelude.{◌≡◌, ◌≤◌, ◌^◌, All, IfOk, length};
 ghost use Rattle.std.specs.List.{AllZip};
 ghost use Rattle.corner_smooth.specs.Corner.{IsNearWidePage};
+ghost use Rattle.page_trace.specs.Drawing.{IsOutlineAlong};
 ghost use Rattle.page_trace.specs.Trace.{IsOutlineOf, tolerance_of};
+ghost use Rattle.pt_core.specs.ClosedWalk.{IsClosedWalk};
 ghost use Rattle.pt_core.specs.Needs.{CanTrace};
+ghost use Rattle.pt_core.specs.OnPage.{AreOnPage};
 
+use crate::fitting::fit;
 use corner_smooth::smooth;
 use curve_join::join;
-use pt_core::{NoMemory, Piece, Point, Sequence, Settings};
+use pt_core::{NoMemory, Path, Piece, Point, Sequence, Settings};
 use std::alloc::Global;
 
 /// The outline round each list of vertices.
@@ -29,6 +33,43 @@ pub(crate) fn all_outlines(
         outlines.push(pieces)?;
     }
     Ok(outlines)
+}
+
+/// The outline along each path, where nothing else is kept.
+//
+// A path is given back before the next one, so that the points of all paths and all outlines are never held together.
+pub(crate) fn outlines_along(
+    alloc: Global,
+    paths: Vec<Path>,
+    settings: &Settings,
+) -> Result<Vec<Sequence<Piece>>, NoMemory>
+    requires closed { All (λ path. IsClosedWalk path.points) paths.items }
+    requires on_page { All (λ path. AreOnPage path.points) paths.items }
+    requires settings { CanTrace settings.now }
+    ensures { IfOk result
+        (λ outlines. AllZip (IsOutlineAlong settings.now) paths.items outlines.items) }
+{
+    let mut outlines = Vec::with_capacity(alloc, paths.len())?;
+    for path in paths {
+        let pieces = outline_along(alloc, &path, settings)?;
+        outlines.push(pieces)?;
+    }
+    Ok(outlines)
+}
+
+/// The outline along a path: the one round the adjusted vertices of its polygon.
+fn outline_along(
+    alloc: Global,
+    path: &Path,
+    settings: &Settings,
+) -> Result<Sequence<Piece>, NoMemory>
+    requires closed { IsClosedWalk path.now.points }
+    requires on_page { AreOnPage path.now.points }
+    requires settings { CanTrace settings.now }
+    ensures { IfOk result (λ pieces. IsOutlineAlong settings.now path.now pieces) }
+{
+    let (_, vertices) = fit(alloc, path, settings)?;
+    outline_round(alloc, vertices.as_slice(), settings)
 }
 
 /// The outline round some vertices: the smooth one, joined unless curves are to stay as they are.
