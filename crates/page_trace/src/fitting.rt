@@ -6,7 +6,7 @@ ghost use Rattle.pt_core.specs.OnPage.{AreOnPage};
 ghost use Rattle.corner_smooth.specs.Corner.{IsNearWidePage};
 ghost use Rattle.page_trace.specs.Trace.{AreVerticesOf, IsPolygonOf};
 
-use crate::polygons::measured;
+use crate::polygons::{measured, memo_for};
 use pt_core::{NoMemory, Path, Point, Polygon, Sequence, Settings};
 use std::alloc::Global;
 use straight_paths::Memo;
@@ -38,7 +38,7 @@ pub(crate) fn fit_all(
 {
     let mut polygons = Vec::with_capacity(alloc, paths.len())?;
     let mut vertices = Vec::with_capacity(alloc, paths.len())?;
-    let mut memo = Memo::new(alloc)?;
+    let mut memo = memo_for(alloc, paths)?;
     for path in paths {
         let (best, adjusted) = fit(alloc, path, settings, &mut memo)?;
         polygons.push(best)?;

@@ -9,10 +9,12 @@ ghost use Rattle.pt_core.specs.Needs.{CanTrace};
 ghost use Rattle.pt_core.specs.OnPage.{AreOnPage};
 
 use crate::fitting::fit;
+use crate::polygons::memo_for;
 use corner_smooth::smooth;
 use curve_join::join;
 use pt_core::{NoMemory, Path, Piece, Point, Sequence, Settings};
 use std::alloc::Global;
+use straight_paths::Memo;
 
 /// The outline round each list of vertices.
 pub(crate) fn all_outlines(
@@ -50,8 +52,9 @@ pub(crate) fn outlines_along(
         (λ outlines. AllZip (IsOutlineAlong settings.now) paths.items outlines.items) }
 {
     let mut outlines = Vec::with_capacity(alloc, paths.len())?;
+    let mut memo = memo_for(alloc, &paths)?;
     for path in paths {
-        let pieces = outline_along(alloc, &path, settings)?;
+        let pieces = outline_along(alloc, &path, settings, &mut memo)?;
         outlines.push(pieces)?;
     }
     Ok(outlines)
@@ -62,13 +65,14 @@ fn outline_along(
     alloc: Global,
     path: &Path,
     settings: &Settings,
+    memo: &mut Memo,
 ) -> Result<Sequence<Piece>, NoMemory>
     requires closed { IsClosedWalk path.now.points }
     requires on_page { AreOnPage path.now.points }
     requires settings { CanTrace settings.now }
     ensures { IfOk result (λ pieces. IsOutlineAlong settings.now path.now pieces) }
 {
-    let (_, vertices) = fit(alloc, path, settings)?;
+    let (_, vertices) = fit(alloc, path, settings, memo)?;
     outline_round(alloc, vertices.as_slice(), settings)
 }
 

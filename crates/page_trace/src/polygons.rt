@@ -25,12 +25,27 @@ pub(crate) fn best_polygons(
     ensures { IfOk result (λ polygons. AllZip (IsPolygonOf settings.now) paths.now polygons.items) }
 {
     let mut polygons = Vec::with_capacity(alloc, paths.len())?;
-    let mut memo = Memo::new(alloc)?;
+    let mut memo = memo_for(alloc, paths)?;
     for path in paths {
         let (polygon, _) = measured(alloc, path, settings, &mut memo)?;
         polygons.push(polygon)?;
     }
     Ok(polygons)
+}
+
+/// The fewest points of paths for which it pays to keep what is found of their steps.
+const MANY: usize = 16384;
+
+/// A memo for some paths. Small pages do without: it would be a part of their memory.
+pub(crate) fn memo_for(alloc: Global, paths: &[Path]) -> Result<Memo, NoMemory> {
+    let mut points = 0usize;
+    for path in paths {
+        points = points.saturating_add(path.points.len());
+    }
+    if points < MANY {
+        return Ok(Memo::none(alloc));
+    }
+    Memo::new(alloc)
 }
 
 /// The polygon of a path, and the path's sums: the best one through the path's first point, or, where the settings ask

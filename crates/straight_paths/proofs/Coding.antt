@@ -5,7 +5,7 @@ use Rattle.std.proofs.lemmas.Int.{ints}
 use Rattle.std.proofs.lemmas.Nat.{div-add-mod', mod-mul-add, mod_below}
 use Rattle.pt_core.specs.ClosedWalk.{IsClosedWalk, IsUnitStep, point_at}
 use Rattle.pt_core.specs.declared.point.Point.{Point}
-use Rattle.straight_paths.specs.Codes.{GoesByOne, IsCodeAt, IsCoded, TellsClear, direction_of}
+use Rattle.straight_paths.specs.Codes.{GoesByOne, IsCodeAt, IsCoded, TellsClear, coded_step}
 use Rattle.straight_paths.specs.Cones.{IsClear}
 use Rattle.straight_paths.specs.Corners.{step_from}
 use Rattle.straight_paths.specs.Straight.{IsNear, path_from, vector_of}
@@ -61,16 +61,16 @@ coded_cut (suc count) zero path code few coded = absurd (omega arith)
 coded_cut (suc count) (suc most) path code few coded =
     let m = four_to most in
     let some = some_codes most in (
-      subst (λ d. step_from path 0 ≡ direction_of d) (sym (lowest code m some)) coded.0,
+      subst (λ d. step_from path 0 ≡ coded_step d) (sym (lowest code m some)) coded.0,
       subst (IsCoded count (rest_of path)) (sym (others code m some)) (coded_cut count most (rest_of path) (code / 4) (omega arith) coded.1),
     )
 
-pub coded_earlier : (path : ℕ → Point) (count : ℕ) (step : Vector) (digit digits : ℕ) → digit < 4 → step ≡ direction_of digit
+pub coded_earlier : (path : ℕ → Point) (count : ℕ) (step : Vector) (digit digits : ℕ) → digit < 4 → step ≡ coded_step digit
     → step ≡ step_from path 0 → IsCoded count (rest_of path) digits → IsCoded (suc count) path (digit + 4 * digits)
 coded_earlier path count step digit digits small into is coded =
     let a : digit ≡ (digit + 4 * digits) % 4 = omega arith in
     let b : digits ≡ (digit + 4 * digits) / 4 = omega arith in
-    (sym is ∙ into ∙ ap direction_of a, subst (IsCoded count (rest_of path)) b coded)
+    (sym is ∙ into ∙ ap coded_step a, subst (IsCoded count (rest_of path)) b coded)
 
 -- ---- paths of one code go the same way
 

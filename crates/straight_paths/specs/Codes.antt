@@ -6,12 +6,12 @@ use Rattle.straight_paths.specs.Straight.{east, north, west, south, path_from}
 use Rattle.straight_paths.specs.Tails.{IsClearUpTo}
 use Rattle.straight_paths.specs.declared.vector.Vector.{Vector}
 
--- the four directions, counted to the left from east
-abbrev pub direction_of : ℕ → Vector
-direction_of zero = east
-direction_of (suc zero) = north
-direction_of (suc (suc zero)) = west
-direction_of (suc (suc (suc n))) = south
+-- the step that a digit stands for: the four directions, counted to the left from east
+abbrev pub coded_step : ℕ → Vector
+coded_step zero = east
+coded_step (suc zero) = north
+coded_step (suc (suc zero)) = west
+coded_step (suc (suc (suc n))) = south
 
 -- the step goes by 1 along a row or along a column
 abbrev pub GoesByOne : Vector → Type 0
@@ -21,7 +21,7 @@ GoesByOne step = ((step.x ≡ pos 0) × ((step.y ≡ pos 1) ⊎ (step.y ≡ negs
 -- the path's first `count` steps go into the directions that are the code's digits to base 4, the lowest one first
 abbrev pub IsCoded : ℕ → (ℕ → Point) → ℕ → Type 0
 IsCoded zero path code = Unit
-IsCoded (suc count) path code = (step_from path 0 ≡ direction_of (code % 4)) × IsCoded count (λ k. path (suc k)) (code / 4)
+IsCoded (suc count) path code = (step_from path 0 ≡ coded_step (code % 4)) × IsCoded count (λ k. path (suc k)) (code / 4)
 
 -- the next eight steps from an index on have this code, and the path is longer
 pub record IsCodeAt (points : List Point) (at code : ℕ) : Type 0 where

@@ -72,7 +72,7 @@ pub mod Wedges
 --   TakesIn: the extent takes in what the other one does, and a further place
 pub mod Strips
 -- Numbers for how a path takes its next few steps.
---   direction_of: the four directions, counted to the left from east
+--   coded_step: the step that a digit stands for, counted to the left from east
 --   GoesByOne: the step goes by 1 along a row or along a column
 --   IsCoded: the directions of a path's first steps are the code's digits
 --   IsCodeAt: the next eight steps from an index on have this code

@@ -1,7 +1,7 @@
 //! Numbers for how a path takes its next few steps.
 ghost use Rattle.std.specs.Prelude.{◌≡◌, ◌*◌, ◌<◌, ◌≤◌, ℕ, suc, length, IfSome};
 ghost use Rattle.pt_core.specs.declared.point.Point.{Point};
-ghost use Rattle.straight_paths.specs.Codes.{GoesByOne, IsCodeAt, IsCoded, direction_of};
+ghost use Rattle.straight_paths.specs.Codes.{GoesByOne, IsCodeAt, IsCoded, coded_step};
 ghost use Rattle.straight_paths.specs.Corners.{step_from};
 
 use crate::track::Track;
@@ -37,7 +37,7 @@ impl Code {
 fn direction(step: Vector) -> u32
     requires { GoesByOne step }
     ensures small { result < 4 }
-    ensures value { step ≡ direction_of result }
+    ensures value { step ≡ coded_step result }
 {
     if step.x == 0 {
         (2 - step.y) as u32
