@@ -3,6 +3,9 @@ use Rattle.std.proofs.Common.{◌≡◌, ℕ, ◌+◌, ◌-◌, ◌<◌, ◌≤�
 use Rattle.std.proofs.lemmas.Bool.Decides.{nat_tests}
 use Rattle.std.proofs.lemmas.List.{length-take}
 use Rattle.std.specs.Prelude.{is_some}
+use Rattle.std.specs.List.{All}
+use Rattle.curve_join.proofs.Cutting.{slice_small}
+use Rattle.curve_join.specs.Bends.{IsWorkable}
 use Rattle.curve_join.specs.Choice.{MayBeOne, run_penalty}
 use Rattle.curve_join.specs.Join.{MayJoin, penalty_at}
 use Rattle.curve_join.specs.declared.bend.Bend.{Bend}
@@ -14,6 +17,9 @@ if_false false n e = refl
 -- a part from the one number up to the other
 pub some_of_slice : (bends : List Bend) (i j : ℕ) → i + 1 < j → j ≤ length bends → 2 ≤ length (take (j - i) (drop i bends))
 some_of_slice bends i j onwards within = omega (arith, length-take (j - i) (drop i bends), length-drop i bends)
+
+pub shown_small : (bends shown : List Bend) (i j : ℕ) → shown ≡ bends → All IsWorkable bends → All IsWorkable (take (j - i) (drop i shown))
+shown_small bends shown i j same small = rw same (slice_small bends i j small)
 
 -- the pieces are looked at through a slice
 module _ (bends shown : List Bend) (i j : ℕ) (same : shown ≡ bends) (more : ¬ (j - i ≡ 1)) where

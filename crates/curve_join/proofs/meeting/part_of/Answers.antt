@@ -1,11 +1,22 @@
-use Rattle.std.proofs.Common.{◌≡◌, ◌≤◌, ◌^◌, ℤ, ◌*ℤ◌, ◌∙◌, ap, w64, to_z, of_z, arith, rules}
-use Rattle.std.proofs.lemmas.Int.{fits_signed_from_abs}
+use Rattle.std.proofs.Common.{◌≡◌, ◌≤◌, ◌^◌, ℤ, ◌*ℤ◌, ◌∙◌, ap, w64, to_z, of_z, arith, rules, ℕ, pos, ◌<ℤ◌}
+use Rattle.std.proofs.lemmas.Int.{fits_signed_from_abs, to_z-of_z}
 use mir.Syntax.{w128}
 use Rattle.std.specs.Prelude.{unsigned_abs}
 use Rattle.std.specs.Int.RustNames.{FitsSigned}
 use Rattle.curve_join.proofs.Division.{shift_is, short_shift}
 use Rattle.curve_join.proofs.Fitting.{back, long_back, product_most}
 use Rattle.curve_join.proofs.meeting.part_of.Goals as goal
+
+-- a short product
+short_fits : (t v : ℤ) (n : ℕ) → unsigned_abs t ≤ 2 ^ 58 → unsigned_abs v ≤ 2 ^ 27 → n ≡ unsigned_abs (to_z w64 (of_z w64 t)) → n ≤ 2 ^ 35
+    → FitsSigned w64 (to_z w64 (of_z w64 t) *ℤ to_z w64 (of_z w64 v))
+short_fits t v n ht hv is few =
+    let same = ap unsigned_abs (back t (omega arith)) in
+    let most = product_most t v (2 ^ 35) (2 ^ 27) (omega (arith, same, is)) hv in
+    rw (back t (omega arith), back v (omega arith)) (fits_signed_from_abs w64 (t *ℤ v) (omega arith))
+
+positive : (b r : ℤ) → FitsSigned w64 b → r ≡ to_z w64 (of_z w64 b) → pos 0 <ℤ b → pos 0 <ℤ to_z w128 (of_z w128 r)
+positive b r fits is some = rw (is, to_z-of_z w64 b fits, to_z-of_z w128 b (let h = fits in search rules)) some
 
 -- the short form
 pub returns-then-unsigned_abs-clause-value : goal.returns-then-unsigned_abs-clause-value
@@ -53,3 +64,10 @@ pub overflow_mul-from : goal.overflow_mul-from
 overflow_mul-from c =
     products_fit c.args.top c.args.way c.from-else-unsigned_abs.result c.from-else-unsigned_abs-2.result c.requires.top c.requires.way
     c.from-else-unsigned_abs.ensures c.from-else-unsigned_abs-2.ensures
+
+pub overflow_mul-top : goal.overflow_mul-top
+overflow_mul-top c = short_fits c.args.top c.args.way c.unsigned_abs.result c.requires.top c.requires.way c.unsigned_abs.ensures.value c.if-unsigned_abs.true
+
+pub div_floor-requires : goal.div_floor-requires
+div_floor-requires c = let fits : FitsSigned w64 c.args.bottom = search rules in
+    positive c.args.bottom c.from-else-unsigned_abs-3.result fits c.from-else-unsigned_abs-3.ensures c.requires.some

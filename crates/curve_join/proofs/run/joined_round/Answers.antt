@@ -1,7 +1,8 @@
 use Rattle.std.proofs.Common.{◌-◌, length, ◌∙◌, arith}
 use Rattle.std.proofs.lemmas.List.Elements.{All-take}
 use Rattle.curve_join.specs.Bends.{IsWorkable}
-use Rattle.curve_join.proofs.Joining.{joined_is, may_join, not_covering, not_following, penalty_there, sense_back}
+use Rattle.curve_join.proofs.Joining.{joined_is, may_join, not_covering, not_following, penalty_there, sense_back, not_curved}
+use Rattle.std.proofs.lemmas.List.{length-take}
 use Rattle.curve_join.proofs.run.joined_round.Goals as goal
 
 pub sides_penalty-requires-clause-small : goal.sides_penalty-requires-clause-small
@@ -33,3 +34,52 @@ returns-clause-penalty c =
     let turns = sense_back c.args.run.now c.of-sense.result c.of-sense.ensures c.requires.small (let h = c.requires.some in omega arith) in
     penalty_there c.args.tol c.args.run.now c.of-sense.result turns c.in-Some.curve.cubic c.in-Some.ensures.cubic
     c.in-Some-sides_penalty.sides c.in-Some-pieces_penalty.pieces c.in-Some-sides_penalty.ensures.value c.in-Some-pieces_penalty.ensures.value
+
+pub bounds-run-0 : goal.bounds-run-0
+bounds-run-0 c = omega (arith, c.requires.some)
+
+pub curve-requires-clause-sense : goal.curve-requires-clause-sense
+curve-requires-clause-sense c = sense_back c.args.run.now c.of-sense.result c.of-sense.ensures c.requires.small (omega (arith, c.requires.some))
+
+pub curve-requires-clause-small : goal.curve-requires-clause-small
+curve-requires-clause-small c = c.requires.small
+
+pub curve-requires-clause-some : goal.curve-requires-clause-some
+curve-requires-clause-some c = c.requires.some
+
+pub curve-requires-clause-few : goal.curve-requires-clause-few
+curve-requires-clause-few c = c.requires.few
+
+pub returns-in_default-clause-none : goal.returns-in_default-clause-none
+returns-in_default-clause-none c = let turns = sense_back c.args.run.now c.of-sense.result c.of-sense.ensures c.requires.small (let h = c.requires.some in omega arith) in
+    not_curved c.args.tol c.args.run.now c.of-sense.result turns c.in_default.ensures.none
+
+pub slice_bounds-sides_penalty-count : goal.slice_bounds-sides_penalty-count
+slice_bounds-sides_penalty-count c = omega (arith, c.requires.some)
+
+pub slice_bounds-sides_penalty-length : goal.slice_bounds-sides_penalty-length
+slice_bounds-sides_penalty-length c = omega (arith, length-take (length c.args.run.now - 1) c.args.run.now)
+
+pub sides_penalty-requires-clause-tol : goal.sides_penalty-requires-clause-tol
+sides_penalty-requires-clause-tol c = c.requires.tol
+
+pub sides_penalty-requires-clause-cubic : goal.sides_penalty-requires-clause-cubic
+sides_penalty-requires-clause-cubic c = c.in-Some.ensures.near
+
+pub sides_penalty-requires-clause-few : goal.sides_penalty-requires-clause-few
+sides_penalty-requires-clause-few c = omega (arith, c.requires.few, length-take (length c.args.run.now - 1) c.args.run.now)
+
+pub pieces_penalty-requires-clause-tol : goal.pieces_penalty-requires-clause-tol
+pieces_penalty-requires-clause-tol c = c.requires.tol
+
+pub pieces_penalty-requires-clause-cubic : goal.pieces_penalty-requires-clause-cubic
+pieces_penalty-requires-clause-cubic c = c.in-Some.ensures.near
+
+pub pieces_penalty-requires-clause-small : goal.pieces_penalty-requires-clause-small
+pieces_penalty-requires-clause-small c = c.requires.small
+
+pub pieces_penalty-requires-clause-few : goal.pieces_penalty-requires-clause-few
+pieces_penalty-requires-clause-few c = c.requires.few
+
+pub overflow_add-result : goal.overflow_add-result
+overflow_add-result c = record { fits = omega (arith, c.in-Some-sides_penalty.ensures.most, c.in-Some-pieces_penalty.ensures.most) }

@@ -1,4 +1,4 @@
-use Rattle.std.proofs.Common.{◌≡◌, ℕ, ◌+◌, ◌-◌, length, inl, inr, refl, sym, subst, arith}
+use Rattle.std.proofs.Common.{◌≡◌, ℕ, ◌+◌, ◌-◌, length, inl, inr, refl, sym, subst, arith, List}
 use Rattle.std.specs.Prelude.{slice_index}
 use Rattle.least_walk.proofs.Cheapest.{cost_below}
 use Rattle.least_walk.proofs.Going.{fewest_below}
@@ -6,6 +6,9 @@ use Rattle.curve_join.proofs.Ways.{best_more, cost_there, fewest_there, next_the
 use Rattle.curve_join.specs.Choice.{IsLastRun, MayBeOne, run_penalty}
 use Rattle.curve_join.specs.Costs.{run_penalty_most}
 use Rattle.curve_join.specs.Search.{IsNotBehind}
+use Rattle.std.specs.List.{All}
+use Rattle.curve_join.specs.Bends.{IsWorkable}
+use Rattle.curve_join.specs.declared.bend.Bend.{Bend}
 use Rattle.curve_join.proofs.search.best_from.Goals as goal
 
 -- there are no more runs left than pieces
@@ -121,3 +124,28 @@ returns-clause-next c =
     let bends = runs.bends.items in
     next_there (length bends) (MayBeOne runs.tol bends) (run_penalty bends) c.args.counts.now c.args.costs.now c.args.from c.loop-to.to c.loop-to.best
     c.requires.from (omega arith) (omega arith) c.requires.fewest c.requires.costs c.loop-to.invariant
+
+pub last_from-last-requires-clause-small : goal.last_from-last-requires-clause-small
+last_from-last-requires-clause-small c = let P : List Bend → Type 0 = λ bends. All IsWorkable bends in
+    subst P (sym c.deref.ensures.value) c.args.runs.now.small
+
+pub last_from-last-requires-clause-most : goal.last_from-last-requires-clause-most
+last_from-last-requires-clause-most c = rw c.deref.ensures.value c.args.runs.now.most
+
+pub last_from-last-requires-clause-within : goal.last_from-last-requires-clause-within
+last_from-last-requires-clause-within c = rw c.deref.ensures.value c.requires.from
+
+pub overflow_add-from : goal.overflow_add-from
+overflow_add-from c = record { fits = omega (arith, c.requires.from, c.args.runs.now.most) }
+
+pub way_by-best-requires-clause-count : goal.way_by-best-requires-clause-count
+way_by-best-requires-clause-count c = omega (arith, c.requires.from, c.requires.count_places)
+
+pub way_by-best-requires-clause-cost : goal.way_by-best-requires-clause-cost
+way_by-best-requires-clause-cost c = omega (arith, c.requires.from, c.requires.cost_places)
+
+pub overflow_add-to-start : goal.overflow_add-to-start
+overflow_add-to-start c = record { fits = omega (arith, c.requires.from, c.args.runs.now.most) }
+
+pub better-best-requires-clause-from : goal.better-best-requires-clause-from
+better-best-requires-clause-from c = c.requires.from

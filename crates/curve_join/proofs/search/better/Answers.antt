@@ -1,8 +1,8 @@
-use Rattle.std.proofs.Common.{◌≡◌, ℕ, ◌+◌, ◌-◌, ◌<◌, inr, refl, ap, ◌∙◌, subst, arith}
+use Rattle.std.proofs.Common.{◌≡◌, ℕ, ◌+◌, ◌-◌, ◌<◌, inr, refl, ap, ◌∙◌, subst, arith, inl}
 use Rattle.curve_join.specs.Costs.{slice_most}
 use Rattle.curve_join.specs.Search.{IsNotBehind, paid}
 use Rattle.curve_join.specs.declared.search.WayOn.{WayOn}
-use Rattle.curve_join.proofs.Slices.{joinable, may_be_one, penalty_is, some_of_slice}
+use Rattle.curve_join.proofs.Slices.{joinable, may_be_one, penalty_is, some_of_slice, shown_small}
 use Rattle.curve_join.proofs.search.better.Goals as goal
 
 not_single : (i j : ℕ) → i + 1 < j → ¬ (j - i ≡ 1)
@@ -56,3 +56,35 @@ returns-in_default-clause-best c = no_worse c.args.best
 
 pub returns-else-is_before-clause-best : goal.returns-else-is_before-clause-best
 returns-else-is_before-clause-best c = no_worse c.args.best
+
+pub returns-then-not-is_before-clause-one : goal.returns-then-not-is_before-clause-one
+returns-then-not-is_before-clause-one c = inl refl
+
+pub overflow_cast-run-2 : goal.overflow_cast-run-2
+overflow_cast-run-2 c = record { fits = omega (arith, c.requires.within, c.args.runs.now.most) }
+
+pub offset_bounds-deref-from : goal.offset_bounds-deref-from
+offset_bounds-deref-from c = record { fits = omega (arith, c.requires.from, c.args.runs.now.most) }
+
+pub slice_bounds-run-count : goal.slice_bounds-run-count
+slice_bounds-run-count c = omega (arith, c.requires.onwards)
+
+pub joined_round-requires-clause-tol : goal.joined_round-requires-clause-tol
+joined_round-requires-clause-tol c = c.args.runs.now.tolerance
+
+pub joined_round-requires-clause-small : goal.joined_round-requires-clause-small
+joined_round-requires-clause-small c = shown_small c.args.runs.now.bends.items c.deref.result.now c.args.from c.args.way.next c.deref.ensures.value c.args.runs.now.small
+
+pub returns-in_default-clause-one : goal.returns-in_default-clause-one
+returns-in_default-clause-one c = inl refl
+
+pub returns-then-is_before-clause-best : goal.returns-then-is_before-clause-best
+returns-then-is_before-clause-best c = c.if-is_before.ensures.before refl
+
+pub returns-else-is_before-clause-one : goal.returns-else-is_before-clause-one
+returns-else-is_before-clause-one c = inl refl
+
+pub returns-else-is_before-clause-run : goal.returns-else-is_before-clause-run
+returns-else-is_before-clause-run c = λ may. subst (λ n. IsNotBehind c.args.best (paid n c.args.way))
+    (c.from.ensures ∙ penalty_is c.args.runs.now.bends.items c.deref.result.now c.args.from c.args.way.next c.deref.ensures.value (not_single c.args.from c.args.way.next c.requires.onwards) c.in-Some.penalty c.in-Some.ensures.penalty)
+    (c.if-is_before.ensures.not refl)

@@ -50,3 +50,37 @@ loop-from-preserved c =
           (omega (arith, c.loop-from.auto.nexts))
           (subst (λ n. HasNexts (length bends) (MayBeOne runs.tol bends) (run_penalty bends) n c.loop-from.nexts) low so_far.nexts) one.next;
     }
+
+pub overflow_step-from : goal.overflow_step-from
+overflow_step-from c = omega (arith, c.loop-from-test.true)
+
+pub overflow_cast-from : goal.overflow_cast-from
+overflow_cast-from c = record { fits = omega (arith, c.loop-from.auto.from, c.len-size.ensures, c.args.runs.now.most) }
+
+pub best_from-way-requires-clause-from : goal.best_from-way-requires-clause-from
+best_from-way-requires-clause-from c = omega (arith, c.loop-from-test.true, c.loop-from.auto.from, c.len-size.ensures)
+
+pub best_from-way-requires-clause-count_places : goal.best_from-way-requires-clause-count_places
+best_from-way-requires-clause-count_places c = omega (arith, c.loop-from.auto.counts, length-set c.args.counts.now c.len-size.result 0, c.requires.count_places)
+
+pub best_from-way-requires-clause-cost_places : goal.best_from-way-requires-clause-cost_places
+best_from-way-requires-clause-cost_places c = omega (arith, c.loop-from.auto.costs, length-set c.args.costs.now c.len-size.result 0, c.requires.cost_places)
+
+pub best_from-way-requires-clause-fewest : goal.best_from-way-requires-clause-fewest
+best_from-way-requires-clause-fewest c = let low : c.loop-from.from ≡ c.loop-from.from - 1 + 1 = omega (arith, c.loop-from-test.true) in
+    subst (λ n. HasFewest (length c.args.runs.now.bends.items) (MayBeOne c.args.runs.now.tol c.args.runs.now.bends.items) n c.loop-from.counts) low c.loop-from.invariant.counts
+
+pub best_from-way-requires-clause-costs : goal.best_from-way-requires-clause-costs
+best_from-way-requires-clause-costs c = let low : c.loop-from.from ≡ c.loop-from.from - 1 + 1 = omega (arith, c.loop-from-test.true) in
+    subst (λ n. AreLeastCosts (length c.args.runs.now.bends.items) (MayBeOne c.args.runs.now.tol c.args.runs.now.bends.items) (run_penalty c.args.runs.now.bends.items) n c.loop-from.costs) low c.loop-from.invariant.costs
+
+pub returns-clause-counts : goal.returns-clause-counts
+returns-clause-counts c = let done : c.loop-from.from ≡ 0 = omega (arith, c.loop-from-test.false) in
+    subst (λ n. HasFewest (length c.args.runs.now.bends.items) (MayBeOne c.args.runs.now.tol c.args.runs.now.bends.items) n c.loop-from.counts) done c.loop-from.invariant.counts
+
+pub returns-clause-costs : goal.returns-clause-costs
+returns-clause-costs c = λ k above below place. c.loop-from.invariant.costs k (omega (arith, c.loop-from-test.false)) below
+
+pub returns-clause-nexts : goal.returns-clause-nexts
+returns-clause-nexts c = let done : c.loop-from.from ≡ 0 = omega (arith, c.loop-from-test.false) in
+    subst (λ n. HasNexts (length c.args.runs.now.bends.items) (MayBeOne c.args.runs.now.tol c.args.runs.now.bends.items) (run_penalty c.args.runs.now.bends.items) n c.loop-from.nexts) done c.loop-from.invariant.nexts
