@@ -246,3 +246,9 @@ returns-in-Err-add-clause-input g c = tt
 
 pub returns-in-Err-add-clause-going : goal.returns-in-Err-add-clause-going
 returns-in-Err-add-clause-going g c = tt
+
+pub convert_pages-requires-clause-texts : goal.convert_pages-requires-clause-texts
+convert_pages-requires-clause-texts g c κs within = c.requires.texts
+
+pub convert_pages-requires-clause-going : goal.convert_pages-requires-clause-going
+convert_pages-requires-clause-going g c κs within = c.requires.going
