@@ -1,29 +1,16 @@
 -- What stays the same from call to call.
-use Rattle.std.proofs.Common.{ℕ, List, Err, ◌∙◌, arith}
-use Rattle.pt_core.specs.declared.sink.Sink.{Ghosts as SinkGhosts}
+use Rattle.std.proofs.Common.{ℕ, List, Err, ◌∙◌}
 use Rattle.bit_image.specs.Page.{Page as Pixels}
 use Rattle.bitmap_input.specs.Reader.{Reader}
 use Rattle.run_output.specs.declared.part.Binding.{Binding}
 use Rattle.run_output.specs.declared.status.Status.{Status}
 use Rattle.run_output.specs.declared.status.Status.TheVariants as status
-use Rattle.page_batches.specs.Desks.{Keeps}
 use Rattle.page_batches.specs.Held.{EndsHolding, Held}
 use Rattle.page_batches.specs.Items.{Item}
 use Rattle.page_batches.specs.Outcome.{HasEnded}
 use Rattle.run_output.specs.Told.{Sinks, Source}
-use Rattle.page_batches.specs.declared.desk.Desk.{Desk}
 use Rattle.file_documents.specs.Progress.{OpensNoFile, TakesBytes}
 use Rattle.file_documents.proofs.Reading.{contents_taken, name_taken}
-
--- the same desk, after one call and another
-pub keeps_on : {A B : Type 0} (of_outs : SinkGhosts A) (of_errs : SinkGhosts B) (x y z : Desk A B) → Keeps of_outs of_errs x y → Keeps of_outs of_errs y z
-    → Keeps of_outs of_errs x z
-keeps_on of_outs of_errs x y z first next = record {
-  outs = next.outs ∙ first.outs;
-  errs = next.errs ∙ first.errs;
-  ready = next.ready;
-  never_falls = let a = first.never_falls in let b = next.never_falls in omega (arith, a, b);
-}
 
 -- bytes were taken of the opened file
 pub stays_taken : (old new : Reader) (start before now : Source) → OpensNoFile start before → TakesBytes old before new now → OpensNoFile start now

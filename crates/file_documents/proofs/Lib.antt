@@ -1,5 +1,6 @@
 pub mod Closing
 pub mod Counting
+pub mod Differing
 pub mod Ending
 pub mod Exists
 pub mod Filing

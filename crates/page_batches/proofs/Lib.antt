@@ -1,6 +1,8 @@
 pub mod Batching
 pub mod Bound
 pub mod Carrying
+pub mod Counts
+pub mod Desks
 pub mod Examples
 pub mod Fronts
 pub mod Holding

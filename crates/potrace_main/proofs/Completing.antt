@@ -1,5 +1,5 @@
 -- What the outcome of a run says where no device failed, and of the causes of its status.
-use Rattle.std.proofs.Common.{◌≡◌, ◌≢◌, ◌<◌, ◌⊎◌, ℕ, false, List, [], ◌∷◌, ◌++◌, Option, None, Some, inl, inr, refl, sym, ◌∙◌, ap, subst, arith}
+use Rattle.std.proofs.Common.{◌≡◌, ◌≢◌, ◌<◌, ◌⊎◌, ℕ, zero, suc, false, List, [], ◌∷◌, ◌++◌, Option, None, Some, inl, inr, refl, sym, ◌∙◌, ap, subst, arith}
 use Rattle.pt_core.specs.Counts.{Rose}
 use Rattle.pt_core.specs.Files.{Contents}
 use Rattle.pt_core.specs.declared.settings.Settings.{Settings}
@@ -26,7 +26,7 @@ use Rattle.file_documents.proofs.Closing.{AreWhole-front, alone_end, carried_clo
 use Rattle.file_documents.proofs.Exists.{items_found}
 use Rattle.file_documents.proofs.Joining.{items_behind}
 use Rattle.potrace_main.proofs.Found.{demo_found}
-use Rattle.potrace_main.specs.Run.{AreItemsOf, BindsApart, EndsMissing, EndsRefused, FailureCount, IsComplete, IsMissing, IsOutcomeOf, IsRun, OutputsMove, RefusesWords, manner_under, names_of}
+use Rattle.potrace_main.specs.Run.{AreItemsOf, BindsApart, EndsMissing, EndsRefused, FailureCount, IsComplete, IsMissing, IsOutcomeOf, IsRun, OutputsMove, manner_under, names_of}
 use Rattle.potrace_main.specs.Usage.{help_text, version_text}
 
 -- what the tracer's law says: each page has a document, under settings under which one is written
@@ -261,54 +261,27 @@ pub asked_moves : (Asks : Ask → Type 0) (ask : Ask) → Asks ask → (s : Stat
 asked_moves Asks ask asked s source now a b closed outcome =
     moves_where (BindsApart ask) ((other : Ask) → Asks other → BindsApart other) s a b (λ all. all ask asked) (run_moves ask s source now a b closed outcome)
 
--- words that are refused move nothing
-pub refused_moves : (P : Type 0) (s : Status) (a b : Sinks) → a.is_open ≡ false → RefusesWords s a b → OutputsMove P s a b
-refused_moves P status.BadWords a b closed refused = carried_moves P [] _ a b (λ p. tt) closed refused
-refused_moves P status.OutOfMemory a b closed refused = carried_moves P [] _ a b (λ p. tt) closed refused
-refused_moves P status.Done a b closed refused = absurd refused
-refused_moves P status.Refused a b closed refused = absurd refused
-refused_moves P status.Unread a b closed refused = absurd refused
-refused_moves P status.Unwritten a b closed refused = absurd refused
-
 -- Statuses and their codes.
 
+-- the status of a code
+abbrev with_code : ℕ → Status
+with_code zero = status.Done
+with_code (suc zero) = status.BadWords
+with_code (suc (suc zero)) = status.Refused
+with_code (suc (suc (suc zero))) = status.Unread
+with_code (suc (suc (suc (suc zero)))) = status.Unwritten
+with_code (suc (suc (suc (suc (suc n))))) = status.OutOfMemory
+
+with_code-code_of : (s : Status) → with_code (code_of s) ≡ s
+with_code-code_of status.Done = refl
+with_code-code_of status.BadWords = refl
+with_code-code_of status.Refused = refl
+with_code-code_of status.Unread = refl
+with_code-code_of status.Unwritten = refl
+with_code-code_of status.OutOfMemory = refl
+
 pub code_one : (s t : Status) → code_of s ≡ code_of t → s ≡ t
-code_one status.Done status.Done e = refl
-code_one status.BadWords status.BadWords e = refl
-code_one status.Refused status.Refused e = refl
-code_one status.Unread status.Unread e = refl
-code_one status.Unwritten status.Unwritten e = refl
-code_one status.OutOfMemory status.OutOfMemory e = refl
-code_one status.Done status.BadWords e = absurd (omega (arith, e))
-code_one status.Done status.Refused e = absurd (omega (arith, e))
-code_one status.Done status.Unread e = absurd (omega (arith, e))
-code_one status.Done status.Unwritten e = absurd (omega (arith, e))
-code_one status.Done status.OutOfMemory e = absurd (omega (arith, e))
-code_one status.BadWords status.Done e = absurd (omega (arith, e))
-code_one status.BadWords status.Refused e = absurd (omega (arith, e))
-code_one status.BadWords status.Unread e = absurd (omega (arith, e))
-code_one status.BadWords status.Unwritten e = absurd (omega (arith, e))
-code_one status.BadWords status.OutOfMemory e = absurd (omega (arith, e))
-code_one status.Refused status.Done e = absurd (omega (arith, e))
-code_one status.Refused status.BadWords e = absurd (omega (arith, e))
-code_one status.Refused status.Unread e = absurd (omega (arith, e))
-code_one status.Refused status.Unwritten e = absurd (omega (arith, e))
-code_one status.Refused status.OutOfMemory e = absurd (omega (arith, e))
-code_one status.Unread status.Done e = absurd (omega (arith, e))
-code_one status.Unread status.BadWords e = absurd (omega (arith, e))
-code_one status.Unread status.Refused e = absurd (omega (arith, e))
-code_one status.Unread status.Unwritten e = absurd (omega (arith, e))
-code_one status.Unread status.OutOfMemory e = absurd (omega (arith, e))
-code_one status.Unwritten status.Done e = absurd (omega (arith, e))
-code_one status.Unwritten status.BadWords e = absurd (omega (arith, e))
-code_one status.Unwritten status.Refused e = absurd (omega (arith, e))
-code_one status.Unwritten status.Unread e = absurd (omega (arith, e))
-code_one status.Unwritten status.OutOfMemory e = absurd (omega (arith, e))
-code_one status.OutOfMemory status.Done e = absurd (omega (arith, e))
-code_one status.OutOfMemory status.BadWords e = absurd (omega (arith, e))
-code_one status.OutOfMemory status.Refused e = absurd (omega (arith, e))
-code_one status.OutOfMemory status.Unread e = absurd (omega (arith, e))
-code_one status.OutOfMemory status.Unwritten e = absurd (omega (arith, e))
+code_one s t e = sym (with_code-code_of s) ∙ ap with_code e ∙ with_code-code_of t
 
 -- the outputs' count rises only at that status, and where this is so no document stays open at another
 pub rose_by : (P : Type 0) (s : Status) (a b : Sinks) → OutputsMove P s a b → s ≡ status.Unwritten → Rose a.outs.faults b.outs.faults

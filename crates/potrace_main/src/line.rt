@@ -1,6 +1,8 @@
 //! The line of a page.
-ghost use Rattle.std.specs.Prelude.{◌≡◌, length, sum_by, IfOk};
-ghost use Rattle.potrace_main.specs.Line.{demo_line};
+ghost use Rattle.std.specs.Prelude.{◌≡◌, ◌++◌, decimal, length, sum_by, IfOk, OnOk};
+ghost use Rattle.page_trace.specs.Trace.{IsTrace};
+ghost use Rattle.pt_core.specs.Needs.{CanWrite};
+ghost use Rattle.potrace_main.specs.Line.{IsDemoLine, demo_line};
 
 use bit_image::Bitmap;
 use page_trace::{document, trace};
@@ -37,8 +39,7 @@ impl PageJob for LineJob {
 
     fn page(&self, alloc: Global, page: &Bitmap) -> Result<Vec<u8>, NoMemory> {
         let trace = trace(alloc, page, &self.settings)?;
-        let text = document(alloc, page, &self.settings)?;
-        line(alloc, &trace, text.len())
+        traced_line(alloc, page, &self.settings, &trace)
     }
 
     ghost one_text = { λ job page a b p q. p.counts
@@ -49,21 +50,48 @@ impl PageJob for LineJob {
         ∙ sym q.counts };
 }
 
+/// The line of a page, of which this is the trace.
+fn traced_line(
+    alloc: Global,
+    page: &Bitmap,
+    settings: &Settings,
+    trace: &Trace,
+) -> Result<Vec<u8>, NoMemory>
+    requires traced { IsTrace page.now settings.now trace.now }
+    requires written { CanWrite settings.now }
+    ensures { IfOk result (λ line. IsDemoLine settings.now page.now line.items) }
+{
+    let text = document(alloc, page, settings)?;
+    line(alloc, trace, text.len())
+}
+
 /// The line of a trace whose document has so many bytes.
 fn line(alloc: Global, trace: &Trace, bytes: usize) -> Result<Vec<u8>, NoMemory>
     ensures { IfOk result (λ line. line.items ≡ demo_line trace.now bytes) }
 {
     let mut out = Vec::new(alloc);
-    out.extend_from_slice(b"paths ")?;
-    put_number(&mut out, trace.paths.as_slice().len())?;
-    out.extend_from_slice(b" segments ")?;
-    put_number(&mut out, segments(trace.polygons.as_slice()))?;
-    out.extend_from_slice(b" curves ")?;
-    put_number(&mut out, pieces(trace.outlines.as_slice()))?;
-    out.extend_from_slice(b" bytes ")?;
-    put_number(&mut out, bytes)?;
-    out.extend_from_slice(b"\n")?;
+    put_line(&mut out, trace, bytes)?;
     Ok(out)
+}
+
+/// Appends the line of a trace whose document has so many bytes.
+fn put_line(out: &mut Vec<u8>, trace: &Trace, bytes: usize) -> Result<(), NoMemory>
+    ensures { OnOk result (out.new.items ≡ out.old.items ++ demo_line trace.now bytes) }
+{
+    put_count(out, b"paths ", trace.paths.as_slice().len() as u128)?;
+    put_count(out, b" segments ", segments(trace.polygons.as_slice()))?;
+    put_count(out, b" curves ", pieces(trace.outlines.as_slice()))?;
+    put_count(out, b" bytes ", bytes as u128)?;
+    out.extend_from_slice(b"\n")?;
+    Ok(())
+}
+
+/// Appends a text, and a number behind it.
+fn put_count(out: &mut Vec<u8>, text: &[u8], count: u128) -> Result<(), NoMemory>
+    ensures { OnOk result (out.new.items ≡ out.old.items ++ (text.now ++ decimal count)) }
+{
+    out.extend_from_slice(text)?;
+    put_number(out, count)
 }
 
 /// How many segments the polygons have together.

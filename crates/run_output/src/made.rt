@@ -8,7 +8,7 @@ use std::alloc::Global;
 use std::marker::Model;
 
 /// The documents of one file.
-#[derive(Debug, Drop)]
+#[derive(Drop)]
 struct FileMade {
     base: String,
     documents: u32,
@@ -31,7 +31,7 @@ impl FileMade {
 /// document, the last one first, and the pages.
 ///
 /// There is an entry for each file, so a name is looked for once a file and not once a page.
-#[derive(Debug, Drop)]
+#[derive(Drop)]
 pub struct Made {
     files: Vec<FileMade>,
     pages: u32,

@@ -1,7 +1,7 @@
 //! The names of documents, from those of files or of the output.
-ghost use Rattle.std.specs.Prelude.{◌≡◌, ◌≤◌, ◌<◌, None, IfOk, IfSome, get_or, length, option_map, string_bytes};
+ghost use Rattle.std.specs.Prelude.{◌≡◌, ◌≤◌, ◌<◌, ◌++◌, None, IfOk, IfSome, OnOk, codes, get_or, length, option_map, string_bytes};
 ghost use Rattle.std.specs.Str.{IsCharBoundary};
-ghost use Rattle.run_output.specs.Names.{backend_suffix, base_name, document_name, last_place, part_begins, suffix_begins};
+ghost use Rattle.run_output.specs.Names.{backend_suffix, base_name, document_name, last_place, part_begins, stem_of, suffix_begins, suffix_of};
 
 use itoa::Buffer;
 use pt_core::Backend;
@@ -58,13 +58,29 @@ pub fn document_name(alloc: Global, base: &str, k: u32) -> Result<String, AllocE
     if base == "-" || k <= 1 {
         return String::from_str(alloc, base);
     }
-    let at = suffix_begins(base);
     let mut digits = Buffer::new();
+    numbered_name(alloc, base, digits.format(k))
+}
+
+/// A base name with this number, in digits, before its suffix.
+fn numbered_name(alloc: Global, base: &str, number: &str) -> Result<String, AllocError>
+    ensures { IfOk result (λ name. string_bytes name
+        ≡ stem_of base.now ++ (codes "-" ++ (number.now ++ suffix_of base.now))) }
+{
+    let at = suffix_begins(base);
     let mut name = String::from_str(alloc, &base[..at])?;
-    name.push_str("-")?;
-    name.push_str(digits.format(k))?;
-    name.push_str(&base[at..])?;
+    push_number(&mut name, number, &base[at..])?;
     Ok(name)
+}
+
+/// Appends a dash, a number in digits, and a suffix.
+fn push_number(name: &mut String, number: &str, suffix: &str) -> Result<(), AllocError>
+    ensures { OnOk result (string_bytes name.new
+        ≡ string_bytes name.old ++ (codes "-" ++ (number.now ++ suffix.now))) }
+{
+    name.push_str("-")?;
+    name.push_str(number)?;
+    name.push_str(suffix)
 }
 
 /// Where the suffix of a name begins: at the end where it has none.

@@ -90,8 +90,12 @@ pub(crate) fn write_part<O: Outputs>(
     ensures cause { OnErr result (Rose (O.faults outs.old) (O.faults outs.new)) }
     ensures never_falls { O.faults outs.old ≤ O.faults outs.new }
 {
-    begin_where(outs, begins, name)?;
-    write_pieces(outs, pieces)?;
+    let Ok(()) = begin_where(outs, begins, name) else {
+        return Err(SinkFault);
+    };
+    let Ok(()) = write_pieces(outs, pieces) else {
+        return Err(SinkFault);
+    };
     match end_where(outs, ends) {
         Ok(()) => Ok(()),
         Err(_) => Err(SinkFault),
@@ -113,10 +117,10 @@ fn begin_where<O: Outputs>(outs: &mut O, begins: bool, name: &str) -> Result<(),
     if !begins {
         return Ok(());
     }
-    if outs.begin(name).is_err() {
-        return Err(SinkFault);
+    match outs.begin(name) {
+        Ok(()) => Ok(()),
+        Err(_) => Err(SinkFault),
     }
-    Ok(())
 }
 
 /// Ends the document, where the part ends it.
@@ -134,10 +138,10 @@ fn end_where<O: Outputs>(outs: &mut O, ends: bool) -> Result<(), SinkFault>
     if !ends {
         return Ok(());
     }
-    if outs.end().is_err() {
-        return Err(SinkFault);
+    match outs.end() {
+        Ok(()) => Ok(()),
+        Err(_) => Err(SinkFault),
     }
-    Ok(())
 }
 
 /// Writes the part that is a page, behind so many pages of its file, of the document of this name.

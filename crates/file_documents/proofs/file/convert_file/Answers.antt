@@ -1,17 +1,18 @@
-use Rattle.std.proofs.Common.{◌≡◌, ◌∙◌, ◌∷◌, ◌*◌, ℕ, List, Err, ap, refl, subst, arith}
+use Rattle.std.proofs.Common.{◌∙◌, ◌∷◌, ◌*◌, ℕ, List, Err, ap, refl, subst}
 use Rattle.pt_core.specs.Files.{Lacks}
-use Rattle.run_output.specs.declared.status.Status.TheVariants as status
 use Rattle.page_batches.specs.Desks.{sinks_at}
+use Rattle.page_batches.proofs.Counts.{same_count, some_room}
+use Rattle.page_batches.proofs.Desks.{keeps_on}
 use Rattle.file_documents.specs.Items.{told_contents}
 use Rattle.file_documents.specs.Manner.{base_by}
 use Rattle.run_output.specs.Told.{source_of}
 use Rattle.file_documents.specs.Progress.{InputCount}
 use Rattle.file_documents.specs.Tasks.{manner_of}
 use Rattle.file_documents.proofs.Counting.{faults_from, input_by, rose_by}
+use Rattle.file_documents.proofs.Differing.{ok_not_err, out_not_unwritten}
 use Rattle.file_documents.proofs.Ending.{ends_at_once, ends_behind, file_ends, file_halted, input_count, input_of_halt, input_unopened, unopened_by, unopened_ends}
 use Rattle.file_documents.proofs.Filing.{file_goes_on, halts_named, halts_unwritten, has_bytes, converted_named}
 use Rattle.file_documents.proofs.Finishing.{end_named}
-use Rattle.file_documents.proofs.Keeping.{keeps_on}
 use Rattle.file_documents.proofs.Passing.{pass_ended, pass_halted, pass_unopened}
 use Rattle.file_documents.proofs.Reading.{contents_through, contents_unopened, name-with_file, no_name}
 use Rattle.file_documents.proofs.file.convert_file.Goals as goal
@@ -27,7 +28,7 @@ returns-in-Err-clause-converted g c = λ names first are.
     let cause = unopened_by old.files c.args.name.now old.faults now.faults c.in-Err.field-0 (λ e. c.in-Err.ensures.absent.0 (ap Err e)) (λ e. c.in-Err.ensures.cause (ap Err e)) in (
       unopened_ends manner c.requires.texts c.args.name.now c.args.made.now c.args.batch.now old now before after c.in-Err.ensures.one_more c.in-Err.ensures.none_opened cause
           c.end_unopened.result c.end_unopened.ensures.ends names first are,
-      λ is. pass_unopened (2 * c.args.task.now.plan.workers) (omega (arith, c.args.task.now.plan.some_worker)) manner c.requires.texts c.args.name.now c.args.made.now c.args.batch.now old now before after
+      λ is. pass_unopened (2 * c.args.task.now.plan.workers) (some_room c.args.task.now.plan.workers c.args.task.now.plan.some_worker) manner c.requires.texts c.args.name.now c.args.made.now c.args.batch.now old now before after
           c.requires.going.waits.few cause c.end_unopened.result c.end_unopened.ensures.ends is names first are,
     )
 
@@ -47,7 +48,7 @@ returns-in_default-clause-converted g c = λ names first are. (
   ends_at_once (told_contents (g.I.Inputs.files c.args.inputs.now)) (manner_of g.J.PageJob c.args.task.now) c.requires.texts (c.args.name.now ∷ names) c.args.made.now _ _
       (record { outs = refl; opened = refl })
       (record { said = c.say_out_of_memory.ensures.said; given_up = c.say_out_of_memory.ensures.given_up; never_falls = c.say_out_of_memory.ensures.never_falls }) first,
-  λ is. absurd (let no : status.OutOfMemory ≡ status.Unwritten = is in cc),
+  λ is. absurd (out_not_unwritten is),
 )
 
 pub returns-in_default-clause-asked : goal.returns-in_default-clause-asked
@@ -64,7 +65,7 @@ returns-in-Err-convert_pages-clause-converted g c = λ names first are.
     let old = source_of g.I.Inputs c.args.inputs.now in
     let now = source_of g.I.Inputs c.convert_pages.new.inputs in
     let start = g.I.Inputs.files c.open.new.self in
-    let there : Lacks old.files c.args.name.now → ⊥ = λ lacking. let clash = c.in-Ok.ensures.absent.1 lacking in cc in
+    let there : Lacks old.files c.args.name.now → ⊥ = λ lacking. ok_not_err _ _ (c.in-Ok.ensures.absent.1 lacking) in
     let ended = c.in-Err-convert_pages.ensures.converted in
     let before = sinks_at g.O.Sink g.E.Sink c.args.desk.now in
     let mid = sinks_at g.O.Sink g.E.Sink c.convert_pages.new.desk in
@@ -72,7 +73,7 @@ returns-in-Err-convert_pages-clause-converted g c = λ names first are.
     let base : List ℕ = base_by manner c.args.name.now in
     let halts = halts_named c.in-Err-convert_pages.status size manner c.deref.result.now base c.args.made.now start now.files c.args.batch.now before mid (c.deref.ensures ∙ c.in-Ok-base_name.ensures) ended.1 in (
       file_halted size manner c.requires.texts c.args.name.now c.args.made.now start c.args.batch.now old now before mid c.in-Err-convert_pages.status c.in-Ok.ensures.file there ended.0 halts names first are,
-      λ is. pass_halted (2 * c.args.task.now.plan.workers) (omega (arith, c.args.task.now.plan.some_worker)) manner c.requires.texts c.args.name.now c.args.made.now start old now
+      λ is. pass_halted (2 * c.args.task.now.plan.workers) (some_room c.args.task.now.plan.workers c.args.task.now.plan.some_worker) manner c.requires.texts c.args.name.now c.args.made.now start old now
           c.in-Ok.ensures.file there (c.convert_pages.ensures.stays.openings ∙ c.in-Ok.ensures.one_more) c.convert_pages.ensures.stays.contents c.convert_pages.ensures.stays.name
           c.args.batch.now before mid (halts_unwritten c.in-Err-convert_pages.status size manner base c.args.made.now start now.files c.args.batch.now before mid is halts) names first are,
     )
@@ -94,7 +95,7 @@ returns-in-Err-finish-clause-converted g c = λ names first are.
     let old = source_of g.I.Inputs c.args.inputs.now in
     let now = source_of g.I.Inputs c.convert_pages.new.inputs in
     let start = g.I.Inputs.files c.open.new.self in
-    let there : Lacks old.files c.args.name.now → ⊥ = λ lacking. let clash = c.in-Ok.ensures.absent.1 lacking in cc in
+    let there : Lacks old.files c.args.name.now → ⊥ = λ lacking. ok_not_err _ _ (c.in-Ok.ensures.absent.1 lacking) in
     let end = c.in-Ok-convert_pages.converted.end in
     let before = sinks_at g.O.Sink g.E.Sink c.args.desk.now in
     let mid = sinks_at g.O.Sink g.E.Sink c.convert_pages.new.desk in
@@ -106,7 +107,7 @@ returns-in-Err-finish-clause-converted g c = λ names first are.
       file_ends size manner c.requires.texts c.args.name.now c.args.made.now start c.in-Ok-convert_pages.converted.pages c.args.batch.now c.convert_pages.new.batch old now before mid after
           c.in-Ok.ensures.file there (c.convert_pages.ensures.stays.openings ∙ c.in-Ok.ensures.one_more) c.convert_pages.ensures.stays.contents c.convert_pages.ensures.stays.name
           c.in-Err-finish.status end rose converted c.in-Err-finish.ensures.ended names first are,
-      λ is. pass_ended (2 * c.args.task.now.plan.workers) (omega (arith, c.args.task.now.plan.some_worker)) manner c.requires.texts c.args.name.now c.args.made.now start old now
+      λ is. pass_ended (2 * c.args.task.now.plan.workers) (some_room c.args.task.now.plan.workers c.args.task.now.plan.some_worker) manner c.requires.texts c.args.name.now c.args.made.now start old now
           c.in-Ok.ensures.file there (c.convert_pages.ensures.stays.openings ∙ c.in-Ok.ensures.one_more) c.convert_pages.ensures.stays.contents c.convert_pages.ensures.stays.name
           c.in-Ok-convert_pages.converted.pages c.args.batch.now c.convert_pages.new.batch before mid after end rose converted c.in-Ok-convert_pages.ensures.going.waits.few
           (rw is at c.in-Err-finish.ensures.ended) (c.in-Err-finish.ensures.because.unwritten is) names first are,
@@ -133,7 +134,7 @@ returns-in-Ok-add-clause-converted g c =
     let manner = manner_of g.J.PageJob c.args.task.now in
     let told = g.I.Inputs.files c.args.inputs.now in
     let start = g.I.Inputs.files c.open.new.self in
-    let there : Lacks told c.args.name.now → ⊥ = λ lacking. let clash = c.in-Ok.ensures.absent.1 lacking in cc in
+    let there : Lacks told c.args.name.now → ⊥ = λ lacking. ok_not_err _ _ (c.in-Ok.ensures.absent.1 lacking) in
     let before = sinks_at g.O.Sink g.E.Sink c.args.desk.now in
     let mid = sinks_at g.O.Sink g.E.Sink c.convert_pages.new.desk in
     let after = sinks_at g.O.Sink g.E.Sink c.finish.new.desk in
@@ -170,7 +171,7 @@ returns-in-Err-add-clause-converted g c = λ names first are.
     let manner = manner_of g.J.PageJob c.args.task.now in
     let told = g.I.Inputs.files c.args.inputs.now in
     let start = g.I.Inputs.files c.open.new.self in
-    let there : Lacks told c.args.name.now → ⊥ = λ lacking. let clash = c.in-Ok.ensures.absent.1 lacking in cc in
+    let there : Lacks told c.args.name.now → ⊥ = λ lacking. ok_not_err _ _ (c.in-Ok.ensures.absent.1 lacking) in
     let before = sinks_at g.O.Sink g.E.Sink c.args.desk.now in
     let mid = sinks_at g.O.Sink g.E.Sink c.convert_pages.new.desk in
     let after = sinks_at g.O.Sink g.E.Sink c.finish.new.desk in
@@ -187,7 +188,7 @@ returns-in-Err-add-clause-converted g c = λ names first are.
           (record { outs = refl; opened = refl })
           (record { said = c.say_out_of_memory-in-Err-add.ensures.said; given_up = c.say_out_of_memory-in-Err-add.ensures.given_up; never_falls = c.say_out_of_memory-in-Err-add.ensures.never_falls })
           names first are,
-      λ is. absurd (let no : status.OutOfMemory ≡ status.Unwritten = is in cc),
+      λ is. absurd (out_not_unwritten is),
     )
 
 pub returns-in-Err-add-clause-asked : goal.returns-in-Err-add-clause-asked
@@ -199,9 +200,55 @@ returns-in-Err-add-clause-asked g c = record {
 
 pub returns-in-Err-add-clause-keeps : goal.returns-in-Err-add-clause-keeps
 returns-in-Err-add-clause-keeps g c =
-    keeps_on _ _ _ _ _ (keeps_on g.O.Sink g.E.Sink c.args.desk.now c.convert_pages.new.desk c.finish.new.desk c.convert_pages.ensures.keeps c.finish.ensures.keeps)
-    (record { outs = refl; errs = refl; ready = c.say_out_of_memory-in-Err-add.ensures.stays_ready; never_falls = omega arith })
+    keeps_on g.O.Sink g.E.Sink c.args.desk.now c.finish.new.desk _ (keeps_on g.O.Sink g.E.Sink c.args.desk.now c.convert_pages.new.desk c.finish.new.desk c.convert_pages.ensures.keeps c.finish.ensures.keeps)
+    (record { outs = refl; errs = refl; ready = c.say_out_of_memory-in-Err-add.ensures.stays_ready; never_falls = same_count (g.O.Sink.faults c.finish.new.desk.outs.now) })
 
 -- a file's pages are as many as a run accepts
 pub add-requires-clause-room : goal.add-requires-clause-room
 add-requires-clause-room g c = c.in-Ok-convert_pages.ensures.converted.few
+
+-- what is held waits for a further file, where the run goes on; and the desk is the same
+pub end_unopened-requires-clause-going : goal.end_unopened-requires-clause-going
+end_unopened-requires-clause-going g c κs within = c.requires.going
+
+pub returns-in-Err-clause-going : goal.returns-in-Err-clause-going
+returns-in-Err-clause-going g c = tt
+
+pub returns-in-Err-clause-keeps : goal.returns-in-Err-clause-keeps
+returns-in-Err-clause-keeps g c = c.end_unopened.ensures.keeps
+
+pub returns-in_default-clause-input : goal.returns-in_default-clause-input
+returns-in_default-clause-input g c = tt
+
+pub returns-in_default-clause-going : goal.returns-in_default-clause-going
+returns-in_default-clause-going g c = tt
+
+pub returns-in_default-clause-keeps : goal.returns-in_default-clause-keeps
+returns-in_default-clause-keeps g c = record { outs = refl; errs = refl; ready = c.say_out_of_memory.ensures.stays_ready; never_falls = same_count (g.O.Sink.faults c.args.desk.now.outs.now) }
+
+pub returns-in-Err-convert_pages-clause-going : goal.returns-in-Err-convert_pages-clause-going
+returns-in-Err-convert_pages-clause-going g c = tt
+
+pub returns-in-Err-convert_pages-clause-keeps : goal.returns-in-Err-convert_pages-clause-keeps
+returns-in-Err-convert_pages-clause-keeps g c = c.convert_pages.ensures.keeps
+
+pub finish-requires-clause-going : goal.finish-requires-clause-going
+finish-requires-clause-going g c κs within = c.in-Ok-convert_pages.ensures.going
+
+pub returns-in-Err-finish-clause-going : goal.returns-in-Err-finish-clause-going
+returns-in-Err-finish-clause-going g c = tt
+
+pub returns-in-Ok-add-clause-going : goal.returns-in-Ok-add-clause-going
+returns-in-Ok-add-clause-going g c = c.in-Ok-finish.ensures.going
+
+pub returns-in-Err-add-clause-input : goal.returns-in-Err-add-clause-input
+returns-in-Err-add-clause-input g c = tt
+
+pub returns-in-Err-add-clause-going : goal.returns-in-Err-add-clause-going
+returns-in-Err-add-clause-going g c = tt
+
+pub convert_pages-requires-clause-texts : goal.convert_pages-requires-clause-texts
+convert_pages-requires-clause-texts g c κs within = c.requires.texts
+
+pub convert_pages-requires-clause-going : goal.convert_pages-requires-clause-going
+convert_pages-requires-clause-going g c κs within = c.requires.going

@@ -1,4 +1,4 @@
-use Rattle.std.proofs.Common.{inr, refl}
+use Rattle.std.proofs.Common.{inl, inr, refl}
 use Rattle.file_documents.proofs.Ending.{halts_in, unopened_said}
 use Rattle.file_documents.proofs.file.end_unopened.Goals as goal
 
@@ -15,3 +15,14 @@ returns-in-Err-clause-ends g c = λ first are.
 
 pub returns-in-Err-clause-status : goal.returns-in-Err-clause-status
 returns-in-Err-clause-status g c = inr (halts_in c.in-Err.status _ _ _ _ _ c.in-Err.ensures.left)
+
+pub returns-in-Ok-clause-status : goal.returns-in-Ok-clause-status
+returns-in-Ok-clause-status g c = inl refl
+
+-- the desk is the same
+pub returns-in-Ok-clause-keeps : goal.returns-in-Ok-clause-keeps
+returns-in-Ok-clause-keeps g c =
+    let kept = c.carry_out.ensures.keeps in record { outs = kept.outs; errs = kept.errs; ready = c.say_not_opened.ensures.stays_ready; never_falls = kept.never_falls }
+
+pub returns-in-Err-clause-keeps : goal.returns-in-Err-clause-keeps
+returns-in-Err-clause-keeps g c = c.carry_out.ensures.keeps

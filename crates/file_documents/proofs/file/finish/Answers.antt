@@ -1,11 +1,13 @@
-use Rattle.std.proofs.Common.{◌≡◌, ◌⊎◌, ◌*◌, inr, refl, rules}
+use Rattle.std.proofs.Common.{◌≡◌, ◌⊎◌, ◌*◌, inl, inr, refl, rules}
 use Rattle.run_output.specs.declared.status.Status.TheVariants as status
 use Rattle.page_batches.specs.Desks.{sinks_at}
+use Rattle.page_batches.proofs.Counts.{same_count}
 use Rattle.page_batches.proofs.Carrying.{memory_out}
 use Rattle.file_documents.specs.Progress.{status_of}
 use Rattle.file_documents.specs.Tasks.{manner_of}
 use Rattle.file_documents.specs.declared.pages.PagesEnd.TheVariants as why
-use Rattle.file_documents.proofs.Ending.{end_said, not_done, not_out}
+use Rattle.file_documents.proofs.Differing.{out_not_unwritten, refused_not_done, refused_not_out}
+use Rattle.file_documents.proofs.Ending.{end_said, halts_in, not_done, not_out}
 use Rattle.file_documents.proofs.Finishing.{end_held_or_out, goes_on_or_out}
 use Rattle.file_documents.proofs.file.finish.Goals as goal
 use Rattle.file_documents.proofs.file.finish.Goals.{in-Fault, in-TooMany}
@@ -47,8 +49,8 @@ returns-in-Ok-clause-ended g c = λ first are.
     (elim c.match-converted.branch [
       | in-TooMany w ↦ record {
         is = rw (w.status-is, w.in-TooMany.is) refl;
-        going = rw w.status-is (λ e. cc);
-        memory = rw w.status-is (λ e. cc);
+        going = rw w.status-is refused_not_done;
+        memory = rw w.status-is refused_not_out;
         same = rw (w.status-is, w.in-TooMany.is, c.from.ensures) refl;
       }
       | in-Fault w ↦
@@ -60,3 +62,56 @@ returns-in-Ok-clause-ended g c = λ first are.
             same = rw (w.status-is, w.in-Fault.is, c.from.ensures, w.text.ensures) refl;
           }
     ])
+
+pub returns-in-Ok-clause-because : goal.returns-in-Ok-clause-because
+returns-in-Ok-clause-because g c = elim c.match-converted.branch [
+  | in-TooMany w ↦ record { which = inl (rw (w.status-is, w.in-TooMany.is) refl); unwritten = λ _. inl (rw w.in-TooMany.is refl) }
+  | in-Fault w ↦
+      let which : (status_of (why.Fault w.in-Fault.fault) ≡ status.Refused) ⊎ (status_of (why.Fault w.in-Fault.fault) ≡ status.Unread) = search rules in
+      record { which = inl (rw (w.status-is, w.in-Fault.is, w.status_of.ensures) refl); unwritten = λ _. rw w.in-Fault.is which }
+]
+
+-- or it isn't
+pub returns-in-Err-clause-ended : goal.returns-in-Err-clause-ended
+returns-in-Err-clause-ended g c = λ first are. inr (halts_in c.in-Err.status _ _ _ _ _ c.in-Err.ensures.left, c.in-Err.ensures.ended first are)
+
+-- whether a further file can be read, and the desk, which is the same
+pub hold_end-requires-clause-going : goal.hold_end-requires-clause-going
+hold_end-requires-clause-going g c κs within = c.requires.going
+
+pub hold_end-requires-in-Trailing-clause-going : goal.hold_end-requires-in-Trailing-clause-going
+hold_end-requires-in-Trailing-clause-going g c κs within = c.requires.going
+
+pub returns-in-End-clause-going : goal.returns-in-End-clause-going
+returns-in-End-clause-going g c = c.hold_end.ensures.going
+
+pub returns-in-End-clause-keeps : goal.returns-in-End-clause-keeps
+returns-in-End-clause-keeps g c = c.hold_end.ensures.keeps
+
+pub returns-in-Trailing-clause-going : goal.returns-in-Trailing-clause-going
+returns-in-Trailing-clause-going g c = c.hold_end-in-Trailing.ensures.going
+
+pub returns-in-Trailing-clause-keeps : goal.returns-in-Trailing-clause-keeps
+returns-in-Trailing-clause-keeps g c = c.hold_end-in-Trailing.ensures.keeps
+
+pub returns-in-Fault-NoMemory-clause-because : goal.returns-in-Fault-NoMemory-clause-because
+returns-in-Fault-NoMemory-clause-because g c = record { which = inr (inr refl); unwritten = λ is. absurd (out_not_unwritten is) }
+
+pub returns-in-Fault-NoMemory-clause-going : goal.returns-in-Fault-NoMemory-clause-going
+returns-in-Fault-NoMemory-clause-going g c = tt
+
+pub returns-in-Fault-NoMemory-clause-keeps : goal.returns-in-Fault-NoMemory-clause-keeps
+returns-in-Fault-NoMemory-clause-keeps g c = record { outs = refl; errs = refl; ready = c.say_out_of_memory.ensures.stays_ready; never_falls = same_count (g.O.Sink.faults c.args.desk.now.outs.now) }
+
+pub returns-in-Ok-clause-going : goal.returns-in-Ok-clause-going
+returns-in-Ok-clause-going g c = tt
+
+pub returns-in-Ok-clause-keeps : goal.returns-in-Ok-clause-keeps
+returns-in-Ok-clause-keeps g c =
+    let kept = c.carry_out.ensures.keeps in record { outs = kept.outs; errs = kept.errs; ready = c.say_of_page.ensures.stays_ready; never_falls = kept.never_falls }
+
+pub returns-in-Err-clause-going : goal.returns-in-Err-clause-going
+returns-in-Err-clause-going g c = tt
+
+pub returns-in-Err-clause-keeps : goal.returns-in-Err-clause-keeps
+returns-in-Err-clause-keeps g c = c.carry_out.ensures.keeps

@@ -2,6 +2,7 @@ use Rattle.std.proofs.Common.{option_map, refl}
 use Rattle.run_output.specs.Names.{next_name}
 use Rattle.page_batches.specs.Held.{end_notes}
 use Rattle.page_batches.proofs.Carrying.{memory_out}
+use Rattle.page_batches.proofs.Counts.{same_count}
 use Rattle.page_batches.proofs.Holding.{all_held, end_is_held}
 use Rattle.page_batches.proofs.Waiting.{end_waits}
 use Rattle.file_documents.proofs.file.hold_end.Goals as goal
@@ -28,3 +29,19 @@ returns-in-Err-clause-out g c = (
   λ items. memory_out items _ _ (record { outs = refl; opened = refl })
       (record { said = c.say_out_of_memory.ensures.said; given_up = c.say_out_of_memory.ensures.given_up; never_falls = c.say_out_of_memory.ensures.never_falls }),
 )
+
+pub returns-in-Ok-clause-out : goal.returns-in-Ok-clause-out
+returns-in-Ok-clause-out g c = tt
+
+pub returns-in-Err-clause-held : goal.returns-in-Err-clause-held
+returns-in-Err-clause-held g c = tt
+
+pub returns-in-Err-clause-going : goal.returns-in-Err-clause-going
+returns-in-Err-clause-going g c = tt
+
+-- the desk is the same
+pub returns-in-Ok-clause-keeps : goal.returns-in-Ok-clause-keeps
+returns-in-Ok-clause-keeps g c = record { outs = refl; errs = refl; ready = c.requires.going.ready; never_falls = same_count (g.O.Sink.faults c.args.desk.now.outs.now) }
+
+pub returns-in-Err-clause-keeps : goal.returns-in-Err-clause-keeps
+returns-in-Err-clause-keeps g c = record { outs = refl; errs = refl; ready = c.say_out_of_memory.ensures.stays_ready; never_falls = same_count (g.O.Sink.faults c.args.desk.now.outs.now) }

@@ -1,14 +1,15 @@
 use Rattle.std.proofs.Common.{◌≡◌, ◌∙◌, ◌*◌, [], length, inl, refl, sym, arith}
 use Rattle.std.proofs.lemmas.List.{take_all}
 use Rattle.run_output.specs.Made.{no_past}
-use Rattle.run_output.specs.declared.status.Status.TheVariants as status
 use Rattle.page_batches.specs.Desks.{sinks_at}
+use Rattle.page_batches.proofs.Counts.{same_count, some_room}
+use Rattle.page_batches.proofs.Desks.{keeps_on}
 use Rattle.file_documents.specs.Items.{told_contents}
 use Rattle.run_output.specs.Told.{source_of}
 use Rattle.file_documents.specs.Tasks.{manner_of}
 use Rattle.file_documents.proofs.Counting.{input_from}
+use Rattle.file_documents.proofs.Differing.{done_not_unwritten, out_not_unwritten}
 use Rattle.file_documents.proofs.Ending.{ends_at_once, halts_in, input_of_halt}
-use Rattle.file_documents.proofs.Keeping.{keeps_on}
 use Rattle.file_documents.proofs.Running.{all_done, ends_after, ends_in, none_begun, none_done, one_done, openings_more, opens_to, passes_after, passes_in}
 use Rattle.file_documents.proofs.files.convert_files.Goals as goal
 
@@ -17,12 +18,12 @@ pub loop-name-init : goal.loop-name-init
 loop-name-init g c = record {
   done = rw (c.new-made.ensures, c.new-batch.ensures) (none_done (2 * c.args.task.now.plan.workers) (told_contents (g.I.Inputs.files c.args.inputs.now)) (manner_of g.J.PageJob c.args.task.now) (sinks_at g.O.Sink g.E.Sink c.args.desk.now));
   within = omega arith;
-  going = record { waits = rw c.new-batch.ensures (record { few = omega (arith, c.args.task.now.plan.some_worker); turn = tt; next = c.requires.closed ∙ sym (none_begun c.args.task.now.plan.binding) }); ready = c.requires.ready };
+  going = record { waits = rw c.new-batch.ensures (record { few = some_room c.args.task.now.plan.workers c.args.task.now.plan.some_worker; turn = tt; next = c.requires.closed ∙ sym (none_begun c.args.task.now.plan.binding) }); ready = c.requires.ready };
   openings = (let most = g.met.I.Inputs.openings_counted c.args.inputs.now in omega (arith, most));
   opened = inl (refl, refl);
   contents = refl;
   input = refl;
-  keeps = record { outs = refl; errs = refl; ready = c.requires.ready; never_falls = omega arith };
+  keeps = record { outs = refl; errs = refl; ready = c.requires.ready; never_falls = same_count (g.O.Sink.faults c.args.desk.now.outs.now) };
 }
 
 -- one file more is done
@@ -49,9 +50,9 @@ returns-in_default g c = record {
   outcome = ends_at_once (told_contents (g.I.Inputs.files c.args.inputs.now)) (manner_of g.J.PageJob c.args.task.now) c.requires.texts c.args.names.now no_past _ _ (record { outs = refl; opened = refl })
       (record { said = c.say_out_of_memory.ensures.said; given_up = c.say_out_of_memory.ensures.given_up; never_falls = c.say_out_of_memory.ensures.never_falls }) [];
   opened = inl (refl, refl);
-  one_pass = λ is. absurd (let no : status.OutOfMemory ≡ status.Unwritten = is in cc);
+  one_pass = λ is. absurd (out_not_unwritten is);
   input = tt;
-  keeps = record { outs = refl; errs = refl; ready = c.say_out_of_memory.ensures.stays_ready; never_falls = omega arith };
+  keeps = record { outs = refl; errs = refl; ready = c.say_out_of_memory.ensures.stays_ready; never_falls = same_count (g.O.Sink.faults c.args.desk.now.outs.now) };
 }
 
 -- the run ends in a file
@@ -66,7 +67,7 @@ returns-in-Err g c =
       opened = opens_to c.args.names.now c.loop-name.name-index c.name-item.result
           (source_of g.I.Inputs c.args.inputs.now) (source_of g.I.Inputs c.loop-name.inputs) (source_of g.I.Inputs c.convert_file-converted.new.inputs) c.loop-name-test.true c.name-item.is c.loop-name.invariant.openings asked.one_more asked.named;
       one_pass = λ is.
-          passes_in (2 * c.args.task.now.plan.workers) (omega (arith, c.args.task.now.plan.some_worker)) (told_contents (g.I.Inputs.files c.args.inputs.now)) (manner_of g.J.PageJob c.args.task.now) c.args.names.now c.loop-name.name-index c.name-item.result c.loop-name.made c.loop-name.batch (source_of g.I.Inputs c.args.inputs.now) (source_of g.I.Inputs c.loop-name.inputs) (source_of g.I.Inputs c.convert_file-converted.new.inputs)
+          passes_in (2 * c.args.task.now.plan.workers) (some_room c.args.task.now.plan.workers c.args.task.now.plan.some_worker) (told_contents (g.I.Inputs.files c.args.inputs.now)) (manner_of g.J.PageJob c.args.task.now) c.args.names.now c.loop-name.name-index c.name-item.result c.loop-name.made c.loop-name.batch (source_of g.I.Inputs c.args.inputs.now) (source_of g.I.Inputs c.loop-name.inputs) (source_of g.I.Inputs c.convert_file-converted.new.inputs)
           (sinks_at g.O.Sink g.E.Sink c.args.desk.now) (sinks_at g.O.Sink g.E.Sink c.loop-name.desk) (sinks_at g.O.Sink g.E.Sink c.convert_file-converted.new.desk)
           c.loop-name-test.true c.name-item.is c.loop-name.invariant.done c.loop-name.invariant.openings c.loop-name.invariant.input (λ back first are. (ends back first are).1 is);
       input = input_from c.in-Err.status (g.I.Inputs.faults c.args.inputs.now) (g.I.Inputs.faults c.loop-name.inputs) (g.I.Inputs.faults c.convert_file-converted.new.inputs) c.loop-name.invariant.input c.in-Err.ensures.input;
@@ -81,7 +82,7 @@ returns-in-Ok-carry_out g c =
       outcome = all_done (2 * c.args.task.now.plan.workers) (told_contents (g.I.Inputs.files c.args.inputs.now)) (manner_of g.J.PageJob c.args.task.now) c.args.names.now c.loop-name.made c.loop-name.batch (source_of g.I.Inputs c.args.inputs.now) (source_of g.I.Inputs c.loop-name.inputs) (sinks_at g.O.Sink g.E.Sink c.args.desk.now) (sinks_at g.O.Sink g.E.Sink c.loop-name.desk) (sinks_at g.O.Sink g.E.Sink c.carry_out.new.desk)
           (rw (take_all c.loop-name.name-index c.args.names.now c.loop-name-test.false) at c.loop-name.invariant.done) c.in-Ok-carry_out.ensures.ended (rw all at c.loop-name.invariant.openings);
       opened = c.loop-name.invariant.opened;
-      one_pass = λ is. absurd (let no : status.Done ≡ status.Unwritten = is in cc);
+      one_pass = λ is. absurd (done_not_unwritten is);
       input = c.loop-name.invariant.input;
       keeps = keeps_on g.O.Sink g.E.Sink c.args.desk.now c.loop-name.desk c.carry_out.new.desk c.loop-name.invariant.keeps c.carry_out.ensures.keeps;
     }
@@ -96,7 +97,7 @@ returns g c =
           (sinks_at g.O.Sink g.E.Sink c.args.desk.now) (sinks_at g.O.Sink g.E.Sink c.loop-name.desk) (sinks_at g.O.Sink g.E.Sink c.carry_out.new.desk) done c.in-Err-carry_out.ensures.ended;
       opened = c.loop-name.invariant.opened;
       one_pass = λ is.
-          passes_after (2 * c.args.task.now.plan.workers) (omega (arith, c.args.task.now.plan.some_worker)) (told_contents (g.I.Inputs.files c.args.inputs.now)) (manner_of g.J.PageJob c.args.task.now) c.args.names.now c.loop-name.made c.loop-name.batch (source_of g.I.Inputs c.args.inputs.now) (source_of g.I.Inputs c.loop-name.inputs)
+          passes_after (2 * c.args.task.now.plan.workers) (some_room c.args.task.now.plan.workers c.args.task.now.plan.some_worker) (told_contents (g.I.Inputs.files c.args.inputs.now)) (manner_of g.J.PageJob c.args.task.now) c.args.names.now c.loop-name.made c.loop-name.batch (source_of g.I.Inputs c.args.inputs.now) (source_of g.I.Inputs c.loop-name.inputs)
           (sinks_at g.O.Sink g.E.Sink c.args.desk.now) (sinks_at g.O.Sink g.E.Sink c.loop-name.desk) (sinks_at g.O.Sink g.E.Sink c.carry_out.new.desk) done c.loop-name.invariant.going.waits.few (rw is at c.in-Err-carry_out.ensures.ended);
       input = input_of_halt c.in-Err-carry_out.status which (g.I.Inputs.faults c.args.inputs.now) (g.I.Inputs.faults c.loop-name.inputs);
       keeps = keeps_on g.O.Sink g.E.Sink c.args.desk.now c.loop-name.desk c.carry_out.new.desk c.loop-name.invariant.keeps c.carry_out.ensures.keeps;

@@ -3,10 +3,12 @@ use Rattle.run_output.specs.Made.{documents_before}
 use Rattle.run_output.proofs.Naming.{next_name-made_with}
 use Rattle.pt_core.specs.Files.{unread}
 use Rattle.page_batches.specs.Desks.{sinks_at}
+use Rattle.page_batches.proofs.Counts.{same_count}
+use Rattle.page_batches.proofs.Desks.{keeps_on}
 use Rattle.run_output.specs.Told.{source_of}
 use Rattle.file_documents.specs.Tasks.{manner_of}
 use Rattle.file_documents.proofs.Counting.{faults_from}
-use Rattle.file_documents.proofs.Keeping.{ended_by, keeps_on, stays_taken}
+use Rattle.file_documents.proofs.Keeping.{ended_by, stays_taken}
 use Rattle.file_documents.proofs.Converting.{halted, no_more, none_converted, one_more}
 use Rattle.file_documents.proofs.pages.convert_pages.Goals as goal
 
@@ -19,7 +21,7 @@ loop-pages-init g c = record {
   at_end = λ e. absurd (let clash : false ≡ true = ap (λ r. r.ended) (sym c.requires.start.fresh) ∙ e in cc);
   stays = record { openings = refl; name = refl; contents = refl };
   input = refl;
-  keeps = record { outs = refl; errs = refl; ready = c.requires.going.ready; never_falls = omega arith };
+  keeps = record { outs = refl; errs = refl; ready = c.requires.going.ready; never_falls = same_count (g.O.Sink.faults c.args.desk.now.outs.now) };
 }
 
 pub loop-pages-preserved : goal.loop-pages-preserved
@@ -85,3 +87,9 @@ returns g c = record {
   input = faults_from c.end_after_most-end.result (g.I.Inputs.faults c.args.inputs.now) (g.I.Inputs.faults c.loop-pages.inputs) (g.I.Inputs.faults c.end_after_most-end.new.inputs) c.loop-pages.invariant.input c.end_after_most-end.ensures.ends.faults;
   keeps = c.loop-pages.invariant.keeps;
 }
+
+pub returns-in-Err-hold_page-clause-going : goal.returns-in-Err-hold_page-clause-going
+returns-in-Err-hold_page-clause-going g c = tt
+
+pub returns-in-Err-hold_page-clause-input : goal.returns-in-Err-hold_page-clause-input
+returns-in-Err-hold_page-clause-input g c = tt

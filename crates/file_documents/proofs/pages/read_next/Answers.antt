@@ -7,7 +7,7 @@ use Rattle.bitmap_input.specs.Reader.{IfSays, ahead, is_later}
 use Rattle.bitmap_input.specs.Reading.{cause_of_fault}
 use Rattle.bitmap_input.specs.declared.fault.InFault.TheVariants as fault
 use Rattle.file_documents.specs.Tasks.{manner_of}
-use Rattle.file_documents.specs.declared.pages.PagesEnd.TheVariants as why
+use Rattle.file_documents.proofs.Differing.{end_not_read_fault, end_not_too_many, fault_not_too_many, same_fault, trailing_not_read_fault, trailing_not_too_many}
 use Rattle.file_documents.proofs.Reading.{fault_counts, fault_takes, given_page, mapped, reads_page, takes_ending, takes_page}
 use Rattle.file_documents.proofs.pages.read_next.Goals as goal
 
@@ -33,10 +33,10 @@ pub returns-in-End-clause-answer : goal.returns-in-End-clause-answer
 returns-in-End-clause-answer g c = (
   record {
     ends = mapped (unread (g.I.Inputs.files c.args.inputs.now)) (ahead c.args.reader.now) (λ all. front (is_later c.args.reader.now) all ≡ Ends End) (rw (c.in-End.is) at c.in-Ok.ensures.told_ending);
-    read_fault = λ e. absurd (let no : why.End ≡ why.Fault fault.ReadFault = e in cc);
+    read_fault = λ e. absurd (end_not_read_fault e);
     faults = c.in-Ok.ensures.steady;
   },
-  λ e. cc,
+  end_not_too_many,
 )
 
 pub returns-in-End-clause-takes : goal.returns-in-End-clause-takes
@@ -46,10 +46,10 @@ pub returns-in-Trailing-clause-answer : goal.returns-in-Trailing-clause-answer
 returns-in-Trailing-clause-answer g c = (
   record {
     ends = mapped (unread (g.I.Inputs.files c.args.inputs.now)) (ahead c.args.reader.now) (λ all. front (is_later c.args.reader.now) all ≡ Ends Trailing) (rw (c.in-Trailing.is) at c.in-Ok.ensures.told_ending);
-    read_fault = λ e. absurd (let no : why.Trailing ≡ why.Fault fault.ReadFault = e in cc);
+    read_fault = λ e. absurd (trailing_not_read_fault e);
     faults = c.in-Ok.ensures.steady;
   },
-  λ e. cc,
+  trailing_not_too_many,
 )
 
 pub returns-in-Trailing-clause-takes : goal.returns-in-Trailing-clause-takes
@@ -61,10 +61,10 @@ returns-in-Err-clause-answer g c = (
   record {
     ends = mapped (unread (g.I.Inputs.files c.args.inputs.now)) (ahead c.args.reader.now)
         (λ all. IfSays (cause_of_fault c.in-Err.fault) (λ ending. front (is_later c.args.reader.now) all ≡ Ends ending)) c.in-Err.ensures.told_ending;
-    read_fault = λ e. let is : c.in-Err.fault ≡ fault.ReadFault = cc in c.in-Err.ensures.read_fault (ap Err is);
+    read_fault = λ e. c.in-Err.ensures.read_fault (ap Err (same_fault c.in-Err.fault fault.ReadFault e));
     faults = fault_counts c.in-Err.fault (g.I.Inputs.faults c.args.inputs.now) (g.I.Inputs.faults c.next.new.inputs) c.in-Err.ensures.steady_ending (λ e. c.in-Err.ensures.cause (ap Err e));
   },
-  λ e. cc,
+  fault_not_too_many c.in-Err.fault,
 )
 
 pub returns-in-Err-clause-takes : goal.returns-in-Err-clause-takes

@@ -1,9 +1,11 @@
-use Rattle.std.proofs.Common.{◌∙◌, ◌+◌, [], ◌∷◌, drop, refl, sym, subst, arith}
+use Rattle.std.proofs.Common.{◌∙◌, ◌+◌, [], ◌∷◌, drop, refl, sym, subst}
 use Rattle.std.specs.Prelude.{string_bytes}
 use Rattle.pt_core.proofs.Appending.{on_err}
 use Rattle.run_output.specs.Messages.{trailing_line}
 use Rattle.page_batches.specs.Entries.{AreInOrder}
 use Rattle.page_batches.proofs.Batching.{end_cut, end_written, entries_from, message_written, none_written, open_behind_page, page_cut, page_written, said_with, turn_at}
+use Rattle.page_batches.proofs.Counts.{never_falls_on, same_count}
+use Rattle.page_batches.proofs.Desks.{keeps_on}
 use Rattle.page_batches.proofs.batch.write_entries.Goals as goal
 use Rattle.page_batches.proofs.batch.write_entries.Goals.{in-Page+in_ok-write_page-in-Page, in-End+in_ok-write_end-in-End, in-EndTrailing+in_ok-write_end-in-EndTrailing, in-Trailing}
 
@@ -12,7 +14,7 @@ pub loop-entry-init : goal.loop-entry-init
 loop-entry-init g c = record {
   written = none_written c.args.binding c.args.entries.now c.args.texts.now _ c.requires.texts;
   turn = c.requires.turn;
-  keeps = record { outs = refl; errs = refl; ready = c.requires.ready; never_falls = omega arith };
+  keeps = record { outs = refl; errs = refl; ready = c.requires.ready; never_falls = same_count (g.O.Sink.faults c.args.desk.now.outs.now) };
 }
 
 -- a page is cut off
@@ -49,7 +51,7 @@ loop-entry-preserved g c = elim c.match-entry.branch [
         written = page_written b c.args.entries.now c.args.texts.now c.loop-entry.entry-index c.loop-entry.done _ _ _ w.in-Page.name w.in-Page.before w.index-texts-done.result
             from w.index-texts-done.is c.loop-entry.invariant.written (rw (w.deref.ensures, w.deref-in-Page.ensures.value) at w.in_ok-write_page-in-Page.ensures.done);
         turn = subst (λ o. AreInOrder b o (drop (c.loop-entry.entry-index + 1) c.args.entries.now)) (sym (w.in_ok-write_page-in-Page.ensures.done.opened ∙ open_behind_page b _ _ _)) turn.1;
-        keeps = record { outs = more.outs ∙ before.outs; errs = more.errs ∙ before.errs; ready = more.ready; never_falls = omega (arith, before.never_falls, more.never_falls) };
+        keeps = keeps_on g.O.Sink g.E.Sink c.args.desk.now c.loop-entry.desk _ before more;
       })
   | in-End+in_ok-write_end-in-End w ↦
       let b = c.args.binding in
@@ -61,7 +63,7 @@ loop-entry-preserved g c = elim c.match-entry.branch [
         written = end_written b c.args.entries.now c.args.texts.now c.loop-entry.entry-index c.loop-entry.done _ _ _ _ _ from refl refl c.loop-entry.invariant.written
             (rw (w.deref-in-End.ensures) at w.in_ok-write_end-in-End.ensures.done);
         turn = subst (λ o. AreInOrder b o (drop (c.loop-entry.entry-index + 1) c.args.entries.now)) (sym w.in_ok-write_end-in-End.ensures.done.opened) turn.1;
-        keeps = record { outs = more.outs ∙ before.outs; errs = more.errs ∙ before.errs; ready = more.ready; never_falls = omega (arith, before.never_falls, more.never_falls) };
+        keeps = keeps_on g.O.Sink g.E.Sink c.args.desk.now c.loop-entry.desk _ before more;
       })
   | in-EndTrailing+in_ok-write_end-in-EndTrailing w ↦
       let b = c.args.binding in
@@ -78,7 +80,7 @@ loop-entry-preserved g c = elim c.match-entry.branch [
               never_falls = w.say_trailing.ensures.never_falls;
             }));
         turn = subst (λ o. AreInOrder b o (drop (c.loop-entry.entry-index + 1) c.args.entries.now)) (sym w.in_ok-write_end-in-EndTrailing.ensures.done.opened) turn.1;
-        keeps = record { outs = more.outs ∙ before.outs; errs = more.errs ∙ before.errs; ready = w.say_trailing.ensures.stays_ready; never_falls = omega (arith, before.never_falls, more.never_falls) };
+        keeps = record { outs = more.outs ∙ before.outs; errs = more.errs ∙ before.errs; ready = w.say_trailing.ensures.stays_ready; never_falls = never_falls_on _ _ _ before.never_falls more.never_falls };
       })
   | in-Trailing w ↦
       let b = c.args.binding in
@@ -97,3 +99,17 @@ loop-entry-preserved g c = elim c.match-entry.branch [
         keeps = record { outs = before.outs; errs = before.errs; ready = w.say_trailing-in-Trailing.ensures.stays_ready; never_falls = before.never_falls };
       })
 ]
+
+-- the desk is the same
+pub returns-in_err-write_page-in-Page-clause-keeps : goal.returns-in_err-write_page-in-Page-clause-keeps
+returns-in_err-write_page-in-Page-clause-keeps g c = keeps_on g.O.Sink g.E.Sink c.args.desk.now c.loop-entry.desk c.write_page.new.self c.loop-entry.invariant.keeps c.write_page.ensures.keeps
+
+pub returns-in_err-write_end-in-End-clause-keeps : goal.returns-in_err-write_end-in-End-clause-keeps
+returns-in_err-write_end-in-End-clause-keeps g c = keeps_on g.O.Sink g.E.Sink c.args.desk.now c.loop-entry.desk c.write_end.new.self c.loop-entry.invariant.keeps c.write_end.ensures.keeps
+
+pub returns-in_err-write_end-in-EndTrailing-clause-keeps : goal.returns-in_err-write_end-in-EndTrailing-clause-keeps
+returns-in_err-write_end-in-EndTrailing-clause-keeps g c =
+    keeps_on g.O.Sink g.E.Sink c.args.desk.now c.loop-entry.desk c.write_end-in-EndTrailing.new.self c.loop-entry.invariant.keeps c.write_end-in-EndTrailing.ensures.keeps
+
+pub returns-clause-keeps : goal.returns-clause-keeps
+returns-clause-keeps g c = c.loop-entry.invariant.keeps

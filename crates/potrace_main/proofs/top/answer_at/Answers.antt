@@ -6,6 +6,7 @@ use Rattle.command_asks.specs.Asked.{IsAsked}
 use Rattle.command_asks.proofs.OneAsk.{one_ask}
 use Rattle.command_asks.proofs.Possible.{possible}
 use Rattle.page_batches.proofs.Carrying.{only_said}
+use Rattle.page_batches.proofs.Counts.{same_count}
 use Rattle.potrace_main.proofs.Completing.{asked_moves, never_refuses, out_at_once}
 use Rattle.potrace_main.proofs.top.answer_at.Goals as goal
 
@@ -44,3 +45,13 @@ returns-in-Err-NoMemory-clause-answered g c = record {
   input = tt;
   output = (refl, (λ all. c.requires.closed), refl);
 }
+
+-- the desk is the same
+pub returns-in-Ok-clause-keeps : goal.returns-in-Ok-clause-keeps
+returns-in-Ok-clause-keeps g c = c.carry_out.ensures.keeps
+
+pub returns-in-Err-Bad-clause-keeps : goal.returns-in-Err-Bad-clause-keeps
+returns-in-Err-Bad-clause-keeps g c = record { outs = refl; errs = refl; ready = c.say_bad_words.ensures.stays_ready; never_falls = same_count (g.O.Sink.faults c.args.desk.now.outs.now) }
+
+pub returns-in-Err-NoMemory-clause-keeps : goal.returns-in-Err-NoMemory-clause-keeps
+returns-in-Err-NoMemory-clause-keeps g c = record { outs = refl; errs = refl; ready = c.say_out_of_memory.ensures.stays_ready; never_falls = same_count (g.O.Sink.faults c.args.desk.now.outs.now) }

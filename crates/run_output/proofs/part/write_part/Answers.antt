@@ -6,4 +6,4 @@ use Rattle.run_output.proofs.part.write_part.Goals as goal
 pub returns-in-Err-clause-cut_off : goal.returns-in-Err-clause-cut_off
 returns-in-Err-clause-cut_off g c =
     cut_at_end c.args.name.now c.args.begins (map (λ piece. piece.now) c.args.pieces.now) c.args.ends _ _ _ _
-    c.in_ok-begin_where.ensures.begun c.in_ok-write_pieces.ensures.appended c.in-Err.ensures.nothing
+    c.in-Ok.ensures.begun c.in-Ok-write_pieces.ensures.appended c.in-Err.ensures.nothing

@@ -55,3 +55,10 @@ returns-clause-ended g c = λ items held.
     c.in-Ok.texts.items (rw (c.as_slice-pages.ensures.value) at c.in-Ok.ensures.texts) c.self.invariant in
     let same = c.held_items_are_one.ensures c.args.plan.now.binding _ items _ (rw (← c.self.view_is) at held) are in
     rw same (rw (c.deref.ensures.value, c.deref-2.ensures.value) at c.in-Err.ensures.ends)
+
+-- the desk is the same
+pub returns-in-Ok-written-clause-keeps : goal.returns-in-Ok-written-clause-keeps
+returns-in-Ok-written-clause-keeps g c = c.write_entries-written.ensures.keeps
+
+pub returns-clause-keeps : goal.returns-clause-keeps
+returns-clause-keeps g c = c.write_entries-written.ensures.keeps

@@ -1,6 +1,7 @@
-use Rattle.std.proofs.Common.{◌∙◌, refl, arith}
+use Rattle.std.proofs.Common.{◌∙◌, refl}
 use Rattle.std.proofs.lemmas.Result.{IfErr-weaker}
 use Rattle.page_batches.proofs.Carrying.{memory_out}
+use Rattle.page_batches.proofs.Counts.{few_pages, same_count, some_room}
 use Rattle.page_batches.proofs.Holding.{all_held, filled, halts_by, held_or_ended, page_count-held, page_held, waits_on}
 use Rattle.page_batches.proofs.Waiting.{turn_page}
 use Rattle.page_batches.proofs.batch.Batch.hold_page.Goals as goal
@@ -20,13 +21,13 @@ pub returns-then-count-plan-clause-waits : goal.returns-then-count-plan-clause-w
 returns-then-count-plan-clause-waits g c =
     let is = c.in-Ok.ensures.held in
     let turn = turn_page _ _ _ _ _ _ _ _ is c.requires.waits in
-    record { few = omega (arith, c.count.ensures, c.if-count-plan.true); turn = turn.0; next = turn.1 }
+    record { few = rw c.count.ensures at c.if-count-plan.true; turn = turn.0; next = turn.1 }
 
 pub carry_out-requires-clause-few : goal.carry_out-requires-clause-few
 carry_out-requires-clause-few g c κs within =
     let is = c.in-Ok.ensures.held in
     let full = filled _ _ _ _ _ _ _ is c.count.ensures c.if-count-plan.false c.requires.waits.few in
-    omega (arith, full.0, c.args.plan.now.most_workers)
+    few_pages _ c.args.plan.now.workers full.0 c.args.plan.now.most_workers
 
 pub carry_out-requires-clause-turn : goal.carry_out-requires-clause-turn
 carry_out-requires-clause-turn g c κs within =
@@ -55,4 +56,14 @@ pub returns-clause-waits : goal.returns-clause-waits
 returns-clause-waits g c =
     let is = c.in-Ok.ensures.held in
     let turn = turn_page _ _ _ _ _ _ _ _ is c.requires.waits in
-    waits_on _ _ _ _ _ _ _ _ (omega (arith, c.args.plan.now.some_worker)) c.carry_out.ensures.left turn.1
+    waits_on _ _ _ _ _ _ _ _ (some_room c.args.plan.now.workers c.args.plan.now.some_worker) c.carry_out.ensures.left turn.1
+
+-- the desk is the same
+pub returns-in_default-clause-keeps : goal.returns-in_default-clause-keeps
+returns-in_default-clause-keeps g c = record { outs = refl; errs = refl; ready = c.say_out_of_memory.ensures.stays_ready; never_falls = same_count (g.O.Sink.faults c.args.desk.now.outs.now) }
+
+pub returns-then-count-plan-clause-keeps : goal.returns-then-count-plan-clause-keeps
+returns-then-count-plan-clause-keeps g c = record { outs = refl; errs = refl; ready = c.requires.ready; never_falls = same_count (g.O.Sink.faults c.args.desk.now.outs.now) }
+
+pub returns-clause-keeps : goal.returns-clause-keeps
+returns-clause-keeps g c = c.carry_out.ensures.keeps

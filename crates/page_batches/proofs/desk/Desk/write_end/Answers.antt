@@ -16,3 +16,10 @@ returns-in-Err-clause-ends g c = λ notes. record {
   failed = c.in-Err.ensures.failed;
   messages = one_said _ _ _ (record { said = c.say_not_written.ensures.said; given_up = c.say_not_written.ensures.given_up; never_falls = c.say_not_written.ensures.never_falls });
 }
+
+-- the desk is the same
+pub returns-in-Ok-clause-keeps : goal.returns-in-Ok-clause-keeps
+returns-in-Ok-clause-keeps g c = record { outs = refl; errs = refl; ready = c.requires.ready; never_falls = c.write_end_part.ensures.never_falls }
+
+pub returns-in-Err-clause-keeps : goal.returns-in-Err-clause-keeps
+returns-in-Err-clause-keeps g c = record { outs = refl; errs = refl; ready = c.say_not_written.ensures.stays_ready; never_falls = c.write_end_part.ensures.never_falls }
