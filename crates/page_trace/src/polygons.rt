@@ -40,7 +40,7 @@ const MANY: usize = 16384;
 pub(crate) fn memo_for(alloc: Global, paths: &[Path]) -> Result<Memo, NoMemory> {
     let mut points = 0usize;
     for path in paths {
-        points = points.saturating_add(path.points.len());
+        points = points.saturating_add(path.points.as_slice().len());
     }
     if points < MANY {
         return Ok(Memo::none(alloc));
