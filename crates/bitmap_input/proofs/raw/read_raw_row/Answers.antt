@@ -1,4 +1,4 @@
-use Rattle.std.proofs.Common.{◌≡◌, ◌∙◌, ap, sym, false, take, map}
+use Rattle.std.proofs.Common.{◌∙◌, ap, sym, false, take, map}
 use Rattle.std.proofs.lemmas.Result.{err_from_is_err_and}
 use Rattle.bit_image.specs.Image.{differ}
 use Rattle.bit_image.specs.Page.{image_of}
