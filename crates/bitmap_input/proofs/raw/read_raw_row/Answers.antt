@@ -1,6 +1,6 @@
-use Rattle.std.proofs.Common.{◌∙◌, ap, sym, false, take, map}
+use Rattle.std.proofs.Common.{◌≡◌, ◌∙◌, ap, sym, ℕ, Bool, false, List, take, map}
 use Rattle.std.proofs.lemmas.Result.{err_from_is_err_and}
-use Rattle.bit_image.specs.Image.{differ}
+use Rattle.bit_image.specs.Image.{Image, differ}
 use Rattle.bit_image.specs.Page.{image_of}
 use Rattle.bitmap_input.specs.Cut.Cut.{Takes}
 use Rattle.bitmap_input.specs.Raw.{unpacked}
@@ -16,7 +16,12 @@ returns-in_err-read_block-clause-reads g c =
 
 pub returns-clause-reads : goal.returns-clause-reads
 returns-clause-reads g c =
-    let width = c.args.page.now.width in
+    let width : ℕ = c.args.page.now.width in
+    let old : Image = image_of c.args.page.now in
+    let painted : Image = image_of c.place_row.new.page in
+    let invert : Bool = c.args.invert in
+    let values : List ℕ → List Bool = λ bytes. take width (unpacked bytes) in
     let row = rw c.requires.whole at c.in_ok-read_block.ensures.reads in
-    reads_map (λ bytes. take width (unpacked bytes))
-    (λ _ bytes same. c.place_row.ensures.pixels ∙ ap (λ bytes. with_row (image_of c.args.page.now) c.args.y (map (differ c.args.invert) (take width (unpacked bytes)))) (sym same)) row
+    let pixels : painted ≡ with_row old c.args.y (map (differ invert) (values c.read_block.new.row)) = c.place_row.ensures.pixels in
+    reads_map {js = λ _ pixels. painted ≡ with_row old c.args.y (map (differ invert) pixels)} values
+    (λ _ bytes same. pixels ∙ ap (λ bytes. with_row old c.args.y (map (differ invert) (values bytes))) (sym same)) row
