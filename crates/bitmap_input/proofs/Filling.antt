@@ -1,5 +1,5 @@
 -- The bytes that a read puts into the window.
-use Rattle.std.proofs.Common.{◌≡◌, refl, ℕ, ◌-◌, ◌≤◌, ◌<◌, Bool, true, false, inr, List, [], ◌++◌, length, take, drop, arith, ap, sym, ◌∙◌, subst, Option, IfSome}
+use Rattle.std.proofs.Common.{◌≡◌, refl, ℕ, ◌-◌, ◌≤◌, ◌<◌, true, false, inr, List, [], ◌++◌, length, take, drop, arith, ap, sym, ◌∙◌, subst, Option, IfSome}
 use Rattle.std.specs.Prelude.{nat_eq}
 use Rattle.std.proofs.lemmas.List.{length-take, length-take-le, length-drop, take-take, take-append-le}
 use Rattle.std.proofs.lemmas.Option.{IfSome_then}

@@ -240,6 +240,15 @@ pub mod Shading
 --   with_rows: the image with these rows, the first one below row y, and the others downwards
 --   with_placed: the image with these rows, of which the one with number i, and those after it, stand where they are placed
 pub mod Raster
+-- How the pixels of a page are stored in the program.
+--   StoredPixel: what is stored of a pixel
+--   row_stored: a row of so many pixels
+--   pixel_entry: the entry that a pixel stands for
+--   is_black_pixel: whether a pixel is black
+--   line_bytes: the bytes of a row, where each row has as many
+--   IsAtLevel: the pixels that are black are those at this level, inverted or not
+--   IsStoredInRange: where samples stand as numbers, the shading is in range
+pub mod Stored
 -- Bytes that are passed over.
 --   passed_over: n bytes are passed over, or all where there are fewer
 pub mod Skip

@@ -1,25 +1,25 @@
 //! What follows the magic of a page.
-ghost use Rattle.std.specs.Prelude.{◌≡◌, ℕ, true};
+ghost use Rattle.std.specs.Prelude.{◌≡◌, ℕ, ◌≤◌, true, Bool};
 ghost use Rattle.bitmap_input.specs.Reading.{Reads, Leaves};
-ghost use Rattle.bitmap_input.specs.Front.{body};
+ghost use Rattle.bitmap_input.specs.Front.{body, rows_raster};
 ghost use Rattle.bitmap_input.specs.Front.Magic.{PlainBits as plain_bits, RawBits as raw_bits, PlainSamples as plain_samples, RawSamples as raw_samples};
 ghost use Rattle.bitmap_input.specs.Behind.{IsRead, counted_body};
 ghost use Rattle.bitmap_input.specs.Header.{magic_of};
 ghost use Rattle.bitmap_input.specs.Raw.{IsShown};
+ghost use Rattle.bitmap_input.specs.Samples.{as_entry, raw_samples_row};
+ghost use Rattle.bitmap_input.specs.Stored.{IsAtLevel};
+ghost use Rattle.bitmap_input.specs.declared.raster.Raster.TheVariants.{RawSamples as raw_samples_raster};
 
 use crate::bmp::read_bmp;
 use crate::channels::Channels;
-use crate::extent::{ReadPage, claiming_none, known};
-use crate::header::{Format, read_maxval, read_sides, skip_space};
-use crate::plain::read_plain_rows;
-use crate::raw::read_raw_rows;
-use crate::samples::{
-    Shading, brightest_black, read_plain_sample_rows, read_raw_sample_rows, row_bytes,
-};
+use crate::extent::{ReadPage, claiming_none};
+use crate::header::{Format, Sides, read_maxval, read_sides, skip_space};
+use crate::raster::{Raster, read_page};
+use crate::samples::{Shading, brightest_black, row_bytes};
 use crate::stop::Stop;
 use crate::window::Window;
 use bit_image::Bitmap;
-use pt_core::Inputs;
+use pt_core::{Inputs, LONGEST_SIDE};
 use std::alloc::Global;
 use threshold_map::Level;
 
@@ -37,11 +37,18 @@ fn read_plain_body<I: Inputs>(
     ensures leaves { Leaves I.Inputs result inputs.old inputs.new }
 {
     let sides = read_sides(window, inputs)?;
-    let mut page = Bitmap::new(alloc, sides.width, sides.height)?;
-    read_plain_rows(window, inputs, &mut page, invert)?;
-    known(&page);
-    Ok(page)
+    read_page(
+        alloc,
+        window,
+        inputs,
+        sides,
+        Raster::PlainBits { invert },
+        &mut [],
+    )
 }
+
+/// The most bytes of a row of bits.
+const LONGEST_ROW: usize = (LONGEST_SIDE as usize + 7) / 8;
 
 /// A raw page of bits, behind its magic.
 fn read_raw_body<I: Inputs>(
@@ -58,10 +65,16 @@ fn read_raw_body<I: Inputs>(
 {
     let sides = read_sides(window, inputs)?;
     skip_space(window, inputs)?;
-    let mut page = Bitmap::new(alloc, sides.width, sides.height)?;
-    read_raw_rows(window, inputs, &mut page, invert)?;
-    known(&page);
-    Ok(page)
+    let mut buffer = [0u8; LONGEST_ROW];
+    let line = &mut buffer[..(sides.width as usize + 7) / 8];
+    read_page(
+        alloc,
+        window,
+        inputs,
+        sides,
+        Raster::RawBits { invert },
+        line,
+    )
 }
 
 /// A plain page of samples, behind its magic.
@@ -80,16 +93,48 @@ fn read_plain_samples_body<I: Inputs>(
 {
     let sides = read_sides(window, inputs)?;
     let maxval = read_maxval(window, inputs)?;
-    let mut page = Bitmap::new(alloc, sides.width, sides.height)?;
     let shading = Shading {
         channels,
         maxval,
         limit: brightest_black(level, channels, maxval),
         invert,
     };
-    read_plain_sample_rows(window, inputs, &mut page, &shading)?;
-    known(&page);
-    Ok(page)
+    read_page(
+        alloc,
+        window,
+        inputs,
+        sides,
+        Raster::PlainSamples { shading },
+        &mut [],
+    )
+}
+
+/// The rows of a raw page of samples, behind its header.
+fn read_raw_samples<I: Inputs>(
+    alloc: Global,
+    window: &mut Window,
+    inputs: &mut I,
+    sides: Sides,
+    shading: Shading,
+) -> Result<Bitmap, Stop>
+    requires opened { I.is_opened inputs.old ≡ true }
+    requires width { (1 ≤ sides.width) × (sides.width ≤ LONGEST_SIDE) }
+    requires height { (1 ≤ sides.height) × (sides.height ≤ LONGEST_SIDE) }
+    ensures reads { (level : ℕ) (invert : Bool) → IsAtLevel level invert (raw_samples_raster shading)
+        → Reads (IsShown level invert) (rows_raster (as_entry shading.channels shading.maxval)
+        (raw_samples_row shading.channels shading.maxval sides.width) sides.width sides.height)
+        window.old (I.files inputs.old) result window.new (I.files inputs.new) }
+    ensures leaves { Leaves I.Inputs result inputs.old inputs.new }
+{
+    let mut line = vec![in alloc; 0u8; row_bytes(shading.channels, sides.width, shading.maxval)]?;
+    read_page(
+        alloc,
+        window,
+        inputs,
+        sides,
+        Raster::RawSamples { shading },
+        &mut line,
+    )
 }
 
 /// A raw page of samples, behind its magic.
@@ -109,17 +154,13 @@ fn read_raw_samples_body<I: Inputs>(
     let sides = read_sides(window, inputs)?;
     let maxval = read_maxval(window, inputs)?;
     skip_space(window, inputs)?;
-    let mut page = Bitmap::new(alloc, sides.width, sides.height)?;
-    let mut row = vec![in alloc; 0u8; row_bytes(channels, sides.width, maxval)]?;
     let shading = Shading {
         channels,
         maxval,
         limit: brightest_black(level, channels, maxval),
         invert,
     };
-    read_raw_sample_rows(window, inputs, &mut page, &shading, &mut row)?;
-    known(&page);
-    Ok(page)
+    read_raw_samples(alloc, window, inputs, sides, shading)
 }
 
 /// The page of this format, behind its magic, at a level and inverted or not.

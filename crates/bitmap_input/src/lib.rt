@@ -27,6 +27,7 @@ pub mod laws;
 pub mod next;
 mod number;
 mod plain;
+mod raster;
 mod raw;
 pub mod reader;
 mod run;

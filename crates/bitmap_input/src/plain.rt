@@ -5,7 +5,7 @@ ghost use Rattle.bit_image.specs.Page.{Page, SameSides, image_of};
 ghost use Rattle.bitmap_input.specs.Reading.{Reads, Same, Leaves};
 ghost use Rattle.bitmap_input.specs.Parts.{pixel, repeated};
 ghost use Rattle.bitmap_input.specs.Front.{plain_pixel};
-ghost use Rattle.bitmap_input.specs.Raster.{with_row, with_rows, with_pixels};
+ghost use Rattle.bitmap_input.specs.Raster.{with_row, with_pixels};
 
 use crate::fault::InFault;
 use crate::run::{Run, skip};
@@ -62,7 +62,7 @@ fn read_plain_pixel<I: Inputs>(window: &mut Window, inputs: &mut I) -> Result<bo
 }
 
 /// One row of pixels, painted in row y, inverted or not.
-fn read_plain_row<I: Inputs>(
+pub(crate) fn read_plain_row<I: Inputs>(
     window: &mut Window,
     inputs: &mut I,
     page: &mut Bitmap,
@@ -81,29 +81,6 @@ fn read_plain_row<I: Inputs>(
     for x in 0..page.width() {
         let black = read_plain_pixel(window, inputs)?;
         page.set(x, y, black != invert);
-    }
-    Ok(())
-}
-
-/// The rows of a plain raster of bits from the top, painted on the page, inverted or not.
-pub(crate) fn read_plain_rows<I: Inputs>(
-    window: &mut Window,
-    inputs: &mut I,
-    page: &mut Bitmap,
-    invert: bool,
-) -> Result<(), Stop>
-    requires { I.is_opened inputs.old ≡ true }
-    ensures reads { Reads (λ _ rows. image_of page.new
-        ≡ with_rows (image_of page.old) page.old.height (map (map (differ invert)) rows))
-        (repeated (repeated plain_pixel page.old.width) page.old.height) window.old
-        (I.files inputs.old) result window.new (I.files inputs.new) }
-    ensures sides { SameSides page.old page.new }
-    ensures leaves { Leaves I.Inputs result inputs.old inputs.new }
-{
-    let mut y = page.height();
-    while y > 0 {
-        y -= 1;
-        read_plain_row(window, inputs, page, y, invert)?;
     }
     Ok(())
 }

@@ -3,16 +3,16 @@ ghost use Rattle.std.specs.Prelude.{◌≡◌, ◌<◌, true, length, take, map}
 ghost use Rattle.bit_image.specs.Image.{differ};
 ghost use Rattle.bit_image.specs.Page.{Page, SameSides, image_of};
 ghost use Rattle.bitmap_input.specs.Reading.{Reads, Leaves, TakesNone};
-ghost use Rattle.bitmap_input.specs.Parts.{block, repeated};
+ghost use Rattle.bitmap_input.specs.Parts.{block};
 ghost use Rattle.bitmap_input.specs.Front.{raw_row};
 ghost use Rattle.bitmap_input.specs.Raw.{row_bytes, unpacked};
-ghost use Rattle.bitmap_input.specs.Raster.{with_row, with_rows};
+ghost use Rattle.bitmap_input.specs.Raster.{with_row};
 
 use crate::fault::InFault;
 use crate::stop::Stop;
 use crate::window::{Look, Window};
 use bit_image::Bitmap;
-use pt_core::{Inputs, LONGEST_SIDE};
+use pt_core::Inputs;
 
 /// As many bytes as the row is long.
 pub(crate) fn read_block<I: Inputs>(
@@ -55,31 +55,26 @@ pub(crate) fn place_row(page: &mut Bitmap, y: u32, bytes: &[u8], invert: bool)
     }
 }
 
-/// The most bytes of a row of bits.
-const LONGEST_ROW: usize = (LONGEST_SIDE as usize + 7) / 8;
-
-/// The rows of a raw raster of bits from the top, put into the page, inverted or not.
-pub(crate) fn read_raw_rows<I: Inputs>(
+/// One row of bits, put into row y, inverted or not, with room for its bytes.
+pub(crate) fn read_raw_row<I: Inputs>(
     window: &mut Window,
     inputs: &mut I,
     page: &mut Bitmap,
+    y: u32,
     invert: bool,
+    line: &mut [u8],
 ) -> Result<(), Stop>
-    requires { I.is_opened inputs.old ≡ true }
-    ensures reads { Reads (λ _ rows. image_of page.new
-        ≡ with_rows (image_of page.old) page.old.height (map (map (differ invert)) rows))
-        (repeated (raw_row page.old.width) page.old.height) window.old
-        (I.files inputs.old) result window.new (I.files inputs.new) }
+    requires opened { I.is_opened inputs.old ≡ true }
+    requires row { y < page.old.height }
+    requires whole { length line.old ≡ row_bytes page.old.width }
+    ensures reads { Reads (λ _ pixels. image_of page.new
+        ≡ with_row (image_of page.old) y (map (differ invert) pixels))
+        (raw_row page.old.width) window.old (I.files inputs.old) result window.new
+        (I.files inputs.new) }
     ensures sides { SameSides page.old page.new }
     ensures leaves { Leaves I.Inputs result inputs.old inputs.new }
 {
-    let mut buffer = [0u8; LONGEST_ROW];
-    let row = &mut buffer[..(page.width() as usize + 7) / 8];
-    let mut y = page.height();
-    while y > 0 {
-        y -= 1;
-        read_block(window, inputs, row)?;
-        place_row(page, y, row, invert);
-    }
+    read_block(window, inputs, line)?;
+    place_row(page, y, line, invert);
     Ok(())
 }

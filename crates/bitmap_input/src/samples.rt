@@ -7,7 +7,7 @@ ghost use Rattle.bitmap_input.specs.Reading.{Reads, Leaves};
 ghost use Rattle.bitmap_input.specs.Parts.{repeated};
 ghost use Rattle.bitmap_input.specs.Raw.{is_dark};
 ghost use Rattle.bitmap_input.specs.Samples.{PixelSamples, samples_in, as_entry, plain_samples, is_wide, sample_bytes, samples, grouped, raw_samples_row};
-ghost use Rattle.bitmap_input.specs.Raster.{with_row, with_rows};
+ghost use Rattle.bitmap_input.specs.Raster.{with_row};
 ghost use Rattle.bitmap_input.specs.Shading.{brightness, brightness_at, IsCappedBrightness, is_black_at, black_of, black_in, IsInRange};
 ghost use Rattle.bitmap_input.specs.declared.channels.Channels.TheVariants as channels;
 
@@ -92,7 +92,7 @@ fn read_plain_samples<I: Inputs>(
 }
 
 /// One row of samples as numbers, painted in row y.
-fn read_plain_row<I: Inputs>(
+pub(crate) fn read_plain_samples_row<I: Inputs>(
     window: &mut Window,
     inputs: &mut I,
     page: &mut Bitmap,
@@ -112,30 +112,6 @@ fn read_plain_row<I: Inputs>(
     for x in 0..page.width() {
         let brightness = read_plain_samples(window, inputs, shading.channels)?;
         page.set(x, y, shading.black(brightness));
-    }
-    Ok(())
-}
-
-/// The rows of a plain raster of samples from the top, painted on the page.
-pub(crate) fn read_plain_sample_rows<I: Inputs>(
-    window: &mut Window,
-    inputs: &mut I,
-    page: &mut Bitmap,
-    shading: &Shading,
-) -> Result<(), Stop>
-    requires opened { I.is_opened inputs.old ≡ true }
-    requires range { IsInRange shading.now }
-    ensures reads { Reads (λ _ rows. image_of page.new
-        ≡ with_rows (image_of page.old) page.old.height (map (map (black_of shading.now)) rows))
-        (repeated (repeated (plain_samples shading.now.channels) page.old.width) page.old.height)
-        window.old (I.files inputs.old) result window.new (I.files inputs.new) }
-    ensures sides { SameSides page.old page.new }
-    ensures leaves { Leaves I.Inputs result inputs.old inputs.new }
-{
-    let mut y = page.height();
-    while y > 0 {
-        y -= 1;
-        read_plain_row(window, inputs, page, y, shading)?;
     }
     Ok(())
 }
@@ -226,30 +202,27 @@ fn place_row(page: &mut Bitmap, y: u32, row: &[u8], shading: &Shading)
     }
 }
 
-/// The rows of a raw raster of samples from the top, painted on the page, with room for one of them.
-pub(crate) fn read_raw_sample_rows<I: Inputs>(
+/// One row of samples as bytes, painted in row y, with room for its bytes.
+pub(crate) fn read_raw_samples_row<I: Inputs>(
     window: &mut Window,
     inputs: &mut I,
     page: &mut Bitmap,
+    y: u32,
     shading: &Shading,
-    row: &mut [u8],
+    line: &mut [u8],
 ) -> Result<(), Stop>
     requires opened { I.is_opened inputs.old ≡ true }
-    requires whole { length row.old
+    requires row { y < page.old.height }
+    requires whole { length line.old
         ≡ sample_bytes shading.now.maxval (samples_in shading.now.channels * page.old.width) }
-    ensures reads { Reads (λ _ rows. image_of page.new
-        ≡ with_rows (image_of page.old) page.old.height (map (map (black_of shading.now)) rows))
-        (repeated (raw_samples_row shading.now.channels shading.now.maxval page.old.width)
-        page.old.height) window.old
+    ensures reads { Reads (λ _ row. image_of page.new
+        ≡ with_row (image_of page.old) y (map (black_of shading.now) row))
+        (raw_samples_row shading.now.channels shading.now.maxval page.old.width) window.old
         (I.files inputs.old) result window.new (I.files inputs.new) }
     ensures sides { SameSides page.old page.new }
     ensures leaves { Leaves I.Inputs result inputs.old inputs.new }
 {
-    let mut y = page.height();
-    while y > 0 {
-        y -= 1;
-        read_block(window, inputs, row)?;
-        place_row(page, y, row, shading);
-    }
+    read_block(window, inputs, line)?;
+    place_row(page, y, line, shading);
     Ok(())
 }

@@ -1,13 +1,11 @@
 use Rattle.std.proofs.Common.{refl}
-use Rattle.bit_image.specs.Image.{differ}
 use Rattle.std.proofs.lemmas.Result.{err_from_is_err_and}
 use Rattle.bitmap_input.specs.Parts.{repeated}
 use Rattle.bitmap_input.specs.Front.{plain_pixel, rows_raster}
-use Rattle.bitmap_input.specs.Raw.{IsShown}
 use Rattle.bitmap_input.specs.Raw.Entry.{Bit}
 use Rattle.bitmap_input.proofs.Appending.{sides_stay}
-use Rattle.bitmap_input.proofs.Telling.{reads_on, reads_stop, reads_memory}
-use Rattle.bitmap_input.proofs.Bodies.{rows_shown, rows_stopped}
+use Rattle.bitmap_input.proofs.Telling.{reads_on, reads_stop}
+use Rattle.bitmap_input.proofs.Bodies.{rows_at}
 use Rattle.bitmap_input.proofs.body.read_plain_body.Goals as goal
 
 pub returns-in_err-sides-clause-reads : goal.returns-in_err-sides-clause-reads
@@ -15,20 +13,7 @@ returns-in_err-sides-clause-reads g c level =
     let p = err_from_is_err_and c.from_residual.result c.from_residual.ensures.1 in
     rw (p.1, p.2) (reads_stop (λ s rest. rows_raster (λ b. Bit b) (repeated plain_pixel s.0) s.0 s.1 rest) c.in_err-sides.ensures.reads)
 
-pub returns-in_err-page-clause-reads : goal.returns-in_err-page-clause-reads
-returns-in_err-page-clause-reads g c level =
-    let p = err_from_is_err_and c.from_residual-in_err-page.result c.from_residual-in_err-page.ensures.1 in
-    rw (p.1, p.2) (reads_on sides_stay c.in_ok-sides.ensures.reads (λ s _. reads_memory (IsShown level c.args.invert) (rows_raster (λ b. Bit b) (repeated plain_pixel s.0) s.0 s.1) _ _))
-
-pub returns-in_err-read_plain_rows-clause-reads : goal.returns-in_err-read_plain_rows-clause-reads
-returns-in_err-read_plain_rows-clause-reads g c level =
-    let p = err_from_is_err_and c.from_residual-in_err-read_plain_rows.result c.from_residual-in_err-read_plain_rows.ensures.1 in
-    rw (p.1, p.2) (reads_on sides_stay c.in_ok-sides.ensures.reads
-    (λ s is. rows_stopped level c.args.invert (λ b. Bit b) (differ c.args.invert) (repeated plain_pixel) c.in_ok-page.page c.in_ok-sides.sides s is c.in_ok-page.ensures.width c.in_ok-page.ensures.height
-    c.read_plain_rows.new.page _ c.in_err-read_plain_rows.ensures.reads))
-
 pub returns-clause-reads : goal.returns-clause-reads
 returns-clause-reads g c level =
     reads_on sides_stay c.in_ok-sides.ensures.reads
-    (λ s is. rows_shown level c.args.invert (λ b. Bit b) (differ c.args.invert) (repeated plain_pixel) c.in_ok-page.page c.in_ok-sides.sides s is c.in_ok-page.ensures.width c.in_ok-page.ensures.height
-    c.read_plain_rows.new.page (λ _. refl) c.in_ok-page.ensures.white c.in_ok-read_plain_rows.ensures.sides c.known.ensures c.in_ok-read_plain_rows.ensures.reads)
+    (λ s is. rows_at level c.args.invert (λ b. Bit b) (repeated plain_pixel) c.in_ok-sides.sides s is (c.read_page.ensures.reads level c.args.invert (λ _. refl)))

@@ -1,15 +1,13 @@
-use Rattle.std.proofs.Common.{ap, Bool, ℕ, nat_le}
+use Rattle.std.proofs.Common.{ap, Bool, ℕ}
 use Rattle.bit_image.specs.Image.{differ}
 use Rattle.std.proofs.lemmas.Result.{err_from_is_err_and}
 use Rattle.bitmap_input.specs.Cut.{◌>>=◌}
 use Rattle.bitmap_input.specs.Parts.{repeated}
-use Rattle.bitmap_input.specs.Raw.{IsShown}
 use Rattle.bitmap_input.specs.Front.{maxval, rows_raster}
 use Rattle.bitmap_input.specs.Samples.{as_entry, plain_samples}
-use Rattle.bitmap_input.specs.Shading.{brightness}
 use Rattle.bitmap_input.proofs.Appending.{sides_stay, maxval_stays}
-use Rattle.bitmap_input.proofs.Telling.{reads_on, reads_stop, reads_memory}
-use Rattle.bitmap_input.proofs.Bodies.{rows_shown, rows_stopped}
+use Rattle.bitmap_input.proofs.Telling.{reads_on, reads_stop}
+use Rattle.bitmap_input.proofs.Bodies.{rows_at}
 use Rattle.bitmap_input.proofs.body.read_plain_samples_body.Goals as goal
 
 pub returns-in_err-sides-clause-reads : goal.returns-in_err-sides-clause-reads
@@ -23,26 +21,6 @@ returns-in_err-maxval-clause-reads g c =
     rw (p.1, p.2) (reads_on sides_stay c.in_ok-sides.ensures.reads
     (λ s _. reads_stop (λ maxval rest. rows_raster (as_entry c.args.channels maxval) (repeated (plain_samples c.args.channels) s.0) s.0 s.1 rest) c.in_err-maxval.ensures.reads))
 
-pub returns-in_err-page-clause-reads : goal.returns-in_err-page-clause-reads
-returns-in_err-page-clause-reads g c =
-    let p = err_from_is_err_and c.from_residual-in_err-page.result c.from_residual-in_err-page.ensures.1 in
-    rw (p.1, p.2) (reads_on sides_stay c.in_ok-sides.ensures.reads
-    (λ s _. reads_on maxval_stays c.in_ok-maxval.ensures.reads
-    (λ maxval _. reads_memory (IsShown c.args.level.now c.args.invert) (rows_raster (as_entry c.args.channels maxval) (repeated (plain_samples c.args.channels) s.0) s.0 s.1) _ _)))
-
-pub returns-in_err-read_plain_sample_rows-clause-reads : goal.returns-in_err-read_plain_sample_rows-clause-reads
-returns-in_err-read_plain_sample_rows-clause-reads g c =
-    let p = err_from_is_err_and c.from_residual-in_err-read_plain_sample_rows.result c.from_residual-in_err-read_plain_sample_rows.ensures.1 in
-    let level : ℕ = c.args.level.now in
-    let invert : Bool = c.args.invert in
-    let kind = c.args.channels in
-    let maxval : ℕ = c.in_ok-maxval.maxval in
-    rw (p.1, p.2) (reads_on sides_stay c.in_ok-sides.ensures.reads
-    (λ s is. reads_on maxval_stays c.in_ok-maxval.ensures.reads
-    (λ n same. rw same (rows_stopped level invert (as_entry kind maxval) (λ a. differ invert (nat_le (brightness kind a) c.brightest_black.result)) (repeated (plain_samples kind))
-    c.in_ok-page.page c.in_ok-sides.sides s is c.in_ok-page.ensures.width c.in_ok-page.ensures.height
-    c.read_plain_sample_rows.new.page _ c.in_err-read_plain_sample_rows.ensures.reads))))
-
 pub returns-clause-reads : goal.returns-clause-reads
 returns-clause-reads g c =
     let level : ℕ = c.args.level.now in
@@ -51,6 +29,5 @@ returns-clause-reads g c =
     let maxval : ℕ = c.in_ok-maxval.maxval in
     reads_on sides_stay c.in_ok-sides.ensures.reads
     (λ s is. reads_on maxval_stays c.in_ok-maxval.ensures.reads
-    (λ n same. rw same (rows_shown level invert (as_entry kind maxval) (λ a. differ invert (nat_le (brightness kind a) c.brightest_black.result)) (repeated (plain_samples kind))
-    c.in_ok-page.page c.in_ok-sides.sides s is c.in_ok-page.ensures.width c.in_ok-page.ensures.height
-    c.read_plain_sample_rows.new.page (λ a. ap (differ invert) (c.brightest_black.ensures.black a)) c.in_ok-page.ensures.white c.in_ok-read_plain_sample_rows.ensures.sides c.known.ensures c.in_ok-read_plain_sample_rows.ensures.reads)))
+    (λ n same. rw same (rows_at level invert (as_entry kind maxval) (repeated (plain_samples kind)) c.in_ok-sides.sides s is
+    (c.read_page.ensures.reads level invert (λ a. ap (differ invert) (c.brightest_black.ensures.black a))))))

@@ -1,15 +1,13 @@
-use Rattle.std.proofs.Common.{ap, Bool, ℕ, nat_le}
+use Rattle.std.proofs.Common.{ap, Bool, ℕ}
 use Rattle.bit_image.specs.Image.{differ}
 use Rattle.std.proofs.lemmas.Result.{err_from_is_err_and}
 use Rattle.bitmap_input.specs.Cut.{◌>>=◌}
 use Rattle.bitmap_input.specs.Parts.{space}
-use Rattle.bitmap_input.specs.Raw.{IsShown}
 use Rattle.bitmap_input.specs.Front.{maxval, rows_raster}
 use Rattle.bitmap_input.specs.Samples.{as_entry, raw_samples_row}
-use Rattle.bitmap_input.specs.Shading.{brightness}
 use Rattle.bitmap_input.proofs.Appending.{sides_stay, maxval_stays, space_stays}
-use Rattle.bitmap_input.proofs.Telling.{reads_on, reads_stop, reads_memory}
-use Rattle.bitmap_input.proofs.Bodies.{rows_shown, rows_stopped}
+use Rattle.bitmap_input.proofs.Telling.{reads_on, reads_stop}
+use Rattle.bitmap_input.proofs.Bodies.{rows_at}
 use Rattle.bitmap_input.proofs.body.read_raw_samples_body.Goals as goal
 
 pub returns-in_err-sides-clause-reads : goal.returns-in_err-sides-clause-reads
@@ -30,36 +28,6 @@ returns-in_err-skip_space-clause-reads g c =
     (λ s _. reads_on maxval_stays c.in_ok-maxval.ensures.reads
     (λ maxval _. reads_stop (λ _ rest. rows_raster (as_entry c.args.channels maxval) (raw_samples_row c.args.channels maxval s.0) s.0 s.1 rest) c.in_err-skip_space.ensures.reads)))
 
-pub returns-in_err-page-clause-reads : goal.returns-in_err-page-clause-reads
-returns-in_err-page-clause-reads g c =
-    let p = err_from_is_err_and c.from_residual-in_err-page.result c.from_residual-in_err-page.ensures.1 in
-    rw (p.1, p.2) (reads_on sides_stay c.in_ok-sides.ensures.reads
-    (λ s _. reads_on maxval_stays c.in_ok-maxval.ensures.reads
-    (λ maxval _. reads_on space_stays c.in_ok-skip_space.ensures.reads
-    (λ _ _. reads_memory (IsShown c.args.level.now c.args.invert) (rows_raster (as_entry c.args.channels maxval) (raw_samples_row c.args.channels maxval s.0) s.0 s.1) _ _))))
-
-pub returns-in_err-row-clause-reads : goal.returns-in_err-row-clause-reads
-returns-in_err-row-clause-reads g c =
-    let p = err_from_is_err_and c.from_residual-in_err-row.result c.from_residual-in_err-row.ensures.1 in
-    rw (p.1, p.2) (reads_on sides_stay c.in_ok-sides.ensures.reads
-    (λ s _. reads_on maxval_stays c.in_ok-maxval.ensures.reads
-    (λ maxval _. reads_on space_stays c.in_ok-skip_space.ensures.reads
-    (λ _ _. reads_memory (IsShown c.args.level.now c.args.invert) (rows_raster (as_entry c.args.channels maxval) (raw_samples_row c.args.channels maxval s.0) s.0 s.1) _ _))))
-
-pub returns-in_err-read_raw_sample_rows-clause-reads : goal.returns-in_err-read_raw_sample_rows-clause-reads
-returns-in_err-read_raw_sample_rows-clause-reads g c =
-    let p = err_from_is_err_and c.from_residual-in_err-read_raw_sample_rows.result c.from_residual-in_err-read_raw_sample_rows.ensures.1 in
-    let level : ℕ = c.args.level.now in
-    let invert : Bool = c.args.invert in
-    let kind = c.args.channels in
-    let maxval : ℕ = c.in_ok-maxval.maxval in
-    rw (p.1, p.2) (reads_on sides_stay c.in_ok-sides.ensures.reads
-    (λ s is. reads_on maxval_stays c.in_ok-maxval.ensures.reads
-    (λ n same. rw same (reads_on space_stays c.in_ok-skip_space.ensures.reads
-    (λ _ _. rows_stopped level invert (as_entry kind maxval) (λ a. differ invert (nat_le (brightness kind a) c.brightest_black.result)) (raw_samples_row kind maxval)
-    c.in_ok-page.page c.in_ok-sides.sides s is c.in_ok-page.ensures.width c.in_ok-page.ensures.height
-    c.read_raw_sample_rows.new.page _ c.in_err-read_raw_sample_rows.ensures.reads)))))
-
 pub returns-clause-reads : goal.returns-clause-reads
 returns-clause-reads g c =
     let level : ℕ = c.args.level.now in
@@ -69,6 +37,5 @@ returns-clause-reads g c =
     reads_on sides_stay c.in_ok-sides.ensures.reads
     (λ s is. reads_on maxval_stays c.in_ok-maxval.ensures.reads
     (λ n same. rw same (reads_on space_stays c.in_ok-skip_space.ensures.reads
-    (λ _ _. rows_shown level invert (as_entry kind maxval) (λ a. differ invert (nat_le (brightness kind a) c.brightest_black.result)) (raw_samples_row kind maxval)
-    c.in_ok-page.page c.in_ok-sides.sides s is c.in_ok-page.ensures.width c.in_ok-page.ensures.height
-    c.read_raw_sample_rows.new.page (λ a. ap (differ invert) (c.brightest_black.ensures.black a)) c.in_ok-page.ensures.white c.in_ok-read_raw_sample_rows.ensures.sides c.known.ensures c.in_ok-read_raw_sample_rows.ensures.reads))))
+    (λ _ _. rows_at level invert (as_entry kind maxval) (raw_samples_row kind maxval) c.in_ok-sides.sides s is
+    (c.read_raw_samples.ensures.reads level invert (λ a. ap (differ invert) (c.brightest_black.ensures.black a)))))))

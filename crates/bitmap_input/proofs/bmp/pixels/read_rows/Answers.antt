@@ -14,6 +14,10 @@ use Rattle.bitmap_input.proofs.Telling.{reads_map, reads_stop}
 use Rattle.bitmap_input.proofs.Gathering.{gathering_goes_on, gathering_stops, gathering_ends}
 use Rattle.bitmap_input.proofs.bmp.pixels.read_rows.Goals as goal
 
+pub place_row-requires-clause-whole : goal.place_row-requires-clause-whole
+place_row-requires-clause-whole g c =
+    rw (c.loop-i.invariant.sides.width, c.read_block.auto.row ∙ c.loop-i.invariant.row ∙ sym c.requires.room) c.requires.whole
+
 pub loop-i-preserved : goal.loop-i-preserved
 unfolding image_of
 loop-i-preserved g c =
@@ -25,7 +29,8 @@ loop-i-preserved g c =
     let old : Image = image_of c.loop-i.page in
     let one : c.args.page.now.height - c.loop-i.i ≡ suc (c.args.page.now.height - (c.loop-i.i + 1)) = omega arith in
     let row = rw c.loop-i.invariant.row at c.in_ok-read_block.ensures.reads in
-    let pixels = rw (c.loop-i.invariant.sides.width, c.row_place-y.ensures.value, c.loop-i.invariant.high) at c.place_row.ensures.pixels in
+    let pixels : image_of c.place_row.new.page ≡ with_row old (place c.loop-i.i) (map (shade_in c.args.header.now.depth level invert c.args.table.now c.read_block.new.row) (range_with_len 0 width))
+    = rw (c.loop-i.invariant.sides.width, c.row_place-y.ensures.value, c.loop-i.invariant.high) at c.place_row.ensures.pixels in
     record {
       so_far = λ color table.
           let shades = λ (bytes : List ℕ). shades_are (shade_in c.args.header.now.depth level invert c.args.table.now bytes) (black level invert) (pixel_in bits color bytes)

@@ -1,10 +1,10 @@
-use Rattle.std.proofs.Common.{◌≡◌, true, refl, ap}
+use Rattle.std.proofs.Common.{◌≡◌, true, refl, ap, sym, arith}
 use Rattle.bitmap_input.specs.declared.fault.InFault.TheVariants as fault
 use Rattle.bitmap_input.specs.Cut.Ending.{End, Trailing}
 use Rattle.bitmap_input.specs.Reading.{cause_of, cause_of_fault}
 use Rattle.bitmap_input.specs.Reader.{Reader}
 use Rattle.bitmap_input.proofs.Answering.{reader_of, gives_page, gives_ending, fails_read, wants_memory, if_says, told_page, told_says, over_comes, page_comes, end_comes, trailing_comes, fault_comes}
-use Rattle.bitmap_input.proofs.GrayAnswers.{still_at_end}
+use Rattle.bitmap_input.proofs.GrayAnswers.{still_at_end, never_falls}
 use Rattle.bitmap_input.proofs.reader.PageReader.next.Goals as goal
 use Rattle.bitmap_input.proofs.reader.PageReader.next.Goals.{in-End, in-Trailing, in-Fault}
 
@@ -90,3 +90,41 @@ pub returns-after-stop-clause-still_at_end : goal.returns-after-stop-clause-stil
 returns-after-stop-clause-still_at_end g c = λ ended.
     let at_end = rw (← c.self.view_is) at c.requires.at_end in
     still_at_end _ _ _ _ _ _ c.in-Err.ensures.reads at_end ended
+
+pub returns-in-Ok-clause-never_falls : goal.returns-in-Ok-clause-never_falls
+returns-in-Ok-clause-never_falls g c = omega (arith, c.in-Ok.ensures.leaves.counts)
+
+pub returns-after-stop-clause-never_falls : goal.returns-after-stop-clause-never_falls
+returns-after-stop-clause-never_falls g c = never_falls (cause_of c.in-Err.stop) _ _ c.in-Err.ensures.leaves.counts
+
+pub returns-after-stop-clause-over : goal.returns-after-stop-clause-over
+returns-after-stop-clause-over g c =
+    rw (← c.self.view_is) (elim c.match-stop.branch [
+      | in-End w ↦ rw w.result-is (sym c.if-self.false)
+      | in-Trailing w ↦ rw w.result-is (sym c.if-self.false)
+      | in-Fault w ↦ rw w.result-is (sym c.if-self.false)
+    ])
+
+pub returns-after-stop-clause-steady : goal.returns-after-stop-clause-steady
+returns-after-stop-clause-steady g c = elim c.match-stop.branch [
+  | in-End w ↦ rw w.result-is (rw w.in-End.is at c.in-Err.ensures.leaves.counts)
+  | in-Trailing w ↦ rw w.result-is (rw w.in-Trailing.is at c.in-Err.ensures.leaves.counts)
+  | in-Fault w ↦ rw w.result-is tt
+]
+
+pub returns-after-stop-clause-steady_ending : goal.returns-after-stop-clause-steady_ending
+returns-after-stop-clause-steady_ending g c = elim c.match-stop.branch [
+  | in-End w ↦ rw w.result-is (rw w.in-End.is at c.in-Err.ensures.leaves.counts)
+  | in-Trailing w ↦ rw w.result-is (rw w.in-Trailing.is at c.in-Err.ensures.leaves.counts)
+  | in-Fault w ↦ rw w.result-is (if_says (cause_of_fault w.in-Fault.fault) _ (λ ending why. rw why at (rw w.in-Fault.is at c.in-Err.ensures.leaves.counts)))
+]
+
+pub returns-after-stop-clause-cause : goal.returns-after-stop-clause-cause
+returns-after-stop-clause-cause g c = λ err. elim c.match-stop.branch [
+  | in-End w ↦ let e = rw w.result-is at err in (cc)
+  | in-Trailing w ↦ let e = rw w.result-is at err in (cc)
+  | in-Fault w ↦
+      let e = rw w.result-is at err in
+      let same : w.in-Fault.fault ≡ fault.ReadFault = cc in
+      let rose = rw (w.in-Fault.is, same) at c.in-Err.ensures.leaves.counts in rose.0
+]

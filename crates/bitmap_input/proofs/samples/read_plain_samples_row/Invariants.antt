@@ -5,7 +5,7 @@ use Rattle.bit_image.specs.Page.{SameSides, image_of}
 use Rattle.bitmap_input.specs.Samples.{plain_samples}
 use Rattle.bitmap_input.specs.Raster.{with_pixels}
 use Rattle.bitmap_input.proofs.Gathering.{IsGatheredSoFar}
-use Rattle.bitmap_input.proofs.samples.read_plain_row.Given as goal
+use Rattle.bitmap_input.proofs.samples.read_plain_samples_row.Given as goal
 
 abbrev pub invariant-loop-x : goal.invariant-loop-x
 invariant-loop-x g l =

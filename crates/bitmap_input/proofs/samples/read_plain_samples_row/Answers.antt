@@ -7,7 +7,7 @@ use Rattle.bitmap_input.proofs.Appending.{plain_samples_stay}
 use Rattle.bitmap_input.proofs.Gathering.{gathering_goes_on, gathering_stops, gathering_ends}
 use Rattle.bitmap_input.proofs.Painting.{pixel_painted}
 use Rattle.bitmap_input.proofs.Graying.{capped_black}
-use Rattle.bitmap_input.proofs.samples.read_plain_row.Goals as goal
+use Rattle.bitmap_input.proofs.samples.read_plain_samples_row.Goals as goal
 
 pub returns-in_err-brightness-clause-reads : goal.returns-in_err-brightness-clause-reads
 returns-in_err-brightness-clause-reads g c =

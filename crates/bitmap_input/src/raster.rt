@@ -1,0 +1,117 @@
+//! Rasters: the rows of a page, as its format stores them.
+ghost use Rattle.std.specs.Prelude.{◌≡◌, ℕ, ◌<◌, ◌≤◌, true, Bool, length, map};
+ghost use Rattle.bit_image.specs.Page.{Page, SameSides, image_of};
+ghost use Rattle.bitmap_input.specs.Reading.{Reads, Leaves};
+ghost use Rattle.bitmap_input.specs.Parts.{repeated};
+ghost use Rattle.bitmap_input.specs.Front.{rows_raster};
+ghost use Rattle.bitmap_input.specs.Raw.{IsShown};
+ghost use Rattle.bitmap_input.specs.Raster.{with_row, with_rows};
+ghost use Rattle.bitmap_input.specs.Stored.{row_stored, pixel_entry, is_black_pixel, line_bytes, IsAtLevel, IsStoredInRange};
+
+use crate::extent::known;
+use crate::header::Sides;
+use crate::plain::read_plain_row;
+use crate::raw::read_raw_row;
+use crate::samples::{Shading, read_plain_samples_row, read_raw_samples_row};
+use crate::stop::Stop;
+use crate::window::Window;
+use bit_image::Bitmap;
+use pt_core::{Inputs, LONGEST_SIDE};
+use std::alloc::Global;
+
+/// How the pixels of a page are stored, and which of them are black.
+#[derive(Clone, Copy)]
+pub(crate) enum Raster {
+    /// A character for each pixel.
+    PlainBits { invert: bool },
+    /// A bit for each pixel.
+    RawBits { invert: bool },
+    /// Samples as numbers.
+    PlainSamples { shading: Shading },
+    /// Samples as bytes.
+    RawSamples { shading: Shading },
+}
+
+/// One row, put into row y, with room for its bytes.
+fn read_row<I: Inputs>(
+    window: &mut Window,
+    inputs: &mut I,
+    page: &mut Bitmap,
+    y: u32,
+    raster: Raster,
+    line: &mut [u8],
+) -> Result<(), Stop>
+    requires opened { I.is_opened inputs.old ≡ true }
+    requires row { y < page.old.height }
+    requires range { IsStoredInRange raster }
+    requires room { length line.old ≡ line_bytes raster page.old.width }
+    ensures reads { Reads (λ _ row. image_of page.new
+        ≡ with_row (image_of page.old) y (map (is_black_pixel raster) row))
+        (row_stored raster page.old.width) window.old (I.files inputs.old) result window.new
+        (I.files inputs.new) }
+    ensures sides { SameSides page.old page.new }
+    ensures leaves { Leaves I.Inputs result inputs.old inputs.new }
+{
+    match raster {
+        Raster::PlainBits { invert } => read_plain_row(window, inputs, page, y, invert),
+        Raster::RawBits { invert } => read_raw_row(window, inputs, page, y, invert, line),
+        Raster::PlainSamples { shading } => {
+            read_plain_samples_row(window, inputs, page, y, &shading)
+        }
+        Raster::RawSamples { shading } => {
+            read_raw_samples_row(window, inputs, page, y, &shading, line)
+        }
+    }
+}
+
+/// The rows from the top, put into the page, with room for the bytes of one of them.
+fn read_rows<I: Inputs>(
+    window: &mut Window,
+    inputs: &mut I,
+    page: &mut Bitmap,
+    raster: Raster,
+    line: &mut [u8],
+) -> Result<(), Stop>
+    requires opened { I.is_opened inputs.old ≡ true }
+    requires range { IsStoredInRange raster }
+    requires room { length line.old ≡ line_bytes raster page.old.width }
+    ensures reads { Reads (λ _ rows. image_of page.new
+        ≡ with_rows (image_of page.old) page.old.height (map (map (is_black_pixel raster)) rows))
+        (repeated (row_stored raster page.old.width) page.old.height) window.old
+        (I.files inputs.old) result window.new (I.files inputs.new) }
+    ensures sides { SameSides page.old page.new }
+    ensures leaves { Leaves I.Inputs result inputs.old inputs.new }
+{
+    let mut y = page.height();
+    while y > 0 {
+        y -= 1;
+        read_row(window, inputs, page, y, raster, line)?;
+    }
+    Ok(())
+}
+
+/// The rows behind a header, on a page of their own, with room for the bytes of one of them.
+pub(crate) fn read_page<I: Inputs>(
+    alloc: Global,
+    window: &mut Window,
+    inputs: &mut I,
+    sides: Sides,
+    raster: Raster,
+    line: &mut [u8],
+) -> Result<Bitmap, Stop>
+    requires opened { I.is_opened inputs.old ≡ true }
+    requires width { (1 ≤ sides.width) × (sides.width ≤ LONGEST_SIDE) }
+    requires height { (1 ≤ sides.height) × (sides.height ≤ LONGEST_SIDE) }
+    requires range { IsStoredInRange raster }
+    requires room { length line.old ≡ line_bytes raster sides.width }
+    ensures reads { (level : ℕ) (invert : Bool) → IsAtLevel level invert raster
+        → Reads (IsShown level invert)
+        (rows_raster (pixel_entry raster) (row_stored raster sides.width) sides.width sides.height)
+        window.old (I.files inputs.old) result window.new (I.files inputs.new) }
+    ensures leaves { Leaves I.Inputs result inputs.old inputs.new }
+{
+    let mut page = Bitmap::new(alloc, sides.width, sides.height)?;
+    read_rows(window, inputs, &mut page, raster, line)?;
+    known(&page);
+    Ok(page)
+}
