@@ -16,7 +16,9 @@ use std::marker::Model;
 /// path.
 //
 // On pages of text most straight subpaths have fewer than eight steps, and the same ways of taking eight steps come
-// again and again. So most points that no strip holds are told by one look here, and ask no cone.
+// again and again. So most points that no strip holds are told by one look here, and ask no cone: a page of ragged
+// text takes a sixth fewer instructions, a board of 7 pixels a fifth, and a spiral of walls a twentieth more, for the
+// codes that it doesn't need (bench/runs/2026-11-28/next-steps.txt).
 #[derive(Drop)]
 pub struct Memo {
     /// For each code, the number of steps and 1, or 0 where it wasn't met. An empty list keeps nothing.
