@@ -1,6 +1,5 @@
 -- The manner in which files become documents.
 use Rattle.std.specs.Prelude.{◌≡◌, ℕ, Bool, List, Option}
-use Rattle.pt_core.specs.declared.settings.Backend.{Backend}
 use Rattle.bit_image.specs.Page.{IsPage, Page as Pixels}
 use Rattle.bitmap_input.specs.Raw.{Raw, shown}
 use Rattle.run_output.specs.Names.{base_name}
@@ -11,14 +10,14 @@ pub record Manner : Type 1 where
   pub level : ℕ
   pub invert : Bool
   pub output : Option (List ℕ)
-  pub backend : Backend
+  pub suffix : List ℕ
   pub binding : Binding
   pub belongs : Pixels → List ℕ → Type 0
 
 -- the manner of these
-abbrev pub manner_by : ℕ → Bool → Option (List ℕ) → Backend → Binding → (Pixels → List ℕ → Type 0) → Manner
-manner_by level invert output backend binding belongs =
-    record { level = level; invert = invert; output = output; backend = backend; binding = binding; belongs = belongs }
+abbrev pub manner_by : ℕ → Bool → Option (List ℕ) → List ℕ → Binding → (Pixels → List ℕ → Type 0) → Manner
+manner_by level invert output suffix binding belongs =
+    record { level = level; invert = invert; output = output; suffix = suffix; binding = binding; belongs = belongs }
 
 -- the page that is read of a raw one
 abbrev pub shown_by : Manner → Raw → Pixels
@@ -26,7 +25,7 @@ shown_by manner raw = shown manner.level manner.invert raw
 
 -- the name by which all documents of the file of this name go
 abbrev pub base_by : Manner → List ℕ → List ℕ
-base_by manner name = base_name manner.output manner.backend name
+base_by manner name = base_name manner.output manner.suffix name
 
 -- a text belongs to each page
 abbrev pub HasTexts : Manner → Type 0

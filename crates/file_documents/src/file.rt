@@ -59,7 +59,7 @@ pub(crate) fn convert_file<
         Ok(()) => {}
         Err(_) => return Err(end_unopened(task, name, batch, desk)),
     }
-    let Ok(base) = base_name(task.plan.alloc, task.output, task.backend, name) else {
+    let Ok(base) = base_name(task.plan.alloc, task.output, task.suffix, name) else {
         say_out_of_memory(desk.errs);
         return Err(Status::OutOfMemory);
     };

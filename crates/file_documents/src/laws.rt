@@ -1,7 +1,6 @@
 //! What follows from the definitions alone.
 ghost use Rattle.std.specs.Prelude.{◌≡◌, ℕ, Bool, List, Option, Some};
 ghost use Rattle.pt_core.specs.Files.{Contents};
-ghost use Rattle.pt_core.specs.declared.settings.Backend.{Backend};
 ghost use Rattle.run_output.specs.Made.{Past};
 ghost use Rattle.run_output.specs.declared.part.Binding.{Binding};
 ghost use Rattle.page_batches.specs.Items.{Item};
@@ -13,30 +12,30 @@ use run_output::Binding;
 
 /// Whatever the files hold, there is a list of what a run is to write, where a text belongs to each page.
 pub fn files_have_items<J: PageJob>(job: &J)
-    ensures { (level : ℕ) (invert : Bool) (output : Option (List ℕ)) (backend : Backend) (binding : Binding)
-        → HasTexts (manner_by level invert output backend binding (J.belongs job.now))
+    ensures { (level : ℕ) (invert : Bool) (output : Option (List ℕ)) (suffix : List ℕ) (binding : Binding)
+        → HasTexts (manner_by level invert output suffix binding (J.belongs job.now))
         → (contents : Option Contents) (names : List (List ℕ)) (past : Past) → (items : List Item)
-        × AreItems contents (manner_by level invert output backend binding (J.belongs job.now))
+        × AreItems contents (manner_by level invert output suffix binding (J.belongs job.now))
         Nothing names past items }
 {}
 
 /// Where it is told what the files hold there is only one such list: it is a function of that, of how pages are read
 /// and documents named, and of the names.
 pub fn items_are_one<J: PageJob>(job: &J)
-    ensures { (level : ℕ) (invert : Bool) (output : Option (List ℕ)) (backend : Backend) (binding : Binding)
+    ensures { (level : ℕ) (invert : Bool) (output : Option (List ℕ)) (suffix : List ℕ) (binding : Binding)
         (contents : Contents) (names : List (List ℕ)) (past : Past) (items others : List Item)
-        → AreItems (Some contents) (manner_by level invert output backend binding (J.belongs job.now))
+        → AreItems (Some contents) (manner_by level invert output suffix binding (J.belongs job.now))
         Nothing names past items
-        → AreItems (Some contents) (manner_by level invert output backend binding (J.belongs job.now))
+        → AreItems (Some contents) (manner_by level invert output suffix binding (J.belongs job.now))
         Nothing names past others
         → items ≡ others }
 {}
 
 /// Where each page is a document of its own, each document of such a list is one part: it is written whole, or cut off.
 pub fn documents_are_whole<J: PageJob>(job: &J)
-    ensures { (level : ℕ) (invert : Bool) (output : Option (List ℕ)) (backend : Backend)
+    ensures { (level : ℕ) (invert : Bool) (output : Option (List ℕ)) (suffix : List ℕ)
         (contents : Option Contents) (names : List (List ℕ)) (past : Past) (items : List Item)
-        → AreItems contents (manner_by level invert output backend Binding.Apart (J.belongs job.now))
+        → AreItems contents (manner_by level invert output suffix Binding.Apart (J.belongs job.now))
         Nothing names past items
         → AreWhole items }
 {}

@@ -1,7 +1,7 @@
 //! What stays the same through a run over files.
 use page_batches::Plan;
 use page_workers::PageJob;
-use pt_core::{Backend, Gate};
+use pt_core::Gate;
 use std::thread::Threads;
 use threshold_map::Level;
 
@@ -16,6 +16,6 @@ pub struct Task<'a, 'b, R: Threads + Sync, J: PageJob + Sync, G: Gate + Sync> {
     pub invert: bool,
     /// The name of all documents, where one is given. Else they are named after their files.
     pub output: Option<&'b str>,
-    /// What documents are: their names end so.
-    pub backend: Backend,
+    /// How the names end that are made of files' names.
+    pub suffix: &'b str,
 }

@@ -7,7 +7,7 @@ use Rattle.pt_core.specs.declared.inputs.Inputs.{Ghosts as InputGhosts}
 use Rattle.pt_core.specs.declared.settings.Settings.{Settings}
 use Rattle.run_output.specs.Made.{no_past}
 use Rattle.run_output.specs.Messages.{bad_words, out_of_memory}
-use Rattle.run_output.specs.Names.{dash}
+use Rattle.run_output.specs.Names.{backend_suffix, dash}
 use Rattle.run_output.specs.Parts.{binding_of}
 use Rattle.run_output.specs.Status.{code_of}
 use Rattle.run_output.specs.declared.part.Binding.TheVariants.{Apart}
@@ -37,7 +37,7 @@ IsCodeOf code P = (s : Status) × (code ≡ code_of s) × P s
 -- its file
 abbrev pub manner_under : Settings → Option (List ℕ) → Manner
 manner_under settings output =
-    manner_by settings.level settings.invert output settings.backend (binding_of settings.backend) (λ page text. IsDocument page settings text)
+    manner_by settings.level settings.invert output (backend_suffix settings.backend) (binding_of settings.backend) (λ page text. IsDocument page settings text)
 
 -- what a run is to write that is asked for this
 abbrev pub AreItemsOf : Ask → Option Contents → List Item → Type 0

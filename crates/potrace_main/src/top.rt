@@ -25,7 +25,7 @@ use file_documents::{Task, convert_files};
 use page_batches::{Desk, Plan};
 use page_trace::pages_have_documents;
 use pt_core::{Gate, Inputs, Outputs, Settings, Sink};
-use run_output::{Binding, Status, say_bad_words, say_out_of_memory};
+use run_output::{Binding, Status, backend_suffix, say_bad_words, say_out_of_memory};
 use std::alloc::Global;
 use std::thread::Threads;
 use threshold_map::Level;
@@ -205,7 +205,7 @@ fn carry_out<'a, R: Threads + Sync, I: Inputs, O: Outputs, E: Sink, G: Gate + Sy
                 level: Level::from_micro(settings.level),
                 invert: settings.invert,
                 output,
-                backend: settings.backend,
+                suffix: backend_suffix(settings.backend),
             };
             convert_files(&task, names.as_slice(), inputs, desk)
         }

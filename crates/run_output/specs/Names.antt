@@ -52,10 +52,10 @@ backend_suffix Polygons = codes ".polygons"
 backend_suffix Proofs = codes ".proofs"
 
 -- the name by which the documents of a file go: the output's, where one is given; else standard output for
--- standard input, and for a file its name with the backend's suffix in place of its own
-abbrev pub base_name : Option (List ℕ) → Backend → List ℕ → List ℕ
-base_name (Some output) backend file = output
-base_name None backend file = if bytes_eq file dash then dash else stem_of file ++ backend_suffix backend
+-- standard input, and for a file its name with this suffix in place of its own
+abbrev pub base_name : Option (List ℕ) → List ℕ → List ℕ → List ℕ
+base_name (Some output) suffix file = output
+base_name None suffix file = if bytes_eq file dash then dash else stem_of file ++ suffix
 
 -- the k-th document with a base name: the first one has the base name, a later one has `-k` before its
 -- suffix, and those of standard output go one behind another

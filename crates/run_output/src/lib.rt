@@ -19,6 +19,6 @@ pub use made::Made;
 pub use message::{
     say_bad_words, say_not_opened, say_not_written, say_of_page, say_out_of_memory, say_trailing,
 };
-pub use names::{base_name, document_name};
+pub use names::{backend_suffix, base_name, document_name};
 pub use part::{Binding, write_end_part, write_page_part};
 pub use status::Status;

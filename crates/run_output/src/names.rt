@@ -7,36 +7,36 @@ use itoa::Buffer;
 use pt_core::Backend;
 use std::alloc::{AllocError, Global};
 
-/// The name by which all documents of a file go.
+/// The name by which all documents of a file go that have this suffix, where the output has no name of its own.
 pub fn base_name(
     alloc: Global,
     output: Option<&str>,
-    backend: Backend,
+    suffix: &str,
     file: &str,
 ) -> Result<String, AllocError>
     ensures { IfOk result (λ name. string_bytes name
-        ≡ base_name (option_map (λ s. s.now) output.entry) backend file.now) }
+        ≡ base_name (option_map (λ s. s.now) output.entry) suffix.now file.now) }
 {
     match output {
         Some(output) => String::from_str(alloc, output),
-        None => file_base_name(alloc, backend, file),
+        None => file_base_name(alloc, suffix, file),
     }
 }
 
-fn file_base_name(alloc: Global, backend: Backend, file: &str) -> Result<String, AllocError>
-    ensures { IfOk result (λ name. string_bytes name ≡ base_name None backend file.now) }
+fn file_base_name(alloc: Global, suffix: &str, file: &str) -> Result<String, AllocError>
+    ensures { IfOk result (λ name. string_bytes name ≡ base_name None suffix.now file.now) }
 {
     if file == "-" {
         return String::from_str(alloc, "-");
     }
     let at = suffix_begins(file);
     let mut name = String::from_str(alloc, &file[..at])?;
-    name.push_str(backend_suffix(backend))?;
+    name.push_str(suffix)?;
     Ok(name)
 }
 
 /// The suffix of a backend's documents.
-fn backend_suffix(backend: Backend) -> &'static str
+pub fn backend_suffix(backend: Backend) -> &'static str
     ensures { result.now ≡ backend_suffix backend }
 {
     match backend {
