@@ -84,7 +84,7 @@ Completes contents manner names s read read_now written written_now =
 pub files_complete : (s : Status) (manner : Manner) → HasTexts manner → (names : List (List ℕ)) (source now : Source) (a b : Sinks)
     → IsOutcome s manner names source now a b
     → Completes (told_contents source.files) manner names s source.faults now.faults a.outs.faults b.outs.faults
-files_complete status.Done manner can names source now a b (items, are, done, opens) =
+files_complete status.Done manner can names source now a b (items, are, done, opens, near) =
     (items, are, λ _ _. record { all = λ _. inl refl; refusal = λ r. absurd (never_refused items done.goes_on r); missing = λ m. absurd (never_missing items done.goes_on m) })
 files_complete status.BadWords manner can names source now a b (items, are, ended) = absurd ended
 files_complete status.Refused manner can names source now a b r =
@@ -175,7 +175,7 @@ not_document name (item ∷ other ∷ before) part after e = cc
 
 first_absent : (s : Status) (manner : Manner) (name : List ℕ) (names : List (List ℕ)) (source now : Source) (a b : Sinks) → IsAbsent (told_contents source.files) name
     → IsOutcome s manner (name ∷ names) source now a b → (s ≡ status.Unread) ⊎ (s ≡ status.OutOfMemory)
-first_absent status.Done manner name names source now a b absent (items, are, done, opens) =
+first_absent status.Done manner name names source now a b absent (items, are, done, opens, near) =
     absurd (subst GoesOn (only_missing (told_contents source.files) manner name names items absent are) done.goes_on)
 first_absent status.BadWords manner name names source now a b absent (items, are, ended) = absurd ended
 first_absent status.Refused manner name names source now a b absent r =
@@ -229,7 +229,7 @@ files_move s manner names source now a b closed outcome = by_status s outcome wh
   whole items are apart = items_end told manner apart Nothing nothing_ends names no_past items are
 
   by_status : (s : Status) → IsOutcome s manner names source now a b → OutputsMove (manner.binding ≡ Apart) s a b
-  by_status status.Done (items, are, done, opens) = carried_moves (manner.binding ≡ Apart) items [] a b (whole items are) closed done
+  by_status status.Done (items, are, done, opens, near) = carried_moves (manner.binding ≡ Apart) items [] a b (whole items are) closed done
   by_status status.BadWords (items, are, ended) = absurd ended
   by_status status.Refused r =
       carried_moves (manner.binding ≡ Apart) r.before (r.message ∷ []) a b (λ apart. AreWhole-front r.before (Stop r.message ∷ []) (whole (r.before ++ Stop r.message ∷ []) r.all apart)) closed r.done
