@@ -21,7 +21,7 @@ use Rattle.page_batches.specs.Outcome.{AreCarriedOut, HasEnded}
 use Rattle.run_output.specs.Told.{Sinks, Source}
 use Rattle.file_documents.specs.Items.{AreItems, AreWhole, IsAbsent, Nothing, told_contents}
 use Rattle.file_documents.specs.Manner.{HasTexts, Manner}
-use Rattle.file_documents.specs.Outcome.{IsOutcome}
+use Rattle.file_documents.specs.Outcome.{IsOutcome, LastEndsNear}
 use Rattle.file_documents.proofs.Closing.{AreWhole-front, alone_end, carried_closed, items_end, nothing_ends}
 use Rattle.file_documents.proofs.Exists.{items_found}
 use Rattle.file_documents.proofs.Joining.{items_behind}
@@ -154,6 +154,14 @@ run_unread (asks.Demo pages workers settings) s source now a b ran is =
     let (text, demo, ended) = ran.outcome in absurd (subst (λ t. HasEnded t (Doc dash text ∷ []) a b) is ended)
 run_unread (asks.Files names output workers settings) s source now a b ran is =
     unread_cause (manner_under settings output) names source now a b (subst (λ t. IsOutcome t (manner_under settings output) names source now a b) is ran.outcome)
+
+-- where all is done, how far the last file is read
+pub run_near : (ask : Ask) (s : Status) (source now : Source) (a b : Sinks) → IsRun ask s source now a b → s ≡ status.Done → LastEndsNear (told_contents source.files) (names_of ask) now
+run_near asks.Help s source now a b ran is = tt
+run_near asks.Version s source now a b ran is = tt
+run_near (asks.Demo pages workers settings) s source now a b ran is = tt
+run_near (asks.Files names output workers settings) s source now a b ran is =
+    let (items, are, done, opens, near) = subst (λ t. IsOutcome t (manner_under settings output) names source now a b) is ran.outcome in near
 
 -- where the first file isn't there
 only_missing : (contents : Option Contents) (manner : Manner) (name : List ℕ) (names : List (List ℕ)) (items : List Item) → IsAbsent contents name
