@@ -24,13 +24,13 @@ use Rattle.page_batches.proofs.Carrying.{GoesOn-behind, IsSaying, carried_on, en
 use Rattle.page_batches.proofs.Holding.{ended_behind, halts_by, holds_goes_on}
 use Rattle.file_documents.specs.Items.{AreItems, IsAbsent, Nothing, told_contents}
 use Rattle.file_documents.specs.Manner.{HasTexts, Manner, base_by}
-use Rattle.file_documents.specs.Outcome.{HoldsBytes, IsOutcomeBehind, IsUnopened, IsUnread, OpensUpTo, ReadsFileNear, ReadsNear, opened_name}
+use Rattle.file_documents.specs.Outcome.{EndsNear, HoldsBytes, IsOutcomeBehind, IsUnopened, IsUnread, OpensUpTo, ReadsFileNear, ReadsNear, opened_name}
 use Rattle.file_documents.specs.Progress.{EndsWithFile, Halts, InputCount, Converts, ConvertsFile, end_message, status_of, text_items}
 use Rattle.file_documents.specs.Unopened.{EndsUnopened}
 use Rattle.file_documents.specs.declared.pages.PagesEnd.{PagesEnd}
 use Rattle.file_documents.specs.declared.pages.PagesEnd.TheVariants as why
 use Rattle.file_documents.proofs.Exists.{items_found}
-use Rattle.file_documents.proofs.Filing.{pages_alone, file_halts, full_items, has_bytes, read_by_halting, read_by_converting, refused_items, HasBytes, HasRead}
+use Rattle.file_documents.proofs.Filing.{pages_alone, file_halts, full_items, has_bytes, pages_of, read_by_halting, read_by_converting, refused_items, HasBytes, HasRead}
 use Rattle.file_documents.proofs.Joining.{items_join}
 
 -- where a batch wasn't carried out, the run ends within it
@@ -267,6 +267,13 @@ module _ (size : ℕ) (manner : Manner) (can : HasTexts manner) (name : List ℕ
 
   has : HasBytes (told_contents source.files) name (unread start)
   has = has_bytes source.files start name opened there
+
+  -- the run goes on behind its pages
+  pub file_near : (end : PagesEnd) → ConvertedTo end → status_of end ≡ status.Done → EndsNear (told_contents source.files) name source_now
+  file_near end t done =
+      let (rest, here, near) = near_of source.files start source_now.files name t.raws opened there contents named t.near in
+      let (ending, pages) = pages_of (told_contents source.files) manner name past size start source_now.files k held held_mid a b has end t done in
+      record { raws = t.raws; ending = ending; rest = rest; pages = pages; opened = here; near = near }
 
   -- with a page that is refused
   stopped : (end : PagesEnd) (t : ConvertedTo end) (names : List (List ℕ)) (first : List Item)

@@ -198,6 +198,10 @@ module _ (contents : Option Contents) (manner : Manner) (name : List ℕ) (past 
   abbrev EndsFile : Status → List Item → List (List ℕ) → Sinks → Sinks → Type 0
   EndsFile s first names a c = (items : List Item) × AreItems contents manner Nothing (name ∷ names) past items × HasEnded s (first ++ items) a c
 
+  -- no page follows those that were read
+  all_read : (r : HasRead contents manner name past) (ending : Ending) → IfSome r.rest (λ left. FilePages (is_later false r.raws) left [] ending) → HoldsPages contents name r.raws ending
+  all_read r ending pages = subst (λ (raws : List Raw). HoldsPages contents name raws ending) (append-nil r.raws) (r.holds [] ending pages)
+
   abbrev Behind : List (List ℕ) → Rest
   Behind names = AreItems contents manner Nothing names
 
@@ -251,6 +255,15 @@ module _ (contents : Option Contents) (manner : Manner) (name : List ℕ) (past 
     items_of (why.Fault fault.ReadFault) t done = absurd (let no : status.Unread ≡ status.Done = done in cc)
     items_of (why.Fault fault.NoMemory) t done = absurd (let no : status.OutOfMemory ≡ status.Done = done in cc)
     items_of (why.Fault f) t done = absurd (let no : status.Refused ≡ status.Done = done in cc)
+
+    -- and its pages
+    pub pages_of : (end : PagesEnd) (t : ConvertedTo end) → status_of end ≡ status.Done → (ending : Ending) × HoldsPages contents name t.raws ending
+    pages_of why.End t done = (End, all_read (read_of why.End t) End (pages_end _ End t.rest t.ends))
+    pages_of why.Trailing t done = (Trailing, all_read (read_of why.Trailing t) Trailing (pages_end _ Trailing t.rest t.ends))
+    pages_of why.TooMany t done = absurd (let no : status.Refused ≡ status.Done = done in cc)
+    pages_of (why.Fault fault.ReadFault) t done = absurd (let no : status.Unread ≡ status.Done = done in cc)
+    pages_of (why.Fault fault.NoMemory) t done = absurd (let no : status.OutOfMemory ≡ status.Done = done in cc)
+    pages_of (why.Fault f) t done = absurd (let no : status.Refused ≡ status.Done = done in cc)
 
     -- the run goes on behind the file
     pub file_goes_on : (end : PagesEnd) → ConvertedTo end → (held_now : List Held) (c : Sinks)

@@ -23,7 +23,7 @@ use Rattle.page_batches.proofs.Holding.{holds_goes_on, page_count-append}
 use Rattle.file_documents.specs.Items.{AreEndItems, AreItems, ArePageItems, FileEnds, IsAbsent, Nothing, Rest}
 use Rattle.file_documents.specs.Manner.{Manner, base_by}
 use Rattle.file_documents.specs.OnePass.{IfReadsTo, IsOnePass, batch_end}
-use Rattle.file_documents.specs.Outcome.{IsOutcomeBehind, OpensUpTo}
+use Rattle.file_documents.specs.Outcome.{IsOutcomeBehind, LastEndsNear, OpensUpTo}
 use Rattle.file_documents.specs.Progress.{EndsWith}
 use Rattle.file_documents.proofs.OnePass.{batch_end_behind}
 
@@ -92,13 +92,20 @@ opened_on n k l m o e f = omega (arith, e, f)
 opened_behind : (n k l m o : ℕ) → m ≡ min (l + n) last_count → o ≡ min (m + k) last_count → o ≡ min (l + (n + k)) last_count
 opened_behind n k l m o e f = omega (arith, e, f)
 
+-- the last of some files is the last of them and those in front
+pub near_on : (contents : Option Contents) (front : List (List ℕ)) (name : List ℕ) (back : List (List ℕ)) (now : Source)
+    → LastEndsNear contents (name ∷ back) now → LastEndsNear contents (front ++ name ∷ back) now
+near_on contents [] name back now near = near
+near_on contents (first ∷ []) name back now near = near
+near_on contents (first ∷ next ∷ front) name back now near = near_on contents (next ∷ front) name back now near
+
 -- the outcome of files, behind what is held, is that of the files in front of them and theirs
 pub outcome_on : (s : Status) (size : ℕ) (contents : Option Contents) (manner : Manner) (front back : List (List ℕ)) (past mid : Past) (first before : List Item) (held : List Held)
     (start then now : Source) (a b c : Sinks) → AreItems contents manner (EndsWith mid) front past before → Holds manner.binding size manner.belongs (first ++ before) held a b
-    → then.openings ≡ min (start.openings + length front) last_count → then.faults ≡ start.faults
+    → then.openings ≡ min (start.openings + length front) last_count → then.faults ≡ start.faults → (LastEndsNear contents back now → LastEndsNear contents (front ++ back) now)
     → ((left : List Item) → AreHeld manner.binding manner.belongs held left → IsOutcomeBehind s left contents manner back mid then now b c)
     → IsOutcomeBehind s first contents manner (front ++ back) past start now a c
-outcome_on s size contents manner front back past mid first before held start then now a b c are h openings faults behind = by_status s (behind h.left h.are_held) where
+outcome_on s size contents manner front back past mid first before held start then now a b c are h openings faults last behind = by_status s (behind h.left h.are_held) where
   goes : GoesOn before
   goes = GoesOn-behind first before (holds_goes_on manner.binding size manner.belongs (first ++ before) held a b h)
 
@@ -125,9 +132,9 @@ outcome_on s size contents manner front back past mid first before held start th
   }
 
   by_status : (s : Status) → IsOutcomeBehind s h.left contents manner back mid then now b c → IsOutcomeBehind s first contents manner (front ++ back) past start now a c
-  by_status status.Done (items, follow, end, opens) =
+  by_status status.Done (items, follow, end, opens, near) =
       let joins = ended status.Done (items, follow, end) in
-      (joins.0, joins.1, joins.2, rw (length-append front back) (opened_behind (length front) (length back) start.openings then.openings now.openings openings opens))
+      (joins.0, joins.1, joins.2, rw (length-append front back) (opened_behind (length front) (length back) start.openings then.openings now.openings openings opens), last near)
   by_status status.BadWords o = ended status.BadWords o
   by_status status.Refused u = record {
     name = u.name;

@@ -18,10 +18,10 @@ use Rattle.page_batches.proofs.Holding.{all_held, holds_goes_on, holds_on}
 use Rattle.file_documents.specs.Items.{AreItems, Nothing}
 use Rattle.file_documents.specs.Manner.{Manner}
 use Rattle.file_documents.specs.OnePass.{IsOnePass}
-use Rattle.file_documents.specs.Outcome.{IsOutcomeBehind, OpensFirst, opened_name}
+use Rattle.file_documents.specs.Outcome.{EndsNear, IsOutcomeBehind, LastEndsNear, OpensFirst, opened_name}
 use Rattle.file_documents.specs.Progress.{EndsWith, ConvertsFile}
 use Rattle.file_documents.proofs.Ending.{outcome_of_halt}
-use Rattle.file_documents.proofs.Joining.{items_join, one_pass_on, outcome_on}
+use Rattle.file_documents.proofs.Joining.{items_join, near_on, one_pass_on, outcome_on}
 use Rattle.file_documents.proofs.OnePass.{part_halts, pass_of_part}
 
 -- these are the items of these files; the first are carried out, and the others are held
@@ -38,12 +38,16 @@ pub none_begun : (b : Binding) → is_begun b 0 ≡ false
 none_begun Apart = refl
 none_begun Together = refl
 
+-- the first names, and the i-th one
+take_one : (names : List (List ℕ)) (i : ℕ) (name : List ℕ) → i < length names → name ≡ get_or names i name → take (i + 1) names ≡ take i names ++ name ∷ []
+take_one names i name within is = take_more names i name within ∙ ap (λ n. take i names ++ n ∷ []) (sym is)
+
 -- one file more
 pub one_done : (size : ℕ) (contents : Option Contents) (manner : Manner) (names : List (List ℕ)) (i : ℕ) (name : List ℕ) (past past_now : Past) (held held_now : List Held) (a b c : Sinks)
     → i < length names → name ≡ get_or names i name → AreDone size contents manner (take i names) past held a b
     → ConvertsFile size contents manner name past past_now held held_now b c → AreDone size contents manner (take (i + 1) names) past_now held_now a c
 one_done size contents manner names i name past past_now held held_now a b c within is front file =
-    let more : take (i + 1) names ≡ take i names ++ name ∷ [] = take_more names i name within ∙ ap (λ n. take i names ++ n ∷ []) (sym is) in
+    let more = take_one names i name within is in
     let goes = holds_goes_on manner.binding size manner.belongs front.items held a b front.holds in
     let are = items_join contents manner (EndsWith past_now) (name ∷ []) past file.items file.are (take i names) no_past front.items goes front.are in
     record {
@@ -51,6 +55,12 @@ one_done size contents manner names i name past past_now held held_now a b c wit
       are = subst (λ ns. AreItems contents manner (EndsWith past_now) ns no_past (front.items ++ file.items)) (sym more) are;
       holds = holds_on manner.binding size manner.belongs front.items file.items held held_now a b c front.holds file.holds;
     }
+
+-- which is the last one
+pub one_near : (contents : Option Contents) (names : List (List ℕ)) (i : ℕ) (name : List ℕ) (now : Source) → i < length names → name ≡ get_or names i name
+    → EndsNear contents name now → LastEndsNear contents (take (i + 1) names) now
+one_near contents names i name now within is near =
+    subst (λ ns. LastEndsNear contents ns now) (sym (take_one names i name within is)) (near_on contents (take i names) name [] now near)
 
 -- the items of all files
 all_items : (size : ℕ) (contents : Option Contents) (manner : Manner) (names : List (List ℕ)) (past : Past) (held : List Held) (a b : Sinks) → (all : AreDone size contents manner names past held a b)
@@ -64,13 +74,14 @@ all_items size contents manner names past held a b all =
 -- all files are read, and what is held then is carried out
 pub all_done : (size : ℕ) (contents : Option Contents) (manner : Manner) (names : List (List ℕ)) (past : Past) (held : List Held) (source now : Source) (a b c : Sinks) → AreDone size contents manner names past held a b
     → ((items : List Item) → AreHeld manner.binding manner.belongs held items → AreCarriedOut items [] b c) → now.openings ≡ min (source.openings + length names) last_count
-    → IsOutcomeBehind status.Done [] contents manner names no_past source now a c
-all_done size contents manner names past held source now a b c all carried opens =
+    → LastEndsNear contents names now → IsOutcomeBehind status.Done [] contents manner names no_past source now a c
+all_done size contents manner names past held source now a b c all carried opens near =
     let h = all.holds in (
       all.items,
       all_items size contents manner names past held a b all,
       subst (λ l. AreCarriedOut l [] a c) (sym h.split) (carried_on h.done h.left [] a b c h.carried (carried h.left h.are_held)),
       opens,
+      near,
     )
 
 -- or as far as the status says
@@ -85,7 +96,7 @@ ends_after s which size contents manner names past held source now a b c all end
 -- a list around its i-th item
 around : (names : List (List ℕ)) (i : ℕ) (name : List ℕ) → i < length names → name ≡ get_or names i name → names ≡ take i names ++ name ∷ drop (i + 1) names
 around names i name within is =
-    let more : take (i + 1) names ≡ take i names ++ name ∷ [] = take_more names i name within ∙ ap (λ n. take i names ++ n ∷ []) (sym is) in
+    let more = take_one names i name within is in
     sym (take-append-drop (i + 1) names) ∙ ap (λ l. l ++ drop (i + 1) names) more ∙ assoc_one (take i names) name (drop (i + 1) names) where
       assoc_one : (xs : List (List ℕ)) (x : List ℕ) (ys : List (List ℕ)) → (xs ++ x ∷ []) ++ ys ≡ xs ++ x ∷ ys
       assoc_one [] x ys = refl
@@ -123,7 +134,7 @@ pub ends_in : (s : Status) (size : ℕ) (contents : Option Contents) (manner : M
 ends_in s size contents manner names i name past held source then now a b c within is front openings faults ends =
     let short : length (take i names) ≡ i = length-take-le i names (omega (arith, within)) in
     let all = outcome_on s size contents manner (take i names) (name ∷ drop (i + 1) names) no_past past [] front.items held source then now a b c front.are front.holds
-    (rw short openings) faults (ends (drop (i + 1) names)) in
+    (rw short openings) faults (near_on contents (take i names) name (drop (i + 1) names) now) (ends (drop (i + 1) names)) in
     subst (λ ns. IsOutcomeBehind s [] contents manner ns no_past source now a c) (sym (around names i name within is)) all
 
 -- and how far it has read

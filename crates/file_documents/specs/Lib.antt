@@ -39,6 +39,8 @@ pub mod Items
 --   ReadsNear: the bytes are read at most 65,536 farther than these pages and what decides what follows them
 --   ReadsFileNear: the same of a file, where its bytes are told
 --   IsStopped: a page is refused
+--   EndsNear: the file is read at most 65,536 bytes farther than its pages and what decides how they end
+--   LastEndsNear: the same of the last of these files
 --   IsOutcomeBehind: what was done of first items, and of those of files
 --   IsOutcome: what was done of the items of files
 pub mod Outcome

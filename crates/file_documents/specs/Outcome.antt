@@ -3,8 +3,7 @@ use Rattle.std.specs.Prelude.{◌≡◌, ℕ, ◌+◌, ◌≤◌, ◌⊎◌, Boo
 use Rattle.std.specs.FinMap.{get}
 use Rattle.pt_core.specs.Counts.{Rose, last_count}
 use Rattle.pt_core.specs.Files.{Contents, Files}
-use Rattle.pt_core.specs.declared.inputs.Inputs.{Ghosts as InputGhosts}
-use Rattle.bitmap_input.specs.Cut.{is_by_end}
+use Rattle.bitmap_input.specs.Cut.{Ending, is_by_end}
 use Rattle.bitmap_input.specs.FaultText.{cause_text}
 use Rattle.bitmap_input.specs.Raw.{Raw}
 use Rattle.bitmap_input.specs.Reading.Cause.{Device}
@@ -19,7 +18,7 @@ use Rattle.page_batches.specs.Items.{Item}
 use Rattle.page_batches.specs.Items.Item.{Stop}
 use Rattle.page_batches.specs.Outcome.{AreCarriedOut, HasEnded}
 use Rattle.run_output.specs.Told.{Sinks, Source}
-use Rattle.file_documents.specs.Items.{AreItems, ArePageItems, IsAbsent, Nothing, PagesAlone, told_contents}
+use Rattle.file_documents.specs.Items.{AreItems, ArePageItems, HoldsPages, IsAbsent, Nothing, PagesAlone, told_contents}
 use Rattle.file_documents.specs.Manner.{Manner, base_by}
 
 -- the file of this name is listed, and there were as many openings as there are files up to it. Which names these
@@ -140,13 +139,29 @@ pub record IsStopped (first : List Item) (contents : Option Contents) (manner : 
   pub all : AreItems contents manner Nothing names past (before ++ Stop message ∷ [])
   pub done : AreCarriedOut (first ++ before) (message ∷ []) old new
 
+-- the file of this name has these pages, and it is the opened one, where that is told: it is read no farther than decides
+-- how its pages end, but for 65,536 bytes
+pub record EndsNear (contents : Option Contents) (name : List ℕ) (source_now : Source) : Type 0 where
+  pub raws : List Raw
+  pub ending : Ending
+  pub rest : List ℕ
+  pub pages : HoldsPages contents name raws ending
+  pub opened : IfSome source_now.files (λ files. files.opened ≡ Some (record { name = name; rest = rest }))
+  pub near : ReadsFileNear contents name raws rest
+
+-- the same of the last of these files, where there is one
+abbrev pub LastEndsNear : Option Contents → List (List ℕ) → Source → Type 0
+LastEndsNear contents [] source_now = Unit {0}
+LastEndsNear contents (name ∷ []) source_now = EndsNear contents name source_now
+LastEndsNear contents (name ∷ next ∷ names) source_now = LastEndsNear contents (next ∷ names) source_now
+
 -- what was done of these first items and those of the files of these names, after what was made before
 abbrev pub IsOutcomeBehind : Status → List Item → Option Contents → Manner → List (List ℕ) → Past → Source → Source → Sinks → Sinks → Type 0
 IsOutcomeBehind status.Unread first contents manner names past source source_now old new =
     IsUnopened first contents manner names past source source_now old new ⊎ IsUnread first contents manner names past source source_now old new
 IsOutcomeBehind status.Done first contents manner names past source source_now old new =
     (items : List Item) × AreItems contents manner Nothing names past items × HasEnded status.Done (first ++ items) old new
-    × (source_now.openings ≡ min (source.openings + length names) last_count)
+    × (source_now.openings ≡ min (source.openings + length names) last_count) × LastEndsNear contents names source_now
 IsOutcomeBehind status.Refused first contents manner names past source source_now old new =
     IsStopped first contents manner names past source source_now old new
 IsOutcomeBehind s first contents manner names past source source_now old new =

@@ -27,7 +27,7 @@ use Rattle.run_output.specs.Told.{Sinks, Source}
 use Rattle.page_batches.specs.declared.desk.Desk.{Desk}
 use Rattle.file_documents.specs.Items.{AreItems, Rest, page_item, told_contents, too_many}
 use Rattle.file_documents.specs.Manner.{Manner, shown_by}
-use Rattle.file_documents.specs.Outcome.{BeginsWith, IsOutcomeBehind, LeavesBehind, ReadsNear, StopsReading, is_later, opened_name}
+use Rattle.file_documents.specs.Outcome.{BeginsWith, EndsNear, IsOutcomeBehind, LeavesBehind, ReadsNear, StopsReading, is_later, opened_name}
 use Rattle.file_documents.specs.OnePass.{IsOnePass}
 use Rattle.file_documents.specs.declared.pages.PagesEnd.{PagesEnd}
 use Rattle.file_documents.specs.declared.pages.PagesEnd.TheVariants as why
@@ -268,12 +268,12 @@ abbrev pub GoesOnAfter : Result Unit Status → PagesEnd → Type 0
 GoesOnAfter (Ok done) end = status_of end ≡ status.Done
 GoesOnAfter (Err s) end = EndsBecause end s
 
--- a file was converted: its items are carried out or held, and its documents are counted; or the run ends there, whatever
--- files come behind it and whichever items are those of what was held; and where a document couldn't be written no more
--- was read than its batch
+-- a file was converted: its items are carried out or held, its documents are counted, and it is read no farther than decides
+-- how its pages end; or the run ends there, whatever files come behind it and whichever items are those of what was held;
+-- and where a document couldn't be written no more was read than its batch
 abbrev pub EndsFile : Result Unit Status → ℕ → Manner → List ℕ → Past → Past → List Held → List Held → Source → Source → Sinks → Sinks → Type 0
 EndsFile (Ok done) size manner name past past_now held held_now source source_now old new =
-    ConvertsFile size (told_contents source.files) manner name past past_now held held_now old new
+    ConvertsFile size (told_contents source.files) manner name past past_now held held_now old new × EndsNear (told_contents source.files) name source_now
 EndsFile (Err s) size manner name past past_now held held_now source source_now old new =
     (names : List (List ℕ)) (first : List Item) → AreHeld manner.binding manner.belongs held first
     → IsOutcomeBehind s first (told_contents source.files) manner (name ∷ names) past source source_now old new

@@ -21,7 +21,7 @@ use Rattle.page_batches.specs.Outcome.{AreCarriedOut, HasEnded}
 use Rattle.run_output.specs.Told.{Sinks, Source}
 use Rattle.file_documents.specs.Items.{AreItems, AreWhole, IsAbsent, Nothing, told_contents}
 use Rattle.file_documents.specs.Manner.{HasTexts, Manner}
-use Rattle.file_documents.specs.Outcome.{IsOutcome}
+use Rattle.file_documents.specs.Outcome.{IsOutcome, LastEndsNear}
 use Rattle.file_documents.proofs.Closing.{AreWhole-front, alone_end, carried_closed, items_end, nothing_ends}
 use Rattle.file_documents.proofs.Exists.{items_found}
 use Rattle.file_documents.proofs.Joining.{items_behind}
@@ -84,7 +84,7 @@ Completes contents manner names s read read_now written written_now =
 pub files_complete : (s : Status) (manner : Manner) → HasTexts manner → (names : List (List ℕ)) (source now : Source) (a b : Sinks)
     → IsOutcome s manner names source now a b
     → Completes (told_contents source.files) manner names s source.faults now.faults a.outs.faults b.outs.faults
-files_complete status.Done manner can names source now a b (items, are, done, opens) =
+files_complete status.Done manner can names source now a b (items, are, done, opens, near) =
     (items, are, λ _ _. record { all = λ _. inl refl; refusal = λ r. absurd (never_refused items done.goes_on r); missing = λ m. absurd (never_missing items done.goes_on m) })
 files_complete status.BadWords manner can names source now a b (items, are, ended) = absurd ended
 files_complete status.Refused manner can names source now a b r =
@@ -155,6 +155,14 @@ run_unread (asks.Demo pages workers settings) s source now a b ran is =
 run_unread (asks.Files names output workers settings) s source now a b ran is =
     unread_cause (manner_under settings output) names source now a b (subst (λ t. IsOutcome t (manner_under settings output) names source now a b) is ran.outcome)
 
+-- where all is done, how far the last file is read
+pub run_near : (ask : Ask) (s : Status) (source now : Source) (a b : Sinks) → IsRun ask s source now a b → s ≡ status.Done → LastEndsNear (told_contents source.files) (names_of ask) now
+run_near asks.Help s source now a b ran is = tt
+run_near asks.Version s source now a b ran is = tt
+run_near (asks.Demo pages workers settings) s source now a b ran is = tt
+run_near (asks.Files names output workers settings) s source now a b ran is =
+    let (items, are, done, opens, near) = subst (λ t. IsOutcome t (manner_under settings output) names source now a b) is ran.outcome in near
+
 -- where the first file isn't there
 only_missing : (contents : Option Contents) (manner : Manner) (name : List ℕ) (names : List (List ℕ)) (items : List Item) → IsAbsent contents name
     → AreItems contents manner Nothing (name ∷ names) no_past items → items ≡ Missing name ∷ []
@@ -175,7 +183,7 @@ not_document name (item ∷ other ∷ before) part after e = cc
 
 first_absent : (s : Status) (manner : Manner) (name : List ℕ) (names : List (List ℕ)) (source now : Source) (a b : Sinks) → IsAbsent (told_contents source.files) name
     → IsOutcome s manner (name ∷ names) source now a b → (s ≡ status.Unread) ⊎ (s ≡ status.OutOfMemory)
-first_absent status.Done manner name names source now a b absent (items, are, done, opens) =
+first_absent status.Done manner name names source now a b absent (items, are, done, opens, near) =
     absurd (subst GoesOn (only_missing (told_contents source.files) manner name names items absent are) done.goes_on)
 first_absent status.BadWords manner name names source now a b absent (items, are, ended) = absurd ended
 first_absent status.Refused manner name names source now a b absent r =
@@ -229,7 +237,7 @@ files_move s manner names source now a b closed outcome = by_status s outcome wh
   whole items are apart = items_end told manner apart Nothing nothing_ends names no_past items are
 
   by_status : (s : Status) → IsOutcome s manner names source now a b → OutputsMove (manner.binding ≡ Apart) s a b
-  by_status status.Done (items, are, done, opens) = carried_moves (manner.binding ≡ Apart) items [] a b (whole items are) closed done
+  by_status status.Done (items, are, done, opens, near) = carried_moves (manner.binding ≡ Apart) items [] a b (whole items are) closed done
   by_status status.BadWords (items, are, ended) = absurd ended
   by_status status.Refused r =
       carried_moves (manner.binding ≡ Apart) r.before (r.message ∷ []) a b (λ apart. AreWhole-front r.before (Stop r.message ∷ []) (whole (r.before ++ Stop r.message ∷ []) r.all apart)) closed r.done

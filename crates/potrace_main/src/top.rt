@@ -12,7 +12,7 @@ ghost use Rattle.page_batches.specs.Items.{Doc, Item};
 ghost use Rattle.page_batches.specs.Outcome.{HasEnded};
 ghost use Rattle.run_output.specs.Told.{sinks_of, source_of};
 ghost use Rattle.file_documents.specs.Items.{IsAbsent, told_contents};
-ghost use Rattle.file_documents.specs.Outcome.{OpensFirst};
+ghost use Rattle.file_documents.specs.Outcome.{LastEndsNear, OpensFirst};
 ghost use Rattle.file_documents.specs.Progress.{InputCount};
 ghost use Rattle.potrace_main.specs.Run.{AreItemsOf, BindsApart, FailureCount, IsCodeOf, IsComplete, IsMissing, IsOnePassOf, IsOutcomeOf, IsRun, IsRunBy, RefusesWords, names_of};
 
@@ -75,6 +75,11 @@ pub fn run<R: Threads + Sync, I: Inputs, O: Outputs, E: Sink, G: Gate + Sync>(
     // that is told.
     ensures opened { (ask : Ask) → IsAsked (map string_bytes words.now) ask → OpensFirst (names_of ask)
         (source_of I.Inputs inputs.old) (source_of I.Inputs inputs.new) }
+
+    // Where all is done, the last file is read no farther than decides how its pages end, but for 65,536 bytes.
+    ensures near { (ask : Ask) → IsAsked (map string_bytes words.now) ask → result ≡ code_of Status.Done
+        → LastEndsNear (told_contents (I.files inputs.old)) (names_of ask)
+        (source_of I.Inputs inputs.new) }
 
     // Where a document couldn't be written, no more was read than its batch.
     ensures one_pass { (ask : Ask) → IsAsked (map string_bytes words.now) ask

@@ -10,7 +10,7 @@ use Rattle.file_documents.specs.Progress.{InputCount}
 use Rattle.file_documents.specs.Tasks.{manner_of}
 use Rattle.file_documents.proofs.Counting.{faults_from, input_by, rose_by}
 use Rattle.file_documents.proofs.Differing.{ok_not_err, out_not_unwritten}
-use Rattle.file_documents.proofs.Ending.{ends_at_once, ends_behind, file_ends, file_halted, input_count, input_of_halt, input_unopened, unopened_by, unopened_ends}
+use Rattle.file_documents.proofs.Ending.{ends_at_once, ends_behind, file_ends, file_halted, file_near, input_count, input_of_halt, input_unopened, unopened_by, unopened_ends}
 use Rattle.file_documents.proofs.Filing.{file_goes_on, halts_named, halts_unwritten, has_bytes, converted_named}
 use Rattle.file_documents.proofs.Finishing.{end_named}
 use Rattle.file_documents.proofs.Passing.{pass_ended, pass_halted, pass_unopened}
@@ -141,13 +141,17 @@ returns-in-Ok-add-clause-converted g c =
     let size : ℕ = 2 * c.args.task.now.plan.workers in
     let base : List ℕ = base_by manner c.args.name.now in
     let now = g.I.Inputs.files c.convert_pages.new.inputs in
-    let converted = converted_named size manner c.deref.result.now base c.args.made.now start now c.args.batch.now c.convert_pages.new.batch before mid c.in-Ok-convert_pages.converted.pages c.in-Ok-convert_pages.converted.end (c.deref.ensures ∙ c.in-Ok-base_name.ensures) c.in-Ok-convert_pages.ensures.converted in
-    rw (c.in-Ok-add.ensures.added, c.documents_in.ensures.value, c.in-Ok-base_name.ensures)
-    (file_goes_on (told_contents told) manner c.args.name.now c.args.made.now size start now c.in-Ok-convert_pages.converted.pages
-    c.args.batch.now c.convert_pages.new.batch before mid (has_bytes told start c.args.name.now c.in-Ok.ensures.file there) c.in-Ok-convert_pages.converted.end converted c.finish.new.batch after
-    (end_named size manner c.args.name.now c.deref-2.result.now base c.args.made.now c.in-Ok-convert_pages.converted.end c.in-Ok-convert_pages.converted.pages c.convert_pages.new.batch c.finish.new.batch
-    mid after (c.deref-2.ensures ∙ c.in-Ok-base_name.ensures) (λ left are. c.in-Ok-finish.ensures.ended left are))
-    c.in-Ok-finish.ensures.because)
+    let converted = converted_named size manner c.deref.result.now base c.args.made.now start now c.args.batch.now c.convert_pages.new.batch before mid c.in-Ok-convert_pages.converted.pages c.in-Ok-convert_pages.converted.end (c.deref.ensures ∙ c.in-Ok-base_name.ensures) c.in-Ok-convert_pages.ensures.converted in (
+      rw (c.in-Ok-add.ensures.added, c.documents_in.ensures.value, c.in-Ok-base_name.ensures)
+          (file_goes_on (told_contents told) manner c.args.name.now c.args.made.now size start now c.in-Ok-convert_pages.converted.pages
+          c.args.batch.now c.convert_pages.new.batch before mid (has_bytes told start c.args.name.now c.in-Ok.ensures.file there) c.in-Ok-convert_pages.converted.end converted c.finish.new.batch after
+          (end_named size manner c.args.name.now c.deref-2.result.now base c.args.made.now c.in-Ok-convert_pages.converted.end c.in-Ok-convert_pages.converted.pages c.convert_pages.new.batch c.finish.new.batch
+          mid after (c.deref-2.ensures ∙ c.in-Ok-base_name.ensures) (λ left are. c.in-Ok-finish.ensures.ended left are))
+          c.in-Ok-finish.ensures.because),
+      file_near size manner c.requires.texts c.args.name.now c.args.made.now start c.in-Ok-convert_pages.converted.pages c.args.batch.now c.convert_pages.new.batch (source_of g.I.Inputs c.args.inputs.now) (source_of g.I.Inputs c.convert_pages.new.inputs) before mid after
+          c.in-Ok.ensures.file there (c.convert_pages.ensures.stays.openings ∙ c.in-Ok.ensures.one_more) c.convert_pages.ensures.stays.contents c.convert_pages.ensures.stays.name
+          c.in-Ok-convert_pages.converted.end converted c.in-Ok-finish.ensures.because,
+    )
 
 pub returns-in-Ok-add-clause-asked : goal.returns-in-Ok-add-clause-asked
 returns-in-Ok-add-clause-asked g c = record {

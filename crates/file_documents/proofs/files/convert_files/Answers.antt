@@ -10,7 +10,7 @@ use Rattle.file_documents.specs.Tasks.{manner_of}
 use Rattle.file_documents.proofs.Counting.{input_from}
 use Rattle.file_documents.proofs.Differing.{done_not_unwritten, out_not_unwritten}
 use Rattle.file_documents.proofs.Ending.{ends_at_once, halts_in, input_of_halt}
-use Rattle.file_documents.proofs.Running.{all_done, ends_after, ends_in, none_begun, none_done, one_done, openings_more, opens_to, passes_after, passes_in}
+use Rattle.file_documents.proofs.Running.{all_done, ends_after, ends_in, none_begun, none_done, one_done, one_near, openings_more, opens_to, passes_after, passes_in}
 use Rattle.file_documents.proofs.files.convert_files.Goals as goal
 
 -- no file is done yet
@@ -21,6 +21,7 @@ loop-name-init g c = record {
   going = record { waits = rw c.new-batch.ensures (record { few = some_room c.args.task.now.plan.workers c.args.task.now.plan.some_worker; turn = tt; next = c.requires.closed ∙ sym (none_begun c.args.task.now.plan.binding) }); ready = c.requires.ready };
   openings = (let most = g.met.I.Inputs.openings_counted c.args.inputs.now in omega (arith, most));
   opened = inl (refl, refl);
+  near = tt;
   contents = refl;
   input = refl;
   keeps = record { outs = refl; errs = refl; ready = c.requires.ready; never_falls = same_count (g.O.Sink.faults c.args.desk.now.outs.now) };
@@ -33,12 +34,13 @@ loop-name-preserved g c =
     let asked = rw c.as_str.ensures at c.convert_file-converted.ensures.asked in
     record {
       done = one_done (2 * c.args.task.now.plan.workers) (told_contents (g.I.Inputs.files c.args.inputs.now)) (manner_of g.J.PageJob c.args.task.now) c.args.names.now c.loop-name.name-index c.name-item.result c.loop-name.made c.convert_file-converted.new.made c.loop-name.batch c.convert_file-converted.new.batch
-          (sinks_at g.O.Sink g.E.Sink c.args.desk.now) (sinks_at g.O.Sink g.E.Sink c.loop-name.desk) (sinks_at g.O.Sink g.E.Sink c.convert_file-converted.new.desk) c.loop-name-test.true c.name-item.is c.loop-name.invariant.done file;
+          (sinks_at g.O.Sink g.E.Sink c.args.desk.now) (sinks_at g.O.Sink g.E.Sink c.loop-name.desk) (sinks_at g.O.Sink g.E.Sink c.convert_file-converted.new.desk) c.loop-name-test.true c.name-item.is c.loop-name.invariant.done file.0;
       within = omega (arith, c.loop-name-test.true);
       going = c.in-Ok-converted.ensures.going;
       openings = openings_more (g.I.Inputs.openings c.args.inputs.now) c.loop-name.name-index (g.I.Inputs.openings c.loop-name.inputs) (g.I.Inputs.openings c.convert_file-converted.new.inputs) c.loop-name.invariant.openings asked.one_more;
       opened = opens_to c.args.names.now c.loop-name.name-index c.name-item.result
           (source_of g.I.Inputs c.args.inputs.now) (source_of g.I.Inputs c.loop-name.inputs) (source_of g.I.Inputs c.convert_file-converted.new.inputs) c.loop-name-test.true c.name-item.is c.loop-name.invariant.openings asked.one_more asked.named;
+      near = one_near (told_contents (g.I.Inputs.files c.args.inputs.now)) c.args.names.now c.loop-name.name-index c.name-item.result (source_of g.I.Inputs c.convert_file-converted.new.inputs) c.loop-name-test.true c.name-item.is file.1;
       contents = asked.contents ∙ c.loop-name.invariant.contents;
       input = c.in-Ok-converted.ensures.input ∙ c.loop-name.invariant.input;
       keeps = keeps_on g.O.Sink g.E.Sink c.args.desk.now c.loop-name.desk c.convert_file-converted.new.desk c.loop-name.invariant.keeps c.convert_file-converted.ensures.keeps;
@@ -80,7 +82,8 @@ returns-in-Ok-carry_out g c =
     let all : c.loop-name.name-index ≡ length c.args.names.now = omega (arith, c.loop-name.invariant.within, c.loop-name-test.false) in
     record {
       outcome = all_done (2 * c.args.task.now.plan.workers) (told_contents (g.I.Inputs.files c.args.inputs.now)) (manner_of g.J.PageJob c.args.task.now) c.args.names.now c.loop-name.made c.loop-name.batch (source_of g.I.Inputs c.args.inputs.now) (source_of g.I.Inputs c.loop-name.inputs) (sinks_at g.O.Sink g.E.Sink c.args.desk.now) (sinks_at g.O.Sink g.E.Sink c.loop-name.desk) (sinks_at g.O.Sink g.E.Sink c.carry_out.new.desk)
-          (rw (take_all c.loop-name.name-index c.args.names.now c.loop-name-test.false) at c.loop-name.invariant.done) c.in-Ok-carry_out.ensures.ended (rw all at c.loop-name.invariant.openings);
+          (rw (take_all c.loop-name.name-index c.args.names.now c.loop-name-test.false) at c.loop-name.invariant.done) c.in-Ok-carry_out.ensures.ended (rw all at c.loop-name.invariant.openings)
+          (rw (take_all c.loop-name.name-index c.args.names.now c.loop-name-test.false) at c.loop-name.invariant.near);
       opened = c.loop-name.invariant.opened;
       one_pass = λ is. absurd (done_not_unwritten is);
       input = c.loop-name.invariant.input;

@@ -2,7 +2,7 @@ use Rattle.std.proofs.Common.{◌≡◌, ◌≤◌, ◌+◌, ◌*◌, length, mi
 use Rattle.pt_core.specs.Counts.{last_count}
 use Rattle.page_batches.specs.Desks.{Keeps, sinks_at}
 use Rattle.file_documents.specs.Items.{told_contents}
-use Rattle.file_documents.specs.Outcome.{OpensFirst}
+use Rattle.file_documents.specs.Outcome.{LastEndsNear, OpensFirst}
 use Rattle.run_output.specs.Told.{source_of}
 use Rattle.file_documents.specs.Progress.{CanHold}
 use Rattle.file_documents.specs.Tasks.{manner_of}
@@ -22,6 +22,7 @@ invariant-loop-name g l =
       going : CanHold outs errs l.task.plan.binding (2 * l.task.plan.workers) 0 l.desk l.batch;
       openings : inputs.openings l.inputs ≡ min (inputs.openings l.fn.inputs + l.name-index) last_count;
       opened : OpensFirst l.names (source_of inputs l.fn.inputs) (source_of inputs l.inputs);
+      near : LastEndsNear (told_contents (inputs.files l.fn.inputs)) (take l.name-index l.names) (source_of inputs l.inputs);
       contents : told_contents (inputs.files l.inputs) ≡ told_contents (inputs.files l.fn.inputs);
       input : inputs.faults l.inputs ≡ inputs.faults l.fn.inputs;
       keeps : Keeps outs errs l.fn.desk l.desk;

@@ -2,7 +2,7 @@ use Rattle.std.proofs.Common.{◌∙◌, ap, inl, inr, map, sym}
 use Rattle.std.specs.Prelude.{string_bytes}
 use Rattle.run_output.specs.Status.{code_of}
 use Rattle.command_asks.proofs.Possible.{possible}
-use Rattle.potrace_main.proofs.Completing.{closed_else, code_one, failed_by, rose_by, run_absent, run_complete, run_unread, unwritten_by}
+use Rattle.potrace_main.proofs.Completing.{closed_else, code_one, failed_by, rose_by, run_absent, run_complete, run_near, run_unread, unwritten_by}
 use Rattle.potrace_main.proofs.top.run.Goals as goal
 
 pub returns-clause-outcome : goal.returns-clause-outcome
@@ -24,6 +24,9 @@ returns-clause-refused g c = λ none. let (same, refuses) = c.answer.ensures.ref
 
 pub returns-clause-opened : goal.returns-clause-opened
 returns-clause-opened g c = λ ask asked. (c.answer.ensures.ran ask asked).opened
+
+pub returns-clause-near : goal.returns-clause-near
+returns-clause-near g c = λ ask asked is. run_near ask c.answer.result _ _ _ _ (c.answer.ensures.ran ask asked) (code_one c.answer.result _ (sym c.code.ensures ∙ is))
 
 pub returns-clause-one_pass : goal.returns-clause-one_pass
 returns-clause-one_pass g c = λ ask asked is. (c.answer.ensures.ran ask asked).one_pass (code_one c.answer.result _ (sym c.code.ensures ∙ is))
