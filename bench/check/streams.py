@@ -1,11 +1,10 @@
 #!/usr/bin/env python3
 """Runs the built program with words that aren't text, and with no standard error.
 
-usage: check_streams PROGRAM
+usage: streams.py PROGRAM
 
-A stored run has words of text and open streams, and so has a test of a crate. .ci/run calls this behind `rt ci`, with the
-program that it has built. It says what came where that is wrong, and else nothing; the status is 1 where a case is wrong.
-It needs python3 alone.
+A stored run has words of text and open streams, and so has a test of a crate. It says what came where that is wrong, and
+else nothing; the status is 1 where a case is wrong. It needs python3 alone.
 """
 import os
 import shutil
@@ -58,7 +57,7 @@ def main():
         found = came(program, words, has_errors)
         if found != tuple(wanted):
             wrong += 1
-            print(f"check_streams: {words}{'' if has_errors else ' with no standard error'}: {found}, not {wanted}", file=sys.stderr)
+            print(f"streams: {words}{'' if has_errors else ' with no standard error'}: {found}, not {wanted}", file=sys.stderr)
     sys.exit(wrong > 0)
 
 
