@@ -79,6 +79,7 @@ pub mod OnePass
 --   end_message: what is said where the run ends with the pages of a file
 --   EndsWithFile: the run ends with the pages of a file
 --   RunsOut: memory ran out before any items were carried out
+--   EndsHeld: how a call ended that was to hold items behind those of what was held
 --   EndsWith: nothing follows, and this was made so far
 --   ConvertsFile: the items of a file are carried out or held
 --   EndsWithPages: the end of a file's pages is held, or the run ends there

@@ -239,6 +239,14 @@ EndsWithFile name end k s items old new =
 abbrev pub RunsOut : Status → Sinks → Sinks → Type 0
 RunsOut s old new = (s ≡ status.OutOfMemory) × ((items : List Item) → HasEnded status.OutOfMemory items old new)
 
+-- how a call ended that was to hold these items behind those of what was held, whichever those are: they are carried out
+-- or held; or memory ran out
+abbrev pub EndsHeld : Result Unit Status → Manner → ℕ → List Item → List Held → List Held → Sinks → Sinks → Type 0
+EndsHeld (Ok done) manner size more held held_now old new =
+    (first : List Item) → AreHeld manner.binding manner.belongs held first
+    → Holds manner.binding size manner.belongs (first ++ more) held_now old new
+EndsHeld (Err s) manner size more held held_now old new = RunsOut s old new
+
 -- nothing follows, and this was made so far
 abbrev pub EndsWith : Past → Rest
 EndsWith past past_now items = (past_now ≡ past) × (items ≡ [])

@@ -1,14 +1,14 @@
 //! A whole file: opened, its pages read and held by batches, and how it ended said.
-ghost use Rattle.std.specs.Prelude.{◌≡◌, ◌*◌, ◌⊎◌, ◌++◌, List, IfErr, OnOk, option_map};
+ghost use Rattle.std.specs.Prelude.{◌≡◌, ◌*◌, ◌⊎◌, ◌++◌, List, OnOk, option_map};
 ghost use Rattle.run_output.specs.Names.{next_name};
 ghost use Rattle.run_output.specs.declared.status.Status.{Status};
 ghost use Rattle.page_batches.specs.Desks.{Keeps, sinks_at};
-ghost use Rattle.page_batches.specs.Held.{AreHeld, Holds, end_held, end_notes};
+ghost use Rattle.page_batches.specs.Held.{AreHeld, end_held, end_notes};
 ghost use Rattle.page_batches.specs.Items.{Item, end_items};
 ghost use Rattle.page_batches.specs.Outcome.{IsHalt, ended_with};
 ghost use Rattle.file_documents.specs.Manner.{HasTexts};
 ghost use Rattle.run_output.specs.Told.{source_of};
-ghost use Rattle.file_documents.specs.Progress.{AsksFor, CanHold, EndsFile, EndsWithPages, GoesOnAfter, InputCount, RunsOut, status_of};
+ghost use Rattle.file_documents.specs.Progress.{AsksFor, CanHold, EndsFile, EndsHeld, EndsWithPages, GoesOnAfter, InputCount, status_of};
 ghost use Rattle.file_documents.specs.declared.pages.PagesEnd.{PagesEnd};
 ghost use Rattle.file_documents.specs.Tasks.{manner_of};
 ghost use Rattle.file_documents.specs.Unopened.{EndsUnopened};
@@ -163,16 +163,12 @@ fn hold_end<R: Threads + Sync, J: PageJob + Sync, G: Gate + Sync, O: Outputs, E:
 ) -> Result<(), Status>
     requires going { CanHold O.Sink E.Sink task.now.plan.binding (2 * task.now.plan.workers) pages
         desk.old batch.old }
-    ensures held { OnOk result ((first : List Item)
-        → AreHeld task.now.plan.binding (J.belongs task.now.plan.job.now) batch.old first
-        → Holds task.now.plan.binding (2 * task.now.plan.workers) (J.belongs task.now.plan.job.now)
-        (first ++ end_items task.now.plan.binding (next_name base.now made.now.made) pages
-        (end_notes (option_map (λ s. s.now) trailing.entry) pages)) batch.new
-        (sinks_at O.Sink E.Sink desk.old) (sinks_at O.Sink E.Sink desk.new)) }
+    ensures held { EndsHeld result (manner_of J.PageJob task.now) (2 * task.now.plan.workers)
+        (end_items task.now.plan.binding (next_name base.now made.now.made) pages
+        (end_notes (option_map (λ s. s.now) trailing.entry) pages)) batch.old batch.new
+        (sinks_at O.Sink E.Sink desk.old) (sinks_at O.Sink E.Sink desk.new) }
     ensures going { OnOk result (CanHold O.Sink E.Sink task.now.plan.binding (2 * task.now.plan.workers) 0
         desk.new batch.new) }
-    ensures out { IfErr result (λ status. RunsOut status
-        (sinks_at O.Sink E.Sink desk.old) (sinks_at O.Sink E.Sink desk.new)) }
     ensures keeps { Keeps O.Sink E.Sink desk.old desk.new }
 {
     match push_end(

@@ -18,3 +18,4 @@ mod say;
 mod work;
 
 pub use program::mk_run;
+pub use say::{BAD_WORDS, NAME};

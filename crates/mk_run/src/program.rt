@@ -8,7 +8,7 @@ ghost use Rattle.small_program.specs.Outcome.{PutsText};
 ghost use Rattle.small_program.specs.declared.ending.Ending.TheVariants as ending;
 
 use crate::page::filter_input;
-use crate::say::{NAME, say_not_written, say_out_of_memory};
+use crate::say::{BAD_WORDS, NAME, say_not_written, say_out_of_memory};
 use filter_words::{AskFault, FilterAsk, filter_ask_of};
 use pt_core::{Inputs, Outputs, Sink};
 use run_output::{say_line, write_document};
@@ -58,7 +58,7 @@ fn run<I: Inputs, O: Outputs, E: Sink>(
         Ok(FilterAsk::Help) => put_usage(outs, errs),
         Ok(FilterAsk::Page(setup)) => filter_input(alloc, setup, inputs, outs, errs),
         Err(AskFault::Bad) => {
-            say_line(errs, NAME, "bad arguments, see mkbitmap -h");
+            say_line(errs, NAME, BAD_WORDS);
             Ending::BadWords
         }
         Err(AskFault::NoMemory) => say_out_of_memory(errs),

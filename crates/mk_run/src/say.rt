@@ -14,7 +14,10 @@ use run_output::{say_line, say_of_file, say_of_file_page};
 use small_program::Ending;
 
 /// The program's name, as it stands in front of what it says.
-pub(crate) const NAME: &str = "mkbitmap";
+pub const NAME: &str = "mkbitmap";
+
+/// What it says where the words aren't its own.
+pub const BAD_WORDS: &str = "bad arguments, see mkbitmap -h";
 
 /// Says why a part of the page isn't there.
 pub(crate) fn say_fault<E: Sink>(errs: &mut E, fault: InFault) -> Ending

@@ -1,16 +1,16 @@
 //! mkbitmap: makes a gray page sharper and larger, as a bitmap. All that it does is one call, `mk_run` of `mk_run`.
 #![tactic(auto)]
 
-use mk_run::mk_run;
+use mk_run::{BAD_WORDS, NAME, mk_run};
 use pt_base::{ErrSink, FileInputs, FileOutputs};
-use small_program::words_of;
+use run_output::words_of;
 use std::process::ExitCode;
 
 fn main(rt: HostRuntime) -> ExitCode {
     let mut errs = ErrSink::new(rt.stderr());
-    let words = match words_of(&rt, "mkbitmap", &mut errs) {
+    let words = match words_of(&rt, NAME, BAD_WORDS, &mut errs) {
         Ok(words) => words,
-        Err(end) => return ExitCode::from(end.code()),
+        Err(status) => return ExitCode::from(status.code()),
     };
     let mut inputs = FileInputs::new(&rt);
     let mut outs = FileOutputs::new(&rt);

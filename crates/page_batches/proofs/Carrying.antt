@@ -1,5 +1,5 @@
 -- Items carried out one after another.
-use Rattle.std.proofs.Common.{◌≡◌, not, Bool, true, ℕ, List, [], ◌∷◌, ◌++◌, Option, inl, inr, refl, sym, ◌∙◌, ap, subst, append_assoc}
+use Rattle.std.proofs.Common.{◌≡◌, not, Bool, true, ℕ, List, [], ◌∷◌, ◌++◌, Option, Result, Ok, Err, IsErr, inl, inr, refl, sym, ◌∙◌, ap, subst, append_assoc}
 use Rattle.std.proofs.lemmas.List.{append-nil}
 use Rattle.pt_core.specs.Counts.{Rose, next_count}
 use Rattle.pt_core.specs.Documents.{Documents}
@@ -10,7 +10,7 @@ use Rattle.run_output.specs.declared.status.Status.{Status}
 use Rattle.run_output.specs.declared.status.Status.TheVariants as status
 use Rattle.page_batches.specs.Items.{GoesOn, Item, is_open_behind, notes, with_items}
 use Rattle.page_batches.specs.Items.Item.{Missing, Note, Stop, Write}
-use Rattle.page_batches.specs.Outcome.{AreCarriedOut, AreSaid, HasEnded, IsHalt, IsUnwritten}
+use Rattle.page_batches.specs.Outcome.{AreCarriedOut, AreSaid, EndsWriting, HasEnded, IsHalt, IsUnwritten}
 use Rattle.run_output.specs.Told.{IsMessage, Sinks, Told}
 
 pub GoesOn-append : (items more : List Item) → GoesOn items → GoesOn more → GoesOn (items ++ more)
@@ -145,6 +145,11 @@ ended_on status.OutOfMemory items more a b c done next = record {
 }
 ended_on status.BadWords items more a b c done next = next
 ended_on status.Unread items more a b c done next = next
+
+-- so a call ended that was to write these items
+pub cut_off_at : {E : Type 0} (r : Result Unit E) (items : List Item) (a b : Sinks) → IsErr r → IsUnwritten items a b → EndsWriting r items a b
+cut_off_at (Ok done) items a b is cut = cc
+cut_off_at (Err fault) items a b is cut = cut
 
 -- one message was said
 pub one_said : (message : List ℕ) (old new : Told) → IsMessage message old new → AreSaid old new (message ∷ [])

@@ -7,13 +7,18 @@ use Rattle.run_output.specs.declared.part.Binding.{Binding}
 use Rattle.run_output.specs.declared.part.Binding.TheVariants.{Apart, Together}
 use Rattle.run_output.specs.declared.status.Status.{Status}
 use Rattle.run_output.specs.declared.status.Status.TheVariants as status
-use Rattle.page_batches.specs.Held.{AreHeld, AreInTurn, Held, Holds, EndsHolding, LeavesBatch, Waits, end_held, is_open_held, pages_held}
+use Rattle.page_batches.specs.Held.{AreHeld, AreInTurn, Held, Holds, HoldsMore, EndsHolding, LeavesBatch, Waits, end_held, is_open_held, pages_held}
 use Rattle.page_batches.specs.Held.Held.{End, Message, Page}
 use Rattle.page_batches.specs.Items.{GoesOn, Item, end_items, page_count, pages_in}
 use Rattle.page_batches.specs.Items.Item.{Missing, Note, Stop, Write}
 use Rattle.page_batches.specs.Outcome.{AreCarriedOut, HasEnded, IsHalt, ended_with}
 use Rattle.run_output.specs.Told.{Sinks}
 use Rattle.page_batches.proofs.Carrying.{GoesOn-append, carried_on, ended_on, nothing_done}
+
+-- more is held where the call went well
+pub more_is_held : {E : Type 0} (r : Result Unit E) (more old now : List Held) → HoldsMore r more old now → OnOk r (now ≡ old ++ more)
+more_is_held (Ok done) more old now is = is
+more_is_held (Err failed) more old now is = tt
 
 -- which text belongs to a page
 abbrev pub Belongs : Type 1

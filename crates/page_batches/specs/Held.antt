@@ -31,6 +31,11 @@ abbrev pub end_notes : Option (List ℕ) → ℕ → List (List ℕ)
 end_notes None pages = []
 end_notes (Some file) pages = trailing_line file pages ∷ []
 
+-- how a call ended that was to hold more: that is held behind the rest; or memory ran out, and nothing changed
+abbrev pub HoldsMore : {E : Type 0} → Result Unit E → List Held → List Held → List Held → Type 0
+HoldsMore (Ok done) more old new = new ≡ old ++ more
+HoldsMore (Err failed) more old new = new ≡ old
+
 -- how many pages are held
 abbrev pub pages_held : List Held → ℕ
 pages_held [] = 0

@@ -17,6 +17,8 @@ pub mod Items
 --   IsUnwritten: a part is cut off
 --   IsOutOfMemory: some first items are carried out, and then memory ran out
 --   HasEnded: the items are carried out as far as the status says
+--   EndsWriting: how a call ended that was to write items
+--   EndsDocument: how a call ended that was to end a document
 --   ended_with: how a call ended that answers how the run ends, where it does
 --   IsHalt: the run ends within items
 pub mod Outcome
@@ -24,6 +26,7 @@ pub mod Outcome
 --   Held: one thing that is held
 --   end_held: what is held of the end of a file
 --   end_notes: what is said at the end of a file
+--   HoldsMore: how a call ended that was to hold more
 --   pages_held: how many pages are held
 --   AreInTurn: what is held begins a document exactly where none is open
 --   is_open_held: whether a document is open behind what is held

@@ -1,15 +1,15 @@
 //! What was read and isn't carried out yet.
-ghost use Rattle.std.specs.Prelude.{◌≡◌, ◌+◌, ◌*◌, ◌≤◌, ◌<◌, ◌++◌, ◌∷◌, ◌^◌, ℕ, suc, List, [], length, true, IfErr, OnErr, OnOk, option_map, string_bytes};
+ghost use Rattle.std.specs.Prelude.{◌≡◌, ◌+◌, ◌*◌, ◌≤◌, ◌<◌, ◌++◌, ◌∷◌, ◌^◌, ℕ, suc, List, [], length, true, IfErr, OnOk, option_map, string_bytes};
 ghost use Rattle.run_output.specs.Messages.{trailing_line};
 ghost use Rattle.run_output.specs.Parts.{page_part};
 ghost use Rattle.run_output.specs.declared.status.Status.{Status};
 ghost use Rattle.page_batches.specs.Desks.{Keeps, sinks_at};
 ghost use Rattle.page_batches.specs.Entries.{AreInOrder, items_by, pages_among};
-ghost use Rattle.page_batches.specs.Held.{AreHeld, AreInTurn, EndsHolding, LeavesBatch, Waits, end_held, end_notes, pages_held};
+ghost use Rattle.page_batches.specs.Held.{AreHeld, AreInTurn, EndsHolding, HoldsMore, LeavesBatch, Waits, end_held, end_notes, pages_held};
 ghost use Rattle.page_batches.specs.Held.Held.{End, Message, Page};
 ghost use Rattle.page_batches.specs.Items.{Item};
 ghost use Rattle.page_batches.specs.Items.Item.{Write};
-ghost use Rattle.page_batches.specs.Outcome.{AreCarriedOut, HasEnded, IsHalt, IsUnwritten, ended_with};
+ghost use Rattle.page_batches.specs.Outcome.{EndsWriting, HasEnded, IsHalt, ended_with};
 
 use crate::desk::Desk;
 use crate::laws::held_items_are_one;
@@ -88,8 +88,7 @@ impl Batch {
 
     /// Holds a page, behind so many of its file, which is a part of the document of this name.
     fn push(&mut self, name: String, before: u32, page: Bitmap) -> Result<(), NoMemory>
-        ensures held { OnOk result (self.new ≡ self.old ++ Page (string_bytes name) before page ∷ []) }
-        ensures same { OnErr result (self.new ≡ self.old) }
+        ensures { HoldsMore result (Page (string_bytes name) before page ∷ []) self.old self.new }
     {
         self.pages.push(page)?;
         match self.entries.push(Entry::Page { name, before }) {
@@ -103,8 +102,7 @@ impl Batch {
 
     /// Holds the end of the document of this name, which has so many pages.
     fn push_end(&mut self, name: String, pages: u32) -> Result<(), NoMemory>
-        ensures held { OnOk result (self.new ≡ self.old ++ End (string_bytes name) pages [] ∷ []) }
-        ensures same { OnErr result (self.new ≡ self.old) }
+        ensures { HoldsMore result (End (string_bytes name) pages [] ∷ []) self.old self.new }
     {
         self.entries.push(Entry::End { name, pages })?;
         Ok(())
@@ -113,9 +111,8 @@ impl Batch {
     /// Holds the end of the document of this name, and behind it the message that bytes which begin no page
     /// follow those of this file.
     fn push_end_trailing(&mut self, name: String, file: String, pages: u32) -> Result<(), NoMemory>
-        ensures held { OnOk result (self.new ≡ self.old
-            ++ End (string_bytes name) pages (trailing_line (string_bytes file) pages ∷ []) ∷ []) }
-        ensures same { OnErr result (self.new ≡ self.old) }
+        ensures { HoldsMore result (End (string_bytes name) pages (trailing_line (string_bytes file) pages ∷ []) ∷ [])
+            self.old self.new }
     {
         self.entries.push(Entry::EndTrailing { name, file, pages })?;
         Ok(())
@@ -123,9 +120,7 @@ impl Batch {
 
     /// Holds the message that bytes which begin no page follow so many pages of the file of this name.
     fn push_trailing(&mut self, name: String, pages: u32) -> Result<(), NoMemory>
-        ensures held { OnOk result (self.new
-            ≡ self.old ++ Message (trailing_line (string_bytes name) pages) ∷ []) }
-        ensures same { OnErr result (self.new ≡ self.old) }
+        ensures { HoldsMore result (Message (trailing_line (string_bytes name) pages) ∷ []) self.old self.new }
     {
         self.entries.push(Entry::Trailing { name, pages })?;
         Ok(())
@@ -142,9 +137,8 @@ impl Batch {
         pages: u32,
         trailing: Option<&str>,
     ) -> Result<(), NoMemory>
-        ensures held { OnOk result (self.new ≡ self.old ++ end_held binding name.now pages
-            (end_notes (option_map (λ s. s.now) trailing.entry) pages)) }
-        ensures same { OnErr result (self.new ≡ self.old) }
+        ensures { HoldsMore result (end_held binding name.now pages
+            (end_notes (option_map (λ s. s.now) trailing.entry) pages)) self.old self.new }
     {
         let is_begun = binding == Binding::Together && pages > 0;
         match trailing {
@@ -248,10 +242,8 @@ fn write_entries<O: Outputs, E: Sink>(
     requires texts { length texts.now ≡ pages_among entries.now }
     requires turn { AreInOrder binding (O.is_ready desk.old.outs.now) entries.now }
     requires ready { E.is_ready desk.old.errs.now ≡ true }
-    ensures done { OnOk result (AreCarriedOut (items_by binding entries.now texts.now) []
-        (sinks_at O.Sink E.Sink desk.old) (sinks_at O.Sink E.Sink desk.new)) }
-    ensures ends { OnErr result (IsUnwritten (items_by binding entries.now texts.now)
-        (sinks_at O.Sink E.Sink desk.old) (sinks_at O.Sink E.Sink desk.new)) }
+    ensures written { EndsWriting result (items_by binding entries.now texts.now)
+        (sinks_at O.Sink E.Sink desk.old) (sinks_at O.Sink E.Sink desk.new) }
     ensures keeps { Keeps O.Sink E.Sink desk.old desk.new }
 {
     let mut done = 0;

@@ -1,10 +1,10 @@
 //! The outside that a run writes to.
-ghost use Rattle.std.specs.Prelude.{◌≡◌, ◌∷◌, [], false, true, List, ℕ, OnErr, OnOk};
+ghost use Rattle.std.specs.Prelude.{◌≡◌, ◌∷◌, [], false, true};
 ghost use Rattle.run_output.specs.Names.{dash};
-ghost use Rattle.run_output.specs.Parts.{end_part, is_begun, page_part};
+ghost use Rattle.run_output.specs.Parts.{is_begun, page_part};
 ghost use Rattle.page_batches.specs.Items.{Doc};
 ghost use Rattle.page_batches.specs.Items.Item.{Write};
-ghost use Rattle.page_batches.specs.Outcome.{AreCarriedOut, HasEnded, IsUnwritten};
+ghost use Rattle.page_batches.specs.Outcome.{EndsDocument, EndsWriting, HasEnded};
 ghost use Rattle.page_batches.specs.Desks.{Keeps, sinks_at};
 
 use pt_core::{Outputs, Sink, SinkFault};
@@ -43,10 +43,8 @@ impl<'a, O: Outputs, E: Sink> Desk<'a, O, E> {
     ) -> Result<(), SinkFault>
         requires turn { O.is_ready self.old.outs.now ≡ is_begun binding before }
         requires ready { E.is_ready self.old.errs.now ≡ true }
-        ensures done { OnOk result (AreCarriedOut (Write (page_part binding name.now before text.now) ∷ []) []
-            (sinks_at O.Sink E.Sink self.old) (sinks_at O.Sink E.Sink self.new)) }
-        ensures ends { OnErr result (IsUnwritten (Write (page_part binding name.now before text.now) ∷ [])
-            (sinks_at O.Sink E.Sink self.old) (sinks_at O.Sink E.Sink self.new)) }
+        ensures written { EndsWriting result (Write (page_part binding name.now before text.now) ∷ [])
+            (sinks_at O.Sink E.Sink self.old) (sinks_at O.Sink E.Sink self.new) }
         ensures keeps { Keeps O.Sink E.Sink self.old self.new }
     {
         match write_page_part(self.outs, binding, name, before, text) {
@@ -62,11 +60,8 @@ impl<'a, O: Outputs, E: Sink> Desk<'a, O, E> {
     pub(crate) fn write_end(&mut self, name: &str, pages: u32) -> Result<(), SinkFault>
         requires turn { O.is_ready self.old.outs.now ≡ true }
         requires ready { E.is_ready self.old.errs.now ≡ true }
-        ensures done { OnOk result (AreCarriedOut (Write (end_part name.now pages []) ∷ []) []
-            (sinks_at O.Sink E.Sink self.old) (sinks_at O.Sink E.Sink self.new)) }
-        // Whatever was to be said behind it isn't.
-        ensures ends { OnErr result ((notes : List (List ℕ)) → IsUnwritten (Write (end_part name.now pages notes) ∷ [])
-            (sinks_at O.Sink E.Sink self.old) (sinks_at O.Sink E.Sink self.new)) }
+        ensures written { EndsDocument result name.now pages
+            (sinks_at O.Sink E.Sink self.old) (sinks_at O.Sink E.Sink self.new) }
         ensures keeps { Keeps O.Sink E.Sink self.old self.new }
     {
         match write_end_part(self.outs, name, pages) {

@@ -3,14 +3,15 @@
 
 use fill_run::fill_run;
 use pt_base::{ErrSink, FileInputs, FileOutputs};
-use small_program::words_of;
+use run_output::words_of;
+use small_program::BAD_WORDS;
 use std::process::ExitCode;
 
 fn main(rt: HostRuntime) -> ExitCode {
     let mut errs = ErrSink::new(rt.stderr());
-    let words = match words_of(&rt, "point_fill", &mut errs) {
+    let words = match words_of(&rt, "point_fill", BAD_WORDS, &mut errs) {
         Ok(words) => words,
-        Err(end) => return ExitCode::from(end.code()),
+        Err(status) => return ExitCode::from(status.code()),
     };
     let mut inputs = FileInputs::new(&rt);
     let mut outs = FileOutputs::new(&rt);

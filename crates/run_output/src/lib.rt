@@ -12,13 +12,16 @@ pub mod names;
 pub mod part;
 mod pieces;
 pub mod status;
+pub mod words;
 
 pub use document::write_document;
 pub use line::{say_line, say_of_file, say_of_file_page};
 pub use made::Made;
 pub use message::{
-    say_bad_words, say_not_opened, say_not_written, say_of_page, say_out_of_memory, say_trailing,
+    BAD_WORDS, TRACER, say_bad_words, say_not_opened, say_not_written, say_of_page,
+    say_out_of_memory, say_trailing,
 };
 pub use names::{backend_suffix, base_name, document_name};
 pub use part::{Binding, write_end_part, write_page_part};
 pub use status::Status;
+pub use words::words_of;

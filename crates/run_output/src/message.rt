@@ -4,9 +4,15 @@ ghost use Rattle.pt_core.specs.Documents.{IsSaid};
 ghost use Rattle.pt_core.specs.Failures.{StopsAtFailure};
 ghost use Rattle.run_output.specs.Messages.{bad_words, not_opened, not_written, out_of_memory, page_line, trailing_line};
 
-use crate::line::say;
+use crate::line::{say, say_line};
 use itoa::Buffer;
 use pt_core::Sink;
+
+/// The tracer's name, as it stands in front of what it says.
+pub const TRACER: &str = "potrace";
+
+/// What it says where the words aren't its own.
+pub const BAD_WORDS: &str = "bad arguments, see potrace -h";
 
 /// Says that the words aren't the program's.
 pub fn say_bad_words<E: Sink>(errs: &mut E)
@@ -17,7 +23,7 @@ pub fn say_bad_words<E: Sink>(errs: &mut E)
     ensures never_falls { E.faults errs.old ≤ E.faults errs.new }
     ensures stays_ready { E.is_ready errs.new ≡ true }
 {
-    say(errs, &[b"potrace: bad arguments, see potrace -h\n"])
+    say_line(errs, TRACER, BAD_WORDS)
 }
 
 /// Says that memory ran out.

@@ -16,6 +16,7 @@ mod one_picture;
 mod pages;
 mod postscript;
 mod refusals;
+mod streams;
 mod words;
 mod workers;
 mod workers_alone;

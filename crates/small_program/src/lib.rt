@@ -9,9 +9,7 @@ pub mod ending;
 pub mod input;
 pub mod program;
 pub mod task;
-pub mod words;
 
 pub use ending::Ending;
-pub use program::run;
+pub use program::{BAD_WORDS, run};
 pub use task::{Reply, Task};
-pub use words::words_of;

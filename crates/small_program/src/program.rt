@@ -11,6 +11,9 @@ use pt_core::{Inputs, Outputs, Sink};
 use run_output::{say_line, say_of_file, write_document};
 use std::alloc::Global;
 
+/// What the program says where it is given words.
+pub const BAD_WORDS: &str = "bad arguments";
+
 /// Has the task reply to standard input, writes the reply's document to standard output or says why there is none, and
 /// answers how it ends. The program's name stands in front of what it says.
 ///
@@ -31,7 +34,7 @@ pub fn run<I: Inputs, O: Outputs, E: Sink, T: Task>(
         (sinks_of O.Sink E.Sink outs.old errs.old) (sinks_of O.Sink E.Sink outs.new errs.new) }
 {
     if !words.is_empty() {
-        say_line(errs, program, "bad arguments");
+        say_line(errs, program, BAD_WORDS);
         return Ending::BadWords;
     }
     let bytes = match read_all(alloc, inputs) {

@@ -1,9 +1,9 @@
 //! Runs over files in memory, and what is to come of them.
-ghost use Rattle.std.specs.Prelude.{◌≡◌, IfOk, string_bytes};
+ghost use Rattle.std.specs.Prelude.{◌≡◌, IfOk, string_bytes, true};
 
 use mem_outside::{InCall, MemInputs, MemOutputs, MemSink, NamedBytes, OutCall};
 use potrace_main::run;
-use pt_core::{Gate, NoGate, NoMemory};
+use pt_core::{Gate, NoGate, NoMemory, Sink};
 use std::alloc::Global;
 use std::process::Abort;
 use std::test::Fail;
@@ -79,15 +79,29 @@ impl<'a> Case<'a> {
         alloc: Global,
         gate: &G,
     ) -> Result<Done, NoMemory> {
+        let unsaid = listed(alloc, self.unsaid)?;
+        let mut errs = MemSink::new(alloc, self.most_written.max(1), unsaid, 1000)?;
+        let (status, outs) = self.done_saying(rt, alloc, gate, &mut errs)?;
+        Ok(Done { status, outs, errs })
+    }
+
+    /// The status and the outputs of a run that says its messages to this sink.
+    pub fn done_saying<R: Threads + Sync, G: Gate + Sync, E: Sink>(
+        &self,
+        rt: &R,
+        alloc: Global,
+        gate: &G,
+        errs: &mut E,
+    ) -> Result<(u8, MemOutputs), NoMemory>
+        requires { E.is_ready errs.old ≡ true }
+    {
         let words = split(alloc, self.words)?;
         let mut inputs = self.inputs(alloc)?;
         let most = self.most_written.max(1);
         let unwritten = listed(alloc, self.unwritten)?;
-        let unsaid = listed(alloc, self.unsaid)?;
         let mut outs = MemOutputs::new(alloc, most, unwritten, 65_537, self.room)?;
-        let mut errs = MemSink::new(alloc, most, unsaid, 1000)?;
-        let status = run(rt, alloc, &words, &mut inputs, &mut outs, &mut errs, gate);
-        Ok(Done { status, outs, errs })
+        let status = run(rt, alloc, &words, &mut inputs, &mut outs, errs, gate);
+        Ok((status, outs))
     }
 
     fn inputs(&self, alloc: Global) -> Result<MemInputs, NoMemory> {
@@ -130,17 +144,23 @@ impl<'a> Case<'a> {
 
     /// Looks at all that came of a run.
     pub fn expect(&self, rt: &impl Abort, done: &Done) {
+        assert_eq!(rt; done.errs.text(), self.said.as_bytes(), "{}", self.words);
+        self.expect_documents(rt, done.status, &done.outs);
+    }
+
+    /// Looks at how a run ended, and at its documents.
+    pub fn expect_documents(&self, rt: &impl Abort, status: u8, outs: &MemOutputs) {
         let count = self.documents.len();
         assert_eq!(rt;
-            (done.status, done.errs.text(), done.outs.count() as usize),
-            (self.status, self.said.as_bytes(), count),
+            (status, outs.count() as usize),
+            (self.status, count),
             "{}",
             self.words
         );
         for (i, (name, text)) in self.documents.iter().enumerate() {
             let whole = !self.cut_off || i < count - 1;
             assert_eq!(rt;
-                document_at(&done.outs, i),
+                document_at(outs, i),
                 Some((name.as_bytes(), text.as_bytes(), whole)),
                 "{}",
                 self.words

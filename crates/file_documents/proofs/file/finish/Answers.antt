@@ -17,20 +17,20 @@ pub returns-in-End-clause-ended : goal.returns-in-End-clause-ended
 returns-in-End-clause-ended g c =
     end_held_or_out c.hold_end.result (2 * c.args.task.now.plan.workers) (manner_of g.J.PageJob c.args.task.now) c.args.name.now c.args.base.now c.args.made.now c.args.converted.end c.args.converted.pages c.args.batch.now c.hold_end.new.batch
     (sinks_at g.O.Sink g.E.Sink c.args.desk.now) (sinks_at g.O.Sink g.E.Sink c.hold_end.new.desk)
-    (rw c.in-End.is c.hold_end.ensures.held) c.hold_end.ensures.out
+    (rw c.in-End.is c.hold_end.ensures.held)
 
 pub returns-in-End-clause-because : goal.returns-in-End-clause-because
-returns-in-End-clause-because g c = goes_on_or_out c.hold_end.result c.args.converted.end (sinks_at g.O.Sink g.E.Sink c.args.desk.now) (sinks_at g.O.Sink g.E.Sink c.hold_end.new.desk) (rw c.in-End.is refl) c.hold_end.ensures.out
+returns-in-End-clause-because g c = goes_on_or_out c.hold_end.result _ _ _ c.args.converted.end _ _ _ _ (rw c.in-End.is refl) c.hold_end.ensures.held
 
 -- and so is the message
 pub returns-in-Trailing-clause-ended : goal.returns-in-Trailing-clause-ended
 returns-in-Trailing-clause-ended g c =
     end_held_or_out c.hold_end-in-Trailing.result (2 * c.args.task.now.plan.workers) (manner_of g.J.PageJob c.args.task.now) c.args.name.now c.args.base.now c.args.made.now c.args.converted.end c.args.converted.pages c.args.batch.now c.hold_end-in-Trailing.new.batch
     (sinks_at g.O.Sink g.E.Sink c.args.desk.now) (sinks_at g.O.Sink g.E.Sink c.hold_end-in-Trailing.new.desk)
-    (rw c.in-Trailing.is c.hold_end-in-Trailing.ensures.held) c.hold_end-in-Trailing.ensures.out
+    (rw c.in-Trailing.is c.hold_end-in-Trailing.ensures.held)
 
 pub returns-in-Trailing-clause-because : goal.returns-in-Trailing-clause-because
-returns-in-Trailing-clause-because g c = goes_on_or_out c.hold_end-in-Trailing.result c.args.converted.end (sinks_at g.O.Sink g.E.Sink c.args.desk.now) (sinks_at g.O.Sink g.E.Sink c.hold_end-in-Trailing.new.desk) (rw c.in-Trailing.is refl) c.hold_end-in-Trailing.ensures.out
+returns-in-Trailing-clause-because g c = goes_on_or_out c.hold_end-in-Trailing.result _ _ _ c.args.converted.end _ _ _ _ (rw c.in-Trailing.is refl) c.hold_end-in-Trailing.ensures.held
 
 -- memory ran out
 pub returns-in-Fault-NoMemory-clause-ended : goal.returns-in-Fault-NoMemory-clause-ended

@@ -23,18 +23,12 @@ returns-in-Ok-clause-going g c =
     record { waits = rw c.in-Ok.ensures.held (end_waits b _ c.args.pages _ c.args.batch.now name notes c.requires.going.waits); ready = c.requires.going.ready }
 
 -- memory ran out
-pub returns-in-Err-clause-out : goal.returns-in-Err-clause-out
-returns-in-Err-clause-out g c = (
+pub returns-in-Err-clause-held : goal.returns-in-Err-clause-held
+returns-in-Err-clause-held g c = (
   refl,
   λ items. memory_out items _ _ (record { outs = refl; opened = refl })
       (record { said = c.say_out_of_memory.ensures.said; given_up = c.say_out_of_memory.ensures.given_up; never_falls = c.say_out_of_memory.ensures.never_falls }),
 )
-
-pub returns-in-Ok-clause-out : goal.returns-in-Ok-clause-out
-returns-in-Ok-clause-out g c = tt
-
-pub returns-in-Err-clause-held : goal.returns-in-Err-clause-held
-returns-in-Err-clause-held g c = tt
 
 pub returns-in-Err-clause-going : goal.returns-in-Err-clause-going
 returns-in-Err-clause-going g c = tt

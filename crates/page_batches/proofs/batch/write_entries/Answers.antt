@@ -1,9 +1,9 @@
 use Rattle.std.proofs.Common.{◌∙◌, ◌+◌, [], ◌∷◌, drop, refl, sym, subst}
 use Rattle.std.specs.Prelude.{string_bytes}
-use Rattle.pt_core.proofs.Appending.{on_err}
 use Rattle.run_output.specs.Messages.{trailing_line}
 use Rattle.page_batches.specs.Entries.{AreInOrder}
 use Rattle.page_batches.proofs.Batching.{end_cut, end_written, entries_from, message_written, none_written, open_behind_page, page_cut, page_written, said_with, turn_at}
+use Rattle.page_batches.proofs.Carrying.{cut_off_at}
 use Rattle.page_batches.proofs.Counts.{never_falls_on, same_count}
 use Rattle.page_batches.proofs.Desks.{keeps_on}
 use Rattle.page_batches.proofs.batch.write_entries.Goals as goal
@@ -18,25 +18,25 @@ loop-entry-init g c = record {
 }
 
 -- a page is cut off
-pub returns-in_err-write_page-in-Page-clause-ends : goal.returns-in_err-write_page-in-Page-clause-ends
-returns-in_err-write_page-in-Page-clause-ends g c =
+pub returns-in_err-write_page-in-Page-clause-written : goal.returns-in_err-write_page-in-Page-clause-written
+returns-in_err-write_page-in-Page-clause-written g c =
     let from = entries_from c.args.entries.now c.loop-entry.entry-index _ c.entry-item.result c.loop-entry-test.true c.entry-item.is c.in-Page.is in
-    on_err c.from_residual.result (page_cut c.args.binding c.args.entries.now c.args.texts.now c.loop-entry.entry-index c.loop-entry.done _ _ _ c.in-Page.name c.in-Page.before c.index-texts-done.result
+    cut_off_at c.from_residual.result _ _ _ c.from_residual.ensures.0 (page_cut c.args.binding c.args.entries.now c.args.texts.now c.loop-entry.entry-index c.loop-entry.done _ _ _ c.in-Page.name c.in-Page.before c.index-texts-done.result
     from c.index-texts-done.is c.loop-entry.invariant.written
-    (rw (c.deref.ensures, c.deref-in-Page.ensures.value) at c.in_err-write_page-in-Page.ensures.ends))
+    (rw (c.deref.ensures, c.deref-in-Page.ensures.value) at c.in_err-write_page-in-Page.ensures.written))
 
 -- the end of a document is cut off
-pub returns-in_err-write_end-in-End-clause-ends : goal.returns-in_err-write_end-in-End-clause-ends
-returns-in_err-write_end-in-End-clause-ends g c =
+pub returns-in_err-write_end-in-End-clause-written : goal.returns-in_err-write_end-in-End-clause-written
+returns-in_err-write_end-in-End-clause-written g c =
     let from = entries_from c.args.entries.now c.loop-entry.entry-index _ c.entry-item.result c.loop-entry-test.true c.entry-item.is c.in-End.is in
-    on_err c.from_residual-in_err-write_end-in-End.result (end_cut c.args.binding c.args.entries.now c.args.texts.now c.loop-entry.entry-index c.loop-entry.done _ _ _ _ _ from refl c.loop-entry.invariant.written
-    (rw (c.deref-in-End.ensures) at c.in_err-write_end-in-End.ensures.ends []))
+    cut_off_at c.from_residual-in_err-write_end-in-End.result _ _ _ c.from_residual-in_err-write_end-in-End.ensures.0 (end_cut c.args.binding c.args.entries.now c.args.texts.now c.loop-entry.entry-index c.loop-entry.done _ _ _ _ _ from refl c.loop-entry.invariant.written
+    (rw (c.deref-in-End.ensures) at c.in_err-write_end-in-End.ensures.written []))
 
-pub returns-in_err-write_end-in-EndTrailing-clause-ends : goal.returns-in_err-write_end-in-EndTrailing-clause-ends
-returns-in_err-write_end-in-EndTrailing-clause-ends g c =
+pub returns-in_err-write_end-in-EndTrailing-clause-written : goal.returns-in_err-write_end-in-EndTrailing-clause-written
+returns-in_err-write_end-in-EndTrailing-clause-written g c =
     let from = entries_from c.args.entries.now c.loop-entry.entry-index _ c.entry-item.result c.loop-entry-test.true c.entry-item.is c.in-EndTrailing.is in
-    on_err c.from_residual-in_err-write_end-in-EndTrailing.result (end_cut c.args.binding c.args.entries.now c.args.texts.now c.loop-entry.entry-index c.loop-entry.done _ _ _ _ _ from refl c.loop-entry.invariant.written
-    (rw (c.deref-in-EndTrailing.ensures) at c.in_err-write_end-in-EndTrailing.ensures.ends (trailing_line (string_bytes c.in-EndTrailing.file) c.in-EndTrailing.pages ∷ [])))
+    cut_off_at c.from_residual-in_err-write_end-in-EndTrailing.result _ _ _ c.from_residual-in_err-write_end-in-EndTrailing.ensures.0 (end_cut c.args.binding c.args.entries.now c.args.texts.now c.loop-entry.entry-index c.loop-entry.done _ _ _ _ _ from refl c.loop-entry.invariant.written
+    (rw (c.deref-in-EndTrailing.ensures) at c.in_err-write_end-in-EndTrailing.ensures.written (trailing_line (string_bytes c.in-EndTrailing.file) c.in-EndTrailing.pages ∷ [])))
 
 -- one entry more
 pub loop-entry-preserved : goal.loop-entry-preserved
@@ -49,8 +49,8 @@ loop-entry-preserved g c = elim c.match-entry.branch [
       let more = w.write_page.ensures.keeps in
       rw (w.desk-is, w.done-is) (record {
         written = page_written b c.args.entries.now c.args.texts.now c.loop-entry.entry-index c.loop-entry.done _ _ _ w.in-Page.name w.in-Page.before w.index-texts-done.result
-            from w.index-texts-done.is c.loop-entry.invariant.written (rw (w.deref.ensures, w.deref-in-Page.ensures.value) at w.in_ok-write_page-in-Page.ensures.done);
-        turn = subst (λ o. AreInOrder b o (drop (c.loop-entry.entry-index + 1) c.args.entries.now)) (sym (w.in_ok-write_page-in-Page.ensures.done.opened ∙ open_behind_page b _ _ _)) turn.1;
+            from w.index-texts-done.is c.loop-entry.invariant.written (rw (w.deref.ensures, w.deref-in-Page.ensures.value) at w.in_ok-write_page-in-Page.ensures.written);
+        turn = subst (λ o. AreInOrder b o (drop (c.loop-entry.entry-index + 1) c.args.entries.now)) (sym (w.in_ok-write_page-in-Page.ensures.written.opened ∙ open_behind_page b _ _ _)) turn.1;
         keeps = keeps_on g.O.Sink g.E.Sink c.args.desk.now c.loop-entry.desk _ before more;
       })
   | in-End+in_ok-write_end-in-End w ↦
@@ -61,8 +61,8 @@ loop-entry-preserved g c = elim c.match-entry.branch [
       let more = w.write_end.ensures.keeps in
       rw (w.desk-is, w.done-is) (record {
         written = end_written b c.args.entries.now c.args.texts.now c.loop-entry.entry-index c.loop-entry.done _ _ _ _ _ from refl refl c.loop-entry.invariant.written
-            (rw (w.deref-in-End.ensures) at w.in_ok-write_end-in-End.ensures.done);
-        turn = subst (λ o. AreInOrder b o (drop (c.loop-entry.entry-index + 1) c.args.entries.now)) (sym w.in_ok-write_end-in-End.ensures.done.opened) turn.1;
+            (rw (w.deref-in-End.ensures) at w.in_ok-write_end-in-End.ensures.written);
+        turn = subst (λ o. AreInOrder b o (drop (c.loop-entry.entry-index + 1) c.args.entries.now)) (sym w.in_ok-write_end-in-End.ensures.written.opened) turn.1;
         keeps = keeps_on g.O.Sink g.E.Sink c.args.desk.now c.loop-entry.desk _ before more;
       })
   | in-EndTrailing+in_ok-write_end-in-EndTrailing w ↦
@@ -73,13 +73,13 @@ loop-entry-preserved g c = elim c.match-entry.branch [
       let more = w.write_end-in-EndTrailing.ensures.keeps in
       rw (w.desk-is, w.done-is) (record {
         written = end_written b c.args.entries.now c.args.texts.now c.loop-entry.entry-index c.loop-entry.done _ _ _ _ _ from refl refl c.loop-entry.invariant.written
-            (said_with _ _ _ _ _ _ (rw (w.deref-in-EndTrailing.ensures) at w.in_ok-write_end-in-EndTrailing.ensures.done) (record { outs = refl; opened = refl })
+            (said_with _ _ _ _ _ _ (rw (w.deref-in-EndTrailing.ensures) at w.in_ok-write_end-in-EndTrailing.ensures.written) (record { outs = refl; opened = refl })
             (record {
               said = rw (w.deref-in-EndTrailing-2.ensures, w.from.ensures) at w.say_trailing.ensures.said;
               given_up = w.say_trailing.ensures.given_up;
               never_falls = w.say_trailing.ensures.never_falls;
             }));
-        turn = subst (λ o. AreInOrder b o (drop (c.loop-entry.entry-index + 1) c.args.entries.now)) (sym w.in_ok-write_end-in-EndTrailing.ensures.done.opened) turn.1;
+        turn = subst (λ o. AreInOrder b o (drop (c.loop-entry.entry-index + 1) c.args.entries.now)) (sym w.in_ok-write_end-in-EndTrailing.ensures.written.opened) turn.1;
         keeps = record { outs = more.outs ∙ before.outs; errs = more.errs ∙ before.errs; ready = w.say_trailing.ensures.stays_ready; never_falls = never_falls_on _ _ _ before.never_falls more.never_falls };
       })
   | in-Trailing w ↦

@@ -35,14 +35,14 @@ returns-in-Ok-written-clause-ended g c = λ items held.
     let are = items_are_held c.args.plan.now.binding (g.J.PageJob.belongs c.args.plan.now.job.now) c.self.inside.entries.items c.self.inside.pages.items
     c.in-Ok.texts.items (rw (c.as_slice-pages.ensures.value) at c.in-Ok.ensures.texts) c.self.invariant in
     let same = c.held_items_are_one.ensures c.args.plan.now.binding _ items _ (rw (← c.self.view_is) at held) are in
-    rw same (rw (c.deref.ensures.value, c.deref-2.ensures.value) at c.in-Ok-written.ensures.done)
+    rw same (rw (c.deref.ensures.value, c.deref-2.ensures.value) at c.in-Ok-written.ensures.written)
 
 -- a document is open as it has to be behind them
 pub returns-in-Ok-written-clause-left : goal.returns-in-Ok-written-clause-left
 returns-in-Ok-written-clause-left g c =
     let zipped = AllZip-long _ c.as_slice-pages.result.now c.in-Ok.texts.items c.in-Ok.ensures.texts in
     let long = zipped ∙ ap length c.as_slice-pages.ensures.value ∙ c.self.invariant in
-    let opened = (rw (c.deref.ensures.value, c.deref-2.ensures.value) at c.in-Ok-written.ensures.done).opened in (
+    let opened = (rw (c.deref.ensures.value, c.deref-2.ensures.value) at c.in-Ok-written.ensures.written).opened in (
       rw c.clear-2.ensures.items refl,
       opened ∙ open_by c.args.plan.now.binding _ c.self.inside.entries.items c.self.inside.pages.items c.in-Ok.texts.items c.self.invariant long
           ∙ ap (is_open_held c.args.plan.now.binding (g.O.Sink.is_ready c.args.desk.now.outs.now)) c.self.view_is,
@@ -54,7 +54,7 @@ returns-clause-ended g c = λ items held.
     let are = items_are_held c.args.plan.now.binding (g.J.PageJob.belongs c.args.plan.now.job.now) c.self.inside.entries.items c.self.inside.pages.items
     c.in-Ok.texts.items (rw (c.as_slice-pages.ensures.value) at c.in-Ok.ensures.texts) c.self.invariant in
     let same = c.held_items_are_one.ensures c.args.plan.now.binding _ items _ (rw (← c.self.view_is) at held) are in
-    rw same (rw (c.deref.ensures.value, c.deref-2.ensures.value) at c.in-Err.ensures.ends)
+    rw same (rw (c.deref.ensures.value, c.deref-2.ensures.value) at c.in-Err.ensures.written)
 
 -- the desk is the same
 pub returns-in-Ok-written-clause-keeps : goal.returns-in-Ok-written-clause-keeps

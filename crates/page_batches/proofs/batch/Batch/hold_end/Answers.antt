@@ -22,11 +22,11 @@ bound_apart Apart name pages notes other = refl
 bound_apart Together name pages notes other = absurd (let no : true ≡ false = other in cc)
 
 -- only the message is held
-pub returns-in_ok-from_str-in-Some-2-clause-held : goal.returns-in_ok-from_str-in-Some-2-clause-held
-returns-in_ok-from_str-in-Some-2-clause-held c =
+pub returns-in_ok-from_str-in-Some-2 : goal.returns-in_ok-from_str-in-Some-2
+returns-in_ok-from_str-in-Some-2 c =
     let alone : end_held c.args.binding c.args.name.now c.args.pages (trailing_line c.in-Some-2.file.now c.args.pages ∷ []) ≡ Message (trailing_line c.in-Some-2.file.now c.args.pages) ∷ [] =
     elim c.if-eq.branch [
       | then-eq w ↦ without_pages c.args.binding c.args.name.now c.args.pages _ (sym w.is_begun-is ∙ c.if-is_begun.false)
       | else-eq w ↦ bound_apart c.args.binding c.args.name.now c.args.pages _ (sym c.eq.ensures ∙ w.if-eq.false)
     ] in
-    rw (c.in-Some-2.is, alone, ← c.in_ok-from_str-in-Some-2.ensures.ok) c.push_trailing.ensures.held
+    rw (c.in-Some-2.is, alone, ← c.in_ok-from_str-in-Some-2.ensures.ok) c.push_trailing.ensures

@@ -14,30 +14,30 @@ returns-in_default-clause-held g c = λ first are text is. memory_out _ _ _ (rec
 -- the page is held
 pub returns-then-count-plan-clause-held : goal.returns-then-count-plan-clause-held
 returns-then-count-plan-clause-held g c =
-    let is = c.in-Ok.ensures.held in
+    let is = c.in-Ok.ensures in
     λ first are text is_text. all_held _ _ _ _ _ _ (page_held _ _ _ _ _ _ _ is first are text is_text)
 
 pub returns-then-count-plan-clause-waits : goal.returns-then-count-plan-clause-waits
 returns-then-count-plan-clause-waits g c =
-    let is = c.in-Ok.ensures.held in
+    let is = c.in-Ok.ensures in
     let turn = turn_page _ _ _ _ _ _ _ _ is c.requires.waits in
     record { few = rw c.count.ensures at c.if-count-plan.true; turn = turn.0; next = turn.1 }
 
 pub carry_out-requires-clause-few : goal.carry_out-requires-clause-few
 carry_out-requires-clause-few g c κs within =
-    let is = c.in-Ok.ensures.held in
+    let is = c.in-Ok.ensures in
     let full = filled _ _ _ _ _ _ _ is c.count.ensures c.if-count-plan.false c.requires.waits.few in
     few_pages _ c.args.plan.now.workers full.0 c.args.plan.now.most_workers
 
 pub carry_out-requires-clause-turn : goal.carry_out-requires-clause-turn
 carry_out-requires-clause-turn g c κs within =
-    let is = c.in-Ok.ensures.held in
+    let is = c.in-Ok.ensures in
     (turn_page _ _ _ _ _ _ _ _ is c.requires.waits).0
 
 -- the batch is full: all that it holds is carried out
 pub returns-clause-held : goal.returns-clause-held
 returns-clause-held g c =
-    let is = c.in-Ok.ensures.held in
+    let is = c.in-Ok.ensures in
     let full = filled _ _ _ _ _ _ _ is c.count.ensures c.if-count-plan.false c.requires.waits.few in
     λ first are text is_text.
     let now = page_held _ _ _ _ _ _ _ is first are text is_text in
@@ -48,13 +48,13 @@ returns-clause-halts g c = halts_by _ _ _ _ _ _ c.carry_out.ensures.left
 
 pub returns-clause-full : goal.returns-clause-full
 returns-clause-full g c =
-    let is = c.in-Ok.ensures.held in
+    let is = c.in-Ok.ensures in
     let full = filled _ _ _ _ _ _ _ is c.count.ensures c.if-count-plan.false c.requires.waits.few in
     IfErr-weaker c.carry_out.result _ _ (λ status _ halted. full.1) (halts_by _ _ _ _ _ _ c.carry_out.ensures.left)
 
 pub returns-clause-waits : goal.returns-clause-waits
 returns-clause-waits g c =
-    let is = c.in-Ok.ensures.held in
+    let is = c.in-Ok.ensures in
     let turn = turn_page _ _ _ _ _ _ _ _ is c.requires.waits in
     waits_on _ _ _ _ _ _ _ _ (some_room c.args.plan.now.workers c.args.plan.now.some_worker) c.carry_out.ensures.left turn.1
 

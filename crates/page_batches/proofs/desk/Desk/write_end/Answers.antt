@@ -4,8 +4,8 @@ use Rattle.page_batches.proofs.Carrying.{one_said}
 use Rattle.page_batches.proofs.desk.Desk.write_end.Goals as goal
 
 -- the part is cut off, and what comes with it isn't said
-pub returns-in-Err-clause-ends : goal.returns-in-Err-clause-ends
-returns-in-Err-clause-ends g c = λ notes. record {
+pub returns-in-Err-clause-written : goal.returns-in-Err-clause-written
+returns-in-Err-clause-written g c = λ notes. record {
   before = [];
   part = end_part c.args.name.now c.args.pages notes;
   after = [];

@@ -5,8 +5,8 @@ use Rattle.page_batches.proofs.Carrying.{one_said}
 use Rattle.page_batches.proofs.desk.Desk.write_page.Goals as goal
 
 -- the part is cut off
-pub returns-in-Err-clause-ends : goal.returns-in-Err-clause-ends
-returns-in-Err-clause-ends g c = record {
+pub returns-in-Err-clause-written : goal.returns-in-Err-clause-written
+returns-in-Err-clause-written g c = record {
   before = [];
   part = page_part c.args.binding c.args.name.now c.args.before c.args.text.now;
   after = [];

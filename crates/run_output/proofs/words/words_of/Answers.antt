@@ -1,5 +1,5 @@
 use Rattle.std.proofs.Common.{inl, inr, refl}
-use Rattle.small_program.proofs.words.words_of.Goals as goal
+use Rattle.run_output.proofs.words.words_of.Goals as goal
 
 -- memory ran out
 pub returns-in-Err-clause-says : goal.returns-in-Err-clause-says

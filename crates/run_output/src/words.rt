@@ -2,26 +2,28 @@
 ghost use Rattle.std.specs.Prelude.{◌≡◌, ◌⊎◌, true, codes, IfErr, OnOk};
 ghost use Rattle.run_output.specs.Messages.{program_line};
 ghost use Rattle.run_output.specs.Told.{IsMessage, told_of};
-ghost use Rattle.small_program.specs.declared.ending.Ending.TheVariants.{BadWords, OutOfMemory};
+ghost use Rattle.run_output.specs.declared.status.Status.TheVariants.{BadWords, OutOfMemory};
 
-use crate::ending::Ending;
+use crate::line::say_line;
+use crate::status::Status;
 use pt_core::{NoMemory, Sink};
-use run_output::say_line;
 use std::alloc::Global;
 use std::env::{self, Args, Env};
 use std::io::ErrorKind;
 
-/// The words behind the program's own name. One that isn't UTF-8 is a word too, and so it is refused at once.
+/// The words behind the program's own name. One that isn't UTF-8 is a word too, and no program here takes such a word,
+/// so it is refused at once: the program says this text. An `Err` says how the run ends: that is said.
 pub fn words_of<R: Env + Alloc<A = Global>, E: Sink>(
     rt: &R,
     program: &str,
+    refusal: &str,
     errs: &mut E,
-) -> Result<Vec<String>, Ending>
+) -> Result<Vec<String>, Status>
     requires { E.is_ready errs.old ≡ true }
     ensures silent { OnOk result (told_of E.Sink errs.new ≡ told_of E.Sink errs.old) }
-    ensures says { IfErr result (λ end. ((end ≡ BadWords) × IsMessage
-        (program_line program.now (codes "bad arguments")) (told_of E.Sink errs.old) (told_of E.Sink errs.new))
-        ⊎ ((end ≡ OutOfMemory) × IsMessage
+    ensures says { IfErr result (λ status. ((status ≡ BadWords) × IsMessage
+        (program_line program.now refusal.now) (told_of E.Sink errs.old) (told_of E.Sink errs.new))
+        ⊎ ((status ≡ OutOfMemory) × IsMessage
         (program_line program.now (codes "out of memory")) (told_of E.Sink errs.old) (told_of E.Sink errs.new))) }
     ensures stays_ready { E.is_ready errs.new ≡ true }
 {
@@ -29,18 +31,18 @@ pub fn words_of<R: Env + Alloc<A = Global>, E: Sink>(
         Ok(args) => args,
         Err(error) if error.kind() == ErrorKind::OutOfMemory => {
             say_line(errs, program, "out of memory");
-            return Err(Ending::OutOfMemory);
+            return Err(Status::OutOfMemory);
         }
         Err(_) => {
-            say_line(errs, program, "bad arguments");
-            return Err(Ending::BadWords);
+            say_line(errs, program, refusal);
+            return Err(Status::BadWords);
         }
     };
     match behind_name(rt.alloc(), args) {
         Ok(words) => Ok(words),
         Err(_) => {
             say_line(errs, program, "out of memory");
-            Err(Ending::OutOfMemory)
+            Err(Status::OutOfMemory)
         }
     }
 }
