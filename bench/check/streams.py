@@ -3,8 +3,8 @@
 
 usage: streams.py PROGRAM
 
-A stored run has words of text and open streams, and so has a test of a crate. It says what came where that is wrong, and
-else nothing; the status is 1 where a case is wrong. It needs python3 alone.
+A stored run has words of text and open streams; the tests of crates have other words and streams in place of the system's.
+It says what came where that is wrong, and else nothing; the status is 1 where a case is wrong. It needs python3 alone.
 """
 import os
 import shutil
