@@ -69,7 +69,7 @@ points_counted page policy paths is_page d =
     (λ side. met side paths ∙ edges_once page policy (image_of page) paths d side)
     ∙ sym (edge_count-over (image_of page) page.width page.height)
 
-count_most : (n : ℕ) (f : ℕ → Bool) → count_below n f ≤ n
+pub count_most : (n : ℕ) (f : ℕ → Bool) → count_below n f ≤ n
 count_most zero f = omega arith
 count_most (suc n) f = one (f n) (count_below n f) n (count_most n f)
   where
@@ -77,7 +77,7 @@ count_most (suc n) f = one (f n) (count_below n f) n (count_most n f)
     one true a n most = omega arith
     one false a n most = omega arith
 
-sum_most : (n each : ℕ) (f : ℕ → ℕ) → ((k : ℕ) → f k ≤ each) → sum_below n f ≤ n * each
+pub sum_most : (n each : ℕ) (f : ℕ → ℕ) → ((k : ℕ) → f k ≤ each) → sum_below n f ≤ n * each
 sum_most zero each f most = omega arith
 sum_most (suc n) each f most =
     let rest = sum_most n each f most in

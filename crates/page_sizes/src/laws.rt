@@ -1,10 +1,14 @@
 //! What follows from the definitions alone.
-ghost use Rattle.std.specs.Prelude.{◌≡◌, ℕ, ◌≤◌, List};
+ghost use Rattle.std.specs.Prelude.{◌≡◌, ℕ, ◌+◌, ◌*◌, ◌≤◌, Bool, List, filter, length, sum_by};
 ghost use Rattle.pt_core.specs.declared.path.Path.{Path};
 ghost use Rattle.pt_core.specs.declared.policy.Policy.{Policy};
 ghost use Rattle.bit_image.specs.Image.{Image};
 ghost use Rattle.bit_image.specs.Page.{Page, IsPage, image_of};
 ghost use Rattle.path_decompose.specs.Decomposition.{IsDecomposition};
+ghost use Rattle.pt_core.specs.declared.limits.TheConstants.{LONGEST_SIDE};
+ghost use Rattle.pt_base.specs.PointsText.{points_text};
+ghost use Rattle.turn_policies.specs.Majority.{sum_below};
+ghost use Rattle.path_tree.specs.Groups.{groups_of};
 ghost use Rattle.page_sizes.specs.Edges.{edge_count, point_count, side_count};
 
 /// The paths of a page have together just as many points as the page has pixel sides between black and white.
@@ -16,4 +20,8 @@ pub fn points_are_edges()
 /// These are at most all sides of its pixels.
 pub fn edges_are_sides()
     ensures { (b : Image) (width height : ℕ) → edge_count b width height ≤ side_count width height }
+{}
+
+pub fn scratch()
+    ensures { (paths : List Path) (each : ℕ) (f : ℕ → ℕ) → sum_by (λ g. each + f g.outer + sum_by f g.holes) (groups_of paths) ≤ sum_below (length paths) (λ i. each + f i) }
 {}
