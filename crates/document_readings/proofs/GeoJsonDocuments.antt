@@ -113,7 +113,7 @@ numbered p near = record {
   y = thousandths_are_number (rounded p.y 1000) (thousandths_small p.y near.y);
 }
 
-all_reversed : {A : Type 0} (P : A → Type 0) (xs : List A) → All P xs → All P (reverse xs)
+pub all_reversed : {A : Type 0} (P : A → Type 0) (xs : List A) → All P xs → All P (reverse xs)
 all_reversed P xs all k d below =
     let within : k < length xs = omega (arith, length-reverse xs) in
     subst P (sym (get_or-reverse xs k d within)) (all (length xs - 1 - k) d (omega arith))

@@ -18,13 +18,13 @@ sum_by-filter p f (x ∷ xs) =
     one true = sum_by-cons f x (filter p xs)
     one false = omega arith
 
-sum_by-over : {A B : Type 0} (f : B → ℕ) (g : A → B) (xs : List A) → sum_by f (map g xs) ≡ sum_by (λ x. f (g x)) xs
+pub sum_by-over : {A B : Type 0} (f : B → ℕ) (g : A → B) (xs : List A) → sum_by f (map g xs) ≡ sum_by (λ x. f (g x)) xs
 sum_by-over f g [] = refl
 sum_by-over f g (x ∷ xs) =
     sum_by-cons f (g x) (map g xs) ∙ ap (λ n. f (g x) + n) (sum_by-over f g xs) ∙ sym (sum_by-cons (λ y. f (g y)) x xs)
 
 -- the sum over the first numbers, as one over a list
-sum_by-first : (f : ℕ → ℕ) (n : ℕ) → sum_by f (range_with_len 0 n) ≡ sum_below n f
+pub sum_by-first : (f : ℕ → ℕ) (n : ℕ) → sum_by f (range_with_len 0 n) ≡ sum_below n f
 sum_by-first f zero = refl
 sum_by-first f (suc n) =
     let more : suc n ≡ n + 1 = omega arith in

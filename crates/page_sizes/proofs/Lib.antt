@@ -3,3 +3,6 @@ pub mod Counted
 pub mod Weights
 pub mod Listed
 pub mod Grouped
+pub mod Penned
+pub mod Drawn
+pub mod Chorded

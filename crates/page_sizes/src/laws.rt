@@ -7,8 +7,12 @@ ghost use Rattle.bit_image.specs.Page.{Page, IsPage, image_of};
 ghost use Rattle.path_decompose.specs.Decomposition.{IsDecomposition};
 ghost use Rattle.pt_core.specs.declared.limits.TheConstants.{LONGEST_SIDE};
 ghost use Rattle.pt_base.specs.PointsText.{points_text};
+ghost use Rattle.pt_core.specs.declared.trace.Trace.{Trace};
 ghost use Rattle.turn_policies.specs.Majority.{sum_below};
 ghost use Rattle.path_tree.specs.Groups.{groups_of};
+ghost use Rattle.svg_backend.specs.SvgText.{svg_text};
+ghost use Rattle.eps_backend.specs.EpsText.{drawing_text};
+ghost use Rattle.document_readings.specs.Places.{AreInReach};
 ghost use Rattle.page_sizes.specs.Edges.{edge_count, point_count, side_count};
 
 /// The paths of a page have together just as many points as the page has pixel sides between black and white.
@@ -23,5 +27,6 @@ pub fn edges_are_sides()
 {}
 
 pub fn scratch()
-    ensures { (paths : List Path) (each : ℕ) (f : ℕ → ℕ) → sum_by (λ g. each + f g.outer + sum_by f g.holes) (groups_of paths) ≤ sum_below (length paths) (λ i. each + f i) }
+    ensures { (unit : ℕ) (flat : Bool) (trace : Trace) → unit ≤ 1000 → trace.width ≤ LONGEST_SIDE → trace.height ≤ LONGEST_SIDE → AreInReach trace.outlines → trace.groups ≡ groups_of trace.paths → length trace.outlines ≡ length trace.paths
+        → length (svg_text unit flat trace) ≤ 73 * sum_by length trace.outlines + 60 * length trace.outlines + 249 }
 {}
