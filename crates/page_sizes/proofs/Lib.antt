@@ -6,3 +6,5 @@ pub mod Grouped
 pub mod Penned
 pub mod Drawn
 pub mod Chorded
+pub mod Fewer
+pub mod Certificates

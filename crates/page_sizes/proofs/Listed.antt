@@ -69,7 +69,7 @@ points_most width height points wide high on =
     let texts = texts_most point_text (λ p. 12) points (λ k d short. point_most width height (get_or points k d) wide high (on k d short)) in
     omega (arith, sum_by-le (λ p. 12) 12 points (λ k d short. omega arith))
 
-sign_one : (sign : Sign) → length (sign_text sign) ≡ 1
+pub sign_one : (sign : Sign) → length (sign_text sign) ≡ 1
 sign_one Plus = refl
 sign_one Minus = refl
 
@@ -101,14 +101,14 @@ few_paths width height paths wide high small =
 pub side_most : (n : ℕ) → n ≤ LONGEST_SIDE → length (decimal n) ≤ 5
 side_most n small = length-decimal-le 5 n (omega arith) (omega arith) (omega arith)
 
-pub count_text_most : (n : ℕ) → n < 2 ^ 31 → length (decimal n) ≤ 10
+pub count_text_most : (n : ℕ) → n ≤ 2 ^ 31 → length (decimal n) ≤ 10
 count_text_most n small = length-decimal-le 10 n (omega arith) (omega arith) (omega arith)
 
 pub points_text_most : (width height : ℕ) (paths : List Path) → width ≤ LONGEST_SIDE → height ≤ LONGEST_SIDE → AreSmallPaths width height paths → length (points_text width height paths) ≤ 16 * side_count width height + 30
 points_text_most width height paths wide high small =
     let texts = texts_most path_text (λ path. 16 * length path.points) paths (λ k d short. path_most width height (get_or paths k d) wide high (small.each k d short)) in
     let times = weights_times 16 (λ path. length path.points) paths in
-    let count = count_text_most (length paths) (few_paths width height paths wide high small) in
+    let count = count_text_most (length paths) (omega (arith, few_paths width height paths wide high small)) in
     let across = side_most width wide in
     let up = side_most height high in
     simp length-append (omega (arith, small.together))
