@@ -55,7 +55,7 @@ drawing_most unit trace few can =
     let number = length-decimal-le 4 unit (omega arith) (omega arith) (omega arith) in
     simp length-append (omega arith)
 
-pub eps_most : (unit : ℕ) (trace : Trace) → unit ≤ 1000 → CanBeDrawn trace → length (eps_text unit trace) ≤ 81 * sum_by length trace.outlines + 48 * length trace.outlines + 112
+pub eps_most : (unit : ℕ) (trace : Trace) → unit ≤ 1000 → CanBeDrawn trace → length (eps_text unit trace) ≤ 81 * sum_by length trace.outlines + 48 * length trace.outlines + 111
 eps_most unit trace few can =
     let drawing = simp length-append at drawing_most unit trace few can in
     let width = side_most trace.width can.wide in

@@ -8,3 +8,5 @@ pub mod Drawn
 pub mod Chorded
 pub mod Fewer
 pub mod Certificates
+pub mod Documents
+pub mod Files

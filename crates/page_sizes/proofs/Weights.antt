@@ -35,3 +35,11 @@ places_most weight (x ∷ xs) all =
     let here = All-head (λ y. 1 ≤ weight y) x xs all in
     let rest = places_most weight xs (All-tail (λ y. 1 ≤ weight y) x xs all) in
     rw (sum_by-cons weight x xs) (omega arith)
+
+-- and no longer than a quarter of them, where each is 4 at least
+pub fours_most : {A : Type 0} (weight : A → ℕ) (xs : List A) → All (λ x. 4 ≤ weight x) xs → 4 * length xs ≤ sum_by weight xs
+fours_most weight [] all = omega arith
+fours_most weight (x ∷ xs) all =
+    let here = All-head (λ y. 4 ≤ weight y) x xs all in
+    let rest = fours_most weight xs (All-tail (λ y. 4 ≤ weight y) x xs all) in
+    rw (sum_by-cons weight x xs) (omega arith)
