@@ -18,4 +18,8 @@ pub mod PsDocuments
 pub mod DscDocuments
 pub mod PsFiles
 pub mod EpsBoxes
-pub mod Examples
+pub mod XmlExamples
+pub mod SvgExamples
+pub mod GeoJsonExamples
+pub mod DxfExamples
+pub mod PsExamples

@@ -61,8 +61,11 @@ pub data DxfState : Type 0 where
   beginning : DxfState  -- at its beginning
   naming : DxfState  -- where the section is named
   among : List Polyline → DxfState  -- among polylines
-  heading : List Polyline → Bool → Bool → Option Bool → DxfState  -- in a polyline itself: its layer was said, that vertices follow was said, and whether it is closed, where that was said
-  within : List Polyline → Bool → List Position → Bool → Bool → Option Decimal → Option Decimal → DxfState  -- in a vertex behind others, of a polyline that is closed or not: its layer was said, its flags were, and its coordinates, where they were said
+  -- in a polyline itself: whether its layer was said, and that vertices follow; and whether it is closed, where that was
+  heading : List Polyline → Bool → Bool → Option Bool → DxfState
+  -- in a vertex behind others, of a polyline that is closed or not: whether its layer was said, and its flags; and its
+  -- coordinates, where they were
+  within : List Polyline → Bool → List Position → Bool → Bool → Option Decimal → Option Decimal → DxfState
   behind : List Polyline → DxfState  -- behind the section
   ended : List Polyline → DxfState  -- at the end
 

@@ -43,12 +43,13 @@ pair_of numbers = None
 abbrev pub position_in : Json → Option Position
 position_in value = option_and_then pair_of (list_in number_in value)
 
--- the same number, with as many decimals
+-- the same whole number
 abbrev pub is_same_integer : ℤ → ℤ → Bool
 is_same_integer (pos a) (pos b) = a == b
 is_same_integer (negsuc a) (negsuc b) = a == b
 is_same_integer a b = false
 
+-- the same number, with as many decimals
 abbrev pub is_same_decimal : Decimal → Decimal → Bool
 is_same_decimal a b = is_same_integer a.units b.units && (a.places == b.places)
 
@@ -70,6 +71,7 @@ is_closed_ring (first ∷ positions) = ends_with first first positions
 abbrev pub linear_ring : List Position → Option (List Position)
 linear_ring ring = if nat_le 4 (length ring) && is_closed_ring ring then Some ring else None
 
+-- a ring of positions
 abbrev pub ring_in : Json → Option (List Position)
 ring_in value = option_and_then linear_ring (list_in position_in value)
 
@@ -78,6 +80,7 @@ abbrev pub polygon_rings : List (List Position) → Option (List (List Position)
 polygon_rings [] = None
 polygon_rings (outer ∷ holes) = Some (outer ∷ holes)
 
+-- the coordinates of a polygon
 abbrev pub rings_in : Json → Option (List (List Position))
 rings_in value = option_and_then polygon_rings (list_in ring_in value)
 
@@ -90,19 +93,22 @@ is_string text value = false
 abbrev pub is_type : List ℕ → Json → Bool
 is_type name value = is_string name (member_of (codes "type") value)
 
--- an object, or null (section 3.2 of the member `properties`)
+-- the properties of a feature: an object, or null (section 3.2)
 abbrev pub are_properties : Option Json → Bool
 are_properties (Some (json.object _)) = true
 are_properties (Some json.null) = true
 are_properties value = false
 
+-- a geometry that is a polygon
 abbrev pub geometry_in : Json → Option (List (List Position))
 geometry_in value = if is_type (codes "Polygon") value then option_and_then rings_in (member_of (codes "coordinates") value) else None
 
+-- a feature, with its properties
 abbrev pub feature_in : Json → Option (List (List Position))
 feature_in value =
     if is_type (codes "Feature") value && are_properties (member_of (codes "properties") value) then option_and_then geometry_in (member_of (codes "geometry") value) else None
 
+-- a collection of features
 abbrev pub collection_in : Json → Option (List (List (List Position)))
 collection_in value =
     if is_type (codes "FeatureCollection") value then option_and_then (list_in feature_in) (member_of (codes "features") value) else None

@@ -1,38 +1,235 @@
 -- White space, lines and words of a text.
+--   is_white_space: a space, a tab or a line feed (production `S` of XML, `wsp` of SVG); carriage returns are outside
+--   text_lines: the lines, each without the line feed at its end; the last one is what stands behind the last line feed
+--   spaced_words: the words, where one space stands between two
+--   without_spaces: the text without the spaces before it
 pub mod Texts
 -- Whole numbers, read digit by digit.
+--   Begun: what was read of a number that may go on: nothing, its sign (`true` is minus), or its sign and the value of its digits
+--   is_minus: a minus sign was read
+--   value_so_far: the value of the digits that were read
+--   with_digit: one digit more
+--   signed: the number with this sign and this value
+--   natural_from: the number of a text that is digits alone, behind digits of this value, if there are any
+--   natural_of: the number of a text that is digits alone, at least one
 pub mod Numbers
 -- What commands draw from a current point.
+--   Place: a place, or the step from one place to another, in the units of the document
+--   displaced: the place that lies a step away
+--   Segment: a line to a place, or a cubic Bezier curve by two controls to a place
+--   Subpath: a closed subpath: where it starts, and its segments, each of which begins where the one before ends
+--   Command: a command: the place of a move is absolute, the others are steps from the current point
+--   Pen: the pen is up behind whole subpaths; or it is down behind those and in an open one, which has a start and some segments, and stands at the current point
+--   pen_longer: one segment more, to whose end the pen goes
+--   pen_after: a command begins a subpath where none is open, goes on in the open one, or closes it
+--   pen_after_all: one command after another
+--   closed_subpaths: the subpaths, where none is open
+--   drawn: what commands draw
 pub mod Drawn
 -- Path data.
+--   PathWord: a word of path data: a letter, or a number
+--   PathByte: what a byte of path data can be
+--   path_letter: the letters M, l, c and z
+--   path_byte: what this byte is
+--   number_before: where a number has begun, it ends before these words; a sign alone is no number
+--   path_step: what a byte does: a digit goes on in the number that has begun, and all else ends it
+--   path_words: the words of a text, behind the beginning of a number
+--   commands_of: the commands that words are: `M` and a place, `l` and a step, `c` and three steps, or `z`
+--   path_commands: the commands of path data
+--   path_subpaths: the closed subpaths that path data draws
 pub mod PathData
 -- Lists of transformations.
+--   Transform: a shift by a step, or a factor for each coordinate
+--   named_transform: the transformation of this name
+--   TransformByte: what a byte of a list of transformations can be
+--   transform_byte: what this byte is
+--   TransformState: where the text has come to: where a transformation may begin, behind one, in a name, in the first number, or in the second one
+--   with_number: what is done with a number that has ended, if it has
+--   transform_before: one transformation before those that follow
+--   transform_step: what a byte does
+--   transforms_end: the list ends behind a transformation, or where one may begin
+--   transforms_from: the transformations of a text, behind such a beginning
+--   transforms_of: the transformations that a text lists
+--   image_under: where a transformation puts a place
+--   image_by: where a list of them puts a place: the last one comes first
 pub mod Transforms
 -- The tags of an XML text.
+--   Attribute: an attribute: a name and a value
+--   TagPart: a part of a tag: `<name`, an attribute, `>`, `/>`, or the whole end tag
+--   XmlByte: what a byte of an XML text can be
+--   begins_name: a letter, `_` or `:` may begin a name (production `NameStartChar`)
+--   continues_name: a digit, `-` and `.` may stand in a name too (production `NameChar`)
+--   is_printable: the printable characters of ASCII
+--   xml_byte: what this byte is
+--   XmlState: where the text has come to
+--   is_declaration: the declarations that are read (section 2.8)
+--   part_before: one part before those that follow
+--   tag_step: what a byte does; in a value a tab and a line feed count as spaces (section 3.3.3)
+--   no_part: a text ends between tags
+--   parts_from: the parts of the tags of a text, behind such a beginning
 pub mod XmlTags
 -- The elements of an XML text.
+--   Element: an element: its name, its attributes, and the elements in it
+--   Elements: elements in order: none, or one behind others
+--   OpenElement: an element that isn't closed yet
+--   Growth: the elements that are open, the inmost first; or the root, closed
+--   element_closed: the inmost element is closed
+--   is_new: no attribute has this name
+--   grow: what a part does; nothing follows the root
+--   grow_all: what parts do, one after another
+--   root_of: the root, where it is closed
+--   xml_root: the root of a text
 pub mod XmlTree
 -- Documents of vector graphics.
+--   value_of: the value of the attribute of this name
+--   read_by: what an attribute says, if it is there
+--   is_among: the name is one of these
+--   are_among: each attribute has one of these names
+--   is_one_of: where the attribute is given, its value is one of these
+--   points_unit: the number that has ended before this unit, where it is `pt`
+--   length_from: a length in points (section 7.10), behind such a beginning: digits, and then `pt`
+--   View: the rectangle that is shown: where it begins, and how wide and high it is (section 7.7)
+--   view_of: four numbers
+--   view_in: the rectangle of a view box: four whole numbers without a sign, with one space between two
+--   is_even_odd: the value is that of the rule by which an area within two outlines is outside (section 11.3)
+--   path_in: the subpaths of a path element, which is filled by the even-odd rule
+--   shapes_in: the shapes of the paths, in order
+--   Picture: what a document shows: on a page of so many points a view, and in it black shapes, whose places are transformed
+--   are_black: shapes are black, with no line along them, as they are too where nothing is said of it (sections 11.3 and 11.4)
+--   group_in: the group of the paths
+--   svg_namespace: the namespace of SVG (section 5.1)
+--   is_svg_namespace: the value names the namespace of SVG
+--   picture_in: the picture of a root
+--   svg_picture: the picture of a text
 pub mod SvgReading
 -- Decimal numbers.
+--   Decimal: a number: so many units of the last one of so many places behind the point, as 2.50 is 250 units of the second
+--   Position: a position: how far to the right, and how far up
+--   DecimalByte: what a byte of a decimal number can be
+--   decimal_byte: what this byte is
+--   DecimalState: where the text has come to: at its beginning, behind a minus, or behind digits of a value, of which so many stand behind the point, if that is there
+--   decimal_step: what a byte does
+--   decimal_at: the number that has ended: at least one digit stands behind a point
+--   decimal_from: the number of a text, behind such a beginning
+--   decimal_of: the number that a text is
 pub mod Decimals
 -- Polygons of a GeoJSON text.
+--   only_member: the value of the only member of this name: where two have one name, readers differ (RFC 8259, section 4)
+--   member_of: what that member of an object is
+--   number_in: the value of a number
+--   all_of: the values of an array's items, each read the same way
+--   list_in: the values of an array
+--   pair_of: two numbers
+--   position_in: a position (section 3.1.1)
+--   is_same_integer: the same whole number
+--   is_same_decimal: the same number, with as many decimals
+--   is_same_position: the same position
+--   ends_with: the positions behind this one end with this one
+--   is_closed_ring: the last position is the first one
+--   linear_ring: a linear ring: four positions or more, of which the last is the first one (section 3.1.6)
+--   ring_in: a ring of positions
+--   polygon_rings: a polygon has an outer ring, and then those of its holes
+--   rings_in: the coordinates of a polygon
+--   is_string: the value is the string
+--   is_type: the member `type` names this type
+--   are_properties: the properties of a feature: an object, or null (section 3.2)
+--   geometry_in: a geometry that is a polygon
+--   feature_in: a feature, with its properties
+--   collection_in: a collection of features
+--   geojson_polygons: the polygons of a text
 pub mod GeoJsonReading
 -- Polylines of a drawing interchange file.
+--   DxfGroup: what a group says
+--   entity_of: a group of code 0 begins or ends something
+--   flags_of: a whole number may be indented too
+--   group_of: what the group of this code and this value says
+--   dxf_groups: lines two by two; behind the last line feed nothing stands
+--   Polyline: whether it is closed, and its vertices in order
+--   position_said: the position of a vertex of which its layer and both coordinates were said
+--   DxfState: where the file has come to
+--   dxf_step: what a group does: each is said at most once, a vertex has its layer and both coordinates, and a polyline of which nothing else is said is open
+--   dxf_steps: what groups do, one after another
+--   polylines_by: the polylines, where the file has ended
+--   dxf_polylines: the polylines of a file
 pub mod DxfReading
 -- The words of a PostScript program.
+--   PsWord: a word of a program: a whole number, or an operator
+--   operator_of: the operator of this name
+--   PsByte: what a byte of a program can be
+--   ps_byte: what this byte is
+--   PsState: where the text has come to: between words, in a comment, in a number, or in a name
+--   word_before: the word that has ended, before those that follow
+--   ps_word_step: what a byte does; a comment goes to the end of its line
+--   ps_words: the words of a text, behind such a beginning
 pub mod PsWords
 -- What a PostScript program paints.
+--   Operand: a number on the stack: a whole one, or the quotient of two
+--   Graphics: the graphics state: the scales that are in force, the last one first, and the current path
+--   first_graphics: the graphics state at the beginning of a page: no scale, and no path
+--   Filled: a shape that was filled by the even-odd rule, and the scales that were in force
+--   Machine: the operands, the last one first; the graphics state, and those that were saved, the last one first; what was filled on the page; and the pages that were shown
+--   with_two: the last two operands, which are whole
+--   draws: a command draws on the current path
+--   divides: the last two operands, which are whole, are a quotient; by nothing no number is divided
+--   doubles: the last operand is there twice
+--   scales_by: a scale is put over the others, where no path is begun
+--   fills: the current path is filled where all of it is closed, and is empty then
+--   restores: the graphics state is again the one that was saved last
+--   shows: the page is shown, and the next one begins in the first graphics state
+--   with_operands: other operands, if there are any
+--   execute: what a word does
+--   execute_all: what words do, one after another
+--   machine_behind: the machine before a program, and behind pages that were shown
+--   Painted: what a program painted: the pages that it showed, and what it filled behind them
+--   painted_by: what was painted, where nothing is left over
+--   ps_painted: what a program paints
 pub mod PsReading
 -- The outlines of a trace as a document in units shows them.
+--   rounded_place: a point, rounded to units of which a pixel has so many
+--   piece_segments: two lines, by way of the corner; or a curve
+--   outline_subpath: an outline starts where its last piece ends
+--   IsPointInReach: the point is no farther away than coordinates of 32 bits allow
+--   IsPieceInReach: so are all points of the piece
+--   AreInReach: and of the outlines
+--   end_from: where segments end that begin at a place
+--   ComesBack: the segments end where the subpath starts, so closing it adds no line
 pub mod Places
 -- The shapes of a trace.
+--   group_outlines: the outlines of a shape: its outer one, and its holes
+--   one_shape: one shape of all outlines, or none where there is no outline
+--   shapes_of: the shapes: one of all outlines, or one for each group
+--   path_data: the path data of outlines: what stands between the quotes of `d`
+--   filled_shapes: the shapes of the groups as a program fills them, under a scale by which so many units are a point
 pub mod TraceShapes
 -- The picture that a trace is.
+--   up_the_page: up the page: the last one, which turns it over, comes first
+--   trace_picture: the whole page in points, of which each has so many units; and in it the shapes, where y grows upwards
 pub mod SvgPicture
 -- The outlines of a trace as rings.
+--   position_of: a point in pixels, each coordinate rounded to thousandths by itself
+--   ring_of: the ring of an outline
+--   hole_ring_of: the ring of a hole runs the other way round
+--   group_rings: the rings of a shape
+--   trace_polygons: the polygons of a trace: one for each shape
+--   polyline_of: the polyline of an outline: closed, with a vertex for each chord point but the last one, which is the first
+--   HasTwoPieces: the outline has two pieces or more, so that its chord points make a ring
+--   HaveTwoPieces: and so has each outline of a shape
 pub mod Rings
 -- The pages of a PostScript document.
+--   DscLine: what a line of a document is
+--   comment_of: the comment of one word, of two, or of three
+--   is_comment_line: the line begins with `%%` or `%!`
+--   dsc_line: what this line is
+--   DscState: where the document has come to
+--   is_told: so many are told: it is this number
+--   dsc_step: what a line does: pages are numbered in order, and are as many as is told
+--   pages_by: the texts of the pages, where the document has ended, and nothing stands behind its last line feed
+--   dsc_pages: the texts of the pages of a document
 pub mod DscReading
 -- The bounding box of an Encapsulated PostScript file.
+--   EpsBox: the lower left corner and the upper right one, in points
+--   box_by: four numbers
+--   box_in: the box of the words of a line
+--   box_of_lines: the box of the first two lines
+--   eps_box: the bounding box of a file
 pub mod EpsBox

@@ -43,14 +43,15 @@ with_two operands f = None
 -- a command draws on the current path
 abbrev pub draws : Machine → Command → List Operand → Option Machine
 draws m command rest =
-    option_map (λ pen. record { operands = rest; graphics = record { scales = (m.graphics).scales; pen = pen }; saved = m.saved; filled = m.filled; pages = m.pages }) (pen_after (m.graphics).pen command)
+    option_map (λ pen. record m { operands = rest; graphics = record { scales = (m.graphics).scales; pen = pen } }) (pen_after (m.graphics).pen command)
 
--- no number is divided by nothing
+-- the last two operands, which are whole, are a quotient; by nothing no number is divided
 abbrev pub divides : List Operand → Option (List Operand)
 divides (whole (pos zero) ∷ rest) = None
 divides (whole b ∷ whole a ∷ rest) = Some (quotient a b ∷ rest)
 divides operands = None
 
+-- the last operand is there twice
 abbrev pub doubles : List Operand → Option (List Operand)
 doubles (last ∷ rest) = Some (last ∷ last ∷ rest)
 doubles operands = None
@@ -58,32 +59,36 @@ doubles operands = None
 -- a scale is put over the others, where no path is begun
 abbrev pub scales_by : List Operand → Pen → Machine → Option Machine
 scales_by (y ∷ x ∷ rest) (up []) m =
-    Some (record { operands = rest; graphics = record { scales = (x, y) ∷ (m.graphics).scales; pen = up [] }; saved = m.saved; filled = m.filled; pages = m.pages })
+    Some (record m { operands = rest; graphics = record { scales = (x, y) ∷ (m.graphics).scales; pen = up [] } })
 scales_by operands pen m = None
 
 -- the current path is filled where all of it is closed, and is empty then
 abbrev pub fills : Pen → Machine → Option Machine
 fills (up subpaths) m =
-    Some (record { operands = m.operands; graphics = record { scales = (m.graphics).scales; pen = up [] }; saved = m.saved; filled = m.filled ++ record { scales = (m.graphics).scales; subpaths = subpaths } ∷ []; pages = m.pages })
+    Some (record m {
+      graphics = record { scales = (m.graphics).scales; pen = up [] };
+      filled = m.filled ++ record { scales = (m.graphics).scales; subpaths = subpaths } ∷ [];
+    })
 fills (down done start segments now) m = None
 
 -- the graphics state is again the one that was saved last
 abbrev pub restores : List Graphics → Machine → Option Machine
 restores [] m = None
-restores (graphics ∷ saved) m = Some (record { operands = m.operands; graphics = graphics; saved = saved; filled = m.filled; pages = m.pages })
+restores (graphics ∷ saved) m = Some (record m { graphics = graphics; saved = saved })
 
 -- the page is shown, and the next one begins in the first graphics state
 abbrev pub shows : List Operand → Pen → List Graphics → Machine → Option Machine
-shows [] (up []) [] m = Some (record { operands = []; graphics = first_graphics; saved = []; filled = []; pages = m.pages ++ m.filled ∷ [] })
+shows [] (up []) [] m = Some (record m { graphics = first_graphics; filled = []; pages = m.pages ++ m.filled ∷ [] })
 shows operands pen saved m = None
 
+-- other operands, if there are any
 abbrev pub with_operands : Machine → Option (List Operand) → Option Machine
-with_operands m operands = option_map (λ rest. record { operands = rest; graphics = m.graphics; saved = m.saved; filled = m.filled; pages = m.pages }) operands
+with_operands m operands = option_map (λ rest. record m { operands = rest }) operands
 
 -- what a word does
 abbrev pub execute : PsWord → Machine → Option Machine
 execute (number z) m = with_operands m (Some (whole z ∷ m.operands))
-execute gsave m = Some (record { operands = m.operands; graphics = m.graphics; saved = m.graphics ∷ m.saved; filled = m.filled; pages = m.pages })
+execute gsave m = Some (record m { saved = m.graphics ∷ m.saved })
 execute div m = with_operands m (divides m.operands)
 execute dup m = with_operands m (doubles m.operands)
 execute scale m = scales_by m.operands (m.graphics).pen m

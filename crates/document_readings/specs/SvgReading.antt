@@ -36,12 +36,13 @@ abbrev pub is_one_of : Option (List ℕ) → List (List ℕ) → Bool
 is_one_of None values = true
 is_one_of (Some value) values = is_among value values
 
--- a length in points (section 7.10), behind such a beginning: digits, and then `pt`
+-- the number that has ended before this unit, where it is `pt`
 abbrev pub points_unit : Begun → List ℕ → Option ℕ
 points_unit nothing unit = None
 points_unit (sign minus) unit = None
 points_unit (digits minus value) unit = if bytes_eq unit (codes "pt") then Some value else None
 
+-- a length in points (section 7.10), behind such a beginning: digits, and then `pt`
 abbrev pub length_from : Begun → List ℕ → Option ℕ
 length_from begun [] = None
 length_from begun (byte ∷ bytes) = if is_ascii_digit byte then length_from (with_digit begun byte) bytes else points_unit begun (byte ∷ bytes)
@@ -89,7 +90,7 @@ pub record Picture : Type 0 where
   pub transforms : List Transform
   pub shapes : List (List Subpath)
 
--- shapes are black, with no line along them: so they are too where nothing is said of it (section 11.3 and 11.4)
+-- shapes are black, with no line along them, as they are too where nothing is said of it (sections 11.3 and 11.4)
 abbrev pub are_black : List Attribute → Bool
 are_black attributes = is_one_of (value_of (codes "fill") attributes) (codes "#000000" ∷ codes "black" ∷ []) && is_one_of (value_of (codes "stroke") attributes) (codes "none" ∷ [])
 
@@ -97,7 +98,8 @@ are_black attributes = is_one_of (value_of (codes "fill") attributes) (codes "#0
 abbrev pub group_in : ℕ → ℕ → View → Elements → Option Picture
 group_in width height view (behind none (element name attributes paths)) =
     if bytes_eq name (codes "g") && are_among attributes (codes "id" ∷ codes "transform" ∷ codes "fill" ∷ codes "stroke" ∷ []) && are_black attributes
-    then option_and_then (λ transforms. option_map (λ shapes. record { width = width; height = height; view = view; transforms = transforms; shapes = shapes }) (shapes_in paths)) (read_by transforms_of (codes "transform") attributes)
+    then option_and_then (λ transforms. option_map (λ shapes. record { width = width; height = height; view = view; transforms = transforms; shapes = shapes }) (shapes_in paths))
+    (read_by transforms_of (codes "transform") attributes)
     else None
 group_in width height view elements = None
 
