@@ -1,5 +1,5 @@
 -- How long the texts of polygons and of certificates are.
-use Rattle.std.proofs.Common.{◌≡◌, ℕ, suc, ◌+◌, ◌-◌, ◌*◌, ◌^◌, ◌≤◌, ◌<◌, Bool, true, false, List, [], ◌∷◌, ◌++◌, All, codes, decimal, flat_map, get_or, length, length-append, sum_by, zip, ap, subst, sym, ◌∙◌, arith}
+use Rattle.std.proofs.Common.{◌≡◌, ℕ, ◌+◌, ◌*◌, ◌^◌, ◌≤◌, ◌<◌, Bool, true, false, List, [], ◌∷◌, ◌++◌, All, codes, decimal, flat_map, get_or, length, length-append, sum_by, zip, ap, subst, arith}
 use Rattle.std.specs.List.{AllZip}
 use Rattle.std.proofs.lemmas.Fmt.{length-decimal-le}
 use Rattle.std.proofs.lemmas.List.{get_or_default}
@@ -14,10 +14,10 @@ use Rattle.pt_core.specs.declared.polygon.Polygon.{Polygon}
 use Rattle.pt_core.specs.declared.settings.Settings.{Settings}
 use Rattle.pt_core.specs.declared.trace.Trace.{Trace}
 use Rattle.pt_base.specs.PointsText.{point_text}
-use Rattle.pt_base.specs.PolygonsText.{counts_text, index_text, polygon_text, polygons_text, sign_and_area_text}
+use Rattle.pt_base.specs.PolygonsText.{index_text, polygon_text, polygons_text}
 use Rattle.least_walk.specs.LeastWalk.{Step, steps_from}
 use Rattle.straight_paths.specs.Straight.{IsPossible}
-use Rattle.polygon_optimal.specs.Polygon.{IsSegment, penalty_of}
+use Rattle.polygon_optimal.specs.Polygon.{penalty_of}
 use Rattle.polygon_optimal.specs.OnePenalty.{penalty_is}
 use Rattle.polygon_optimal.proofs.Small.{possible_most, total_most}
 use Rattle.polygon_optimal.proofs.Vertices.{vertices_below}
@@ -33,7 +33,7 @@ use Rattle.page_trace.specs.Trace.{IsPolygonOf, IsPolygonWith}
 use Rattle.page_trace.proofs.Segments.{few_at_most}
 use Rattle.page_sizes.specs.Edges.{point_count, side_count}
 use Rattle.page_sizes.proofs.Listed.{AreSmallPaths, IsSmallPath, count_text_most, few_paths, points_most, side_most, sign_one}
-use Rattle.page_sizes.proofs.Weights.{texts_most, weights_times}
+use Rattle.page_sizes.proofs.Weights.{texts_most}
 
 -- each index is one of the path's points
 indices_small : (cyclic : Bool) (path : Path) (polygon : Polygon) → IsPolygonWith cyclic path polygon → IsClosedWalk path.points → All (λ i. i < 2 ^ 31) polygon.at

@@ -1,16 +1,14 @@
 -- How long drawings of chords are, by the pieces of their outlines.
-use Rattle.std.proofs.Common.{◌≡◌, ℕ, zero, suc, ◌+◌, ◌-◌, ◌*◌, ◌/◌, ◌%◌, ◌^◌, ◌≤◌, ◌<◌, ℤ, pos, negsuc, unsigned_abs, Bool, true, false, List, [], ◌∷◌, ◌++◌, All, codes, decimal, flat_map, get_or, length, length-append, length-take, map, reverse, sum_by, take, refl, ap, subst, sym, ◌∙◌, arith, inl, inr}
+use Rattle.std.proofs.Common.{◌≡◌, ℕ, ◌+◌, ◌-◌, ◌*◌, ◌/◌, ◌^◌, ◌≤◌, ℤ, pos, negsuc, unsigned_abs, List, [], ◌∷◌, ◌++◌, All, codes, decimal, flat_map, get_or, length, length-append, length-take, reverse, sum_by, take, subst, arith}
 use Rattle.std.specs.List.{join_by}
 use Rattle.std.proofs.lemmas.List.{length-reverse}
 use Rattle.std.proofs.lemmas.Fmt.{length-decimal-le}
-use Rattle.std.proofs.lemmas.List.Concat.{flat_map-cons}
-use Rattle.std.proofs.lemmas.List.Elements.{All-head, All-nil, All-tail, All-take}
+use Rattle.std.proofs.lemmas.List.Elements.{All-take}
 use Rattle.std.proofs.lemmas.List.Sums.{sum_by-cons, sum_by-le, sum_by-le-sum_by}
 use Rattle.pt_core.specs.ClosedWalk.{origin}
-use Rattle.pt_core.specs.FixedText.{decimals_text, fixed_text, minus_text}
+use Rattle.pt_core.specs.FixedText.{fixed_text, minus_text}
 use Rattle.pt_core.specs.Floor.{rounded}
 use Rattle.pt_core.specs.Outlines.{end_of, outline_at, start_from}
-use Rattle.pt_core.specs.declared.path.Path.{Path}
 use Rattle.pt_core.specs.declared.piece.Piece.{Piece}
 use Rattle.pt_core.specs.declared.piece.Piece.TheVariants.{Corner, Curve}
 use Rattle.pt_core.specs.declared.point.Point.{Point}
@@ -20,7 +18,7 @@ use Rattle.pt_core.proofs.Rounding.{rounded_most}
 use Rattle.turn_policies.specs.Majority.{sum_below}
 use Rattle.path_tree.specs.Groups.{groups_of}
 use Rattle.dxf_geojson.specs.Chords.{chord_points, piece_points, points_from}
-use Rattle.dxf_geojson.specs.DxfText.{all_but_last, dxf_text, pixels_text, polyline_text, vertex_text}
+use Rattle.dxf_geojson.specs.DxfText.{dxf_text, pixels_text, polyline_text, vertex_text}
 use Rattle.dxf_geojson.specs.GeoJsonText.{feature_text, features_text, geojson_text, hole_text, position_text, ring_text}
 use Rattle.document_readings.specs.Places.{AreInReach, IsPieceInReach}
 use Rattle.document_readings.proofs.Chords.{IsWithin, chords_within, outline_chords_within}
@@ -28,7 +26,7 @@ use Rattle.document_readings.proofs.GeoJsonDocuments.{all_reversed}
 use Rattle.page_sizes.proofs.Drawn.{CanBeDrawn}
 use Rattle.page_sizes.proofs.Grouped.{group_weight, groups_weigh}
 use Rattle.page_sizes.proofs.Penned.{weights_at}
-use Rattle.page_sizes.proofs.Weights.{texts_most, weights_times}
+use Rattle.page_sizes.proofs.Weights.{texts_most}
 
 minus_one : (z : ℤ) → length (minus_text z) ≤ 1
 minus_one (pos n) = omega arith

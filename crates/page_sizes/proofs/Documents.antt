@@ -1,5 +1,5 @@
 -- How long the documents of pages are.
-use Rattle.std.proofs.Common.{◌≡◌, ℕ, ◌+◌, ◌*◌, ◌≤◌, List, [], ◌∷◌, All, filter, get_or, length, nat_lt, sum_by, ap, refl, subst, sym, arith}
+use Rattle.std.proofs.Common.{◌≡◌, ℕ, ◌+◌, ◌*◌, ◌≤◌, List, All, length, nat_lt, sum_by, ap, refl, subst, sym, ◌∙◌, arith}
 use Rattle.std.proofs.lemmas.List.Elements.{All-filter}
 use Rattle.pt_core.specs.ClosedWalk.{IsClosedWalk}
 use Rattle.pt_core.specs.declared.path.Path.{Path}
@@ -14,7 +14,7 @@ use Rattle.page_trace.specs.Document.{IsDocumentUnder}
 use Rattle.page_trace.specs.Trace.{ArePaths, HasPolygons, IsTrace}
 use Rattle.page_readings.proofs.Reach.{trace_in_reach}
 use Rattle.page_sizes.specs.Bytes.{bytes_beside, bytes_each}
-use Rattle.page_sizes.specs.Edges.{point_count, side_count}
+use Rattle.page_sizes.specs.Edges.{side_count}
 use Rattle.page_sizes.proofs.Certificates.{CanBeListed, certificates_text_most, polygons_text_most}
 use Rattle.page_sizes.proofs.Chorded.{dxf_most, geojson_most}
 use Rattle.page_sizes.proofs.Drawn.{CanBeDrawn, eps_most, ps_page_most, svg_most}

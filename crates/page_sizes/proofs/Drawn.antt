@@ -1,11 +1,11 @@
 -- How long drawings in units are, by the pieces of their outlines.
-use Rattle.std.proofs.Common.{◌≡◌, ℕ, ◌+◌, ◌*◌, ◌^◌, ◌≤◌, ◌<◌, Bool, true, false, List, ◌++◌, codes, decimal, flat_map, length, length-append, sum_by, subst, sym, arith}
+use Rattle.std.proofs.Common.{◌≡◌, ℕ, ◌+◌, ◌*◌, ◌≤◌, Bool, true, false, decimal, flat_map, length, length-append, sum_by, subst, sym, arith}
 use Rattle.std.proofs.lemmas.Fmt.{length-decimal-le}
 use Rattle.std.proofs.lemmas.Nat.{mul-le}
 use Rattle.pt_core.specs.declared.limits.TheConstants.{LONGEST_SIDE}
 use Rattle.pt_core.specs.declared.trace.Trace.{Trace}
 use Rattle.path_tree.specs.Groups.{groups_of}
-use Rattle.outline_pen.specs.Shapes.{flat_text, group_text}
+use Rattle.outline_pen.specs.Shapes.{group_text}
 use Rattle.svg_backend.specs.SvgText.{paths_text, svg_mark, svg_text}
 use Rattle.eps_backend.specs.EpsText.{drawing_text, eps_mark, eps_text, ps_page_text}
 use Rattle.document_readings.specs.Places.{AreInReach}

@@ -1,5 +1,5 @@
 -- A path's polygon has no more vertices than the path has points, and its outline no more pieces.
-use Rattle.std.proofs.Common.{◌≡◌, ℕ, suc, ◌+◌, ◌-◌, ◌*◌, ◌≤◌, ◌<◌, Bool, true, false, List, [], ◌∷◌, All, get_or, length, sum_by, zip, ap, ◌∙◌, arith}
+use Rattle.std.proofs.Common.{◌≡◌, ℕ, ◌+◌, ◌-◌, ◌≤◌, ◌<◌, Bool, true, false, List, [], ◌∷◌, All, get_or, length, sum_by, zip, ap, ◌∙◌, arith}
 use Rattle.std.specs.List.{AllZip}
 use Rattle.std.specs.Prelude.{slice_index}
 use Rattle.std.proofs.lemmas.List.Elements.{All-head, All-tail}
@@ -12,7 +12,7 @@ use Rattle.pt_core.specs.declared.point.Point.{Point}
 use Rattle.pt_core.specs.declared.polygon.Polygon.{Polygon}
 use Rattle.pt_core.specs.declared.settings.Settings.{Settings}
 use Rattle.corner_smooth.specs.Corner.{corner_piece, pieces_of}
-use Rattle.least_walk.specs.LeastWalk.{IsWalk, Step, steps_from, steps_of}
+use Rattle.least_walk.specs.LeastWalk.{IsWalk, Step, steps_from}
 use Rattle.curve_join.specs.Bends.{bends_of}
 use Rattle.curve_join.specs.Choice.{IsBestJoin, MayBeOne, run_piece}
 use Rattle.curve_join.specs.Outline.{Outline, outline}
@@ -77,3 +77,9 @@ outlines_few settings (path ∷ paths) (polygon ∷ polygons) (vertices ∷ list
       each_path = omega (arith, rest.each_path);
       together = rw (sum_by-cons length pieces outlines, sum_by-cons (λ (p : Path). length p.points) path paths) (omega (arith, rest.together));
     }
+
+pub polygons_few : (settings : Settings) (paths : List Path) (polygons : List Polygon) → AllZip (IsPolygonOf settings) paths polygons → AllZip (λ (path : Path) (polygon : Polygon). length polygon.at ≤ length path.points) paths polygons
+polygons_few settings [] [] are = are
+polygons_few settings [] (polygon ∷ polygons) are = absurd are
+polygons_few settings (path ∷ paths) [] are = absurd are
+polygons_few settings (path ∷ paths) (polygon ∷ polygons) are = (few_at_most settings.cyclic path polygon are.0, polygons_few settings paths polygons are.1)

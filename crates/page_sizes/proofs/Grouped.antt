@@ -1,12 +1,12 @@
 -- Each outline is one of a shape at most: its outer one, or a hole of it.
-use Rattle.std.proofs.Common.{◌≡◌, ℕ, suc, zero, ◌+◌, ◌*◌, ◌≤◌, ◌<◌, Bool, true, false, cond, not, nat_eq, nat_le, List, [], ◌∷◌, ◌++◌, All, Option, Some, None, is_none, is_some, filter, flat_map, get_or, length, map, sum_by, refl, ap, sym, subst, ◌∙◌, arith}
+use Rattle.std.proofs.Common.{◌≡◌, ℕ, suc, zero, ◌+◌, ◌≤◌, Bool, true, false, cond, nat_eq, nat_le, List, [], ◌∷◌, Option, Some, None, is_none, filter, length, map, sum_by, refl, ap, sym, ◌∙◌, arith}
 use Rattle.std.specs.List.{range_with_len}
-use Rattle.std.proofs.lemmas.List.Sums.{sum_by-cons, sum_by-append}
-use Rattle.std.proofs.lemmas.List.FromFn.{length-range_with_len, sum_by-map-range_with_len_more}
+use Rattle.std.proofs.lemmas.List.Sums.{sum_by-cons}
+use Rattle.std.proofs.lemmas.List.FromFn.{sum_by-map-range_with_len_more}
 use Rattle.pt_core.specs.declared.path.Path.{Path}
 use Rattle.pt_core.specs.declared.trace.Group.{Group}
 use Rattle.turn_policies.specs.Majority.{sum_below}
-use Rattle.turn_policies.proofs.Counting.{sum_below-add, sum_below-at, sum_below-same, sum_below-zero}
+use Rattle.turn_policies.proofs.Counting.{sum_below-add, sum_below-at, sum_below-zero}
 use Rattle.path_tree.specs.Groups.{group_at, groups_of, holder_of, holes_below, is_number}
 
 sum_by-filter : {A : Type 0} (p : A → Bool) (f : A → ℕ) (xs : List A) → sum_by f (filter p xs) ≡ sum_by (λ x. cond (p x) (f x) 0) xs

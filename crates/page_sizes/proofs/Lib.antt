@@ -10,3 +10,4 @@ pub mod Fewer
 pub mod Certificates
 pub mod Documents
 pub mod Files
+mod Examples

@@ -1,12 +1,11 @@
 -- How long the texts of paths as lists of points are.
-use Rattle.std.proofs.Common.{◌≡◌, ℕ, suc, zero, ◌+◌, ◌*◌, ◌≤◌, ◌<◌, ◌≤ℤ◌, ◌^◌, ℤ, pos, negsuc, Bool, true, false, cond, List, [], ◌∷◌, ◌++◌, All, codes, decimal, filter, flat_map, get_or, length, length-append, sum_by, refl, ap, sym, subst, ◌∙◌, arith}
+use Rattle.std.proofs.Common.{◌≡◌, ℕ, ◌+◌, ◌*◌, ◌≤◌, ◌<◌, ◌≤ℤ◌, ◌^◌, ℤ, pos, negsuc, Bool, List, [], ◌∷◌, All, decimal, filter, flat_map, get_or, length, length-append, refl, arith}
 use Rattle.std.specs.Fmt.{signed_decimal}
 use Rattle.std.proofs.lemmas.Fmt.{length-decimal-le}
 use Rattle.std.proofs.lemmas.Int.{ints}
 use Rattle.std.proofs.lemmas.Nat.{mul-le}
 use Rattle.std.proofs.lemmas.List.Sums.{sum_by-le}
-use Rattle.std.proofs.lemmas.List.Elements.{All-cons, All-filter, All-head, All-nil, All-tail}
-use Rattle.pt_core.specs.ClosedWalk.{IsClosedWalk}
+use Rattle.std.proofs.lemmas.List.Elements.{All-cons, All-filter, All-nil}
 use Rattle.pt_core.specs.declared.limits.TheConstants.{LONGEST_SIDE}
 use Rattle.pt_core.specs.declared.path.Path.{Path}
 use Rattle.pt_core.specs.declared.path.Sign.{Sign}
@@ -17,12 +16,12 @@ use Rattle.pt_base.specs.PointsText.{path_text, point_text, points_text, sign_te
 use Rattle.bit_image.specs.Image.{Image}
 use Rattle.bit_image.specs.Page.{IsPage, Page, image_of}
 use Rattle.bit_image.proofs.Pages.{Fits-page}
-use Rattle.turn_policies.specs.Majority.{count_below, sum_below}
-use Rattle.path_decompose.specs.Bounds.{IsCornerOf, IsPathOn}
+use Rattle.turn_policies.specs.Majority.{count_below}
+use Rattle.path_decompose.specs.Bounds.{IsCornerOf}
 use Rattle.path_decompose.specs.Decomposition.{IsDecomposed, IsDecomposition, inverted}
 use Rattle.path_decompose.specs.Inside.{black_count, inside}
 use Rattle.path_decompose.proofs.PathOn.{page_paths_on}
-use Rattle.page_sizes.specs.Edges.{edge_count, point_count, side_count}
+use Rattle.page_sizes.specs.Edges.{point_count, side_count}
 use Rattle.page_sizes.proofs.Counted.{count_most, edges_most, points_counted, sum_most}
 use Rattle.page_sizes.proofs.Weights.{places_most, texts_most, weights_kept, weights_times}
 

@@ -1,8 +1,8 @@
 -- How long the texts of shapes are that a pen draws, in units of which a pixel has so many.
-use Rattle.std.proofs.Common.{◌≡◌, ℕ, suc, zero, ◌+◌, ◌*◌, ◌/◌, ◌^◌, ◌≤◌, ◌<◌, ℤ, pos, negsuc, ◌+ℤ◌, ◌-ℤ◌, ◌*ℤ◌, unsigned_abs, Bool, true, false, cond, List, [], ◌∷◌, ◌++◌, All, codes, decimal, flat_map, get_or, length, length-append, ext_get_or, map, sum_by, refl, ap, sym, subst, ◌∙◌, arith, inl, inr}
+use Rattle.std.proofs.Common.{◌≡◌, ℕ, ◌+◌, ◌*◌, ◌^◌, ◌≤◌, ℤ, pos, negsuc, ◌+ℤ◌, ◌-ℤ◌, ◌*ℤ◌, unsigned_abs, List, [], ◌∷◌, ◌++◌, All, flat_map, get_or, length, length-append, ext_get_or, map, sum_by, ap, sym, subst, ◌∙◌, arith, inl, inr}
 use Rattle.std.specs.Fmt.{signed_decimal}
 use Rattle.std.proofs.lemmas.Bool.{cases_lt}
-use Rattle.std.proofs.lemmas.Fmt.{length-decimal-le, length_signed_le}
+use Rattle.std.proofs.lemmas.Fmt.{length_signed_le}
 use Rattle.std.proofs.lemmas.Int.{ints}
 use Rattle.std.proofs.lemmas.List.{get_or_past}
 use Rattle.std.proofs.lemmas.List.Concat.{flat_map-cons}
@@ -22,7 +22,7 @@ use Rattle.pt_core.specs.declared.trace.Group.{Group}
 use Rattle.pt_core.proofs.Sizes.{product_most, quotient_most}
 use Rattle.turn_policies.specs.Majority.{sum_below}
 use Rattle.path_tree.specs.Groups.{groups_of}
-use Rattle.outline_pen.specs.Shapes.{curve_text, flat_text, group_text, line_text, more_text, outline_text, piece_text, pieces_text, shape_text, start_text}
+use Rattle.outline_pen.specs.Shapes.{curve_text, flat_text, group_text, line_text, more_text, outline_text, piece_text, pieces_text}
 use Rattle.outline_pen.specs.declared.pen.Mark.{Mark}
 use Rattle.outline_pen.specs.declared.pen.Mark.TheVariants as mark
 use Rattle.document_readings.specs.Places.{AreInReach, IsPieceInReach, IsPointInReach}
@@ -79,6 +79,7 @@ weights_at shape beside each outlines =
     all_places outlines =
         ext_get_or [] (map (outline_at outlines) (range_with_len 0 (length outlines))) outlines (length-map-range_with_len (outline_at outlines) 0 (length outlines))
         (λ k short. get_or-map-range_with_len (outline_at outlines) 0 (length outlines) k k [] (omega (arith, short, length-map-range_with_len (outline_at outlines) 0 (length outlines))) (omega arith))
+
     parted : (outlines : List (List Piece)) → sum_by (λ pieces. shape + (beside + each * length pieces)) outlines ≡ each * sum_by length outlines + (shape + beside) * length outlines
     parted [] = omega arith
     parted (pieces ∷ outlines) =

@@ -1,5 +1,5 @@
 -- Each line on a page is one of its sides.
-use Rattle.std.proofs.Common.{◌≡◌, ℕ, zero, suc, ◌+◌, ◌*◌, ◌<◌, ◌≤◌, Bool, true, false, cond, ◌&&◌, nat_eq, nat_le, List, [], ◌∷◌, All, length, count_by, refl, ap, sym, ◌∙◌, arith}
+use Rattle.std.proofs.Common.{◌≡◌, ℕ, suc, ◌+◌, ◌<◌, cond, ◌&&◌, nat_eq, nat_le, List, [], ◌∷◌, All, length, count_by, ap, ◌∙◌, arith}
 use Rattle.std.proofs.lemmas.Bool.Decides.{nat_tests}
 use Rattle.std.proofs.lemmas.List.Elements.{All-head, All-tail}
 use Rattle.std.proofs.lemmas.List.Sums.{sum_by-cons}
@@ -23,10 +23,12 @@ one_place columns rows u v left below =
   where
     at_most : (n c : ℕ) → c < n → cond {A = ℕ} (nat_le n c) 0 1 ≡ 1
     at_most n c below = grind (arith, nat_tests)
+
     column : sum_below columns (λ x. cond (nat_eq x u) 1 0) ≡ 1
     column =
         sum_below-same columns (λ x. cond (nat_eq x u) 1 0) (λ x. cond (nat_eq u x) 1 0) (λ x short. ap (λ t. cond t 1 0) (eq_back x u))
         ∙ sum_below-at columns u 1 ∙ at_most columns u left
+
     row : (y : ℕ) → y < rows → sum_below columns (λ x. cond (nat_eq x u && nat_eq y v) 1 0) ≡ cond (nat_eq v y) 1 0
     row y short =
         sum_below-if columns (nat_eq y v) (λ x. nat_eq x u) ∙ ap (λ n. cond (nat_eq y v) n 0) column ∙ ap (λ t. cond t 1 0) (eq_back y v)

@@ -2,12 +2,15 @@
 ghost use Rattle.std.specs.Prelude.{◌≡◌, ℕ, ◌+◌, ◌*◌, ◌≤◌, List, length, sum_by};
 ghost use Rattle.pt_core.specs.declared.path.Path.{Path};
 ghost use Rattle.pt_core.specs.declared.policy.Policy.{Policy};
+ghost use Rattle.std.specs.List.{AllZip};
 ghost use Rattle.pt_core.specs.declared.settings.Settings.{Settings};
+ghost use Rattle.pt_core.specs.declared.trace.Trace.{Trace};
 ghost use Rattle.bit_image.specs.Image.{Image};
 ghost use Rattle.bit_image.specs.Page.{Page, IsPage, image_of};
 ghost use Rattle.path_decompose.specs.Decomposition.{IsDecomposition};
 ghost use Rattle.run_output.specs.Parts.{file_text};
 ghost use Rattle.page_trace.specs.Document.{IsDocument};
+ghost use Rattle.page_trace.specs.Trace.{HasPolygons, IsTrace};
 ghost use Rattle.page_sizes.specs.Bytes.{bytes_beside, bytes_each};
 ghost use Rattle.page_sizes.specs.Edges.{edge_count, point_count, side_count};
 
@@ -20,6 +23,14 @@ pub fn points_are_edges()
 /// These are at most all sides of its pixels.
 pub fn edges_are_sides()
     ensures { (b : Image) (width height : ℕ) → edge_count b width height ≤ side_count width height }
+{}
+
+/// A polygon has no more vertices than its path has points, and outlines no more pieces together than their paths.
+pub fn outlines_have_few_pieces()
+    ensures polygons { (page : Page) (settings : Settings) (trace : Trace) → HasPolygons page settings trace
+        → AllZip (λ path polygon. length polygon.at ≤ length path.points) trace.paths trace.polygons }
+    ensures pieces { (page : Page) (settings : Settings) (trace : Trace) → IsTrace page settings trace
+        → sum_by length trace.outlines ≤ point_count trace.paths }
 {}
 
 /// A page's document has at most so many bytes for each side of its pixels, and so many more, by its backend, where a
