@@ -15,6 +15,8 @@ use Rattle.pt_core.proofs.Rounding.{rounded_most}
 use Rattle.pt_core.proofs.Sizes.{product_most, quotient_most}
 use Rattle.dxf_geojson.specs.Chords.{mean_of, mean_point, curve_point, curve_points, piece_points, points_from, chord_points}
 use Rattle.document_readings.specs.Places.{IsPointInReach, IsPieceInReach, AreInReach}
+use Rattle.document_readings.proofs.Commands.{same_start}
+use Rattle.document_readings.proofs.Nearness.{end_near, start_near, origin_near}
 
 -- the coordinates are small enough to be rounded
 pub record IsWithin (p : Point) : Type 0 where
@@ -65,10 +67,6 @@ piece_within from (Corner at end) from_near near =
     All-cons IsWithin at (end ∷ []) (within_reach at near.0) (All-cons IsWithin end [] (within_reach end near.1) (All-nil IsWithin))
 piece_within from (Curve first second end al) from_near near = curve_within from first second end from_near near.0 near.1 near.2
 
-end_near : (piece : Piece) → IsPieceInReach piece → IsPointInReach (end_of piece)
-end_near (Corner at end) near = near.1
-end_near (Curve first second end al) near = near.2
-
 points_within : (from : Point) (pieces : List Piece) → IsPointInReach from → All IsPieceInReach pieces → All IsWithin (points_from from pieces)
 points_within from [] from_near near = All-nil IsWithin
 points_within from (piece ∷ pieces) from_near near =
@@ -76,15 +74,10 @@ points_within from (piece ∷ pieces) from_near near =
     All-append IsWithin (piece_points from piece) (points_from (end_of piece) pieces) (piece_within from piece from_near here)
     (points_within (end_of piece) pieces (end_near piece here) (All-tail IsPieceInReach piece pieces near))
 
-start_near : (from : Point) (pieces : List Piece) → IsPointInReach from → All IsPieceInReach pieces → IsPointInReach (start_from from pieces)
-start_near from [] from_near near = from_near
-start_near from (piece ∷ pieces) from_near near =
-    start_near (end_of piece) pieces (end_near piece (All-head IsPieceInReach piece pieces near)) (All-tail IsPieceInReach piece pieces near)
-
 pub chords_within : (pieces : List Piece) → All IsPieceInReach pieces → All IsWithin (chord_points pieces)
 chords_within pieces near =
     let start = start_from origin pieces in
-    let at_start = start_near origin pieces (record { x = omega arith; y = omega arith }) near in
+    let at_start = start_near origin pieces origin_near near in
     All-cons IsWithin start (points_from start pieces) (within_reach start at_start) (points_within start pieces at_start near)
 
 pub outline_chords_within : (outlines : List (List Piece)) (i : ℕ) → AreInReach outlines → All IsWithin (chord_points (outline_at outlines i))
@@ -137,10 +130,6 @@ last_of_pieces from (piece ∷ pieces) =
     last_append from (piece_points from piece) (points_from (end_of piece) pieces)
     ∙ ap (λ p. last_from p (points_from (end_of piece) pieces)) (last_of_piece from piece)
     ∙ last_of_pieces (end_of piece) pieces
-
-same_start : (from : Point) (pieces : List Piece) → start_from (start_from from pieces) pieces ≡ start_from from pieces
-same_start from [] = refl
-same_start from (piece ∷ pieces) = refl
 
 -- the last chord point is the first one
 pub chords_come_back : (pieces : List Piece) (d : Point) → get_or (chord_points pieces) (length (chord_points pieces) - 1) d ≡ start_from origin pieces

@@ -96,7 +96,7 @@ ends_there unit from [] = refl
 ends_there unit from (Corner at end ∷ pieces) = ends_there unit end pieces
 ends_there unit from (Curve first second end al ∷ pieces) = ends_there unit end pieces
 
-same_start : (from : Point) (pieces : List Piece) → start_from (start_from from pieces) pieces ≡ start_from from pieces
+pub same_start : (from : Point) (pieces : List Piece) → start_from (start_from from pieces) pieces ≡ start_from from pieces
 same_start from [] = refl
 same_start from (piece ∷ pieces) = refl
 

@@ -2,7 +2,7 @@
 use Rattle.std.proofs.Common.{◌≡◌, ℕ, suc, ◌+◌, ◌^◌, ◌<◌, ◌≤◌, Bool, true, false, not, cond, List, [], ◌∷◌, ◌++◌, codes, map, length, get_or, refl, ap, sym, ◌∙◌, append_assoc, Some, None, arith, length-append}
 use Rattle.std.proofs.lemmas.Bool.Decides.{nat_tests}
 use Rattle.std.proofs.lemmas.List.{append-nil, length-map}
-use Rattle.std.proofs.lemmas.List.Elements.{All-head, All-tail, All-nil, All-cons, All-append, All-map, All-weaker}
+use Rattle.std.proofs.lemmas.List.Elements.{All-head, All-tail, All-nil, All-cons, All-append, All-map}
 use Rattle.std.proofs.lemmas.List.Splits.{slice_split_at}
 use Rattle.std.specs.Prelude.{decimal, All, option_and_then, bytes_eq, ◌==◌, ◌&&◌, if◌then◌else◌}
 use Rattle.std.specs.List.{concat}
@@ -11,16 +11,16 @@ use Rattle.outline_pen.specs.declared.pen.Mark.TheVariants as mark
 use Rattle.pt_base.specs.Whole.{IsDigit}
 use Rattle.pt_core.specs.declared.trace.Trace.{Trace}
 use Rattle.eps_backend.specs.EpsText.{eps_mark, drawing_text, ps_page_text, scale_text}
-use Rattle.list_reader.proofs.Runs.{digits_of_decimal}
 use Rattle.run_output.specs.Parts.{file_text, page_pieces, pages_text, prolog_text, trailer_text}
 use Rattle.document_readings.specs.DscReading.{page, number, number_at_end, program, before_pages, in_page, in_trailer, counted, comment_of, dsc_line, dsc_step, is_told, pages_by, dsc_pages}
 use Rattle.document_readings.specs.Numbers.{natural_of}
 use Rattle.document_readings.specs.Places.{AreInReach}
 use Rattle.document_readings.specs.Texts.{spaced_words, text_lines}
-use Rattle.document_readings.proofs.BytesPass.{all_pass, both_true, passes_append, each_passes, decimal_passes}
+use Rattle.document_readings.proofs.BytesPass.{all_pass, both_true, passes_append, decimal_passes}
 use Rattle.document_readings.proofs.Digits.{by_first_digit}
+use Rattle.document_readings.proofs.Lines.{IsNoLineFeed, number_in_line, within_line}
+use Rattle.document_readings.proofs.Naturals.{natural_read, word_before_space, last_word}
 use Rattle.document_readings.proofs.OutlineBytes.{groups_pass, shapes_near}
-use Rattle.document_readings.proofs.SvgParts.{natural_read, word_before_space, last_word}
 
 -- no comment begins in such a text
 abbrev pub is_no_percent : ℕ → Bool
@@ -74,9 +74,6 @@ program_line (a ∷ b ∷ rest) plain =
     ap (λ t. cond (cond t (cond (b == 37) true (b == 33)) false) (comment_of (spaced_words (a ∷ b ∷ rest))) program) no
 
 -- the lines of a page go into its text
-abbrev pub IsNoLineFeed : ℕ → Type 0
-IsNoLineFeed b = (b == 10) ≡ false
-
 line_taken : (done : List (List ℕ)) (text line rest : List ℕ) → All IsNoLineFeed line → all_pass is_no_percent line ≡ true
     → pages_by (in_page done text) (text_lines (line ++ 10 ∷ rest)) ≡ pages_by (in_page done (text ++ line ++ 10 ∷ [])) (text_lines rest)
 line_taken done text line rest within plain =
@@ -123,18 +120,6 @@ program_taken done text rest is =
 -- the comment before a page
 abbrev page_line : ℕ → List ℕ
 page_line p = codes "%%Page: " ++ (decimal p ++ 32 ∷ decimal p)
-
-digit_in_line : (b : ℕ) → IsDigit b → IsNoLineFeed b
-digit_in_line b d = grind (arith, nat_tests)
-
-pub number_in_line : (n : ℕ) → n < 2 ^ 64 → All IsNoLineFeed (decimal n)
-number_in_line n small = All-weaker IsDigit IsNoLineFeed digit_in_line (decimal n) (digits_of_decimal n small)
-
-abbrev is_within : ℕ → Bool
-is_within b = not (b == 10)
-
-pub within_line : (text : List ℕ) → all_pass is_within text ≡ true → All IsNoLineFeed text
-within_line text h = All-weaker (λ b. is_within b ≡ true) IsNoLineFeed (λ b k. grind (arith, nat_tests)) text (each_passes is_within text h)
 
 page_line_within : (p : ℕ) → p < 2 ^ 64 → All IsNoLineFeed (page_line p)
 page_line_within p small =

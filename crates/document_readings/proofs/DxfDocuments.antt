@@ -1,11 +1,9 @@
 -- A drawing interchange file is read as its trace's polylines.
 use Rattle.std.proofs.Common.{◌≡◌, ℕ, zero, suc, ◌-◌, ◌/◌, ◌%◌, ◌^◌, ◌<◌, ℤ, pos, negsuc, unsigned_abs, true, false, List, [], ◌∷◌, ◌++◌, codes, flat_map, map, take, drop, length, refl, ap, sym, ◌∙◌, append_assoc, Some, arith}
-use Rattle.std.proofs.lemmas.Bool.Decides.{nat_tests}
 use Rattle.std.proofs.lemmas.List.{append-nil}
-use Rattle.std.proofs.lemmas.List.Elements.{All-head, All-tail, All-nil, All-cons, All-append, All-weaker}
+use Rattle.std.proofs.lemmas.List.Elements.{All-head, All-tail, All-nil, All-cons, All-append}
 use Rattle.std.proofs.lemmas.List.Splits.{slice_split_at}
 use Rattle.std.specs.Prelude.{decimal, All, option_map, option_and_then, ◌==◌}
-use Rattle.pt_base.specs.Whole.{IsDigit}
 use Rattle.pt_core.specs.declared.piece.Piece.{Piece}
 use Rattle.pt_core.specs.declared.piece.Piece.TheVariants.{Corner, Curve}
 use Rattle.pt_core.specs.declared.point.Point.{Point}
@@ -16,35 +14,29 @@ use Rattle.pt_core.specs.Floor.{rounded}
 use Rattle.pt_core.specs.Outlines.{start_from}
 use Rattle.dxf_geojson.specs.Chords.{chord_points, curve_point, curve_points, points_from}
 use Rattle.dxf_geojson.specs.DxfText.{pixels_text, vertex_text, all_but_last, polyline_text, dxf_text}
-use Rattle.list_reader.proofs.Runs.{digits_of_decimal}
 use Rattle.document_readings.specs.Decimals.{Position, decimal_of}
 use Rattle.document_readings.specs.DxfReading.{DxfGroup, section, end_of_section, end_of_file, polyline, vertex, end_of_sequence, name, layer, vertices_follow, flags, across, upwards, dxf_groups, Polyline, beginning, among, heading, within, dxf_steps, polylines_by, dxf_polylines}
 use Rattle.document_readings.specs.Texts.{text_lines}
 use Rattle.document_readings.specs.Places.{AreInReach, IsPieceInReach}
 use Rattle.document_readings.specs.Rings.{HasTwoPieces, position_of, polyline_of}
 use Rattle.document_readings.proofs.Chords.{IsWithin, chords_within, thousandths_small}
+use Rattle.document_readings.proofs.Lines.{IsNoLineFeed, digit_in_line, number_in_line}
 use Rattle.document_readings.proofs.Thousandths.{thousandths_read}
 
 -- no line ends within a number
-abbrev IsNoLineFeed : ℕ → Type 0
-IsNoLineFeed b = (b == 10) ≡ false
-
-digit_is_none : (b : ℕ) → IsDigit b → IsNoLineFeed b
-digit_is_none b d = grind (arith, nat_tests)
-
 small_digit : (n : ℕ) → n < 10 → IsNoLineFeed (digit n)
-small_digit n small = digit_is_none (digit n) (omega arith, omega arith)
+small_digit n small = digit_in_line (digit n) (omega arith, omega arith)
 
 minus_in_line : (t : ℤ) → All IsNoLineFeed (minus_text t)
 minus_in_line (pos n) = All-nil IsNoLineFeed
 minus_in_line (negsuc n) = All-cons IsNoLineFeed 45 [] refl (All-nil IsNoLineFeed)
 
-number_in_line : (t : ℤ) → unsigned_abs t < 2 ^ 62 → All IsNoLineFeed (fixed_text t)
-number_in_line t small =
+thousandths_in_line : (t : ℤ) → unsigned_abs t < 2 ^ 62 → All IsNoLineFeed (fixed_text t)
+thousandths_in_line t small =
     let m = unsigned_abs t % 1000 in
     let whole = decimal (unsigned_abs t / 1000) in
     All-append IsNoLineFeed (minus_text t ++ whole) (decimals_text m)
-    (All-append IsNoLineFeed (minus_text t) whole (minus_in_line t) (All-weaker IsDigit IsNoLineFeed digit_is_none whole (digits_of_decimal (unsigned_abs t / 1000) (omega arith))))
+    (All-append IsNoLineFeed (minus_text t) whole (minus_in_line t) (number_in_line (unsigned_abs t / 1000) (omega arith)))
     (All-cons IsNoLineFeed 46 (digit (m / 100) ∷ digit (m / 10 % 10) ∷ digit (m % 10) ∷ []) refl
     (All-cons IsNoLineFeed (digit (m / 100)) (digit (m / 10 % 10) ∷ digit (m % 10) ∷ []) (small_digit (m / 100) (omega arith))
     (All-cons IsNoLineFeed (digit (m / 10 % 10)) (digit (m % 10) ∷ []) (small_digit (m / 10 % 10) (omega arith))
@@ -64,9 +56,9 @@ vertex_read p rest groups near reads =
     let y = pixels_text p.y in
     let x_small = thousandths_small p.x near.x in
     let y_small = thousandths_small p.y near.y in
-    let second : text_lines (y ++ 10 ∷ rest) ≡ y ∷ text_lines rest = slice_split_at (λ b. b == 10) y 10 rest (number_in_line (rounded p.y 1000) y_small) refl in
+    let second : text_lines (y ++ 10 ∷ rest) ≡ y ∷ text_lines rest = slice_split_at (λ b. b == 10) y 10 rest (thousandths_in_line (rounded p.y 1000) y_small) refl in
     let first : text_lines (x ++ 10 ∷ (codes "20\n" ++ (y ++ 10 ∷ rest))) ≡ x ∷ codes "20" ∷ y ∷ text_lines rest =
-    slice_split_at (λ b. b == 10) x 10 (codes "20\n" ++ (y ++ 10 ∷ rest)) (number_in_line (rounded p.x 1000) x_small) refl
+    slice_split_at (λ b. b == 10) x 10 (codes "20\n" ++ (y ++ 10 ∷ rest)) (thousandths_in_line (rounded p.x 1000) x_small) refl
     ∙ ap (λ lines. x ∷ codes "20" ∷ lines) second in
     ap (λ t. dxf_groups (text_lines t)) (vertex_bytes x y rest)
     ∙ ap (λ lines. dxf_groups (codes "0" ∷ codes "VERTEX" ∷ codes "8" ∷ codes "0" ∷ codes "10" ∷ lines)) first

@@ -8,8 +8,8 @@ use Rattle.eps_backend.specs.EpsText.{comments_text, drawing_text, eps_text}
 use Rattle.document_readings.specs.EpsBox.{box_by, box_in, box_of_lines, eps_box}
 use Rattle.document_readings.specs.Numbers.{natural_of}
 use Rattle.document_readings.specs.Texts.{spaced_words}
-use Rattle.document_readings.proofs.DscDocuments.{IsNoLineFeed, number_in_line, within_line}
-use Rattle.document_readings.proofs.SvgParts.{natural_read, word_before_space, last_word}
+use Rattle.document_readings.proofs.Lines.{IsNoLineFeed, number_in_line, within_line}
+use Rattle.document_readings.proofs.Naturals.{last_word, natural_read, word_before_space}
 
 abbrev box_line : ℕ → ℕ → List ℕ
 box_line width height = codes "%%BoundingBox: 0 0 " ++ (decimal width ++ 32 ∷ decimal height)

@@ -1,7 +1,10 @@
 pub mod Commands
 pub mod Digits
+pub mod Nearness
+pub mod Naturals
 pub mod PathReading
 pub mod BytesPass
+pub mod Lines
 pub mod OutlineBytes
 pub mod ValueBytes
 pub mod SvgParts

@@ -21,7 +21,8 @@ use Rattle.outline_pen.specs.declared.pen.Mark.TheVariants as mark
 use Rattle.document_readings.specs.Places.{IsPointInReach, IsPieceInReach, AreInReach}
 use Rattle.document_readings.specs.TraceShapes.{group_outlines, one_shape, shapes_of}
 use Rattle.document_readings.proofs.BytesPass.{all_pass, passes_append, signed_passes}
-use Rattle.document_readings.proofs.PathReading.{small_difference, rounded_small, end_near, start_near, origin_near}
+use Rattle.document_readings.proofs.Nearness.{end_near, start_near, origin_near}
+use Rattle.document_readings.proofs.PathReading.{small_difference, rounded_small}
 
 -- the mark stands within an outline, or between two
 abbrev pub is_stroke : Mark → Bool
@@ -81,12 +82,12 @@ module _ (test : ℕ → Bool) (of_digit : (b : ℕ) → IsDigit b → test b �
   pieces_pass from (piece ∷ pieces) from_near near =
       let here = All-head IsPieceInReach piece pieces near in
       passes_append test (piece_text pen unit from piece) (pieces_text pen unit (end_of piece) pieces) (piece_passes from piece from_near here)
-      (pieces_pass (end_of piece) pieces (end_near unit few piece here) (All-tail IsPieceInReach piece pieces near))
+      (pieces_pass (end_of piece) pieces (end_near piece here) (All-tail IsPieceInReach piece pieces near))
 
   pub outline_passes : (pieces : List Piece) → All IsPieceInReach pieces → all_pass test (outline_text pen unit pieces) ≡ true
   outline_passes pieces near =
       let start = start_from origin pieces in
-      let start_is_near = start_near unit few origin pieces (origin_near unit few) near in
+      let start_is_near = start_near origin pieces origin_near near in
       three_pass (start_text pen unit start) (pieces_text pen unit start pieces) (pen mark.Closed)
       (three_pass (pen mark.Start) (place_text unit start) (pen mark.Started) (of_pen mark.Start refl) (place_passes start start_is_near) (of_pen mark.Started refl))
       (pieces_pass start pieces start_is_near near) (of_pen mark.Closed refl)

@@ -1,15 +1,13 @@
 -- Path data as the pen writes it is read word by word.
-use Rattle.std.proofs.Common.{◌≡◌, ℕ, suc, ◌+◌, ◌-◌, ◌*◌, ◌^◌, ◌<◌, ◌≤◌, ℤ, pos, negsuc, neg_ℤ, ◌-ℤ◌, unsigned_abs, Bool, true, false, List, [], ◌∷◌, ◌++◌, codes, flat_map, map, refl, ap, sym, ◌∙◌, subst, append_assoc, length, Some, arith}
+use Rattle.std.proofs.Common.{◌≡◌, ℕ, suc, ◌+◌, ◌-◌, ◌*◌, ◌^◌, ◌<◌, ◌≤◌, ℤ, pos, negsuc, neg_ℤ, ◌-ℤ◌, unsigned_abs, Bool, true, false, List, [], ◌∷◌, ◌++◌, codes, flat_map, map, refl, ap, sym, ◌∙◌, subst, append_assoc, Some, arith}
 use Rattle.std.proofs.lemmas.Int.{ints}
 use Rattle.std.proofs.lemmas.Bool.Decides.{nat_tests}
 use Rattle.std.proofs.lemmas.List.{append-nil}
 use Rattle.std.proofs.lemmas.List.Elements.{All-head, All-tail}
 use Rattle.std.specs.Prelude.{decimal, All, option_map, option_and_then}
 use Rattle.std.specs.Fmt.{signed_decimal}
-use Rattle.std.proofs.lemmas.Fmt.{decimal_nonempty}
 use Rattle.std.specs.Char.{is_ascii_digit}
 use Rattle.pt_base.specs.Whole.{IsDigit, value_after}
-use Rattle.list_reader.proofs.Runs.{digits_of_decimal, value_of_decimal}
 use Rattle.pt_core.specs.declared.piece.Piece.{Piece}
 use Rattle.pt_core.specs.declared.piece.Piece.TheVariants.{Corner, Curve}
 use Rattle.pt_core.specs.declared.point.Point.{Point}
@@ -20,6 +18,8 @@ use Rattle.pt_core.specs.UnitText.{place_text, step_text}
 use Rattle.pt_core.proofs.Rounding.{rounded_most}
 use Rattle.outline_pen.specs.Shapes.{line_text, curve_text, piece_text, pieces_text, outline_text, more_text}
 use Rattle.svg_backend.specs.SvgText.{svg_mark}
+use Rattle.document_readings.proofs.Digits.{by_first_digit}
+use Rattle.document_readings.proofs.Nearness.{end_near, start_near, origin_near}
 use Rattle.document_readings.proofs.Commands.{step_from, piece_commands, pieces_commands, outline_commands, outlines_drawn}
 use Rattle.document_readings.specs.Drawn.{Command, move, line, curve, close, drawn}
 use Rattle.document_readings.specs.Places.{IsPointInReach, IsPieceInReach, AreInReach, rounded_place, outline_subpath}
@@ -37,33 +37,20 @@ digits_read [] minus value rest all = refl
 digits_read (b ∷ ds) minus value rest all =
     rw (is_digit_class b (All-head IsDigit b ds all)) (digits_read ds minus (10 * value + (b - 48)) rest (All-tail IsDigit b ds all))
 
--- digits that begin a number, a space behind
-digits_begin : (b : ℕ) (ds : List ℕ) (rest : List ℕ) → All IsDigit (b ∷ ds)
-    → path_words nothing ((b ∷ ds) ++ 32 ∷ rest) ≡ option_map (λ more. number (pos (value_after 0 (b ∷ ds))) ∷ more) (path_words nothing rest)
-digits_begin b ds rest all =
-    rw (is_digit_class b (All-head IsDigit b ds all)) (digits_read ds false (0 + (b - 48)) (32 ∷ rest) (All-tail IsDigit b ds all))
-
-digits_begin_behind_minus : (b : ℕ) (ds : List ℕ) (rest : List ℕ) → All IsDigit (b ∷ ds)
-    → path_words nothing (45 ∷ ((b ∷ ds) ++ 32 ∷ rest)) ≡ option_map (λ more. number (neg_ℤ (pos (value_after 0 (b ∷ ds)))) ∷ more) (path_words nothing rest)
-digits_begin_behind_minus b ds rest all =
-    rw (is_digit_class b (All-head IsDigit b ds all)) (digits_read ds true (0 + (b - 48)) (32 ∷ rest) (All-tail IsDigit b ds all))
-
-some_digits : (ds rest : List ℕ) (n : ℕ) → All IsDigit ds → 0 < length ds → value_after 0 ds ≡ n
-    → (path_words nothing (ds ++ 32 ∷ rest) ≡ option_map (λ more. number (pos n) ∷ more) (path_words nothing rest))
-    × (path_words nothing (45 ∷ (ds ++ 32 ∷ rest)) ≡ option_map (λ more. number (neg_ℤ (pos n)) ∷ more) (path_words nothing rest))
-some_digits [] rest n all some value = absurd (omega arith)
-some_digits (b ∷ ds) rest n all some value =
-    let P : ℕ → Type 0 = λ m. (path_words nothing ((b ∷ ds) ++ 32 ∷ rest) ≡ option_map (λ more. number (pos m) ∷ more) (path_words nothing rest))
-    × (path_words nothing (45 ∷ ((b ∷ ds) ++ 32 ∷ rest)) ≡ option_map (λ more. number (neg_ℤ (pos m)) ∷ more) (path_words nothing rest)) in
-    subst P value (digits_begin b ds rest all, digits_begin_behind_minus b ds rest all)
+-- digits that begin a number, with a space behind, and with a minus sign before
+both_read : (n : ℕ) (rest : List ℕ) → n < 2 ^ 64
+    → (path_words nothing (decimal n ++ 32 ∷ rest) ≡ option_map (λ more. number (pos n) ∷ more) (path_words nothing rest))
+    × (path_words nothing (45 ∷ (decimal n ++ 32 ∷ rest)) ≡ option_map (λ more. number (neg_ℤ (pos n)) ∷ more) (path_words nothing rest))
+both_read n rest small =
+    by_first_digit (λ ds m. (path_words nothing (ds ++ 32 ∷ rest) ≡ option_map (λ more. number (pos m) ∷ more) (path_words nothing rest))
+    × (path_words nothing (45 ∷ (ds ++ 32 ∷ rest)) ≡ option_map (λ more. number (neg_ℤ (pos m)) ∷ more) (path_words nothing rest)))
+    (λ b ds first others. (rw (is_digit_class b first) (digits_read ds false (0 + (b - 48)) (32 ∷ rest) others), rw (is_digit_class b first) (digits_read ds true (0 + (b - 48)) (32 ∷ rest) others))) n small
 
 -- a written number is read, where a space follows it
 pub number_read : (z : ℤ) (rest : List ℕ) → unsigned_abs z < 2 ^ 62
     → path_words nothing (signed_decimal z ++ 32 ∷ rest) ≡ option_map (λ more. number z ∷ more) (path_words nothing rest)
-number_read (pos n) rest small =
-    (some_digits (decimal n) rest n (digits_of_decimal n (omega arith)) (decimal_nonempty n (omega arith)) (value_of_decimal n (omega arith))).0
-number_read (negsuc n) rest small =
-    (some_digits (decimal (suc n)) rest (suc n) (digits_of_decimal (suc n) (omega arith)) (decimal_nonempty (suc n) (omega arith)) (value_of_decimal (suc n) (omega arith))).1
+number_read (pos n) rest small = (both_read n rest (omega arith)).0
+number_read (negsuc n) rest small = (both_read (suc n) rest (omega arith)).1
 
 number_behind : (z : ℤ) (rest : List ℕ) (words : List PathWord) → unsigned_abs z < 2 ^ 62 → path_words nothing rest ≡ Some words
     → path_words nothing (signed_decimal z ++ 32 ∷ rest) ≡ Some (number z ∷ words)
@@ -168,10 +155,6 @@ module _ (unit : ℕ) (few : unit ≤ 1000) where
   piece_goes from (Curve first second end al) text commands from_near near goes =
       curve_goes from first second end text commands from_near near.0 near.1 near.2 goes
 
-  pub end_near : (piece : Piece) → IsPieceInReach piece → IsPointInReach (end_of piece)
-  end_near (Corner at end) near = near.1
-  end_near (Curve first second end al) near = near.2
-
   pieces_go : (from : Point) (pieces : List Piece) (text : List ℕ) (commands : List Command) → IsPointInReach from → All IsPieceInReach pieces → Goes text commands
       → Goes (pieces_text svg_mark unit from pieces ++ text) (pieces_commands unit from pieces ++ commands)
   pieces_go from [] text commands from_near near goes = goes
@@ -181,14 +164,6 @@ module _ (unit : ℕ) (few : unit ≤ 1000) where
       let both = piece_goes from piece (pieces_text svg_mark unit (end_of piece) pieces ++ text) (pieces_commands unit (end_of piece) pieces ++ commands) from_near here later in
       subst (λ t. Goes t (pieces_commands unit from (piece ∷ pieces) ++ commands)) (sym (append_assoc (piece_text svg_mark unit from piece) (pieces_text svg_mark unit (end_of piece) pieces) text))
       (subst (λ cs. Goes (piece_text svg_mark unit from piece ++ (pieces_text svg_mark unit (end_of piece) pieces ++ text)) cs) (sym (append_assoc (piece_commands unit from piece) (pieces_commands unit (end_of piece) pieces) commands)) both)
-
-  pub origin_near : IsPointInReach origin
-  origin_near = record { x = omega arith; y = omega arith }
-
-  pub start_near : (from : Point) (pieces : List Piece) → IsPointInReach from → All IsPieceInReach pieces → IsPointInReach (start_from from pieces)
-  start_near from [] from_near near = from_near
-  start_near from (piece ∷ pieces) from_near near =
-      start_near (end_of piece) pieces (end_near piece (All-head IsPieceInReach piece pieces near)) (All-tail IsPieceInReach piece pieces near)
 
   -- an outline, and what follows its `z`
   outline_reads : (pieces : List Piece) (rest : List ℕ) (words : List PathWord) (commands : List Command) → All IsPieceInReach pieces

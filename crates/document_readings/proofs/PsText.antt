@@ -26,7 +26,8 @@ use Rattle.document_readings.specs.TraceShapes.{group_outlines, shapes_of}
 use Rattle.document_readings.proofs.Commands.{piece_commands, pieces_commands, outline_commands}
 use Rattle.document_readings.proofs.Digits.{by_first_digit, is_digit_true}
 use Rattle.document_readings.proofs.OutlineBytes.{shapes_near}
-use Rattle.document_readings.proofs.PathReading.{small_difference, rounded_small, end_near, start_near, origin_near}
+use Rattle.document_readings.proofs.Nearness.{end_near, start_near, origin_near}
+use Rattle.document_readings.proofs.PathReading.{small_difference, rounded_small}
 
 -- a number, and a space behind
 digits_pass : (ds : List ℕ) (negative : Bool) (value : ℕ) (rest : List ℕ) → All IsDigit ds
@@ -123,7 +124,7 @@ module _ (unit : ℕ) (few : unit ≤ 1000) where
   pieces_read from [] rest words from_near near reads = reads
   pieces_read from (piece ∷ pieces) rest words from_near near reads =
       let here = All-head IsPieceInReach piece pieces near in
-      let later = pieces_read (end_of piece) pieces rest words (end_near unit few piece here) (All-tail IsPieceInReach piece pieces near) reads in
+      let later = pieces_read (end_of piece) pieces rest words (end_near piece here) (All-tail IsPieceInReach piece pieces near) reads in
       ap (ps_words ps.between) (append_assoc (piece_text eps_mark unit from piece) (pieces_text eps_mark unit (end_of piece) pieces) rest)
       ∙ piece_read from piece (pieces_text eps_mark unit (end_of piece) pieces ++ rest) (commands_words (pieces_commands unit (end_of piece) pieces) ++ words) from_near here later
       ∙ ap Some (words_append (piece_commands unit from piece) (pieces_commands unit (end_of piece) pieces) words)
@@ -132,7 +133,7 @@ module _ (unit : ℕ) (few : unit ≤ 1000) where
       → ps_words ps.between (outline_text eps_mark unit pieces ++ rest) ≡ Some (commands_words (outline_commands unit pieces) ++ words)
   outline_read pieces rest words near reads =
       let start = start_from origin pieces in
-      let start_is_near = start_near unit few origin pieces (origin_near unit few) near in
+      let start_is_near = start_near origin pieces origin_near near in
       let closing : ps_words ps.between (codes "closepath\n" ++ rest) ≡ Some (closepath ∷ words) = ap (option_map (λ more. closepath ∷ more)) reads in
       let along = pieces_read start pieces (codes "closepath\n" ++ rest) (closepath ∷ words) start_is_near near closing in
       let along_words = commands_words (pieces_commands unit start pieces) ++ closepath ∷ words in

@@ -1,7 +1,8 @@
 -- The pages of a PostScript document (PostScript Language Document Structuring Conventions, version 3.0: the comments
 -- `%!PS-Adobe-3.0`, `%%Pages`, `%%EndComments`, `%%Page`, `%%Trailer` and `%%EOF`). Covered is a document of these comments
 -- alone: a header that leaves the number of pages to the end, pages, and a trailer that tells it. A comment begins its
--- line. Outside are other comments of the conventions, prologs and setups, and lines with carriage returns.
+-- line. Outside are other comments of the conventions, prologs and setups, and lines with carriage returns. How long
+-- a line is isn't looked at.
 use Rattle.std.specs.Prelude.{ℕ, ◌+◌, ◌==◌, Bool, true, false, cond, if◌then◌else◌, List, [], ◌∷◌, ◌++◌, codes, length, Option, Some, None, option_and_then, bytes_eq}
 use Rattle.document_readings.specs.Numbers.{natural_of}
 use Rattle.document_readings.specs.Texts.{spaced_words, text_lines}

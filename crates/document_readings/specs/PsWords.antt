@@ -1,6 +1,7 @@
 -- The words of a PostScript program (PostScript Language Reference, third edition, section 3.2: a scanner's tokens, white
 -- space and comments). Covered are whole numbers, some operators, spaces, tabs, and ends of lines. Outside are other
--- tokens, as fractions, strings, procedures, names with a slash, and names of one's own.
+-- tokens, as fractions, strings, procedures, names with a slash, and names of one's own. A number may be of any size
+-- here, and an interpreter has its limits (appendix B).
 use Rattle.std.specs.Prelude.{ℕ, ◌||◌, ◌==◌, ℤ, true, cond, List, [], ◌∷◌, ◌++◌, codes, Option, Some, None, option_map, bytes_eq}
 use Rattle.std.specs.Char.{is_ascii_digit, is_ascii_alphabetic}
 use Rattle.document_readings.specs.Numbers.{Begun, nothing, sign, digits, signed, with_digit}
