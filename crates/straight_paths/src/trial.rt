@@ -1,11 +1,12 @@
 //! The search for a strip that holds what is straight from a point on: ways are tried, simple ones first.
 ghost use Rattle.std.specs.Prelude.{◌<◌, ◌≤◌, ℕ, length, unsigned_abs, IfSome};
-ghost use Rattle.straight_paths.specs.Cones.{IsShort};
+ghost use Rattle.straight_paths.specs.Cones.{IsShort, IsSound};
 ghost use Rattle.straight_paths.specs.Slopes.{AreSmallSlopes};
 ghost use Rattle.straight_paths.specs.Straight.{path_from};
 ghost use Rattle.straight_paths.specs.Strips.{AreUpTo, IsStrip, StaysIn};
 ghost use Rattle.straight_paths.specs.Wedges.{IsQuarter};
 
+use crate::cone::Cone;
 use crate::quarter::Quarter;
 use crate::slopes::Slopes;
 use crate::strip::{Extent, Span, Strip};
@@ -91,15 +92,17 @@ fn by_sign(sign: i64, number: i64) -> i64
     if sign < 0 { -number } else { number }
 }
 
-/// A strip in which the path from this point stays for so many steps, if one of those that are tried is one.
+/// A strip in which the path from this point stays for so many steps, if one of those that are tried is one: along ways
+/// of a cone, where the steps aren't few.
 //
 // Found by trial, it needs no lemma on which is best: the path is looked at once more, a corner at a time, for how
 // far it goes across a way to both sides, and where that is no more than the breadth it is a strip. The price: a strip
 // is no longer than its numbers say, and on ragged rims it holds two or three points, so that two points of five lie in
 // none.
-pub(crate) fn strip_from(track: &Track, first: usize, steps: usize) -> Option<Strip>
+pub(crate) fn strip_from(track: &Track, first: usize, steps: usize, cone: Cone) -> Option<Strip>
     requires first { first < length track.now }
     requires steps { steps < length track.now }
+    requires cone { IsSound cone }
     ensures strip { IfSome result IsStrip }
     ensures stays { IfSome result (λ strip. StaysIn strip (path_from track.now first) steps) }
 {
@@ -108,7 +111,7 @@ pub(crate) fn strip_from(track: &Track, first: usize, steps: usize) -> Option<St
         return strip_along(track, first, steps, chord).strip;
     }
     let quarter = Quarter::of(chord);
-    let slopes = Slopes::near(quarter.turned(chord));
+    let slopes = Slopes::of(cone, quarter);
     simplest_strip(track, first, steps, quarter, slopes)
 }
 
@@ -151,6 +154,7 @@ fn simplest_strip(
 }
 
 /// The strip along a way in which the path from this point stays for so many steps, if it does.
+#[inline(always)]
 fn strip_along(track: &Track, first: usize, most: usize, way: Vector) -> Trial
     requires first { first < length track.now }
     requires most { most < length track.now }
