@@ -36,7 +36,7 @@ pub(crate) fn best_polygons(
 /// The fewest points of paths for which it pays to keep what is found of their steps.
 const MANY: usize = 4096;
 
-/// A memo for some paths. Small pages do without: it would be a part of their memory.
+/// A memo for some paths. Small pages do without: few ways of taking the next steps come again there.
 pub(crate) fn memo_for(alloc: Global, paths: &[Path]) -> Result<Memo, NoMemory> {
     let mut points = 0usize;
     for path in paths {

@@ -1,0 +1,19 @@
+use Rattle.std.proofs.Common.{ℕ, ◌-◌, IfSome, subst, arith}
+use Rattle.pt_core.specs.declared.point.Point.{Point}
+use Rattle.straight_paths.specs.Strips.{StaysIn}
+use Rattle.straight_paths.proofs.Ends.{clear_at, path_at_place}
+use Rattle.straight_paths.proofs.Windows.{seen_earlier}
+use Rattle.straight_paths.proofs.sweep.Seen.scanned.Goals as goal
+
+pub earlier-tail-requires-clause-clear : goal.earlier-tail-requires-clause-clear
+earlier-tail-requires-clause-clear c =
+    let before = c.requires.later.tail.at_least in
+    clear_at c.args.track.now c.place-place.result c.args.index c.args.self.tail.end c.args.most c.clear_steps-scan.result.steps
+    c.place-place.ensures.at (omega arith) c.requires.most c.clear_steps-scan.ensures.steps
+
+pub returns : goal.returns
+returns c =
+    let P : (ℕ → Point) → Type 0 = λ path. IfSome c.strip_from.result (λ strip. StaysIn strip path (c.earlier-tail.result.end - c.args.index)) in
+    seen_earlier c.args.track.now c.args.last c.args.index c.args.self (record { tail = c.earlier-tail.result; strip = c.strip_from.result })
+    c.requires.later c.earlier-tail.ensures.tail c.earlier-tail.ensures.same_last c.earlier-tail.ensures.no_later c.strip_from.ensures.strip
+    (subst P (path_at_place c.args.track.now c.place-place.result c.args.index c.place-place.ensures.at) c.strip_from.ensures.stays)

@@ -1,0 +1,267 @@
+//! How far what is straight from each point reaches, by the walk taken backwards.
+ghost use Rattle.std.specs.Prelude.{◌≡◌, ◌⊎◌, ◌+◌, ◌<◌, ◌≤◌, length, IfOk};
+ghost use Rattle.straight_paths.specs.Cones.{IsClear, IsShort};
+ghost use Rattle.straight_paths.specs.Straight.{path_from};
+ghost use Rattle.straight_paths.specs.Sweeps.{AreStraightFrom, IsEnough, IsSeen, IsSweep, IsTold};
+ghost use Rattle.straight_paths.specs.Tables.{IsWordTable};
+ghost use Rattle.straight_paths.specs.Tails.{AreStraight, last_of, limit_of};
+
+use crate::first::clear_steps;
+use crate::sweep::{Seen, Sweep};
+use crate::table::Table;
+use crate::track::Track;
+use crate::vector::Vector;
+use crate::word::direction;
+use pt_core::NoMemory;
+use std::alloc::Global;
+use std::cmp::min;
+
+/// So many steps of the second lap mostly matter.
+const NEAR: usize = 20;
+
+/// For each point, how many steps from there on are straight.
+pub(crate) fn straight_of(
+    alloc: Global,
+    track: &Track,
+    table: &mut Table,
+) -> Result<Vec<u32>, NoMemory>
+    requires table { IsWordTable table.old }
+    ensures table { IsWordTable table.new }
+    ensures straight { IfOk result (λ steps. AreStraight track.now steps.items) }
+{
+    let mut steps = vec![in alloc; 0; track.size()]?;
+    fill_straight(track, &mut steps, table);
+    Ok(steps)
+}
+
+/// Writes down how many steps are straight from each point on.
+fn fill_straight(track: &Track, steps: &mut [u32], table: &mut Table)
+    requires places { length steps.old ≡ length track.now }
+    requires table { IsWordTable table.old }
+    ensures places { length steps.new ≡ length steps.old }
+    ensures table { IsWordTable table.new }
+    ensures straight { AreStraight track.now steps.new }
+{
+    let near = min(track.limit(), NEAR);
+    let last = track.size() + near;
+    let sweep = from_beyond(track, last, table);
+    if near == track.limit() || sweep.count(track, track.size(), last, table) < near {
+        return fill_from(track, last, sweep, steps, table);
+    }
+    let last = track.size() + steps_beyond(track);
+    let sweep = from_beyond(track, last, table);
+    fill_from(track, last, sweep, steps, table);
+}
+
+/// What is straight from the first index of the second lap on, up to a last index.
+fn from_beyond(track: &Track, last: usize, table: &mut Table) -> Sweep
+    requires lap { length track.now ≤ last }
+    requires last { last ≤ last_of track.now }
+    requires table { IsWordTable table.old }
+    ensures table { IsWordTable table.new }
+    ensures sweep { IsSweep table.new track.now last (length track.now) result }
+{
+    let mut sweep = Sweep::at_last(track, table, last);
+    for index in (track.size()..last).rev() {
+        sweep = sweep.earlier(track, index, last, table);
+    }
+    sweep
+}
+
+/// Writes down how many steps are straight from each point on, by what is straight from the second lap on.
+fn fill_from(track: &Track, last: usize, start: Sweep, steps: &mut [u32], table: &mut Table)
+    requires places { length steps.old ≡ length track.now }
+    requires enough { IsEnough track.now last }
+    requires table { IsWordTable table.old }
+    requires sweep { IsSweep table.old track.now last (length track.now) start }
+    ensures places { length steps.new ≡ length steps.old }
+    ensures table { IsWordTable table.new }
+    ensures straight { AreStraight track.now steps.new }
+{
+    let mut sweep = start;
+    let mut index = track.size();
+    while index > 0 {
+        let led = led_on(track, last, index, sweep, steps, table);
+        if led.index == 0 {
+            return;
+        }
+        index = led.index - 1;
+        sweep = led.sweep.earlier(track, index, last, table);
+        steps[index] = sweep.count(track, index, last, table) as u32;
+    }
+}
+
+/// How far what was found before led.
+#[derive(Clone, Copy)]
+struct Led {
+    index: usize,
+    sweep: Sweep,
+}
+
+/// Writes down how many steps are straight, as far as the table tells without a search.
+fn led_on(
+    track: &Track,
+    last: usize,
+    from: usize,
+    sweep: Sweep,
+    steps: &mut [u32],
+    table: &Table,
+) -> Led
+    requires places { length steps.old ≡ length track.now }
+    requires enough { IsEnough track.now last }
+    requires from { from ≤ length track.now }
+    requires table { IsWordTable table.now }
+    requires sweep { IsSweep table.now track.now last from sweep }
+    requires straight { AreStraightFrom track.now from steps.old }
+    ensures places { length steps.new ≡ length steps.old }
+    ensures index { result.index ≤ from }
+    ensures sweep { IsSweep table.now track.now last result.index result.sweep }
+    ensures straight { AreStraightFrom track.now result.index steps.new }
+{
+    match sweep {
+        Sweep::Told(node) => {
+            let told = told_on(track, last, from, node, steps, table);
+            Led {
+                index: told.index,
+                sweep: Sweep::Told(told.node),
+            }
+        }
+        Sweep::Held(seen) => {
+            let held = held_on(track, last, from, seen, steps);
+            Led {
+                index: held.index,
+                sweep: Sweep::Held(held.seen),
+            }
+        }
+    }
+}
+
+/// A word of the table, and the index that it is found at.
+#[derive(Clone, Copy)]
+struct At {
+    index: usize,
+    node: u32,
+}
+
+/// The same from a word of the table on.
+fn told_on(
+    track: &Track,
+    last: usize,
+    from: usize,
+    node: u32,
+    steps: &mut [u32],
+    table: &Table,
+) -> At
+    requires places { length steps.old ≡ length track.now }
+    requires enough { IsEnough track.now last }
+    requires from { from ≤ length track.now }
+    requires table { IsWordTable table.now }
+    requires told { IsTold table.now track.now last from node }
+    requires straight { AreStraightFrom track.now from steps.old }
+    ensures places { length steps.new ≡ length steps.old }
+    ensures index { result.index ≤ from }
+    ensures told { IsTold table.now track.now last result.index result.node }
+    ensures straight { AreStraightFrom track.now result.index steps.new }
+{
+    let limit = track.limit() as u32;
+    let mut at = At { index: from, node };
+    while at.index > 0 {
+        let index = at.index - 1;
+        let next = table.told(at.node, direction(track.step(index)));
+        if next == 0 {
+            return at;
+        }
+        steps[index] = min(table.count(next), limit);
+        at = At { index, node: next };
+    }
+    at
+}
+
+/// A strip, and the index that it is seen from.
+#[derive(Clone, Copy)]
+struct Hold {
+    index: usize,
+    seen: Seen,
+}
+
+/// The same from a strip on, as far as it holds the points.
+//
+// What is straight is kept beside the loop here, and not in a sweep that is made anew for each point: to move that
+// took longer than all that is asked of a strip.
+fn held_on(track: &Track, last: usize, from: usize, seen: Seen, steps: &mut [u32]) -> Hold
+    requires places { length steps.old ≡ length track.now }
+    requires enough { IsEnough track.now last }
+    requires from { from ≤ length track.now }
+    requires seen { IsSeen track.now last from seen }
+    requires straight { AreStraightFrom track.now from steps.old }
+    ensures places { length steps.new ≡ length steps.old }
+    ensures index { result.index ≤ from }
+    ensures seen { IsSeen track.now last result.index result.seen }
+    ensures straight { AreStraightFrom track.now result.index steps.new }
+{
+    let mut hold = Hold { index: from, seen };
+    while hold.index > 0 {
+        let index = hold.index - 1;
+        let step = track.step(index);
+        let Some(earlier) = hold.seen.by_strip(track, index, last, step) else {
+            return hold;
+        };
+        steps[index] = (earlier.tail.end - index) as u32;
+        hold = along(track, last, index, step, earlier, steps);
+    }
+    hold
+}
+
+/// The same along a straight run.
+//
+// All of a run is one step, so that what its strip asks of a point is a sum or two.
+#[inline(always)]
+fn along(
+    track: &Track,
+    last: usize,
+    from: usize,
+    run: Vector,
+    seen: Seen,
+    steps: &mut [u32],
+) -> Hold
+    requires places { length steps.old ≡ length track.now }
+    requires enough { IsEnough track.now last }
+    requires from { from ≤ length track.now }
+    requires run { IsShort 1 run }
+    requires seen { IsSeen track.now last from seen }
+    requires straight { AreStraightFrom track.now from steps.old }
+    ensures places { length steps.new ≡ length steps.old }
+    ensures index { result.index ≤ from }
+    ensures seen { IsSeen track.now last result.index result.seen }
+    ensures straight { AreStraightFrom track.now result.index steps.new }
+{
+    let mut hold = Hold { index: from, seen };
+    while hold.index > 0 {
+        let index = hold.index - 1;
+        if !track.step(index).is_same(run) {
+            return hold;
+        }
+        let Some(earlier) = hold.seen.by_strip(track, index, last, run) else {
+            return hold;
+        };
+        steps[index] = (earlier.tail.end - index) as u32;
+        hold = Hold {
+            index,
+            seen: earlier,
+        };
+    }
+    hold
+}
+
+/// How many steps of the second lap matter: no straight subpath from its first point is so long, or they are as
+/// many as the limit.
+//
+// A straight subpath from the first point ends before that, and none from a point before it ends later, so nothing
+// from further on is asked for.
+fn steps_beyond(track: &Track) -> usize
+    ensures most { result ≤ limit_of track.now }
+    ensures enough { (result ≡ limit_of track.now) ⊎ ¬ IsClear (path_from track.now 0) result }
+{
+    let limit = track.limit();
+    limit.min(clear_steps(track, 0, limit).steps + 1)
+}

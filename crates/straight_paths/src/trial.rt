@@ -1,0 +1,188 @@
+//! The search for a strip that holds what is straight from a point on: ways are tried, simple ones first.
+ghost use Rattle.std.specs.Prelude.{◌<◌, ◌≤◌, ℕ, length, unsigned_abs, IfSome};
+ghost use Rattle.straight_paths.specs.Cones.{IsShort, IsSound};
+ghost use Rattle.straight_paths.specs.Slopes.{AreSmallSlopes};
+ghost use Rattle.straight_paths.specs.Straight.{path_from};
+ghost use Rattle.straight_paths.specs.Strips.{AreUpTo, IsStrip, StaysIn};
+ghost use Rattle.straight_paths.specs.Wedges.{IsQuarter};
+
+use crate::cone::Cone;
+use crate::quarter::Quarter;
+use crate::slopes::Slopes;
+use crate::strip::{Extent, Span, Strip};
+use crate::track::Track;
+use crate::vector::Vector;
+
+/// A subpath of fewer steps gets the strip along its chord alone.
+const SHORT: usize = 8;
+
+/// So many strips are tried for a subpath at most. Six were the most in searches.
+const MOST_TRIALS: u32 = 16;
+
+/// After how many steps a path is farthest across a way, to each side.
+//
+// Their places are asked only where the strip fails: so the scan has two numbers more to carry, and not four.
+#[derive(Clone, Copy)]
+pub(crate) struct Ends {
+    pub right: usize,
+    pub left: usize,
+}
+
+/// What was found along a way.
+#[derive(Clone, Copy)]
+pub(crate) struct Trial {
+    /// The strip along it, or None where the path doesn't stay in it.
+    pub strip: Option<Strip>,
+    /// Where the path is farthest across it; where it goes back by more than 1, its start alone.
+    pub ends: Ends,
+}
+
+impl Ends {
+    /// At the path's start alone.
+    fn at_start() -> Ends
+        ensures { (most : ℕ) → AreUpTo most result }
+    {
+        Ends { right: 0, left: 0 }
+    }
+
+    /// The same after more steps, by which the path is so far across the way, where the others are as far as this.
+    fn with(self, span: Span, across: i64, steps: usize) -> Ends
+        ensures { (most : ℕ) → steps ≤ most → AreUpTo most self → AreUpTo most result }
+    {
+        if across < span.least {
+            return Ends {
+                right: steps,
+                left: self.left,
+            };
+        }
+        if span.greatest < across {
+            return Ends {
+                right: self.right,
+                left: steps,
+            };
+        }
+        self
+    }
+
+    /// How far the place farthest to the left is from that farthest to the right, in the quarter turned to be the one
+    /// up and to the right.
+    //
+    // Two of the quarters are turned over for that: left and right change places in them, and so do the signs of both
+    // numbers. So each coordinate takes the sign of the other one.
+    fn apart(self, track: &Track, first: usize, quarter: Quarter) -> Vector
+        requires first { first < length track.now }
+        requires right { self.right < length track.now }
+        requires left { self.left < length track.now }
+        ensures { IsShort 131070 result }
+    {
+        let right = track.way(first, self.right);
+        let left = track.way(first, self.left);
+        Vector {
+            x: by_sign(quarter.up, left.x - right.x),
+            y: by_sign(quarter.right, left.y - right.y),
+        }
+    }
+}
+
+/// A number, or that with the other sign where the sign is below 0.
+fn by_sign(sign: i64, number: i64) -> i64
+    requires { unsigned_abs number ≤ 131070 }
+    ensures { unsigned_abs result ≤ 131070 }
+{
+    if sign < 0 { -number } else { number }
+}
+
+/// A strip in which the path from this point stays for so many steps, if one of those that are tried is one: along ways
+/// of a cone, where the steps aren't few.
+//
+// Found by trial, it needs no lemma on which is best: the path is looked at once more, a corner at a time, for how
+// far it goes across a way to both sides, and where that is no more than the breadth it is a strip. The price: a strip
+// is no longer than its numbers say, and on ragged rims it holds two or three points, so that two points of five lie in
+// none.
+pub(crate) fn strip_from(track: &Track, first: usize, steps: usize, cone: Cone) -> Option<Strip>
+    requires first { first < length track.now }
+    requires steps { steps < length track.now }
+    requires cone { IsSound cone }
+    ensures strip { IfSome result IsStrip }
+    ensures stays { IfSome result (λ strip. StaysIn strip (path_from track.now first) steps) }
+{
+    let chord = track.way(first, steps);
+    if steps < SHORT {
+        return strip_along(track, first, steps, chord).strip;
+    }
+    let quarter = Quarter::of(chord);
+    let slopes = Slopes::of(cone, quarter);
+    simplest_strip(track, first, steps, quarter, slopes)
+}
+
+/// A strip in which the path from this point stays for so many steps, along the simplest way between two slopes of a
+/// quarter, if it is found.
+//
+// 1. The simplest way that is left is tried.
+// 2. Where the path is broader than its strip, the two places that are farthest across the way tell that the strips of
+//    all ways to one side of it are too narrow too. Those are cut off.
+//
+// The greater a way's numbers, the more of its breadth is used up: along the chord of a staircase of single steps that
+// ends with a double one, one unit is left, so that the strip would fail two periods earlier, and the whole subpath be
+// looked at anew from every fourth point. Along the simplest way the staircase takes 2 of a breadth of 2, for good.
+//
+// Nothing rests on which ways are cut off but time.
+fn simplest_strip(
+    track: &Track,
+    first: usize,
+    steps: usize,
+    quarter: Quarter,
+    slopes: Slopes,
+) -> Option<Strip>
+    requires first { first < length track.now }
+    requires steps { steps < length track.now }
+    requires quarter { IsQuarter quarter }
+    requires slopes { AreSmallSlopes slopes }
+    ensures strip { IfSome result IsStrip }
+    ensures stays { IfSome result (λ strip. StaysIn strip (path_from track.now first) steps) }
+{
+    let mut slopes = slopes;
+    for _ in 0..MOST_TRIALS {
+        let slope = slopes.simplest()?;
+        let trial = strip_along(track, first, steps, quarter.turned(slope.way()));
+        if trial.strip.is_some() {
+            return trial.strip;
+        }
+        slopes = slopes.cut(trial.ends.apart(track, first, quarter))?;
+    }
+    None
+}
+
+/// The strip along a way in which the path from this point stays for so many steps, if it does.
+#[inline(always)]
+fn strip_along(track: &Track, first: usize, most: usize, way: Vector) -> Trial
+    requires first { first < length track.now }
+    requires most { most < length track.now }
+    requires short { IsShort 65535 way }
+    ensures ends { AreUpTo most result.ends }
+    ensures strip { IfSome result.strip IsStrip }
+    ensures stays { IfSome result.strip (λ strip. StaysIn strip (path_from track.now first) most) }
+{
+    let quarter = Quarter::of(way);
+    let mut extent = Extent::at_start();
+    let mut ends = Ends::at_start();
+    let mut steps = 0;
+    while steps < most {
+        let next = track.run_end(first, steps, most);
+        let place = track.way(first, next);
+        let across = way.cross(place);
+        ends = ends.with(extent.across, across, next);
+        let Some(farther) = extent.with(across, quarter.turned(place)) else {
+            return Trial {
+                strip: None,
+                ends: Ends::at_start(),
+            };
+        };
+        extent = farther;
+        steps = next;
+    }
+    Trial {
+        strip: extent.strip(quarter, way),
+        ends,
+    }
+}

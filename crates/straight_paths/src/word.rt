@@ -1,0 +1,123 @@
+//! Words: how a path takes its next few steps.
+ghost use Rattle.std.specs.Prelude.{◌≡◌, ◌+◌, ◌-◌, ◌*◌, ◌<◌, ◌≤◌, ℕ, suc, length};
+ghost use Rattle.pt_core.specs.declared.point.Point.{Point};
+ghost use Rattle.straight_paths.specs.Codes.{GoesByOne, IsCoded, coded_step};
+ghost use Rattle.straight_paths.specs.Corners.{step_from};
+ghost use Rattle.straight_paths.specs.Straight.{IsStraight, path_from};
+ghost use Rattle.straight_paths.specs.Tails.{IsClearUpTo};
+ghost use Rattle.straight_paths.specs.Words.{IsStraightUpTo, IsThreeUpTo};
+
+use crate::cone::Cone;
+use crate::flags::Flags;
+use crate::track::Track;
+use crate::vector::Vector;
+
+/// The most steps of a word that is kept.
+pub(crate) const LONGEST: u32 = 19;
+
+/// How a path takes its next few steps: two bits for the direction of each, those of the nearest step lowest.
+#[derive(Clone, Copy)]
+pub(crate) struct Word {
+    pub digits: u64,
+    /// The number of steps.
+    pub count: u32,
+}
+
+impl Word {
+    /// The word with a step in front.
+    pub(crate) fn with(self, digit: u32) -> Word
+        requires digit { digit < 4 }
+        requires few { self.count ≤ 19 }
+        ensures count { result.count ≡ self.count + 1 }
+        ensures coded { (path : ℕ → Point) → step_from path 0 ≡ coded_step digit
+            → IsCoded self.count (λ k. path (suc k)) self.digits → IsCoded (suc self.count) path result.digits }
+    {
+        Word {
+            digits: u64::from(digit) + 4 * (self.digits % (1 << 38)),
+            count: self.count + 1,
+        }
+    }
+
+    /// How many of its steps are straight, where those behind the first are.
+    pub(crate) fn straight(self) -> u32
+        requires some { 0 < self.count }
+        requires few { self.count ≤ 20 }
+        ensures within { result ≤ self.count }
+        ensures longest { (path : ℕ → Point) → IsCoded self.count path self.digits
+            → IsStraight (λ k. path (suc k)) (self.count - 1) → IsStraightUpTo path self.count result }
+    {
+        self.clear().min(self.of_three())
+    }
+
+    /// For how many of its steps the cones hold.
+    fn clear(self) -> u32
+        requires few { self.count ≤ 20 }
+        ensures within { result ≤ self.count }
+        ensures clear { (path : ℕ → Point) → IsCoded self.count path self.digits
+            → IsClearUpTo path self.count result }
+    {
+        let mut cone = Cone::Open;
+        let mut way = Vector { x: 0, y: 0 };
+        let mut rest = self.digits;
+        for steps in 0..self.count {
+            way = way.stepped((rest % 4) as u32);
+            if !cone.holds(way) {
+                return steps;
+            }
+            cone = cone.narrowed(way);
+            rest /= 4;
+        }
+        self.count
+    }
+
+    /// How many of its steps don't take all four directions.
+    fn of_three(self) -> u32
+        requires few { self.count ≤ 20 }
+        ensures within { result ≤ self.count }
+        ensures three { (path : ℕ → Point) → IsCoded self.count path self.digits
+            → IsThreeUpTo path self.count result }
+    {
+        let mut flags = Flags::none();
+        let mut rest = self.digits;
+        for steps in 0..self.count {
+            flags = flags.with((rest % 4) as u32);
+            if flags.all() {
+                return steps;
+            }
+            rest /= 4;
+        }
+        self.count
+    }
+}
+
+/// The number of a step's direction.
+pub(crate) fn direction(step: Vector) -> u32
+    requires { GoesByOne step }
+    ensures small { result < 4 }
+    ensures value { step ≡ coded_step result }
+{
+    if step.x == 0 {
+        (2 - step.y) as u32
+    } else {
+        (1 - step.x) as u32
+    }
+}
+
+/// The word of so many steps from an index of two laps on.
+pub(crate) fn word_at(track: &Track, index: usize, count: u32) -> Word
+    requires index { index < 2 * length track.now }
+    requires few { count ≤ 19 }
+    requires within { count < length track.now }
+    ensures count { result.count ≡ count }
+    ensures coded { IsCoded count (path_from track.now index) result.digits }
+{
+    let place = track.place(index);
+    let mut word = Word {
+        digits: 0,
+        count: 0,
+    };
+    for steps in (0..count as usize).rev() {
+        word = word.with(direction(track.step(place + steps)));
+    }
+    word
+}
