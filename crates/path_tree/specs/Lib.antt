@@ -34,3 +34,8 @@ pub mod Holders
 --   marked: the list with path i for each later path whose start passes a test
 --   is_in: the path is one of plus sign, and the pixel of this place is inside it
 pub mod Starts
+-- Starts that may be inside a path, by the columns and rows between which it lies.
+--   IsInBounds: the point lies between the bounds
+--   is_candidate: it is that of a later path, in a column between the bounds
+--   is_held: it is that of a later path, inside a path of these points
+pub mod Candidates
