@@ -1,5 +1,5 @@
 -- A pixel that the bounds of a path leave out isn't inside it.
-use Rattle.std.proofs.Common.{◌≡◌, ℕ, ◌/◌, ◌%◌, ◌*◌, ◌+◌, ◌<◌, ◌≤◌, ◌⊎◌, ◌-◌, Bool, true, false, cond, ◌&&◌, min, Option, Some, length, get_or, set, take, drop, nat_abs, nat_eq, nat_le, nat_lt, List, [], ◌∷◌, All, refl, ap, sym, ◌∙◌, inl, inr, arith}
+use Rattle.std.proofs.Common.{◌≡◌, ℕ, ◌/◌, ◌%◌, ◌*◌, ◌+◌, ◌<◌, ◌≤◌, ◌⊎◌, ◌-◌, Bool, true, false, cond, ◌&&◌, min, Option, length, get_or, take, drop, nat_abs, nat_eq, nat_le, nat_lt, List, [], ◌∷◌, All, refl, ap, sym, ◌∙◌, inl, inr, arith}
 use Rattle.std.specs.List.Sorted.{IsPartitionPoint}
 use Rattle.std.proofs.Math.Decide.{dec_lt}
 use Rattle.std.proofs.lemmas.Bool.Decides.{nat_tests}
@@ -18,7 +18,7 @@ use Rattle.path_tree.specs.declared.starts.TheConstants.{ROW}
 use Rattle.path_tree.specs.Candidates.{IsInBounds, is_candidate, is_held}
 use Rattle.path_tree.specs.Starts.{marked}
 use Rattle.path_tree.proofs.Even.{even_rows}
-use Rattle.path_tree.proofs.Marking.{and-false}
+use Rattle.path_tree.proofs.Marking.{and-false, marked-none, no_marking}
 
 -- tests that agree on each line of a walk
 module _ (f g : Line → Bool) (P : Point → Type 0) (agree : (p q : Point) → P p → P q → f (line_between p q) ≡ g (line_between p q)) where
@@ -165,7 +165,4 @@ none_held bounds points number first count starts closed corners within lows hig
 -- starts of which none is marked
 pub marked-unheld : (i : ℕ) (test : ℕ → Bool) (starts : List Start) (holders : List (Option ℕ)) → All (λ s. (nat_lt i s.path && test s.place) ≡ false) starts
     → marked i test starts holders ≡ holders
-marked-unheld i test [] holders none = refl
-marked-unheld i test (s ∷ starts) holders none =
-    ap (λ b. marked i test starts (cond b (set holders s.path (Some i)) holders)) (All-head (λ s. (nat_lt i s.path && test s.place) ≡ false) s starts none)
-    ∙ marked-unheld i test starts holders (All-tail (λ s. (nat_lt i s.path && test s.place) ≡ false) s starts none)
+marked-unheld i test starts holders none = marked-none i test starts holders (λ k d h. no_marking i (get_or starts k d) holders (test (get_or starts k d).place) (none k d h))
