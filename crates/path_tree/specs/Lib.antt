@@ -31,6 +31,19 @@ pub mod Holders
 --   is_place_in: the place stands in row y
 --   is_passed: on the way along its row from the left into a pixel a line is passed, by the places of both
 --   is_in_span: a place is one from `low` on and before `high`
---   marked: the list with path i for each later path whose start passes a test
+--   marked_one: the list with path i for the path of a start, where that is a later one, a test was passed and none stands there yet
+--   marked: the list with path i for each later path whose start passes a test, where none stands there yet
 --   is_in: the path is one of plus sign, and the pixel of this place is inside it
 pub mod Starts
+-- Starts that may be inside a path, by the columns and rows between which it lies.
+--   IsInBounds: the point lies between the bounds
+--   is_candidate: it is that of a later path, in a column between the bounds
+--   is_held: it is that of a later path, inside a path of these points
+pub mod Candidates
+-- Which starts are looked at when their paths want a holder.
+--   no_start: no start, which stands for those that aren't in a list
+--   has_holder: the path of start number k has a holder
+--   AreSkips: each place points to itself or to a later one of the list
+--   LeadPast: what lies from a place on and before the one that it points to is held
+--   AreFree: there is a place for each start and one behind them, and they lead past starts alone whose paths have a holder
+pub mod Free

@@ -1,12 +1,13 @@
 -- The sum of the squared distances from two lines, as a function of the shift: a paraboloid (Selinger,
 -- "Potrace", 2003, section 2.3.1, has the same form). Its working in whole numbers is our own.
 use Rattle.std.specs.Prelude.{◌≡◌, ◌≢◌, ℕ, ◌+◌, ◌*◌, ◌<◌, ◌≤◌, ◌^◌, ℤ, pos, ◌+ℤ◌, ◌-ℤ◌, ◌*ℤ◌, ◌<ℤ◌, ◌≤ℤ◌, ◌⊎◌, unsigned_abs}
-use Rattle.vertex_adjust.specs.Vertex.{IsCandidate, IsBefore}
+use Rattle.vertex_adjust.specs.Vertex.{IsCandidate, IsBefore, IsLeast}
 use Rattle.vertex_adjust.specs.declared.line.Line.{Line}
 use Rattle.vertex_adjust.specs.declared.shift.Shift.{Shift}
 use Rattle.vertex_adjust.specs.declared.quadratic.Quadratic.{Quadratic}
 use Rattle.vertex_adjust.specs.declared.quadratic.Minimum.{Minimum}
 use Rattle.vertex_adjust.specs.declared.search.Trial.{Trial}
+use Rattle.vertex_adjust.specs.declared.memo.LeastShift.{LeastShift}
 
 -- the line of a segment of a path on a much larger page
 pub record IsOverWidePage (line : Line) : Type 0 where
@@ -44,6 +45,11 @@ pub record IsQuadratic (b : Quadratic) : Type 0 where
 pub record IsErrorOver (error : Shift → ℕ) (b : Quadratic) : Type 0 where
   pub rest : ℤ
   pub is : (right up : ℤ) → pos (error (record { right = right; up = up })) ≡ rest +ℤ pos 32 *ℤ growth_of b right up
+
+-- its shift is the least of all candidates, by each error over its quadratic
+pub record IsLeastShift (found : LeastShift) : Type 0 where
+  pub candidate : IsCandidate found.shift
+  pub least : (error : Shift → ℕ) → IsErrorOver error found.quadratic → IsLeast error found.shift
 
 -- the second number lies between the others
 abbrev pub LiesBetween : ℤ → ℤ → ℤ → Type 0

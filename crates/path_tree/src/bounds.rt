@@ -1,0 +1,57 @@
+//! Between which columns and which rows a path lies.
+ghost use Rattle.std.specs.Prelude.{◌≤◌, All};
+ghost use Rattle.path_decompose.specs.Bounds.{IsCornerOf};
+ghost use Rattle.path_tree.specs.Candidates.{IsInBounds};
+ghost use Rattle.pt_core.specs.declared.point.Point.{Point};
+
+use pt_core::Point;
+
+/// The least and the greatest column and row of some points.
+#[derive(Clone, Copy)]
+pub(crate) struct Bounds {
+    pub left: u32,
+    pub right: u32,
+    pub bottom: u32,
+    pub top: u32,
+}
+
+impl Bounds {
+    /// The bounds of these points.
+    pub(crate) fn of(points: &[Point]) -> Bounds
+        requires { All (IsCornerOf 32767 32767) points.now }
+        ensures within { All (IsInBounds result) points.now }
+        ensures bottom { result.bottom ≤ 32767 }
+        ensures top { result.top ≤ 32767 }
+    {
+        let mut bounds = Bounds {
+            left: 32767,
+            right: 0,
+            bottom: 32767,
+            top: 0,
+        };
+        for point in points {
+            bounds = bounds.with(*point);
+        }
+        bounds
+    }
+
+    /// The bounds with one more point.
+    fn with(self, point: Point) -> Bounds
+        requires corner { IsCornerOf 32767 32767 point }
+        requires bottom { self.bottom ≤ 32767 }
+        requires top { self.top ≤ 32767 }
+        ensures point { IsInBounds result point }
+        ensures others { (other : Point) → IsInBounds self other → IsInBounds result other }
+        ensures bottom { result.bottom ≤ 32767 }
+        ensures top { result.top ≤ 32767 }
+    {
+        let x = point.x.unsigned_abs();
+        let y = point.y.unsigned_abs();
+        Bounds {
+            left: self.left.min(x),
+            right: self.right.max(x),
+            bottom: self.bottom.min(y),
+            top: self.top.max(y),
+        }
+    }
+}
