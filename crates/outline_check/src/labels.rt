@@ -15,7 +15,7 @@ use pt_core::{NoMemory, Point};
 use std::alloc::Global;
 
 /// The right label of each point of a closed walk on a page, and of its end.
-pub(crate) fn labels(alloc: Global, points: &[Point]) -> Result<Vec<Label>, NoMemory>
+pub fn labels(alloc: Global, points: &[Point]) -> Result<Vec<Label>, NoMemory>
     requires closed { IsClosedWalk points.now }
     requires on_page { AreOnPage points.now }
     ensures { IfOk result (λ labels. AreRightLabels points.now labels.items) }

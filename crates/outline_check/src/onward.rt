@@ -7,7 +7,7 @@
 //! ```text
 //!     from . . . . [begin . . . last]    In the window one segment fewer is left than from here.
 //! ```
-ghost use Rattle.std.specs.Prelude.{◌≡◌, ℕ, ◌+◌, ◌<◌, ◌≤◌, ◌^◌, length, slice_index};
+ghost use Rattle.std.specs.Prelude.{◌≡◌, ℕ, ◌+◌, ◌<◌, ◌≤◌, length, slice_index};
 ghost use Rattle.polygon_optimal.specs.Lasts.{AreRising, IsUpToLast, LeadsOn};
 ghost use Rattle.polygon_optimal.specs.Polygon.{penalty_of};
 ghost use Rattle.outline_check.specs.Labels.{IsRight, label_at, label_by};
@@ -16,6 +16,7 @@ ghost use Rattle.outline_check.specs.Windows.{onward_by};
 
 use crate::label::Label;
 use crate::segments::Segments;
+use prefix_moments::Start;
 
 /// A label, and the point that it comes from.
 #[derive(Clone, Copy)]
@@ -66,28 +67,29 @@ pub(crate) fn label_from(
 {
     let last = segments.lasts[from as usize];
     let to = guess.max(begin).min(last);
-    let mut best = by_segment(segments, labels, from, to);
+    let start = Start::at(&segments.moments, from);
+    let mut best = by_segment(segments, labels, &start, to);
     for k in begin..last + 1 {
-        best = cheaper(segments, labels, from, k, best);
+        best = cheaper(segments, labels, &start, k, best);
     }
     best
 }
 
 /// The label by the segment to this point.
-fn by_segment(segments: &Segments, labels: &[Label], from: u32, to: u32) -> Onward
-    requires from { from < length segments.now.moments }
-    requires onwards { from < to }
-    requires reached { to ≤ slice_index segments.now.lasts.items from }
+fn by_segment(segments: &Segments, labels: &[Label], start: &Start, to: u32) -> Onward
+    requires start { start.now.moments.now ≡ segments.now.moments }
+    requires onwards { start.now.from < to }
+    requires reached { to ≤ slice_index segments.now.lasts.items start.now.from }
     requires known { AreRightDownTo (length segments.now.moments)
         (IsUpToLast segments.now.lasts.items) (penalty_of segments.now.moments)
-        (from + 1) labels.now }
-    ensures { result ≡ onward_by (penalty_of segments.now.moments) labels.now from to }
+        (start.now.from + 1) labels.now }
+    ensures { result ≡ onward_by (penalty_of segments.now.moments) labels.now start.now.from to }
 {
     let label = labels[to as usize];
     Onward {
         label: Label {
             count: label.count + 1,
-            cost: label.cost + u128::from(segments.penalty(from, to)),
+            cost: label.cost + u128::from(start.penalty(to)),
         },
         next: to,
     }
@@ -96,24 +98,24 @@ fn by_segment(segments: &Segments, labels: &[Label], from: u32, to: u32) -> Onwa
 /// The label by the segment to this point, where it is cheaper than `best`.
 //
 // Where the rest alone isn't cheaper, the segment isn't looked at.
-fn cheaper(segments: &Segments, labels: &[Label], from: u32, to: u32, best: Onward) -> Onward
-    requires from { from < length segments.now.moments }
-    requires onwards { from < to }
-    requires reached { to ≤ slice_index segments.now.lasts.items from }
+fn cheaper(segments: &Segments, labels: &[Label], start: &Start, to: u32, best: Onward) -> Onward
+    requires start { start.now.moments.now ≡ segments.now.moments }
+    requires onwards { start.now.from < to }
+    requires reached { to ≤ slice_index segments.now.lasts.items start.now.from }
     requires known { AreRightDownTo (length segments.now.moments)
         (IsUpToLast segments.now.lasts.items) (penalty_of segments.now.moments)
-        (from + 1) labels.now }
-    ensures cheaper { (label_by (penalty_of segments.now.moments) labels.now from to).cost < best.label.cost
-        → result ≡ onward_by (penalty_of segments.now.moments) labels.now from to }
-    ensures same { best.label.cost ≤ (label_by (penalty_of segments.now.moments) labels.now from to).cost
+        (start.now.from + 1) labels.now }
+    ensures cheaper { (label_by (penalty_of segments.now.moments) labels.now start.now.from to).cost < best.label.cost
+        → result ≡ onward_by (penalty_of segments.now.moments) labels.now start.now.from to }
+    ensures same { best.label.cost ≤ (label_by (penalty_of segments.now.moments) labels.now start.now.from to).cost
         → result ≡ best }
 {
     let label = labels[to as usize];
     if best.label.cost <= label.cost {
         return best;
     }
-    let limit = (best.label.cost - label.cost).min(1 << 56) as u64;
-    match segments.moments.penalty_below(from, to, limit) {
+    let limit = (best.label.cost - label.cost).min(1 << 24) as u64;
+    match start.penalty_below(to, limit) {
         Some(penalty) => Onward {
             label: Label {
                 count: label.count + 1,

@@ -2,6 +2,7 @@ pub mod Cornered
 pub mod Examples
 pub mod Fitting
 pub mod Integers
+pub mod Longer
 pub mod Prefixes
 pub mod Rows
 pub mod Summing

@@ -4,12 +4,14 @@
 //! the first again. A segment from point number i to point number j runs along the path.
 #![tactic(auto)]
 
+pub mod growing;
 pub mod moments;
 mod prefix;
 mod raw;
 pub mod start;
 pub mod sums;
 
+pub use growing::Growing;
 pub use moments::Moments;
 pub use start::Start;
 pub use sums::Sums;

@@ -1,7 +1,8 @@
 //! The segments from one point of a path.
-ghost use Rattle.std.specs.Prelude.{◌≡◌, ℕ, ◌+◌, ◌-◌, ◌*◌, ◌<◌, ◌≤◌, ◌^◌, pos, unsigned_abs, length, IfSome, IfNone};
+ghost use Rattle.std.specs.Prelude.{◌≡◌, ℕ, ◌+◌, ◌-◌, ◌*◌, ◌/◌, ◌<◌, ◌≤◌, ◌^◌, pos, unsigned_abs, length, IfSome, IfNone};
 ghost use Rattle.pt_core.specs.ClosedWalk.{point_at};
 ghost use Rattle.pt_core.specs.OnPage.{IsOnPage};
+ghost use Rattle.pt_core.specs.Root.{IsRoot};
 ghost use Rattle.prefix_moments.specs.Sums.{spread_of, IsPenalty};
 ghost use Rattle.prefix_moments.specs.Table.{prefix_of};
 
@@ -65,12 +66,7 @@ impl<'a> Start<'a> {
         ensures none { IfNone result ((penalty : ℕ)
             → IsPenalty self.now.moments.now self.now.from to penalty → limit ≤ penalty) }
     {
-        let total = 65536 * self.total(to);
-        let count = u64::from(to - self.from + 1);
-        if square(limit) * count <= total {
-            return None;
-        }
-        Some(isqrt(u128::from(total / count)))
+        root_below(self.total(to), u64::from(to - self.from + 1), limit)
     }
 
     /// The sum of the squared cross products of the points up to point number `to`.
@@ -95,6 +91,23 @@ impl<'a> Start<'a> {
         let total = wrapped_spread(sums, i64::from(to - self.from + 1), right, above, start);
         total as u64
     }
+}
+
+/// The root of 65536 times the mean of `count` numbers, where it is below a limit; none is taken where it isn't.
+pub(crate) fn root_below(total: u64, count: u64, limit: u64) -> Option<u64>
+    requires total { total < 2 ^ 48 }
+    requires some { 0 < count }
+    requires few { count ≤ MOST_STEPS + 1 }
+    requires limit { limit ≤ 2 ^ 24 }
+    ensures some { IfSome result (λ root. IsRoot (65536 * total / count) root) }
+    ensures below { IfSome result (λ root. root < limit) }
+    ensures none { IfNone result ((root : ℕ) → IsRoot (65536 * total / count) root → limit ≤ root) }
+{
+    let most = 65536 * total;
+    if square(limit) * count <= most {
+        return None;
+    }
+    Some(isqrt(u128::from(most / count)))
 }
 
 /// A limit's square.
