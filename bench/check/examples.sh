@@ -25,15 +25,16 @@ trap 'rm -rf "$work"' EXIT
 # Commands that aren't run, and why.
 cat >"$work/not" <<'END'
 rt ci: it is the gate, and takes an hour
+.ci/run: it is the gate
 rt ci CRATE: a part of the gate
-rt must-fail CRATE       # each edit has to be refused, by the clause that it aims at: a part of the gate
-.ci/run                  # bench/check_words, and then rt ci: it is the gate
-rt try --test            # runs tests before any proof: it wants the folder of a crate that is at work
-rt version: the kit says it
+rt must-fail CRATE: a part of the gate
+rt try --test: it wants the folder of a crate that is at work
+rt check: it wants the folder of a crate that is at work
+rt version: it says the kit's name alone
 packaging/make FOLDER: bench/check/package.sh tries it
+./build potrace: bench/check/build.sh tries what it does; of all crates it takes minutes
 ./build ring: bench/check/library.sh tries it
 ./launch ring: bench/check/library.sh tries it
-./build potrace: with nothing built it takes minutes; bench/check/build.sh tries what it does
 END
 
 fail() {
@@ -79,7 +80,6 @@ cp scan.pbm name
 cp mask.pbm third.pbm
 cp logo.pbm 'fourth page.pbm'
 printf 'third.pbm\nfourth page.pbm\n' >pages.txt
-echo 2/scanner >hosts
 convert gray.pgm -transparent white -resize 400% photo.png
 cp photo.png page.png
 cp photo.png small.png
@@ -174,18 +174,26 @@ def lines_of(command):
 
 def run(document, command, output):
     """Runs it, and says whether that was done."""
+    command = re.sub("  +# .*$", "", command)
     if command in NOT:
-        print(f"{document}: not run, {NOT[command]}: {command}")
+        print(f"{document}: not run: {command} ({NOT[command]})")
         return False
+    before = status_of_clone()
     done = subprocess.run(["bash", "-euo", "pipefail", "-c", command], stdin=subprocess.DEVNULL, capture_output=True)
     said = done.stderr.decode(errors="replace")
-    if "--bar" in command or "over_hosts" in command:
-        said = ""
+    if "--bar" in command or "over_hosts" in command or "-f hpgl" in command:
+        said = ""           # a bar, how many pages are done, and what pstoedit thinks of its own work
     if command.startswith("./install"):
         said = "".join(line for line in said.splitlines(True) if not line.startswith("note: "))
     if done.returncode or said or output not in (None, done.stdout.decode()):
         sys.exit(f"examples: {document}: this command fails, with status {done.returncode}: {command}\n{said}{done.stdout.decode()}")
+    if command.startswith("./") and status_of_clone() != before:
+        sys.exit(f"examples: {document}: this command leaves a trace in the clone: {command}")
     return True
+
+
+def status_of_clone():
+    return subprocess.run(["git", "status", "--porcelain"], capture_output=True, text=True, check=True).stdout
 
 
 def shapes_of(name):
@@ -207,14 +215,13 @@ def main():
     os.environ.update(HOME=f"{WORK}/home", PATH=f"{WORK}/bin:{os.environ['PATH']}")
     before = {*os.listdir(".")}
     for document in DOCUMENTS:
+        with open("hosts", "w", encoding="utf-8") as file:
+            file.write("2/scanner\n")
         with open(document, encoding="utf-8") as file:
             text = file.read()
         found = of_manual(text) if document.endswith(".1") else of_markdown(text)
         ran = sum(run(document, line, output) for command, output in found for line in lines_of(command))
         print(f"{document}: {ran} commands run")
-        if document == "README.md":
-            left = subprocess.run(["git", "status", "--porcelain"], capture_output=True, text=True, check=True).stdout
-            print(left, end="")
     made = sorted({*os.listdir(".")} - before)
     for name in made:
         if name.endswith((".svg", ".json", ".dxf", ".pdf", ".gpkg", ".gcode", ".hpgl", ".ps", ".eps")) and not shapes_of(name):
