@@ -71,11 +71,21 @@ def ring():
     add("ring", source, line, read("ring.svg"))
 
 
+def equation(found):
+    """The equation that an assertion of two values asserts: its first comma outside of brackets stands between them."""
+    text, depth = found[1], 0
+    for at, letter in enumerate(text):
+        depth += (letter in "([{") - (letter in ")]}")
+        if letter == "," and not depth:
+            return f"holds = holds && {text[:at]} == {text[at + 1:].strip()};"
+    sys.exit(f"library: no two values in {text}")
+
+
 def use_of(crate, block):
     """A function of a crate's use example, that answers whether what it asserts is so."""
     lines = [line for line in block.splitlines() if not line.startswith("use ")]
     code = "\n".join("    " + line if line else "" for line in lines).strip("\n")
-    code, asserted = re.subn(r"assert_eq!\(rt; (.*), (\S.*)\);", r"holds = holds && \1 == \2;", code)
+    code, asserted = re.subn(r"assert_eq!\(rt; (.*)\);", equation, code)
     page = "" if "let mut page" in code or "&page" not in code else "    let page = Bitmap::new(alloc, 3, 2)?;\n"
     mutable = "mut " if asserted else ""
     return (f"fn {crate}_use(alloc: Global) -> Result<bool, NoMemory> {{\n    let {mutable}holds = true;\n{page}{code}\n    Ok(holds)\n}}\n")
