@@ -4,7 +4,7 @@
 usage: chords.py [PROGRAM]
 
 Pages of bench/pages.py are traced under several words, as SVG in units of 1/1000 pixel, as DXF and as GeoJSON. Outline by
-outline and piece by piece, each curve of the SVG is taken at 32 places of each of its eight chords, and the greatest
+outline and piece by piece, each curve of the SVG is taken at 9 places of each of its eight chords, and the greatest
 distance of these from the chord that DXF and GeoJSON have there is printed, in pixels as the crow flies; for discs also
 that from the circle; and the bytes of the DXF beside those of the default. What rounding adds is below 0.002 pixels.
 
@@ -21,9 +21,9 @@ import sys
 HERE = os.path.dirname(os.path.realpath(__file__))
 TOP = os.path.dirname(os.path.dirname(HERE))
 PROGRAM = sys.argv[1] if len(sys.argv) > 1 else f"{TOP}/potrace"
-CHORDS, PLACES, MOST = 8, 32, 0.2
+CHORDS, PLACES, MOST = 8, 8, 0.2
 PAGES = [f"disc {radius}" for radius in (30, 100, 300, 1000, 3000)] + [
-    "logo 1024", "logo 4096", "text 40", "scan", "map"]
+    "logo 1024", "logo 4096", "text 40", "map 1200 900 120"]
 WORDS = ["", "-O 0.5", "-n"]
 
 
@@ -138,13 +138,13 @@ def words_of_guide():
 
 
 def main():
-    print(f"{'page':10} {'words':10} {'chords off':>10} {'circle off':>10} {'DXF by that of the default':>27}")
+    print(f"{'page':16} {'words':10} {'chords off':>10} {'circle off':>10} {'DXF by that of the default':>27}")
     for name in PAGES:
         first = None
         for words in WORDS:
             far, circle, size = measured(name, words)
             first = first or size
-            print(f"{name:10} {words or '(default)':10} {far:10.3f} {'' if circle is None else f'{circle:.3f}':>10} {size / first:27.2f}")
+            print(f"{name:16} {words or '(default)':10} {far:10.3f} {'' if circle is None else f'{circle:.3f}':>10} {size / first:27.2f}")
     words = words_of_guide()
     far, circle, _ = measured("disc 1000", words)
     print(f"disc of 1000 by the guide's words, {words}: chords off by {far:.3f}, and {circle:.3f} from the circle")

@@ -4,7 +4,7 @@
 # usage: examples.sh
 #
 # The commands are taken from the documents: blocks of shell, what stands behind a $ in blocks of text, whose output has to
-# be the one that is shown, and in a line of text what begins with one of our programs or a converter and has a word more;
+# be the one that is shown, and in a line of text what begins with one of our programs or a converter and has more than options;
 # of the manual pages, which have to be well-formed, the examples and what stands literally. They run one after another, in
 # a copy of this clone in which what is built here stands, in a folder with the pages that they name; the documents that
 # come have to be read by a parser. What isn't run is named below, with the reason. The batch queue, and the host that ssh
@@ -30,6 +30,9 @@ rt ci CRATE: a part of the gate
 rt must-fail CRATE: a part of the gate
 rt try --test: it wants the folder of a crate that is at work
 rt check: it wants the folder of a crate that is at work
+rt plant: it wants the folder of a crate that is at work
+rt tidy: it wants the folder of a crate that is at work
+rt doc: it says where the kit's guides are
 rt version: it says the kit's name alone
 packaging/make FOLDER: bench/check/package.sh tries it
 ./build potrace: bench/check/build.sh tries what it does; of all crates it takes minutes
@@ -140,7 +143,7 @@ with open(f"{WORK}/not", encoding="utf-8") as file:
 
 def is_command(text):
     words = text.split()
-    return len(words) > 1 and words[0] in PROGRAMS
+    return words[0] in PROGRAMS and not all(word.startswith("-") for word in words[1:])
 
 
 def of_markdown(text):
@@ -159,7 +162,7 @@ def of_markdown(text):
 
 def of_manual(text):
     for line, block in re.findall(r"^\.(?:Dl|It Li|Ql) (.*)$|^\.Bd .*\n((?:.*\n)*?)\.Ed$", text, re.M):
-        code = (line or block).replace("\\(aq", "'").replace("\\e", "\\").rstrip("\n")
+        code = (re.sub(" [.,:;]$", "", line) or block).replace("\\(aq", "'").replace("\\e", "\\").rstrip("\n")
         assert "\\(" not in code, code
         if is_command(code) or block:
             yield code, None
@@ -179,14 +182,15 @@ def run(document, command, output):
         print(f"{document}: not run: {command} ({NOT[command]})")
         return False
     before = status_of_clone()
-    done = subprocess.run(["bash", "-euo", "pipefail", "-c", command], stdin=subprocess.DEVNULL, capture_output=True)
-    said = done.stderr.decode(errors="replace")
+    with open("scan.pbm", "rb") as page:
+        done = subprocess.run(["bash", "-euo", "pipefail", "-c", command], stdin=page, capture_output=True)
+    said, wrote = done.stderr.decode(errors="replace"), done.stdout.decode(errors="replace")
     if "--bar" in command or "over_hosts" in command or "-f hpgl" in command:
         said = ""           # a bar, how many pages are done, and what pstoedit thinks of its own work
     if command.startswith("./install"):
         said = "".join(line for line in said.splitlines(True) if not line.startswith("note: "))
-    if done.returncode or said or output not in (None, done.stdout.decode()):
-        sys.exit(f"examples: {document}: this command fails, with status {done.returncode}: {command}\n{said}{done.stdout.decode()}")
+    if done.returncode or said or output not in (None, wrote):
+        sys.exit(f"examples: {document}: this command fails, with status {done.returncode}: {command}\n{said}{wrote[:2000]}")
     if command.startswith("./") and status_of_clone() != before:
         sys.exit(f"examples: {document}: this command leaves a trace in the clone: {command}")
     return True

@@ -62,7 +62,7 @@ rsvg-convert --dpi-x 300 --dpi-y 300 -o sized.png sized.svg
 gs -q -o - -sDEVICE=bbox book.pdf >/dev/null 2>boxes
 pdfinfo book.pdf >told
 ogrinfo -q -ro -al mended.gpkg -dialect SQLite -sql 'SELECT COUNT(*) AS n, SUM(ST_IsValid(geom)) AS valid FROM mask' >mended
-ogrinfo -q -ro -al mask.json -dialect SQLite -sql 'SELECT COUNT(*) AS n, SUM(ST_IsValid(geometry)) AS valid FROM mask' >before
+ogrinfo -q -ro -al mask.json -dialect SQLite -sql 'SELECT COUNT(*) AS n, SUM(ST_IsValid(geometry)) AS valid FROM mask' >before 2>/dev/null
 ogrinfo -ro -so -al placed.gpkg >placed
 ogrinfo -ro -so -al mask.json >there
 /usr/bin/python3 - <<'END'
@@ -97,7 +97,7 @@ told("SVG, its sides in inches", numbers(r'width="([\d.]+)in" height="([\d.]+)in
 drawing = ezdxf.readfile("sized.dxf")
 assert not drawing.audit().errors
 box = bbox.extents(drawing.modelspace())
-told("DXF, the rectangle in millimetres", [*box.extmin[:2], *box.extmax[:2]], [it * 25.4 / INCH for it in RECTANGLE], 0.05)
+told("DXF, the rectangle in millimetres", [box.extmin.x, box.extmin.y, box.extmax.x, box.extmax.y], [it * 25.4 / INCH for it in RECTANGLE], 0.05)
 pages, width, height = numbers(r"Pages: +(\d+).*Page size: +([\d.]+) x ([\d.]+) pts \(A4\)", text_of("told"))
 told("PDF, pages and their sides in points", [pages, width, height], [2, 595, 842], 0)
 for line in re.findall(r"%%HiResBoundingBox: (.*)", text_of("boxes")):
