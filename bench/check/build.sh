@@ -88,7 +88,8 @@ grep -q "the crate potrace isn't built" "$work/said" || fail "a stored run that 
 echo 'egg 7:00' >crates/potrace/stdout
 due 'the stored run changed' potrace -- ./hello
 mkdir "$work/path"
-for tool in bash env sed readlink dirname find sort sha256sum python3; do ln -s "$(command -v "$tool")" "$work/path"; done
+for tool in bash env sed readlink dirname find sort sha256sum; do ln -s "$(command -v "$tool")" "$work/path"; done
+ln -s "$(python3 -c 'import sys; print(sys.executable)')" "$work/path/python3"
 due 'without the kit' -- env "PATH=$work/path" ./hello
 due 'with it again' -- ./hello
 start=$(date +%s%N)

@@ -6,7 +6,7 @@
 # The blocks of shell under "True size" and "Maps" are run as they stand, on pages with a black rectangle at known pixels,
 # as of scans of 300 dpi; and then other programs measure the documents: SVG in inches, DXF in millimetres, the PDF's pages
 # and where their ink is, G-code, HPGL, and where the map lies. Shapes that cross themselves, of which GEOS has to call some
-# invalid before, have to be valid afterwards.
+# invalid before, have to be valid afterwards. How many it calls so is printed for other pages too.
 #
 # PROGRAM is ours, and is built if it isn't given. It needs python3 and Debian's packages librsvg2-bin, ghostscript,
 # poppler-utils, pstoedit, gdal-bin and python3-ezdxf. It is no part of the gate.
@@ -121,3 +121,12 @@ counts = {name: numbers(r"n \(Integer\) = (\d+).*valid \(Integer\) = (\d+)", tex
 print(f"map: {counts['before'][0]:g} shapes of a dithered page, {counts['before'][0] - counts['before'][1]:g} of them invalid; mended {counts['mended'][0]:g}, {counts['mended'][0] - counts['mended'][1]:g} invalid")
 sys.exit(counts["before"][0] == counts["before"][1] or counts["mended"][0] != counts["mended"][1])
 END
+for page in 'scan' 'map 1200 900 120' 'photo 1024'; do
+  for words in '' '-n' '-a 0'; do
+    # shellcheck disable=SC2086
+    "$top/bench/pages.py" $page | potrace -b geojson $words >page.json
+    counts=$(ogrinfo -q -ro page.json -dialect SQLite -sql 'SELECT COUNT(*) AS n, SUM(NOT ST_IsValid(geometry)) AS invalid FROM page' 2>/dev/null |
+      sed -n 's/.*(Integer) = //p' | xargs)
+    echo "GeoJSON of $page, ${words:-default}: ${counts#* } of ${counts% *} shapes invalid"
+  done
+done
