@@ -5,10 +5,11 @@
 #
 # TARBALL is the one that packaging/make makes. The hosts are network namespaces of this machine with an sshd each, on
 # 198.51.100.2 and 198.51.100.6, addresses that are kept for examples; each has a home of its own in memory, and neither
-# the pages nor this repository, /opt or parallel. The tarball is unpacked there. The first run is cut off from here, by
-# a signal; in the second one a host goes away: its cable first, and then its processes. In the end each document has to
-# be there once, byte for byte as the program writes it here in one process, and nothing else; and a third run has
-# nothing to do.
+# the pages nor this repository, /opt or parallel. The tarball is unpacked there. Wrong options, and a host with another
+# potrace, are refused before the first page. The first run is cut off from here, by a signal; in the second one a host
+# goes away: its cable first, and then its processes. In the end each document has to be there once, byte for byte as the
+# program writes it here in one process, and nothing else; a third run has nothing to do, other options are refused, and
+# this machine alone, without ssh, makes the same.
 #
 # It needs root, python3 and Debian's packages parallel, openssh-server, openssh-client, rsync and iproute2. It takes
 # away what it made, and ends within some minutes.
@@ -106,6 +107,7 @@ draw_pages() {
   { cat scans/102.pbm; echo behind; } >scans/noted.pbm
   : >scans/old/empty.pbm
   cp "$top/examples/key.pgm" scans/old
+  cp scans/104.pbm scans/UPPER.PBM
 }
 
 come() { [ "$(find run -name '*.status' 2>/dev/null | wc -l)" -ge "$1" ]; }
@@ -114,6 +116,8 @@ answers() { ssh -F "$work/ssh_config" -o ConnectTimeout=2 "$1" true </dev/null 2
 mkdir -p "$work/keys" "$work/at/one"
 cd "$work/at"
 draw_pages
+mkdir "$work/alone"
+cp -r scans "$work/alone"
 ssh-keygen -q -t ed25519 -N '' -f "$work/keys/host"
 ssh-keygen -q -t ed25519 -N '' -f "$work/keys/user"
 tar -xzf "$tarball" -C "$work/keys"
@@ -137,6 +141,23 @@ for host in $hosts; do
   echo "host $host: $($PARALLEL_SSH "$host" '.local/bin/potrace -v' </dev/null)"
 done
 printf '2/%s\n' $hosts >hosts
+
+# refuses WHAT TEXT WORD..: over_hosts with these words ends with 1, says a text, and keeps and writes nothing.
+refuses() {
+  local what=$1 text=$2 kept status=0
+  shift 2
+  kept=$(find . | sort | sha256sum)
+  "$top/examples/many/over_hosts" "$@" >"$work/said" 2>&1 || status=$?
+  [ "$status" -eq 1 ] && grep -qF -- "$text" "$work/said" || { cat "$work/said" >&2; fail "$what: status $status"; }
+  [ "$kept" = "$(find . | sort | sha256sum)" ] || fail "$what: something is kept"
+  echo "$what: $(cat "$work/said")"
+}
+refuses 'wrong options' 'one: potrace: bad arguments' hosts scans run -s -r 300
+$PARALLEL_SSH two 'mv .local/bin/potrace .local/bin/ours && printf "#!/bin/sh\necho potrace 1.16\n" >.local/bin/potrace && chmod +x .local/bin/potrace' </dev/null
+refuses 'another potrace' 'two: potrace 1.16' hosts scans run -s
+$PARALLEL_SSH two 'mv .local/bin/ours .local/bin/potrace' </dev/null
+printf 'scans/100.pbm\nscans/100.pgm\n' >"$work/list"
+refuses 'one name for two documents' 'would be called scans/100' hosts "$work/list" run -s
 
 # Cut off from here.
 setsid "$top/examples/many/over_hosts" hosts scans run -s >"$work/run-1.log" 2>&1 &
@@ -170,6 +191,15 @@ status=0
 [ "$jobs_done" -eq "$(wc -l <run/jobs.log)" ] || fail "the third run had something to do"
 echo "third run: status $status, nothing to do"
 diff -r one/scans scans || fail "the documents differ"
+refuses 'other options' "run has the options '-s'" hosts scans run -b dxf
+(
+  cd "$work/alone"
+  echo 4/: >hosts
+  status=0
+  PATH=$work/keys/bin:$PATH PARALLEL_SSH=false "$top/examples/many/over_hosts" hosts scans run -s >"$work/run-4.log" 2>&1 || status=$?
+  diff -r "$work/at/one/scans" scans || fail "this machine alone makes other documents: $(cat "$work/run-4.log")"
+  echo "this machine alone: status $status; $(grep '^over_hosts' "$work/run-4.log")"
+)
 echo "$(find scans -name '*.svg' | wc -l) documents and $(find run -name '*.status' | wc -l) statuses, the same as of one process:" \
   "$(find run -name '*.status' -exec cat {} + | sort | uniq -c | awk '{ printf " %s with %s", $1, $2 }')"
 awk -F'\t' '$1 != "Seq" { jobs[$2 ", exit value " $7]++ } END { for (it in jobs) print "job log: " jobs[it] " jobs of " it }' run/jobs.log | sort

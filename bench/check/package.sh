@@ -41,7 +41,10 @@ fi
 mkdir "$work/prefix"
 tar -xzf "$tarball" -C "$work/prefix"
 "$work/prefix/bin/potrace" -s <"$top/examples/gray.pgm" | cmp - "$top/examples/gray.svg"
-echo "tarball: $(find "$work/prefix" -type f | wc -l) files; the program traces as it should"
+for file in README GUIDE.md FORMATS.md $(grep -oh 'pictures/[a-z]*\.svg' "$top"/docs/{GUIDE,FORMATS}.md | sort -u); do
+  [ -s "$work/prefix/share/doc/potrace-proved/$file" ] || fail "the tarball lacks the document $file"
+done
+echo "tarball: $(find "$work/prefix" -type f | wc -l) files, with documents and pictures; the program traces as it should"
 
 # The copy of this system: what is written there goes to memory.
 cp "$top/examples/gray.pgm" "$top/examples/gray.svg" "$package" "$work/prefix"

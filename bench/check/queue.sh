@@ -4,9 +4,10 @@
 # usage: queue.sh [PROGRAM]
 #
 # Debian's slurmctld, slurmd, slurm-client and munge are installed in a copy of this system in memory, which is gone
-# afterwards with all that ran there, and its network reaches nothing. The job is cancelled in mid-run and handed in
-# again; in the end each document has to be there once, byte for byte as the program writes it in one process, and
-# nothing else. The example of the manual page has to write the same.
+# afterwards with all that ran there, and its network reaches nothing. A job with wrong options has to keep nothing. The
+# job is cancelled in mid-run and handed in again; in the end each document has to be there once, byte for byte as the
+# program writes it in one process, and nothing else. Other options are refused then. The example of the manual page has
+# to write the same.
 #
 # It needs root, python3, a network that has Debian's packages, and iproute2. PROGRAM is ours, and is built if it isn't
 # given.
@@ -85,6 +86,17 @@ come() { [ "$(find run -name '*.status' 2>/dev/null | wc -l)" -ge "$1" ]; }
 cd /at
 wait_for is_idle
 sbatch --version
+all_files() { { find scans run 2>/dev/null || true; } | sort; }
+# refused WORD..: the job fails, and keeps no status.
+refused() {
+  local kept
+  kept=$(all_files)
+  ! sbatch --wait --array=0-1 -o refused-%a.out array.slurm pages.txt run "$@" >/dev/null || { echo "queue: a job $* passes" >&2; exit 1; }
+  [ "$kept" = "$(all_files)" ] || { echo "queue: a job $* keeps something" >&2; exit 1; }
+  sort -u refused-*.out
+  rm refused-*.out
+}
+refused -s -r 300
 first=$(sbatch --parsable --array=0-7%2 array.slurm pages.txt run -s)
 wait_for come 5
 scancel "$first"
@@ -94,6 +106,7 @@ sbatch --parsable --array=0-7%2 array.slurm pages.txt run -s >/dev/null
 wait_for is_idle
 echo "second job: $(find run -name '*.status' | wc -l) pages done; statuses:$(find run -name '*.status' -exec cat {} + | sort | uniq -c | awk '{ printf " %s with %s", $1, $2 }')"
 cat slurm-*.out | sort | uniq -c
+refused -b dxf
 mkdir by-hand
 cp -r pages.txt manual by-hand
 mv scans traced
