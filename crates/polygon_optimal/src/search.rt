@@ -19,13 +19,17 @@ ghost use Rattle.polygon_optimal.specs.Search.{AreFalling, AreFarthest, HasCheap
 
 use crate::segments::Segments;
 use least_walk::Walk;
-use prefix_moments::Start;
+use prefix_moments::{Growing, Start};
 use pt_core::{NoMemory, Sequence};
 use std::alloc::Global;
 
 /// How many costs are kept: more than the longest segment has steps. As they are a power of two, a slot is
 /// found without a division.
 const SLOTS: usize = 1 << 16;
+
+/// A window of at least so many points is gone through by one segment that grows from point to point. A narrower one
+/// costs less where each of its segments is looked up by itself.
+const WIDE: u32 = 8;
 
 /// A segment to go on by.
 //
@@ -278,11 +282,86 @@ fn cheaper_in(
         (λ k. penalty_of segments.now.moments.now start.now.from k + slice_index costs.now (slot_of k))
         begin end best result }
 {
+    if end - begin < WIDE {
+        cheaper_in_few(segments, start, begin, end, costs, best)
+    } else {
+        cheaper_in_many(segments, start, begin, end, costs, best)
+    }
+}
+
+/// The same, where each segment is looked up by itself.
+fn cheaper_in_few(
+    segments: &Segments,
+    start: &Start,
+    begin: u32,
+    end: u32,
+    costs: &[u64],
+    best: Onward,
+) -> Onward
+    requires start { start.now.moments.now ≡ segments.now.moments.now }
+    requires onwards { start.now.from < begin }
+    requires ordered { begin ≤ end }
+    requires ends { end ≤ slice_index segments.now.lasts.items start.now.from + 1 }
+    requires slots { HasSlots (length segments.now.moments.now) costs.now }
+    ensures { IsCheaperIn
+        (λ k. penalty_of segments.now.moments.now start.now.from k + slice_index costs.now (slot_of k))
+        begin end best result }
+{
     let mut cheapest = best;
     for to in begin..end {
         cheapest = cheaper(segments, start, to, costs[slot(to as usize)], cheapest);
     }
     cheapest
+}
+
+/// The same, by one segment that grows from point to point.
+fn cheaper_in_many(
+    segments: &Segments,
+    start: &Start,
+    begin: u32,
+    end: u32,
+    costs: &[u64],
+    best: Onward,
+) -> Onward
+    requires start { start.now.moments.now ≡ segments.now.moments.now }
+    requires onwards { start.now.from < begin }
+    requires some { begin < end }
+    requires ends { end ≤ slice_index segments.now.lasts.items start.now.from + 1 }
+    requires slots { HasSlots (length segments.now.moments.now) costs.now }
+    ensures { IsCheaperIn
+        (λ k. penalty_of segments.now.moments.now start.now.from k + slice_index costs.now (slot_of k))
+        begin end best result }
+{
+    let mut segment = Growing::between(segments.moments, start.from, begin);
+    let mut cheapest = cheaper_by(segments, &segment, costs[slot(begin as usize)], best);
+    for to in begin + 1..end {
+        segment = segment.longer();
+        cheapest = cheaper_by(segments, &segment, costs[slot(to as usize)], cheapest);
+    }
+    cheapest
+}
+
+/// The segment, from whose end the rest costs so much, where it is cheaper than `best`.
+fn cheaper_by(segments: &Segments, segment: &Growing, rest: u64, best: Onward) -> Onward
+    requires segment { segment.now.moments.now ≡ segments.now.moments.now }
+    requires reached { segment.now.to ≤ slice_index segments.now.lasts.items segment.now.from }
+    ensures cheaper { penalty_of segments.now.moments.now segment.now.from segment.now.to + rest < best.cost
+        → (result.cost ≡ penalty_of segments.now.moments.now segment.now.from segment.now.to + rest)
+        × (result.next ≡ segment.now.to) }
+    ensures same { best.cost ≤ penalty_of segments.now.moments.now segment.now.from segment.now.to + rest
+        → result ≡ best }
+{
+    if best.cost <= rest {
+        return best;
+    }
+    let limit = (best.cost - rest).min(1 << 24);
+    match segment.penalty_below(limit) {
+        Some(penalty) => Onward {
+            cost: penalty + rest,
+            next: segment.to,
+        },
+        None => best,
+    }
 }
 
 /// The segment to this point, from which the rest costs so much, where it is cheaper than `best`.

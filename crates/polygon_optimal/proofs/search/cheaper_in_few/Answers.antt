@@ -3,7 +3,7 @@ use Rattle.std.specs.Prelude.{slice_index}
 use Rattle.polygon_optimal.specs.Polygon.{penalty_of}
 use Rattle.polygon_optimal.specs.Search.{IsCheaperIn, slot_of}
 use Rattle.polygon_optimal.proofs.Scanning.{tried_none, tried_more}
-use Rattle.polygon_optimal.proofs.search.cheaper_in.Goals as goal
+use Rattle.polygon_optimal.proofs.search.cheaper_in_few.Goals as goal
 
 abbrev cost_by : (c : goal.After-loop-to) → ℕ → ℕ
 cost_by c k = penalty_of c.args.segments.now.moments.now c.args.start.now.from k + slice_index c.args.costs.now (slot_of k)

@@ -1,0 +1,63 @@
+use Rattle.std.proofs.Common.{◌≡◌, ℕ, ◌+◌, ◌<◌, ◌≤◌, List, ap, ◌∙◌, subst, arith}
+use Rattle.std.specs.Prelude.{slice_index}
+use Rattle.polygon_optimal.specs.Polygon.{penalty_of}
+use Rattle.polygon_optimal.specs.Search.{IsCheaperIn, slot_of}
+use Rattle.polygon_optimal.specs.declared.search.Onward.{Onward}
+use Rattle.polygon_optimal.proofs.Scanning.{tried_none, tried_more}
+use Rattle.polygon_optimal.proofs.search.cheaper_in_many.Goals as goal
+
+-- one more segment, whose numbers are known by other names
+tried_by : (penalty : ℕ → ℕ → ℕ) (costs : List ℕ) (from begin to i j slot : ℕ) (best so_far onward : Onward)
+    → begin ≤ to → i ≡ from → j ≡ to → slot ≡ slot_of to
+    → (penalty i j + slice_index costs slot < so_far.cost → (onward.cost ≡ penalty i j + slice_index costs slot) × (onward.next ≡ j))
+    → (so_far.cost ≤ penalty i j + slice_index costs slot → onward ≡ so_far)
+    → IsCheaperIn (λ k. penalty from k + slice_index costs (slot_of k)) begin to best so_far
+    → IsCheaperIn (λ k. penalty from k + slice_index costs (slot_of k)) begin (to + 1) best onward
+tried_by penalty costs from begin to i j slot best so_far onward room ei ej es taken kept is =
+    tried_more (λ k. penalty from k + slice_index costs (slot_of k)) begin to best so_far onward room
+    (rw (ei, ej, es) at taken) (rw (ei, ej, es) at kept) is
+
+pub loop-to-init : goal.loop-to-init
+loop-to-init c =
+    let s = c.args.segments.now in
+    let from : ℕ = c.args.start.now.from in
+    let begin : ℕ = c.args.begin in
+    let costs = c.args.costs.now in
+    let is = c.between-segment.ensures in
+    record {
+      moments = is.moments;
+      from = is.from;
+      to = ap (λ n. n + 1) is.to;
+      tried = tried_by (penalty_of s.moments.now) costs from begin begin c.between-segment.result.from c.between-segment.result.to c.slot.result
+          c.args.best c.args.best c.cheaper_by-cheapest.result (omega arith) is.from is.to c.slot.ensures
+          c.cheaper_by-cheapest.ensures.cheaper c.cheaper_by-cheapest.ensures.same
+          (tried_none (λ k. penalty_of s.moments.now from k + slice_index costs (slot_of k)) begin c.args.best);
+    }
+
+pub loop-to-preserved : goal.loop-to-preserved
+loop-to-preserved c =
+    let s = c.args.segments.now in
+    let from : ℕ = c.args.start.now.from in
+    let to : ℕ = c.loop-to.to in
+    let so_far = c.loop-to.invariant in
+    let is = c.longer-segment.ensures in
+    let here : c.longer-segment.result.to ≡ to = is.to ∙ so_far.to in
+    record {
+      moments = is.moments ∙ so_far.moments;
+      from = is.from ∙ so_far.from;
+      to = ap (λ n. n + 1) here;
+      tried = tried_by (penalty_of s.moments.now) c.args.costs.now from c.args.begin to c.longer-segment.result.from c.longer-segment.result.to
+          c.slot-in-loop-to.result c.args.best c.loop-to.cheapest c.cheaper_by-cheapest-in-loop-to.result (omega arith)
+          (is.from ∙ so_far.from) here c.slot-in-loop-to.ensures
+          c.cheaper_by-cheapest-in-loop-to.ensures.cheaper c.cheaper_by-cheapest-in-loop-to.ensures.same so_far.tried;
+    }
+
+pub returns : goal.returns
+returns c =
+    let s = c.args.segments.now in
+    let from : ℕ = c.args.start.now.from in
+    let costs = c.args.costs.now in
+    let whole : c.loop-to.to ≡ c.args.end =
+    omega (arith, c.loop-to.auto.to-end (omega (arith, c.requires.some)), c.loop-to-test.false) in
+    subst (λ n. IsCheaperIn (λ k. penalty_of s.moments.now from k + slice_index costs (slot_of k)) c.args.begin n c.args.best c.loop-to.cheapest)
+    whole c.loop-to.invariant.tried

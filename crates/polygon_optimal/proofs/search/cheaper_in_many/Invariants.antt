@@ -1,0 +1,13 @@
+use Rattle.std.proofs.Common.{◌≡◌, ◌+◌}
+use Rattle.std.specs.Prelude.{slice_index}
+use Rattle.polygon_optimal.specs.Polygon.{penalty_of}
+use Rattle.polygon_optimal.specs.Search.{IsCheaperIn, slot_of}
+use Rattle.polygon_optimal.proofs.search.cheaper_in_many.Given as goal
+
+abbrev pub invariant-loop-to : goal.invariant-loop-to
+invariant-loop-to l = record {
+  moments : l.segment.moments.now ≡ l.segments.moments.now;
+  from : l.segment.from ≡ l.start.from;
+  to : l.segment.to + 1 ≡ l.to;
+  tried : IsCheaperIn (λ k. penalty_of l.segments.moments.now l.start.from k + slice_index l.costs (slot_of k)) l.begin l.to l.fn.best l.cheapest;
+}
