@@ -14,3 +14,4 @@ pub mod Touching
 pub mod Edges
 pub mod Between
 pub mod Unjoined
+pub mod Chords

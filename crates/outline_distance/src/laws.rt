@@ -1,5 +1,5 @@
 //! What follows from the definitions alone.
-ghost use Rattle.std.specs.Prelude.{◌≡◌, false, ℕ, ◌+◌, ◌*◌, ◌<◌, ◌≤◌, ◌+ℤ◌, List, length, slice_index, slice_index_or, slice_range};
+ghost use Rattle.std.specs.Prelude.{◌≡◌, false, ℕ, ◌+◌, ◌-◌, ◌*◌, ◌<◌, ◌≤◌, ◌+ℤ◌, List, length, slice_index, slice_index_or, slice_range};
 ghost use Rattle.pt_core.specs.ClosedWalk.{IsClosedWalk, point_at, origin};
 ghost use Rattle.pt_core.specs.declared.point.Point.{Point};
 ghost use Rattle.pt_core.specs.declared.piece.Piece.TheVariants.{Corner, Curve};
@@ -15,6 +15,8 @@ ghost use Rattle.curve_join.specs.Join.{MayJoin, cubic_at};
 ghost use Rattle.curve_join.specs.Outline.{Outline, is_curve, piece_at, vertex};
 ghost use Rattle.curve_join.specs.Vector.{way_of};
 ghost use Rattle.page_trace.specs.Trace.{IsOutlineOf};
+ghost use Rattle.dxf_geojson.specs.Chords.{curve_point};
+ghost use Rattle.outline_distance.specs.Curves.{BendsBy, curve_place};
 ghost use Rattle.outline_distance.specs.Polygons.{IsAnyPolygon};
 ghost use Rattle.outline_distance.specs.Distance.{DividesBy, IsCloseTo, LinePassesBy, PassesBy, divided, eightfold_middle, multiple, point_place};
 
@@ -135,4 +137,20 @@ pub fn joined_curves_pass_by_sides()
         → j ≤ length o.pieces → MayJoin tol (slice_range (bends_of o) i j) → i ≤ k → k + 1 < j
         → PassesBy tol (vertex o k) (vertex o (k + 1))
         (touching_of (cubic_at (slice_range (bends_of o) i j)) (way_of (vertex o k) (vertex o (k + 1)))) }
+{}
+
+/// A place of a curve between two neighbouring eighths of its parameter is off the chord between these, at the same
+/// part of it, by at most 3/256 of the curve's greatest second difference.
+pub fn chords_pass_by_curves()
+    ensures { (start first second end : Point) (most k before after : ℕ) → k < 8 → BendsBy most start first second end
+        → IsCloseTo (6 * ((before + after) * (before + after) * (before + after)) * most)
+        (multiple ((before + after) * (before + after)) (divided before after
+        (curve_place (8 - k) k start first second end) (curve_place (7 - k) (k + 1) start first second end)))
+        (curve_place (before * (8 - k) + after * (7 - k)) (before * k + after * (k + 1)) start first second end) }
+{}
+
+/// A point that is written for a curve in DXF and GeoJSON is within a unit of the curve's place at its eighth.
+pub fn chord_points_are_rounded()
+    ensures { (start first second end : Point) (k : ℕ)
+        → IsCloseTo 512 (multiple 512 (curve_point start first second end k)) (curve_place (8 - k) k start first second end) }
 {}
