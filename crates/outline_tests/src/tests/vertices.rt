@@ -8,7 +8,7 @@ use pt_base::is_closed_walk;
 use pt_core::{MOST_STEPS, NoMemory, Polygon, Sequence};
 use std::alloc::Global;
 use std::test::Fail;
-use vertex_adjust::{Line, adjust, line_of};
+use vertex_adjust::{Line, VertexMemo, adjust, adjust_by, line_of};
 
 const PIXEL: &[Place] = &[(0, 1), (0, 0), (1, 0), (1, 1)];
 
@@ -137,8 +137,10 @@ const VERTICES: [(&[Place], &[u32], &[Place]); 10] = [
 
 #[test]
 fn vertices_of_polygons(rt: HostRuntime) -> Result<(), Fail> {
+    // What is kept of one polygon must change nothing in the next ones.
+    let mut memo = VertexMemo::new(rt.alloc())?;
     for (path, at, vertices) in VERTICES {
-        let same = has_vertices(rt.alloc(), path, at, vertices)?;
+        let same = has_vertices(rt.alloc(), path, at, vertices, &mut memo)?;
         assert!(rt; same, "{at:?}: {vertices:?}");
     }
     Ok(())
@@ -149,14 +151,18 @@ fn has_vertices(
     path: &[Place],
     at: &[u32],
     vertices: &[Place],
+    memo: &mut VertexMemo,
 ) -> Result<bool, Fail> {
     let points = points_at(alloc, path)?;
     if !is_closed_walk(&points) || !is_polygon(&points, at) {
         return Ok(false);
     }
-    let adjusted = adjust(alloc, &points, &polygon_at(alloc, at)?)?;
+    let polygon = polygon_at(alloc, at)?;
+    let moments = Moments::of(alloc, &points)?;
+    let adjusted = adjust(alloc, &points, &polygon)?;
+    let by_memo = adjust_by(alloc, &points, &moments, &polygon, memo)?;
     let wanted = points_at(alloc, vertices)?;
-    Ok(adjusted.as_slice() == wanted.as_slice())
+    Ok(adjusted.as_slice() == wanted.as_slice() && by_memo.as_slice() == wanted.as_slice())
 }
 
 fn polygon_at(alloc: Global, at: &[u32]) -> Result<Polygon, NoMemory>
