@@ -10,6 +10,7 @@ use Rattle.vertex_adjust.proofs.memo.VertexMemo.new.Goals as goal
 pub invariant_of-result : goal.invariant_of-result
 invariant_of-result c =
     let P : List Normal → Type 0 = λ normals. All IsNormal normals in
-    let Q : List LeastShift → Type 0 = λ shifts. All IsLeastShift shifts in
-    (subst P (sym (c.in_ok-normals.ensures.items_if_clones_equal (λ y same. same))) (All-replicate IsNormal 4096 c.no_normal.result c.no_normal.ensures),
-    subst Q (sym (c.in_ok-shifts.ensures.items_if_clones_equal (λ y same. same))) (All-replicate IsLeastShift 4096 c.no_shift.result c.no_shift.ensures))
+    let Q : List LeastShift → Type 0 = λ shifts. All IsLeastShift shifts in (
+      subst P (sym (c.in_ok-normals.ensures.items_if_clones_equal (λ y same. same))) (All-replicate IsNormal 4096 c.no_normal.result c.no_normal.ensures),
+      subst Q (sym (c.in_ok-shifts.ensures.items_if_clones_equal (λ y same. same))) (All-replicate IsLeastShift 4096 c.no_shift.result c.no_shift.ensures),
+    )

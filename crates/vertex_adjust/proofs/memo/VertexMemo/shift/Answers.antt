@@ -16,9 +16,10 @@ returns-then-is_one_quadratic-clause-least c =
     is.least error (subst Q (sym (c.is_one_quadratic.ensures c.if-is_one_quadratic.true)) over))
 
 pub invariant_of-self : goal.invariant_of-self
-invariant_of-self c =
-    (c.self.invariant.0,
-    All-set IsLeastShift c.self.inside.shifts.items c.place_of_quadratic-at.result c.of-least.result c.of-least.ensures.least c.self.invariant.1)
+invariant_of-self c = (
+  c.self.invariant.0,
+  All-set IsLeastShift c.self.inside.shifts.items c.place_of_quadratic-at.result c.of-least.result c.of-least.ensures.least c.self.invariant.1,
+)
 
 pub returns-clause-least : goal.returns-clause-least
 returns-clause-least c = λ error over. (
