@@ -85,7 +85,7 @@ told_earlier table new points last at node digit next step t keeps is into leads
 
 -- the table that stays as it is
 pub keeps_all : (table : Table) → KeepsWords table table
-keeps_all table = record { used = omega arith; counts = λ node h. refl; digits = λ node h. refl }
+keeps_all table = record { used = omega arith; counts = λ node h. refl; digits = λ node h. refl; courses = λ node h. refl }
 
 -- ---- ends
 

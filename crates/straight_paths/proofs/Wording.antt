@@ -1,50 +1,22 @@
--- How many of a word's steps are straight.
-use Rattle.std.proofs.Common.{◌≡◌, ◌↔◌, unsigned_abs, Bool, true, false, ℕ, zero, suc, ◌+◌, ◌-◌, ◌/◌, ◌%◌, ◌<◌, ◌≤◌, ◌-ℤ◌, ℤ, pos, min, inl, inr, refl, sym, ◌∙◌, ap, subst, IsTrue, arith}
-use Rattle.std.proofs.lemmas.Bool.{cases_lt, cases_eq, false≢true}
+-- What a step more comes to.
+use Rattle.std.proofs.Common.{◌≡◌, ◌↔◌, unsigned_abs, Bool, true, false, ℕ, zero, suc, ◌+◌, ◌-◌, ◌<◌, ◌≤◌, ℤ, pos, inl, inr, refl, sym, ◌∙◌, ap, subst, IsTrue, arith}
+use Rattle.std.proofs.lemmas.Bool.{cases_eq, false≢true}
 use Rattle.std.proofs.lemmas.Int.{ints}
-use Rattle.std.proofs.Math.Path.{fun_ext}
 use Rattle.pt_core.specs.declared.point.Point.{Point}
-use Rattle.straight_paths.specs.Codes.{IsCoded, beyond, coded_step}
-use Rattle.straight_paths.specs.Cones.{HoldsNear, HoldsWay, IsClear}
+use Rattle.straight_paths.specs.Codes.{beyond, coded_step}
+use Rattle.straight_paths.specs.Cones.{HoldsWay}
 use Rattle.straight_paths.specs.Corners.{GoesStraight, step_from}
+use Rattle.straight_paths.specs.Courses.{HasCourse, cone_of, wide_of}
 use Rattle.straight_paths.specs.Straight.{IsNear, IsStraight, Takes, TakesAllFour}
-use Rattle.straight_paths.specs.Tails.{IsClearUpTo, way_along}
-use Rattle.straight_paths.specs.Words.{AreTaken, IsStraightUpTo, IsThreeUpTo}
-use Rattle.straight_paths.specs.declared.cone.Cone.{Cone}
-use Rattle.straight_paths.specs.declared.flags.Flags.{Flags}
+use Rattle.straight_paths.specs.Tails.{way_along}
+use Rattle.straight_paths.specs.Words.{AreTaken}
+use Rattle.straight_paths.specs.declared.course.Course.{Course}
 use Rattle.straight_paths.specs.declared.vector.Vector.{Vector}
-use Rattle.straight_paths.proofs.Clear.{ends_within, next_clear, next_holds}
-use Rattle.straight_paths.proofs.Ends.{clear_shorter}
-use Rattle.straight_paths.proofs.Pieces.{four_more, is_clear, none_is_straight, rest_of, shorter, takes_more, with_first}
-
--- ---- the path from its point number s on
-
-abbrev pub from_on : (ℕ → Point) → ℕ → ℕ → Point
-from_on path s k = path (k + s)
-
-pub from_next : (path : ℕ → Point) (s : ℕ) → rest_of (from_on path s) ≡ from_on path (s + 1)
-from_next path s = fun_ext (λ k. let e : suc k + s ≡ k + (s + 1) = omega arith in ap path e)
-
-pub from_start : (path : ℕ → Point) → path ≡ from_on path 0
-from_start path = fun_ext (λ k. let e : k ≡ k + 0 = omega arith in ap path e)
-
-pub from_step : (path : ℕ → Point) (s : ℕ) → step_from (from_on path s) 0 ≡ step_from path s
-from_step path s =
-    let e : 0 + s ≡ s = omega arith in
-    let f : suc 0 + s ≡ suc s = omega arith in
-    let v : ℕ → ℕ → Vector = λ a b. record { x = (path b).x -ℤ (path a).x; y = (path b).y -ℤ (path a).y } in
-    ap (λ a. v a (suc 0 + s)) e ∙ ap (v s) f
+use Rattle.straight_paths.proofs.Clear.{next_clear, next_holds}
+use Rattle.straight_paths.proofs.Pieces.{is_clear, rest_of, takes_more, with_first}
 
 same_vector : (a b : Vector) → a.x ≡ b.x → a.y ≡ b.y → a ≡ b
 same_vector a b x y = let v : ℤ → ℤ → Vector = λ x y. record { x = x; y = y } in ap (λ z. v z a.y) x ∙ ap (v b.x) y
-
--- the digits that are left after one more step
-pub coded_rest : (path : ℕ → Point) (s left rest : ℕ) → 0 < left → IsCoded left (from_on path s) rest
-    → (step_from path s ≡ coded_step (rest % 4)) × IsCoded (left - 1) (from_on path (s + 1)) (rest / 4)
-coded_rest path s left rest some coded =
-    let e : left ≡ suc (left - 1) = omega arith in
-    let here : IsCoded (suc (left - 1)) (from_on path s) rest = subst (λ n. IsCoded n (from_on path s) rest) e coded in
-    (sym (from_step path s) ∙ here.0, subst (λ (p : ℕ → Point). IsCoded (left - 1) p (rest / 4)) (from_next path s) here.1)
 
 -- ---- which directions are taken
 
@@ -100,121 +72,53 @@ flag_on path count before after digit direction low few same other is taken =
 pub nothing_taken : (path : ℕ → Point) (step : Vector) → IsTrue false ↔ Takes path 0 step
 nothing_taken path step = (λ h. absurd (false≢true h), λ t. absurd (omega (arith, t.early)))
 
--- ---- how many steps are straight
+-- ---- one step more
 
-pub front_straight : (path : ℕ → Point) (count clear three n : ℕ) → 0 < count → IsStraight (rest_of path) (count - 1)
-    → IsClearUpTo path count clear → IsThreeUpTo path count three → n ≤ clear → n ≤ three → IsStraight path n
-front_straight path count clear three zero some rest up of_three a b = none_is_straight path
-front_straight path count clear three (suc n) some rest up of_three a b =
-    with_first path n (λ t. of_three.three (four_more path (suc n) three b t)) (clear_shorter path (suc n) clear a up.clear)
-    (shorter (rest_of path) n (count - 1) (omega (arith, up.within)) rest)
-
-pub longest : (path : ℕ → Point) (count clear three result : ℕ) → 0 < count → IsStraight (rest_of path) (count - 1)
-    → IsClearUpTo path count clear → IsThreeUpTo path count three → result ≡ min clear three → IsStraightUpTo path count result
-longest path count clear three result some rest up of_three is = record {
-  within = omega (arith, up.within);
-  straight = front_straight path count clear three result some rest up of_three (omega arith) (omega arith);
-  no_more = λ c few s.
-      let a = up.no_more c few (is_clear path c s) in
-      let b = of_three.no_more c few s.not_all_four in
-      omega arith;
-}
-
--- ---- the scans of a word
-
--- after so many steps of a path: the cone of the points so far, the way to the last one, and the digits that are left
-pub record IsScanned (path : ℕ → Point) (count steps : ℕ) (cone : Cone) (way : Vector) (rest : ℕ) : Type 0 where
-  pub holds : HoldsNear path steps cone
-  pub clear : IsClear path steps
-  pub way_is : way ≡ way_along path steps
-  pub coded : IsCoded (count - steps) (from_on path steps) rest
-
--- the directions of the first steps, which aren't all four, and the digits that are left
-pub record AreCounted (path : ℕ → Point) (count steps : ℕ) (flags : Flags) (rest : ℕ) : Type 0 where
-  pub taken : AreTaken path steps flags
-  pub three : ¬ TakesAllFour path steps
-  pub coded : IsCoded (count - steps) (from_on path steps) rest
-
-pub coded_at_start : (path : ℕ → Point) (count digits : ℕ) → IsCoded count path digits → IsCoded (count - 0) (from_on path 0) digits
-coded_at_start path count digits coded =
-    let e : count ≡ count - 0 = omega arith in
-    subst (λ n. IsCoded n (from_on path 0) digits) e (subst (λ (p : ℕ → Point). IsCoded count p digits) (from_start path) coded)
-
--- one step more of a word
-module _ (path : ℕ → Point) (count steps rest : ℕ) (more : steps < count) (coded : IsCoded (count - steps) (from_on path steps) rest) where
-  pub step_is : step_from path steps ≡ coded_step (rest % 4)
-  step_is = (coded_rest path steps (count - steps) rest (omega arith) coded).0
-
-  pub coded_on : IsCoded (count - (steps + 1)) (from_on path (steps + 1)) (rest / 4)
-  coded_on =
-      let e : count - steps - 1 ≡ count - (steps + 1) = omega arith in
-      subst (λ n. IsCoded n (from_on path (steps + 1)) (rest / 4)) e (coded_rest path steps (count - steps) rest (omega arith) coded).1
-
-  pub way_on : (way new : Vector) → way ≡ way_along path steps → new ≡ beyond way (rest % 4) → new ≡ way_along path (steps + 1)
-  way_on way new is on =
-      let s = step_is in
-      let e : suc steps ≡ steps + 1 = omega arith in
-      let sx = ap (λ (v : Vector). v.x) s in
-      let sy = ap (λ (v : Vector). v.y) s in
-      let wx = ap (λ (v : Vector). v.x) is in
-      let wy = ap (λ (v : Vector). v.y) is in
-      let nx = ap (λ (v : Vector). v.x) on in
-      let ny = ap (λ (v : Vector). v.y) on in
-      let there : new ≡ way_along path (suc steps) = same_vector new (way_along path (suc steps)) (omega (arith, ints, sx, wx, nx)) (omega (arith, ints, sy, wy, ny)) in
-      subst (λ n. new ≡ way_along path n) e there
-
-one_run : (path : ℕ → Point) (s : ℕ) → GoesStraight path s (s + 1 - s)
+one_run : (path : ℕ → Point) (s : ℕ) → GoesStraight path s (suc s - s)
 one_run path s t low =
     let z : t ≡ 0 = omega arith in
     let e : s + t ≡ s = omega arith in
     ap (step_from path) e
 
--- one step more that the cone holds
-pub scanned_on : (path : ℕ → Point) (count steps rest : ℕ) (cone narrow : Cone) (way new : Vector) → steps < count
-    → IsScanned path count steps cone way rest → new ≡ beyond way (rest % 4) → HoldsWay cone new
-    → ((other : Vector) → HoldsWay narrow other ↔ (HoldsWay cone other × IsNear new other))
-    → IsScanned path count (steps + 1) narrow new (rest / 4)
-scanned_on path count steps rest cone narrow way new more s is held both =
-    let w = way_on path count steps rest more s.coded way new s.way_is is in
-    record {
-      holds = next_holds path steps (steps + 1) cone new w (omega arith) (one_run path steps) s.holds narrow both;
-      clear = next_clear path steps (steps + 1) cone new w (omega arith) (one_run path steps) s.holds s.clear held;
-      way_is = w;
-      coded = coded_on path count steps rest more s.coded;
-    }
+pub way_on : (path : ℕ → Point) (count digit : ℕ) (way new : Vector) → way ≡ way_along path count → step_from path count ≡ coded_step digit
+    → new ≡ beyond way digit → new ≡ way_along path (suc count)
+way_on path count digit way new is step on =
+    let sx = ap (λ (v : Vector). v.x) step in
+    let sy = ap (λ (v : Vector). v.y) step in
+    let wx = ap (λ (v : Vector). v.x) is in
+    let wy = ap (λ (v : Vector). v.y) is in
+    let nx = ap (λ (v : Vector). v.x) on in
+    let ny = ap (λ (v : Vector). v.y) on in
+    same_vector new (way_along path (suc count)) (omega (arith, ints, sx, wx, nx)) (omega (arith, ints, sy, wy, ny))
 
--- and one that it doesn't hold
-pub scan_ends : (path : ℕ → Point) (count steps rest : ℕ) (cone : Cone) (way new : Vector) → steps < count
-    → IsScanned path count steps cone way rest → new ≡ beyond way (rest % 4) → ¬ HoldsWay cone new → IsClearUpTo path count steps
-scan_ends path count steps rest cone way new more s is out =
-    let w = way_on path count steps rest more s.coded way new s.way_is is in
-    ends_within path steps (steps + 1) steps count cone (omega arith) (omega arith) (omega arith) (one_run path steps) s.holds s.clear (inl refl)
-    (subst (λ o. ¬ HoldsWay cone o) w out)
+-- the course of the path's first steps, and one step more
+module _ (path : ℕ → Point) (count digit : ℕ) (course : Course) (end : Vector) (step : step_from path count ≡ coded_step digit)
+    (has : HasCourse path count course) (is : end ≡ beyond (wide_of course.way) digit) where
+  pub end_is : end ≡ way_along path (suc count)
+  end_is = way_on path count digit (wide_of course.way) end has.way step is
 
-pub all_clear : (path : ℕ → Point) (count : ℕ) → IsClear path count → IsClearUpTo path count count
-all_clear path count clear = record { within = omega arith; clear = clear; no_more = λ c m k. m }
+  pub straight_on : HoldsWay (cone_of course.cone) end → ¬ TakesAllFour path (suc count) → IsStraight path count → IsStraight (rest_of path) count
+      → IsStraight path (suc count)
+  straight_on held not straight rest =
+      with_first path count not
+      (next_clear path count (suc count) (cone_of course.cone) end end_is (omega arith) (one_run path count) has.near (is_clear path count straight) held) rest
 
-pub counted_on : (path : ℕ → Point) (count steps rest : ℕ) (flags new : Flags) → steps < count → AreCounted path count steps flags rest
-    → (step_from path steps ≡ coded_step (rest % 4) → AreTaken path steps flags → AreTaken path (steps + 1) new)
-    → ¬ TakesAllFour path (steps + 1) → AreCounted path count (steps + 1) new (rest / 4)
-counted_on path count steps rest flags new more a with not = record {
-  taken = with (step_is path count steps rest more a.coded) a.taken;
-  three = not;
-  coded = coded_on path count steps rest more a.coded;
-}
+  pub not_held : ¬ HoldsWay (cone_of course.cone) end → ¬ IsStraight path (suc count)
+  not_held out straight =
+      let near = has.near in
+      let clear = is_clear path (suc count) straight in
+      let held : HoldsWay (cone_of course.cone) (way_along path (suc count)) =
+      near.all_held (way_along path (suc count)) (λ j some few. clear j (suc count) some (omega arith) (omega arith)) in
+      out (subst (HoldsWay (cone_of course.cone)) (sym end_is) held)
 
-pub count_ends : (path : ℕ → Point) (count steps : ℕ) → steps < count → ¬ TakesAllFour path steps → TakesAllFour path (steps + 1) → IsThreeUpTo path count steps
-count_ends path count steps more three four = record {
-  within = omega arith;
-  three = three;
-  no_more = λ c m not. elim (cases_lt steps c) [
-    | inl beyond ↦ absurd (not (four_more path (steps + 1) c (omega arith) four))
-    | inr within ↦ within
-  ];
-}
-
-pub all_three : (path : ℕ → Point) (count : ℕ) → ¬ TakesAllFour path count → IsThreeUpTo path count count
-all_three path count three = record { within = omega arith; three = three; no_more = λ c m not. m }
+  pub course_on : (new : Course) → wide_of new.way ≡ end
+      → ((other : Vector) → HoldsWay (cone_of new.cone) other ↔ (HoldsWay (cone_of course.cone) other × IsNear end other))
+      → AreTaken path (suc count) new.flags → HasCourse path (suc count) new
+  course_on new way both taken = record {
+    way = way ∙ end_is;
+    near = next_holds path count (suc count) (cone_of course.cone) end end_is (omega arith) (one_run path count) has.near (cone_of new.cone) both;
+    taken = taken;
+  }
 
 -- a step more is a short way still
 pub beyond_short : (way : Vector) (digit n : ℕ) → unsigned_abs way.x ≤ n → unsigned_abs way.y ≤ n

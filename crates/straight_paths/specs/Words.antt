@@ -3,7 +3,7 @@ use Rattle.std.specs.Prelude.{◌≡◌, ◌↔◌, ℕ, suc, ◌≤◌, IsTrue}
 use Rattle.pt_core.specs.declared.point.Point.{Point}
 use Rattle.straight_paths.specs.Codes.{IsCoded, coded_step}
 use Rattle.straight_paths.specs.Corners.{step_from}
-use Rattle.straight_paths.specs.Straight.{IsStraight, Takes, TakesAllFour, east, north, west, south}
+use Rattle.straight_paths.specs.Straight.{IsStraight, Takes, east, north, west, south}
 use Rattle.straight_paths.specs.declared.flags.Flags.{Flags}
 
 -- of the path's first `most` steps, exactly the first `count` are straight
@@ -11,12 +11,6 @@ pub record IsStraightUpTo (path : ℕ → Point) (most count : ℕ) : Type 0 whe
   pub within : count ≤ most
   pub straight : IsStraight path count
   pub no_more : (c : ℕ) → c ≤ most → IsStraight path c → c ≤ count
-
--- of the path's first `most` steps, exactly the first `count` don't take all four directions
-pub record IsThreeUpTo (path : ℕ → Point) (most count : ℕ) : Type 0 where
-  pub within : count ≤ most
-  pub three : ¬ TakesAllFour path count
-  pub no_more : (c : ℕ) → c ≤ most → ¬ TakesAllFour path c → c ≤ count
 
 -- which directions occur in the path's first `count` steps
 pub record AreTaken (path : ℕ → Point) (count : ℕ) (flags : Flags) : Type 0 where
@@ -31,3 +25,9 @@ abbrev pub TellsNext : ℕ → ℕ → ℕ → ℕ → ℕ → Type 0
 TellsNext count digits digit to_count to_digits = (path : ℕ → Point) → step_from path 0 ≡ coded_step digit
     → IsCoded count (λ k. path (suc k)) digits → IsStraight (λ k. path (suc k)) count
     → IsStraightUpTo path (suc count) to_count × IsCoded to_count path to_digits
+
+-- the same of the path without the last of these steps, and which step the last one is
+abbrev pub TellsFront : ℕ → ℕ → ℕ → ℕ → ℕ → ℕ → Type 0
+TellsFront count digits digit to_count to_digits last = (path : ℕ → Point) → step_from path 0 ≡ coded_step digit
+    → IsCoded count (λ k. path (suc k)) digits → IsStraight (λ k. path (suc k)) count
+    → (IsStraightUpTo path count to_count × IsCoded to_count path to_digits) × (step_from path count ≡ coded_step last)

@@ -42,7 +42,7 @@ fn fill_straight(track: &Track, steps: &mut [u32], table: &mut Table)
     ensures table { IsWordTable table.new }
     ensures straight { AreStraight track.now steps.new }
 {
-    let near = min(track.limit(), NEAR);
+    let near = near_steps(track);
     let last = track.size() + near;
     let sweep = from_beyond(track, last, table);
     if near == track.limit() || sweep.count(track, track.size(), last, table) < near {
@@ -51,6 +51,13 @@ fn fill_straight(track: &Track, steps: &mut [u32], table: &mut Table)
     let last = track.size() + steps_beyond(track);
     let sweep = from_beyond(track, last, table);
     fill_from(track, last, sweep, steps, table);
+}
+
+/// How many steps of the second lap are looked at first.
+fn near_steps(track: &Track) -> usize
+    ensures { result ≤ limit_of track.now }
+{
+    min(track.limit(), NEAR)
 }
 
 /// What is straight from the first index of the second lap on, up to a last index.

@@ -5,7 +5,7 @@ use std::alloc::Global;
 use std::marker::Model;
 
 /// How many of the next few steps are straight, of each way of taking them that was met before, in whichever path. It
-/// grows as they are met, up to 65,536 of them and 1.75 MiB.
+/// grows as they are met, up to 65,536 of them and 3 MiB.
 //
 // On pages of text most straight subpaths have fewer than twenty steps, and the same ways of taking them come again and
 // again. So most points are told by one look at a table: from the word of the steps that are straight from the next

@@ -1,13 +1,20 @@
 //! What was found of paths' next few steps.
-ghost use Rattle.std.specs.Prelude.{◌≡◌, ◌+◌, ◌*◌, ◌<◌, ◌≤◌, ℕ, length, slice_index, IfOk, IfSome, IsTrue};
-ghost use Rattle.straight_paths.specs.Tables.{StandsFor, IsWordTable, KeepsWords, LeadsToWord, count_at, digits_at};
-ghost use Rattle.straight_paths.specs.Words.{TellsNext};
+ghost use Rattle.std.specs.Prelude.{◌≡◌, ◌+◌, ◌*◌, ◌<◌, ◌≤◌, ℕ, suc, length, slice_index, slice_index_or, IfOk, IfSome, IsTrue};
+ghost use Rattle.pt_core.specs.declared.point.Point.{Point};
+ghost use Rattle.straight_paths.specs.Codes.{IsCoded, beyond, coded_step};
+ghost use Rattle.straight_paths.specs.Cones.{HoldsWay};
+ghost use Rattle.straight_paths.specs.Corners.{step_from};
+ghost use Rattle.straight_paths.specs.Courses.{IsCourse, cone_of, no_course, wide_of};
+ghost use Rattle.straight_paths.specs.Straight.{IsStraight};
+ghost use Rattle.straight_paths.specs.Tables.{IsWordTable, KeepsWords, LeadsToWord, StandsFor, count_at, course_at, digits_at};
+ghost use Rattle.straight_paths.specs.Words.{TellsFront};
 
+use crate::course::Course;
 use crate::word::{LONGEST, Word};
 use pt_core::NoMemory;
 use std::alloc::Global;
 
-/// How many words are kept at most. Each takes 28 bytes, so all of them 1.75 MiB.
+/// How many words are kept at most. Each takes 48 bytes, so all of them 3 MiB.
 const MOST_WORDS: usize = 65536;
 
 /// A table of the words that were met: what comes of each by a step in front, which is the word of those steps that are
@@ -23,6 +30,8 @@ pub(crate) struct Table {
     /// For each word, and for each step in front of it, the number of the word that comes of it, or 0 where that
     /// wasn't met.
     pub nexts: Vec<u32>,
+    /// What the steps of each word come to.
+    pub courses: Vec<Course>,
 }
 
 impl Table {
@@ -35,6 +44,7 @@ impl Table {
             digits: Vec::new(alloc),
             counts: Vec::new(alloc),
             nexts: Vec::new(alloc),
+            courses: Vec::new(alloc),
         }
     }
 
@@ -42,11 +52,14 @@ impl Table {
     pub(crate) fn new(alloc: Global) -> Result<Table, NoMemory>
         ensures table { IfOk result IsWordTable }
     {
+        let mut courses = Vec::new(alloc);
+        courses.push(Course::none())?;
         Ok(Table {
             used: 1,
             digits: vec![in alloc; 0; 1]?,
             counts: vec![in alloc; 0; 1]?,
             nexts: vec![in alloc; 0; 4]?,
+            courses,
         })
     }
 
@@ -82,7 +95,19 @@ impl Table {
         }
     }
 
+    /// What the steps of a word come to.
+    fn course(&self, node: u32) -> Course
+        requires table { IsWordTable self.now }
+        requires node { node < self.now.used }
+        ensures { result ≡ course_at self.now node }
+    {
+        self.courses[node as usize]
+    }
+
     /// What a step in front of a word leads to, if that is found.
+    //
+    // 1. It is found for the word without its last step.
+    // 2. Where less is straight there, the last step changes nothing. Else its end alone is asked.
     pub(crate) fn next(&mut self, node: u32, digit: u32) -> Option<u32>
         requires table { IsWordTable self.old }
         requires node { node < self.old.used }
@@ -95,19 +120,70 @@ impl Table {
         if known != 0 {
             return Some(known);
         }
-        let word = self.word(node).with(digit);
-        let count = word.straight();
-        if count == word.count {
-            return self.added(node, digit, word);
+        if self.count(node) == 0 {
+            return self.by_front(node, digit, node, digit);
         }
-        let front = Word {
-            digits: word.digits,
-            count,
+        let course = self.course(node);
+        match self.next(course.front, digit) {
+            Some(next) => self.by_front(node, digit, next, course.last),
+            None => None,
+        }
+    }
+
+    /// The same, by the word `next` to which the step leads in front of the word without its last step.
+    fn by_front(&mut self, node: u32, digit: u32, next: u32, last: u32) -> Option<u32>
+        requires table { IsWordTable self.old }
+        requires node { node < self.old.used }
+        requires digit { digit < 4 }
+        requires next { next < self.old.used }
+        requires last { last < 4 }
+        requires front { TellsFront (count_at self.old node) (digits_at self.old node) digit
+            (count_at self.old next) (digits_at self.old next) last }
+        ensures table { IsWordTable self.new }
+        ensures keeps { KeepsWords self.old self.new }
+        ensures leads { IfSome result (LeadsToWord self.new node digit) }
+    {
+        if self.count(next) != self.count(node) {
+            self.tell(node, digit, next);
+            return Some(next);
+        }
+        if !self.course(next).goes_on(last) {
+            self.tell(node, digit, next);
+            return Some(next);
+        }
+        self.longer(node, digit, next, last)
+    }
+
+    /// The same where all of it is straight: the word is added, if there is room.
+    fn longer(&mut self, node: u32, digit: u32, next: u32, last: u32) -> Option<u32>
+        requires table { IsWordTable self.old }
+        requires node { node < self.old.used }
+        requires digit { digit < 4 }
+        requires next { next < self.old.used }
+        requires last { last < 4 }
+        requires front { TellsFront (count_at self.old node) (digits_at self.old node) digit
+            (count_at self.old next) (digits_at self.old next) last }
+        requires same { count_at self.old next ≡ count_at self.old node }
+        requires held { HoldsWay (cone_of (course_at self.old next).cone)
+            (beyond (wide_of (course_at self.old next).way) last) }
+        requires straight { (path : ℕ → Point) → step_from path 0 ≡ coded_step digit
+            → IsCoded (count_at self.old node) (λ k. path (suc k)) (digits_at self.old node)
+            → IsStraight (λ k. path (suc k)) (count_at self.old node) → IsStraight path (suc (count_at self.old node)) }
+        ensures table { IsWordTable self.new }
+        ensures keeps { KeepsWords self.old self.new }
+        ensures leads { IfSome result (LeadsToWord self.new node digit) }
+    {
+        let word = self.word(node).with(digit);
+        if word.count > LONGEST {
+            return None;
+        }
+        let Some(course) = self.course(next).with(next, last) else {
+            return None;
         };
-        match self.spelled(front.digits, front.count) {
-            Some(next) => {
-                self.tell(node, digit, next);
-                Some(next)
+        match self.add(word, course) {
+            Some(added) => {
+                self.tell(node, digit, added);
+                Some(added)
             }
             None => None,
         }
@@ -127,58 +203,19 @@ impl Table {
             return Some(0);
         }
         match self.spelled(digits / 4, count - 1) {
-            Some(rest) => self.longer(rest, (digits % 4) as u32),
-            None => None,
-        }
-    }
-
-    /// What a step in front of a word leads to, if all of it is straight.
-    fn longer(&mut self, node: u32, digit: u32) -> Option<u32>
-        requires table { IsWordTable self.old }
-        requires node { node < self.old.used }
-        requires digit { digit < 4 }
-        ensures table { IsWordTable self.new }
-        ensures keeps { KeepsWords self.old self.new }
-        ensures leads { IfSome result (LeadsToWord self.new node digit) }
-    {
-        let known = self.told(node, digit);
-        if known != 0 {
-            return Some(known);
-        }
-        let word = self.word(node).with(digit);
-        if word.straight() < word.count {
-            return None;
-        }
-        self.added(node, digit, word)
-    }
-
-    /// The word that a step in front of one leads to, which is added, if there is room.
-    fn added(&mut self, node: u32, digit: u32, word: Word) -> Option<u32>
-        requires table { IsWordTable self.old }
-        requires node { node < self.old.used }
-        requires digit { digit < 4 }
-        requires tells { TellsNext (count_at self.old node) (digits_at self.old node) digit word.count word.digits }
-        ensures table { IsWordTable self.new }
-        ensures keeps { KeepsWords self.old self.new }
-        ensures leads { IfSome result (LeadsToWord self.new node digit) }
-    {
-        if word.count > LONGEST {
-            return None;
-        }
-        match self.add(word) {
-            Some(next) => {
-                self.tell(node, digit, next);
-                Some(next)
-            }
+            Some(rest) => self.next(rest, (digits % 4) as u32),
             None => None,
         }
     }
 
     /// Adds a word, if there is room.
-    fn add(&mut self, word: Word) -> Option<u32>
+    fn add(&mut self, word: Word, course: Course) -> Option<u32>
         requires table { IsWordTable self.old }
         requires some { 0 < self.old.used }
         requires short { word.count ≤ 19 }
+        requires front { course.front < self.old.used }
+        requires course { IsCourse word.count word.digits (count_at self.old course.front)
+            (digits_at self.old course.front) course }
         ensures table { IsWordTable self.new }
         ensures keeps { KeepsWords self.old self.new }
         ensures known { IfSome result (λ next. next < self.new.used) }
@@ -196,6 +233,9 @@ impl Table {
             return None;
         }
         if !put_four(&mut self.nexts, 4 * at) {
+            return None;
+        }
+        if !put_course(&mut self.courses, at, course) {
             return None;
         }
         self.used = at + 1;
@@ -244,6 +284,22 @@ fn put_wide(list: &mut Vec<u64>, at: usize, number: u64) -> bool
         return true;
     }
     list.push(number).is_ok()
+}
+
+/// The same for courses.
+fn put_course(list: &mut Vec<Course>, at: usize, course: Course) -> bool
+    requires { at ≤ length list.old.items }
+    ensures before { (k : ℕ) → k < at
+        → slice_index_or list.new.items k no_course ≡ slice_index_or list.old.items k no_course }
+    ensures length { length list.old.items ≤ length list.new.items }
+    ensures there { IsTrue result → at < length list.new.items }
+    ensures put { IsTrue result → slice_index_or list.new.items at no_course ≡ course }
+{
+    if at < list.len() {
+        list[at] = course;
+        return true;
+    }
+    list.push(course).is_ok()
 }
 
 /// Puts four times 0.

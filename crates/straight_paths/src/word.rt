@@ -1,14 +1,10 @@
 //! Words: how a path takes its next few steps.
-ghost use Rattle.std.specs.Prelude.{◌≡◌, ◌+◌, ◌-◌, ◌*◌, ◌<◌, ◌≤◌, ℕ, suc, length};
+ghost use Rattle.std.specs.Prelude.{◌≡◌, ◌+◌, ◌*◌, ◌<◌, ◌≤◌, ℕ, suc, length};
 ghost use Rattle.pt_core.specs.declared.point.Point.{Point};
 ghost use Rattle.straight_paths.specs.Codes.{GoesByOne, IsCoded, coded_step};
 ghost use Rattle.straight_paths.specs.Corners.{step_from};
-ghost use Rattle.straight_paths.specs.Straight.{IsStraight, path_from};
-ghost use Rattle.straight_paths.specs.Tails.{IsClearUpTo};
-ghost use Rattle.straight_paths.specs.Words.{IsStraightUpTo, IsThreeUpTo};
+ghost use Rattle.straight_paths.specs.Straight.{path_from};
 
-use crate::cone::Cone;
-use crate::flags::Flags;
 use crate::track::Track;
 use crate::vector::Vector;
 
@@ -31,62 +27,15 @@ impl Word {
         ensures count { result.count ≡ self.count + 1 }
         ensures coded { (path : ℕ → Point) → step_from path 0 ≡ coded_step digit
             → IsCoded self.count (λ k. path (suc k)) self.digits → IsCoded (suc self.count) path result.digits }
+        ensures step { (path : ℕ → Point) → IsCoded (suc self.count) path result.digits
+            → step_from path 0 ≡ coded_step digit }
+        ensures rest { (path : ℕ → Point) → IsCoded (suc self.count) path result.digits
+            → IsCoded self.count (λ k. path (suc k)) self.digits }
     {
         Word {
             digits: u64::from(digit) + 4 * (self.digits % (1 << 38)),
             count: self.count + 1,
         }
-    }
-
-    /// How many of its steps are straight, where those behind the first are.
-    pub(crate) fn straight(self) -> u32
-        requires some { 0 < self.count }
-        requires few { self.count ≤ 20 }
-        ensures within { result ≤ self.count }
-        ensures longest { (path : ℕ → Point) → IsCoded self.count path self.digits
-            → IsStraight (λ k. path (suc k)) (self.count - 1) → IsStraightUpTo path self.count result }
-    {
-        self.clear().min(self.of_three())
-    }
-
-    /// For how many of its steps the cones hold.
-    fn clear(self) -> u32
-        requires few { self.count ≤ 20 }
-        ensures within { result ≤ self.count }
-        ensures clear { (path : ℕ → Point) → IsCoded self.count path self.digits
-            → IsClearUpTo path self.count result }
-    {
-        let mut cone = Cone::Open;
-        let mut way = Vector { x: 0, y: 0 };
-        let mut rest = self.digits;
-        for steps in 0..self.count {
-            way = way.stepped((rest % 4) as u32);
-            if !cone.holds(way) {
-                return steps;
-            }
-            cone = cone.narrowed(way);
-            rest /= 4;
-        }
-        self.count
-    }
-
-    /// How many of its steps don't take all four directions.
-    fn of_three(self) -> u32
-        requires few { self.count ≤ 20 }
-        ensures within { result ≤ self.count }
-        ensures three { (path : ℕ → Point) → IsCoded self.count path self.digits
-            → IsThreeUpTo path self.count result }
-    {
-        let mut flags = Flags::none();
-        let mut rest = self.digits;
-        for steps in 0..self.count {
-            flags = flags.with((rest % 4) as u32);
-            if flags.all() {
-                return steps;
-            }
-            rest /= 4;
-        }
-        self.count
     }
 }
 
