@@ -3,6 +3,7 @@ ghost use Rattle.std.specs.Prelude.{◌≡◌, ◌+◌, ◌-◌, ◌<◌, ◌≤
 ghost use Rattle.cyclic_optimal.specs.Fans.{HasFans, IsFanOf};
 
 use crate::sides::Sides;
+use prefix_moments::Start;
 use pt_core::NoMemory;
 use std::alloc::Global;
 
@@ -61,8 +62,9 @@ fn fan_of(
 {
     let beyond = (sides.last(i) + 1).min(first.saturating_add(room));
     let mut penalties = Vec::with_capacity(alloc, beyond.saturating_sub(first))?;
+    let start = Start::at(sides.moments, i as u32);
     for j in first..beyond {
-        penalties.push(sides.moments.penalty(i as u32, j as u32))?;
+        penalties.push(start.penalty(j as u32))?;
     }
     Ok(Fan { first, penalties })
 }

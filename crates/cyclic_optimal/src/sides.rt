@@ -1,9 +1,9 @@
 //! The possible segments of a path, counted on past its end, and what they count.
-ghost use Rattle.std.specs.Prelude.{◌≡◌, ℕ, ◌+◌, ◌*◌, ◌<◌, ◌≤◌, ◌^◌, length, IfNone, IfOk, IfSome};
+ghost use Rattle.std.specs.Prelude.{◌≡◌, ℕ, ◌+◌, ◌*◌, ◌<◌, ◌≤◌, ◌^◌, unsigned_abs, length, IfNone, IfOk, IfSome};
 ghost use Rattle.pt_core.specs.ClosedWalk.{IsClosedWalk};
 ghost use Rattle.pt_core.specs.OnPage.{AreOnPage};
 ghost use Rattle.straight_paths.specs.Straight.{IsPossible};
-ghost use Rattle.prefix_moments.specs.Sums.{IsPenalty};
+ghost use Rattle.prefix_moments.specs.Sums.{IsPenalty, spread_of};
 ghost use Rattle.polygon_optimal.specs.Polygon.{penalty_of};
 ghost use Rattle.cyclic_optimal.specs.Fans.{HasFans, IsFanOf, first_lap};
 ghost use Rattle.cyclic_optimal.specs.Fronts.{IsLongest, worth_of};
@@ -27,6 +27,7 @@ pub(crate) struct Sides<'a> {
     ghost on_page: { AreOnPage moments.now },
     ghost one_path: { reach ≡ moments.now },
     ghost points: { size ≡ length moments.now },
+    ghost small: { (i j : ℕ) → IsPossible moments.now i j → unsigned_abs (spread_of moments.now i j) < 2 ^ 48 },
     ghost written: { HasFans moments.now fans.items },
 }
 
