@@ -29,7 +29,7 @@ const SLOTS: usize = 1 << 16;
 
 /// A window of at least so many points is gone through by one segment that grows from point to point. A narrower one
 /// costs less where each of its segments is looked up by itself.
-const WIDE: u32 = 8;
+const WIDE: u32 = 16;
 
 /// A segment to go on by.
 //
@@ -265,6 +265,7 @@ fn lower(nearer: Onward, tried: Onward) -> Onward
 
 /// The cheapest segment to one of the points from `begin` to before `end`, and of several the shortest;
 /// or `best`, where none of them is cheaper.
+#[inline(always)]
 fn cheaper_in(
     segments: &Segments,
     start: &Start,
@@ -290,6 +291,7 @@ fn cheaper_in(
 }
 
 /// The same, where each segment is looked up by itself.
+#[inline(always)]
 fn cheaper_in_few(
     segments: &Segments,
     start: &Start,
@@ -315,6 +317,7 @@ fn cheaper_in_few(
 }
 
 /// The same, by one segment that grows from point to point.
+#[inline(never)]
 fn cheaper_in_many(
     segments: &Segments,
     start: &Start,
@@ -342,6 +345,7 @@ fn cheaper_in_many(
 }
 
 /// The segment, from whose end the rest costs so much, where it is cheaper than `best`.
+#[inline(always)]
 fn cheaper_by(segments: &Segments, segment: &Growing, rest: u64, best: Onward) -> Onward
     requires segment { segment.now.moments.now ≡ segments.now.moments.now }
     requires reached { segment.now.to ≤ slice_index segments.now.lasts.items segment.now.from }
@@ -367,6 +371,7 @@ fn cheaper_by(segments: &Segments, segment: &Growing, rest: u64, best: Onward) -
 /// The segment to this point, from which the rest costs so much, where it is cheaper than `best`.
 //
 // Where the rest alone isn't cheaper, the segment isn't looked at.
+#[inline(always)]
 fn cheaper(segments: &Segments, start: &Start, to: u32, rest: u64, best: Onward) -> Onward
     requires start { start.now.moments.now ≡ segments.now.moments.now }
     requires onwards { start.now.from < to }

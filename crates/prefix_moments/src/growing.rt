@@ -70,6 +70,7 @@ impl<'a> Growing<'a> {
     }
 
     /// The same segment with one point more.
+    #[inline(always)]
     pub fn longer(self) -> Growing<'a>
         requires number { self.to + 1 < 2 ^ 32 }
         requires steps { self.to - self.from < MOST_STEPS }
@@ -96,6 +97,7 @@ impl<'a> Growing<'a> {
 
     /// Its penalty, where it is below a limit and the squared cross products together are as small as those of a
     /// possible segment.
+    #[inline(always)]
     pub fn penalty_below(&self, limit: u64) -> Option<u64>
         requires small { unsigned_abs (spread_of self.now.moments.now self.now.from self.now.to) < 2 ^ 48 }
         requires limit { limit ≤ 2 ^ 24 }
@@ -108,6 +110,7 @@ impl<'a> Growing<'a> {
     }
 
     /// The sum of the squared cross products of its points.
+    #[inline(always)]
     fn total(&self) -> u64
         requires { unsigned_abs (spread_of self.now.moments.now self.now.from self.now.to) < 2 ^ 48 }
         ensures value { result ≡ unsigned_abs (spread_of self.now.moments.now self.now.from self.now.to) }
@@ -125,6 +128,7 @@ impl<'a> Growing<'a> {
 }
 
 /// A sum of products of offsets and one more of them.
+#[inline(always)]
 fn with_product(sum: i64, a: i64, b: i64) -> i64
     requires sum { unsigned_abs sum < 2 ^ 62 }
     requires a { unsigned_abs a ≤ LONGEST_SIDE }

@@ -55,6 +55,7 @@ impl<'a> Start<'a> {
     }
 
     /// The same penalty, where it is below a limit; no root is taken where it isn't.
+    #[inline(always)]
     pub fn penalty_below(&self, to: u32, limit: u64) -> Option<u64>
         requires onwards { self.now.from < to }
         requires steps { to - self.now.from ≤ MOST_STEPS }
@@ -70,6 +71,7 @@ impl<'a> Start<'a> {
     }
 
     /// The sum of the squared cross products of the points up to point number `to`.
+    #[inline(always)]
     fn total(&self, to: u32) -> u64
         requires onwards { self.now.from < to }
         requires steps { to - self.now.from ≤ MOST_STEPS }
@@ -94,6 +96,7 @@ impl<'a> Start<'a> {
 }
 
 /// The root of 65536 times the mean of `count` numbers, where it is below a limit; none is taken where it isn't.
+#[inline(always)]
 pub(crate) fn root_below(total: u64, count: u64, limit: u64) -> Option<u64>
     requires total { total < 2 ^ 48 }
     requires some { 0 < count }
