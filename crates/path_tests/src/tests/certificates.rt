@@ -1,7 +1,10 @@
 //! Texts of certificates, and what becomes of them where a byte or a number is another.
 
+use outline_check::label::Label;
+use outline_check::labels::labels;
 use outline_check::{Verdict, check_proofs};
-use pt_core::{NoMemory, put_number};
+use pt_base::is_closed_walk;
+use pt_core::{NoMemory, Point, put_number};
 use std::alloc::Global;
 use std::test::Fail;
 
@@ -153,6 +156,34 @@ fn verdicts(rt: HostRuntime) -> Result<(), Fail> {
         assert_eq!(rt; found, *verdict, "{text}");
     }
     Ok(())
+}
+
+/// The points of `TWO`, and what is left from each of them and at the end, as in `TWO_RIGHT`.
+const TWO_POINTS: [(i32, i32); 6] = [(0, 1), (0, 0), (1, 0), (2, 0), (2, 1), (1, 1)];
+
+const TWO_LABELS: [(u32, u128); 7] = [(3, 294), (3, 0), (2, 147), (2, 0), (1, 0), (1, 0), (0, 0)];
+
+#[test]
+fn labels_of_two_pixels(rt: HostRuntime) -> Result<(), Fail> {
+    let mut points = Vec::new(rt.alloc());
+    for (x, y) in TWO_POINTS {
+        points.push(Point { x, y })?;
+    }
+    let found = labels_of(rt.alloc(), &points)?;
+    let mut right = Vec::new(rt.alloc());
+    for (count, cost) in TWO_LABELS {
+        right.push(Label { count, cost })?;
+    }
+    assert_eq!(rt; found.as_slice(), right.as_slice());
+    Ok(())
+}
+
+/// The right labels of a closed walk; of other points none.
+fn labels_of(alloc: Global, points: &[Point]) -> Result<Vec<Label>, Fail> {
+    if !is_closed_walk(points) {
+        return Ok(Vec::new(alloc));
+    }
+    Ok(labels(alloc, points)?)
 }
 
 /// Two paths, of which the second is wrong, and three, of which the second and the third are.
