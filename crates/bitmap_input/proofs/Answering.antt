@@ -15,12 +15,13 @@ use Rattle.bitmap_input.specs.Cut.{Ending, is_by_end}
 use Rattle.bitmap_input.specs.Cut.Ending.{End, Trailing}
 use Rattle.bitmap_input.specs.Cut.Cut.{Takes}
 use Rattle.bitmap_input.specs.Raw.{Raw, shown}
-use Rattle.bitmap_input.specs.Behind.{IsRead, counted_page}
+use Rattle.bitmap_input.specs.Inner.Behind.{IsRead, counted_page}
 use Rattle.bitmap_input.specs.declared.extent.ReadPage.{ReadPage}
 use Rattle.bitmap_input.specs.Front.{Answer, front, page_at, answer_of}
 use Rattle.bitmap_input.specs.Front.Answer.{Page, Ends}
 use Rattle.bitmap_input.specs.FilePages.{next_begins}
-use Rattle.bitmap_input.specs.Reading.{Buffered, AtEnd, AreNeeded, Cause, cause_of, cause_of_fault, StopsBy, Reads, CountsBy}
+use Rattle.bitmap_input.specs.Reading.{Buffered, AtEnd, AreNeeded, Cause, cause_of_fault}
+use Rattle.bitmap_input.specs.Inner.Reading.{cause_of, StopsBy, Reads, CountsBy}
 use Rattle.bitmap_input.specs.Reading.Cause.{Says, Device, Memory}
 use Rattle.bitmap_input.specs.Reader.{Reader, is_later, ahead, Answers, GivesPage, GivesEnding, ReadFails, MemoryFails, TellsPage, IfSays, IsAnswer}
 use Rattle.bitmap_input.proofs.FrontStays.{front_stays}

@@ -17,10 +17,11 @@ use Rattle.bitmap_input.specs.declared.channels.Channels.{Channels}
 use Rattle.bitmap_input.specs.Front.Magic.{PlainBits, RawBits, PlainSamples, RawSamples}
 use Rattle.bitmap_input.specs.Front.Answer.{Page}
 use Rattle.bitmap_input.specs.FilePages.{next_begins}
-use Rattle.bitmap_input.specs.Reading.{Buffered, Cause, cause_of, StopsBy, AreNeeded, Reads}
+use Rattle.bitmap_input.specs.Reading.{Buffered, Cause, AreNeeded}
+use Rattle.bitmap_input.specs.Inner.Reading.{cause_of, StopsBy, Reads}
 use Rattle.bitmap_input.specs.Reading.Cause.{Says, Device, Memory}
-use Rattle.bitmap_input.specs.Skip.{passed_over}
-use Rattle.bitmap_input.specs.Behind.{counted, counted_body, counted_page, IsRead, claiming_none}
+use Rattle.bitmap_input.specs.Inner.Skip.{passed_over}
+use Rattle.bitmap_input.specs.Inner.Behind.{counted, counted_body, counted_page, IsRead, claiming_none}
 use Rattle.bitmap_input.proofs.Bytes.{run_length-le, run_length-append}
 use Rattle.bitmap_input.proofs.Keeping.{Keeps}
 use Rattle.bitmap_input.proofs.FrontKeeps.{keeps_body}

@@ -15,8 +15,9 @@ use Rattle.bitmap_input.specs.Cut.Kind.{Truncated}
 use Rattle.bitmap_input.specs.Cut.Ending.{Refused}
 use Rattle.bitmap_input.specs.Cut.Cut.{Takes, Stops}
 use Rattle.bitmap_input.specs.Parts.{block}
-use Rattle.bitmap_input.specs.Reading.{Buffered, Moves, AreNeeded, Reads}
-use Rattle.bitmap_input.specs.Window.{ReadsOn}
+use Rattle.bitmap_input.specs.Reading.{Buffered, Moves, AreNeeded}
+use Rattle.bitmap_input.specs.Inner.Reading.{Reads}
+use Rattle.bitmap_input.specs.Inner.Window.{ReadsOn}
 use Rattle.bitmap_input.proofs.Needing.{needs_none, needs_look}
 use Rattle.bitmap_input.proofs.Telling.{not_true, stand, move_on}
 use Rattle.bitmap_input.proofs.Running.{two_splits}

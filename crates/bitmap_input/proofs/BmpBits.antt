@@ -9,7 +9,7 @@ use Rattle.bit_image.specs.Words.{is_one, bit_in}
 use Rattle.bitmap_input.specs.Raw.{unpacked, black}
 use Rattle.bitmap_input.specs.Raw.Entry.{Color}
 use Rattle.bitmap_input.specs.BmpRaster.{bit_at}
-use Rattle.bitmap_input.specs.BmpHead.{shade_in}
+use Rattle.bitmap_input.specs.Inner.BmpHead.{shade_in}
 use Rattle.bitmap_input.specs.declared.bmp.fields.Depth.TheVariants as depth
 use Rattle.bitmap_input.proofs.Placing.{length-unpacked}
 use Rattle.bitmap_input.proofs.Rows.{get_or-unpacked}

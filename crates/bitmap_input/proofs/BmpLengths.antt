@@ -7,17 +7,18 @@ use Rattle.std.proofs.lemmas.Bool.{ltb-false, leb-true, eqb-true, both_ways}
 use Rattle.std.proofs.lemmas.Bool.Decides.{nat_tests}
 use Rattle.std.proofs.Math.ListN.{get_or-append}
 use Rattle.bitmap_input.specs.Cut.{Kind, Ending, Cut, after, ◌>>=◌}
-use Rattle.bitmap_input.specs.Behind.{counted}
+use Rattle.bitmap_input.specs.Inner.Behind.{counted}
 use Rattle.bitmap_input.specs.Cut.Kind.{BmpKind, BadOffset, Truncated, ZeroSide, TooLarge}
 use Rattle.bitmap_input.specs.Cut.Ending.{Refused}
 use Rattle.bitmap_input.specs.Cut.Cut.{Takes, Stops}
 use Rattle.bitmap_input.specs.Parts.{is_zero, block, repeated}
 use Rattle.bitmap_input.specs.Sides.{checked}
 use Rattle.bitmap_input.specs.Raw.{Raw}
-use Rattle.bitmap_input.specs.BmpHeader.{byte_at, two_at, four_at, header_size, is_short, bits, has_masks, is_known_size, is_known_kind, mask_bytes, has_known_colors, width, height, pixel_offset, palette_bytes, palette_end, row_length, rows_end, palette_length, color_bytes, file_size}
+use Rattle.bitmap_input.specs.BmpHeader.{byte_at, two_at, four_at, header_size, is_short, bits, has_masks, is_known_size, is_known_kind, mask_bytes, has_known_colors, width, height, pixel_offset, palette_bytes, palette_end, row_length, palette_length, color_bytes, file_size}
+use Rattle.bitmap_input.specs.Inner.BmpHeader.{rows_end}
 use Rattle.bitmap_input.specs.BmpRaster.{palette_color, pixel_in, bmp_row, picture, raster}
 use Rattle.bitmap_input.specs.Bmp.{passes, start, info, masks, placed, header, bmp}
-use Rattle.bitmap_input.specs.BmpHead.{HasInfo, IsHeaderStart, IsInfo, IsWholeHeader}
+use Rattle.bitmap_input.specs.Inner.BmpHead.{HasInfo, IsHeaderStart, IsInfo, IsWholeHeader}
 use Rattle.bitmap_input.proofs.Showing.{after_takes}
 use Rattle.pt_core.specs.declared.limits.TheConstants.{LONGEST_SIDE}
 

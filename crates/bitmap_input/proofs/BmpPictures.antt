@@ -14,14 +14,16 @@ use Rattle.bitmap_input.specs.Cut.{Cut, ◌>>=◌}
 use Rattle.bitmap_input.specs.Cut.Cut.{Takes}
 use Rattle.bitmap_input.specs.Parts.{repeated}
 use Rattle.bitmap_input.specs.Raw.{Raw, Entry, black, picture_of, shown, IsShown}
-use Rattle.bitmap_input.specs.BmpHeader.{file_size, rows_end}
+use Rattle.bitmap_input.specs.BmpHeader.{file_size}
+use Rattle.bitmap_input.specs.Inner.BmpHeader.{rows_end}
 use Rattle.bitmap_input.specs.Bmp.{header}
 use Rattle.bitmap_input.specs.Front.Magic.{Picture}
-use Rattle.bitmap_input.specs.Behind.{IsRead, counted_body}
+use Rattle.bitmap_input.specs.Inner.Behind.{IsRead, counted_body}
 use Rattle.bitmap_input.specs.BmpRaster.{color_row, raster}
-use Rattle.bitmap_input.specs.BmpHead.{IsHeader, bits_in, row_place, row_bytes_by, picture_by, pixels_by, raster_by}
-use Rattle.bitmap_input.specs.Raster.{with_row, with_placed}
-use Rattle.bitmap_input.specs.Reading.{Buffered, Reads}
+use Rattle.bitmap_input.specs.Inner.BmpHead.{IsHeader, bits_in, row_place, row_bytes_by, picture_by, pixels_by, raster_by}
+use Rattle.bitmap_input.specs.Inner.Raster.{with_row, with_placed}
+use Rattle.bitmap_input.specs.Reading.{Buffered}
+use Rattle.bitmap_input.specs.Inner.Reading.{Reads}
 use Rattle.bitmap_input.proofs.Placing.{with_pixels-other}
 use Rattle.bitmap_input.proofs.Showing.{row_at, reads_counted}
 use Rattle.bitmap_input.proofs.Telling.{reads_made, reads_stop, reads_on, reads_as}

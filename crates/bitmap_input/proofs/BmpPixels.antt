@@ -2,12 +2,12 @@
 use Rattle.std.proofs.Common.{◌≡◌, refl, ℕ, ◌+◌, ◌*◌, ◌≤◌, ◌<◌, Bool, List, [], ◌∷◌, map, get_or, arith}
 use Rattle.std.proofs.Common.{add-one}
 use Rattle.bit_image.specs.Image.{Image}
-use Rattle.bitmap_input.specs.Raster.{with_row, with_placed}
+use Rattle.bitmap_input.specs.Inner.Raster.{with_row, with_placed}
 use Rattle.bitmap_input.specs.Raw.{Entry, black}
 use Rattle.bitmap_input.specs.BmpRaster.{bit_at, half_at, pixel_in}
 use Rattle.bitmap_input.specs.declared.bmp.fields.Depth.{Depth}
 use Rattle.bitmap_input.specs.declared.bmp.fields.Depth.TheVariants as depth
-use Rattle.bitmap_input.specs.BmpHead.{bits_in, IsPaletteTable, shade_in}
+use Rattle.bitmap_input.specs.Inner.BmpHead.{bits_in, IsPaletteTable, shade_in}
 
 -- a column of the page is one of the row
 pub column_within : (d : Depth) (x w n : ℕ) → x < w → w * bits_in d ≤ 8 * n → (x + 1) * bits_in d ≤ 8 * n

@@ -6,7 +6,8 @@ use Rattle.bitmap_input.specs.declared.stop.Stop.{Stop}
 use Rattle.bitmap_input.specs.Cut.{Kind, Cut}
 use Rattle.bitmap_input.specs.Cut.Ending.{Refused}
 use Rattle.bitmap_input.specs.Cut.Cut.{Takes, Stops}
-use Rattle.bitmap_input.specs.Reading.{Buffered, cause_of, StopsBy, Reads}
+use Rattle.bitmap_input.specs.Reading.{Buffered}
+use Rattle.bitmap_input.specs.Inner.Reading.{cause_of, StopsBy, Reads}
 use Rattle.bitmap_input.specs.Reading.Cause.{Says}
 use Rattle.bitmap_input.specs.Bmp.{passes, placed}
 use Rattle.bitmap_input.specs.Cut.Kind.{BadOffset}
@@ -15,7 +16,7 @@ use Rattle.bitmap_input.specs.BmpHeader.{header_size, bits, mask_bytes, width, h
 use Rattle.bitmap_input.specs.Sides.{checked}
 use Rattle.std.specs.Prelude.{nat_le}
 use Rattle.std.proofs.lemmas.Bool.{lt-leb}
-use Rattle.bitmap_input.specs.BmpHead.{Passes, IsHeaderStart, IsInfo, IsWholeHeader}
+use Rattle.bitmap_input.specs.Inner.BmpHead.{Passes, IsHeaderStart, IsInfo, IsWholeHeader}
 use Rattle.bitmap_input.proofs.BmpLengths.{info_grown, masks_grown, bits_grown, info_has}
 use Rattle.bitmap_input.proofs.Needing.{needs_none}
 use Rattle.bitmap_input.proofs.Telling.{not_true, stand}

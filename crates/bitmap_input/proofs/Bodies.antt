@@ -5,19 +5,20 @@ use Rattle.bit_image.specs.Image.{IsWhite}
 use Rattle.bit_image.specs.Page.{Page as Pixels, SameSides, image_of, page_of}
 use Rattle.bitmap_input.specs.declared.stop.Stop.{Stop}
 use Rattle.bitmap_input.specs.declared.header.Sides.{Sides}
-use Rattle.bitmap_input.specs.Header.{IsSides}
+use Rattle.bitmap_input.specs.Inner.Header.{IsSides}
 use Rattle.bitmap_input.specs.Cut.{Cut}
 use Rattle.bitmap_input.specs.Cut.Cut.{Takes}
 use Rattle.bitmap_input.specs.Parts.{repeated}
 use Rattle.bitmap_input.specs.Raw.{Entry, entries_page, black, IsShown}
 use Rattle.bitmap_input.specs.Front.{rows_raster}
-use Rattle.bitmap_input.specs.Raster.{with_rows}
-use Rattle.bitmap_input.specs.Reading.{Buffered, Reads}
+use Rattle.bitmap_input.specs.Inner.Raster.{with_rows}
+use Rattle.bitmap_input.specs.Reading.{Buffered}
+use Rattle.bitmap_input.specs.Inner.Reading.{Reads}
 use Rattle.bitmap_input.specs.declared.raster.Raster.{Raster}
 use Rattle.bitmap_input.specs.declared.raster.Raster.TheVariants.{PlainBits, RawBits, PlainSamples, RawSamples}
 use Rattle.bitmap_input.specs.Front.{plain_pixel}
 use Rattle.bitmap_input.specs.Samples.{plain_samples}
-use Rattle.bitmap_input.specs.Stored.{row_stored}
+use Rattle.bitmap_input.specs.Inner.Stored.{row_stored}
 use Rattle.bitmap_input.proofs.Appending.{Stays, times_stay, plain_pixel_stays, raw_row_stays, plain_samples_stay, raw_samples_row_stays}
 use Rattle.bitmap_input.proofs.Telling.{reads_made, reads_stop}
 use Rattle.bitmap_input.proofs.Showing.{shown_rows, reads_counted}

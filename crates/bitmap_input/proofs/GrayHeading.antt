@@ -13,10 +13,12 @@ use Rattle.bitmap_input.specs.Samples.{plain_sample}
 use Rattle.bitmap_input.specs.declared.channels.Channels.{Channels}
 use Rattle.bitmap_input.specs.declared.channels.Channels.TheVariants.{Gray, Color}
 use Rattle.bitmap_input.specs.Front.Magic.{PlainBits, RawBits, PlainSamples, RawSamples, Picture}
-use Rattle.bitmap_input.specs.Header.{magic_of}
-use Rattle.bitmap_input.specs.Reading.{Buffered, Same, StopsBy, Reads}
+use Rattle.bitmap_input.specs.Inner.Header.{magic_of}
+use Rattle.bitmap_input.specs.Reading.{Buffered}
+use Rattle.bitmap_input.specs.Inner.Reading.{Same, StopsBy, Reads}
 use Rattle.bitmap_input.specs.Reading.Cause.{Says}
-use Rattle.bitmap_input.specs.GrayRows.{gray_alone, gray_kind, gray_magic, header_end, gray_header_behind, gray_header, gray_row, ChecksKind}
+use Rattle.bitmap_input.specs.GrayRows.{gray_alone, gray_kind, gray_magic, header_end, gray_header_behind, gray_header, gray_row}
+use Rattle.bitmap_input.specs.Inner.GrayRows.{ChecksKind}
 use Rattle.bitmap_input.proofs.Appending.{Stays, stays_bind, stop_stays, take_stays, magic_stays, space_stays, spaces_stay, sides_stay, maxval_stays, times_stay, plain_sample_stays, raw_samples_row_stays}
 use Rattle.bitmap_input.proofs.Needing.{needs_none}
 use Rattle.bitmap_input.proofs.Telling.{stand, not_true}

@@ -8,14 +8,15 @@ use Rattle.bitmap_input.specs.Cut.Ending.{End, Trailing, Refused}
 use Rattle.bitmap_input.specs.Cut.Cut.{Takes, Stops}
 use Rattle.bitmap_input.specs.Parts.{is_zero, gap_length, gap, some_gap}
 use Rattle.bitmap_input.specs.Front.{checked, checked_maxval, greatest_maxval, magic, magic_behind, no_magic}
-use Rattle.bitmap_input.specs.Run.{IsCapped}
+use Rattle.bitmap_input.specs.Inner.Run.{IsCapped}
 use Rattle.bitmap_input.specs.declared.fault.InFault.TheVariants as fault
 use Rattle.bitmap_input.specs.declared.stop.Stop.{Stop}
 use Rattle.bitmap_input.specs.declared.stop.Stop.TheVariants as stop
 use Rattle.bitmap_input.specs.declared.header.Sides.{Sides}
-use Rattle.bitmap_input.specs.Header.{IsSides, Checks, ChecksMaxval}
+use Rattle.bitmap_input.specs.Inner.Header.{IsSides, Checks, ChecksMaxval}
 use Rattle.pt_core.specs.Files.{Files}
-use Rattle.bitmap_input.specs.Reading.{Buffered, cause_of, StopsBy, Reads, Same}
+use Rattle.bitmap_input.specs.Reading.{Buffered}
+use Rattle.bitmap_input.specs.Inner.Reading.{cause_of, StopsBy, Reads, Same}
 use Rattle.bitmap_input.proofs.Needing.{needs_none}
 use Rattle.bitmap_input.proofs.Telling.{not_true, stand}
 use Rattle.bitmap_input.specs.Reading.Cause.{Says}

@@ -4,7 +4,7 @@ use Rattle.std.proofs.Common.{add-one}
 use Rattle.std.proofs.Math.Path.{fun_ext}
 use Rattle.std.proofs.Math.Bool.{beq}
 use Rattle.bit_image.specs.Image.{Image, with_pixel, differ}
-use Rattle.bitmap_input.specs.Raster.{with_pixels}
+use Rattle.bitmap_input.specs.Inner.Raster.{with_pixels}
 
 -- one more value, as the pixel that it stands for
 pub pixel_painted : {A : Type 0} (f : A → Bool) (c c2 : Image) (x y : ℕ) (v : Bool) (a : A) →

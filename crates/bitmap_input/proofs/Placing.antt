@@ -5,7 +5,7 @@ use Rattle.std.proofs.lemmas.List.{length-append}
 use Rattle.std.proofs.lemmas.Bool.{eq-eqb, ne_eqb, cases_eq}
 use Rattle.bit_image.specs.Image.{Image, with_pixel}
 use Rattle.bitmap_input.specs.Raw.{bits_of, unpacked}
-use Rattle.bitmap_input.specs.Raster.{with_pixels, with_row, with_rows}
+use Rattle.bitmap_input.specs.Inner.Raster.{with_pixels, with_row, with_rows}
 
 -- a pixel elsewhere
 with_pixel-other : (b : Image) (x y u v : ℕ) (p : Bool) → (x ≡ u → y ≡ v → ⊥) → with_pixel b x y p u v ≡ b u v

@@ -11,7 +11,7 @@ use Rattle.bit_image.specs.Words.{is_one, bit_in}
 use Rattle.bit_image.proofs.Bits.{within-inside, within-right, differ-false, differ-true, and_true, is_one-zero, is_one-mask}
 use Rattle.bit_image.proofs.Turned.{is_one-or, is_one-shl, is_one-shl_below}
 use Rattle.bitmap_input.specs.Raw.{unpacked}
-use Rattle.bitmap_input.specs.Raster.{with_row}
+use Rattle.bitmap_input.specs.Inner.Raster.{with_row}
 use Rattle.bitmap_input.proofs.Placing.{with_pixels-at, with_pixels-other, length-unpacked}
 
 -- the image with these as the first pixels of a row

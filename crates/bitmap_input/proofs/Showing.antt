@@ -13,8 +13,9 @@ use Rattle.bitmap_input.specs.Cut.{Cut, after, ◌>>=◌}
 use Rattle.bitmap_input.specs.Cut.Cut.{Takes, Stops}
 use Rattle.bitmap_input.specs.Parts.{repeated}
 use Rattle.bitmap_input.specs.Raw.{Entry, entries_page, black, picture_of, shown}
-use Rattle.bitmap_input.specs.Raster.{with_row, with_rows}
-use Rattle.bitmap_input.specs.Reading.{Buffered, Reads}
+use Rattle.bitmap_input.specs.Inner.Raster.{with_row, with_rows}
+use Rattle.bitmap_input.specs.Reading.{Buffered}
+use Rattle.bitmap_input.specs.Inner.Reading.{Reads}
 use Rattle.bitmap_input.proofs.Placing.{with_pixels-at, with_pixels-other}
 
 -- above the rows nothing is painted

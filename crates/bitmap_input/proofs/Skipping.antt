@@ -10,10 +10,11 @@ use Rattle.bitmap_input.specs.declared.stop.Stop.{Stop}
 use Rattle.bitmap_input.specs.declared.stop.Stop.TheVariants as stop
 use Rattle.bitmap_input.specs.Cut.Cut.{Takes}
 use Rattle.bitmap_input.specs.Parts.{block}
-use Rattle.bitmap_input.specs.Reading.{Buffered, Moves, AreNeeded, Same, Any, Reads, Cause, cause_of, StopsBy}
+use Rattle.bitmap_input.specs.Reading.{Buffered, Moves, AreNeeded, Cause}
+use Rattle.bitmap_input.specs.Inner.Reading.{Same, Any, Reads, cause_of, StopsBy}
 use Rattle.bitmap_input.specs.Reading.Cause.{Says, Device, Memory}
-use Rattle.bitmap_input.specs.Window.{ReadsOn}
-use Rattle.bitmap_input.specs.Skip.{passed_over}
+use Rattle.bitmap_input.specs.Inner.Window.{ReadsOn}
+use Rattle.bitmap_input.specs.Inner.Skip.{passed_over}
 use Rattle.bitmap_input.specs.Cut.{is_by_end}
 use Rattle.bitmap_input.proofs.Appending.{Stays}
 use Rattle.bitmap_input.proofs.Needing.{needs_none, needs_as, needs_look}

@@ -9,9 +9,10 @@ use Rattle.bitmap_input.specs.declared.fault.InFault.TheVariants as fault
 use Rattle.bitmap_input.specs.Cut.{Ending, Cut, is_by_end, after, ◌>>=◌}
 use Rattle.bitmap_input.proofs.Appending.{with_more}
 use Rattle.bitmap_input.specs.Cut.Cut.{Takes, Stops}
-use Rattle.bitmap_input.specs.Reading.{Buffered, AtEnd, Moves, Cause, cause_of, StopsBy, Gives, Reads}
+use Rattle.bitmap_input.specs.Reading.{Buffered, AtEnd, Moves, Cause}
+use Rattle.bitmap_input.specs.Inner.Reading.{cause_of, StopsBy, Gives, Reads}
 use Rattle.bitmap_input.specs.Reading.Cause.{Says, Device, Memory}
-use Rattle.bitmap_input.specs.Window.{ReadsOn}
+use Rattle.bitmap_input.specs.Inner.Window.{ReadsOn}
 use Rattle.bitmap_input.proofs.Appending.{Stays, is_by_end-after}
 use Rattle.bitmap_input.proofs.Needing.{needs_none, needs_as, needs_behind, needs_first, by_end-bind, front_of_none}
 

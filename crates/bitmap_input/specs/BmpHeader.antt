@@ -125,7 +125,3 @@ palette_end head = 14 + header_size head + mask_bytes head + palette_bytes head
 -- the bytes of a row, which are whole fours
 abbrev pub row_length : List ℕ → ℕ
 row_length head = 4 * ((width head * bits head + 31) / 32)
-
--- the place behind the last row
-abbrev pub rows_end : List ℕ → ℕ
-rows_end head = pixel_offset head + height head * row_length head

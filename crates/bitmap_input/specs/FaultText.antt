@@ -3,9 +3,8 @@ use Rattle.std.specs.Prelude.{ℕ, List, [], codes}
 use Rattle.bitmap_input.specs.Cut.{Kind}
 use Rattle.bitmap_input.specs.Cut.Kind.{UnknownFormat, BadHeader, ZeroSide, TooLarge, Truncated, BadRaster, BmpKind, BadOffset, TooLong}
 use Rattle.bitmap_input.specs.Cut.Ending.{End, Trailing, Refused}
-use Rattle.bitmap_input.specs.Reading.{Cause, cause_of_fault}
+use Rattle.bitmap_input.specs.Reading.{Cause}
 use Rattle.bitmap_input.specs.Reading.Cause.{Says, Device, Memory}
-use Rattle.bitmap_input.specs.declared.fault.InFault.{InFault}
 
 -- why a page is refused
 abbrev pub kind_text : Kind → List ℕ
@@ -26,7 +25,3 @@ cause_text (Says End) = []
 cause_text (Says Trailing) = []
 cause_text Device = codes "read fault"
 cause_text Memory = codes "out of memory"
-
--- why a page can't be read
-abbrev pub fault_text : InFault → List ℕ
-fault_text fault = cause_text (cause_of_fault fault)

@@ -1,7 +1,7 @@
 -- A gray page row by row (Netpbm's format page "pgm"): its header, which is that of a file's first page,
 -- and then one row after another.
-use Rattle.std.specs.Prelude.{◌≡◌, ℕ, Bool, true, false, List, [], min, Result, Ok, Err}
-use Rattle.bitmap_input.specs.Cut.{Ending, Cut, ◌>>=◌}
+use Rattle.std.specs.Prelude.{ℕ, Bool, true, false, List, [], min}
+use Rattle.bitmap_input.specs.Cut.{Cut, ◌>>=◌}
 use Rattle.bitmap_input.specs.Cut.Kind.{UnknownFormat}
 use Rattle.bitmap_input.specs.Cut.Ending.{Refused}
 use Rattle.bitmap_input.specs.Cut.Cut.{Takes, Stops}
@@ -11,9 +11,6 @@ use Rattle.bitmap_input.specs.Front.Magic.{PlainBits, RawBits, PlainSamples, Raw
 use Rattle.bitmap_input.specs.Samples.{plain_sample, raw_samples_row}
 use Rattle.bitmap_input.specs.declared.channels.Channels.{Channels}
 use Rattle.bitmap_input.specs.declared.channels.Channels.TheVariants.{Gray, Color}
-use Rattle.bitmap_input.specs.Reading.{cause_of}
-use Rattle.bitmap_input.specs.Reading.Cause.{Says}
-use Rattle.bitmap_input.specs.declared.stop.Stop.{Stop}
 use Rattle.bitmap_input.specs.declared.gray_rows.GrayHeader.{GrayHeader}
 
 -- samples of gray are known here, and those of colours are not
@@ -57,9 +54,3 @@ lowered v = min v greatest_maxval
 abbrev pub gray_row : Bool → ℕ → ℕ → List ℕ → Cut (List ℕ)
 gray_row true maxval width bytes = repeated plain_sample width bytes
 gray_row false maxval width bytes = raw_samples_row Gray maxval width bytes
-
--- the format is that of a gray page, plain or not, or it isn't
-abbrev pub ChecksKind : (List ℕ → Cut Bool) → Result Bool Stop → Type 0
-ChecksKind kind (Ok plain) = (bytes : List ℕ) → kind bytes ≡ Takes false plain bytes
-ChecksKind kind (Err stop) =
-    (ending : Ending) × (cause_of stop ≡ Says ending) × ((bytes : List ℕ) → kind bytes ≡ Stops false ending)

@@ -1,10 +1,10 @@
 //! BMP pictures.
 ghost use Rattle.std.specs.Prelude.{◌≡◌, ℕ, ◌+◌, ◌-◌, ◌*◌, ◌≤◌, true, length};
-ghost use Rattle.bitmap_input.specs.Reading.{Reads, Leaves};
+ghost use Rattle.bitmap_input.specs.Inner.Reading.{Reads, Leaves};
 ghost use Rattle.bitmap_input.specs.Raw.{Entry, IsShown};
 ghost use Rattle.bitmap_input.specs.Front.Magic.{Picture as picture};
-ghost use Rattle.bitmap_input.specs.Behind.{IsRead, counted_body};
-ghost use Rattle.bitmap_input.specs.BmpHead.{IsReadable, IsPaletteTable, bits_in, row_bytes_by, pixels_by, raster_by};
+ghost use Rattle.bitmap_input.specs.Inner.Behind.{IsRead, counted_body};
+ghost use Rattle.bitmap_input.specs.Inner.BmpHead.{IsReadable, IsPaletteTable, bits_in, row_bytes_by, pixels_by, raster_by};
 
 mod fields;
 mod head;

@@ -1,13 +1,13 @@
 //! What follows the magic of a page.
 ghost use Rattle.std.specs.Prelude.{◌≡◌, ℕ, ◌≤◌, true, Bool};
-ghost use Rattle.bitmap_input.specs.Reading.{Reads, Leaves};
+ghost use Rattle.bitmap_input.specs.Inner.Reading.{Reads, Leaves};
 ghost use Rattle.bitmap_input.specs.Front.{body, rows_raster};
 ghost use Rattle.bitmap_input.specs.Front.Magic.{PlainBits as plain_bits, RawBits as raw_bits, PlainSamples as plain_samples, RawSamples as raw_samples};
-ghost use Rattle.bitmap_input.specs.Behind.{IsRead, counted_body};
-ghost use Rattle.bitmap_input.specs.Header.{magic_of};
+ghost use Rattle.bitmap_input.specs.Inner.Behind.{IsRead, counted_body};
+ghost use Rattle.bitmap_input.specs.Inner.Header.{magic_of};
 ghost use Rattle.bitmap_input.specs.Raw.{IsShown};
 ghost use Rattle.bitmap_input.specs.Samples.{as_entry, raw_samples_row};
-ghost use Rattle.bitmap_input.specs.Stored.{IsAtLevel};
+ghost use Rattle.bitmap_input.specs.Inner.Stored.{IsAtLevel};
 ghost use Rattle.bitmap_input.specs.declared.raster.Raster.TheVariants.{RawSamples as raw_samples_raster};
 
 use crate::bmp::read_bmp;

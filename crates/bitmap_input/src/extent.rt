@@ -1,7 +1,7 @@
 //! Pages with what they claim of the file.
 ghost use Rattle.std.specs.Prelude.{◌≡◌};
 ghost use Rattle.bit_image.specs.Page.{image_of, page_of};
-ghost use Rattle.bitmap_input.specs.Behind.{claiming_none};
+ghost use Rattle.bitmap_input.specs.Inner.Behind.{claiming_none};
 
 use crate::stop::Stop;
 use bit_image::{Bitmap, pages_are_known_by_pixels};

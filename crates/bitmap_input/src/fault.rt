@@ -1,6 +1,6 @@
 //! Why a page can't be read.
 ghost use Rattle.std.specs.Prelude.{◌≡◌};
-ghost use Rattle.bitmap_input.specs.FaultText.{fault_text};
+ghost use Rattle.bitmap_input.specs.Inner.FaultText.{fault_text};
 
 use thiserror::Error;
 

@@ -2,9 +2,11 @@
 ghost use Rattle.std.specs.Prelude.{◌≡◌, ℕ, ◌+◌, ◌*◌, ◌<◌, ◌≤◌, ◌⊎◌, true, false, length, map, IfOk, IfSome, OnOk, IsErrOf};
 ghost use Rattle.pt_core.specs.Counts.{Rose};
 ghost use Rattle.pt_core.specs.Files.{unread};
-ghost use Rattle.bitmap_input.specs.Reading.{AtEnd, Reads, Leaves, HasMemory, TakesNone, cause_of, cause_of_fault};
+ghost use Rattle.bitmap_input.specs.Reading.{AtEnd, cause_of_fault};
+ghost use Rattle.bitmap_input.specs.Inner.Reading.{Reads, Leaves, HasMemory, TakesNone, cause_of};
 ghost use Rattle.bitmap_input.specs.GrayRows.{gray_header, gray_row, lowered};
-ghost use Rattle.bitmap_input.specs.GrayReader.{gray_at_start, GivesHead, GivesRow, Refuses, FailsToRead, IfRefused, IsNoFault, TellsHead, TellsRow, RefusesPart, held_of};
+ghost use Rattle.bitmap_input.specs.GrayReader.{gray_at_start, GivesHead, GivesRow, Refuses, FailsToRead, IfRefused, TellsHead, TellsRow, RefusesPart, held_of};
+ghost use Rattle.bitmap_input.specs.Inner.GrayReader.{IsNoFault};
 
 use crate::channels::Channels;
 use crate::fault::InFault;

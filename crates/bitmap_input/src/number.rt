@@ -1,11 +1,12 @@
 //! Decimal numbers of a header and of a plain raster.
 ghost use Rattle.std.specs.Prelude.{◌≡◌, ℕ, ◌≤◌, true, false, suc, List, ◌∷◌};
-ghost use Rattle.bitmap_input.specs.Reading.{Reads, Any, cause_of_fault, Leaves, HasMemory, TakesNone};
+ghost use Rattle.bitmap_input.specs.Inner.Reading.{Reads, Any, Leaves, HasMemory, TakesNone};
+ghost use Rattle.bitmap_input.specs.Reading.{cause_of_fault};
 ghost use Rattle.bitmap_input.specs.Reading.Cause.{Says};
 ghost use Rattle.bitmap_input.specs.Cut.Ending.{Refused};
 ghost use Rattle.bitmap_input.specs.Parts.{is_digit, some_gap, number, number_behind_gap};
-ghost use Rattle.bitmap_input.specs.Run.{digits, IsCapped};
-ghost use Rattle.bitmap_input.specs.Number.{kind_at};
+ghost use Rattle.bitmap_input.specs.Inner.Run.{digits, IsCapped};
+ghost use Rattle.bitmap_input.specs.Inner.Number.{kind_at};
 
 use crate::fault::InFault;
 use crate::run::{LONGEST, Run, behind, skip};

@@ -2,10 +2,10 @@
 ghost use Rattle.std.specs.Prelude.{◌≡◌, ℕ, ◌<◌, ◌≤◌, true, false, map};
 ghost use Rattle.bit_image.specs.Image.{differ};
 ghost use Rattle.bit_image.specs.Page.{Page, SameSides, image_of};
-ghost use Rattle.bitmap_input.specs.Reading.{Reads, Same, Leaves};
+ghost use Rattle.bitmap_input.specs.Inner.Reading.{Reads, Same, Leaves};
 ghost use Rattle.bitmap_input.specs.Parts.{pixel, repeated};
 ghost use Rattle.bitmap_input.specs.Front.{plain_pixel};
-ghost use Rattle.bitmap_input.specs.Raster.{with_row, with_pixels};
+ghost use Rattle.bitmap_input.specs.Inner.Raster.{with_row, with_pixels};
 
 use crate::fault::InFault;
 use crate::run::{Run, skip};

@@ -1,12 +1,12 @@
 //! Rasters: the rows of a page, as its format stores them.
 ghost use Rattle.std.specs.Prelude.{◌≡◌, ℕ, ◌<◌, ◌≤◌, true, Bool, length, map};
 ghost use Rattle.bit_image.specs.Page.{Page, SameSides, image_of};
-ghost use Rattle.bitmap_input.specs.Reading.{Reads, Leaves};
+ghost use Rattle.bitmap_input.specs.Inner.Reading.{Reads, Leaves};
 ghost use Rattle.bitmap_input.specs.Parts.{repeated};
 ghost use Rattle.bitmap_input.specs.Front.{rows_raster};
 ghost use Rattle.bitmap_input.specs.Raw.{IsShown};
-ghost use Rattle.bitmap_input.specs.Raster.{with_row, with_rows};
-ghost use Rattle.bitmap_input.specs.Stored.{row_stored, pixel_entry, is_black_pixel, line_bytes, IsAtLevel, IsStoredInRange};
+ghost use Rattle.bitmap_input.specs.Inner.Raster.{with_row, with_rows};
+ghost use Rattle.bitmap_input.specs.Inner.Stored.{row_stored, pixel_entry, is_black_pixel, line_bytes, IsAtLevel, IsStoredInRange};
 
 use crate::extent::known;
 use crate::header::Sides;

@@ -2,11 +2,12 @@
 ghost use Rattle.std.specs.Prelude.{◌≡◌, ℕ, ◌<◌, ◌≤◌, ◌⊎◌, true, false, length, drop, IfOk, IfSome, OnOk, IsErrOf};
 ghost use Rattle.pt_core.specs.Counts.{Rose};
 ghost use Rattle.pt_core.specs.Files.{unread};
-ghost use Rattle.bitmap_input.specs.Reading.{AtEnd, Reads, Leaves};
+ghost use Rattle.bitmap_input.specs.Reading.{AtEnd};
+ghost use Rattle.bitmap_input.specs.Inner.Reading.{Reads, Leaves};
 ghost use Rattle.bitmap_input.specs.Raw.{IsShown};
 ghost use Rattle.bitmap_input.specs.Front.{front, page_at};
 ghost use Rattle.bitmap_input.specs.Front.Answer.{Ends};
-ghost use Rattle.bitmap_input.specs.Behind.{IsRead, counted_page};
+ghost use Rattle.bitmap_input.specs.Inner.Behind.{IsRead, counted_page};
 ghost use Rattle.bitmap_input.specs.Reader.{at_start, is_later, ahead, GivesPage, GivesEnding, ReadFails, MemoryFails, TellsPage, is_over, IfPage, IfEnding, IsAnswer};
 
 use crate::body::read_body;

@@ -1,8 +1,8 @@
 //! Runs of whitespace and of comments.
 ghost use Rattle.std.specs.Prelude.{◌≡◌, ℕ, true, false, suc, List, ◌∷◌, MatchOption, IsTrue, ◌↔◌};
-ghost use Rattle.bitmap_input.specs.Reading.{Reads, Any, Leaves, TakesNone};
+ghost use Rattle.bitmap_input.specs.Inner.Reading.{Reads, Any, Leaves, TakesNone};
 ghost use Rattle.bitmap_input.specs.Parts.{is_space};
-ghost use Rattle.bitmap_input.specs.Run.{run_size, run_part, Continues};
+ghost use Rattle.bitmap_input.specs.Inner.Run.{run_size, run_part, Continues};
 
 use crate::fault::InFault;
 use crate::stop::Stop;

@@ -1,8 +1,8 @@
 //! Bytes that are passed over.
 ghost use Rattle.std.specs.Prelude.{◌≡◌, true};
-ghost use Rattle.bitmap_input.specs.Reading.{Reads, Any, Same, Leaves};
+ghost use Rattle.bitmap_input.specs.Inner.Reading.{Reads, Any, Same, Leaves};
 ghost use Rattle.bitmap_input.specs.Parts.{block};
-ghost use Rattle.bitmap_input.specs.Skip.{passed_over};
+ghost use Rattle.bitmap_input.specs.Inner.Skip.{passed_over};
 
 use crate::fault::InFault;
 use crate::stop::Stop;

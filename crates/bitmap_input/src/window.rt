@@ -2,7 +2,7 @@
 ghost use Rattle.std.specs.Prelude.{◌≡◌, ℕ, ◌≤◌, ◌<◌, true, false, length, take, drop, [], ◌∷◌, ◌++◌, IfOk, OnOk, OnErr};
 ghost use Rattle.pt_core.specs.Counts.{Rose};
 ghost use Rattle.bitmap_input.specs.Reading.{Moves};
-ghost use Rattle.bitmap_input.specs.Window.{IsFirst, Looks, CountsLook};
+ghost use Rattle.bitmap_input.specs.Inner.Window.{IsFirst, Looks, CountsLook};
 
 use pt_core::{DeviceFault, Inputs, NoMemory};
 use std::alloc::Global;

@@ -13,7 +13,7 @@ pub struct Checking;
 
 impl Task for Checking {
     ghost use Rattle.check_run.specs.Verdict.{IsCheckReply};
-    ghost use Rattle.check_run.specs.OneReply.{one_ending, one_line};
+    ghost use Rattle.check_run.specs.Inner.OneReply.{one_ending, one_line};
 
     ghost makes = { λ task bytes ending text. IsCheckReply bytes ending text };
 

@@ -3,7 +3,8 @@ use Rattle.std.proofs.Common.{◌≡◌, ◌∙◌, ◌<◌, ◌+◌, ◌++◌, 
 use Rattle.std.proofs.lemmas.List.{map-append, take_more}
 use Rattle.clap.specs.Walk.{Rule}
 use Rattle.clap.specs.Simple.{App, with_rule}
-use Rattle.command_words.specs.Command.{rule_of_row, with_rules}
+use Rattle.command_words.specs.Inner.Command.{rule_of_row}
+use Rattle.command_words.specs.Command.{with_rules}
 use Rattle.command_words.specs.declared.command.OptionRow.{OptionRow}
 
 with_rules-last : (app : App) (rules : List Rule) (rule : Rule) → with_rules app (rules ++ rule ∷ []) ≡ with_rule (with_rules app rules) rule

@@ -7,15 +7,10 @@ use Rattle.clap.specs.Kinds.{Kinds}
 use Rattle.clap.specs.Faults.{fault_of}
 use Rattle.clap.specs.declared.builder.action.ArgAction.{ArgAction}
 use Rattle.clap.specs.declared.builder.action.ArgAction.TheVariants.{Set, SetTrue, Append}
-use Rattle.command_words.specs.declared.command.OptionRow.{OptionRow}
 
 -- an option of this short name, if it has one, and this long name, whose use does this
 abbrev pub option_rule : Option ℕ → List ℕ → ArgAction → Rule
 option_rule short name action = record (new_rule name) { short = short; long = Some name; action = Some action }
-
--- the rule of a row of the program's table
-abbrev pub rule_of_row : OptionRow → Rule
-rule_of_row row = option_rule row.0 row.1.now row.2
 
 -- an option with a value: `-s VALUE` or `--name VALUE`
 abbrev pub option : ℕ → List ℕ → Rule

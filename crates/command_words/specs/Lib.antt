@@ -1,6 +1,5 @@
 -- The command as `clap` reads it.
 --   option_rule: an option of this short name, if it has one, and this long name, whose use does this
---   rule_of_row: the rule of a row of the program's table
 --   option: an option with a value
 --   long_option: an option with a value and without a short name
 --   flag: an option without one
@@ -23,3 +22,5 @@ pub mod Given
 --   parsed_by: without a fault the words give what was found
 --   parsed: what the words come to
 pub mod Parsed
+-- What inner contracts alone speak of: no promise rests on it.
+pub mod Inner

@@ -2,7 +2,8 @@
 ghost use Rattle.std.specs.Prelude.{◌≡◌, IfOk, codes, false, map};
 ghost use Rattle.clap.specs.Simple.{app_of};
 ghost use Rattle.clap.specs.Walk.{rule_of};
-ghost use Rattle.command_words.specs.Command.{command, operands, rule_of_row, with_rules};
+ghost use Rattle.command_words.specs.Command.{command, operands, with_rules};
+ghost use Rattle.command_words.specs.Inner.Command.{rule_of_row};
 
 use clap::{Arg, ArgAction, Command};
 use std::alloc::{AllocError, Global};

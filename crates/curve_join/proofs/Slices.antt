@@ -5,7 +5,7 @@ use Rattle.std.proofs.lemmas.List.{length-take}
 use Rattle.std.specs.Prelude.{is_some}
 use Rattle.std.specs.List.{All}
 use Rattle.curve_join.proofs.Cutting.{slice_small}
-use Rattle.curve_join.specs.Bends.{IsWorkable}
+use Rattle.curve_join.specs.Inner.Bends.{IsWorkable}
 use Rattle.curve_join.specs.Choice.{MayBeOne, run_penalty}
 use Rattle.curve_join.specs.Join.{MayJoin, penalty_at}
 use Rattle.curve_join.specs.declared.bend.Bend.{Bend}

@@ -7,9 +7,10 @@ use Rattle.std.specs.Prelude.{unsigned_abs}
 use Rattle.pt_core.proofs.Terms.{Term, same_value}
 use Rattle.pt_core.proofs.Terms.Term.{num, plus, times}
 use Rattle.curve_join.proofs.Crossing.{least_found}
-use Rattle.curve_join.specs.Cubic.{AreWithin, quadratic}
+use Rattle.curve_join.specs.Inner.Cubic.{AreWithin}
+use Rattle.curve_join.specs.Cubic.{quadratic}
 use Rattle.curve_join.specs.Least.{IsFirstLeast}
-use Rattle.curve_join.specs.Halves.{IsHalf, IsFirstHalf, IsSecondHalf, middle_value}
+use Rattle.curve_join.specs.Inner.Halves.{IsHalf, IsFirstHalf, IsSecondHalf, middle_value}
 use Rattle.curve_join.specs.declared.touch.Stretch.{Stretch}
 
 -- three weighted coefficients

@@ -4,13 +4,13 @@ use Rattle.std.proofs.Math.Decide.{dec_lt}
 use Rattle.std.proofs.lemmas.Bool.Decides.{nat_tests}
 use Rattle.std.proofs.lemmas.List.{get_or-set_other}
 use Rattle.std.specs.List.{slice_index, slice_range}
-use Rattle.least_walk.specs.Suffix.{HasFewest, IsFewestFrom, IsLeastCost, IsLeastFrom, IsLeastNext}
+use Rattle.least_walk.specs.Inner.Suffix.{HasFewest, IsFewestFrom, IsLeastCost, IsLeastFrom, IsLeastNext}
 use Rattle.least_walk.proofs.Filling.{filled}
 use Rattle.least_walk.proofs.Going.{total_cost-cons}
 use Rattle.least_walk.proofs.Onward.{fewest_onward, least_onward}
 use Rattle.curve_join.specs.Choice.{run_penalty}
 use Rattle.curve_join.specs.Join.{penalty_at}
-use Rattle.curve_join.specs.Search.{AreLeastCosts, IsNotBehind, paid}
+use Rattle.curve_join.specs.Inner.Search.{AreLeastCosts, IsNotBehind, paid}
 use Rattle.curve_join.specs.declared.bend.Bend.{Bend}
 use Rattle.curve_join.specs.declared.search.WayOn.{WayOn}
 

@@ -29,7 +29,6 @@ pub mod Outline
 --   bend_of: a vertex between two others, with its piece and where that starts
 --   bend_at: vertex number k of an outline with its piece
 --   bends_of: all of them, in order
---   IsWorkable: all is near enough to work with
 pub mod Bends
 -- Where a function is least.
 --   IsFirstLeast: u is at most n, f is nowhere less up to n, and before u it is greater
@@ -43,10 +42,8 @@ pub mod Least
 --   Encloses: the area is one that a curve with these tangents can have
 --   alpha_of: how far along both tangents the controls lie, in units of 1/65536
 --   cubic_of: the curve between two places whose controls lie so far on the way to `meeting`
---   LiesWithin: none of its places is farther from 0
 --   quadratic: the weights of a quadratic and of a cubic curve at u / 64
 --   cubic
---   AreWithin: none of a quadratic's coefficients is farther from 0
 --   tangent_at: the curve's direction at u / 64
 --   place_at: its place there, rounded down
 --   slant_at: how little the curve at u / 64 goes in this direction
@@ -89,22 +86,6 @@ pub mod Join
 --   run_piece: what they become
 --   cut_pieces: the pieces that a cut leaves, which lists where each run begins and where the last one ends
 --   IsBestJoin: these pieces are what the best cut leaves
---   IsLastRun: no run that begins here goes on beyond this number
 pub mod Choice
--- Runs lead onwards, and their penalties are small.
---   slice_most: a part of a list isn't longer than from where to where it goes
---   goes_up
---   ends_soon: no run has more than 64 pieces
---   run_penalty_most
-pub mod Costs
--- Halves of a stretch of a quadratic.
---   middle_value: four times its value in the middle
---   IsFirstHalf: four times its coefficients on the first half, and on the second
---   IsSecondHalf: the same on the second half
---   IsHalf: the second half if it is above 0 in the middle, and else the first
-pub mod Halves
--- What the search for the best cut of an outline knows of the ways on from its pieces.
---   IsNotBehind: the first way on doesn't come behind the second
---   paid: a way on, with the penalty of its first run
---   AreLeastCosts: at each index from `low` to the end stands what the least way to go on from there costs
-pub mod Search
+-- What inner contracts alone speak of: no promise rests on it.
+pub mod Inner

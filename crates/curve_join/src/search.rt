@@ -5,11 +5,12 @@
 //! and where the first of them ends.
 ghost use Rattle.std.specs.Prelude.{◌≡◌, ◌+◌, ◌<◌, ◌≤◌, ◌^◌, ◌⊎◌, true, false, length, slice_index, slice_range, All, IfOk};
 ghost use Rattle.least_walk.specs.LeastWalk.{IsLeast, walk_from};
-ghost use Rattle.least_walk.specs.Suffix.{HasCosts, HasFewest, HasNexts, IsFewestFrom, IsLeastCost, IsLeastNext};
-ghost use Rattle.curve_join.specs.Bends.{IsWorkable};
-ghost use Rattle.curve_join.specs.Choice.{IsLastRun, MayBeOne, run_penalty};
+ghost use Rattle.least_walk.specs.Inner.Suffix.{HasCosts, HasFewest, HasNexts, IsFewestFrom, IsLeastCost, IsLeastNext};
+ghost use Rattle.curve_join.specs.Inner.Bends.{IsWorkable};
+ghost use Rattle.curve_join.specs.Inner.Choice.{IsLastRun};
+ghost use Rattle.curve_join.specs.Choice.{MayBeOne, run_penalty};
 ghost use Rattle.curve_join.specs.Join.{GoesRound, first_bend, sense_at};
-ghost use Rattle.curve_join.specs.Search.{AreLeastCosts, IsNotBehind, paid};
+ghost use Rattle.curve_join.specs.Inner.Search.{AreLeastCosts, IsNotBehind, paid};
 
 use crate::bend::Bend;
 use crate::run::{joined_round, round_count};

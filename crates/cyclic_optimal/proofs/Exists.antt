@@ -10,14 +10,14 @@ use Rattle.straight_paths.proofs.Decided.{is_possible}
 use Rattle.straight_paths.proofs.Far.{step_possible}
 use Rattle.least_walk.specs.LeastWalk.{total_cost, IsLeast, IsWalk}
 use Rattle.least_walk.specs.LeastWalk.IsBefore.{by_steps, by_cost}
-use Rattle.least_walk.specs.Suffix.{WalksOn}
+use Rattle.least_walk.specs.Inner.Suffix.{WalksOn}
 use Rattle.least_walk.proofs.Going.{goes_below, length-steps_from}
 use Rattle.least_walk.proofs.Exists.{least_found}
 use Rattle.least_walk.proofs.Walks.{goes_from_walk, walk_from_goes}
 use Rattle.polygon_optimal.specs.Polygon.{penalty_of}
 use Rattle.polygon_optimal.proofs.Exists.{best_found}
 use Rattle.cyclic_optimal.specs.Cyclic.{IsCyclicPolygon, IsLeastCyclic, round_penalty}
-use Rattle.cyclic_optimal.specs.First.{IsFirstVertex}
+use Rattle.cyclic_optimal.specs.Inner.First.{IsFirstVertex}
 use Rattle.cyclic_optimal.proofs.Ways.{on_by, goes_moved, goes_back, cost_moved}
 use Rattle.cyclic_optimal.proofs.Rounds.{from_round, round_of}
 use Rattle.cyclic_optimal.proofs.Turned.{turned_is, closed_turned}

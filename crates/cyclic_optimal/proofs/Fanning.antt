@@ -6,7 +6,7 @@ use Rattle.std.proofs.lemmas.Bool.{cases_lt}
 use Rattle.std.specs.Prelude.{IfNone, IfSome, slice_index}
 use Rattle.pt_core.specs.declared.point.Point.{Point}
 use Rattle.polygon_optimal.specs.Polygon.{penalty_of}
-use Rattle.cyclic_optimal.specs.Fans.{HasFans, IsFanOf}
+use Rattle.cyclic_optimal.specs.Inner.Fans.{HasFans, IsFanOf}
 use Rattle.cyclic_optimal.specs.declared.fans.Fan.{Fan}
 
 -- what holds of something holds of what it is

@@ -13,13 +13,13 @@ use Rattle.pt_core.specs.declared.point.Point.{Point}
 use Rattle.straight_paths.specs.Straight.{IsPossible}
 use Rattle.least_walk.specs.LeastWalk.{IsWalk, IsBefore, step_count, total_cost, walk_from}
 use Rattle.least_walk.specs.LeastWalk.IsBefore.{by_steps, by_cost, by_list}
-use Rattle.least_walk.specs.Suffix.{WalksOn}
+use Rattle.least_walk.specs.Inner.Suffix.{WalksOn}
 use Rattle.least_walk.proofs.Going.{goes_below, length-steps_from}
 use Rattle.least_walk.proofs.Before.{nat_cmp_above, slice_cmp-cons}
 use Rattle.least_walk.proofs.Walks.{goes_from_walk, walk_from_goes}
 use Rattle.polygon_optimal.specs.Polygon.{IsSegment, IsBestPolygon, penalty_of, total_penalty}
 use Rattle.cyclic_optimal.specs.Cyclic.{IsCyclicPolygon, IsLeastCyclic, once_round, round_penalty}
-use Rattle.cyclic_optimal.specs.First.{IsFirstVertex}
+use Rattle.cyclic_optimal.specs.Inner.First.{IsFirstVertex}
 use Rattle.cyclic_optimal.proofs.Turned.{IsTurned, possible_moved, possible_back, penalty_moved}
 use Rattle.cyclic_optimal.proofs.Ways.{on_by, goes_moved, goes_back, cost_moved}
 use Rattle.cyclic_optimal.proofs.Rounds.{FromRound, from_round, round_of, polygon_of}

@@ -7,10 +7,10 @@ use Rattle.std.specs.Prelude.{slice_index}
 use Rattle.pt_core.specs.declared.point.Point.{Point}
 use Rattle.straight_paths.specs.Straight.{IsPossible}
 use Rattle.least_walk.specs.LeastWalk.{total_cost}
-use Rattle.least_walk.specs.Suffix.{IsFewestFrom, WalksOn}
+use Rattle.least_walk.specs.Inner.Suffix.{IsFewestFrom, WalksOn}
 use Rattle.least_walk.proofs.Going.{goes_below, total_cost-cons}
 use Rattle.pt_core.specs.OnPage.{AreOnPage}
-use Rattle.cyclic_optimal.specs.Fronts.{IsBestFrom, IsFrontOf, IsLeastBy, IsLeastVia, worth_of}
+use Rattle.cyclic_optimal.specs.Inner.Fronts.{IsBestFrom, IsFrontOf, IsLeastBy, IsLeastVia, worth_of}
 use Rattle.cyclic_optimal.specs.declared.fronts.TheConstants.{NONE}
 use Rattle.cyclic_optimal.specs.declared.first.Best.{Best}
 use Rattle.cyclic_optimal.specs.declared.fronts.Front.{Front}

@@ -4,8 +4,8 @@ use Rattle.std.proofs.lemmas.Bool.{cases_lt}
 use Rattle.pt_core.specs.declared.point.Point.{Point}
 use Rattle.straight_paths.specs.Straight.{IsPossible}
 use Rattle.least_walk.specs.LeastWalk.{total_cost}
-use Rattle.least_walk.specs.Suffix.{IsFewestFrom, WalksOn}
-use Rattle.cyclic_optimal.specs.Fronts.{IsBestAmong, IsBestFrom, worth_of}
+use Rattle.least_walk.specs.Inner.Suffix.{IsFewestFrom, WalksOn}
+use Rattle.cyclic_optimal.specs.Inner.Fronts.{IsBestAmong, IsBestFrom, worth_of}
 use Rattle.cyclic_optimal.specs.declared.first.Best.{Best}
 
 module _ (points : List Point) where

@@ -8,9 +8,9 @@ use Rattle.pt_core.specs.declared.point.Point.{Point}
 use Rattle.straight_paths.specs.Straight.{IsPossible}
 use Rattle.straight_paths.proofs.Far.{shorter_possible}
 use Rattle.polygon_optimal.proofs.Rising.{later_possible}
-use Rattle.least_walk.specs.Suffix.{IsFewestFrom, WalksOn}
+use Rattle.least_walk.specs.Inner.Suffix.{IsFewestFrom, WalksOn}
 use Rattle.least_walk.proofs.Going.{goes_below}
-use Rattle.cyclic_optimal.specs.Fronts.{AreTops, IsLongest}
+use Rattle.cyclic_optimal.specs.Inner.Fronts.{AreTops, IsLongest}
 use Rattle.cyclic_optimal.proofs.Ways.{goes_both}
 
 -- a possible segment stays so without its first steps

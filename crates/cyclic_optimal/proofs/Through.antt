@@ -8,12 +8,12 @@ use Rattle.std.proofs.lemmas.List.Elements.{All-head, All-tail}
 use Rattle.pt_core.specs.declared.point.Point.{Point}
 use Rattle.straight_paths.specs.Straight.{IsPossible}
 use Rattle.least_walk.specs.LeastWalk.{total_cost}
-use Rattle.least_walk.specs.Suffix.{WalksOn}
+use Rattle.least_walk.specs.Inner.Suffix.{WalksOn}
 use Rattle.least_walk.proofs.Going.{goes_below}
 use Rattle.polygon_optimal.specs.Polygon.{penalty_of}
 use Rattle.cyclic_optimal.specs.Cyclic.{IsCyclicPolygon, round_penalty}
-use Rattle.cyclic_optimal.specs.First.{IsFirstVertex}
-use Rattle.cyclic_optimal.specs.Fronts.{IsBestAmong, worth_of}
+use Rattle.cyclic_optimal.specs.Inner.First.{IsFirstVertex}
+use Rattle.cyclic_optimal.specs.Inner.Fronts.{IsBestAmong, worth_of}
 use Rattle.cyclic_optimal.specs.declared.first.Best.{Best}
 use Rattle.cyclic_optimal.proofs.Ways.{on_by, goes_to_last, goes_moved, goes_anew, cost_anew}
 use Rattle.cyclic_optimal.proofs.Rounds.{Crosses, FromRound, crossing, from_round, round_of, may_lap, may_back, pen_lap}

@@ -9,12 +9,12 @@ use Rattle.pt_core.specs.declared.point.Point.{Point}
 use Rattle.pt_core.specs.OnPage.{AreOnPage}
 use Rattle.straight_paths.specs.Straight.{IsFarthest, IsPossible}
 use Rattle.least_walk.specs.LeastWalk.{total_cost}
-use Rattle.least_walk.specs.Suffix.{WalksOn}
+use Rattle.least_walk.specs.Inner.Suffix.{WalksOn}
 use Rattle.least_walk.proofs.Going.{goes_below, total_cost-cons}
 use Rattle.prefix_moments.specs.Sums.{IsPenalty}
 use Rattle.polygon_optimal.specs.Polygon.{penalty_of}
-use Rattle.polygon_optimal.specs.OnePenalty.{penalty_is, penalty_is_one, penalty_most}
-use Rattle.cyclic_optimal.specs.Fronts.{IsLongest, past, worth_of}
+use Rattle.polygon_optimal.specs.Inner.OnePenalty.{penalty_is, penalty_is_one, penalty_most}
+use Rattle.cyclic_optimal.specs.Inner.Fronts.{IsLongest, past, worth_of}
 use Rattle.cyclic_optimal.proofs.Rounds.{may_lap, may_back, pen_lap}
 
 module _ (points : List Point) where

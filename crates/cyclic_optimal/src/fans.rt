@@ -1,6 +1,6 @@
 //! The penalties of the segments from each point, written down for as many searches as ask for them.
 ghost use Rattle.std.specs.Prelude.{◌≡◌, ◌+◌, ◌-◌, ◌<◌, ◌≤◌, length, slice_index, IfOk, IfSome};
-ghost use Rattle.cyclic_optimal.specs.Fans.{HasFans, IsFanOf};
+ghost use Rattle.cyclic_optimal.specs.Inner.Fans.{HasFans, IsFanOf};
 
 use crate::sides::Sides;
 use prefix_moments::Start;

@@ -7,9 +7,9 @@ ghost use Rattle.std.specs.Prelude.{◌≡◌, ℕ, ◌+◌, ◌<◌, ◌≤◌,
 ghost use Rattle.pt_core.specs.ClosedWalk.{IsClosedWalk};
 ghost use Rattle.pt_core.specs.OnPage.{AreOnPage};
 ghost use Rattle.straight_paths.specs.Straight.{IsPossible};
-ghost use Rattle.least_walk.specs.Suffix.{IsFewestFrom};
-ghost use Rattle.cyclic_optimal.specs.First.{IsFirstVertex};
-ghost use Rattle.cyclic_optimal.specs.Fronts.{IsBestAmong, IsBestFrom};
+ghost use Rattle.least_walk.specs.Inner.Suffix.{IsFewestFrom};
+ghost use Rattle.cyclic_optimal.specs.Inner.First.{IsFirstVertex};
+ghost use Rattle.cyclic_optimal.specs.Inner.Fronts.{IsBestAmong, IsBestFrom};
 
 use crate::fans::all_fans;
 use crate::fronts::{best_by, tops};

@@ -7,9 +7,9 @@
 //! ```
 ghost use Rattle.std.specs.Prelude.{◌≡◌, ℕ, ◌+◌, ◌-◌, ◌*◌, ◌<◌, ◌≤◌, ◌^◌, length, IfOk, IfSome};
 ghost use Rattle.straight_paths.specs.Straight.{IsPossible};
-ghost use Rattle.least_walk.specs.Suffix.{IsFewestFrom};
-ghost use Rattle.cyclic_optimal.specs.Fans.{IsFanOf, first_lap};
-ghost use Rattle.cyclic_optimal.specs.Fronts.{AreTops, IsBestFrom, IsFrontOf, IsLeastBy, worth_of};
+ghost use Rattle.least_walk.specs.Inner.Suffix.{IsFewestFrom};
+ghost use Rattle.cyclic_optimal.specs.Inner.Fans.{IsFanOf, first_lap};
+ghost use Rattle.cyclic_optimal.specs.Inner.Fronts.{AreTops, IsBestFrom, IsFrontOf, IsLeastBy, worth_of};
 
 use crate::fans::Fan;
 use crate::first::Best;

@@ -5,8 +5,8 @@ ghost use Rattle.pt_core.specs.OnPage.{AreOnPage};
 ghost use Rattle.straight_paths.specs.Straight.{IsPossible};
 ghost use Rattle.prefix_moments.specs.Sums.{IsPenalty, spread_of};
 ghost use Rattle.polygon_optimal.specs.Polygon.{penalty_of};
-ghost use Rattle.cyclic_optimal.specs.Fans.{HasFans, IsFanOf, first_lap};
-ghost use Rattle.cyclic_optimal.specs.Fronts.{IsLongest, worth_of};
+ghost use Rattle.cyclic_optimal.specs.Inner.Fans.{HasFans, IsFanOf, first_lap};
+ghost use Rattle.cyclic_optimal.specs.Inner.Fronts.{IsLongest, worth_of};
 
 use crate::fans::Fan;
 use prefix_moments::Moments;

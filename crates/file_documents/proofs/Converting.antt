@@ -17,15 +17,17 @@ use Rattle.run_output.specs.Made.{Past, most_pages, page_name}
 use Rattle.run_output.specs.Parts.{page_part}
 use Rattle.run_output.specs.declared.status.Status.{Status}
 use Rattle.run_output.specs.declared.status.Status.TheVariants as status
-use Rattle.page_batches.specs.Held.{AreHeld, Held, Holds, pages_held}
+use Rattle.page_batches.specs.Held.{AreHeld, Held}
+use Rattle.page_batches.specs.Inner.Held.{Holds, pages_held}
 use Rattle.page_batches.specs.Items.{Item}
 use Rattle.page_batches.specs.Outcome.{HasEnded}
 use Rattle.run_output.specs.Told.{Sinks}
 use Rattle.page_batches.proofs.Holding.{all_held, ended_behind, holds_on, pages_in-page}
 use Rattle.file_documents.specs.Items.{page_item}
 use Rattle.file_documents.specs.Manner.{Manner}
-use Rattle.file_documents.specs.Outcome.{BeginsSettled, BeginsWith, LeavesBehind, ReadsNear, is_later}
-use Rattle.file_documents.specs.Progress.{AreConverted, EndsBy, Halts, HasUnread, IsInBatch, ReadsPage, Settles, TakesNeeded, Converts, ahead, text_items}
+use Rattle.file_documents.specs.Outcome.{BeginsSettled, LeavesBehind, ReadsNear, is_later}
+use Rattle.file_documents.specs.Inner.Outcome.{BeginsWith}
+use Rattle.file_documents.specs.Inner.Progress.{AreConverted, EndsBy, Halts, HasUnread, IsInBatch, ReadsPage, Settles, TakesNeeded, Converts, ahead, text_items}
 use Rattle.file_documents.specs.declared.pages.PagesEnd.{PagesEnd}
 use Rattle.file_documents.specs.declared.pages.PagesEnd.TheVariants as why
 use Rattle.file_documents.proofs.OnePass.{batch_halts}

@@ -15,18 +15,21 @@ use Rattle.run_output.specs.Made.{Past, most_pages}
 use Rattle.run_output.specs.declared.status.Status.{Status}
 use Rattle.run_output.specs.declared.status.Status.TheVariants as status
 use Rattle.run_output.specs.declared.part.Binding.{Binding}
-use Rattle.page_batches.specs.Held.{AreHeld, Held, LeavesBatch}
+use Rattle.page_batches.specs.Held.{AreHeld, Held}
+use Rattle.page_batches.specs.Inner.Held.{LeavesBatch}
 use Rattle.page_batches.specs.Items.{Item}
 use Rattle.page_batches.specs.Items.Item.{Stop}
-use Rattle.page_batches.specs.Outcome.{AreCarriedOut, HasEnded, IsHalt}
+use Rattle.page_batches.specs.Outcome.{AreCarriedOut, HasEnded}
+use Rattle.page_batches.specs.Inner.Outcome.{IsHalt}
 use Rattle.run_output.specs.Told.{IsMessage, Sinks, Source}
 use Rattle.page_batches.proofs.Carrying.{GoesOn-behind, IsSaying, carried_on, ended_more, ended_on, memory_out, only_said}
 use Rattle.page_batches.proofs.Holding.{ended_behind, halts_by, holds_goes_on}
 use Rattle.file_documents.specs.Items.{AreItems, IsAbsent, Nothing, told_contents}
 use Rattle.file_documents.specs.Manner.{HasTexts, Manner, base_by}
 use Rattle.file_documents.specs.Outcome.{EndsNear, HoldsBytes, IsOutcomeBehind, IsUnopened, IsUnread, OpensUpTo, ReadsFileNear, ReadsNear, opened_name}
-use Rattle.file_documents.specs.Progress.{EndsWithFile, Halts, InputCount, Converts, ConvertsFile, end_message, status_of, text_items}
-use Rattle.file_documents.specs.Unopened.{EndsUnopened}
+use Rattle.file_documents.specs.Inner.Progress.{EndsWithFile, Halts, Converts, ConvertsFile, end_message, status_of, text_items}
+use Rattle.file_documents.specs.Progress.{InputCount}
+use Rattle.file_documents.specs.Inner.Unopened.{EndsUnopened}
 use Rattle.file_documents.specs.declared.pages.PagesEnd.{PagesEnd}
 use Rattle.file_documents.specs.declared.pages.PagesEnd.TheVariants as why
 use Rattle.file_documents.proofs.Exists.{items_found}

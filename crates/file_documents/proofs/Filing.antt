@@ -4,7 +4,8 @@ use Rattle.std.specs.FinMap.{get}
 use Rattle.pt_core.specs.Files.{Contents, Files, Lacks, unread, unread_of, with_file}
 use Rattle.bitmap_input.specs.Cut.{Ending, Kind}
 use Rattle.bitmap_input.specs.Cut.Ending.{End, Trailing, Refused}
-use Rattle.bitmap_input.specs.FaultText.{cause_text, fault_text, kind_text}
+use Rattle.bitmap_input.specs.FaultText.{cause_text, kind_text}
+use Rattle.bitmap_input.specs.Inner.FaultText.{fault_text}
 use Rattle.bitmap_input.specs.Reading.{cause_of_fault}
 use Rattle.bitmap_input.specs.Reading.Cause.{Says}
 use Rattle.bitmap_input.specs.Raw.{Raw}
@@ -20,17 +21,20 @@ use Rattle.run_output.specs.Names.{next_name}
 use Rattle.run_output.specs.Made.{Past, most_pages, past_file}
 use Rattle.run_output.specs.declared.status.Status.{Status}
 use Rattle.run_output.specs.declared.status.Status.TheVariants as status
-use Rattle.page_batches.specs.Held.{AreHeld, Held, Holds}
+use Rattle.page_batches.specs.Held.{AreHeld, Held}
+use Rattle.page_batches.specs.Inner.Held.{Holds}
 use Rattle.page_batches.specs.Items.{Item, end_items}
 use Rattle.page_batches.specs.Items.Item.{Stop}
-use Rattle.page_batches.specs.Outcome.{HasEnded, IsHalt}
+use Rattle.page_batches.specs.Outcome.{HasEnded}
+use Rattle.page_batches.specs.Inner.Outcome.{IsHalt}
 use Rattle.run_output.specs.Told.{Sinks}
 use Rattle.page_batches.proofs.Carrying.{ended_more}
 use Rattle.page_batches.proofs.Holding.{holds_on}
 use Rattle.file_documents.specs.Items.{AreItems, ArePageItems, FileEnds, HoldsPages, Nothing, PagesAlone, Rest, told_contents, too_many}
 use Rattle.file_documents.specs.Manner.{HasTexts, Manner, base_by}
-use Rattle.file_documents.specs.Outcome.{BeginsWith, is_later}
-use Rattle.file_documents.specs.Progress.{AreConverted, EndsWith, Halts, Converts, ConvertsFile, end_message, items_at_end, status_of, text_items}
+use Rattle.file_documents.specs.Inner.Outcome.{BeginsWith}
+use Rattle.file_documents.specs.Outcome.{is_later}
+use Rattle.file_documents.specs.Inner.Progress.{AreConverted, EndsWith, Halts, Converts, ConvertsFile, end_message, items_at_end, status_of, text_items}
 use Rattle.file_documents.specs.declared.pages.PagesEnd.{PagesEnd}
 use Rattle.file_documents.specs.declared.pages.PagesEnd.TheVariants as why
 use Rattle.file_documents.proofs.Exists.{AreShown, file_pages_found, items_found, pages_found}

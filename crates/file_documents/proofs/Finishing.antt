@@ -3,12 +3,13 @@ use Rattle.std.proofs.Common.{◌≡◌, ℕ, List, ◌++◌, Result, Ok, Err, i
 use Rattle.run_output.specs.Made.{Past}
 use Rattle.run_output.specs.declared.status.Status.{Status}
 use Rattle.run_output.specs.declared.status.Status.TheVariants as status
-use Rattle.page_batches.specs.Held.{AreHeld, Held, Holds}
+use Rattle.page_batches.specs.Held.{AreHeld, Held}
+use Rattle.page_batches.specs.Inner.Held.{Holds}
 use Rattle.page_batches.specs.Items.{Item}
 use Rattle.page_batches.specs.Outcome.{HasEnded}
 use Rattle.run_output.specs.Told.{Sinks}
 use Rattle.file_documents.specs.Manner.{Manner}
-use Rattle.file_documents.specs.Progress.{EndsHeld, EndsWithPages, GoesOnAfter, items_at_end, status_of}
+use Rattle.file_documents.specs.Inner.Progress.{EndsHeld, EndsWithPages, GoesOnAfter, items_at_end, status_of}
 use Rattle.file_documents.specs.declared.pages.PagesEnd.{PagesEnd}
 
 -- the items of the end are held behind those that were read

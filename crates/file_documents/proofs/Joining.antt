@@ -13,7 +13,8 @@ use Rattle.run_output.specs.Names.{next_name}
 use Rattle.run_output.specs.declared.part.Binding.{Binding}
 use Rattle.run_output.specs.declared.status.Status.{Status}
 use Rattle.run_output.specs.declared.status.Status.TheVariants as status
-use Rattle.page_batches.specs.Held.{AreHeld, Held, Holds}
+use Rattle.page_batches.specs.Held.{AreHeld, Held}
+use Rattle.page_batches.specs.Inner.Held.{Holds}
 use Rattle.page_batches.specs.Items.{GoesOn, Item, end_items, page_count}
 use Rattle.page_batches.specs.Items.Item.{Stop}
 use Rattle.page_batches.specs.Outcome.{AreCarriedOut, HasEnded}
@@ -24,7 +25,7 @@ use Rattle.file_documents.specs.Items.{AreEndItems, AreItems, ArePageItems, File
 use Rattle.file_documents.specs.Manner.{Manner, base_by}
 use Rattle.file_documents.specs.OnePass.{IfReadsTo, IsOnePass, batch_end}
 use Rattle.file_documents.specs.Outcome.{IsOutcomeBehind, LastEndsNear, OpensUpTo}
-use Rattle.file_documents.specs.Progress.{EndsWith}
+use Rattle.file_documents.specs.Inner.Progress.{EndsWith}
 use Rattle.file_documents.proofs.OnePass.{batch_end_behind}
 
 -- where what follows goes on with these items, so does the end of a file

@@ -12,7 +12,8 @@ use Rattle.run_output.specs.Names.{next_name}
 use Rattle.run_output.specs.declared.part.Binding.{Binding}
 use Rattle.page_batches.specs.Items.{Item, end_items}
 use Rattle.file_documents.specs.Items.{AreEndItems, AreItems, ArePageItems, FileEnds, HoldsPages, Rest, page_item}
-use Rattle.file_documents.specs.Manner.{HasOneText, Manner, base_by, shown_by}
+use Rattle.file_documents.specs.Inner.Manner.{HasOneText}
+use Rattle.file_documents.specs.Manner.{Manner, base_by, shown_by}
 
 -- what follows is one list
 abbrev IsOne : (List Item → Type 0) → Type 0

@@ -3,7 +3,8 @@ use Rattle.std.proofs.Common.{◌≡◌, ◌≤◌, ◌<◌, ℕ, ◌+◌, ◌*�
 use Rattle.std.proofs.lemmas.Nat.{div_below, le-div}
 use Rattle.pt_core.specs.Counts.{Rose}
 use Rattle.pt_core.specs.Files.{Contents}
-use Rattle.page_batches.specs.Held.{AreHeld, Held, Holds, pages_held}
+use Rattle.page_batches.specs.Held.{AreHeld, Held}
+use Rattle.page_batches.specs.Inner.Held.{Holds, pages_held}
 use Rattle.run_output.specs.Made.{Past}
 use Rattle.run_output.specs.Parts.{Part}
 use Rattle.page_batches.specs.Items.{Item, page_count, pages_in}
@@ -15,7 +16,7 @@ use Rattle.page_batches.proofs.Holding.{page_count-append, page_count-held, spli
 use Rattle.file_documents.specs.Items.{AreItems, Nothing}
 use Rattle.file_documents.specs.Manner.{Manner}
 use Rattle.file_documents.specs.OnePass.{IfReadsTo, IsOnePass, batch_end}
-use Rattle.file_documents.specs.Progress.{IsInBatch, IsInPart}
+use Rattle.file_documents.specs.Inner.Progress.{IsInBatch, IsInPart}
 
 -- the items in front of one are among those in front of the last one
 before_last : (read before after : List Item) (last item : Item) → read ++ last ∷ [] ≡ before ++ item ∷ after → page_count before ≤ page_count read

@@ -7,8 +7,9 @@ use Rattle.bitmap_input.specs.Front.Answer.{Page as Gives}
 use Rattle.bitmap_input.specs.FilePages.{FilePages, next_begins}
 use Rattle.bitmap_input.specs.FilePages.FilePages.{Next}
 use Rattle.file_documents.specs.Manner.{Manner, shown_by}
-use Rattle.file_documents.specs.Outcome.{BeginsSettled, BeginsWith, LeavesBehind, is_later}
-use Rattle.file_documents.specs.Progress.{AreConverted, Settles}
+use Rattle.file_documents.specs.Outcome.{BeginsSettled, LeavesBehind, is_later}
+use Rattle.file_documents.specs.Inner.Outcome.{BeginsWith}
+use Rattle.file_documents.specs.Inner.Progress.{AreConverted, Settles}
 
 is_later-true : (raws : List Raw) → is_later true raws ≡ true
 is_later-true [] = refl

@@ -6,7 +6,8 @@ use Rattle.bitmap_input.specs.declared.fault.InFault.TheVariants as fault
 use Rattle.run_output.specs.declared.status.Status.{Status}
 use Rattle.run_output.specs.declared.status.Status.TheVariants as status
 use Rattle.run_output.specs.Made.{Past}
-use Rattle.page_batches.specs.Held.{AreHeld, Held, pages_held}
+use Rattle.page_batches.specs.Held.{AreHeld, Held}
+use Rattle.page_batches.specs.Inner.Held.{pages_held}
 use Rattle.page_batches.specs.Items.{GoesOn, Item, page_count}
 use Rattle.page_batches.specs.Items.Item.{Missing, Stop}
 use Rattle.page_batches.specs.Outcome.{HasEnded, IsUnwritten}
@@ -16,8 +17,8 @@ use Rattle.file_documents.specs.Items.{IsAbsent, told_contents}
 use Rattle.file_documents.specs.Manner.{HasTexts, Manner, base_by}
 use Rattle.file_documents.specs.OnePass.{IfReadsTo, IsOnePass}
 use Rattle.file_documents.specs.Outcome.{LeavesBehind, opened_name}
-use Rattle.file_documents.specs.Progress.{EndsWithFile, Halts, IsInPart, Converts, end_message, status_of, text_items}
-use Rattle.file_documents.specs.Unopened.{EndsUnopened}
+use Rattle.file_documents.specs.Inner.Progress.{EndsWithFile, Halts, IsInPart, Converts, end_message, status_of, text_items}
+use Rattle.file_documents.specs.Inner.Unopened.{EndsUnopened}
 use Rattle.file_documents.specs.declared.pages.PagesEnd.{PagesEnd}
 use Rattle.file_documents.specs.declared.pages.PagesEnd.TheVariants as why
 use Rattle.file_documents.proofs.Ending.{at_first, name-opened, opened_as}

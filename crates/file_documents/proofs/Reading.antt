@@ -26,7 +26,7 @@ use Rattle.bitmap_input.proofs.Sided.{pages_shown}
 use Rattle.file_documents.specs.Items.{told_contents}
 use Rattle.file_documents.specs.Manner.{Manner, shown_by}
 use Rattle.file_documents.specs.Outcome.{opened_name}
-use Rattle.file_documents.specs.Progress.{FaultsBy, ReadsPage, Settles, TakesNeeded, ahead}
+use Rattle.file_documents.specs.Inner.Progress.{FaultsBy, ReadsPage, Settles, TakesNeeded, ahead}
 use Rattle.file_documents.specs.declared.pages.PagesEnd.TheVariants as why
 
 -- what holds of what the bytes give holds of that

@@ -4,14 +4,16 @@ use Rattle.std.proofs.lemmas.List.{length-take-le, take-append-drop, take_more}
 use Rattle.pt_core.specs.Counts.{last_count, next_count}
 use Rattle.pt_core.specs.Files.{Contents}
 use Rattle.run_output.specs.Made.{Past, no_past}
-use Rattle.run_output.specs.Parts.{is_begun}
+use Rattle.run_output.specs.Inner.Parts.{is_begun}
 use Rattle.run_output.specs.declared.part.Binding.{Binding}
 use Rattle.run_output.specs.declared.part.Binding.TheVariants.{Apart, Together}
 use Rattle.run_output.specs.declared.status.Status.{Status}
 use Rattle.run_output.specs.declared.status.Status.TheVariants as status
-use Rattle.page_batches.specs.Held.{AreHeld, Held, Holds, pages_held}
+use Rattle.page_batches.specs.Held.{AreHeld, Held}
+use Rattle.page_batches.specs.Inner.Held.{Holds, pages_held}
 use Rattle.page_batches.specs.Items.{Item}
-use Rattle.page_batches.specs.Outcome.{AreCarriedOut, HasEnded, IsHalt, IsUnwritten}
+use Rattle.page_batches.specs.Outcome.{AreCarriedOut, HasEnded, IsUnwritten}
+use Rattle.page_batches.specs.Inner.Outcome.{IsHalt}
 use Rattle.run_output.specs.Told.{Sinks, Source}
 use Rattle.page_batches.proofs.Carrying.{carried_on, ended_on}
 use Rattle.page_batches.proofs.Holding.{all_held, holds_goes_on, holds_on}
@@ -19,7 +21,7 @@ use Rattle.file_documents.specs.Items.{AreItems, Nothing}
 use Rattle.file_documents.specs.Manner.{Manner}
 use Rattle.file_documents.specs.OnePass.{IsOnePass}
 use Rattle.file_documents.specs.Outcome.{EndsNear, IsOutcomeBehind, LastEndsNear, OpensFirst, opened_name}
-use Rattle.file_documents.specs.Progress.{EndsWith, ConvertsFile}
+use Rattle.file_documents.specs.Inner.Progress.{EndsWith, ConvertsFile}
 use Rattle.file_documents.proofs.Ending.{outcome_of_halt}
 use Rattle.file_documents.proofs.Joining.{items_join, near_on, one_pass_on, outcome_on}
 use Rattle.file_documents.proofs.OnePass.{part_halts, pass_of_part}

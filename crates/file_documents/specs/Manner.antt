@@ -1,5 +1,5 @@
 -- The manner in which files become documents.
-use Rattle.std.specs.Prelude.{◌≡◌, ℕ, Bool, List, Option}
+use Rattle.std.specs.Prelude.{ℕ, Bool, List, Option}
 use Rattle.bit_image.specs.Page.{IsPage, Page as Pixels}
 use Rattle.bitmap_input.specs.Raw.{Raw, shown}
 use Rattle.run_output.specs.Names.{base_name}
@@ -30,7 +30,3 @@ base_by manner name = base_name manner.output manner.suffix name
 -- a text belongs to each page
 abbrev pub HasTexts : Manner → Type 0
 HasTexts manner = (page : Pixels) → IsPage page → (text : List ℕ) × manner.belongs page text
-
--- and only one
-abbrev pub HasOneText : Manner → Type 0
-HasOneText manner = (page : Pixels) (text other : List ℕ) → manner.belongs page text → manner.belongs page other → text ≡ other

@@ -53,12 +53,6 @@ pub record IsUnopened (first : List Item) (contents : Option Contents) (manner :
   pub items : AreItems contents manner Nothing front past before
   pub done : AreCarriedOut (first ++ before) (not_opened name ∷ []) old new
 
--- the first pages of the bytes are these, and `rest` is what follows them
-abbrev pub BeginsWith : Bool → List ℕ → List Raw → List ℕ → Type 0
-BeginsWith later bytes [] rest = bytes ≡ rest
-BeginsWith later bytes (raw ∷ raws) rest =
-    (used : ℕ) × (front later bytes ≡ Page raw used) × BeginsWith true (drop (next_begins bytes raw used) bytes) raws rest
-
 -- the first pages of the bytes are these, and `behind` is what follows those that they take: of it the last page may
 -- claim some
 abbrev pub LeavesBehind : Bool → List ℕ → List Raw → List ℕ → Type 0

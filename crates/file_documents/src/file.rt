@@ -2,16 +2,18 @@
 ghost use Rattle.std.specs.Prelude.{◌≡◌, ◌*◌, ◌⊎◌, ◌++◌, List, OnOk, option_map};
 ghost use Rattle.run_output.specs.Names.{next_name};
 ghost use Rattle.run_output.specs.declared.status.Status.{Status};
-ghost use Rattle.page_batches.specs.Desks.{Keeps, sinks_at};
-ghost use Rattle.page_batches.specs.Held.{AreHeld, end_held, end_notes};
+ghost use Rattle.page_batches.specs.Inner.Desks.{Keeps, sinks_at};
+ghost use Rattle.page_batches.specs.Held.{AreHeld};
+ghost use Rattle.page_batches.specs.Inner.Held.{end_held, end_notes};
 ghost use Rattle.page_batches.specs.Items.{Item, end_items};
-ghost use Rattle.page_batches.specs.Outcome.{IsHalt, ended_with};
+ghost use Rattle.page_batches.specs.Inner.Outcome.{IsHalt, ended_with};
 ghost use Rattle.file_documents.specs.Manner.{HasTexts};
 ghost use Rattle.run_output.specs.Told.{source_of};
-ghost use Rattle.file_documents.specs.Progress.{AsksFor, CanHold, EndsFile, EndsHeld, EndsWithPages, GoesOnAfter, InputCount, status_of};
+ghost use Rattle.file_documents.specs.Inner.Progress.{AsksFor, CanHold, EndsFile, EndsHeld, EndsWithPages, GoesOnAfter, status_of};
+ghost use Rattle.file_documents.specs.Progress.{InputCount};
 ghost use Rattle.file_documents.specs.declared.pages.PagesEnd.{PagesEnd};
-ghost use Rattle.file_documents.specs.Tasks.{manner_of};
-ghost use Rattle.file_documents.specs.Unopened.{EndsUnopened};
+ghost use Rattle.file_documents.specs.Inner.Tasks.{manner_of};
+ghost use Rattle.file_documents.specs.Inner.Unopened.{EndsUnopened};
 
 use crate::pages::{Converted, PagesEnd, convert_pages};
 use crate::task::Task;

@@ -2,14 +2,14 @@
 ghost use Rattle.std.specs.Prelude.{◌≡◌, ◌*◌, [], false, true};
 ghost use Rattle.run_output.specs.Made.{no_past};
 ghost use Rattle.run_output.specs.declared.status.Status.{Status};
-ghost use Rattle.page_batches.specs.Desks.{Keeps, sinks_at};
+ghost use Rattle.page_batches.specs.Inner.Desks.{Keeps, sinks_at};
 ghost use Rattle.file_documents.specs.Items.{told_contents};
 ghost use Rattle.file_documents.specs.Manner.{HasTexts};
 ghost use Rattle.file_documents.specs.OnePass.{IsOnePass};
 ghost use Rattle.file_documents.specs.Outcome.{IsOutcome, OpensFirst};
 ghost use Rattle.run_output.specs.Told.{source_of};
 ghost use Rattle.file_documents.specs.Progress.{InputCount};
-ghost use Rattle.file_documents.specs.Tasks.{manner_of};
+ghost use Rattle.file_documents.specs.Inner.Tasks.{manner_of};
 
 use crate::file::convert_file;
 use crate::task::Task;

@@ -33,13 +33,6 @@ pub record GivesSetup (rows : List Row) (setup : Setup) : Type 0 where
   pub level : IsMicro (option_text (codes "level") (codes "0.45") rows) setup.level
   pub most_level : setup.level ≤ GREATEST_LEVEL
 
--- a setup that a page can be filtered with
-pub record CanFilter (setup : Setup) : Type 0 where
-  pub most_radius : setup.radius ≤ GREATEST_RADIUS
-  pub some_times : 1 ≤ setup.times
-  pub most_times : setup.times ≤ GREATEST_TIMES
-  pub most_level : setup.level ≤ GREATEST_LEVEL
-
 -- what `clap` found in the words asks for this: they ask for help, or there is no fault and the options give a setup
 abbrev pub AsksFilter : Kinds → List Row → FilterAsk → Type 0
 AsksFilter [] rows Help = ⊥

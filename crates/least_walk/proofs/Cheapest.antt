@@ -2,7 +2,7 @@
 use Rattle.std.proofs.Common.{◌≡◌, ℕ, ◌+◌, ◌-◌, ◌^◌, ◌<◌, ◌≤◌, ◌⊎◌, List, ◌∷◌, inl, inr, ap, subst, ◌∙◌, arith}
 use Rattle.std.proofs.lemmas.Bool.{cases_eq}
 use Rattle.std.specs.List.{slice_index}
-use Rattle.least_walk.specs.Suffix.{IsLeastFrom, IsLeastCost, IsLeastNext, HasFewest}
+use Rattle.least_walk.specs.Inner.Suffix.{IsLeastFrom, IsLeastCost, IsLeastNext, HasFewest}
 use Rattle.least_walk.proofs.Going.{goes_below, total_cost-cons, total_cost-below}
 use Rattle.least_walk.proofs.Onward.{some_fewest, least_onward}
 

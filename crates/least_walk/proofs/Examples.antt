@@ -3,7 +3,7 @@ use Rattle.std.proofs.Common.{◌≡◌, ℕ, ◌+◌, ◌*◌, ◌≤◌, ◌�
 use Rattle.std.specs.List.{Contains, slice_get}
 use Rattle.least_walk.specs.LeastWalk.{Step, steps_of, step_count, total_cost, IsBefore, IsFewest, IsFewestPlace, IsFewestStep, walk_from}
 use Rattle.least_walk.specs.LeastWalk.IsBefore.{by_steps, by_cost, by_list}
-use Rattle.least_walk.specs.Suffix.{WalksOn}
+use Rattle.least_walk.specs.Inner.Suffix.{WalksOn}
 use Rattle.least_walk.specs.Windows.{IsWindow}
 use Rattle.least_walk.proofs.Walks.{walk_from_goes, goes_from_walk}
 

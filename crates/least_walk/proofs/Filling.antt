@@ -2,8 +2,8 @@
 use Rattle.std.proofs.Common.{ℕ, ◌+◌, ◌<◌, ◌≤◌, List, length, sym, subst, set, get_or, get_or-set_same, inl, inr, arith}
 use Rattle.std.proofs.lemmas.List.{get_or-set_other}
 use Rattle.std.proofs.lemmas.Bool.{cases_eq}
-use Rattle.least_walk.specs.Suffix.{HasCosts, HasNexts, IsLeastCost, IsLeastNext}
-use Rattle.least_walk.specs.Places.{IsPlace}
+use Rattle.least_walk.specs.Inner.Suffix.{HasCosts, HasNexts, IsLeastCost, IsLeastNext}
+use Rattle.least_walk.specs.Inner.Places.{IsPlace}
 
 -- what holds of each value from `i + 1` on, and of the new one at i, holds from i on
 pub filled : (Holds : ℕ → ℕ → Type 0) (values : List ℕ) (i v : ℕ) → i < length values → Holds i v

@@ -3,7 +3,7 @@ use Rattle.std.proofs.Common.{◌≡◌, ℕ, suc, ◌+◌, ◌*◌, ◌^◌, �
 use Rattle.std.proofs.Common.{refl, ap, arith}
 use Rattle.std.proofs.lemmas.List.Sums.{sum_by-cons}
 use Rattle.least_walk.specs.LeastWalk.{Step, steps_from, total_cost}
-use Rattle.least_walk.specs.Suffix.{IsFewestFrom, WalksOn}
+use Rattle.least_walk.specs.Inner.Suffix.{IsFewestFrom, WalksOn}
 
 -- each further index is one step
 pub length-steps_from : (i : ℕ) (rest : List ℕ) → length (steps_from i rest) ≡ length rest

@@ -2,8 +2,8 @@
 use Rattle.std.proofs.Common.{◌≡◌, ℕ, suc, ◌+◌, ◌<◌, ◌≤◌, ◌⊎◌, ◌↔◌, ◌≢◌, Bool, true, false, List, length, sym, ◌∙◌, subst, refl, set, get_or-set_same, inl, inr, arith}
 use Rattle.std.proofs.lemmas.List.{get_or-set_other, length-set}
 use Rattle.std.proofs.lemmas.Bool.{cases_eq, false≢true}
-use Rattle.least_walk.specs.Suffix.{HasFewest}
-use Rattle.least_walk.specs.Places.{AreMarkedPlaces, AreUnmarked, HasMarks, IsMarked, IsPlace, KeepsToFewest, MarksOnward}
+use Rattle.least_walk.specs.Inner.Suffix.{HasFewest}
+use Rattle.least_walk.specs.Inner.Places.{AreMarkedPlaces, AreUnmarked, HasMarks, IsMarked, IsPlace, KeepsToFewest, MarksOnward}
 use Rattle.least_walk.proofs.Places.{all_reached, place_at_start, place_onward, stands_after}
 
 -- an index is marked after a write where the value written says so, or where it was before

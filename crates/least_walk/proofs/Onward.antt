@@ -9,7 +9,7 @@ use Rattle.std.proofs.lemmas.Bool.{cases_lt}
 use Rattle.least_walk.specs.LeastWalk.{total_cost, IsBefore}
 use Rattle.least_walk.specs.LeastWalk.IsBefore.{by_steps, by_cost, by_list}
 use Rattle.least_walk.proofs.OneLeast.{same_from_neither}
-use Rattle.least_walk.specs.Suffix.{WalksOn, IsFewestFrom, IsLeastFrom, IsLeastCost, IsLeastNext, HasFewest}
+use Rattle.least_walk.specs.Inner.Suffix.{WalksOn, IsFewestFrom, IsLeastFrom, IsLeastCost, IsLeastNext, HasFewest}
 use Rattle.least_walk.proofs.Going.{goes_below, length-steps_from, total_cost-cons}
 use Rattle.least_walk.proofs.Before.{slice_cmp-cons, nat_cmp_above, not_before_itself, IsBefore-cons}
 

@@ -8,7 +8,7 @@ use Rattle.least_walk.specs.LeastWalk.{Step, steps_from, step_count, total_cost,
 use Rattle.least_walk.specs.LeastWalk.{IsWalk, IsLeast, IsBefore}
 use Rattle.least_walk.specs.LeastWalk.IsBefore.{by_steps}
 use Rattle.least_walk.proofs.OneLeast.{one_least}
-use Rattle.least_walk.specs.Suffix.{WalksOn, IsFewestFrom, IsLeastFrom, IsLeastCost}
+use Rattle.least_walk.specs.Inner.Suffix.{WalksOn, IsFewestFrom, IsLeastFrom, IsLeastCost}
 use Rattle.least_walk.proofs.Going.{length-steps_from}
 
 -- a walk has as many steps as starts of steps

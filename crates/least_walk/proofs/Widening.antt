@@ -5,10 +5,11 @@ use Rattle.std.specs.List.{slice_index}
 use Rattle.std.proofs.lemmas.List.{get_or-set_other}
 use Rattle.std.proofs.lemmas.Bool.{cases_eq}
 use Rattle.std.proofs.lemmas.Option.{get_or_from_slice_get, slice_get_within, slice_get-get_or}
-use Rattle.least_walk.specs.Suffix.{HasFewest}
+use Rattle.least_walk.specs.Inner.Suffix.{HasFewest}
 use Rattle.least_walk.specs.LeastWalk.{IsFewestPlace}
-use Rattle.least_walk.specs.Places.{IsMarked, HasMarks}
-use Rattle.least_walk.specs.Windows.{IsWindow, AreWindows, AreNone}
+use Rattle.least_walk.specs.Inner.Places.{IsMarked, HasMarks}
+use Rattle.least_walk.specs.Windows.{IsWindow, AreWindows}
+use Rattle.least_walk.specs.Inner.Windows.{AreNone}
 use Rattle.least_walk.specs.declared.window.Window.{Window}
 use Rattle.least_walk.proofs.Going.{length-steps_from}
 use Rattle.least_walk.proofs.Places.{stands_after, some_place, is_fewest}

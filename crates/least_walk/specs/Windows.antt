@@ -17,7 +17,3 @@ pub record AreWindows (size : ℕ) (is_allowed : ℕ → ℕ → Type 0) (window
   pub is_fewest : IsFewest size is_allowed walk
   pub count : length windows ≡ step_count walk + 1
   pub each : (c : ℕ) (w : Window) → slice_get windows c ≡ Some w → IsWindow size is_allowed c w
-
--- all windows are empty
-abbrev pub AreNone : ℕ → List Window → Type 0
-AreNone size windows = (c : ℕ) (w : Window) → slice_get windows c ≡ Some w → w ≡ record { least = size; greatest = 0 }

@@ -1,7 +1,7 @@
 //! The least walk.
 ghost use Rattle.std.specs.Prelude.{◌≡◌, ◌+◌, length, IfOk};
 ghost use Rattle.least_walk.specs.LeastWalk.{IsLeast, walk_from, step_count, total_cost};
-ghost use Rattle.least_walk.specs.Suffix.{HasFewest, HasCosts, HasNexts};
+ghost use Rattle.least_walk.specs.Inner.Suffix.{HasFewest, HasCosts, HasNexts};
 
 use crate::marks::fill_marks;
 use crate::steps::Steps;

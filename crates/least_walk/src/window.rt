@@ -1,8 +1,9 @@
 //! Where walks of fewest steps stand.
 ghost use Rattle.std.specs.Prelude.{◌≡◌, ◌+◌, length, min, max, slice_index, IfOk};
-ghost use Rattle.least_walk.specs.Suffix.{HasFewest};
-ghost use Rattle.least_walk.specs.Windows.{AreNone, AreWindows};
-ghost use Rattle.least_walk.specs.Places.{HasMarks};
+ghost use Rattle.least_walk.specs.Inner.Suffix.{HasFewest};
+ghost use Rattle.least_walk.specs.Inner.Windows.{AreNone};
+ghost use Rattle.least_walk.specs.Windows.{AreWindows};
+ghost use Rattle.least_walk.specs.Inner.Places.{HasMarks};
 
 use crate::marks::fill_marks;
 use crate::steps::Steps;

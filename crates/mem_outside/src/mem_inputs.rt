@@ -44,7 +44,7 @@ impl Model for MemInputs {
     ghost Value = { InputsState };
 
     ghost use Rattle.std.specs.Coded.{codes};
-    ghost use Rattle.pt_core.specs.Files.{contents_code};
+    ghost use Rattle.pt_core.specs.Inner.Files.{contents_code};
 
     ghost coded = { Prim.hlevel (codes, contents_code) };
 

@@ -1,7 +1,8 @@
 //! Outputs in memory, for tests: documents that can be looked at, and faults on demand.
 ghost use Rattle.std.specs.Prelude.{◌≡◌, ◌+◌, ◌-◌, ◌<◌, ◌≤◌, ◌↔◌, ◌++◌, ◌∷◌, [], Some, None, true, false, length, take, min, IsTrue, IfOk, IfSome, OnOk, OnErr, IsErr, slice_get};
 ghost use Rattle.pt_core.specs.Counts.{last_count, next_count};
-ghost use Rattle.pt_core.specs.Documents.{no_documents, grown, listed};
+ghost use Rattle.pt_core.specs.Inner.Documents.{no_documents, listed};
+ghost use Rattle.pt_core.specs.Documents.{grown};
 ghost use Rattle.mem_outside.specs.MemOutputs.{IsBeginDue, IsWriteDue, IsEndDue};
 
 use crate::shelf::Shelf;

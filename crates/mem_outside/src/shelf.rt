@@ -1,6 +1,7 @@
 //! Documents in memory for which the room was taken at the start.
 ghost use Rattle.std.specs.Prelude.{◌≡◌, ◌+◌, ◌-◌, ◌<◌, ◌≤◌, ◌++◌, ◌∷◌, [], None, Some, true, false, length, is_some, IfOk, IfSome, slice_get, slice_index_or, IsTrue, ◌↔◌};
-ghost use Rattle.pt_core.specs.Documents.{no_documents, grown, listed, as_list};
+ghost use Rattle.pt_core.specs.Inner.Documents.{no_documents, listed};
+ghost use Rattle.pt_core.specs.Documents.{grown, as_list};
 
 use crate::mem_sink::put;
 use pt_core::NoMemory;

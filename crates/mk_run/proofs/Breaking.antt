@@ -7,7 +7,8 @@ use Rattle.pt_core.specs.Documents.{Documents, with_bytes, with_end, with_open, 
 use Rattle.pt_core.specs.Files.{Files}
 use Rattle.pt_base.proofs.Writing.{with_bytes-with_bytes}
 use Rattle.bitmap_input.specs.GrayReader.{GraySource}
-use Rattle.bitmap_input.specs.Reading.{CountsBy, cause_of_fault}
+use Rattle.bitmap_input.specs.Inner.Reading.{CountsBy}
+use Rattle.bitmap_input.specs.Reading.{cause_of_fault}
 use Rattle.bitmap_input.specs.declared.gray_reader.GrayHead.{GrayHead}
 use Rattle.mkbitmap.specs.Box.{Gray}
 use Rattle.mkbitmap.specs.Enlarged.{need}
@@ -17,9 +18,11 @@ use Rattle.run_output.specs.Names.{dash}
 use Rattle.run_output.specs.Told.{Told}
 use Rattle.filter_words.specs.declared.setup.Setup.{Setup}
 use Rattle.mk_run.specs.Header.{PageHeader}
-use Rattle.mk_run.specs.Put.{BreaksDown, BreaksPage, BreaksRow, BreaksRows, GoesWell, PutsFront, PutsRow, PutsRows, need_of, rows_above}
+use Rattle.mk_run.specs.Inner.Put.{BreaksDown, BreaksPage, BreaksRow, BreaksRows, GoesWell, PutsRow, PutsRows}
+use Rattle.mk_run.specs.Put.{PutsFront, need_of, rows_above}
 use Rattle.mk_run.specs.Result.{result_head, result_row, result_rows, result_text, scan_of}
-use Rattle.mk_run.specs.Work.{GivesRows, HasFirstRows, IsAtWork, StopsBehind, header_of}
+use Rattle.mk_run.specs.Inner.Work.{GivesRows, IsAtWork, StopsBehind, header_of}
+use Rattle.mk_run.specs.Work.{HasFirstRows}
 use Rattle.mk_run.specs.declared.fault.Break.{Break}
 use Rattle.mk_run.specs.declared.fault.Break.TheVariants as breaks
 use Rattle.mk_run.proofs.Cutting.{ended_with, opened_with, scan_is, text_above}

@@ -8,7 +8,8 @@ use Rattle.bitmap_input.specs.Cut.Cut.{Takes, Stops}
 use Rattle.bitmap_input.specs.FaultText.{cause_text, kind_text}
 use Rattle.bitmap_input.specs.GrayReader.{GivesHead, GraySource, gray_at_start}
 use Rattle.bitmap_input.specs.GrayRows.{gray_header}
-use Rattle.bitmap_input.specs.Reading.{AtEnd, Cause, CountsBy, cause_of_fault}
+use Rattle.bitmap_input.specs.Reading.{AtEnd, Cause, cause_of_fault}
+use Rattle.bitmap_input.specs.Inner.Reading.{CountsBy}
 use Rattle.bitmap_input.specs.declared.fault.InFault.{InFault}
 use Rattle.bitmap_input.specs.declared.fault.InFault.TheVariants as fault
 use Rattle.pt_core.specs.declared.fault.OpenFault.{OpenFault}
@@ -25,11 +26,12 @@ use Rattle.small_program.specs.Outcome.{OnlySays}
 use Rattle.small_program.specs.declared.ending.Ending.TheVariants as ending
 use Rattle.small_program.proofs.Taking.{is_not_missing, is_there, one_input}
 use Rattle.filter_words.specs.declared.setup.Setup.{Setup}
-use Rattle.mk_run.specs.Head.{StandsBehindHead, StopsHead}
-use Rattle.mk_run.specs.Outcome.{IsPageRun, LeavesOpen, cause_ending, filter_name, page_says}
+use Rattle.mk_run.specs.Inner.Head.{StandsBehindHead, StopsHead}
+use Rattle.mk_run.specs.Outcome.{IsPageRun, LeavesOpen, filter_name, page_says}
+use Rattle.mk_run.specs.Inner.Outcome.{cause_ending}
 use Rattle.mk_run.specs.Result.{result_text}
 use Rattle.mk_run.specs.Rows.{fits_result, head_ending, page_ending}
-use Rattle.mk_run.specs.Work.{StopsBehind, header_of}
+use Rattle.mk_run.specs.Inner.Work.{StopsBehind, header_of}
 use Rattle.mk_run.proofs.Running.{not_unwritten, run_refused, run_unread, too_large}
 use Rattle.mk_run.proofs.Standing.{cut_stays}
 use Rattle.mk_run.proofs.Taking.{all_of_taken, taken_on}

@@ -21,12 +21,12 @@ use Rattle.small_program.specs.declared.ending.Ending.{Ending}
 use Rattle.small_program.specs.declared.ending.Ending.TheVariants as ending
 use Rattle.small_program.proofs.Taking.{is_not_missing, one_input}
 use Rattle.filter_words.specs.declared.setup.Setup.{Setup}
-use Rattle.mk_run.specs.Head.{StandsBehindHead}
+use Rattle.mk_run.specs.Inner.Head.{StandsBehindHead}
 use Rattle.mk_run.specs.Outcome.{IsPageRun, LeavesOpen, filter_name, page_says, rows_behind}
 use Rattle.mk_run.specs.Put.{IsCutAt}
 use Rattle.mk_run.specs.Result.{result_text}
 use Rattle.mk_run.specs.Rows.{LeavesRows, cut_row, fits_result, head_ending, page_ending, row_before, settled_rows, standing}
-use Rattle.mk_run.specs.Work.{GivesRows, StopsBehind, header_of}
+use Rattle.mk_run.specs.Inner.Work.{GivesRows, StopsBehind, header_of}
 use Rattle.mk_run.proofs.Cutting.{cut_of_more}
 use Rattle.mk_run.proofs.Giving.{header_stays}
 use Rattle.mk_run.proofs.Standing.{cut_stays, leaves_weaken, none_settled, settled_is, standing_is}

@@ -14,11 +14,12 @@ use Rattle.mkbitmap.specs.Packing.{padded}
 use Rattle.mkbitmap.proofs.Lifting.{need-is}
 use Rattle.mkbitmap.proofs.Order.{after-rises}
 use Rattle.filter_words.specs.declared.setup.Setup.{Setup}
-use Rattle.filter_words.specs.Asked.{CanFilter}
+use Rattle.filter_words.specs.Inner.Asked.{CanFilter}
 use Rattle.mk_run.specs.Put.{need_of}
 use Rattle.mk_run.specs.Rows.{fits_result}
 use Rattle.mk_run.specs.Result.{result_row, scan_of}
-use Rattle.mk_run.specs.Work.{FitsWork, HasFirstRows, IsAtWork, header_of}
+use Rattle.mk_run.specs.Inner.Work.{FitsWork, IsAtWork, header_of}
+use Rattle.mk_run.specs.Work.{HasFirstRows}
 use Rattle.mk_run.proofs.Cutting.{scan_is}
 use Rattle.mk_run.proofs.Giving.{fewer_rows, lowered_row}
 

@@ -18,42 +18,18 @@ pub mod Result
 --   page_ending: how a run ends by the bytes of standard input
 pub mod Rows
 -- What a run holds and has done, between rows of the result.
---   header_of: the header that a reader has read
---   MayRead: rows of an opened file may be read
---   GivesRows: a reader gave these rows
 --   HasFirstRows: a page of this header whose first rows are these
---   FitsWork: a reader and a filter that are at work on one page
---   IsAtWork: both have gone along these rows of the page
---   GoesAlong: both went along these rows more
---   IsGrayHead: a head as the reader gives it
---   HasRooms: rooms for a row of the page, for its mixed columns and for a row of the result
---   StopsRow: the next row isn't there, by this cause
---   StopsBehind: behind some rows the next one isn't there
 pub mod Work
 -- What of the document a run wrote, and why it broke off.
 --   rows_above: all rows of the result above one
 --   need_of: how many rows of the page a row of the result needs
---   PutsRows: the open document has all rows above one more
 --   PutsFront: it has those and a front of that one more
---   GoesWell: no call of a sink failed
---   BreaksDown: one call of a sink failed, and it was the last
---   PutsRow: a row of the result was written
---   CutsRow: a front of it was written
---   BreaksRow: writing a row broke off
---   BreaksRows: writing rows broke off
 --   IsCutAt: the document was cut off within its head or within a row
---   BreaksPage: writing the document broke off
---   StaysOpen: where a row of the page isn't there, the document stays open
 pub mod Put
--- What is known where the header of the page was read.
---   StopsHead: the header isn't there, by this cause
---   StandsBehindHead: the header stands at the front of what was taken of standard input
-pub mod Head
 -- What a run of the program has done.
 --   filter_name: the program's name
 --   filter_usage: how the program is used
 --   page_says: what is said of the page
---   cause_ending: how a run ends where a part of the page isn't there
 --   LeavesOpen: the document is left open
 --   HasHead: the header of a page whose result isn't too large stands at the front of bytes
 --   rows_behind: the rows of a page that stand behind its header
@@ -72,3 +48,5 @@ pub mod Outcome
 --   PageHeader: whether it is plain, its sides, and the sample that is white
 --   page_header: the header at the front of bytes
 pub mod Header
+-- What inner contracts alone speak of: no promise rests on it.
+pub mod Inner

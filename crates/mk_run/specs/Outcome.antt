@@ -8,10 +8,7 @@ use Rattle.bitmap_input.specs.Cut.{Kind, is_by_end}
 use Rattle.bitmap_input.specs.Cut.Ending.{Refused}
 use Rattle.bitmap_input.specs.Cut.Cut.{Stops, Takes}
 use Rattle.bitmap_input.specs.FaultText.{kind_text}
-use Rattle.mk_run.specs.Header.{page_header}
-use Rattle.bitmap_input.specs.Reading.{Cause}
-use Rattle.bitmap_input.specs.Reading.Cause.{Says, Device, Memory}
-use Rattle.mk_run.specs.Header.{PageHeader}
+use Rattle.mk_run.specs.Header.{page_header, PageHeader}
 use Rattle.run_output.specs.Messages.{file_line, file_page_line, program_line}
 use Rattle.run_output.specs.Names.{dash}
 use Rattle.run_output.specs.Told.{IsMessage, Sinks, Source}
@@ -38,12 +35,6 @@ filter_usage = codes "usage: mkbitmap [--box R] [--times N] [--level D]\n"
 -- what is said of the page
 abbrev pub page_says : List ℕ → List ℕ
 page_says text = file_page_line filter_name dash 1 text
-
--- how a run ends where a part of the page isn't there, by this cause
-abbrev pub cause_ending : Cause → Ending
-cause_ending (Says why) = ending.Refused
-cause_ending Device = ending.Unread
-cause_ending Memory = ending.OutOfMemory
 
 -- the document is left open with this text, no call of the outputs failed, and this is said
 pub record LeavesOpen (text message : List ℕ) (old new : Sinks) : Type 0 where

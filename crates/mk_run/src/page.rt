@@ -1,13 +1,14 @@
 //! Filtering the page on standard input.
 ghost use Rattle.std.specs.Prelude.{◌≡◌, ◌≤◌, false, true, length, IfErr, IfOk, OnOk};
-ghost use Rattle.bitmap_input.specs.Reading.{CountsBy, cause_of_fault};
+ghost use Rattle.bitmap_input.specs.Inner.Reading.{CountsBy};
+ghost use Rattle.bitmap_input.specs.Reading.{cause_of_fault};
 ghost use Rattle.bitmap_input.specs.GrayReader.{GivesHead, gray_at_start};
 ghost use Rattle.run_output.specs.Told.{Source, sinks_of, source_of};
-ghost use Rattle.filter_words.specs.Asked.{CanFilter};
-ghost use Rattle.mk_run.specs.Head.{StandsBehindHead, StopsHead};
+ghost use Rattle.filter_words.specs.Inner.Asked.{CanFilter};
+ghost use Rattle.mk_run.specs.Inner.Head.{StandsBehindHead, StopsHead};
 ghost use Rattle.mk_run.specs.Outcome.{IsPageRun};
 ghost use Rattle.mk_run.specs.Rows.{fits_result};
-ghost use Rattle.mk_run.specs.Work.{IsGrayHead, MayRead};
+ghost use Rattle.mk_run.specs.Inner.Work.{IsGrayHead, MayRead};
 ghost use Rattle.mkbitmap.specs.declared.limits.TheConstants.{GREATEST_TIMES};
 ghost use Rattle.pt_core.specs.declared.limits.TheConstants.{LONGEST_SIDE};
 

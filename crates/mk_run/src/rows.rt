@@ -1,9 +1,10 @@
 //! Reading rows of the page, as far as a row of the result needs them.
 ghost use Rattle.std.specs.Prelude.{◌≡◌, ℕ, ◌+◌, ◌*◌, ◌<◌, ◌≤◌, List, [], ◌∷◌, length, min, true, IfErr, OnOk};
-ghost use Rattle.bitmap_input.specs.Reading.{CountsBy, cause_of_fault};
+ghost use Rattle.bitmap_input.specs.Inner.Reading.{CountsBy};
+ghost use Rattle.bitmap_input.specs.Reading.{cause_of_fault};
 ghost use Rattle.mkbitmap.specs.Enlarged.{after_of, need};
 ghost use Rattle.mkbitmap.specs.Follows.{SameSetup};
-ghost use Rattle.mk_run.specs.Work.{GivesRows, GoesAlong, IsAtWork, StopsBehind, StopsRow, MayRead};
+ghost use Rattle.mk_run.specs.Inner.Work.{GivesRows, GoesAlong, IsAtWork, StopsBehind, StopsRow, MayRead};
 
 use bitmap_input::{GrayReader, InFault};
 use filter_words::Setup;

@@ -6,7 +6,8 @@ use Rattle.std.specs.Prelude.{cond}
 use Rattle.std.specs.List.{range_with_len}
 use Rattle.std.proofs.Math.Path.{fun_ext}
 use Rattle.bit_image.specs.PbmText.{byte_from, row_text}
-use Rattle.mkbitmap.specs.Packing.{bit, bits_value, byte_of, padded}
+use Rattle.mkbitmap.specs.Inner.Packing.{bit, bits_value, byte_of}
+use Rattle.mkbitmap.specs.Packing.{padded}
 
 bit-most : (b : Bool) → bit b ≤ 1
 bit-most true = omega arith

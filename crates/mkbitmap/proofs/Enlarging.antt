@@ -8,7 +8,8 @@ use Rattle.std.proofs.lemmas.Bool.{cases_lt, le-ltb}
 use Rattle.std.proofs.lemmas.List.{get_or_past}
 use Rattle.mkbitmap.specs.Box.{Gray, box_count, box_area, box_sum}
 use Rattle.mkbitmap.specs.Relief.{raised_by, raised_of}
-use Rattle.mkbitmap.specs.Enlarged.{after_of, distance_behind, before_within, mix, mixed_column, mixed_raised, dark}
+use Rattle.mkbitmap.specs.Enlarged.{after_of, distance_behind, before_within, mix, mixed_column, mixed_raised}
+use Rattle.mkbitmap.specs.Inner.Enlarged.{dark}
 use Rattle.mkbitmap.specs.Packing.{padded}
 use Rattle.mkbitmap.specs.Follows.{HasRoom, HoldsRows, Follows, AreRaised}
 use Rattle.mkbitmap.specs.declared.filter.Filter.{Filter}

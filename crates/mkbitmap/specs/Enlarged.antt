@@ -1,6 +1,6 @@
 -- The page made larger: between the centres of four pixels their reliefs are mixed, each the more the
 -- nearer it is.
-use Rattle.std.specs.Prelude.{ℕ, List, get_or, ◌+◌, ◌-◌, ◌*◌, ◌/◌, ◌%◌, min, ℤ, pos, negsuc, ◌+ℤ◌, ◌-ℤ◌, ◌*ℤ◌, Bool, int_le, nat_le}
+use Rattle.std.specs.Prelude.{ℕ, ◌+◌, ◌-◌, ◌*◌, ◌/◌, ◌%◌, min, ℤ, pos, negsuc, ◌+ℤ◌, ◌-ℤ◌, ◌*ℤ◌, Bool, int_le}
 use Rattle.pt_core.specs.Floor.{floor_of}
 use Rattle.mkbitmap.specs.Box.{Gray}
 use Rattle.mkbitmap.specs.Relief.{relief_of, raised_of}
@@ -82,8 +82,3 @@ mixed_raised page radius times X Y =
 -- the greatest mixture, raised, of a black pixel
 abbrev pub dark_limit : ℕ → ℕ → ℕ → ℕ
 dark_limit maxval times level = (1024 * level + 512000000) * (maxval * (times * times)) / 1000000
-
--- whether the pixel of a row is black by the row's mixed columns
-abbrev pub dark : List ℕ → ℕ → ℕ → ℕ → Bool
-dark columns times limit X =
-    nat_le (mix (2 * times) (distance_behind times X) (get_or columns (after_of times X) 0) (get_or columns (after_of times X + 1) 0)) limit

@@ -1,8 +1,10 @@
 //! The rows of the larger page.
 ghost use Rattle.std.specs.Prelude.{◌≡◌, ℕ, ◌+◌, ◌-◌, ◌*◌, ◌/◌, ◌≤◌, ◌<◌, length, get_or, nat_le};
-ghost use Rattle.mkbitmap.specs.Enlarged.{before_within, mix, dark};
-ghost use Rattle.mkbitmap.specs.Packing.{bit, byte_of, padded};
-ghost use Rattle.mkbitmap.specs.Place.{IsPlaceOf};
+ghost use Rattle.mkbitmap.specs.Enlarged.{before_within, mix};
+ghost use Rattle.mkbitmap.specs.Inner.Enlarged.{dark};
+ghost use Rattle.mkbitmap.specs.Inner.Packing.{bit, byte_of};
+ghost use Rattle.mkbitmap.specs.Packing.{padded};
+ghost use Rattle.mkbitmap.specs.Inner.Place.{IsPlaceOf};
 ghost use Rattle.mkbitmap.specs.declared.limits.TheConstants.{GREATEST_RELIEF, GREATEST_TIMES};
 ghost use Rattle.pt_core.specs.declared.limits.TheConstants.{LONGEST_SIDE};
 ghost use Rattle.bit_image.specs.PbmText.{row_text};

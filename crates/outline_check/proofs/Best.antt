@@ -8,7 +8,7 @@ use Rattle.std.specs.declared.cmp.Ordering.TheVariants.{Less, Greater}
 use Rattle.std.proofs.lemmas.List.Elements.{All-head, All-tail}
 use Rattle.least_walk.specs.LeastWalk.{Step, steps_from, total_cost, walk_from, IsBefore, IsLeast}
 use Rattle.least_walk.specs.LeastWalk.IsBefore.{by_steps, by_cost, by_list}
-use Rattle.least_walk.specs.Suffix.{IsLeastFrom, WalksOn}
+use Rattle.least_walk.specs.Inner.Suffix.{IsLeastFrom, WalksOn}
 use Rattle.least_walk.proofs.Before.{slice_cmp-cons, nat_cmp_above}
 use Rattle.least_walk.proofs.Going.{length-steps_from, total_cost-cons}
 use Rattle.least_walk.proofs.Walks.{least_from_goes}

@@ -2,9 +2,9 @@
 use Rattle.std.proofs.Common.{◌≡◌, ℕ, ◌-◌, ◌^◌, List, ◌++◌, length, refl, sym, ◌∙◌, codes, flat_map, arith}
 use Rattle.std.specs.Prelude.{decimal}
 use Rattle.pt_core.specs.declared.limits.TheConstants.{LONGEST_SIDE}
-use Rattle.list_reader.specs.Numbers.{IsNumeral}
+use Rattle.list_reader.specs.Inner.Numbers.{IsNumeral}
 use Rattle.list_reader.proofs.Runs.{one_number}
-use Rattle.outline_check.specs.Heads.{IsHead}
+use Rattle.outline_check.specs.Inner.Heads.{IsHead}
 use Rattle.outline_check.specs.ProofsText.{Certified, certified_text}
 use Rattle.outline_check.specs.Texts.{IsProofs}
 use Rattle.outline_check.proofs.GroupReading.{cancel}

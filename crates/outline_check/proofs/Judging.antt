@@ -11,11 +11,12 @@ use Rattle.std.specs.Prelude.{decimal}
 use Rattle.pt_core.specs.OnPage.{AreOnPage}
 use Rattle.pt_core.specs.ClosedWalk.{origin}
 use Rattle.pt_core.specs.declared.limits.TheConstants.{LONGEST_SIDE}
-use Rattle.outline_check.specs.Groups.{IsGroup}
-use Rattle.outline_check.specs.Heads.{IsHead}
+use Rattle.outline_check.specs.Inner.Groups.{IsGroup}
+use Rattle.outline_check.specs.Inner.Heads.{IsHead}
 use Rattle.outline_check.specs.ProofsText.{Certified, certified_text}
 use Rattle.outline_check.specs.Texts.{AreInRanges, IsProofs}
-use Rattle.outline_check.specs.Verdicts.{IsGood, IsFirstBad, IsJudged, no_certified}
+use Rattle.outline_check.specs.Verdicts.{IsGood, IsFirstBad, no_certified}
+use Rattle.outline_check.specs.Inner.Verdicts.{IsJudged}
 use Rattle.outline_check.proofs.GroupReading.{one_group}
 use Rattle.outline_check.proofs.HeadReading.{head_of, one_head}
 

@@ -7,7 +7,8 @@ use Rattle.pt_core.specs.declared.polygon.Polygon.{Polygon}
 use Rattle.pt_core.specs.declared.trace.Trace.{Trace}
 use Rattle.outline_check.specs.declared.label.Label.{Label}
 use Rattle.outline_check.specs.Certificate.{AreRightLabels}
-use Rattle.outline_check.specs.Printed.{proofs_head, IsPrinted, IsPrintedPath, AreCertified}
+use Rattle.outline_check.specs.Inner.Printed.{proofs_head, IsPrintedPath}
+use Rattle.outline_check.specs.Printed.{IsPrinted, AreCertified}
 use Rattle.outline_check.specs.ProofsText.{Certified, certified_text}
 
 -- one more path

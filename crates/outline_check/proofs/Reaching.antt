@@ -3,7 +3,7 @@ use Rattle.std.proofs.Common.{ℕ, List, arith}
 use Rattle.outline_check.specs.declared.label.Label.{Label}
 use Rattle.outline_check.specs.Labels.{LeadsTo, AreRight, LeadsFirst, label_at}
 use Rattle.outline_check.specs.Leading.{LeadFirst}
-use Rattle.outline_check.specs.Known.{AreRightDownTo}
+use Rattle.outline_check.specs.Inner.Known.{AreRightDownTo}
 
 -- two ways to say which steps are allowed
 module _ (is_allowed may : ℕ → ℕ → Type 0) (so : (i j : ℕ) → is_allowed i j → may i j) (back : (i j : ℕ) → may i j → is_allowed i j)

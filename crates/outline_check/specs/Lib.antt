@@ -15,13 +15,6 @@ pub mod Leading
 --   AreRightLabels: the right label for each point of a path, and for the end
 --   IsCertificate: the labels are right, and the polygon's segments follow them
 pub mod Certificate
--- Labels while they are made, or checked, from the end down.
---   AreRightDownTo: the labels from an index on are right; so they fall, and none is large
---   IsWindowBegin: the first point after i with as few segments left as the farthest that a segment from i reaches
-pub mod Known
--- Labels with the points that they come from.
---   onward_by: the label by the segment from point i to point j
-pub mod Windows
 -- The text of a page's certificates.
 --   Certified: a path with its certificate
 --   label_text: a space, and then the count and the cost with a colon between
@@ -36,32 +29,15 @@ pub mod ProofsText
 --   AreInRanges: each line has an entry, and each entry is in its range
 --   IsProofs: the text tells of a page with these sides, and of these paths with their certificates
 pub mod Texts
--- The entries of a line: two numbers, or one, behind a space.
---   IsPair: a space, a number, a byte and another number stand at the front
---   IsEntry: the text of a value stands at the front, and no digit behind it
-pub mod Entries
--- Lines: the texts of values, and a line feed.
---   AreEntries: how the text of a value begins, and that it is the text of one value
---   IsEntryLine: the values stand at the front, and then a line feed and the rest
---   IsSomeLine: so they do, and there is one at least
-pub mod LineTexts
--- A path with its certificate in a text.
---   certified_of: the path and its certificate, without the place
---   IsGroup: the three lines stand at the front, and then the rest
-pub mod Groups
--- The first line of a certificates' text.
---   IsHead: the line stands at the front, and then the rest
-pub mod Heads
 -- What the checker says of a text.
 --   IsGood: the points are a closed walk, and the rest is the certificate of its best polygon
 --   no_certified: no path at all
 --   IsFirstBad: the path at a place is the first that isn't good
 --   IsVerdict: all paths are good; or the first that isn't has this number; or the text is none
---   IsJudged: of some paths none is bad, or this is the place of the first that is
 pub mod Verdicts
 -- The text that a page's certificates are written as.
---   proofs_head: the first line
---   IsPrintedPath: a path with its polygon and its right labels was appended
 --   AreCertified: the paths with their polygons and their right labels
 --   IsPrinted: the text is that of all paths
 pub mod Printed
+-- What inner contracts alone speak of: no promise rests on it.
+pub mod Inner

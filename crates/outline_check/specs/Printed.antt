@@ -1,23 +1,10 @@
 -- The text that a page's certificates are written as.
-use Rattle.std.specs.Prelude.{◌≡◌, ℕ, List, [], ◌∷◌, ◌++◌, codes, decimal}
-use Rattle.pt_core.specs.declared.point.Point.{Point}
+use Rattle.std.specs.Prelude.{◌≡◌, ℕ, List, [], ◌∷◌}
 use Rattle.pt_core.specs.declared.trace.Trace.{Trace}
 use Rattle.pt_core.specs.declared.path.Path.{Path}
 use Rattle.pt_core.specs.declared.polygon.Polygon.{Polygon}
-use Rattle.outline_check.specs.declared.label.Label.{Label}
 use Rattle.outline_check.specs.Certificate.{AreRightLabels}
-use Rattle.outline_check.specs.ProofsText.{Certified, certified_text, proofs_text}
-
--- the first line
-abbrev pub proofs_head : ℕ → ℕ → ℕ → List ℕ
-proofs_head width height count =
-    codes "proofs " ++ (decimal width ++ (codes " " ++ (decimal height ++ (codes " " ++ (decimal count ++ codes "\n")))))
-
--- a path with its polygon and its right labels was appended
-pub record IsPrintedPath (points : List Point) (at before after : List ℕ) : Type 0 where
-  pub labels : List Label
-  pub right : AreRightLabels points labels
-  pub is : after ≡ before ++ certified_text (record { points = points; at = at; labels = labels })
+use Rattle.outline_check.specs.ProofsText.{Certified, proofs_text}
 
 -- the paths with their polygons and their right labels
 abbrev pub AreCertified : List Path → List Polygon → List Certified → Type 0

@@ -1,5 +1,5 @@
 -- What the checker says of a text.
-use Rattle.std.specs.Prelude.{◌≡◌, ℕ, ◌+◌, ◌<◌, List, [], All, length, slice_index_or, take, Option, Some, None}
+use Rattle.std.specs.Prelude.{◌≡◌, ℕ, ◌+◌, ◌<◌, List, [], All, length, slice_index_or, take}
 use Rattle.pt_core.specs.ClosedWalk.{IsClosedWalk}
 use Rattle.outline_check.specs.Certificate.{IsCertificate}
 use Rattle.outline_check.specs.ProofsText.{Certified}
@@ -28,8 +28,3 @@ abbrev pub IsVerdict : List ℕ → Verdict → Type 0
 IsVerdict text (Right p) = (width height : ℕ) × (paths : List Certified) × IsProofs text width height paths × All IsGood paths × (length paths ≡ p)
 IsVerdict text (Wrong p) = (width height : ℕ) × (paths : List Certified) × (k : ℕ) × IsProofs text width height paths × IsFirstBad paths k × (k + 1 ≡ p)
 IsVerdict text BadProofs = (width height : ℕ) (paths : List Certified) → IsProofs text width height paths → ⊥
-
--- of some paths none is bad, or this is the place of the first that is
-abbrev pub IsJudged : List Certified → Option ℕ → Type 0
-IsJudged paths None = All IsGood paths
-IsJudged paths (Some k) = IsFirstBad paths k

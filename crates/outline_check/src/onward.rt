@@ -8,11 +8,11 @@
 //!     from . . . . [begin . . . last]    In the window one segment fewer is left than from here.
 //! ```
 ghost use Rattle.std.specs.Prelude.{◌≡◌, ℕ, ◌+◌, ◌<◌, ◌≤◌, length, slice_index};
-ghost use Rattle.polygon_optimal.specs.Lasts.{AreRising, IsUpToLast, LeadsOn};
+ghost use Rattle.polygon_optimal.specs.Inner.Lasts.{AreRising, IsUpToLast, LeadsOn};
 ghost use Rattle.polygon_optimal.specs.Polygon.{penalty_of};
 ghost use Rattle.outline_check.specs.Labels.{IsRight, label_at, label_by};
-ghost use Rattle.outline_check.specs.Known.{AreRightDownTo, IsWindowBegin};
-ghost use Rattle.outline_check.specs.Windows.{onward_by};
+ghost use Rattle.outline_check.specs.Inner.Known.{AreRightDownTo, IsWindowBegin};
+ghost use Rattle.outline_check.specs.Inner.Windows.{onward_by};
 
 use crate::label::Label;
 use crate::segments::Segments;

@@ -3,7 +3,8 @@ ghost use Rattle.std.specs.Prelude.{◌≡◌, ℕ, ◌++◌, List, All, codes, 
 ghost use Rattle.pt_core.specs.ClosedWalk.{IsClosedWalk};
 ghost use Rattle.pt_core.specs.OnPage.{AreOnPage};
 ghost use Rattle.outline_check.specs.Certificate.{AreRightLabels};
-ghost use Rattle.outline_check.specs.Printed.{IsPrinted, IsPrintedPath, proofs_head};
+ghost use Rattle.outline_check.specs.Printed.{IsPrinted};
+ghost use Rattle.outline_check.specs.Inner.Printed.{IsPrintedPath, proofs_head};
 ghost use Rattle.outline_check.specs.ProofsText.{label_text};
 
 use crate::label::Label;

@@ -6,15 +6,17 @@ use Rattle.std.proofs.lemmas.List.{append-nil, drop_all, drop_more}
 use Rattle.bit_image.specs.Page.{Page as Pixels}
 use Rattle.run_output.specs.Messages.{trailing_line}
 use Rattle.run_output.specs.declared.status.Status.TheVariants as status
-use Rattle.run_output.specs.Parts.{end_part, is_begun, page_part}
+use Rattle.run_output.specs.Parts.{end_part, page_part}
+use Rattle.run_output.specs.Inner.Parts.{is_begun}
 use Rattle.run_output.specs.declared.part.Binding.{Binding}
 use Rattle.run_output.specs.declared.part.Binding.TheVariants.{Apart, Together}
 use Rattle.page_batches.specs.Items.{Item, is_open_behind}
 use Rattle.page_batches.specs.Items.Item.{Note, Write}
 use Rattle.page_batches.specs.Outcome.{AreCarriedOut, IsUnwritten}
 use Rattle.run_output.specs.Told.{IsMessage, Sinks}
-use Rattle.page_batches.specs.Entries.{AreInOrder, held_by, items_by, pages_among}
-use Rattle.page_batches.specs.Held.{AreHeld, AreInTurn, Held, is_open_held, pages_held}
+use Rattle.page_batches.specs.Inner.Entries.{AreInOrder, held_by, items_by, pages_among}
+use Rattle.page_batches.specs.Held.{AreHeld, Held}
+use Rattle.page_batches.specs.Inner.Held.{AreInTurn, is_open_held, pages_held}
 use Rattle.page_batches.specs.Held.Held.{End, Message, Page}
 use Rattle.page_batches.specs.declared.batch.Entry.{Entry as Given}
 use Rattle.page_batches.specs.declared.batch.Entry.TheVariants as entry

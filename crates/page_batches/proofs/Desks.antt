@@ -1,7 +1,7 @@
 -- The desk, after one call and another.
 use Rattle.std.proofs.Common.{◌∙◌}
 use Rattle.pt_core.specs.declared.sink.Sink.{Ghosts as SinkGhosts}
-use Rattle.page_batches.specs.Desks.{Keeps}
+use Rattle.page_batches.specs.Inner.Desks.{Keeps}
 use Rattle.page_batches.specs.declared.desk.Desk.{Desk}
 use Rattle.page_batches.proofs.Counts.{never_falls_on}
 

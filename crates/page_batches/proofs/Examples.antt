@@ -1,12 +1,12 @@
 -- A file of two pages of 8 by 8 black pixels, whose pages are bound together or apart.
 use Rattle.std.proofs.Common.{◌≡◌, ℕ, true, false, None, Some, List, [], ◌∷◌, ◌++◌, refl, codes}
 use Rattle.std.specs.Fmt.{digits}
-use Rattle.pt_core.specs.Documents.{no_documents}
+use Rattle.pt_core.specs.Inner.Documents.{no_documents}
 use Rattle.run_output.specs.Messages.{trailing_line}
 use Rattle.run_output.specs.Names.{dash}
 use Rattle.run_output.specs.Parts.{page_part}
 use Rattle.run_output.specs.declared.part.Binding.TheVariants.{Apart, Together}
-use Rattle.page_batches.specs.Held.{end_held, is_open_held}
+use Rattle.page_batches.specs.Inner.Held.{end_held, is_open_held}
 use Rattle.page_batches.specs.Held.Held.{Message}
 use Rattle.page_batches.specs.Items.{Doc, Item, end_items, is_open_behind, notes, page_count, page_items, with_items}
 use Rattle.page_batches.specs.Items.Item.{Note, Stop, Write}

@@ -2,16 +2,19 @@
 use Rattle.std.proofs.Common.{◌≡◌, ◌<◌, ◌≤◌, inl, inr, Result, Ok, Err, IfErr, OnOk, ℕ, zero, suc, ◌+◌, ◌*◌, Bool, List, add-mul, one-mul, zero-mul, [], ◌∷◌, ◌++◌, map, refl, sym, ◌∙◌, ap, subst, append_assoc, arith}
 use Rattle.std.proofs.lemmas.List.{append-nil}
 use Rattle.bit_image.specs.Page.{Page as Pixels}
-use Rattle.run_output.specs.Parts.{end_part, is_begun, page_part}
+use Rattle.run_output.specs.Parts.{end_part, page_part}
+use Rattle.run_output.specs.Inner.Parts.{is_begun}
 use Rattle.run_output.specs.declared.part.Binding.{Binding}
 use Rattle.run_output.specs.declared.part.Binding.TheVariants.{Apart, Together}
 use Rattle.run_output.specs.declared.status.Status.{Status}
 use Rattle.run_output.specs.declared.status.Status.TheVariants as status
-use Rattle.page_batches.specs.Held.{AreHeld, AreInTurn, Held, Holds, HoldsMore, EndsHolding, LeavesBatch, Waits, end_held, is_open_held, pages_held}
+use Rattle.page_batches.specs.Held.{AreHeld, Held}
+use Rattle.page_batches.specs.Inner.Held.{AreInTurn, Holds, HoldsMore, EndsHolding, LeavesBatch, Waits, end_held, is_open_held, pages_held}
 use Rattle.page_batches.specs.Held.Held.{End, Message, Page}
 use Rattle.page_batches.specs.Items.{GoesOn, Item, end_items, page_count, pages_in}
 use Rattle.page_batches.specs.Items.Item.{Missing, Note, Stop, Write}
-use Rattle.page_batches.specs.Outcome.{AreCarriedOut, HasEnded, IsHalt, ended_with}
+use Rattle.page_batches.specs.Outcome.{AreCarriedOut, HasEnded}
+use Rattle.page_batches.specs.Inner.Outcome.{IsHalt, ended_with}
 use Rattle.run_output.specs.Told.{Sinks}
 use Rattle.page_batches.proofs.Carrying.{GoesOn-append, carried_on, ended_on, nothing_done}
 

@@ -1,10 +1,11 @@
 -- What is held begins and ends documents in turn, and more behind it.
 use Rattle.std.proofs.Common.{◌≡◌, ℕ, zero, suc, Bool, false, List, [], ◌∷◌, ◌++◌, map, refl, sym, ◌∙◌, ap, subst, arith}
 use Rattle.bit_image.specs.Page.{Page as Pixels}
-use Rattle.run_output.specs.Parts.{is_begun}
+use Rattle.run_output.specs.Inner.Parts.{is_begun}
 use Rattle.run_output.specs.declared.part.Binding.{Binding}
 use Rattle.run_output.specs.declared.part.Binding.TheVariants.{Apart, Together}
-use Rattle.page_batches.specs.Held.{AreHeld, AreInTurn, Held, Waits, end_held, is_open_held, pages_held}
+use Rattle.page_batches.specs.Held.{AreHeld, Held}
+use Rattle.page_batches.specs.Inner.Held.{AreInTurn, Waits, end_held, is_open_held, pages_held}
 use Rattle.page_batches.specs.Held.Held.{End, Message, Page}
 use Rattle.page_batches.specs.Items.{Item, is_open_behind}
 use Rattle.page_batches.proofs.Batching.{open_behind_page}

@@ -1,9 +1,9 @@
 -- What a run has done, against the items that it was to do.
-use Rattle.std.specs.Prelude.{◌≡◌, ℕ, ◌≤◌, ◌⊎◌, List, [], ◌∷◌, ◌++◌, length, take, Result, Ok, Err}
+use Rattle.std.specs.Prelude.{◌≡◌, ℕ, ◌≤◌, List, [], ◌∷◌, ◌++◌, length, take}
 use Rattle.pt_core.specs.Counts.{Rose}
 use Rattle.pt_core.specs.Failures.{after_err}
 use Rattle.run_output.specs.Messages.{not_written, out_of_memory}
-use Rattle.run_output.specs.Parts.{IsCutIn, Part, end_part}
+use Rattle.run_output.specs.Parts.{IsCutIn, Part}
 use Rattle.run_output.specs.Told.{IsMessage, Sinks, Told}
 use Rattle.run_output.specs.declared.status.Status.{Status}
 use Rattle.run_output.specs.declared.status.Status.TheVariants as status
@@ -67,23 +67,3 @@ HasEnded status.Unwritten items old new = IsUnwritten items old new
 HasEnded status.OutOfMemory items old new = IsOutOfMemory items old new
 HasEnded status.BadWords items old new = ⊥
 HasEnded status.Unread items old new = ⊥
-
--- how a call ended that was to write items: they are carried out, or a part of them isn't written
-abbrev pub EndsWriting : {E : Type 0} → Result Unit E → List Item → Sinks → Sinks → Type 0
-EndsWriting (Ok done) items old new = AreCarriedOut items [] old new
-EndsWriting (Err fault) items old new = IsUnwritten items old new
-
--- how a call ended that was to end the document of so many pages: that is done, and nothing is said; or its end isn't
--- written, and whatever was to be said then isn't either
-abbrev pub EndsDocument : {E : Type 0} → Result Unit E → List ℕ → ℕ → Sinks → Sinks → Type 0
-EndsDocument (Ok done) name pages old new = AreCarriedOut (Write (end_part name pages []) ∷ []) [] old new
-EndsDocument (Err fault) name pages old new = (notes : List (List ℕ)) → IsUnwritten (Write (end_part name pages notes) ∷ []) old new
-
--- how a call ended that answers how the run ends, where it does
-abbrev pub ended_with : Result Unit Status → Status
-ended_with (Ok done) = status.Done
-ended_with (Err s) = s
-
--- the run ends within items: a part isn't written, or memory runs out
-abbrev pub IsHalt : Status → Type 0
-IsHalt s = (s ≡ status.Unwritten) ⊎ (s ≡ status.OutOfMemory)

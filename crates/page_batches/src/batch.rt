@@ -3,13 +3,15 @@ ghost use Rattle.std.specs.Prelude.{◌≡◌, ◌+◌, ◌*◌, ◌≤◌, ◌<
 ghost use Rattle.run_output.specs.Messages.{trailing_line};
 ghost use Rattle.run_output.specs.Parts.{page_part};
 ghost use Rattle.run_output.specs.declared.status.Status.{Status};
-ghost use Rattle.page_batches.specs.Desks.{Keeps, sinks_at};
-ghost use Rattle.page_batches.specs.Entries.{AreInOrder, items_by, pages_among};
-ghost use Rattle.page_batches.specs.Held.{AreHeld, AreInTurn, EndsHolding, HoldsMore, LeavesBatch, Waits, end_held, end_notes, pages_held};
+ghost use Rattle.page_batches.specs.Inner.Desks.{Keeps, sinks_at};
+ghost use Rattle.page_batches.specs.Inner.Entries.{AreInOrder, items_by, pages_among};
+ghost use Rattle.page_batches.specs.Held.{AreHeld};
+ghost use Rattle.page_batches.specs.Inner.Held.{AreInTurn, EndsHolding, HoldsMore, LeavesBatch, Waits, end_held, end_notes, pages_held};
 ghost use Rattle.page_batches.specs.Held.Held.{End, Message, Page};
 ghost use Rattle.page_batches.specs.Items.{Item};
 ghost use Rattle.page_batches.specs.Items.Item.{Write};
-ghost use Rattle.page_batches.specs.Outcome.{EndsWriting, HasEnded, IsHalt, ended_with};
+ghost use Rattle.page_batches.specs.Inner.Outcome.{EndsWriting, IsHalt, ended_with};
+ghost use Rattle.page_batches.specs.Outcome.{HasEnded};
 
 use crate::desk::Desk;
 use crate::laws::held_items_are_one;
@@ -59,7 +61,7 @@ pub struct Batch {
 impl Model for Batch {
     ghost use Rattle.std.specs.Prelude.{◌≡◌, List, length};
     ghost use Rattle.page_batches.specs.Held.{Held};
-    ghost use Rattle.page_batches.specs.Entries.{held_by, pages_among};
+    ghost use Rattle.page_batches.specs.Inner.Entries.{held_by, pages_among};
 
     ghost Value = { List Held };
 

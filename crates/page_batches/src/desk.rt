@@ -1,11 +1,13 @@
 //! The outside that a run writes to.
 ghost use Rattle.std.specs.Prelude.{◌≡◌, ◌∷◌, [], false, true};
 ghost use Rattle.run_output.specs.Names.{dash};
-ghost use Rattle.run_output.specs.Parts.{is_begun, page_part};
+ghost use Rattle.run_output.specs.Inner.Parts.{is_begun};
+ghost use Rattle.run_output.specs.Parts.{page_part};
 ghost use Rattle.page_batches.specs.Items.{Doc};
 ghost use Rattle.page_batches.specs.Items.Item.{Write};
-ghost use Rattle.page_batches.specs.Outcome.{EndsDocument, EndsWriting, HasEnded};
-ghost use Rattle.page_batches.specs.Desks.{Keeps, sinks_at};
+ghost use Rattle.page_batches.specs.Inner.Outcome.{EndsDocument, EndsWriting};
+ghost use Rattle.page_batches.specs.Outcome.{HasEnded};
+ghost use Rattle.page_batches.specs.Inner.Desks.{Keeps, sinks_at};
 
 use pt_core::{Outputs, Sink, SinkFault};
 use run_output::{Binding, Status, say_not_written, write_end_part, write_page_part};

@@ -18,7 +18,7 @@ use Rattle.pt_base.specs.PolygonsText.{index_text, polygon_text, polygons_text}
 use Rattle.least_walk.specs.LeastWalk.{Step, steps_from}
 use Rattle.straight_paths.specs.Straight.{IsPossible}
 use Rattle.polygon_optimal.specs.Polygon.{penalty_of}
-use Rattle.polygon_optimal.specs.OnePenalty.{penalty_is}
+use Rattle.polygon_optimal.specs.Inner.OnePenalty.{penalty_is}
 use Rattle.polygon_optimal.proofs.Small.{possible_most, total_most}
 use Rattle.polygon_optimal.proofs.Vertices.{vertices_below}
 use Rattle.cyclic_optimal.specs.Cyclic.{IsCyclicPolygon, round_penalty}

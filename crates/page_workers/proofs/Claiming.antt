@@ -7,7 +7,7 @@ use lib.ListN.{get_elem?}
 use Rattle.page_workers.specs.declared.hand.Hand.{Hand}
 use Rattle.page_workers.specs.Numbers.{IsAbove}
 use Rattle.page_workers.specs.Draws.{Draws, AllDrawn, page_numbered}
-use Rattle.page_workers.specs.Rule.{IsDraw}
+use Rattle.page_workers.specs.Inner.Rule.{IsDraw}
 use Rattle.page_workers.specs.Seats.{Claimant, IsClaim}
 use Rattle.page_workers.proofs.Events.{no_page}
 

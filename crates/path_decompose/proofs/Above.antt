@@ -5,8 +5,9 @@ use Rattle.pt_core.specs.declared.path.Path.{Path}
 use Rattle.pt_core.specs.declared.policy.Policy.{Policy}
 use Rattle.bit_image.specs.Image.{Image, Fits}
 use Rattle.bit_image.specs.Page.{Page}
-use Rattle.path_decompose.specs.Decomposition.{above, inverted, is_above, IsNextPath, IsDecomposed}
-use Rattle.path_decompose.specs.Start.{IsStart}
+use Rattle.path_decompose.specs.Inner.Decomposition.{above, is_above}
+use Rattle.path_decompose.specs.Decomposition.{inverted, IsNextPath, IsDecomposed}
+use Rattle.path_decompose.specs.Inner.Start.{IsStart}
 use Rattle.path_decompose.proofs.Prefix.{IsDecomposedTo, decomposed_push, decomposed_at_end}
 
 -- some paths come one after another, then the page has become the image c, and these are those above the limit

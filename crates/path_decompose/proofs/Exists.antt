@@ -15,7 +15,7 @@ use Rattle.turn_policies.specs.Turn.{next}
 use Rattle.path_decompose.specs.Walk.{IsBoundaryWalk, first_edge, start_of}
 use Rattle.path_decompose.specs.Inside.{inside, black_count}
 use Rattle.path_decompose.specs.Decomposition.{sign_at, inverted, IsNextPath, IsDecomposed, IsDecomposition}
-use Rattle.path_decompose.specs.Start.{IsStart}
+use Rattle.path_decompose.specs.Inner.Start.{IsStart}
 use Rattle.path_decompose.proofs.Orbit.{nth_after, orbit, NoReturn}
 use Rattle.path_decompose.proofs.Steps.{part_short, part_round, no_return_more}
 use Rattle.path_decompose.proofs.Walked.{white_through}

@@ -7,7 +7,7 @@ use Rattle.pt_core.specs.declared.policy.Policy.{Policy}
 use Rattle.bit_image.specs.Image.{Image, IsWhite, Fits}
 use Rattle.bit_image.specs.Page.{Page}
 use Rattle.path_decompose.specs.Decomposition.{inverted, IsNextPath, IsDecomposed}
-use Rattle.path_decompose.specs.Start.{IsStart}
+use Rattle.path_decompose.specs.Inner.Start.{IsStart}
 use Rattle.path_decompose.proofs.Beyond.{white_off}
 use Rattle.path_decompose.proofs.NextPath.{fits_inverted}
 

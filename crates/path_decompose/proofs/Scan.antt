@@ -4,7 +4,7 @@ use Rattle.std.proofs.lemmas.Bool.{cases_order, false≢true, cases_lt, false_fr
 use Rattle.std.proofs.lemmas.Nat.{mul-le}
 use Rattle.bit_image.specs.Image.{Image, Fits, IsWhiteTo}
 use Rattle.bit_image.specs.FirstBlack.{IsFirstBlack, IsFirstBlackFrom}
-use Rattle.path_decompose.specs.Start.{IsWhiteThrough, IsStart}
+use Rattle.path_decompose.specs.Inner.Start.{IsWhiteThrough, IsStart}
 
 -- how many places of a page of this width a search has to look at, from the start of a path on
 abbrev pub places_left : ℕ → Option (ℕ × ℕ) → ℕ

@@ -1,10 +1,6 @@
 -- Where the points of a path lie, and the pixels inside.
-use Rattle.std.specs.Prelude.{ℕ, pos, ◌≤ℤ◌, All}
-use Rattle.pt_core.specs.ClosedWalk.{point_at, IsClosedWalk}
-use Rattle.pt_core.specs.declared.path.Path.{Path}
+use Rattle.std.specs.Prelude.{ℕ, pos, ◌≤ℤ◌}
 use Rattle.pt_core.specs.declared.point.Point.{Point}
-use Rattle.bit_image.specs.Image.{Fits}
-use Rattle.path_decompose.specs.Inside.{inside}
 
 -- the point is a corner of a pixel of a page of this width and height
 pub record IsCornerOf (width height : ℕ) (p : Point) : Type 0 where
@@ -12,11 +8,3 @@ pub record IsCornerOf (width height : ℕ) (p : Point) : Type 0 where
   pub to_right : p.x ≤ℤ pos width
   pub from_bottom : pos 0 ≤ℤ p.y
   pub to_top : p.y ≤ℤ pos height
-
--- a closed walk over the corners of a page of this width and height, that starts above row 0's lower sides, with
--- nothing inside that lies off the page
-pub record IsPathOn (width height : ℕ) (path : Path) : Type 0 where
-  pub closed : IsClosedWalk path.points
-  pub on_page : All (IsCornerOf width height) path.points
-  pub starts_above : pos 1 ≤ℤ (point_at path.points 0).y
-  pub inside_on_page : Fits (inside path.points) width height

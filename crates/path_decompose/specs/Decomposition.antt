@@ -1,6 +1,6 @@
 -- The decomposition of a page into paths (Selinger, "Potrace", 2003, section 2.1.1), and the removal of
 -- speckles (section 2.1.3).
-use Rattle.std.specs.Prelude.{◌≡◌, ℕ, Bool, true, cond, List, [], ◌∷◌, filter, nat_lt, Option, None, Some}
+use Rattle.std.specs.Prelude.{◌≡◌, ℕ, cond, List, [], ◌∷◌, filter, nat_lt}
 use Rattle.pt_core.specs.declared.point.Point.{Point}
 use Rattle.pt_core.specs.declared.path.Path.{Path}
 use Rattle.pt_core.specs.declared.path.Sign.{Sign}
@@ -15,10 +15,6 @@ use Rattle.path_decompose.specs.Inside.{inside, black_count}
 -- the sign of a path that starts at pixel (x, y): plus where the page is black there
 abbrev pub sign_at : Image → ℕ → ℕ → Sign
 sign_at page x y = cond (page x y) Plus Minus
-
--- the path of this sign, with so many pixels inside, through these points
-abbrev pub path_of : Sign → ℕ → List Point → Path
-path_of sign area points = record { sign = sign; area = area; points = points }
 
 -- the image with the pixels inside a path inverted
 abbrev pub inverted : Image → List Point → Image
@@ -48,16 +44,3 @@ IsDecomposition page policy paths = IsDecomposed page policy (image_of page) pat
 -- the paths that are no speckles: those with more than t pixels inside, in order
 abbrev pub kept : ℕ → List Path → List Path
 kept t paths = filter (λ path. nat_lt t path.area) paths
-
--- so many pixels are more than the limit, where there is one
-abbrev pub is_large : Option ℕ → ℕ → Bool
-is_large None area = true
-is_large (Some t) area = nat_lt t area
-
--- the path has more pixels inside than the limit
-abbrev pub is_above : Option ℕ → Path → Bool
-is_above limit path = is_large limit path.area
-
--- the paths above the limit, in order
-abbrev pub above : Option ℕ → List Path → List Path
-above limit paths = filter (is_above limit) paths

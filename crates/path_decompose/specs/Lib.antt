@@ -2,9 +2,7 @@
 --   Line: `upright x y` is the left side of pixel (x, y), and `level x y` is its lower side
 --   same_line: the two are one line
 --   is_edge: the line has a black pixel on one of its sides and a white one on the other
---   IsLineOn: the line is a side of a pixel of a page of this width and height
 --   is_in_row: the line is upright, in row y
---   place_of: the column and the row of an upright line
 pub mod Line
 -- The walk along the boundary edges of an image (Selinger, "Potrace", 2003, section 2.1.1).
 --   start_of: the corner where an edge begins
@@ -25,33 +23,18 @@ pub mod Walk
 pub mod Inside
 -- Where the points of a path lie, and the pixels inside.
 --   IsCornerOf: the point is a corner of a pixel of a page of this width and height
---   IsPathOn: a closed walk over the corners of a page of this width and height, that starts above row 0's lower sides
 pub mod Bounds
--- What is noted down of a walk.
---   upright_along: the line along which a step leaves corner (x, y), where it is upright
---   upright_of: the line that an edge runs along, where it is upright
---   column_if_up: the column x of a step that goes up
---   column_if_down: and of one that goes down
---   column_up: the column of an edge that goes up
---   column_down: the column of an edge that goes down
-pub mod Trail
--- The search for the pixel where the next path starts.
---   IsWhiteThrough: on a page of this width the rows above pixel (x, y) are white, and so is its own row up to it
---   IsStart: the first black pixel, or none where all is white
-pub mod Start
 -- The decomposition of a page into paths (Selinger, "Potrace", 2003, section 2.1.1).
 --   sign_at: the sign of a path that starts at pixel (x, y)
---   path_of: the path of this sign, with so many pixels inside, through these points
 --   inverted: the image with the pixels inside a path inverted
 --   IsNextPath: The path that comes next where the page has become the image b
 --   IsDecomposed: these paths come, one after another, where the page has become the image b
 --   IsDecomposition: the paths of a page under a policy
 --   kept: the paths that are no speckles
---   is_large: so many pixels are more than the limit, where there is one
---   is_above: the path has more pixels inside than the limit, where there is one
---   above: the paths above the limit, in order
 pub mod Decomposition
 -- What the paths of a page come to together.
 --   IsEvenOdd: a pixel is black exactly where it is inside an odd number of the paths
 --   IsEdgesOnce: the paths run once along each line between a black and a white pixel, and along no other line
 pub mod Sums
+-- What inner contracts alone speak of: no promise rests on it.
+pub mod Inner

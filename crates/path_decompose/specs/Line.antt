@@ -1,6 +1,6 @@
 -- Unit edges of the grid without a direction, each between two pixels (Selinger, "Potrace", 2003,
 -- section 2.1.1).
-use Rattle.std.specs.Prelude.{ℕ, suc, ◌<◌, ◌≤◌, Bool, false, ◌&&◌, nat_eq, Option, Some, None}
+use Rattle.std.specs.Prelude.{ℕ, suc, Bool, false, ◌&&◌, nat_eq}
 use Rattle.bit_image.specs.Image.{Image, south_west, differ}
 
 -- `upright x y` is the left side of pixel (x, y), and `level x y` is its lower side
@@ -19,17 +19,7 @@ abbrev pub is_edge : Image → Line → Bool
 is_edge b (upright x y) = differ (south_west b x (suc y)) (south_west b (suc x) (suc y))
 is_edge b (level x y) = differ (south_west b (suc x) y) (south_west b (suc x) (suc y))
 
--- the line is a side of a pixel of a page of this width and height
-abbrev pub IsLineOn : ℕ → ℕ → Line → Type 0
-IsLineOn width height (upright x y) = (x ≤ width) × (y < height)
-IsLineOn width height (level x y) = (x < width) × (y ≤ height)
-
 -- the line is upright, in row y
 abbrev pub is_in_row : ℕ → Line → Bool
 is_in_row y (upright u v) = nat_eq v y
 is_in_row y (level u v) = false
-
--- the column and the row of an upright line
-abbrev pub place_of : Line → Option (ℕ × ℕ)
-place_of (upright x y) = Some (x, y)
-place_of (level x y) = None

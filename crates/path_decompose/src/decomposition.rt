@@ -5,10 +5,12 @@ ghost use Rattle.pt_core.specs.declared.limits.TheConstants.{LONGEST_SIDE};
 ghost use Rattle.bit_image.specs.FirstBlack.{IsFirstBlack};
 ghost use Rattle.bit_image.specs.Image.{Fits};
 ghost use Rattle.bit_image.specs.Page.{SameSides, image_of};
-ghost use Rattle.path_decompose.specs.Bounds.{IsCornerOf, IsPathOn};
-ghost use Rattle.path_decompose.specs.Decomposition.{above, is_large, kept, path_of, sign_at, inverted, IsNextPath, IsDecomposition};
+ghost use Rattle.path_decompose.specs.Bounds.{IsCornerOf};
+ghost use Rattle.path_decompose.specs.Inner.Bounds.{IsPathOn};
+ghost use Rattle.path_decompose.specs.Inner.Decomposition.{above, is_large, path_of};
+ghost use Rattle.path_decompose.specs.Decomposition.{kept, sign_at, inverted, IsNextPath, IsDecomposition};
 ghost use Rattle.path_decompose.specs.Inside.{inside};
-ghost use Rattle.path_decompose.specs.Start.{IsWhiteThrough, IsStart};
+ghost use Rattle.path_decompose.specs.Inner.Start.{IsWhiteThrough, IsStart};
 ghost use Rattle.path_decompose.specs.Sums.{IsEvenOdd, IsEdgesOnce};
 ghost use Rattle.pt_core.specs.declared.path.Path.{Path};
 

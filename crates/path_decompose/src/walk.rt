@@ -6,7 +6,7 @@ ghost use Rattle.bit_image.specs.Page.{image_of};
 ghost use Rattle.pt_core.specs.declared.limits.TheConstants.{LONGEST_SIDE};
 ghost use Rattle.path_decompose.specs.declared.trail.Upright.{Upright};
 ghost use Rattle.path_decompose.specs.Inside.{is_odd, inside, black_count};
-ghost use Rattle.path_decompose.specs.Trail.{upright_of, column_up, column_down};
+ghost use Rattle.path_decompose.specs.Inner.Trail.{upright_of, column_up, column_down};
 ghost use Rattle.path_decompose.specs.Walk.{first_edge, start_of, IsBoundaryWalk};
 ghost use Rattle.turn_policies.specs.Boundary.{IsBoundary};
 ghost use Rattle.turn_policies.specs.Turn.{next};

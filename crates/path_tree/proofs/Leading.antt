@@ -8,8 +8,8 @@ use Rattle.std.proofs.lemmas.Bool.{cases_eq, cases_lt, false≢true}
 use Rattle.std.proofs.lemmas.List.{drop_all, length-set}
 use Rattle.std.proofs.lemmas.List.FromFn.{get_or-range_with_len, length-range_with_len}
 use Rattle.path_tree.specs.declared.starts.Start.{Start}
-use Rattle.path_tree.specs.Free.{AreFree, AreSkips, LeadPast, has_holder, no_start}
-use Rattle.path_tree.specs.Starts.{is_in_span, marked, marked_one}
+use Rattle.path_tree.specs.Inner.Free.{AreFree, AreSkips, LeadPast, has_holder, no_start}
+use Rattle.path_tree.specs.Inner.Starts.{is_in_span, marked, marked_one}
 use Rattle.path_tree.proofs.Marking.{and-false, below_low, from_high, marked-past, no_marking, within_both}
 
 -- a place that points farther on

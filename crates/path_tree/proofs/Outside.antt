@@ -15,8 +15,8 @@ use Rattle.path_decompose.proofs.Parity.{odd_by, is_odd-count}
 use Rattle.path_tree.specs.declared.bounds.Bounds.{Bounds}
 use Rattle.path_tree.specs.declared.starts.Start.{Start}
 use Rattle.path_tree.specs.declared.starts.TheConstants.{ROW}
-use Rattle.path_tree.specs.Candidates.{IsInBounds, is_candidate, is_held}
-use Rattle.path_tree.specs.Starts.{marked}
+use Rattle.path_tree.specs.Inner.Candidates.{IsInBounds, is_candidate, is_held}
+use Rattle.path_tree.specs.Inner.Starts.{marked}
 use Rattle.path_tree.proofs.Even.{even_rows}
 use Rattle.path_tree.proofs.Marking.{and-false, marked-none, no_marking}
 

@@ -1,7 +1,7 @@
 //! Between which columns and which rows a path lies.
 ghost use Rattle.std.specs.Prelude.{◌≤◌, All};
 ghost use Rattle.path_decompose.specs.Bounds.{IsCornerOf};
-ghost use Rattle.path_tree.specs.Candidates.{IsInBounds};
+ghost use Rattle.path_tree.specs.Inner.Candidates.{IsInBounds};
 ghost use Rattle.pt_core.specs.declared.point.Point.{Point};
 
 use pt_core::Point;

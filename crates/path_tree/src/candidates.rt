@@ -3,7 +3,7 @@ ghost use Rattle.std.specs.Prelude.{◌≡◌, ◌≤◌, ◌/◌, ◌%◌, fals
 ghost use Rattle.std.specs.List.Sorted.{IsNonDecreasingBy};
 ghost use Rattle.pt_core.specs.ClosedWalk.{IsClosedWalk};
 ghost use Rattle.path_decompose.specs.Bounds.{IsCornerOf};
-ghost use Rattle.path_tree.specs.Candidates.{is_candidate, is_held};
+ghost use Rattle.path_tree.specs.Inner.Candidates.{is_candidate, is_held};
 
 use crate::bounds::Bounds;
 use crate::marks::count_below;

@@ -1,7 +1,7 @@
 //! The starts whose paths have no holder yet.
 ghost use Rattle.std.specs.Prelude.{◌≡◌, ◌+◌, ◌<◌, ◌≤◌, ◌^◌, ℕ, Bool, true, IfOk, length};
 ghost use Rattle.std.specs.List.{range_with_len};
-ghost use Rattle.path_tree.specs.Free.{AreSkips, LeadPast};
+ghost use Rattle.path_tree.specs.Inner.Free.{AreSkips, LeadPast};
 
 use pt_core::NoMemory;
 use std::alloc::Global;

@@ -11,9 +11,10 @@ use Rattle.bit_image.specs.Image.{Image, differ, is_from, is_between}
 use Rattle.bit_image.specs.Page.{Page, image_of}
 use Rattle.path_decompose.specs.Bounds.{IsCornerOf}
 use Rattle.path_decompose.specs.Inside.{is_crossed, line_at, line_between}
-use Rattle.path_decompose.specs.Line.{Line, upright, level, place_of, IsLineOn}
+use Rattle.path_decompose.specs.Line.{Line, upright, level}
+use Rattle.path_decompose.specs.Inner.Line.{place_of, IsLineOn}
 use Rattle.path_decompose.proofs.Differ.{differ-false, differ_swap}
-use Rattle.point_fill.specs.Swept.{odd_below, swept, AreMarked}
+use Rattle.point_fill.specs.Inner.Swept.{odd_below, swept, AreMarked}
 
 pub odd_below-differ : (f g : ℕ → Bool) (n : ℕ) → odd_below (λ k. differ (f k) (g k)) n ≡ differ (odd_below f n) (odd_below g n)
 odd_below-differ f g zero = refl

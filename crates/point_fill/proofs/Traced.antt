@@ -13,10 +13,10 @@ use Rattle.bit_image.specs.FirstBlack.{IsFirstBlack}
 use Rattle.bit_image.specs.Page.{Page, IsPage, image_of, page_of}
 use Rattle.bit_image.proofs.Pages.{Fits-page, page_of-image_of, page_of-same}
 use Rattle.turn_policies.specs.Majority.{count_below, sum_below}
-use Rattle.path_decompose.specs.Bounds.{IsPathOn}
+use Rattle.path_decompose.specs.Inner.Bounds.{IsPathOn}
 use Rattle.path_decompose.specs.Decomposition.{inverted, kept, IsNextPath, IsDecomposed, IsDecomposition}
 use Rattle.path_decompose.specs.Inside.{inside, black_count}
-use Rattle.path_decompose.specs.Start.{IsWhiteThrough}
+use Rattle.path_decompose.specs.Inner.Start.{IsWhiteThrough}
 use Rattle.path_decompose.proofs.NextPath.{fits_inverted}
 use Rattle.path_decompose.proofs.Parity.{odd_by, is_odd-count}
 use Rattle.path_decompose.proofs.PathOn.{page_paths_on}

@@ -5,7 +5,7 @@ ghost use Rattle.pt_core.specs.declared.limits.TheConstants.{LONGEST_SIDE};
 ghost use Rattle.bit_image.specs.Page.{SameSides};
 ghost use Rattle.path_decompose.specs.Bounds.{IsCornerOf};
 ghost use Rattle.path_decompose.specs.Inside.{is_crossed, line_between};
-ghost use Rattle.point_fill.specs.Swept.{AreMarked};
+ghost use Rattle.point_fill.specs.Inner.Swept.{AreMarked};
 
 use bit_image::Bitmap;
 use path_decompose::upright_between;

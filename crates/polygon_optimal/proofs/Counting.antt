@@ -3,12 +3,12 @@ use Rattle.std.proofs.Common.{◌≡◌, ℕ, zero, suc, ◌+◌, ◌<◌, ◌�
 use Rattle.std.proofs.lemmas.List.{get_or-set_other}
 use Rattle.std.proofs.lemmas.Bool.{cases_eq, cases_lt}
 use Rattle.std.specs.Prelude.{slice_index}
-use Rattle.least_walk.specs.Suffix.{HasFewest, IsFewestFrom}
+use Rattle.least_walk.specs.Inner.Suffix.{HasFewest, IsFewestFrom}
 use Rattle.least_walk.proofs.Filling.{filled}
 use Rattle.least_walk.proofs.Going.{fewest_below}
 use Rattle.least_walk.proofs.Onward.{count_bound, fewest_onward, some_fewest}
-use Rattle.polygon_optimal.specs.Lasts.{AreRising, IsUpToLast, LeadsOn}
-use Rattle.polygon_optimal.specs.Search.{AreFalling}
+use Rattle.polygon_optimal.specs.Inner.Lasts.{AreRising, IsUpToLast, LeadsOn}
+use Rattle.polygon_optimal.specs.Inner.Search.{AreFalling}
 
 module _ (size : ℕ) (lasts : List ℕ) (leads : (i : ℕ) → i < size → LeadsOn size i (slice_index lasts i))
     (rising : AreRising size lasts) where

@@ -4,9 +4,9 @@ use Rattle.std.proofs.lemmas.Bool.{cases_lt}
 use Rattle.std.proofs.Math.ListN.{get_or-append}
 use Rattle.std.proofs.Math.Seq.{get_or-append_seam}
 use Rattle.std.specs.Prelude.{slice_index}
-use Rattle.least_walk.specs.Suffix.{HasFewest}
-use Rattle.polygon_optimal.specs.Lasts.{AreRising, IsUpToLast, LeadsOn}
-use Rattle.polygon_optimal.specs.Search.{AreFalling, AreFarthest}
+use Rattle.least_walk.specs.Inner.Suffix.{HasFewest}
+use Rattle.polygon_optimal.specs.Inner.Lasts.{AreRising, IsUpToLast, LeadsOn}
+use Rattle.polygon_optimal.specs.Inner.Search.{AreFalling, AreFarthest}
 use Rattle.polygon_optimal.proofs.Counting.{before_end, last_keeps}
 
 -- an index of a list, and the one that is appended

@@ -3,14 +3,14 @@ use Rattle.std.proofs.Common.{◌≡◌, ℕ, suc, ◌+◌, ◌*◌, ◌<◌, �
 use Rattle.std.proofs.lemmas.Bool.{cases_lt}
 use Rattle.std.specs.Prelude.{slice_index}
 use Rattle.least_walk.specs.LeastWalk.{total_cost}
-use Rattle.least_walk.specs.Suffix.{HasCosts, HasFewest, IsLeastCost, IsLeastNext, WalksOn}
-use Rattle.least_walk.specs.Places.{IsPlace}
+use Rattle.least_walk.specs.Inner.Suffix.{HasCosts, HasFewest, IsLeastCost, IsLeastNext, WalksOn}
+use Rattle.least_walk.specs.Inner.Places.{IsPlace}
 use Rattle.least_walk.proofs.Cheapest.{IsCheapest, cheapest_onward}
 use Rattle.least_walk.proofs.Going.{goes_below, total_cost-cons}
 use Rattle.least_walk.proofs.Places.{place_onward}
 use Rattle.polygon_optimal.specs.declared.search.Onward.{Onward}
-use Rattle.polygon_optimal.specs.Lasts.{AreRising, IsUpToLast, LeadsOn}
-use Rattle.polygon_optimal.specs.Search.{AreFalling, HasCheapest, IsBegin}
+use Rattle.polygon_optimal.specs.Inner.Lasts.{AreRising, IsUpToLast, LeadsOn}
+use Rattle.polygon_optimal.specs.Inner.Search.{AreFalling, HasCheapest, IsBegin}
 use Rattle.polygon_optimal.proofs.Counting.{last_keeps}
 
 -- segments that cost little each cost little together

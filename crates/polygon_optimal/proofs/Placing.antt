@@ -2,11 +2,11 @@
 use Rattle.std.proofs.Common.{◌≡◌, ℕ, zero, suc, ◌+◌, ◌-◌, ◌<◌, ◌≤◌, List, subst, inl, inr, arith}
 use Rattle.std.proofs.lemmas.Bool.{cases_lt}
 use Rattle.std.specs.Prelude.{slice_index}
-use Rattle.least_walk.specs.Suffix.{HasFewest}
-use Rattle.least_walk.specs.Places.{ComesBy, IsPlace}
+use Rattle.least_walk.specs.Inner.Suffix.{HasFewest}
+use Rattle.least_walk.specs.Inner.Places.{ComesBy, IsPlace}
 use Rattle.least_walk.proofs.Places.{all_reached, place_after, stands_after}
-use Rattle.polygon_optimal.specs.Lasts.{AreRising, IsUpToLast, LeadsOn}
-use Rattle.polygon_optimal.specs.Search.{AreFalling, AreFarthest}
+use Rattle.polygon_optimal.specs.Inner.Lasts.{AreRising, IsUpToLast, LeadsOn}
+use Rattle.polygon_optimal.specs.Inner.Search.{AreFalling, AreFarthest}
 use Rattle.polygon_optimal.proofs.Counting.{before_end, rises}
 
 module _ (size : ℕ) (lasts : List ℕ) (leads : (i : ℕ) → i < size → LeadsOn size i (slice_index lasts i))

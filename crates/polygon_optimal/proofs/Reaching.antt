@@ -10,7 +10,7 @@ use Rattle.straight_paths.specs.Straight.{IsPossible, IsFarthest}
 use Rattle.straight_paths.proofs.Far.{shorter_possible}
 use Rattle.least_walk.specs.LeastWalk.{IsWalk, IsLeast, walk_from}
 use Rattle.polygon_optimal.specs.Polygon.{IsSegment, IsBestPolygon, penalty_of}
-use Rattle.polygon_optimal.specs.Lasts.{IsLast, HasLasts, LeadsOn, IsUpToLast}
+use Rattle.polygon_optimal.specs.Inner.Lasts.{IsLast, HasLasts, LeadsOn, IsUpToLast}
 
 -- the longest segment has as many steps as are possible, up to the end of the path
 pub last_from_farthest : (points : List Point) (i far last : ℕ) → IsFarthest points i far → i < length points → 1 ≤ far

@@ -7,7 +7,7 @@ use Rattle.pt_core.specs.declared.point.Point.{Point}
 use Rattle.pt_core.specs.ClosedWalk.{point_at}
 use Rattle.straight_paths.specs.Straight.{IsPossible, IsStraight, path_from}
 use Rattle.straight_paths.proofs.Pieces.{rest_of, without_first}
-use Rattle.polygon_optimal.specs.Lasts.{HasLasts, AreRising}
+use Rattle.polygon_optimal.specs.Inner.Lasts.{HasLasts, AreRising}
 
 -- a possible segment stays so without its first step
 pub later_possible : (points : List Point) (i j : ℕ) → IsPossible points i j → i + 1 < j → IsPossible points (i + 1) j

@@ -2,8 +2,8 @@
 use Rattle.std.proofs.Common.{◌≡◌, ℕ, ◌+◌, ◌<◌, ◌≤◌, refl, ap, sym, subst, inl, inr, arith}
 use Rattle.std.proofs.lemmas.Bool.{cases_eq, cases_lt}
 use Rattle.polygon_optimal.specs.declared.search.Onward.{Onward}
-use Rattle.polygon_optimal.specs.Search.{HasCheapest, IsCheaperIn}
-use Rattle.polygon_optimal.specs.Search.IsCheaperIn.{found, none}
+use Rattle.polygon_optimal.specs.Inner.Search.{HasCheapest, IsCheaperIn}
+use Rattle.polygon_optimal.specs.Inner.Search.IsCheaperIn.{found, none}
 
 module _ (cost_by : ℕ → ℕ) where
   pub tried_none : (begin : ℕ) (best : Onward) → IsCheaperIn cost_by begin begin best best

@@ -4,12 +4,12 @@ use Rattle.std.proofs.lemmas.Bool.{cases_eq}
 use Rattle.std.proofs.lemmas.List.{get_or-set_other, length-replicate, length-set}
 use Rattle.std.specs.Prelude.{slice_index}
 use Rattle.pt_core.specs.declared.limits.TheConstants.{MOST_STEPS}
-use Rattle.least_walk.specs.Places.{IsPlace}
-use Rattle.least_walk.specs.Suffix.{HasCosts, IsLeastCost}
+use Rattle.least_walk.specs.Inner.Places.{IsPlace}
+use Rattle.least_walk.specs.Inner.Suffix.{HasCosts, IsLeastCost}
 use Rattle.least_walk.proofs.Filling.{costs_more}
 use Rattle.least_walk.proofs.Onward.{cost_at_end}
 use Rattle.polygon_optimal.specs.declared.search.Onward.{Onward}
-use Rattle.polygon_optimal.specs.Search.{HasCheapest, slot_of}
+use Rattle.polygon_optimal.specs.Inner.Search.{HasCheapest, slot_of}
 
 -- two points that a segment may lead between have slots of their own
 apart : (i k : ℕ) → i < k → k < i + (MOST_STEPS + 1) → ¬ (slot_of k ≡ slot_of i)

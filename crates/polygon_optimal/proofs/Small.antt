@@ -14,7 +14,7 @@ use Rattle.prefix_moments.specs.Sums.{IsPenalty, sum_of, spread_of, chord_cross_
 use Rattle.straight_paths.specs.Straight.{IsPossible}
 use Rattle.straight_paths.proofs.Along.{cross_most}
 use Rattle.least_walk.specs.LeastWalk.{Step, steps_from}
-use Rattle.polygon_optimal.specs.OnePenalty.{mean_most, penalty_is}
+use Rattle.polygon_optimal.specs.Inner.OnePenalty.{mean_most, penalty_is}
 use Rattle.polygon_optimal.specs.Polygon.{IsPolygon, IsSegment, penalty_of, total_penalty}
 
 -- how large the sum of the first numbers is at most

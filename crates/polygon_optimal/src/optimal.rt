@@ -2,7 +2,7 @@
 ghost use Rattle.std.specs.Prelude.{◌≡◌, IfOk};
 ghost use Rattle.pt_core.specs.ClosedWalk.{IsClosedWalk};
 ghost use Rattle.pt_core.specs.OnPage.{AreOnPage};
-ghost use Rattle.polygon_optimal.specs.Lasts.{HasLasts};
+ghost use Rattle.polygon_optimal.specs.Inner.Lasts.{HasLasts};
 ghost use Rattle.polygon_optimal.specs.Polygon.{IsBestPolygon, total_penalty};
 
 use crate::search::least_by_windows;

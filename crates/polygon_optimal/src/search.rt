@@ -12,10 +12,10 @@
 //! ```
 ghost use Rattle.std.specs.Prelude.{◌≡◌, ℕ, ◌+◌, ◌-◌, ◌^◌, ◌<◌, ◌≤◌, length, slice_index, IfOk};
 ghost use Rattle.least_walk.specs.LeastWalk.{IsLeast, walk_from, step_count, total_cost};
-ghost use Rattle.least_walk.specs.Suffix.{HasFewest, HasNexts, IsLeastCost};
-ghost use Rattle.polygon_optimal.specs.Lasts.{IsUpToLast};
+ghost use Rattle.least_walk.specs.Inner.Suffix.{HasFewest, HasNexts, IsLeastCost};
+ghost use Rattle.polygon_optimal.specs.Inner.Lasts.{IsUpToLast};
 ghost use Rattle.polygon_optimal.specs.Polygon.{penalty_of};
-ghost use Rattle.polygon_optimal.specs.Search.{AreFalling, AreFarthest, HasCheapest, HasSlots, IsBegin, IsCheaperIn, slot_of};
+ghost use Rattle.polygon_optimal.specs.Inner.Search.{AreFalling, AreFarthest, HasCheapest, HasSlots, IsBegin, IsCheaperIn, slot_of};
 
 use crate::segments::Segments;
 use least_walk::Walk;

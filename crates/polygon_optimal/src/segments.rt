@@ -4,7 +4,7 @@ ghost use Rattle.pt_core.specs.ClosedWalk.{IsClosedWalk};
 ghost use Rattle.pt_core.specs.OnPage.{AreOnPage};
 ghost use Rattle.prefix_moments.specs.Sums.{spread_of};
 ghost use Rattle.polygon_optimal.specs.Polygon.{penalty_of};
-ghost use Rattle.polygon_optimal.specs.Lasts.{AreRising, IsLast, HasLasts, LeadsOn, IsUpToLast};
+ghost use Rattle.polygon_optimal.specs.Inner.Lasts.{AreRising, IsLast, HasLasts, LeadsOn, IsUpToLast};
 
 use least_walk::Steps;
 use prefix_moments::Moments;
@@ -74,7 +74,7 @@ fn last_from(reach: &Reach, i: u32, size: u32) -> u32
 
 impl Steps for Segments<'_> {
     ghost use Rattle.std.proofs.Common.{arith};
-    ghost use Rattle.polygon_optimal.specs.OnePenalty.{penalty_most};
+    ghost use Rattle.polygon_optimal.specs.Inner.OnePenalty.{penalty_most};
 
     ghost size_of = { λ s. length s.moments.now };
 

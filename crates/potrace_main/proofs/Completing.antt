@@ -26,7 +26,8 @@ use Rattle.file_documents.proofs.Closing.{AreWhole-front, alone_end, carried_clo
 use Rattle.file_documents.proofs.Exists.{items_found}
 use Rattle.file_documents.proofs.Joining.{items_behind}
 use Rattle.potrace_main.proofs.Found.{demo_found}
-use Rattle.potrace_main.specs.Run.{AreItemsOf, BindsApart, EndsMissing, EndsRefused, FailureCount, IsComplete, IsMissing, IsOutcomeOf, IsRun, OutputsMove, manner_under, names_of}
+use Rattle.potrace_main.specs.Run.{AreItemsOf, BindsApart, EndsMissing, EndsRefused, FailureCount, IsComplete, IsMissing, IsOutcomeOf, manner_under, names_of}
+use Rattle.potrace_main.specs.Inner.Run.{IsRun, OutputsMove}
 use Rattle.potrace_main.specs.Usage.{help_text, version_text}
 
 -- what the tracer's law says: each page has a document, under settings under which one is written

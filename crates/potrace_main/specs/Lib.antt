@@ -2,7 +2,6 @@
 --   demo_line: the line of a trace whose document has so many bytes
 --   IsDemoLine: the line is that of a page's trace and document
 --   IsDemoText: the text is the lines of so many pages, in order
---   CanCount: what a line needs of the settings
 pub mod Line
 -- What the program tells of itself.
 --   help_text: how the program is used
@@ -18,11 +17,10 @@ pub mod Usage
 --   RefusesWords: words were refused
 --   FailureCount: what the calls of the outputs answered
 --   BindsApart: each page has a document of its own
---   OutputsMove: how the outputs moved
 --   EndsRefused: the last of the items is a refusal
 --   EndsMissing: the last of the items is a file that isn't there
 --   IsComplete: what the status is where no device failed, unless memory ran out
 --   IsOnePassOf: no more was read than the batch of a document that couldn't be written
---   IsRun: all that a run does that is asked for this
---   IsRunBy: all that a run does of these words
 pub mod Run
+-- What inner contracts alone speak of: no promise rests on it.
+pub mod Inner

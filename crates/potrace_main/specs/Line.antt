@@ -5,7 +5,6 @@ use Rattle.pt_core.specs.declared.settings.Settings.{Settings}
 use Rattle.pt_core.specs.declared.trace.Trace.{Trace}
 use Rattle.bit_image.specs.Page.{Page}
 use Rattle.page_trace.specs.Document.{IsDocument}
-use Rattle.pt_core.specs.Needs.{CanTrace, CanWrite}
 use Rattle.page_trace.specs.Trace.{IsTrace}
 use Rattle.demo_pages.specs.Picture.{pages_from}
 
@@ -31,8 +30,3 @@ pub record IsDemoText (pages : ℕ) (settings : Settings) (text : List ℕ) : Ty
   pub lines : List (List ℕ)
   pub each : AllZip (IsDemoLine settings) (pages_from pages pages) lines
   pub joined : text ≡ concat lines
-
--- what a line needs of the settings
-pub record CanCount (settings : Settings) : Type 0 where
-  pub traced : CanTrace settings
-  pub written : CanWrite settings

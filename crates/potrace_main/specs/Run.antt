@@ -1,9 +1,7 @@
 -- What the top call promises.
-use Rattle.std.specs.Prelude.{◌≡◌, ℕ, ◌*◌, ◌⊎◌, false, List, [], ◌∷◌, ◌++◌, Option}
-use Rattle.pt_core.specs.Counts.{Rose}
+use Rattle.std.specs.Prelude.{◌≡◌, ℕ, ◌*◌, ◌⊎◌, List, [], ◌∷◌, ◌++◌, Option}
 use Rattle.pt_core.specs.Failures.{Failures, after_err}
 use Rattle.pt_core.specs.Files.{Contents}
-use Rattle.pt_core.specs.declared.inputs.Inputs.{Ghosts as InputGhosts}
 use Rattle.pt_core.specs.declared.settings.Settings.{Settings}
 use Rattle.run_output.specs.Made.{no_past}
 use Rattle.run_output.specs.Messages.{bad_words, out_of_memory}
@@ -13,18 +11,16 @@ use Rattle.run_output.specs.Status.{code_of}
 use Rattle.run_output.specs.declared.part.Binding.TheVariants.{Apart}
 use Rattle.run_output.specs.declared.status.Status.{Status}
 use Rattle.run_output.specs.declared.status.Status.TheVariants as status
-use Rattle.command_asks.specs.Asked.{IsAsked}
 use Rattle.command_asks.specs.declared.ask.Ask.{Ask}
 use Rattle.command_asks.specs.declared.ask.Ask.TheVariants as asks
 use Rattle.page_batches.specs.Items.{Doc, GoesOn, Item}
 use Rattle.page_batches.specs.Items.Item.{Missing, Stop}
 use Rattle.page_batches.specs.Outcome.{AreCarriedOut, HasEnded}
-use Rattle.run_output.specs.Told.{Sinks, Source, source_of}
+use Rattle.run_output.specs.Told.{Sinks, Source}
 use Rattle.file_documents.specs.Items.{AreItems, IsAbsent, Nothing, told_contents}
 use Rattle.file_documents.specs.Manner.{Manner, manner_by}
 use Rattle.file_documents.specs.OnePass.{IsOnePass}
-use Rattle.file_documents.specs.Outcome.{IsOutcome, OpensFirst}
-use Rattle.file_documents.specs.Progress.{InputCount}
+use Rattle.file_documents.specs.Outcome.{IsOutcome}
 use Rattle.page_trace.specs.Document.{IsDocument}
 use Rattle.potrace_main.specs.Line.{IsDemoText}
 use Rattle.potrace_main.specs.Usage.{help_text, version_text}
@@ -83,13 +79,6 @@ BindsApart asks.Version = Unit {0}
 BindsApart (asks.Demo pages workers settings) = Unit {0}
 BindsApart (asks.Files names output workers settings) = binding_of settings.backend ≡ Apart
 
--- how the outputs moved: where a document couldn't be written their count of faults rose, and one call failed, the last
--- one; else no call failed, and the count stayed; and no document is open where this is so
-abbrev pub OutputsMove : Type 0 → Status → Sinks → Sinks → Type 0
-OutputsMove Closes status.Unwritten old new = Rose old.outs.faults new.outs.faults × (new.outs.failures ≡ after_err old.outs.failures)
-OutputsMove Closes s old new =
-    (new.outs.faults ≡ old.outs.faults) × (Closes → new.is_open ≡ false) × (new.outs.failures.count ≡ old.outs.failures.count)
-
 -- the last of the items is a refusal
 abbrev pub EndsRefused : List Item → Type 0
 EndsRefused items = (before : List Item) × (message : List ℕ) × (items ≡ before ++ Stop message ∷ [])
@@ -113,19 +102,3 @@ IsOnePassOf asks.Version source source_now old new = Unit {0}
 IsOnePassOf (asks.Demo pages workers settings) source source_now old new = Unit {0}
 IsOnePassOf (asks.Files names output workers settings) source source_now old new =
     IsOnePass (2 * workers) [] (told_contents source.files) (manner_under settings output) names no_past source source_now old new
-
--- all that a run does that is asked for this
-pub record IsRun (ask : Ask) (s : Status) (source source_now : Source) (old new : Sinks) : Type 0 where
-  pub outcome : IsOutcomeOf ask s source source_now old new
-  pub opened : OpensFirst (names_of ask) source source_now
-  pub input : InputCount s source.faults source_now.faults
-  pub one_pass : s ≡ status.Unwritten → IsOnePassOf ask source source_now old new
-
--- all that a run does of these words: what they ask for; or they ask for nothing, and that is said. And each count of
--- faults moved as the status says
-pub record IsRunBy {A : Type 0} (of_inputs : InputGhosts A) (words : List (List ℕ)) (s : Status) (inputs inputs_now : A) (old new : Sinks) : Type 0 where
-  pub ran : (ask : Ask) → IsAsked words ask → IsRun ask s (source_of of_inputs inputs) (source_of of_inputs inputs_now) old new
-  pub bad_words : s ≡ status.BadWords → (ask : Ask) → IsAsked words ask → ⊥
-  pub refused : ((ask : Ask) → IsAsked words ask → ⊥) → (inputs_now ≡ inputs) × RefusesWords s old new
-  pub input : InputCount s (of_inputs.faults inputs) (of_inputs.faults inputs_now)
-  pub output : OutputsMove ((ask : Ask) → IsAsked words ask → BindsApart ask) s old new

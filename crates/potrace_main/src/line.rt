@@ -20,7 +20,7 @@ pub(crate) struct LineJob {
 }
 
 impl Model for LineJob {
-    ghost use Rattle.potrace_main.specs.Line.{CanCount};
+    ghost use Rattle.potrace_main.specs.Inner.Line.{CanCount};
     ghost use Rattle.pt_core.specs.declared.settings.Settings.{Settings};
 
     ghost Value = { Settings };

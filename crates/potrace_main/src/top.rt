@@ -7,14 +7,15 @@ ghost use Rattle.run_output.specs.declared.status.Status.{Status};
 ghost use Rattle.potrace_main.specs.Line.{IsDemoText};
 ghost use Rattle.command_asks.specs.Asked.{CanBeDone, IsAsked};
 ghost use Rattle.command_asks.specs.declared.ask.Ask.{Ask};
-ghost use Rattle.page_batches.specs.Desks.{Keeps, sinks_at};
+ghost use Rattle.page_batches.specs.Inner.Desks.{Keeps, sinks_at};
 ghost use Rattle.page_batches.specs.Items.{Doc, Item};
 ghost use Rattle.page_batches.specs.Outcome.{HasEnded};
 ghost use Rattle.run_output.specs.Told.{sinks_of, source_of};
 ghost use Rattle.file_documents.specs.Items.{IsAbsent, told_contents};
 ghost use Rattle.file_documents.specs.Outcome.{LastEndsNear, OpensFirst};
 ghost use Rattle.file_documents.specs.Progress.{InputCount};
-ghost use Rattle.potrace_main.specs.Run.{AreItemsOf, BindsApart, FailureCount, IsCodeOf, IsComplete, IsMissing, IsOnePassOf, IsOutcomeOf, IsRun, IsRunBy, RefusesWords, names_of};
+ghost use Rattle.potrace_main.specs.Run.{AreItemsOf, BindsApart, FailureCount, IsCodeOf, IsComplete, IsMissing, IsOnePassOf, IsOutcomeOf, RefusesWords, names_of};
+ghost use Rattle.potrace_main.specs.Inner.Run.{IsRun, IsRunBy};
 
 use crate::demo::demo_text;
 use crate::job::DocumentJob;

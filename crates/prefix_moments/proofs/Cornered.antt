@@ -9,7 +9,7 @@ use Rattle.pt_core.specs.ClosedWalk.{point_at}
 use Rattle.pt_core.proofs.Terms.{num, plus, less, times, same_value}
 use Rattle.prefix_moments.specs.Sums.{sum_of, spread_of, chord_cross_of, rightward_of, above_of}
 use Rattle.prefix_moments.specs.declared.raw.Raw.{Raw}
-use Rattle.prefix_moments.specs.Table.{raw_of, spread_from}
+use Rattle.prefix_moments.specs.Inner.Table.{raw_of, spread_from}
 use Rattle.prefix_moments.proofs.Prefixes.{sum_same}
 
 -- one more point

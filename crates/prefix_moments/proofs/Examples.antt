@@ -2,7 +2,7 @@
 use Rattle.std.proofs.Common.{◌≡◌, ℕ, pos, negsuc, List, [], ◌∷◌, refl}
 use Rattle.pt_core.specs.declared.point.Point.{Point}
 use Rattle.prefix_moments.specs.Sums.{sums_of, chord_cross_of, spread_of}
-use Rattle.prefix_moments.specs.Table.{less_of, points_of, prefix_of}
+use Rattle.prefix_moments.specs.Inner.Table.{less_of, points_of, prefix_of}
 
 abbrev corner : ℕ → ℕ → Point
 corner x y = record { x = pos x; y = pos y }

@@ -9,7 +9,7 @@ use Rattle.pt_core.specs.OnPage.{AreOnPage}
 use Rattle.pt_core.proofs.Sizes.{product_most}
 use Rattle.pt_core.proofs.Terms.{num, plus, less, times, same_value}
 use Rattle.prefix_moments.specs.Sums.{sum_of, sum_over, sums_of, rightward_of, above_of, spread_of}
-use Rattle.prefix_moments.specs.Table.{spread_from}
+use Rattle.prefix_moments.specs.Inner.Table.{spread_from}
 use Rattle.prefix_moments.proofs.Rows.{spread_of_is}
 use Rattle.prefix_moments.proofs.Summing.{sum_most}
 

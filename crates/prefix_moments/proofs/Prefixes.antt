@@ -14,7 +14,7 @@ use Rattle.pt_core.specs.OnPage.{IsOnPage, AreOnPage}
 use Rattle.prefix_moments.specs.declared.prefix.Prefix.{Prefix}
 use Rattle.prefix_moments.specs.declared.raw.Raw.{Raw}
 use Rattle.prefix_moments.specs.Sums.{sum_of}
-use Rattle.prefix_moments.specs.Table.{raw_of, kept_of, prefix_of, both_of, less_of, no_prefix, IsTable, point_between, points_after, points_of}
+use Rattle.prefix_moments.specs.Inner.Table.{raw_of, kept_of, prefix_of, both_of, less_of, no_prefix, IsTable, point_between, points_after, points_of}
 use Rattle.prefix_moments.proofs.Summing.{split}
 use Rattle.prefix_moments.proofs.Rows.{raw_same, raw_most}
 

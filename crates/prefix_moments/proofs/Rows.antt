@@ -9,7 +9,7 @@ use Rattle.prefix_moments.specs.declared.raw.Raw.{Raw}
 use Rattle.prefix_moments.specs.declared.sums.Sums.{Sums}
 use Rattle.pt_core.specs.OnPage.{IsOnPage, AreOnPage}
 use Rattle.prefix_moments.specs.Sums.{sum_of, sums_of, rightward_of, above_of, spread_of}
-use Rattle.prefix_moments.specs.Table.{raw_of, IsRawOf, offsets_of, spread_by}
+use Rattle.prefix_moments.specs.Inner.Table.{raw_of, IsRawOf, offsets_of, spread_by}
 use Rattle.pt_core.proofs.Sizes.{product_most}
 use Rattle.prefix_moments.proofs.Summing.{sum_most, shifted, products_shifted, spread_is, squares_at_least}
 

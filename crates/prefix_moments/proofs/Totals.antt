@@ -14,7 +14,7 @@ use Rattle.pt_core.specs.declared.limits.TheConstants.{LONGEST_SIDE}
 use Rattle.prefix_moments.specs.declared.sums.Sums.{Sums}
 use Rattle.pt_core.specs.OnPage.{IsOnPage}
 use Rattle.prefix_moments.specs.Sums.{sums_of, spread_of, rightward_of, above_of}
-use Rattle.prefix_moments.specs.Table.{spread_by}
+use Rattle.prefix_moments.specs.Inner.Table.{spread_by}
 use Rattle.pt_core.proofs.Roots.{root_below}
 use Rattle.pt_core.proofs.Sizes.{back, long_back}
 use Rattle.prefix_moments.proofs.Rows.{total_is, spread_at_least}

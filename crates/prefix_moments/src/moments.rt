@@ -4,7 +4,7 @@ ghost use Rattle.pt_core.specs.ClosedWalk.{IsClosedWalk, point_at};
 ghost use Rattle.pt_core.specs.Root.{IsRoot};
 ghost use Rattle.pt_core.specs.OnPage.{AreOnPage, IsOnPage};
 ghost use Rattle.prefix_moments.specs.Sums.{sums_of, spread_of, IsPenalty};
-ghost use Rattle.prefix_moments.specs.Table.{raw_of, prefix_of, IsRawOf, IsTable, offsets_of};
+ghost use Rattle.prefix_moments.specs.Inner.Table.{raw_of, prefix_of, IsRawOf, IsTable, offsets_of};
 
 use crate::prefix::Prefix;
 use crate::raw::{Raw, moved, moved_products, spread};
@@ -23,7 +23,7 @@ pub struct Moments {
 impl Model for Moments {
     ghost use Rattle.std.specs.Prelude.{List};
     ghost use Rattle.pt_core.specs.declared.point.Point.{Point};
-    ghost use Rattle.prefix_moments.specs.Table.{IsTable, points_of};
+    ghost use Rattle.prefix_moments.specs.Inner.Table.{IsTable, points_of};
 
     ghost Value = { List Point };
 

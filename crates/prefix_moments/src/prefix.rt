@@ -1,7 +1,7 @@
 //! Sums over the points before one, as much of them as their differences need.
 ghost use Rattle.std.specs.Prelude.{◌≡◌, ◌+◌, ◌-◌, ◌*◌, ◌%◌, ◌<◌, ◌≤◌, ◌^◌, ℕ, pos, unsigned_abs};
 ghost use Rattle.pt_core.specs.OnPage.{IsOnPage};
-ghost use Rattle.prefix_moments.specs.Table.{no_prefix, both_of, less_of, point_between};
+ghost use Rattle.prefix_moments.specs.Inner.Table.{no_prefix, both_of, less_of, point_between};
 
 use crate::raw::Raw;
 use pt_core::{LONGEST_SIDE, Point};

@@ -1,7 +1,7 @@
 //! Sums of coordinates as they stand.
 ghost use Rattle.std.specs.Prelude.{◌≡◌, ◌+◌, ◌*◌, ◌<◌, ◌≤◌, ◌^◌, ℕ, ◌+ℤ◌, ◌-ℤ◌, ◌*ℤ◌, unsigned_abs, pos};
 ghost use Rattle.std.specs.Int.{int_wrap, w64};
-ghost use Rattle.prefix_moments.specs.Table.{spread_by, spread_from};
+ghost use Rattle.prefix_moments.specs.Inner.Table.{spread_by, spread_from};
 
 use pt_core::{LONGEST_SIDE, MOST_STEPS};
 

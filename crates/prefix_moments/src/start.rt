@@ -4,7 +4,7 @@ ghost use Rattle.pt_core.specs.ClosedWalk.{point_at};
 ghost use Rattle.pt_core.specs.OnPage.{IsOnPage};
 ghost use Rattle.pt_core.specs.Root.{IsRoot};
 ghost use Rattle.prefix_moments.specs.Sums.{spread_of, IsPenalty};
-ghost use Rattle.prefix_moments.specs.Table.{prefix_of};
+ghost use Rattle.prefix_moments.specs.Inner.Table.{prefix_of};
 
 use crate::moments::{Moments, between};
 use crate::prefix::Prefix;

@@ -18,7 +18,6 @@ pub mod Floor
 --   last_count: the greatest count
 --   next_count: the count after one more
 --   Rose: the count rose
---   GrewBy: the count grew by i
 pub mod Counts
 -- What the calls of a sink answered.
 --   Failures: how many calls failed, and whether the last call did
@@ -29,9 +28,7 @@ pub mod Failures
 -- The documents of a sink.
 --   Document: a document
 --   Documents: the whole documents, and the one that is still being written, if there is one
---   no_documents: no document at all
 --   as_list: the open document, if there is one, as a list
---   listed: all documents, the open one last
 --   grown: an open document that has these bytes too
 --   with_bytes: these bytes are appended to the open document
 --   with_open: a document of this name is open, with these bytes
@@ -42,7 +39,6 @@ pub mod Failures
 pub mod Documents
 -- The files of an input.
 --   Contents: from the bytes of a name to the bytes of the file
---   contents_code
 --   Opened: the opened file
 --   Files: all files, and the opened one, if there is one
 --   file_at: the file of this name just after it was opened
@@ -83,3 +79,5 @@ pub mod UnitText
 --   CanWrite: what a document needs of the settings
 --   IsOffered: pages can be read, and documents written, under the settings
 pub mod Needs
+-- What inner contracts alone speak of: no promise rests on it.
+pub mod Inner

@@ -5,7 +5,8 @@ use Rattle.std.specs.List.{sum_by}
 use Rattle.std.specs.Str.{bytes_eq}
 use Rattle.std.proofs.lemmas.List.Sums.{count_by-le-length, sum_by-append, sum_by-cons, sum_by-take-le}
 use Rattle.std.proofs.lemmas.Slice.Eq.{bytes_eq-Decides}
-use Rattle.run_output.specs.Made.{Past, documents_of, made_by}
+use Rattle.run_output.specs.Made.{Past}
+use Rattle.run_output.specs.Inner.Made.{documents_of, made_by}
 use Rattle.run_output.specs.Names.{count_of, document_name, made_with, next_name}
 use Rattle.run_output.specs.declared.made.FileMade.{FileMade}
 

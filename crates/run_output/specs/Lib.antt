@@ -35,8 +35,6 @@ pub mod Messages
 --   documents_before: how many documents of its file come before that of a page
 --   page_name: the name of the document of a page
 --   past_file: a file of so many pages more
---   made_by: the base names of the documents of these files
---   documents_of: how many documents of a file have this base name
 pub mod Made
 -- How a run ends, as a number.
 --   code_of: the exit status
@@ -51,7 +49,6 @@ pub mod Status
 --   is_first_page: whether a page behind so many of its file is the first one
 --   prolog_before: what stands before it
 --   binding_of: how the pages of a file are bound in a backend's documents
---   is_begun: whether a document of a file is open behind so many of its pages
 --   page_part: the part that is a page
 --   end_part: the part that ends a document of several pages
 --   pages_text: the texts of pages, one behind another
@@ -70,3 +67,5 @@ pub mod Parts
 --   sinks_of: what outputs and a sink for messages tell
 --   IsMessage: a message was said
 pub mod Told
+-- What inner contracts alone speak of: no promise rests on it.
+pub mod Inner

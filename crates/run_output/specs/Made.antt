@@ -1,7 +1,6 @@
 -- What a run made, file by file: documents, and their pages.
-use Rattle.std.specs.Prelude.{ℕ, zero, suc, ◌+◌, List, [], ◌∷◌, ◌++◌, replicate, string_bytes}
-use Rattle.run_output.specs.Names.{count_of, made_with, next_name}
-use Rattle.run_output.specs.declared.made.FileMade.{FileMade}
+use Rattle.std.specs.Prelude.{ℕ, zero, suc, ◌+◌, List, []}
+use Rattle.run_output.specs.Names.{made_with, next_name}
 use Rattle.run_output.specs.declared.part.Binding.{Binding}
 use Rattle.run_output.specs.declared.part.Binding.TheVariants as binding
 
@@ -42,12 +41,3 @@ page_name b base made pages = next_name base (made_with base (documents_before b
 -- what was made, and a file of so many pages more whose documents have this base name
 abbrev pub past_file : Binding → List ℕ → ℕ → Past → Past
 past_file b base pages past = past_with base (documents_in b pages) pages past
-
--- the base names of the documents of these files, the last one first
-abbrev pub made_by : List FileMade → List (List ℕ)
-made_by [] = []
-made_by (file ∷ files) = made_by files ++ replicate file.documents (string_bytes file.base)
-
--- how many documents of a file have this base name
-abbrev pub documents_of : List ℕ → FileMade → ℕ
-documents_of base file = count_of base (replicate file.documents (string_bytes file.base))

@@ -1,6 +1,6 @@
 -- Documents in parts: how pages become parts of them (PostScript Language Document Structuring Conventions 3.0:
 -- a prolog, the pages, a trailer), and what a part adds to the documents that are told.
-use Rattle.std.specs.Prelude.{◌≡◌, ◌≤◌, ◌⊎◌, ℕ, zero, suc, ◌+◌, Bool, true, false, not, List, [], ◌∷◌, ◌++◌, length, take, Option, codes, decimal}
+use Rattle.std.specs.Prelude.{◌≡◌, ◌≤◌, ◌⊎◌, ℕ, zero, suc, ◌+◌, Bool, true, false, List, [], ◌∷◌, ◌++◌, length, take, Option, codes, decimal}
 use Rattle.std.specs.List.{concat}
 use Rattle.pt_core.specs.Documents.{Documents, with_bytes, with_end, with_open}
 use Rattle.pt_core.specs.declared.settings.Backend.{Backend}
@@ -58,11 +58,6 @@ binding_of GeoJson = binding.Apart
 binding_of Points = binding.Apart
 binding_of Polygons = binding.Apart
 binding_of Proofs = binding.Apart
-
--- whether a document of a file is open behind so many of its pages
-abbrev pub is_begun : Binding → ℕ → Bool
-is_begun binding.Apart pages = false
-is_begun binding.Together pages = not (is_first_page pages)
 
 -- the part that is the page of this text, behind so many pages of its file
 abbrev pub page_part : Binding → List ℕ → ℕ → List ℕ → Part

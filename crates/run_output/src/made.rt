@@ -1,6 +1,7 @@
 //! What was made: how many documents of each base name, and how many pages these have.
 ghost use Rattle.std.specs.Prelude.{◌≡◌, ◌+◌, ◌≤◌, OnErr, OnOk, string_bytes};
-ghost use Rattle.run_output.specs.Made.{documents_of, most_pages, no_past, past_with};
+ghost use Rattle.run_output.specs.Inner.Made.{documents_of};
+ghost use Rattle.run_output.specs.Made.{most_pages, no_past, past_with};
 ghost use Rattle.run_output.specs.Names.{count_of};
 
 use pt_core::NoMemory;
@@ -39,7 +40,8 @@ pub struct Made {
 
 impl Model for Made {
     ghost use Rattle.std.specs.Prelude.{◌≤◌, length};
-    ghost use Rattle.run_output.specs.Made.{Past, made_by};
+    ghost use Rattle.run_output.specs.Made.{Past};
+    ghost use Rattle.run_output.specs.Inner.Made.{made_by};
 
     ghost Value = { Past };
 

@@ -6,7 +6,8 @@ ghost use Rattle.std.specs.Prelude.{◌≡◌, ◌≤◌, suc, [], true, false, 
 ghost use Rattle.pt_core.specs.Counts.{Rose};
 ghost use Rattle.pt_core.specs.Failures.{after_err};
 ghost use Rattle.run_output.specs.Made.{documents_before, documents_in};
-ghost use Rattle.run_output.specs.Parts.{IsCutIn, begun, binding_of, end_part, ended, is_begun, is_first_page, page_part, part_in_pieces, prolog_before, with_part};
+ghost use Rattle.run_output.specs.Parts.{IsCutIn, begun, binding_of, end_part, ended, is_first_page, page_part, part_in_pieces, prolog_before, with_part};
+ghost use Rattle.run_output.specs.Inner.Parts.{is_begun};
 ghost use Rattle.run_output.specs.declared.part.Binding.{Binding};
 
 use crate::pieces::write_pieces;

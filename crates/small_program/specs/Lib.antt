@@ -2,11 +2,7 @@
 --   exit_code: the exit status
 pub mod Ending
 -- What a program makes of its whole input.
---   reply_ending: how a run ends with a reply, where its document is written
---   reply_text: the document's text, or why the input is refused
 --   IsReply: the reply to an input: what the task makes of it, but that one that is too long is refused
---   stop_ending: how a run ends that stops at its input
---   stop_line: what it says
 pub mod Reply
 -- Standard input, as far as it was read.
 --   HasInput: standard input, where it is told, has these bytes
@@ -21,7 +17,8 @@ pub mod Input
 --   Writes: the document of this text is written whole, and nothing is said
 --   CutsOff: it is cut off, and that is said
 --   PutsText: a text is written, or its document is cut off
---   PutsReply: a reply is put out
 --   HasDone: what a run has done that ends so
 --   IsProgramRun: all that a run does that is given so many words and ends so
 pub mod Outcome
+-- What inner contracts alone speak of: no promise rests on it.
+pub mod Inner

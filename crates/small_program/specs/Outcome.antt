@@ -55,12 +55,6 @@ abbrev pub PutsText : List ℕ → Ending → List ℕ → Ending → Sinks → 
 PutsText program well text end old new =
     ((end ≡ well) × Writes text old new) ⊎ ((end ≡ ending.Unwritten) × CutsOff program text old new)
 
--- a reply was to be put out, which belongs to this ending and this text
-abbrev pub PutsReply : List ℕ → Ending → List ℕ → Ending → Sinks → Sinks → Type 0
-PutsReply program well text end old new =
-    (((well ≡ ending.Done) ⊎ (well ≡ ending.Wrong)) × PutsText program well text end old new)
-    ⊎ ((well ≡ ending.Refused) × (end ≡ ending.Refused) × OnlySays (file_line program dash text) old new)
-
 -- what a run has done that ends so: its reply belongs to the whole input
 abbrev pub HasDone : (List ℕ → Ending → List ℕ → Type 0) → List ℕ → Ending → Source → Source → Sinks → Sinks → Type 0
 HasDone makes program ending.Done source source_now old new =

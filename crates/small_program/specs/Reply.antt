@@ -2,40 +2,10 @@
 use Rattle.std.specs.Prelude.{◌≡◌, ℕ, ◌<◌, ◌≤◌, ◌⊎◌, List, length, codes}
 use Rattle.small_program.specs.declared.ending.Ending.{Ending}
 use Rattle.small_program.specs.declared.ending.Ending.TheVariants as ending
-use Rattle.run_output.specs.Messages.{file_line, program_line}
-use Rattle.run_output.specs.Names.{dash}
-use Rattle.small_program.specs.declared.input.InputStop.{InputStop}
-use Rattle.small_program.specs.declared.input.InputStop.TheVariants as stops
 use Rattle.small_program.specs.declared.input.TheConstants.{MOST_BYTES}
-use Rattle.small_program.specs.declared.task.Reply.{Reply}
-use Rattle.small_program.specs.declared.task.Reply.TheVariants as replies
-
--- how a run ends with this reply, where its document is written
-abbrev pub reply_ending : Reply → Ending
-reply_ending (replies.Right text) = ending.Done
-reply_ending (replies.Wrong text) = ending.Wrong
-reply_ending (replies.Refused message) = ending.Refused
-
--- the document's text, or why the input is refused
-abbrev pub reply_text : Reply → List ℕ
-reply_text (replies.Right text) = text.items
-reply_text (replies.Wrong text) = text.items
-reply_text (replies.Refused message) = message.now
 
 -- the reply to an input: what the task makes of it, but that a longer one than a program takes is refused
 abbrev pub IsReply : (List ℕ → Ending → List ℕ → Type 0) → List ℕ → Ending → List ℕ → Type 0
 IsReply makes bytes end text =
     ((length bytes ≤ MOST_BYTES) × makes bytes end text)
     ⊎ ((MOST_BYTES < length bytes) × (end ≡ ending.Refused) × (text ≡ codes "text too long"))
-
--- how a run ends that stops so at its input
-abbrev pub stop_ending : InputStop → Ending
-stop_ending stops.Unread = ending.Unread
-stop_ending stops.TooLong = ending.Refused
-stop_ending stops.OutOfMemory = ending.OutOfMemory
-
--- and what it says
-abbrev pub stop_line : List ℕ → InputStop → List ℕ
-stop_line program stops.Unread = file_line program dash (codes "read fault")
-stop_line program stops.TooLong = file_line program dash (codes "text too long")
-stop_line program stops.OutOfMemory = program_line program (codes "out of memory")

@@ -1,8 +1,9 @@
 //! All that a program does.
 ghost use Rattle.std.specs.Prelude.{◌≡◌, ℕ, false, length, true};
 ghost use Rattle.run_output.specs.Told.{IsMessage, sinks_of, source_of, told_of};
-ghost use Rattle.small_program.specs.Outcome.{IsProgramRun, PutsReply, PutsText};
-ghost use Rattle.small_program.specs.Reply.{reply_ending, reply_text, stop_ending, stop_line};
+ghost use Rattle.small_program.specs.Outcome.{IsProgramRun, PutsText};
+ghost use Rattle.small_program.specs.Inner.Outcome.{PutsReply};
+ghost use Rattle.small_program.specs.Inner.Reply.{reply_ending, reply_text, stop_ending, stop_line};
 
 use crate::ending::Ending;
 use crate::input::{InputStop, read_all};

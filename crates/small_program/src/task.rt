@@ -1,6 +1,6 @@
 //! What a program makes of its whole input.
 ghost use Rattle.std.specs.Prelude.{◌≡◌, ℕ, List, IfOk};
-ghost use Rattle.small_program.specs.Reply.{reply_ending, reply_text};
+ghost use Rattle.small_program.specs.Inner.Reply.{reply_ending, reply_text};
 ghost use Rattle.small_program.specs.declared.ending.Ending.{Ending};
 
 use pt_core::NoMemory;

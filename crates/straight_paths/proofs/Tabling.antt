@@ -2,13 +2,13 @@
 use Rattle.std.proofs.Common.{◌≡◌, ◌⊎◌, ℕ, suc, ◌+◌, ◌-◌, ◌*◌, ◌/◌, ◌%◌, ◌<◌, ◌≤◌, inl, inr, Option, None, Some, IfSome, length, get_or, sym, ◌∙◌, ap, subst, arith}
 use Rattle.std.proofs.lemmas.Bool.{cases_lt}
 use Rattle.pt_core.specs.declared.point.Point.{Point}
-use Rattle.straight_paths.specs.Codes.{IsCoded, coded_step}
+use Rattle.straight_paths.specs.Inner.Codes.{IsCoded, coded_step}
 use Rattle.straight_paths.specs.Corners.{step_from}
-use Rattle.straight_paths.specs.Cones.{IsSound}
-use Rattle.straight_paths.specs.Courses.{HasCourse, IsCourse, cone_of, no_course}
+use Rattle.straight_paths.specs.Inner.Cones.{IsSound}
+use Rattle.straight_paths.specs.Inner.Courses.{HasCourse, IsCourse, cone_of, no_course}
 use Rattle.straight_paths.specs.Straight.{IsStraight}
-use Rattle.straight_paths.specs.Tables.{IsWordTable, StandsFor, KeepsWords, LeadsToWord, count_at, course_at, digits_at}
-use Rattle.straight_paths.specs.Words.{IsStraightUpTo, TellsFront, TellsNext}
+use Rattle.straight_paths.specs.Inner.Tables.{IsWordTable, StandsFor, KeepsWords, LeadsToWord, count_at, course_at, digits_at}
+use Rattle.straight_paths.specs.Inner.Words.{IsStraightUpTo, TellsFront, TellsNext}
 use Rattle.straight_paths.specs.declared.course.Course.{Course}
 use Rattle.straight_paths.specs.declared.table.Table.{Table}
 use Rattle.straight_paths.proofs.Pieces.{none_is_straight, rest_of, shorter, without_first}

@@ -3,14 +3,14 @@ use Rattle.std.proofs.Common.{◌≡◌, ◌⊎◌, ℕ, zero, suc, ◌+◌, ◌
 use Rattle.std.proofs.lemmas.Bool.{cases_lt}
 use Rattle.pt_core.specs.ClosedWalk.{point_at}
 use Rattle.pt_core.specs.declared.point.Point.{Point}
-use Rattle.straight_paths.specs.Codes.{IsCoded, coded_step}
-use Rattle.straight_paths.specs.Cones.{IsClear}
+use Rattle.straight_paths.specs.Inner.Codes.{IsCoded, coded_step}
+use Rattle.straight_paths.specs.Inner.Cones.{IsClear}
 use Rattle.straight_paths.specs.Straight.{IsStraight, path_from, vector_of}
-use Rattle.straight_paths.specs.Strips.{IsStrip, StaysIn}
-use Rattle.straight_paths.specs.Sweeps.{IsEnd, IsEnough, IsSeen, IsTold, IsStraightBefore}
-use Rattle.straight_paths.specs.Tables.{StandsFor, KeepsWords, LeadsToWord, count_at, digits_at}
-use Rattle.straight_paths.specs.Tails.{IsAhead, IsStraightFor, IsTail, limit_of}
-use Rattle.straight_paths.specs.Words.{IsStraightUpTo, TellsNext}
+use Rattle.straight_paths.specs.Inner.Strips.{IsStrip, StaysIn}
+use Rattle.straight_paths.specs.Inner.Sweeps.{IsEnd, IsEnough, IsSeen, IsTold, IsStraightBefore}
+use Rattle.straight_paths.specs.Inner.Tables.{StandsFor, KeepsWords, LeadsToWord, count_at, digits_at}
+use Rattle.straight_paths.specs.Inner.Tails.{IsAhead, IsStraightFor, IsTail, limit_of}
+use Rattle.straight_paths.specs.Inner.Words.{IsStraightUpTo, TellsNext}
 use Rattle.straight_paths.specs.declared.strip.Strip.{Strip}
 use Rattle.straight_paths.specs.declared.sweep.Seen.{Seen}
 use Rattle.straight_paths.specs.declared.table.Table.{Table}

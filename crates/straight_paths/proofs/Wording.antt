@@ -3,13 +3,14 @@ use Rattle.std.proofs.Common.{◌≡◌, ◌↔◌, unsigned_abs, Bool, true, fa
 use Rattle.std.proofs.lemmas.Bool.{cases_eq, false≢true}
 use Rattle.std.proofs.lemmas.Int.{ints}
 use Rattle.pt_core.specs.declared.point.Point.{Point}
-use Rattle.straight_paths.specs.Codes.{beyond, coded_step}
-use Rattle.straight_paths.specs.Cones.{HoldsWay}
-use Rattle.straight_paths.specs.Corners.{GoesStraight, step_from}
-use Rattle.straight_paths.specs.Courses.{HasCourse, cone_of, wide_of}
+use Rattle.straight_paths.specs.Inner.Codes.{beyond, coded_step}
+use Rattle.straight_paths.specs.Inner.Cones.{HoldsWay}
+use Rattle.straight_paths.specs.Inner.Corners.{GoesStraight}
+use Rattle.straight_paths.specs.Corners.{step_from}
+use Rattle.straight_paths.specs.Inner.Courses.{HasCourse, cone_of, wide_of}
 use Rattle.straight_paths.specs.Straight.{IsNear, IsStraight, Takes, TakesAllFour}
-use Rattle.straight_paths.specs.Tails.{way_along}
-use Rattle.straight_paths.specs.Words.{AreTaken}
+use Rattle.straight_paths.specs.Inner.Tails.{way_along}
+use Rattle.straight_paths.specs.Inner.Words.{AreTaken}
 use Rattle.straight_paths.specs.declared.course.Course.{Course}
 use Rattle.straight_paths.specs.declared.vector.Vector.{Vector}
 use Rattle.straight_paths.proofs.Clear.{next_clear, next_holds}

@@ -1,10 +1,10 @@
 //! How far what is straight from each point reaches, by the walk taken backwards.
 ghost use Rattle.std.specs.Prelude.{◌≡◌, ◌⊎◌, ◌+◌, ◌<◌, ◌≤◌, length, IfOk};
-ghost use Rattle.straight_paths.specs.Cones.{IsClear, IsShort};
+ghost use Rattle.straight_paths.specs.Inner.Cones.{IsClear, IsShort};
 ghost use Rattle.straight_paths.specs.Straight.{path_from};
-ghost use Rattle.straight_paths.specs.Sweeps.{AreStraightFrom, IsEnough, IsSeen, IsSweep, IsTold};
-ghost use Rattle.straight_paths.specs.Tables.{IsWordTable};
-ghost use Rattle.straight_paths.specs.Tails.{AreStraight, last_of, limit_of};
+ghost use Rattle.straight_paths.specs.Inner.Sweeps.{AreStraightFrom, IsEnough, IsSeen, IsSweep, IsTold};
+ghost use Rattle.straight_paths.specs.Inner.Tables.{IsWordTable};
+ghost use Rattle.straight_paths.specs.Inner.Tails.{AreStraight, last_of, limit_of};
 
 use crate::first::clear_steps;
 use crate::sweep::{Seen, Sweep};

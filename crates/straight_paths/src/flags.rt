@@ -1,10 +1,10 @@
 //! Which of the four directions were taken.
 ghost use Rattle.std.specs.Prelude.{◌≡◌, ◌≢◌, ◌↔◌, ◌<◌, ◌+◌, ℕ, true, IsTrue};
 ghost use Rattle.pt_core.specs.declared.point.Point.{Point};
-ghost use Rattle.straight_paths.specs.Codes.{coded_step};
+ghost use Rattle.straight_paths.specs.Inner.Codes.{coded_step};
 ghost use Rattle.straight_paths.specs.Corners.{step_from};
 ghost use Rattle.straight_paths.specs.Straight.{TakesAllFour};
-ghost use Rattle.straight_paths.specs.Words.{AreTaken};
+ghost use Rattle.straight_paths.specs.Inner.Words.{AreTaken};
 
 /// Which of the four directions were taken.
 #[derive(Clone, Copy)]

@@ -16,7 +16,7 @@ pub struct Memo {
 }
 
 impl Model for Memo {
-    ghost use Rattle.straight_paths.specs.Tables.{IsWordTable};
+    ghost use Rattle.straight_paths.specs.Inner.Tables.{IsWordTable};
 
     ghost Value = { Unit };
 

@@ -1,13 +1,13 @@
 //! What was found of paths' next few steps.
 ghost use Rattle.std.specs.Prelude.{◌≡◌, ◌+◌, ◌*◌, ◌<◌, ◌≤◌, ℕ, suc, length, slice_index, slice_index_or, IfOk, IfSome, IsTrue};
 ghost use Rattle.pt_core.specs.declared.point.Point.{Point};
-ghost use Rattle.straight_paths.specs.Codes.{IsCoded, beyond, coded_step};
-ghost use Rattle.straight_paths.specs.Cones.{HoldsWay};
+ghost use Rattle.straight_paths.specs.Inner.Codes.{IsCoded, beyond, coded_step};
+ghost use Rattle.straight_paths.specs.Inner.Cones.{HoldsWay};
 ghost use Rattle.straight_paths.specs.Corners.{step_from};
-ghost use Rattle.straight_paths.specs.Courses.{IsCourse, cone_of, no_course, wide_of};
+ghost use Rattle.straight_paths.specs.Inner.Courses.{IsCourse, cone_of, no_course, wide_of};
 ghost use Rattle.straight_paths.specs.Straight.{IsStraight};
-ghost use Rattle.straight_paths.specs.Tables.{IsWordTable, KeepsWords, LeadsToWord, StandsFor, count_at, course_at, digits_at};
-ghost use Rattle.straight_paths.specs.Words.{TellsFront};
+ghost use Rattle.straight_paths.specs.Inner.Tables.{IsWordTable, KeepsWords, LeadsToWord, StandsFor, count_at, course_at, digits_at};
+ghost use Rattle.straight_paths.specs.Inner.Words.{TellsFront};
 
 use crate::course::Course;
 use crate::word::{LONGEST, Word};

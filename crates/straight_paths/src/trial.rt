@@ -1,10 +1,10 @@
 //! The search for a strip that holds what is straight from a point on: ways are tried, simple ones first.
 ghost use Rattle.std.specs.Prelude.{◌<◌, ◌≤◌, ℕ, length, unsigned_abs, IfSome};
-ghost use Rattle.straight_paths.specs.Cones.{IsShort, IsSound};
-ghost use Rattle.straight_paths.specs.Slopes.{AreSmallSlopes};
+ghost use Rattle.straight_paths.specs.Inner.Cones.{IsShort, IsSound};
+ghost use Rattle.straight_paths.specs.Inner.Slopes.{AreSmallSlopes};
 ghost use Rattle.straight_paths.specs.Straight.{path_from};
-ghost use Rattle.straight_paths.specs.Strips.{AreUpTo, IsStrip, StaysIn};
-ghost use Rattle.straight_paths.specs.Wedges.{IsQuarter};
+ghost use Rattle.straight_paths.specs.Inner.Strips.{AreUpTo, IsStrip, StaysIn};
+ghost use Rattle.straight_paths.specs.Inner.Wedges.{IsQuarter};
 
 use crate::cone::Cone;
 use crate::quarter::Quarter;

@@ -10,7 +10,7 @@ use Rattle.bit_image.specs.Image.{Image}
 use Rattle.bit_image.specs.Words.{is_one}
 use Rattle.bit_image.proofs.Bits.{and_turned, is_one-and}
 use Rattle.turn_policies.specs.Majority.{behind, count_below, sum_below, is_rim, black_in_ring}
-use Rattle.turn_policies.specs.Square.{IsSquare}
+use Rattle.turn_policies.specs.Inner.Square.{IsSquare}
 use Rattle.turn_policies.proofs.Counting.{sum_below-same, count_below-sum}
 
 -- the ones among the first k bits, and those behind

@@ -4,7 +4,8 @@ use Rattle.std.specs.Int.RustNames.{bit_and, bit_or}
 use Rattle.std.proofs.lemmas.Bool.{cases_lt, cases_order, le-leb, lt-leb, lt-ltb, le-ltb}
 use Rattle.std.proofs.lemmas.Nat.Bits.{bit_at_above}
 use Rattle.bit_image.specs.Image.{Image}
-use Rattle.bit_image.specs.Words.{is_one, black_in}
+use Rattle.bit_image.specs.Words.{is_one}
+use Rattle.bit_image.specs.Inner.Words.{black_in}
 use Rattle.bit_image.proofs.Bits.{and_true, is_one-and, is_one-zero, is_one-mask, within-inside, black_in-at}
 use Rattle.bit_image.proofs.Turned.{is_one-or, is_one-shr, is_one-shl, is_one-shl_below}
 use Rattle.turn_policies.specs.Majority.{behind}

@@ -29,6 +29,5 @@ pub mod Majority
 --   turn: where a path that comes to corner (x, y) goes on
 --   next: the edge that follows an edge of a path
 pub mod Turn
--- The pixels around a corner as one word.
---   IsSquare: bits 0 to 7 are the lowest row of the square of side 8 with corner (x
-pub mod Square
+-- What inner contracts alone speak of: no promise rests on it.
+pub mod Inner

@@ -1,9 +1,10 @@
 //! The pixels around a corner, in one word.
 ghost use Rattle.std.specs.Prelude.{◌≡◌, ℕ, ◌+◌, ◌-◌, ◌%◌, ◌≤◌, ◌<◌, ◌^◌, ◌∷◌, slice_index_or};
 ghost use Rattle.bit_image.specs.Page.{image_of};
-ghost use Rattle.bit_image.specs.Words.{is_one, black_in};
+ghost use Rattle.bit_image.specs.Words.{is_one};
+ghost use Rattle.bit_image.specs.Inner.Words.{black_in};
 ghost use Rattle.turn_policies.specs.Majority.{behind};
-ghost use Rattle.turn_policies.specs.Square.{IsSquare};
+ghost use Rattle.turn_policies.specs.Inner.Square.{IsSquare};
 
 use bit_image::Bitmap;
 

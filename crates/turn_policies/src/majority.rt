@@ -4,7 +4,7 @@ ghost use Rattle.bit_image.specs.Image.{Image};
 ghost use Rattle.bit_image.specs.Page.{image_of};
 ghost use Rattle.turn_policies.specs.Corner.{IsCorner};
 ghost use Rattle.turn_policies.specs.Majority.{black_in_ring, major};
-ghost use Rattle.turn_policies.specs.Square.{IsSquare};
+ghost use Rattle.turn_policies.specs.Inner.Square.{IsSquare};
 
 use crate::around::square;
 use bit_image::Bitmap;

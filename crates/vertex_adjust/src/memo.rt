@@ -1,8 +1,8 @@
 //! What was found of other vertices.
 ghost use Rattle.std.specs.Prelude.{◌≡◌, ℕ, true};
-ghost use Rattle.vertex_adjust.specs.Bounds.{IsSpread};
-ghost use Rattle.vertex_adjust.specs.Line.{IsNormal};
-ghost use Rattle.vertex_adjust.specs.Quadratic.{IsErrorOver, IsQuadratic, IsLeastShift};
+ghost use Rattle.vertex_adjust.specs.Inner.Bounds.{IsSpread};
+ghost use Rattle.vertex_adjust.specs.Inner.Line.{IsNormal};
+ghost use Rattle.vertex_adjust.specs.Inner.Quadratic.{IsErrorOver, IsQuadratic, IsLeastShift};
 ghost use Rattle.vertex_adjust.specs.Vertex.{IsCandidate, IsLeast};
 
 use crate::normal::Normal;
@@ -53,8 +53,8 @@ pub struct VertexMemo {
 
 impl Model for VertexMemo {
     ghost use Rattle.std.specs.Prelude.{All};
-    ghost use Rattle.vertex_adjust.specs.Line.{IsNormal};
-    ghost use Rattle.vertex_adjust.specs.Quadratic.{IsLeastShift};
+    ghost use Rattle.vertex_adjust.specs.Inner.Line.{IsNormal};
+    ghost use Rattle.vertex_adjust.specs.Inner.Quadratic.{IsLeastShift};
 
     ghost Value = { Unit };
 

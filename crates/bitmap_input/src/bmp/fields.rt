@@ -1,7 +1,7 @@
 //! Fields of the header of a BMP picture.
 ghost use Rattle.std.specs.Prelude.{◌≡◌, ◌≤◌, true, not, ◌||◌, ◌^◌, nat_le, length};
 ghost use Rattle.bitmap_input.specs.BmpHeader.{is_short, planes, bits, compression, colors_used, is_known_size, stated_width, stated_height, width, height, is_top_down, mask_bytes, has_masks, has_known_masks, has_known_colors, has_palette, palette_length, color_bytes, palette_end};
-ghost use Rattle.bitmap_input.specs.BmpHead.{HasInfo, IsKnownDepth, IsDepth, IsMostColors, bits_in};
+ghost use Rattle.bitmap_input.specs.Inner.BmpHead.{HasInfo, IsKnownDepth, IsDepth, IsMostColors, bits_in};
 
 use crate::bmp::head::Head;
 

@@ -1,9 +1,9 @@
 //! The header of a BMP picture, read and checked step by step.
 ghost use Rattle.std.specs.Prelude.{◌≡◌, ℕ, ◌+◌, ◌≤◌, true, false, length, [], OnOk, IfOk};
-ghost use Rattle.bitmap_input.specs.Reading.{Reads, Leaves};
+ghost use Rattle.bitmap_input.specs.Inner.Reading.{Reads, Leaves};
 ghost use Rattle.bitmap_input.specs.BmpHeader.{header_size, bits, mask_bytes, has_known_masks, has_known_colors};
 ghost use Rattle.bitmap_input.specs.Bmp.{start, info, masks, placed, header};
-ghost use Rattle.bitmap_input.specs.BmpHead.{HasInfo, IsHeaderStart, IsInfo, IsWholeHeader, IsHeader, IsReadable, Passes, bits_in};
+ghost use Rattle.bitmap_input.specs.Inner.BmpHead.{HasInfo, IsHeaderStart, IsInfo, IsWholeHeader, IsHeader, IsReadable, Passes, bits_in};
 
 use crate::bmp::fields::{
     Depth, color_bytes, has_known_colors, height, is_known_size, is_top_down, mask_bytes,

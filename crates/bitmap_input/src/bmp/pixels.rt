@@ -3,13 +3,13 @@ ghost use Rattle.std.specs.Prelude.{◌≡◌, ℕ, ◌+◌, ◌*◌, ◌<◌, �
 ghost use Rattle.std.specs.List.{range_with_len};
 ghost use Rattle.bit_image.specs.Words.{is_one};
 ghost use Rattle.bit_image.specs.Page.{Page, SameSides, image_of};
-ghost use Rattle.bitmap_input.specs.Reading.{Reads, Leaves};
+ghost use Rattle.bitmap_input.specs.Inner.Reading.{Reads, Leaves};
 ghost use Rattle.bitmap_input.specs.Parts.{block, repeated};
 ghost use Rattle.bitmap_input.specs.Raw.{Entry, black};
 ghost use Rattle.bitmap_input.specs.Raw.Entry.{Color as color};
 ghost use Rattle.bitmap_input.specs.BmpRaster.{color_at, bit_at, half_at, palette_color, color_row};
-ghost use Rattle.bitmap_input.specs.BmpHead.{IsPaletteTable, IsReadable, bits_in, shade_in, row_place, row_bytes_by};
-ghost use Rattle.bitmap_input.specs.Raster.{with_row, with_placed};
+ghost use Rattle.bitmap_input.specs.Inner.BmpHead.{IsPaletteTable, IsReadable, bits_in, shade_in, row_place, row_bytes_by};
+ghost use Rattle.bitmap_input.specs.Inner.Raster.{with_row, with_placed};
 
 use crate::bmp::fields::Depth;
 use crate::bmp::header::Header;

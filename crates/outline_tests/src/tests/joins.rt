@@ -1,6 +1,6 @@
 //! Joined curves and where lines touch a curve, beside values of plain programs.
 ghost use Rattle.std.specs.Prelude.{◌≡◌, ◌≤◌, ◌<◌, ◌^◌, length};
-ghost use Rattle.curve_join.specs.Cubic.{LiesWithin};
+ghost use Rattle.curve_join.specs.Inner.Cubic.{LiesWithin};
 ghost use Rattle.curve_join.specs.Vector.{IsPlaced};
 
 use super::samples::{self, Place, Row, at, points_at};

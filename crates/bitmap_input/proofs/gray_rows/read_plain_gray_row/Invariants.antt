@@ -1,5 +1,5 @@
 use Rattle.std.proofs.Common.{◌-◌, ◌≡◌, ◌++◌, length, map, take, Ok}
-use Rattle.bitmap_input.specs.Reading.{Leaves}
+use Rattle.bitmap_input.specs.Inner.Reading.{Leaves}
 use Rattle.bitmap_input.specs.Samples.{plain_sample}
 use Rattle.bitmap_input.specs.GrayRows.{lowered}
 use Rattle.bitmap_input.proofs.Gathering.{IsGatheredSoFar}

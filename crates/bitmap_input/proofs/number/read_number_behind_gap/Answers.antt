@@ -1,6 +1,6 @@
 use Rattle.std.proofs.lemmas.Result.{err_from_is_err_and}
 use Rattle.bitmap_input.specs.Parts.{number}
-use Rattle.bitmap_input.specs.Number.{kind_at}
+use Rattle.bitmap_input.specs.Inner.Number.{kind_at}
 use Rattle.bitmap_input.proofs.Appending.{some_gap_stays}
 use Rattle.bitmap_input.proofs.Telling.{reads_on, reads_stop}
 use Rattle.bitmap_input.proofs.number.read_number_behind_gap.Goals as goal

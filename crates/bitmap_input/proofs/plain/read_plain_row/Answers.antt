@@ -2,7 +2,7 @@ use Rattle.std.proofs.Common.{◌≡◌, ◌-◌, ◌+◌, suc, arith, rules, re
 use Rattle.std.proofs.lemmas.Result.{err_from_is_err_and}
 use Rattle.bit_image.specs.Image.{differ}
 use Rattle.bit_image.specs.Page.{image_of}
-use Rattle.bitmap_input.specs.Raster.{with_pixels}
+use Rattle.bitmap_input.specs.Inner.Raster.{with_pixels}
 use Rattle.bitmap_input.proofs.Appending.{plain_pixel_stays}
 use Rattle.bitmap_input.proofs.Gathering.{gathering_goes_on, gathering_stops, gathering_ends}
 use Rattle.bitmap_input.proofs.Painting.{pixel_painted, turned}

@@ -1,8 +1,8 @@
 use Rattle.std.proofs.Common.{◌≡◌, ◌-◌, suc, map, arith, rules, refl}
 use Rattle.std.proofs.lemmas.Result.{err_from_is_err_and}
 use Rattle.bit_image.specs.Page.{image_of}
-use Rattle.bitmap_input.specs.Raster.{with_rows}
-use Rattle.bitmap_input.specs.Stored.{is_black_pixel}
+use Rattle.bitmap_input.specs.Inner.Raster.{with_rows}
+use Rattle.bitmap_input.specs.Inner.Stored.{is_black_pixel}
 use Rattle.bitmap_input.proofs.Bodies.{row_stays}
 use Rattle.bitmap_input.proofs.Gathering.{gathering_goes_on, gathering_stops, gathering_ends}
 use Rattle.bitmap_input.proofs.Placing.{row_painted}

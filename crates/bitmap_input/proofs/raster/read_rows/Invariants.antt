@@ -1,8 +1,8 @@
 use Rattle.std.proofs.Common.{◌≡◌, ◌≤◌, length, map, Ok}
-use Rattle.bitmap_input.specs.Reading.{Leaves}
+use Rattle.bitmap_input.specs.Inner.Reading.{Leaves}
 use Rattle.bit_image.specs.Page.{SameSides, image_of}
-use Rattle.bitmap_input.specs.Raster.{with_rows}
-use Rattle.bitmap_input.specs.Stored.{row_stored, is_black_pixel, line_bytes}
+use Rattle.bitmap_input.specs.Inner.Raster.{with_rows}
+use Rattle.bitmap_input.specs.Inner.Stored.{row_stored, is_black_pixel, line_bytes}
 use Rattle.bitmap_input.proofs.Gathering.{IsGatheredSoFar}
 use Rattle.bitmap_input.proofs.raster.read_rows.Given as goal
 

@@ -1,5 +1,5 @@
 use Rattle.std.proofs.Common.{◌-◌, ◌≤◌, length, Ok}
-use Rattle.bitmap_input.specs.Reading.{Leaves}
+use Rattle.bitmap_input.specs.Inner.Reading.{Leaves}
 use Rattle.bitmap_input.proofs.Blocks.{IsBlockSoFar}
 use Rattle.bitmap_input.proofs.raw.read_block.Given as goal
 

@@ -4,7 +4,7 @@ use Rattle.bit_image.specs.Image.{Image, differ}
 use Rattle.bit_image.specs.Page.{image_of}
 use Rattle.bitmap_input.specs.Cut.Cut.{Takes}
 use Rattle.bitmap_input.specs.Raw.{unpacked}
-use Rattle.bitmap_input.specs.Raster.{with_row}
+use Rattle.bitmap_input.specs.Inner.Raster.{with_row}
 use Rattle.bitmap_input.proofs.Telling.{reads_map, reads_stop}
 use Rattle.bitmap_input.proofs.raw.read_raw_row.Goals as goal
 

@@ -1,6 +1,6 @@
 use Rattle.std.proofs.Common.{◌++◌, sym}
 use Rattle.std.proofs.lemmas.Result.{err_from_is_err_and}
-use Rattle.bitmap_input.specs.Behind.{counted_page}
+use Rattle.bitmap_input.specs.Inner.Behind.{counted_page}
 use Rattle.bitmap_input.proofs.Skipping.{passed_over_stays}
 use Rattle.bitmap_input.proofs.Behind.{page_ahead}
 use Rattle.bitmap_input.proofs.Telling.{reads_on, reads_stop, reads_as}

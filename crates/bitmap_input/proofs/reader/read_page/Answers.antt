@@ -1,7 +1,7 @@
 use Rattle.std.proofs.lemmas.Result.{err_from_is_err_and}
 use Rattle.bitmap_input.specs.Cut.{◌>>=◌}
 use Rattle.bitmap_input.specs.Front.{magic}
-use Rattle.bitmap_input.specs.Behind.{counted_body}
+use Rattle.bitmap_input.specs.Inner.Behind.{counted_body}
 use Rattle.bitmap_input.proofs.Appending.{spaces_stay, magic_stays}
 use Rattle.bitmap_input.proofs.Telling.{reads_on, reads_stop}
 use Rattle.bitmap_input.proofs.reader.read_page.Goals as goal

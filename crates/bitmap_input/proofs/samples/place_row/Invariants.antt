@@ -1,6 +1,6 @@
 use Rattle.std.proofs.Common.{◌≡◌, ◌+◌, ◌/◌}
 use Rattle.bit_image.specs.Page.{SameSides, image_of}
-use Rattle.bitmap_input.specs.Shading.{black_in}
+use Rattle.bitmap_input.specs.Inner.Shading.{black_in}
 use Rattle.bitmap_input.proofs.Rows.{WordsPlaced}
 use Rattle.bitmap_input.proofs.samples.place_row.Given as goal
 

@@ -3,7 +3,7 @@ use Rattle.std.proofs.lemmas.Result.{err_from_is_err_and}
 use Rattle.bitmap_input.specs.Cut.{◌>>=◌}
 use Rattle.bitmap_input.specs.Cut.Cut.{Takes}
 use Rattle.bitmap_input.specs.Samples.{plain_sample}
-use Rattle.bitmap_input.specs.Shading.{IsCappedBrightness}
+use Rattle.bitmap_input.specs.Inner.Shading.{IsCappedBrightness}
 use Rattle.bitmap_input.specs.declared.channels.Channels.TheVariants.{Color}
 use Rattle.bitmap_input.proofs.Appending.{plain_sample_stays}
 use Rattle.bitmap_input.proofs.Telling.{reads_on, reads_stop, reads_made}

@@ -3,8 +3,8 @@ use Rattle.std.proofs.lemmas.Result.{err_from_is_err_and}
 use Rattle.bit_image.specs.Page.{image_of}
 use Rattle.bitmap_input.specs.Cut.Cut.{Takes}
 use Rattle.bitmap_input.specs.Samples.{PixelSamples, is_wide, samples, grouped}
-use Rattle.bitmap_input.specs.Shading.{black_of}
-use Rattle.bitmap_input.specs.Raster.{with_row}
+use Rattle.bitmap_input.specs.Inner.Shading.{black_of}
+use Rattle.bitmap_input.specs.Inner.Raster.{with_row}
 use Rattle.bitmap_input.proofs.Telling.{reads_map, reads_stop}
 use Rattle.bitmap_input.proofs.samples.read_raw_samples_row.Goals as goal
 

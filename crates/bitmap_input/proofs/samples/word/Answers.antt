@@ -1,7 +1,7 @@
 use Rattle.std.proofs.Common.{◌+◌, ◌&&◌, ◌∙◌, ap, arith}
 use Rattle.std.proofs.lemmas.Bool.{lt-ltb}
 use Rattle.bitmap_input.specs.Samples.{samples}
-use Rattle.bitmap_input.specs.Shading.{brightness_at, is_black_at, black_in}
+use Rattle.bitmap_input.specs.Inner.Shading.{brightness_at, is_black_at, black_in}
 use Rattle.bitmap_input.proofs.Graying.{fewer_samples}
 use Rattle.bitmap_input.proofs.Rows.{none_first, one_more}
 use Rattle.bitmap_input.proofs.samples.word.Goals as goal

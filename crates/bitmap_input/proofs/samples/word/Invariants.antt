@@ -1,6 +1,6 @@
 use Rattle.std.proofs.Common.{◌≡◌, ◌+◌}
 use Rattle.bitmap_input.specs.Samples.{is_wide}
-use Rattle.bitmap_input.specs.Shading.{black_in}
+use Rattle.bitmap_input.specs.Inner.Shading.{black_in}
 use Rattle.bitmap_input.proofs.Rows.{HasFirst}
 use Rattle.bitmap_input.proofs.samples.word.Given as goal
 

@@ -1,5 +1,5 @@
 use Rattle.std.proofs.Common.{Ok}
-use Rattle.bitmap_input.specs.Reading.{Leaves}
+use Rattle.bitmap_input.specs.Inner.Reading.{Leaves}
 use Rattle.bitmap_input.proofs.Skipping.{IsPassedSoFar}
 use Rattle.bitmap_input.proofs.skip.pass_over.Given as goal
 

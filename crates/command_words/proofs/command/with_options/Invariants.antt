@@ -1,6 +1,7 @@
 use Rattle.std.proofs.Common.{◌≡◌, map, take}
 use Rattle.clap.specs.Simple.{app_of}
-use Rattle.command_words.specs.Command.{rule_of_row, with_rules}
+use Rattle.command_words.specs.Inner.Command.{rule_of_row}
+use Rattle.command_words.specs.Command.{with_rules}
 use Rattle.command_words.proofs.command.with_options.Given as goal
 
 -- so far the command has a rule for each row

@@ -1,6 +1,6 @@
 use Rattle.std.proofs.Common.{ℕ, ◌*◌, ◌^◌, ◌<◌, ◌≤◌, arith, ◌/◌, refl}
 use Rattle.std.proofs.lemmas.Nat.{mul-le}
-use Rattle.curve_join.specs.Costs.{share_most}
+use Rattle.curve_join.specs.Inner.Costs.{share_most}
 use Rattle.curve_join.proofs.follow.share.Goals as goal
 
 long_most : (c : goal.After-from) → 256 * c.from-distance.result * c.from-distance.result / c.from.result ≤ 2 ^ 48

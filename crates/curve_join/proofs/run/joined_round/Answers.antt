@@ -1,6 +1,6 @@
 use Rattle.std.proofs.Common.{◌-◌, length, ◌∙◌, arith}
 use Rattle.std.proofs.lemmas.List.Elements.{All-take}
-use Rattle.curve_join.specs.Bends.{IsWorkable}
+use Rattle.curve_join.specs.Inner.Bends.{IsWorkable}
 use Rattle.curve_join.proofs.Joining.{joined_is, may_join, not_covering, not_following, penalty_there, sense_back, not_curved}
 use Rattle.std.proofs.lemmas.List.{length-take}
 use Rattle.curve_join.proofs.run.joined_round.Goals as goal

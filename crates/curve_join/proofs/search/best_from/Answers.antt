@@ -3,11 +3,12 @@ use Rattle.std.specs.Prelude.{slice_index}
 use Rattle.least_walk.proofs.Cheapest.{cost_below}
 use Rattle.least_walk.proofs.Going.{fewest_below}
 use Rattle.curve_join.proofs.Ways.{best_more, cost_there, fewest_there, next_there, penalty_alone, up_to_itself, way_is, way_to}
-use Rattle.curve_join.specs.Choice.{IsLastRun, MayBeOne, run_penalty}
-use Rattle.curve_join.specs.Costs.{run_penalty_most}
-use Rattle.curve_join.specs.Search.{IsNotBehind}
+use Rattle.curve_join.specs.Inner.Choice.{IsLastRun}
+use Rattle.curve_join.specs.Choice.{MayBeOne, run_penalty}
+use Rattle.curve_join.specs.Inner.Costs.{run_penalty_most}
+use Rattle.curve_join.specs.Inner.Search.{IsNotBehind}
 use Rattle.std.specs.List.{All}
-use Rattle.curve_join.specs.Bends.{IsWorkable}
+use Rattle.curve_join.specs.Inner.Bends.{IsWorkable}
 use Rattle.curve_join.specs.declared.bend.Bend.{Bend}
 use Rattle.curve_join.proofs.search.best_from.Goals as goal
 

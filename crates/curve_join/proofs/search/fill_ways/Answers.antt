@@ -1,11 +1,11 @@
 use Rattle.std.proofs.Common.{◌≡◌, ℕ, ◌+◌, ◌-◌, length, set, get_or, get_or-set_same, sym, subst, arith}
 use Rattle.std.proofs.lemmas.List.{length-set}
-use Rattle.least_walk.specs.Suffix.{HasFewest, HasNexts, IsFewestFrom}
+use Rattle.least_walk.specs.Inner.Suffix.{HasFewest, HasNexts, IsFewestFrom}
 use Rattle.least_walk.proofs.Filling.{nexts_more}
 use Rattle.least_walk.proofs.Onward.{cost_at_end}
 use Rattle.curve_join.proofs.Ways.{counts_more, none_left, spent_more}
 use Rattle.curve_join.specs.Choice.{MayBeOne, run_penalty}
-use Rattle.curve_join.specs.Search.{AreLeastCosts}
+use Rattle.curve_join.specs.Inner.Search.{AreLeastCosts}
 use Rattle.curve_join.proofs.search.fill_ways.Goals as goal
 
 -- from the end on no run is left, and nothing to pay

@@ -1,6 +1,6 @@
 use Rattle.std.proofs.Common.{◌≡◌, ℕ, List, ◌++◌, length, take, sym, ap, ◌∙◌, subst, arith}
 use Rattle.std.proofs.Math.Seq.{take-append_seam}
-use Rattle.least_walk.specs.Suffix.{HasCosts, HasFewest, HasNexts}
+use Rattle.least_walk.specs.Inner.Suffix.{HasCosts, HasFewest, HasNexts}
 use Rattle.curve_join.specs.Choice.{MayBeOne, run_penalty}
 use Rattle.curve_join.proofs.search.least_by_runs.Goals as goal
 

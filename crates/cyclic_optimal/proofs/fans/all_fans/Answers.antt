@@ -1,5 +1,5 @@
 use Rattle.std.proofs.Common.{ℕ, length, length-append, sym, ap, subst, arith}
-use Rattle.cyclic_optimal.specs.Fans.{IsFanOf}
+use Rattle.cyclic_optimal.specs.Inner.Fans.{IsFanOf}
 use Rattle.cyclic_optimal.specs.declared.fans.Fan.{Fan}
 use Rattle.cyclic_optimal.proofs.Fanning.{fans_more}
 use Rattle.cyclic_optimal.proofs.fans.all_fans.Goals as goal

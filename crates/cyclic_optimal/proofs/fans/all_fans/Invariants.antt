@@ -1,5 +1,5 @@
 use Rattle.std.proofs.Common.{◌≡◌, length}
-use Rattle.cyclic_optimal.specs.Fans.{HasFans}
+use Rattle.cyclic_optimal.specs.Inner.Fans.{HasFans}
 use Rattle.cyclic_optimal.proofs.fans.all_fans.Given as goal
 
 abbrev pub invariant-loop-i : goal.invariant-loop-i

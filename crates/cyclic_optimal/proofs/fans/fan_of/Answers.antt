@@ -3,7 +3,7 @@ use Rattle.std.specs.Prelude.{unsigned_abs}
 use Rattle.pt_core.specs.declared.point.Point.{Point}
 use Rattle.prefix_moments.specs.Sums.{IsPenalty, spread_of}
 use Rattle.straight_paths.proofs.Far.{shorter_possible}
-use Rattle.polygon_optimal.specs.OnePenalty.{penalty_is_one}
+use Rattle.polygon_optimal.specs.Inner.OnePenalty.{penalty_is_one}
 use Rattle.cyclic_optimal.proofs.Fanning.{fan_more}
 use Rattle.cyclic_optimal.proofs.fans.fan_of.Goals as goal
 

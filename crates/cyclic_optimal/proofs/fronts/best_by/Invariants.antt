@@ -1,6 +1,6 @@
 use Rattle.std.proofs.Common.{◌≡◌, ◌+◌, ◌<◌, ◌≤◌, ◌^◌, length}
 use Rattle.std.specs.Prelude.{slice_index}
-use Rattle.cyclic_optimal.specs.Fronts.{IsFrontOf}
+use Rattle.cyclic_optimal.specs.Inner.Fronts.{IsFrontOf}
 use Rattle.cyclic_optimal.proofs.fronts.best_by.Given as goal
 
 abbrev pub invariant-loop-c : goal.invariant-loop-c

@@ -1,5 +1,5 @@
 use Rattle.std.proofs.Common.{◌≤◌}
-use Rattle.cyclic_optimal.specs.Fronts.{IsLeastVia}
+use Rattle.cyclic_optimal.specs.Inner.Fronts.{IsLeastVia}
 use Rattle.cyclic_optimal.specs.declared.fronts.TheConstants.{NONE}
 use Rattle.cyclic_optimal.proofs.fronts.cheapest.Given as goal
 

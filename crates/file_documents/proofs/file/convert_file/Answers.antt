@@ -1,13 +1,13 @@
 use Rattle.std.proofs.Common.{◌∙◌, ◌∷◌, ◌*◌, ℕ, List, Err, ap, refl, subst}
 use Rattle.pt_core.specs.Files.{Lacks}
-use Rattle.page_batches.specs.Desks.{sinks_at}
+use Rattle.page_batches.specs.Inner.Desks.{sinks_at}
 use Rattle.page_batches.proofs.Counts.{same_count, some_room}
 use Rattle.page_batches.proofs.Desks.{keeps_on}
 use Rattle.file_documents.specs.Items.{told_contents}
 use Rattle.file_documents.specs.Manner.{base_by}
 use Rattle.run_output.specs.Told.{source_of}
 use Rattle.file_documents.specs.Progress.{InputCount}
-use Rattle.file_documents.specs.Tasks.{manner_of}
+use Rattle.file_documents.specs.Inner.Tasks.{manner_of}
 use Rattle.file_documents.proofs.Counting.{faults_from, input_by, rose_by}
 use Rattle.file_documents.proofs.Differing.{ok_not_err, out_not_unwritten}
 use Rattle.file_documents.proofs.Ending.{ends_at_once, ends_behind, file_ends, file_halted, file_near, input_count, input_of_halt, input_unopened, unopened_by, unopened_ends}

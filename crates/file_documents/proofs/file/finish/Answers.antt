@@ -1,10 +1,10 @@
 use Rattle.std.proofs.Common.{◌≡◌, ◌⊎◌, ◌*◌, inl, inr, refl, rules}
 use Rattle.run_output.specs.declared.status.Status.TheVariants as status
-use Rattle.page_batches.specs.Desks.{sinks_at}
+use Rattle.page_batches.specs.Inner.Desks.{sinks_at}
 use Rattle.page_batches.proofs.Counts.{same_count}
 use Rattle.page_batches.proofs.Carrying.{memory_out}
-use Rattle.file_documents.specs.Progress.{status_of}
-use Rattle.file_documents.specs.Tasks.{manner_of}
+use Rattle.file_documents.specs.Inner.Progress.{status_of}
+use Rattle.file_documents.specs.Inner.Tasks.{manner_of}
 use Rattle.file_documents.specs.declared.pages.PagesEnd.TheVariants as why
 use Rattle.file_documents.proofs.Differing.{out_not_unwritten, refused_not_done, refused_not_out}
 use Rattle.file_documents.proofs.Ending.{end_said, halts_in, not_done, not_out}

@@ -1,6 +1,6 @@
 use Rattle.std.proofs.Common.{option_map, refl}
 use Rattle.run_output.specs.Names.{next_name}
-use Rattle.page_batches.specs.Held.{end_notes}
+use Rattle.page_batches.specs.Inner.Held.{end_notes}
 use Rattle.page_batches.proofs.Carrying.{memory_out}
 use Rattle.page_batches.proofs.Counts.{same_count}
 use Rattle.page_batches.proofs.Holding.{all_held, end_is_held}

@@ -1,6 +1,6 @@
 use Rattle.std.proofs.Common.{◌≡◌, ℕ, ◌+◌, List, ◌++◌, OnOk, option_map, ◌∙◌, ap, subst, sym, arith}
 use Rattle.run_output.specs.declared.part.Binding.TheVariants.{Together}
-use Rattle.page_batches.specs.Held.{end_held, end_notes}
+use Rattle.page_batches.specs.Inner.Held.{end_held, end_notes}
 use Rattle.run_output.specs.Names.{document_name, next_name}
 use Rattle.run_output.proofs.Naming.{next_name-made_with}
 use Rattle.page_batches.proofs.Holding.{more_is_held}

@@ -1,12 +1,12 @@
 use Rattle.std.proofs.Common.{◌≡◌, ◌∙◌, ◌*◌, [], length, inl, refl, sym, arith}
 use Rattle.std.proofs.lemmas.List.{take_all}
 use Rattle.run_output.specs.Made.{no_past}
-use Rattle.page_batches.specs.Desks.{sinks_at}
+use Rattle.page_batches.specs.Inner.Desks.{sinks_at}
 use Rattle.page_batches.proofs.Counts.{same_count, some_room}
 use Rattle.page_batches.proofs.Desks.{keeps_on}
 use Rattle.file_documents.specs.Items.{told_contents}
 use Rattle.run_output.specs.Told.{source_of}
-use Rattle.file_documents.specs.Tasks.{manner_of}
+use Rattle.file_documents.specs.Inner.Tasks.{manner_of}
 use Rattle.file_documents.proofs.Counting.{input_from}
 use Rattle.file_documents.proofs.Differing.{done_not_unwritten, out_not_unwritten}
 use Rattle.file_documents.proofs.Ending.{ends_at_once, halts_in, input_of_halt}

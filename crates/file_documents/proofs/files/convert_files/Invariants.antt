@@ -1,11 +1,11 @@
 use Rattle.std.proofs.Common.{◌≡◌, ◌≤◌, ◌+◌, ◌*◌, length, min, take}
 use Rattle.pt_core.specs.Counts.{last_count}
-use Rattle.page_batches.specs.Desks.{Keeps, sinks_at}
+use Rattle.page_batches.specs.Inner.Desks.{Keeps, sinks_at}
 use Rattle.file_documents.specs.Items.{told_contents}
 use Rattle.file_documents.specs.Outcome.{LastEndsNear, OpensFirst}
 use Rattle.run_output.specs.Told.{source_of}
-use Rattle.file_documents.specs.Progress.{CanHold}
-use Rattle.file_documents.specs.Tasks.{manner_of}
+use Rattle.file_documents.specs.Inner.Progress.{CanHold}
+use Rattle.file_documents.specs.Inner.Tasks.{manner_of}
 use Rattle.file_documents.proofs.Running.{AreDone}
 use Rattle.file_documents.proofs.files.convert_files.Given as goal
 

@@ -2,11 +2,11 @@ use Rattle.std.proofs.Common.{◌≡◌, suc, ◌+◌, ◌*◌, ◌∙◌, true,
 use Rattle.run_output.specs.Made.{documents_before}
 use Rattle.run_output.proofs.Naming.{next_name-made_with}
 use Rattle.pt_core.specs.Files.{unread}
-use Rattle.page_batches.specs.Desks.{sinks_at}
+use Rattle.page_batches.specs.Inner.Desks.{sinks_at}
 use Rattle.page_batches.proofs.Counts.{same_count}
 use Rattle.page_batches.proofs.Desks.{keeps_on}
 use Rattle.run_output.specs.Told.{source_of}
-use Rattle.file_documents.specs.Tasks.{manner_of}
+use Rattle.file_documents.specs.Inner.Tasks.{manner_of}
 use Rattle.file_documents.proofs.Counting.{faults_from}
 use Rattle.file_documents.proofs.Keeping.{ended_by, stays_taken}
 use Rattle.file_documents.proofs.Converting.{halted, no_more, none_converted, one_more}

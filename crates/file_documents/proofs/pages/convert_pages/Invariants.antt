@@ -1,10 +1,10 @@
 use Rattle.std.proofs.Common.{◌≡◌, ◌≤◌, ◌*◌, ◌-◌, true}
 use Rattle.pt_core.specs.Files.{unread}
 use Rattle.bitmap_input.specs.Reading.{AtEnd}
-use Rattle.page_batches.specs.Desks.{Keeps, sinks_at}
+use Rattle.page_batches.specs.Inner.Desks.{Keeps, sinks_at}
 use Rattle.run_output.specs.Told.{source_of}
-use Rattle.file_documents.specs.Progress.{CanHold, OpensNoFile}
-use Rattle.file_documents.specs.Tasks.{manner_of}
+use Rattle.file_documents.specs.Inner.Progress.{CanHold, OpensNoFile}
+use Rattle.file_documents.specs.Inner.Tasks.{manner_of}
 use Rattle.file_documents.proofs.Converting.{IsConverted}
 use Rattle.file_documents.proofs.pages.convert_pages.Given as goal
 

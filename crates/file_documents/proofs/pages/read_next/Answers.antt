@@ -6,7 +6,7 @@ use Rattle.bitmap_input.specs.Front.Answer.{Ends}
 use Rattle.bitmap_input.specs.Reader.{IfSays, ahead, is_later}
 use Rattle.bitmap_input.specs.Reading.{cause_of_fault}
 use Rattle.bitmap_input.specs.declared.fault.InFault.TheVariants as fault
-use Rattle.file_documents.specs.Tasks.{manner_of}
+use Rattle.file_documents.specs.Inner.Tasks.{manner_of}
 use Rattle.file_documents.proofs.Differing.{end_not_read_fault, end_not_too_many, fault_not_too_many, same_fault, trailing_not_read_fault, trailing_not_too_many}
 use Rattle.file_documents.proofs.Reading.{fault_counts, fault_takes, given_page, mapped, reads_page, takes_ending, takes_page}
 use Rattle.file_documents.proofs.pages.read_next.Goals as goal

@@ -1,4 +1,4 @@
-use Rattle.least_walk.specs.Suffix.{HasCosts, HasNexts}
+use Rattle.least_walk.specs.Inner.Suffix.{HasCosts, HasNexts}
 use Rattle.least_walk.proofs.suffixes.fill_costs.Given as goal
 
 abbrev pub invariant-loop-from : goal.invariant-loop-from

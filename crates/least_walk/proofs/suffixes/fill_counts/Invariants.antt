@@ -1,4 +1,4 @@
-use Rattle.least_walk.specs.Suffix.{HasFewest}
+use Rattle.least_walk.specs.Inner.Suffix.{HasFewest}
 use Rattle.least_walk.proofs.suffixes.fill_counts.Given as goal
 
 abbrev pub invariant-loop-from : goal.invariant-loop-from

@@ -1,6 +1,6 @@
 use Rattle.std.proofs.Common.{ℕ, Bool, List, sym, ◌∙◌, subst, arith}
-use Rattle.least_walk.specs.Places.{HasMarks}
-use Rattle.least_walk.specs.Suffix.{HasCosts, HasFewest, HasNexts}
+use Rattle.least_walk.specs.Inner.Places.{HasMarks}
+use Rattle.least_walk.specs.Inner.Suffix.{HasCosts, HasFewest, HasNexts}
 use Rattle.least_walk.proofs.Lists.{unmarked, whole}
 use Rattle.least_walk.proofs.walk.least.Goals as goal
 

@@ -1,6 +1,6 @@
 use Rattle.std.proofs.Common.{ℕ, Bool, List, sym, ◌∙◌, subst, arith}
-use Rattle.least_walk.specs.Places.{HasMarks}
-use Rattle.least_walk.specs.Suffix.{HasFewest}
+use Rattle.least_walk.specs.Inner.Places.{HasMarks}
+use Rattle.least_walk.specs.Inner.Suffix.{HasFewest}
 use Rattle.least_walk.specs.Windows.{AreWindows}
 use Rattle.least_walk.specs.declared.window.Window.{Window}
 use Rattle.least_walk.proofs.Lists.{unmarked, whole}

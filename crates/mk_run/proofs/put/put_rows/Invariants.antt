@@ -2,8 +2,9 @@ use Rattle.std.proofs.Common.{◌≡◌, ℕ, ◌+◌, ◌-◌, ◌≤◌, true,
 use Rattle.mkbitmap.specs.Enlarged.{after_of}
 use Rattle.mkbitmap.specs.Follows.{SameSetup}
 use Rattle.run_output.specs.Told.{told_of}
-use Rattle.mk_run.specs.Put.{GoesWell, PutsRows, need_of}
-use Rattle.mk_run.specs.Work.{GivesRows, HasRooms, IsAtWork, header_of, MayRead}
+use Rattle.mk_run.specs.Inner.Put.{GoesWell, PutsRows}
+use Rattle.mk_run.specs.Put.{need_of}
+use Rattle.mk_run.specs.Inner.Work.{GivesRows, HasRooms, IsAtWork, header_of, MayRead}
 use Rattle.mk_run.proofs.put.put_rows.Given as goal
 
 -- the rows above this one are written

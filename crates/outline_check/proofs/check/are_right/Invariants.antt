@@ -1,7 +1,7 @@
 use Rattle.std.proofs.Common.{◌<◌, length}
-use Rattle.polygon_optimal.specs.Lasts.{IsUpToLast}
+use Rattle.polygon_optimal.specs.Inner.Lasts.{IsUpToLast}
 use Rattle.polygon_optimal.specs.Polygon.{penalty_of}
-use Rattle.outline_check.specs.Known.{AreRightDownTo, IsWindowBegin}
+use Rattle.outline_check.specs.Inner.Known.{AreRightDownTo, IsWindowBegin}
 use Rattle.outline_check.proofs.check.are_right.Given as goal
 
 -- the labels from the point on are right, and its window begins here

@@ -1,12 +1,12 @@
 use Rattle.std.proofs.Common.{◌≡◌, ℕ, List, ◌++◌, length, take, sym, ap, ◌∙◌, subst, arith}
 use Rattle.std.proofs.Math.Seq.{take-append_seam}
 use Rattle.pt_core.specs.declared.point.Point.{Point}
-use Rattle.polygon_optimal.specs.Lasts.{IsUpToLast}
+use Rattle.polygon_optimal.specs.Inner.Lasts.{IsUpToLast}
 use Rattle.polygon_optimal.specs.Polygon.{IsSegment, penalty_of}
 use Rattle.polygon_optimal.proofs.Reaching.{segment_up_to, up_to_segment}
 use Rattle.outline_check.specs.declared.label.Label.{Label}
 use Rattle.outline_check.specs.Certificate.{AreRightLabels}
-use Rattle.outline_check.specs.Known.{AreRightDownTo}
+use Rattle.outline_check.specs.Inner.Known.{AreRightDownTo}
 use Rattle.outline_check.proofs.Reaching.{are_right_where, right_from_known}
 use Rattle.outline_check.proofs.labels.labels.Goals as goal
 

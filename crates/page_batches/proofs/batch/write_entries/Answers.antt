@@ -1,7 +1,7 @@
 use Rattle.std.proofs.Common.{◌∙◌, ◌+◌, [], ◌∷◌, drop, refl, sym, subst}
 use Rattle.std.specs.Prelude.{string_bytes}
 use Rattle.run_output.specs.Messages.{trailing_line}
-use Rattle.page_batches.specs.Entries.{AreInOrder}
+use Rattle.page_batches.specs.Inner.Entries.{AreInOrder}
 use Rattle.page_batches.proofs.Batching.{end_cut, end_written, entries_from, message_written, none_written, open_behind_page, page_cut, page_written, said_with, turn_at}
 use Rattle.page_batches.proofs.Carrying.{cut_off_at}
 use Rattle.page_batches.proofs.Counts.{never_falls_on, same_count}

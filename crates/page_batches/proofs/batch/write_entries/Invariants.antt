@@ -1,6 +1,6 @@
 use Rattle.std.proofs.Common.{drop}
-use Rattle.page_batches.specs.Desks.{Keeps, sinks_at}
-use Rattle.page_batches.specs.Entries.{AreInOrder}
+use Rattle.page_batches.specs.Inner.Desks.{Keeps, sinks_at}
+use Rattle.page_batches.specs.Inner.Entries.{AreInOrder}
 use Rattle.page_batches.proofs.Batching.{AreWritten}
 use Rattle.page_batches.proofs.batch.write_entries.Given as goal
 

@@ -3,8 +3,8 @@ use Rattle.std.proofs.Common.{◌≡◌, ◌∙◌, ◌<◌, ◌≤◌, ◌+◌,
 use Rattle.bit_image.specs.FirstBlack.{IsFirstBlack}
 use Rattle.bit_image.specs.Image.{Fits}
 use Rattle.bit_image.specs.Page.{Page, SameSides, image_of}
-use Rattle.path_decompose.specs.Bounds.{IsPathOn}
-use Rattle.path_decompose.specs.Start.{IsStart}
+use Rattle.path_decompose.specs.Inner.Bounds.{IsPathOn}
+use Rattle.path_decompose.specs.Inner.Start.{IsStart}
 use Rattle.path_decompose.proofs.PathOn.{page_paths_on}
 use Rattle.path_decompose.proofs.Above.{above_push, above_at_end, all_above}
 use Rattle.path_decompose.proofs.Scan.{places_left, places_left_le, places_left_fall, start_from}

@@ -1,7 +1,7 @@
 use Rattle.std.proofs.Common.{◌+◌, ◌*◌, ◌≤◌, length}
 use Rattle.bit_image.specs.Image.{Fits}
 use Rattle.bit_image.specs.Page.{SameSides, image_of}
-use Rattle.path_decompose.specs.Start.{IsStart}
+use Rattle.path_decompose.specs.Inner.Start.{IsStart}
 use Rattle.path_decompose.proofs.Above.{IsAboveTo}
 use Rattle.path_decompose.proofs.Scan.{places_left}
 use Rattle.path_decompose.proofs.decomposition.found.Given as goal

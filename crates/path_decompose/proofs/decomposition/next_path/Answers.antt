@@ -1,7 +1,7 @@
 -- What is noted down of the walk says what lies inside, and once that is inverted all is white through its start.
 use Rattle.std.proofs.Common.{sym, subst}
 use Rattle.bit_image.specs.Page.{image_of}
-use Rattle.path_decompose.specs.Start.{IsWhiteThrough}
+use Rattle.path_decompose.specs.Inner.Start.{IsWhiteThrough}
 use Rattle.path_decompose.proofs.Walked.{white_through}
 use Rattle.path_decompose.proofs.decomposition.next_path.Goals as goal
 

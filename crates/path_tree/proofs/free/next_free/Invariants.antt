@@ -1,5 +1,5 @@
 use Rattle.std.proofs.Common.{◌≡◌, ℕ, ◌-◌, ◌<◌, ◌≤◌, Bool, true, length}
-use Rattle.path_tree.specs.Free.{AreSkips, LeadPast}
+use Rattle.path_tree.specs.Inner.Free.{AreSkips, LeadPast}
 use Rattle.path_tree.proofs.free.next_free.Given as goal
 
 -- what lies before the place is held

@@ -1,6 +1,6 @@
 use Rattle.std.proofs.Common.{◌≡◌, ◌-◌, ◌≤◌, length, drop}
-use Rattle.path_tree.specs.Free.{AreFree}
-use Rattle.path_tree.specs.Starts.{is_in_span, marked}
+use Rattle.path_tree.specs.Inner.Free.{AreFree}
+use Rattle.path_tree.specs.Inner.Starts.{is_in_span, marked}
 use Rattle.path_tree.proofs.marks.mark_span.Given as goal
 
 -- with the starts still to come, the list is as all starts make it

@@ -2,7 +2,7 @@ use Rattle.std.proofs.Common.{ℕ, ◌<◌, ◌≤◌, ◌^◌, List, length, re
 use Rattle.std.specs.Prelude.{unsigned_abs}
 use Rattle.pt_core.specs.declared.point.Point.{Point}
 use Rattle.prefix_moments.specs.Sums.{IsPenalty, spread_of}
-use Rattle.polygon_optimal.specs.OnePenalty.{penalty_is, penalty_is_one}
+use Rattle.polygon_optimal.specs.Inner.OnePenalty.{penalty_is, penalty_is_one}
 use Rattle.polygon_optimal.proofs.search.cheaper_by.Goals as goal
 
 pub returns-in-Some-clause-cheaper : goal.returns-in-Some-clause-cheaper

@@ -1,7 +1,7 @@
 use Rattle.std.proofs.Common.{◌+◌}
 use Rattle.std.specs.Prelude.{slice_index}
 use Rattle.polygon_optimal.specs.Polygon.{penalty_of}
-use Rattle.polygon_optimal.specs.Search.{IsCheaperIn, slot_of}
+use Rattle.polygon_optimal.specs.Inner.Search.{IsCheaperIn, slot_of}
 use Rattle.polygon_optimal.proofs.search.cheaper_in_few.Given as goal
 
 abbrev pub invariant-loop-to : goal.invariant-loop-to

@@ -1,7 +1,7 @@
 use Rattle.std.proofs.Common.{◌≡◌, ℕ, ◌+◌, ◌<◌, ◌≤◌, List, ap, ◌∙◌, subst, arith}
 use Rattle.std.specs.Prelude.{slice_index}
 use Rattle.polygon_optimal.specs.Polygon.{penalty_of}
-use Rattle.polygon_optimal.specs.Search.{IsCheaperIn, slot_of}
+use Rattle.polygon_optimal.specs.Inner.Search.{IsCheaperIn, slot_of}
 use Rattle.polygon_optimal.specs.declared.search.Onward.{Onward}
 use Rattle.polygon_optimal.proofs.Scanning.{tried_none, tried_more}
 use Rattle.polygon_optimal.proofs.search.cheaper_in_many.Goals as goal

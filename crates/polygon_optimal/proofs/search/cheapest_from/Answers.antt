@@ -3,9 +3,9 @@ use Rattle.std.proofs.lemmas.List.{get_or_default}
 use Rattle.std.specs.Prelude.{◌^◌, slice_index, unsigned_abs}
 use Rattle.pt_core.specs.declared.point.Point.{Point}
 use Rattle.prefix_moments.specs.Sums.{IsPenalty, spread_of}
-use Rattle.polygon_optimal.specs.OnePenalty.{penalty_is_one}
+use Rattle.polygon_optimal.specs.Inner.OnePenalty.{penalty_is_one}
 use Rattle.polygon_optimal.specs.Polygon.{penalty_of}
-use Rattle.polygon_optimal.specs.Search.{HasCheapest, slot_of}
+use Rattle.polygon_optimal.specs.Inner.Search.{HasCheapest, slot_of}
 use Rattle.polygon_optimal.proofs.Scanning.{cheapest_of_all}
 use Rattle.polygon_optimal.proofs.search.cheapest_from.Goals as goal
 

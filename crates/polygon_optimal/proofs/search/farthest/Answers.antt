@@ -1,7 +1,7 @@
 use Rattle.std.proofs.Common.{◌≡◌, ℕ, ◌+◌, ◌<◌, List, length, sym, ◌∙◌, subst, arith}
 use Rattle.std.proofs.lemmas.List.{get_or_default}
 use Rattle.std.specs.Prelude.{slice_index}
-use Rattle.polygon_optimal.specs.Search.{AreFarthest}
+use Rattle.polygon_optimal.specs.Inner.Search.{AreFarthest}
 use Rattle.polygon_optimal.proofs.Greedy.{AreWritten, at_below, written_none, written_more}
 use Rattle.polygon_optimal.proofs.search.farthest.Goals as goal
 

@@ -1,13 +1,13 @@
 use Rattle.std.proofs.Common.{◌≡◌, ℕ, ◌+◌, ◌-◌, ◌<◌, ◌≤◌, length, ap, sym, ◌∙◌, ◌^◌, subst, arith}
 use Rattle.std.proofs.lemmas.List.{length-set}
 use Rattle.std.specs.Prelude.{slice_index}
-use Rattle.least_walk.specs.Places.{IsPlace}
-use Rattle.least_walk.specs.Suffix.{HasNexts, IsLeastCost}
+use Rattle.least_walk.specs.Inner.Places.{IsPlace}
+use Rattle.least_walk.specs.Inner.Suffix.{HasNexts, IsLeastCost}
 use Rattle.least_walk.proofs.Filling.{nexts_more, nexts_same}
 use Rattle.least_walk.proofs.Places.{place_at_start}
-use Rattle.polygon_optimal.specs.Lasts.{IsUpToLast}
+use Rattle.polygon_optimal.specs.Inner.Lasts.{IsUpToLast}
 use Rattle.polygon_optimal.specs.Polygon.{penalty_of}
-use Rattle.polygon_optimal.specs.Search.{IsBegin, slot_of}
+use Rattle.polygon_optimal.specs.Inner.Search.{IsBegin, slot_of}
 use Rattle.polygon_optimal.proofs.Counting.{next_most, none_left}
 use Rattle.polygon_optimal.proofs.Leasts.{best_onward, costs_small, window_reached}
 use Rattle.polygon_optimal.proofs.Placing.{in_window, place_in_window}

@@ -1,8 +1,8 @@
 use Rattle.std.proofs.Common.{◌<◌, length}
-use Rattle.least_walk.specs.Suffix.{HasNexts}
-use Rattle.polygon_optimal.specs.Lasts.{IsUpToLast}
+use Rattle.least_walk.specs.Inner.Suffix.{HasNexts}
+use Rattle.polygon_optimal.specs.Inner.Lasts.{IsUpToLast}
 use Rattle.polygon_optimal.specs.Polygon.{penalty_of}
-use Rattle.polygon_optimal.specs.Search.{IsBegin}
+use Rattle.polygon_optimal.specs.Inner.Search.{IsBegin}
 use Rattle.polygon_optimal.proofs.Slots.{AreKept}
 use Rattle.polygon_optimal.proofs.search.fill_costs.Given as goal
 

@@ -1,10 +1,10 @@
 use Rattle.std.proofs.Common.{◌≡◌, ℕ, ◌+◌, ◌-◌, ◌<◌, length, get_or, set, sym, ◌∙◌, subst, arith}
 use Rattle.std.proofs.lemmas.List.{get_or_default, length-set}
 use Rattle.std.specs.Prelude.{slice_index}
-use Rattle.least_walk.specs.Suffix.{HasFewest}
+use Rattle.least_walk.specs.Inner.Suffix.{HasFewest}
 use Rattle.least_walk.proofs.Going.{fewest_below}
-use Rattle.polygon_optimal.specs.Lasts.{IsUpToLast}
-use Rattle.polygon_optimal.specs.Search.{AreFalling}
+use Rattle.polygon_optimal.specs.Inner.Lasts.{IsUpToLast}
+use Rattle.polygon_optimal.specs.Inner.Search.{AreFalling}
 use Rattle.polygon_optimal.proofs.Counting.{counts_more, falling_more}
 use Rattle.polygon_optimal.proofs.search.fill_counts.Goals as goal
 

@@ -1,7 +1,7 @@
 use Rattle.std.proofs.Common.{length}
-use Rattle.least_walk.specs.Suffix.{HasFewest}
-use Rattle.polygon_optimal.specs.Lasts.{IsUpToLast}
-use Rattle.polygon_optimal.specs.Search.{AreFalling}
+use Rattle.least_walk.specs.Inner.Suffix.{HasFewest}
+use Rattle.polygon_optimal.specs.Inner.Lasts.{IsUpToLast}
+use Rattle.polygon_optimal.specs.Inner.Search.{AreFalling}
 use Rattle.polygon_optimal.proofs.search.fill_counts.Given as goal
 
 abbrev pub invariant-loop-from : goal.invariant-loop-from

@@ -1,9 +1,9 @@
 use Rattle.std.proofs.Common.{◌≡◌, ℕ, List, length, sym, ◌∙◌, subst, arith}
-use Rattle.least_walk.specs.Suffix.{HasFewest, HasNexts}
+use Rattle.least_walk.specs.Inner.Suffix.{HasFewest, HasNexts}
 use Rattle.least_walk.proofs.Lists.{whole}
-use Rattle.polygon_optimal.specs.Lasts.{IsUpToLast}
+use Rattle.polygon_optimal.specs.Inner.Lasts.{IsUpToLast}
 use Rattle.polygon_optimal.specs.Polygon.{penalty_of}
-use Rattle.polygon_optimal.specs.Search.{AreFalling}
+use Rattle.polygon_optimal.specs.Inner.Search.{AreFalling}
 use Rattle.polygon_optimal.proofs.search.least_by_windows.Goals as goal
 
 pub walk_along-requires-clause-counts : goal.walk_along-requires-clause-counts

@@ -3,7 +3,7 @@ use Rattle.least_walk.specs.LeastWalk.{IsLeast}
 use Rattle.least_walk.proofs.Walks.{step_count-walk_from, total_cost-least, step_count-least}
 use Rattle.least_walk.proofs.Written.{written_none, written_place, written_more, written_all}
 use Rattle.least_walk.proofs.Places.{place_at_start}
-use Rattle.polygon_optimal.specs.Lasts.{IsUpToLast}
+use Rattle.polygon_optimal.specs.Inner.Lasts.{IsUpToLast}
 use Rattle.polygon_optimal.specs.Polygon.{penalty_of}
 use Rattle.polygon_optimal.proofs.search.walk_along.Goals as goal
 

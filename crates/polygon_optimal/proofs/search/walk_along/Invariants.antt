@@ -1,6 +1,6 @@
 use Rattle.std.proofs.Common.{◌-◌, length}
 use Rattle.least_walk.proofs.Written.{IsWritten}
-use Rattle.polygon_optimal.specs.Lasts.{IsUpToLast}
+use Rattle.polygon_optimal.specs.Inner.Lasts.{IsUpToLast}
 use Rattle.polygon_optimal.specs.Polygon.{penalty_of}
 use Rattle.polygon_optimal.proofs.search.walk_along.Given as goal
 

@@ -1,6 +1,6 @@
 use Rattle.std.proofs.Common.{List, subst, arith}
 use Rattle.pt_core.specs.declared.point.Point.{Point}
-use Rattle.polygon_optimal.specs.Lasts.{IsLast}
+use Rattle.polygon_optimal.specs.Inner.Lasts.{IsLast}
 use Rattle.polygon_optimal.proofs.Reaching.{lasts_more}
 use Rattle.polygon_optimal.proofs.segments.lasts.Goals as goal
 

@@ -1,6 +1,6 @@
 use Rattle.std.proofs.Common.{◌≡◌, ℕ, ◌<◌, length}
 use Rattle.std.specs.Prelude.{slice_index}
-use Rattle.polygon_optimal.specs.Lasts.{IsLast}
+use Rattle.polygon_optimal.specs.Inner.Lasts.{IsLast}
 use Rattle.polygon_optimal.proofs.segments.lasts.Given as goal
 
 abbrev pub invariant-loop-i : goal.invariant-loop-i

@@ -1,5 +1,5 @@
 use Rattle.std.proofs.Common.{◌≡◌, ℕ, ◌<◌, length, get_or}
-use Rattle.prefix_moments.specs.Table.{prefix_of, no_prefix}
+use Rattle.prefix_moments.specs.Inner.Table.{prefix_of, no_prefix}
 use Rattle.prefix_moments.proofs.moments.table.Given as goal
 
 -- the rows so far hold the sums so far, and the next one's are ready

@@ -1,6 +1,6 @@
 use Rattle.std.proofs.Common.{◌≡◌, ◌≤◌, length}
-use Rattle.straight_paths.specs.Sweeps.{AreStraightFrom, IsSweep}
-use Rattle.straight_paths.specs.Tables.{IsWordTable}
+use Rattle.straight_paths.specs.Inner.Sweeps.{AreStraightFrom, IsSweep}
+use Rattle.straight_paths.specs.Inner.Tables.{IsWordTable}
 use Rattle.straight_paths.proofs.fill.fill_from.Given as goal
 
 -- the points from the index on are done

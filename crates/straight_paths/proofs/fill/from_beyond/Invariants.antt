@@ -1,6 +1,6 @@
 use Rattle.std.proofs.Common.{◌≤◌, length}
-use Rattle.straight_paths.specs.Sweeps.{IsSweep}
-use Rattle.straight_paths.specs.Tables.{IsWordTable}
+use Rattle.straight_paths.specs.Inner.Sweeps.{IsSweep}
+use Rattle.straight_paths.specs.Inner.Tables.{IsWordTable}
 use Rattle.straight_paths.proofs.fill.from_beyond.Given as goal
 
 abbrev pub invariant-loop-index : goal.invariant-loop-index

@@ -1,7 +1,7 @@
 use Rattle.std.proofs.Common.{◌≡◌, ◌+◌, ◌-◌, ◌<◌, min, ℕ, length, length-set, ◌∙◌, subst, rules, arith}
-use Rattle.straight_paths.specs.Sweeps.{IsTold}
-use Rattle.straight_paths.specs.Tables.{LeadsToWord, count_at}
-use Rattle.straight_paths.specs.Tails.{IsStraightFor, limit_of}
+use Rattle.straight_paths.specs.Inner.Sweeps.{IsTold}
+use Rattle.straight_paths.specs.Inner.Tables.{LeadsToWord, count_at}
+use Rattle.straight_paths.specs.Inner.Tails.{IsStraightFor, limit_of}
 use Rattle.straight_paths.proofs.Coding.{goes_by_one}
 use Rattle.straight_paths.proofs.Places.{one_more_down}
 use Rattle.straight_paths.proofs.Tabling.{entry_leads}

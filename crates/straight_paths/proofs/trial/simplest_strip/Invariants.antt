@@ -1,4 +1,4 @@
-use Rattle.straight_paths.specs.Slopes.{AreSmallSlopes}
+use Rattle.straight_paths.specs.Inner.Slopes.{AreSmallSlopes}
 use Rattle.straight_paths.proofs.trial.simplest_strip.Given as goal
 
 abbrev pub invariant-loop : goal.invariant-loop

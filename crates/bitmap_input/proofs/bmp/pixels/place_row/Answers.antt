@@ -1,6 +1,6 @@
 use Rattle.std.proofs.Common.{◌+◌, ◌/◌, ap, ◌∙◌, arith}
 use Rattle.bit_image.specs.Page.{image_of}
-use Rattle.bitmap_input.specs.Raster.{with_row}
+use Rattle.bitmap_input.specs.Inner.Raster.{with_row}
 use Rattle.bitmap_input.proofs.BmpBits.{bits_shown}
 use Rattle.bitmap_input.proofs.bmp.pixels.place_row.Goals as goal
 

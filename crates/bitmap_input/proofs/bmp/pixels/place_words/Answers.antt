@@ -2,7 +2,7 @@ use Rattle.std.proofs.Common.{◌-◌, ◌*◌, ◌+◌, ℕ, Bool, false, lengt
 use Rattle.std.specs.List.{range_with_len}
 use Rattle.std.proofs.lemmas.List.FromFn.{get_or-map-range_with_len, length-map-range_with_len}
 use Rattle.bit_image.specs.Page.{image_of}
-use Rattle.bitmap_input.specs.BmpHead.{shade_in}
+use Rattle.bitmap_input.specs.Inner.BmpHead.{shade_in}
 use Rattle.bitmap_input.proofs.BmpPixels.{columns_within}
 use Rattle.bitmap_input.proofs.Rows.{none_placed, word_placed, words_placed, white_past}
 use Rattle.bitmap_input.proofs.bmp.pixels.place_words.Goals as goal

@@ -1,6 +1,6 @@
 use Rattle.std.proofs.Common.{◌≡◌, ◌+◌, ◌/◌}
 use Rattle.bit_image.specs.Page.{SameSides, image_of}
-use Rattle.bitmap_input.specs.BmpHead.{shade_in}
+use Rattle.bitmap_input.specs.Inner.BmpHead.{shade_in}
 use Rattle.bitmap_input.proofs.Rows.{WordsPlaced}
 use Rattle.bitmap_input.proofs.bmp.pixels.place_words.Given as goal
 

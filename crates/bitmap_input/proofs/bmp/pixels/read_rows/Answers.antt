@@ -6,8 +6,8 @@ use Rattle.bit_image.specs.Page.{image_of}
 use Rattle.bitmap_input.specs.Cut.Cut.{Takes}
 use Rattle.bitmap_input.specs.Raw.{black}
 use Rattle.bitmap_input.specs.BmpRaster.{pixel_in}
-use Rattle.bitmap_input.specs.BmpHead.{bits_in, shade_in, row_place, row_bytes_by}
-use Rattle.bitmap_input.specs.Raster.{with_row, with_placed}
+use Rattle.bitmap_input.specs.Inner.BmpHead.{bits_in, shade_in, row_place, row_bytes_by}
+use Rattle.bitmap_input.specs.Inner.Raster.{with_row, with_placed}
 use Rattle.bitmap_input.proofs.BmpStays.{color_row_stays}
 use Rattle.bitmap_input.proofs.BmpPixels.{shade_is, shades_are, placed_painted}
 use Rattle.bitmap_input.proofs.Telling.{reads_map, reads_stop}

@@ -1,10 +1,10 @@
 use Rattle.std.proofs.Common.{◌≡◌, ℕ, ◌-◌, length, map, Ok}
-use Rattle.bitmap_input.specs.Reading.{Leaves}
+use Rattle.bitmap_input.specs.Inner.Reading.{Leaves}
 use Rattle.bit_image.specs.Page.{SameSides, image_of}
 use Rattle.bitmap_input.specs.Raw.{Entry, black}
 use Rattle.bitmap_input.specs.BmpRaster.{color_row}
-use Rattle.bitmap_input.specs.BmpHead.{IsPaletteTable, bits_in, row_place, row_bytes_by}
-use Rattle.bitmap_input.specs.Raster.{with_placed}
+use Rattle.bitmap_input.specs.Inner.BmpHead.{IsPaletteTable, bits_in, row_place, row_bytes_by}
+use Rattle.bitmap_input.specs.Inner.Raster.{with_placed}
 use Rattle.bitmap_input.proofs.Gathering.{IsGatheredSoFar}
 use Rattle.bitmap_input.proofs.bmp.pixels.read_rows.Given as goal
 

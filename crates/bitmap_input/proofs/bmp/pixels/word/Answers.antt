@@ -1,6 +1,6 @@
 use Rattle.std.proofs.Common.{◌+◌, ◌&&◌, ◌∙◌, length, ap, arith}
 use Rattle.std.proofs.lemmas.Bool.{lt-ltb}
-use Rattle.bitmap_input.specs.BmpHead.{shade_in}
+use Rattle.bitmap_input.specs.Inner.BmpHead.{shade_in}
 use Rattle.bitmap_input.proofs.BmpPixels.{column_within}
 use Rattle.bitmap_input.proofs.Rows.{none_first, one_more}
 use Rattle.bitmap_input.proofs.bmp.pixels.word.Goals as goal

@@ -1,5 +1,5 @@
 use Rattle.std.proofs.Common.{◌+◌}
-use Rattle.bitmap_input.specs.BmpHead.{shade_in}
+use Rattle.bitmap_input.specs.Inner.BmpHead.{shade_in}
 use Rattle.bitmap_input.proofs.Rows.{HasFirst}
 use Rattle.bitmap_input.proofs.bmp.pixels.word.Given as goal
 

@@ -1,7 +1,8 @@
 use Rattle.std.proofs.Common.{◌≡◌, true, refl, ap, sym, arith}
 use Rattle.bitmap_input.specs.declared.fault.InFault.TheVariants as fault
 use Rattle.bitmap_input.specs.Cut.Ending.{End, Trailing}
-use Rattle.bitmap_input.specs.Reading.{cause_of, cause_of_fault}
+use Rattle.bitmap_input.specs.Inner.Reading.{cause_of}
+use Rattle.bitmap_input.specs.Reading.{cause_of_fault}
 use Rattle.bitmap_input.specs.Reader.{Reader}
 use Rattle.bitmap_input.proofs.Answering.{reader_of, gives_page, gives_ending, fails_read, wants_memory, if_says, told_page, told_says, over_comes, page_comes, end_comes, trailing_comes, fault_comes}
 use Rattle.bitmap_input.proofs.GrayAnswers.{still_at_end, never_falls}

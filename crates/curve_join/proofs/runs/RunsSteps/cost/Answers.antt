@@ -1,6 +1,6 @@
 use Rattle.curve_join.proofs.Slices.{joinable, penalty_is, shown_small}
 use Rattle.std.proofs.Common.{arith}
-use Rattle.curve_join.specs.Costs.{goes_up}
+use Rattle.curve_join.specs.Inner.Costs.{goes_up}
 use Rattle.curve_join.proofs.runs.RunsSteps.cost.Goals as goal
 
 -- the run may be joined

@@ -1,8 +1,8 @@
 use Rattle.std.proofs.Common.{◌≡◌, ◌+◌, sym, subst, arith}
 use Rattle.prefix_moments.specs.Sums.{IsPenalty}
 use Rattle.polygon_optimal.specs.Polygon.{penalty_of}
-use Rattle.polygon_optimal.specs.OnePenalty.{penalty_is, penalty_most}
-use Rattle.cyclic_optimal.specs.Fans.{IsFanOf}
+use Rattle.polygon_optimal.specs.Inner.OnePenalty.{penalty_is, penalty_most}
+use Rattle.cyclic_optimal.specs.Inner.Fans.{IsFanOf}
 use Rattle.cyclic_optimal.proofs.Fanning.{fan_penalty, some_is, where_none}
 use Rattle.cyclic_optimal.proofs.Worth.{dear}
 use Rattle.cyclic_optimal.proofs.sides.Sides.penalty_below.Goals as goal

@@ -1,6 +1,7 @@
 use Rattle.std.proofs.Common.{◌≡◌, ℕ, ◌+◌, ◌-◌, ◌*◌, ◌≤◌, ◌<◌, length, get_or, arith, ap, sym, ◌∙◌}
 use Rattle.std.specs.Prelude.{nat_le}
-use Rattle.mkbitmap.specs.Enlarged.{before_within, mixed_column, mixed_raised, dark, is_black, dark_limit}
+use Rattle.mkbitmap.specs.Enlarged.{before_within, mixed_column, mixed_raised, is_black, dark_limit}
+use Rattle.mkbitmap.specs.Inner.Enlarged.{dark}
 use Rattle.mkbitmap.proofs.Lifting.{black-is}
 use Rattle.mkbitmap.proofs.Placing.{after-within}
 use Rattle.mkbitmap.proofs.Enlarging.{held_most, column_is, packed_same, dark_is}

@@ -1,6 +1,6 @@
 use Rattle.std.proofs.Common.{◌∙◌, length, ap, refl, arith}
 use Rattle.std.proofs.lemmas.Slice.Zip.{AllZip-long}
-use Rattle.page_batches.specs.Held.{is_open_held}
+use Rattle.page_batches.specs.Inner.Held.{is_open_held}
 use Rattle.page_batches.proofs.Batching.{items_are_held, open_by, pages_held-held_by, turn_by}
 use Rattle.page_batches.proofs.Carrying.{memory_out}
 use Rattle.page_batches.proofs.batch.Batch.carry_out.Goals as goal

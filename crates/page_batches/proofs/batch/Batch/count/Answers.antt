@@ -1,5 +1,5 @@
 use Rattle.std.proofs.Common.{ap, arith}
-use Rattle.page_batches.specs.Held.{pages_held}
+use Rattle.page_batches.specs.Inner.Held.{pages_held}
 use Rattle.page_batches.proofs.Batching.{pages_held-held_by}
 use Rattle.page_batches.proofs.batch.Batch.count.Goals as goal
 

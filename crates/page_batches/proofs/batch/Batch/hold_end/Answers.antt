@@ -6,7 +6,7 @@ use Rattle.run_output.specs.Messages.{trailing_line}
 use Rattle.run_output.specs.contracts.part.Binding.{the_type}
 use Rattle.run_output.specs.declared.part.Binding.{Binding}
 use Rattle.run_output.specs.declared.part.Binding.TheVariants.{Apart, Together}
-use Rattle.page_batches.specs.Held.{end_held}
+use Rattle.page_batches.specs.Inner.Held.{end_held}
 use Rattle.page_batches.specs.Held.Held.{Message}
 use Rattle.page_batches.proofs.batch.Batch.hold_end.Goals as goal
 use Rattle.page_batches.proofs.batch.Batch.hold_end.Goals.{then-eq, else-eq}

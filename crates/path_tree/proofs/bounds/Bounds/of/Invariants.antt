@@ -1,6 +1,6 @@
 use Rattle.std.proofs.Common.{◌≤◌}
 use Rattle.std.specs.List.{AllWithin}
-use Rattle.path_tree.specs.Candidates.{IsInBounds}
+use Rattle.path_tree.specs.Inner.Candidates.{IsInBounds}
 use Rattle.path_tree.proofs.bounds.Bounds.of.Given as goal
 
 -- the points so far lie between the bounds

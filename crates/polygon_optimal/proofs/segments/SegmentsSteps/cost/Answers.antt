@@ -2,7 +2,7 @@ use Rattle.std.proofs.Common.{ℕ, ◌<◌, ◌≤◌, List, length, inl, inr, a
 use Rattle.std.proofs.lemmas.Bool.{cases_lt}
 use Rattle.std.proofs.lemmas.List.{get_or_past}
 use Rattle.std.specs.Prelude.{slice_index}
-use Rattle.polygon_optimal.specs.OnePenalty.{penalty_is_one}
+use Rattle.polygon_optimal.specs.Inner.OnePenalty.{penalty_is_one}
 use Rattle.polygon_optimal.proofs.segments.SegmentsSteps.cost.Goals as goal
 
 -- a segment leads from a point of the path

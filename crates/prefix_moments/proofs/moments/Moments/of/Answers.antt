@@ -1,6 +1,6 @@
 use Rattle.std.proofs.Common.{List, sym, subst}
 use Rattle.pt_core.specs.declared.point.Point.{Point}
-use Rattle.prefix_moments.specs.Table.{IsTable}
+use Rattle.prefix_moments.specs.Inner.Table.{IsTable}
 use Rattle.prefix_moments.proofs.Prefixes.{points_of_table}
 use Rattle.prefix_moments.proofs.moments.Moments.of.Goals as goal
 

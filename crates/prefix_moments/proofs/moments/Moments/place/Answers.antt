@@ -1,7 +1,7 @@
 use Rattle.std.proofs.Common.{◌≡◌, ◌-◌, ◌%◌, List, length, ap, sym, ◌∙◌, subst, arith}
 use Rattle.pt_core.specs.declared.point.Point.{Point}
 use Rattle.pt_core.specs.OnPage.{IsOnPage}
-use Rattle.prefix_moments.specs.Table.{IsTable}
+use Rattle.prefix_moments.specs.Inner.Table.{IsTable}
 use Rattle.prefix_moments.proofs.Prefixes.{place_is}
 use Rattle.prefix_moments.proofs.moments.Moments.place.Goals as goal
 

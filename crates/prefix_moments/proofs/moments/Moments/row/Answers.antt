@@ -1,6 +1,6 @@
 use Rattle.std.proofs.Common.{◌≡◌, ◌-◌, List, length, subst, arith}
 use Rattle.pt_core.specs.declared.point.Point.{Point}
-use Rattle.prefix_moments.specs.Table.{IsTable}
+use Rattle.prefix_moments.specs.Inner.Table.{IsTable}
 use Rattle.prefix_moments.proofs.Prefixes.{row_is, lap_is}
 use Rattle.prefix_moments.proofs.moments.Moments.row.Goals as goal
 

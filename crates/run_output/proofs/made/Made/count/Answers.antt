@@ -2,7 +2,8 @@ use Rattle.std.proofs.Common.{◌+◌, ◌∙◌, length, ap, arith}
 use Rattle.std.specs.List.{sum_by}
 use Rattle.std.proofs.lemmas.List.{take_all}
 use Rattle.std.proofs.lemmas.List.Sums.{sum_by_more}
-use Rattle.run_output.specs.Made.{Past, documents_of, made_by}
+use Rattle.run_output.specs.Made.{Past}
+use Rattle.run_output.specs.Inner.Made.{documents_of, made_by}
 use Rattle.run_output.specs.Names.{count_of}
 use Rattle.run_output.proofs.Naming.{documents_all, documents_most}
 use Rattle.run_output.proofs.made.Made.count.Goals as goal

@@ -1,6 +1,6 @@
 use Rattle.std.proofs.Common.{◌≡◌, take}
 use Rattle.std.specs.List.{sum_by}
-use Rattle.run_output.specs.Made.{documents_of}
+use Rattle.run_output.specs.Inner.Made.{documents_of}
 use Rattle.run_output.proofs.made.Made.count.Given as goal
 
 -- the documents of the first files are counted

@@ -1,6 +1,6 @@
 use Rattle.std.proofs.Common.{◌≡◌, ◌+◌, Bool, true, false, not, suc, refl, subst, IsTrue, rules, arith}
 use Rattle.std.proofs.lemmas.Bool.{false≢true}
-use Rattle.straight_paths.specs.Cones.{HoldsWay}
+use Rattle.straight_paths.specs.Inner.Cones.{HoldsWay}
 use Rattle.straight_paths.specs.Straight.{TakesAllFour}
 use Rattle.straight_paths.specs.declared.cone.Cone.{Cone}
 use Rattle.straight_paths.proofs.Wording.{not_held, straight_on}

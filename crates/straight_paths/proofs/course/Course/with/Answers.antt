@@ -1,8 +1,8 @@
 use Rattle.std.proofs.Common.{◌≡◌, ◌+◌, ◌↔◌, suc, sym, subst, arith}
-use Rattle.straight_paths.specs.Cones.{HoldsWay}
-use Rattle.straight_paths.specs.Courses.{cone_of}
+use Rattle.straight_paths.specs.Inner.Cones.{HoldsWay}
+use Rattle.straight_paths.specs.Inner.Courses.{cone_of}
 use Rattle.straight_paths.specs.Straight.{IsNear}
-use Rattle.straight_paths.specs.Words.{AreTaken}
+use Rattle.straight_paths.specs.Inner.Words.{AreTaken}
 use Rattle.straight_paths.specs.declared.cone.Cone.{Cone}
 use Rattle.straight_paths.specs.declared.course.Course.{Course}
 use Rattle.straight_paths.specs.declared.vector.Vector.{Vector}

@@ -1,6 +1,6 @@
 use Rattle.std.proofs.Common.{ℕ, ◌-◌, IfSome, subst, arith}
 use Rattle.pt_core.specs.declared.point.Point.{Point}
-use Rattle.straight_paths.specs.Strips.{StaysIn}
+use Rattle.straight_paths.specs.Inner.Strips.{StaysIn}
 use Rattle.straight_paths.proofs.Ends.{clear_at, path_at_place}
 use Rattle.straight_paths.proofs.Windows.{seen_earlier}
 use Rattle.straight_paths.proofs.sweep.Seen.scanned.Goals as goal

@@ -1,4 +1,4 @@
-use Rattle.straight_paths.specs.Tables.{count_at}
+use Rattle.straight_paths.specs.Inner.Tables.{count_at}
 use Rattle.straight_paths.proofs.table.Table.+next.Given as goal
 
 abbrev pub decreases-next : goal.decreases-next

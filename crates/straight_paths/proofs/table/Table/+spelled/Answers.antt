@@ -1,5 +1,5 @@
 use Rattle.std.proofs.Common.{◌<◌, ◌%◌, arith}
-use Rattle.straight_paths.specs.Tables.{StandsFor, LeadsToWord}
+use Rattle.straight_paths.specs.Inner.Tables.{StandsFor, LeadsToWord}
 use Rattle.straight_paths.proofs.Tabling.{if_some, keeps_on, spelled_longer}
 use Rattle.straight_paths.proofs.table.Table.+spelled.Goals as goal
 

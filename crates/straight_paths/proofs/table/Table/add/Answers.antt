@@ -1,5 +1,5 @@
 use Rattle.std.proofs.Common.{◌+◌, ◌≤◌, ℕ, refl, arith}
-use Rattle.straight_paths.specs.Tables.{KeepsWords}
+use Rattle.straight_paths.specs.Inner.Tables.{KeepsWords}
 use Rattle.straight_paths.specs.declared.table.Table.{Table}
 use Rattle.straight_paths.proofs.Tabling.{table_kept, word_added}
 use Rattle.straight_paths.proofs.table.Table.add.Goals as goal

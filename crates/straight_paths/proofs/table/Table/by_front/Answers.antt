@@ -1,10 +1,10 @@
 use Rattle.std.proofs.Common.{◌≡◌, ℕ, suc, sym, ◌∙◌, subst, IsTrue, rules}
 use Rattle.pt_core.specs.declared.point.Point.{Point}
-use Rattle.straight_paths.specs.Codes.{coded_step}
+use Rattle.straight_paths.specs.Inner.Codes.{coded_step}
 use Rattle.straight_paths.specs.Corners.{step_from}
-use Rattle.straight_paths.specs.Courses.{HasCourse}
+use Rattle.straight_paths.specs.Inner.Courses.{HasCourse}
 use Rattle.straight_paths.specs.Straight.{IsStraight}
-use Rattle.straight_paths.specs.Tables.{count_at, course_at, digits_at}
+use Rattle.straight_paths.specs.Inner.Tables.{count_at, course_at, digits_at}
 use Rattle.straight_paths.specs.declared.course.Course.{Course}
 use Rattle.straight_paths.proofs.Pieces.{rest_of}
 use Rattle.straight_paths.proofs.Tabling.{tells_end, tells_less, whole_straight}

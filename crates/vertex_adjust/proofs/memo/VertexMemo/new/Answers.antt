@@ -1,8 +1,8 @@
 use Rattle.std.proofs.Common.{List, sym, subst}
 use Rattle.std.specs.List.{All}
 use Rattle.std.proofs.lemmas.List.Elements.{All-replicate}
-use Rattle.vertex_adjust.specs.Line.{IsNormal}
-use Rattle.vertex_adjust.specs.Quadratic.{IsLeastShift}
+use Rattle.vertex_adjust.specs.Inner.Line.{IsNormal}
+use Rattle.vertex_adjust.specs.Inner.Quadratic.{IsLeastShift}
 use Rattle.vertex_adjust.specs.declared.memo.LeastShift.{LeastShift}
 use Rattle.vertex_adjust.specs.declared.normal.Normal.{Normal}
 use Rattle.vertex_adjust.proofs.memo.VertexMemo.new.Goals as goal

@@ -1,6 +1,6 @@
 use Rattle.std.proofs.Common.{sym, subst, rules, refl}
 use Rattle.std.proofs.lemmas.List.Elements.{All-set}
-use Rattle.vertex_adjust.specs.Quadratic.{IsErrorOver, IsLeastShift}
+use Rattle.vertex_adjust.specs.Inner.Quadratic.{IsErrorOver, IsLeastShift}
 use Rattle.vertex_adjust.specs.declared.memo.LeastShift.{LeastShift}
 use Rattle.vertex_adjust.specs.declared.quadratic.Quadratic.{Quadratic}
 use Rattle.vertex_adjust.proofs.memo.VertexMemo.shift.Goals as goal

@@ -1,0 +1,30 @@
+-- How a bitmap keeps its pixels: 64 in a word, the least significant bit leftmost, the words of a row from
+-- left to right, and row after row from the lowest up.
+-- These serve inner contracts alone: no promise rests on them.
+use Rattle.std.specs.Prelude.{◌≡◌, ℕ, ◌+◌, ◌*◌, ◌/◌, ◌%◌, ◌≤◌, ◌<◌, Bool, false, List, length, take, drop, slice_index_or}
+use Rattle.pt_core.specs.declared.limits.TheConstants.{LONGEST_SIDE}
+use Rattle.bit_image.specs.Image.{Image}
+use Rattle.bit_image.specs.Words.{is_one}
+
+-- the pixel in column x of a row of words is black
+unfoldable pub black_in : List ℕ → ℕ → Bool
+black_in row x = is_one (slice_index_or row (x / 64) 0) (x % 64)
+
+-- the words of row y, where a row has `stride` words
+abbrev pub row_of : ℕ → List ℕ → ℕ → List ℕ
+row_of stride words y = take stride (drop (y * stride) words)
+
+-- the pixels that the words keep
+abbrev pub pixels_of : ℕ → List ℕ → Image
+pixels_of stride words x y = black_in (row_of stride words y) x
+
+-- both sides are 1 to the longest one, a row has as few words as hold its pixels, and bits past the width are 0
+pub record IsPacked (width height stride : ℕ) (words : List ℕ) : Type 0 where
+  pub some_width : 1 ≤ width
+  pub most_width : width ≤ LONGEST_SIDE
+  pub some_height : 1 ≤ height
+  pub most_height : height ≤ LONGEST_SIDE
+  pub enough : width ≤ 64 * stride
+  pub no_more : 64 * stride < width + 64
+  pub word_count : length words ≡ height * stride
+  pub clear : (x y : ℕ) → width ≤ x → pixels_of stride words x y ≡ false

@@ -1,0 +1,13 @@
+-- The reader of a gray page, and what its answers say of the file.
+-- These serve inner contracts alone: no promise rests on them.
+use Rattle.bitmap_input.specs.Cut.Ending.{End, Trailing, Refused}
+use Rattle.bitmap_input.specs.Reading.{Cause}
+use Rattle.bitmap_input.specs.Reading.Cause.{Says, Device, Memory}
+
+-- the pages end, and no page is refused
+abbrev pub IsNoFault : Cause → Type 0
+IsNoFault (Says End) = Unit {0}
+IsNoFault (Says Trailing) = Unit {0}
+IsNoFault (Says (Refused kind)) = ⊥
+IsNoFault Device = ⊥
+IsNoFault Memory = ⊥

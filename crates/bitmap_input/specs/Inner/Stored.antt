@@ -1,0 +1,58 @@
+-- How the pixels of a page are stored in the program, and which of them are black.
+use Rattle.std.specs.Prelude.{◌≡◌, ℕ, ◌*◌, Bool, List}
+use Rattle.bit_image.specs.Image.{differ}
+use Rattle.bitmap_input.specs.Cut.{Cut}
+use Rattle.bitmap_input.specs.Parts.{repeated}
+use Rattle.bitmap_input.specs.Raw.{Entry, black, row_bytes}
+use Rattle.bitmap_input.specs.Raw.Entry.{Bit}
+use Rattle.bitmap_input.specs.Front.{plain_pixel, raw_row}
+use Rattle.bitmap_input.specs.Samples.{PixelSamples, samples_in, as_entry, plain_samples, raw_samples_row, sample_bytes}
+use Rattle.bitmap_input.specs.Inner.Shading.{black_of, IsInRange}
+use Rattle.bitmap_input.specs.declared.raster.Raster.{Raster}
+use Rattle.bitmap_input.specs.declared.raster.Raster.TheVariants.{PlainBits, RawBits, PlainSamples, RawSamples}
+
+-- what is stored of a pixel
+abbrev pub StoredPixel : Raster → Type 0
+StoredPixel (PlainBits invert) = Bool
+StoredPixel (RawBits invert) = Bool
+StoredPixel (PlainSamples s) = PixelSamples s.channels
+StoredPixel (RawSamples s) = PixelSamples s.channels
+
+-- a row of so many pixels
+abbrev pub row_stored : (r : Raster) → ℕ → List ℕ → Cut (List (StoredPixel r))
+row_stored (PlainBits invert) width = repeated plain_pixel width
+row_stored (RawBits invert) width = raw_row width
+row_stored (PlainSamples s) width = repeated (plain_samples s.channels) width
+row_stored (RawSamples s) width = raw_samples_row s.channels s.maxval width
+
+-- the entry that a pixel stands for
+abbrev pub pixel_entry : (r : Raster) → StoredPixel r → Entry
+pixel_entry (PlainBits invert) b = Bit b
+pixel_entry (RawBits invert) b = Bit b
+pixel_entry (PlainSamples s) a = as_entry s.channels s.maxval a
+pixel_entry (RawSamples s) a = as_entry s.channels s.maxval a
+
+-- whether a pixel is black
+abbrev pub is_black_pixel : (r : Raster) → StoredPixel r → Bool
+is_black_pixel (PlainBits invert) b = differ invert b
+is_black_pixel (RawBits invert) b = differ invert b
+is_black_pixel (PlainSamples s) a = black_of s a
+is_black_pixel (RawSamples s) a = black_of s a
+
+-- the bytes of a row, where each row has as many
+abbrev pub line_bytes : Raster → ℕ → ℕ
+line_bytes (PlainBits invert) width = 0
+line_bytes (RawBits invert) width = row_bytes width
+line_bytes (PlainSamples s) width = 0
+line_bytes (RawSamples s) width = sample_bytes s.maxval (samples_in s.channels * width)
+
+-- the pixels that are black are those at this level, inverted or not
+abbrev pub IsAtLevel : ℕ → Bool → Raster → Type 0
+IsAtLevel level invert r = (a : StoredPixel r) → black level invert (pixel_entry r a) ≡ is_black_pixel r a
+
+-- where samples stand as numbers, the shading is in range
+abbrev pub IsStoredInRange : Raster → Type 0
+IsStoredInRange (PlainBits invert) = Unit {0}
+IsStoredInRange (RawBits invert) = Unit {0}
+IsStoredInRange (PlainSamples s) = IsInRange s
+IsStoredInRange (RawSamples s) = Unit {0}

@@ -1,0 +1,17 @@
+-- The choice among all ways to cut an outline into runs (Selinger, "Potrace: a polygon-based tracing algorithm",
+-- 2003, section 2.4): the fewest pieces, then the least penalty. That no run goes on over the first piece, and the
+-- last of the rules by which one cut comes before another, are our own.
+-- These serve inner contracts alone: no promise rests on them.
+use Rattle.std.specs.Prelude.{ℕ, ◌+◌, ◌<◌, ◌≤◌, List, length, slice_range, All}
+use Rattle.curve_join.specs.Join.{GoesRound, first_bend, sense_at}
+use Rattle.curve_join.specs.declared.bend.Bend.{Bend}
+use Rattle.curve_join.specs.Choice.{MayBeOne}
+
+-- no run that begins here goes on beyond this number, and up to it the pieces go round as a run does
+pub record IsLastRun (bends : List Bend) (i last : ℕ) : Type 0 where
+  pub beyond : i < last
+  pub within : last ≤ length bends
+  pub few : last ≤ i + 64
+  pub all : (tol j : ℕ) → MayBeOne tol bends i j → j ≤ last
+  pub round : (j : ℕ) → i + 1 < j → j ≤ last
+      → All (GoesRound (sense_at (slice_range bends i j)) (first_bend (slice_range bends i j)).arrives) (slice_range bends i j)

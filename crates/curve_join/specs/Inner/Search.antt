@@ -1,0 +1,20 @@
+-- What the search for the best cut of an outline knows of the ways on from its pieces.
+use Rattle.std.specs.Prelude.{◌≡◌, ℕ, ◌+◌, ◌≤◌, List, slice_index}
+use Rattle.least_walk.specs.Inner.Suffix.{IsLeastCost}
+use Rattle.curve_join.specs.declared.search.WayOn.{WayOn}
+
+-- the first way on doesn't come behind the second: by its number of runs, then by what they cost, then by where the
+-- first of them ends
+pub record IsNotBehind (a b : WayOn) : Type 0 where
+  pub count : a.count ≤ b.count
+  pub cost : a.count ≡ b.count → a.cost ≤ b.cost
+  pub next : a.count ≡ b.count → a.cost ≡ b.cost → a.next ≤ b.next
+
+-- a way on, with the penalty of its first run
+abbrev pub paid : ℕ → WayOn → WayOn
+paid penalty way = record { count = way.count; cost = way.cost + penalty; next = way.next }
+
+-- at each index from `low` to the end stands what the least way to go on from there costs
+abbrev pub AreLeastCosts : ℕ → (ℕ → ℕ → Type 0) → (ℕ → ℕ → ℕ) → ℕ → List ℕ → Type 0
+AreLeastCosts size is_allowed cost low costs = (k : ℕ) → low ≤ k → k ≤ size
+    → IsLeastCost size is_allowed cost k (slice_index costs k)

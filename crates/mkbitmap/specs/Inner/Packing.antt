@@ -1,0 +1,17 @@
+-- Pixels of a row as bits and bytes (Netpbm's format page "pbm").
+-- These serve inner contracts alone: no promise rests on them.
+use Rattle.std.specs.Prelude.{ℕ, zero, suc, ◌+◌, ◌*◌, Bool, true, false}
+
+-- a black pixel is 1
+abbrev pub bit : Bool → ℕ
+bit true = 1
+bit false = 0
+
+-- the number whose binary digits are the pixels from column x on, so many
+abbrev pub bits_value : (ℕ → Bool) → ℕ → ℕ → ℕ
+bits_value black x zero = 0
+bits_value black x (suc count) = 2 * bits_value black x count + bit (black (x + count))
+
+-- eight of them
+unfoldable pub byte_of : (ℕ → Bool) → ℕ → ℕ
+byte_of black x = bits_value black x 8

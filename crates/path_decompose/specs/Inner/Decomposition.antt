@@ -1,0 +1,24 @@
+-- The decomposition of a page into paths (Selinger, "Potrace", 2003, section 2.1.1), and the removal of
+-- speckles (section 2.1.3).
+-- These serve inner contracts alone: no promise rests on them.
+use Rattle.std.specs.Prelude.{ℕ, Bool, true, List, filter, nat_lt, Option, None, Some}
+use Rattle.pt_core.specs.declared.point.Point.{Point}
+use Rattle.pt_core.specs.declared.path.Path.{Path}
+use Rattle.pt_core.specs.declared.path.Sign.{Sign}
+
+-- the path of this sign, with so many pixels inside, through these points
+abbrev pub path_of : Sign → ℕ → List Point → Path
+path_of sign area points = record { sign = sign; area = area; points = points }
+
+-- so many pixels are more than the limit, where there is one
+abbrev pub is_large : Option ℕ → ℕ → Bool
+is_large None area = true
+is_large (Some t) area = nat_lt t area
+
+-- the path has more pixels inside than the limit
+abbrev pub is_above : Option ℕ → Path → Bool
+is_above limit path = is_large limit path.area
+
+-- the paths above the limit, in order
+abbrev pub above : Option ℕ → List Path → List Path
+above limit paths = filter (is_above limit) paths

@@ -1,0 +1,9 @@
+-- Counts of faults and of openings: whole numbers of 64 bits that never fall and stand still at
+-- the greatest one.
+-- These serve inner contracts alone: no promise rests on them.
+use Rattle.std.specs.Prelude.{◌≡◌, ℕ, ◌+◌, ◌<◌}
+use Rattle.pt_core.specs.Counts.{last_count}
+
+-- the count grew by i: it is greater by i afterwards, or stands at the greatest one
+abbrev pub GrewBy : ℕ → ℕ → ℕ → Type 0
+GrewBy i before after = after < last_count → after ≡ before + i

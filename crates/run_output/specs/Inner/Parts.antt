@@ -1,0 +1,12 @@
+-- Documents in parts: how pages become parts of them (PostScript Language Document Structuring Conventions 3.0:
+-- a prolog, the pages, a trailer), and what a part adds to the documents that are told.
+-- These serve inner contracts alone: no promise rests on them.
+use Rattle.std.specs.Prelude.{ℕ, Bool, false, not}
+use Rattle.run_output.specs.declared.part.Binding.{Binding}
+use Rattle.run_output.specs.declared.part.Binding.TheVariants as binding
+use Rattle.run_output.specs.Parts.{is_first_page}
+
+-- whether a document of a file is open behind so many of its pages
+abbrev pub is_begun : Binding → ℕ → Bool
+is_begun binding.Apart pages = false
+is_begun binding.Together pages = not (is_first_page pages)

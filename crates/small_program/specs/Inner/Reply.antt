@@ -1,0 +1,35 @@
+-- What a program makes of its whole input.
+-- These serve inner contracts alone: no promise rests on them.
+use Rattle.std.specs.Prelude.{ℕ, List, codes}
+use Rattle.small_program.specs.declared.ending.Ending.{Ending}
+use Rattle.small_program.specs.declared.ending.Ending.TheVariants as ending
+use Rattle.run_output.specs.Messages.{file_line, program_line}
+use Rattle.run_output.specs.Names.{dash}
+use Rattle.small_program.specs.declared.input.InputStop.{InputStop}
+use Rattle.small_program.specs.declared.input.InputStop.TheVariants as stops
+use Rattle.small_program.specs.declared.task.Reply.{Reply}
+use Rattle.small_program.specs.declared.task.Reply.TheVariants as replies
+
+-- how a run ends with this reply, where its document is written
+abbrev pub reply_ending : Reply → Ending
+reply_ending (replies.Right text) = ending.Done
+reply_ending (replies.Wrong text) = ending.Wrong
+reply_ending (replies.Refused message) = ending.Refused
+
+-- the document's text, or why the input is refused
+abbrev pub reply_text : Reply → List ℕ
+reply_text (replies.Right text) = text.items
+reply_text (replies.Wrong text) = text.items
+reply_text (replies.Refused message) = message.now
+
+-- how a run ends that stops so at its input
+abbrev pub stop_ending : InputStop → Ending
+stop_ending stops.Unread = ending.Unread
+stop_ending stops.TooLong = ending.Refused
+stop_ending stops.OutOfMemory = ending.OutOfMemory
+
+-- and what it says
+abbrev pub stop_line : List ℕ → InputStop → List ℕ
+stop_line program stops.Unread = file_line program dash (codes "read fault")
+stop_line program stops.TooLong = file_line program dash (codes "text too long")
+stop_line program stops.OutOfMemory = program_line program (codes "out of memory")

@@ -1,0 +1,14 @@
+-- Corners of a closed path, and the straight runs between them.
+-- These serve inner contracts alone: no promise rests on them.
+use Rattle.std.specs.Prelude.{◌≡◌, ℕ, ◌+◌, ◌<◌, List, length, slice_index}
+use Rattle.pt_core.specs.declared.point.Point.{Point}
+use Rattle.straight_paths.specs.Corners.{step_from, IsNextCorner}
+
+-- for each point, the number of steps to the next corner
+abbrev pub AreNextCorners : List Point → List ℕ → Type 0
+AreNextCorners points corners = (i : ℕ) → i < length points
+    → IsNextCorner points i (slice_index corners i)
+
+-- the path goes straight on for r steps from its point number s
+abbrev pub GoesStraight : (ℕ → Point) → ℕ → ℕ → Type 0
+GoesStraight path s r = (t : ℕ) → t < r → step_from path (s + t) ≡ step_from path s

@@ -1,0 +1,97 @@
+-- Strips of the plane that are as broad as a line drawn in pixels: from one border to the other the cross product
+-- with the strip's way grows by what the way goes along rows and columns together (Reveillès' standard digital lines,
+-- 1991, with both borders).
+use Rattle.std.specs.Prelude.{◌≡◌, ℕ, ◌≤◌, ◌^◌, ℤ, pos, negsuc, neg_ℤ, ◌+ℤ◌, ◌-ℤ◌, ◌*ℤ◌, ◌≤ℤ◌, ◌<ℤ◌}
+use Rattle.pt_core.specs.declared.point.Point.{Point}
+use Rattle.straight_paths.specs.Cones.{cross_of}
+use Rattle.straight_paths.specs.Inner.Cones.{IsShort}
+use Rattle.straight_paths.specs.Inner.Tails.{way_along}
+use Rattle.straight_paths.specs.Inner.Wedges.{IsQuarter, far_of}
+use Rattle.straight_paths.specs.declared.vector.Vector.{Vector}
+use Rattle.straight_paths.specs.declared.quarter.Quarter.{Quarter}
+use Rattle.straight_paths.specs.declared.strip.Extent.{Extent}
+use Rattle.straight_paths.specs.declared.strip.Span.{Span}
+use Rattle.straight_paths.specs.declared.strip.Strip.{Strip}
+use Rattle.straight_paths.specs.declared.trial.Ends.{Ends}
+
+-- the number is from the one up to the other
+pub record IsFromTo (low high z : ℤ) : Type 0 where
+  pub least : low ≤ℤ z
+  pub most : z ≤ℤ high
+
+-- the strip's way is short and goes into its quarter, the point from which it is seen lies in it, and it isn't broader
+-- than the way allows
+pub record IsStrip (strip : Strip) : Type 0 where
+  pub quarter : IsQuarter strip.quarter
+  pub short : IsShort 65535 strip.way
+  pub right : pos 0 ≤ℤ (strip.quarter.right *ℤ strip.way.x)
+  pub up : pos 0 ≤ℤ (strip.quarter.up *ℤ strip.way.y)
+  pub breadth : strip.breadth ≡ far_of strip.quarter strip.way
+  pub some : pos 0 <ℤ strip.breadth
+  pub least : strip.across.least ≤ℤ pos 0
+  pub greatest : pos 0 ≤ℤ strip.across.greatest
+  pub narrow : (strip.across.greatest -ℤ strip.across.least) ≤ℤ strip.breadth
+  pub back_x : IsFromTo (pos 0) (pos 1) strip.back.x
+  pub back_y : IsFromTo (pos 0) (pos 1) strip.back.y
+
+-- in the path's first `count` steps, no number comes that is more than 1 below an earlier one
+abbrev pub IsOnward : (ℕ → ℤ) → ℕ → Type 0
+IsOnward f count = (j k : ℕ) → j ≤ k → k ≤ count → f j ≤ℤ (f k +ℤ pos 1)
+
+-- how far the path's point number k is from its start: across the way, and to the right and up in a quarter
+abbrev pub across_at : Vector → (ℕ → Point) → ℕ → ℤ
+across_at way path k = cross_of way (way_along path k)
+
+abbrev pub right_at : Quarter → (ℕ → Point) → ℕ → ℤ
+right_at quarter path k = quarter.right *ℤ (way_along path k).x
+
+abbrev pub up_at : Quarter → (ℕ → Point) → ℕ → ℤ
+up_at quarter path k = quarter.up *ℤ (way_along path k).y
+
+-- the path's first `count` steps stay in the strip, never go back in its quarter by more than 1, and never farther
+-- behind the start than the strip says
+pub record StaysIn (strip : Strip) (path : ℕ → Point) (count : ℕ) : Type 0 where
+  pub inside : (k : ℕ) → k ≤ count → IsFromTo strip.across.least strip.across.greatest (across_at strip.way path k)
+  pub right : IsOnward (right_at strip.quarter path) count
+  pub up : IsOnward (up_at strip.quarter path) count
+  pub back_x : (k : ℕ) → k ≤ count → neg_ℤ strip.back.x ≤ℤ right_at strip.quarter path k
+  pub back_y : (k : ℕ) → k ≤ count → neg_ℤ strip.back.y ≤ℤ up_at strip.quarter path k
+
+-- 0 alone
+abbrev pub no_span : Span
+no_span = record { least = pos 0; greatest = pos 0 }
+
+-- the least number is 0 or lower and the greatest 0 or higher, and neither is beyond these
+pub record IsSpan (low high : ℤ) (span : Span) : Type 0 where
+  pub least : IsFromTo low (pos 0) span.least
+  pub greatest : IsFromTo (pos 0) high span.greatest
+
+-- the span takes in what the other one does, and a further number
+pub record TakesIn (old : Span) (number : ℤ) (new : Span) : Type 0 where
+  pub least : new.least ≤ℤ old.least
+  pub greatest : old.greatest ≤ℤ new.greatest
+  pub further : IsFromTo new.least new.greatest number
+
+-- numbers that a path of some ten thousand pixels may have
+pub record IsSmallExtent (extent : Extent) : Type 0 where
+  pub across : IsSpan (neg_ℤ (pos (2 ^ 34))) (pos (2 ^ 34)) extent.across
+  pub right : IsSpan (negsuc 0) (pos 65536) extent.right
+  pub up : IsSpan (negsuc 0) (pos 65536) extent.up
+
+-- the first numbers lie in the span
+abbrev pub AreInSpan : Span → (ℕ → ℤ) → ℕ → Type 0
+AreInSpan span f count = (k : ℕ) → k ≤ count → IsFromTo span.least span.greatest (f k)
+
+-- how far the path's first `count` steps go to each side; they never go back in the quarter by more than 1
+pub record IsExtent (quarter : Quarter) (way : Vector) (path : ℕ → Point) (count : ℕ) (extent : Extent) : Type 0 where
+  pub small : IsSmallExtent extent
+  pub across : AreInSpan extent.across (across_at way path) count
+  pub right : AreInSpan extent.right (right_at quarter path) count
+  pub up : AreInSpan extent.up (up_at quarter path) count
+  pub on_right : IsOnward (right_at quarter path) count
+  pub on_up : IsOnward (up_at quarter path) count
+
+-- neither is after more steps than these
+pub record AreUpTo (most : ℕ) (ends : Ends) : Type 0 where
+  pub right : ends.right ≤ most
+  pub left : ends.left ≤ most

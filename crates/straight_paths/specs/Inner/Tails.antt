@@ -1,0 +1,76 @@
+-- What is straight from an index on, within two laps of a closed path.
+use Rattle.std.specs.Prelude.{◌≡◌, ◌⊎◌, ℕ, ◌+◌, ◌-◌, ◌<◌, ◌≤◌, min, List, length, slice_index}
+use Rattle.pt_core.specs.declared.point.Point.{Point}
+use Rattle.straight_paths.specs.Straight.{vector_of, Takes, IsStraight, path_from, east, north, west, south}
+use Rattle.straight_paths.specs.Inner.Cones.{IsClear}
+use Rattle.straight_paths.specs.declared.vector.Vector.{Vector}
+use Rattle.straight_paths.specs.declared.tail.Ahead.{Ahead}
+use Rattle.straight_paths.specs.declared.tail.Tail.{Tail}
+use Rattle.pt_core.specs.declared.limits.TheConstants.{MOST_STEPS}
+
+-- the most steps that matter: those of a possible segment, one before it and one after it
+abbrev pub limit_of : List Point → ℕ
+limit_of points = min (length points - 1) (MOST_STEPS + 2)
+
+-- the last index of the two laps that matters: the subpaths from the first lap's points, up to the limit,
+-- end before it
+abbrev pub last_of : List Point → ℕ
+last_of points = length points + limit_of points
+
+-- an index of the two laps, and its place in one lap
+abbrev pub IsAtPlace : List Point → ℕ → ℕ → Type 0
+IsAtPlace points place index = (index ≡ place) ⊎ (index ≡ place + length points)
+
+-- the way from the path's start to its point number k
+abbrev pub way_along : (ℕ → Point) → ℕ → Vector
+way_along path k = vector_of (path 0) (path k)
+
+-- of the path's first `most` steps, the cones from its start hold for exactly the first `count`
+pub record IsClearUpTo (path : ℕ → Point) (most count : ℕ) : Type 0 where
+  pub within : count ≤ most
+  pub clear : IsClear path count
+  pub no_more : (c : ℕ) → c ≤ most → IsClear path c → c ≤ count
+
+-- of the steps from an index on, up to the limit and to this end, the cones from there hold for
+-- exactly the first `count`
+pub record IsClearBefore (points : List Point) (at end count : ℕ) : Type 0 where
+  pub most : count ≤ limit_of points
+  pub within : at + count ≤ end
+  pub clear : IsClear (path_from points at) count
+  pub no_more : (c : ℕ) → c ≤ limit_of points → at + c ≤ end → IsClear (path_from points at) c
+      → c ≤ count
+
+-- of the steps from point i on, up to the limit, exactly the first `count` are straight
+pub record IsStraightFor (points : List Point) (i count : ℕ) : Type 0 where
+  pub most : count ≤ limit_of points
+  pub straight : IsStraight (path_from points i) count
+  pub no_more : (c : ℕ) → c ≤ limit_of points → IsStraight (path_from points i) c → c ≤ count
+
+-- for each point, how many steps from there on are straight
+pub record AreStraight (points : List Point) (steps : List ℕ) : Type 0 where
+  pub places : length steps ≡ length points
+  pub straight : (i : ℕ) → i < length points → IsStraightFor points i (slice_index steps i)
+
+-- `index` is where this step is taken next, at `at` or after it, as far as a last index can tell
+pub record IsNext (points : List Point) (last at : ℕ) (step : Vector) (index : ℕ) : Type 0 where
+  pub after : at ≤ index
+  pub taken : (c : ℕ) → at + c ≤ last → index < at + c → Takes (path_from points at) c step
+  pub first : (c : ℕ) → at + c ≤ last → Takes (path_from points at) c step → index < at + c
+
+pub record IsAhead (points : List Point) (at : ℕ) (ahead : Ahead) : Type 0 where
+  pub within : ahead.last ≤ last_of points
+  pub east : IsNext points ahead.last at east ahead.east
+  pub north : IsNext points ahead.last at north ahead.north
+  pub west : IsNext points ahead.last at west ahead.west
+  pub south : IsNext points ahead.last at south ahead.south
+
+-- of the subpaths from `at`, up to the limit and the last index that was looked at, exactly those are straight
+-- that end by the tail's end
+pub record IsTail (points : List Point) (at : ℕ) (tail : Tail) : Type 0 where
+  pub at_least : at ≤ tail.end
+  pub at_most : tail.end ≤ at + limit_of points
+  pub straight : (c : ℕ) → at + c ≤ tail.ahead.last → at + c ≤ tail.end
+      → IsStraight (path_from points at) c
+  pub no_more : (c : ℕ) → c ≤ limit_of points → at + c ≤ tail.ahead.last
+      → IsStraight (path_from points at) c → at + c ≤ tail.end
+  pub ahead : IsAhead points at tail.ahead

@@ -1,0 +1,45 @@
+-- Cones in one quarter of the plane, and how far a scan has come.
+use Rattle.std.specs.Prelude.{◌≡◌, ◌⊎◌, ℕ, ◌≤◌, ℤ, pos, negsuc, ◌+ℤ◌, ◌*ℤ◌, ◌<ℤ◌}
+use Rattle.pt_core.specs.declared.point.Point.{Point}
+use Rattle.straight_paths.specs.Inner.Cones.{HoldsNear, IsClear, IsProper, IsShort, IsSound}
+use Rattle.straight_paths.specs.declared.cone.Cone.{Cone}
+use Rattle.straight_paths.specs.declared.vector.Vector.{Vector}
+use Rattle.straight_paths.specs.declared.wedge.Border.{Border}
+use Rattle.straight_paths.specs.declared.quarter.Quarter.{Quarter}
+use Rattle.straight_paths.specs.declared.wedge.Wedge.{Wedge}
+
+-- 1 or -1
+abbrev pub IsSign : ℤ → Type 0
+IsSign z = (z ≡ pos 1) ⊎ (z ≡ negsuc 0)
+
+pub record IsQuarter (quarter : Quarter) : Type 0 where
+  pub right : IsSign quarter.right
+  pub up : IsSign quarter.up
+
+-- how far a vector goes into the quarter
+abbrev pub far_of : Quarter → Vector → ℤ
+far_of quarter way = quarter.right *ℤ way.x +ℤ quarter.up *ℤ way.y
+
+-- the way lies in the quarter, and on no axis
+pub record IsInQuarter (quarter : Quarter) (way : Vector) : Type 0 where
+  pub right : pos 0 <ℤ (quarter.right *ℤ way.x)
+  pub up : pos 0 <ℤ (quarter.up *ℤ way.y)
+
+-- the border is short, and known is how far it goes into the quarter
+pub record IsBorder (quarter : Quarter) (border : Border) : Type 0 where
+  pub short : IsShort 65536 border.at
+  pub far : border.far ≡ far_of quarter border.at
+
+pub record IsWedge (wedge : Wedge) : Type 0 where
+  pub quarter : IsQuarter wedge.quarter
+  pub low : IsBorder wedge.quarter wedge.low
+  pub high : IsBorder wedge.quarter wedge.high
+  pub proper : IsProper wedge.low.at wedge.high.at
+
+-- of the path's first `most` steps, the cones from its start hold for the first `steps`, and the cone is the
+-- intersection of those around their points
+pub record IsScan (path : ℕ → Point) (most steps : ℕ) (cone : Cone) : Type 0 where
+  pub within : steps ≤ most
+  pub sound : IsSound cone
+  pub holds : HoldsNear path steps cone
+  pub clear : IsClear path steps
