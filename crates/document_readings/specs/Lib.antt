@@ -233,5 +233,3 @@ pub mod DscReading
 --   box_of_lines: the box of the first two lines
 --   eps_box: the bounding box of a file
 pub mod EpsBox
--- What inner contracts alone speak of: no promise rests on it.
-pub mod Inner

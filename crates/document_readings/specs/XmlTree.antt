@@ -4,6 +4,11 @@ use Rattle.std.specs.Prelude.{ℕ, ◌&&◌, Bool, true, not, if◌then◌else�
 use Rattle.document_readings.specs.XmlTags.{Attribute, TagPart, begin, attribute, opened, empty, end, parts_from}
 use Rattle.document_readings.specs.XmlTags as tags
 
+mutual
+  -- an element: its name, its attributes, and the elements in it
+  pub data Element : Type 0 where
+    element : List ℕ → List Attribute → Elements → Element
+
   -- elements in order: none, or one behind others
   pub data Elements : Type 0 where
     none : Elements
