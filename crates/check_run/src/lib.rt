@@ -1,4 +1,4 @@
-//! The program `outline_check`: whether the polygons of a drawing are the best ones.
+//! The run of `outline_check`: whether the polygons of a drawing are the best ones.
 //!
 //! It reads a text of certificates and says whether all are right, or which is the first that isn't. Who
 //! believes it needs to trust neither the program that traced the page nor the machine on which it ran.

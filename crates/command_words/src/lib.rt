@@ -1,4 +1,4 @@
-//! Takes the words of the command line apart, by `clap`.
+//! Takes the words of `potrace` apart, by `clap`.
 //!
 //! The words are those behind the program's name. What they give is a plain record of texts, flags and
 //! file names: who calls this crate sees neither a command of `clap` nor one of its faults.

@@ -1,4 +1,5 @@
-//! mkbitmap: makes a gray page sharper and larger, as a bitmap. All that it does is one call, `mk_run` of `mk_run`.
+//! The program `mkbitmap`, which makes a gray page sharper and larger, as a bitmap.
+//! All that it does is one call, `mk_run` of `mk_run`.
 #![tactic(auto)]
 
 use mk_run::{BAD_WORDS, NAME, mk_run};

@@ -1,4 +1,5 @@
-//! outline_check: says whether certificates are right. All that it does is one call, `check_run` of `check_run`.
+//! The program `outline_check`, which says whether certificates are right.
+//! All that it does is one call, `check_run` of `check_run`.
 #![tactic(auto)]
 
 use check_run::check_run;

@@ -1,4 +1,5 @@
-//! point_fill: fills the page that a points text tells. All that it does is one call, `fill_run` of `fill_run`.
+//! The program `point_fill`, which fills the page that a points text tells.
+//! All that it does is one call, `fill_run` of `fill_run`.
 #![tactic(auto)]
 
 use fill_run::fill_run;

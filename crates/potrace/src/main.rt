@@ -1,4 +1,4 @@
-//! potrace: traces bitmaps to outlines. All that it does is one call, `run` of `potrace_main`.
+//! The program `potrace`, which traces bitmaps to outlines. All that it does is one call, `run` of `potrace_main`.
 #![tactic(auto)]
 
 use potrace_main::run;

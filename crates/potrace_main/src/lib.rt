@@ -1,4 +1,4 @@
-//! All that the program does: its run.
+//! The run of `potrace`: all that the program does.
 #![tactic(auto)]
 
 pub mod demo;
