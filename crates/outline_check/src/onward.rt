@@ -49,7 +49,7 @@ pub(crate) fn begin_from(segments: &Segments, labels: &[Label], from: u32, later
 // comes first, and hardly any of the others is better: they are refused without a root. Long straight sides have
 // narrow windows, since all their points reach the same corner. A certificate of a page of text takes 2.5 times as
 // long as its polygons, of a spiral of walls 2.7 times, of a nest of squares 3.9 times; to check it takes less than
-// to make it (bench/runs/2026-11-28/certificates.txt).
+// to make it.
 pub(crate) fn label_from(
     segments: &Segments,
     labels: &[Label],

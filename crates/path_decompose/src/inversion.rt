@@ -17,8 +17,8 @@ use bit_image::Bitmap;
 //
 // The column is that of the path's start, as in the C program. Most shapes are narrow, so that this is a word or two
 // for each line; and it needs no order. In order, what lies between the two lines of a pair could be inverted once,
-// and the area would be the sum of these spans; but to sort them took an eighth to a quarter of the time on the pages
-// of bench/runs/2026-11-27/spans.txt, and on none of them, a comb and a spiral of 4096 pixels among them, did it pay.
+// and the area would be the sum of these spans; but to sort them took an eighth to a quarter of the time on a page of
+// text, a dithered one and a checkerboard. It paid on none of them, nor on a comb, a spiral and squares of 4096 pixels.
 pub(crate) fn invert(page: &mut Bitmap, lines: &[Upright], column: u32)
     requires on_page { All (λ (line : Upright). (line.x ≤ page.old.width) × (line.y < page.old.height))
         lines.now }

@@ -95,7 +95,7 @@ fn step(
     })?;
     // Each heading has code of its own, so that the processor foresees the turns better: in a model of the walk that
     // took a fifth less on a page of text than a look at the heading for each end and each pixel, and a table with no
-    // branches was no faster (bench/runs/2026-11-27/spans.txt).
+    // branches was no faster.
     match heading {
         Dir::North => {
             trail.lines.push(Upright { x, y })?;
