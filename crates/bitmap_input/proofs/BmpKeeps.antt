@@ -4,7 +4,7 @@ use Rattle.std.specs.Prelude.{nat_le}
 use Rattle.std.specs.List.{range_with_len}
 use Rattle.bitmap_input.specs.Cut.{Kind, ◌>>=◌}
 use Rattle.bitmap_input.specs.Cut.Kind.{BmpKind, BadOffset}
-use Rattle.bitmap_input.specs.Cut.Ending.{Refused}
+use Rattle.bitmap_input.specs.Cut.FileEnd.{Refused}
 use Rattle.bitmap_input.specs.Cut.Cut.{Takes}
 use Rattle.bitmap_input.specs.Parts.{block, repeated}
 use Rattle.bitmap_input.specs.Sides.{checked}

@@ -6,10 +6,10 @@ use Rattle.std.proofs.lemmas.List.{length-append, length-take-le, length-drop}
 use Rattle.std.proofs.lemmas.Bool.{ltb-false, leb-true, eqb-true, both_ways}
 use Rattle.std.proofs.lemmas.Bool.Decides.{nat_tests}
 use Rattle.std.proofs.Math.ListN.{get_or-append}
-use Rattle.bitmap_input.specs.Cut.{Kind, Ending, Cut, after, ◌>>=◌}
+use Rattle.bitmap_input.specs.Cut.{Kind, FileEnd, Cut, after, ◌>>=◌}
 use Rattle.bitmap_input.specs.Inner.Behind.{counted}
 use Rattle.bitmap_input.specs.Cut.Kind.{BmpKind, BadOffset, Truncated, ZeroSide, TooLarge}
-use Rattle.bitmap_input.specs.Cut.Ending.{Refused}
+use Rattle.bitmap_input.specs.Cut.FileEnd.{Refused}
 use Rattle.bitmap_input.specs.Cut.Cut.{Takes, Stops}
 use Rattle.bitmap_input.specs.Parts.{is_zero, block, repeated}
 use Rattle.bitmap_input.specs.Sides.{checked}
@@ -202,7 +202,7 @@ cuts_cond : {A : Type 0} (P : A → List ℕ → Type 0) (t : Bool) (c d : Cut A
 cuts_cond P true c d first second = first
 cuts_cond P false c d first second = second
 
-cuts_stop : {A : Type 0} (P : A → List ℕ → Type 0) (e : Bool) (ending : Ending) → Cuts P (Stops e ending)
+cuts_stop : {A : Type 0} (P : A → List ℕ → Type 0) (e : Bool) (ending : FileEnd) → Cuts P (Stops e ending)
 cuts_stop P e ending d a rest h = cc
 
 cuts_checked : (w h : ℕ) (bytes : List ℕ) → Cuts (λ _ rest. length rest ≡ length bytes) (checked w h bytes)

@@ -1,7 +1,7 @@
 -- Numbers that are read one digit after another.
 use Rattle.std.proofs.Common.{◌≡◌, refl, ℕ, ◌+◌, ◌-◌, ◌*◌, true, false, min, List, [], ◌∷◌, ◌++◌, arith}
 use Rattle.bitmap_input.specs.Cut.{Kind}
-use Rattle.bitmap_input.specs.Cut.Ending.{Refused}
+use Rattle.bitmap_input.specs.Cut.FileEnd.{Refused}
 use Rattle.bitmap_input.specs.Cut.Cut.{Stops}
 use Rattle.bitmap_input.specs.Parts.{is_digit, value, number}
 use Rattle.bitmap_input.specs.Inner.Run.{cap, IsCapped, digits}

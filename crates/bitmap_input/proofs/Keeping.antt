@@ -2,9 +2,9 @@
 use Rattle.std.proofs.Common.{◌≡◌, refl, ℕ, ◌*◌, zero, suc, Bool, true, false, cond, ◌||◌, List, [], ◌∷◌, ◌++◌, length, take, drop, ap, sym, ◌∙◌, append_assoc, Option, Some, None}
 use Rattle.std.specs.Prelude.{nat_eq, nat_lt}
 use Rattle.std.proofs.lemmas.List.{take-append-drop}
-use Rattle.bitmap_input.specs.Cut.{Kind, Ending, Cut, ◌>>=◌}
+use Rattle.bitmap_input.specs.Cut.{Kind, FileEnd, Cut, ◌>>=◌}
 use Rattle.bitmap_input.specs.Cut.Kind.{BadHeader, BadRaster, Truncated, TooLong, ZeroSide, TooLarge, UnknownFormat}
-use Rattle.bitmap_input.specs.Cut.Ending.{End, Trailing, Refused}
+use Rattle.bitmap_input.specs.Cut.FileEnd.{End, Trailing, Refused}
 use Rattle.bitmap_input.specs.Cut.Cut.{Takes, Stops}
 use Rattle.bitmap_input.specs.Parts.{longest, is_zero, is_empty, is_space, is_digit, run_length, gap_length, missing, run_of, gap, some_gap, value, number, number_behind_gap, space, pixel, block, repeated}
 use Rattle.bitmap_input.specs.Raw.{row_bytes, unpacked}
@@ -39,7 +39,7 @@ pub keeps_take : {A : Type 0} (bytes : List ℕ) (e : Bool) (a : A) (rest : List
 keeps_take bytes e a rest (front, is) d b rest2 h =
     let same : rest ≡ rest2 = cc in (front, is ∙ ap (λ xs. front ++ xs) same)
 
-pub keeps_stop : {A : Type 0} (bytes : List ℕ) (e : Bool) (ending : Ending) → Keeps {A = A} bytes (Stops e ending)
+pub keeps_stop : {A : Type 0} (bytes : List ℕ) (e : Bool) (ending : FileEnd) → Keeps {A = A} bytes (Stops e ending)
 keeps_stop bytes e ending d a rest h = cc
 
 pub keeps_pick : {A : Type 0} (bytes : List ℕ) (t : Bool) (c d : Cut A) → Keeps bytes c → Keeps bytes d → Keeps bytes (cond t c d)

@@ -6,7 +6,7 @@ use Rattle.std.proofs.Common.{Option, Some, None}
 use Rattle.pt_core.specs.declared.limits.TheConstants.{LONGEST_SIDE}
 use Rattle.bitmap_input.specs.Cut.Kind.{BadHeader, BadRaster, TooLong, ZeroSide, TooLarge, Truncated}
 use Rattle.bitmap_input.specs.Front.Magic.{PlainBits, RawBits, PlainSamples, RawSamples, Picture}
-use Rattle.bitmap_input.specs.Cut.Ending.{End, Trailing, Refused}
+use Rattle.bitmap_input.specs.Cut.FileEnd.{End, Trailing, Refused}
 use Rattle.bitmap_input.specs.Cut.Cut.{Takes, Stops}
 use Rattle.bitmap_input.specs.Parts.{is_zero, is_empty, longest, is_digit, is_space, run_length, gap_length, value, missing, run_of, spaces, gap, some_gap, number, number_behind_gap, space, block, repeated}
 use Rattle.bitmap_input.specs.Front.{Magic, magic, magic_of_name, magic_named, sides, checked, maxval, checked_maxval, greatest_maxval}

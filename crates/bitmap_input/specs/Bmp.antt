@@ -3,7 +3,7 @@
 use Rattle.std.specs.Prelude.{ℕ, ◌-◌, Bool, true, false, List, ◌++◌, nat_le}
 use Rattle.bitmap_input.specs.Cut.{Kind, Cut, ◌>>=◌}
 use Rattle.bitmap_input.specs.Cut.Kind.{BmpKind, BadOffset}
-use Rattle.bitmap_input.specs.Cut.Ending.{Refused}
+use Rattle.bitmap_input.specs.Cut.FileEnd.{Refused}
 use Rattle.bitmap_input.specs.Cut.Cut.{Takes, Stops}
 use Rattle.bitmap_input.specs.Parts.{block}
 use Rattle.bitmap_input.specs.Sides.{checked}

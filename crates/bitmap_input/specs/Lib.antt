@@ -1,6 +1,6 @@
 -- Cutting a list of bytes.
 --   Kind: why a page is refused
---   Ending: how the pages of a file end
+--   FileEnd: how the pages of a file end
 --   Cut: what a part of a page is in a list of bytes
 --   is_by_end: whether it is by the end of the list
 --   after: a cut that came after another one, which was or wasn't by the end itself

@@ -3,7 +3,7 @@
 use Rattle.std.specs.Prelude.{ℕ, zero, suc, ◌+◌, ◌-◌, ◌*◌, Bool, true, false, not, ◌&&◌, ◌||◌, List, [], ◌∷◌, length, take, drop, if◌then◌else◌, nat_eq, nat_lt, nat_le}
 use Rattle.bitmap_input.specs.Cut.{Kind, Cut}
 use Rattle.bitmap_input.specs.Cut.Kind.{Truncated, TooLong, BadRaster, BadHeader}
-use Rattle.bitmap_input.specs.Cut.Ending.{Refused}
+use Rattle.bitmap_input.specs.Cut.FileEnd.{Refused}
 use Rattle.bitmap_input.specs.Cut.Cut.{Takes, Stops}
 use Rattle.bitmap_input.specs.Cut.{◌>>=◌}
 

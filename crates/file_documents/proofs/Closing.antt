@@ -2,8 +2,8 @@
 -- between two items.
 use Rattle.std.proofs.Common.{◌≡◌, ℕ, suc, Bool, false, not, List, [], ◌∷◌, ◌++◌, map, Option, inl, inr, refl, sym, ◌∙◌, ap, subst}
 use Rattle.pt_core.specs.Files.{Contents}
-use Rattle.bitmap_input.specs.Cut.{Ending}
-use Rattle.bitmap_input.specs.Cut.Ending.{End, Trailing, Refused}
+use Rattle.bitmap_input.specs.Cut.{FileEnd}
+use Rattle.bitmap_input.specs.Cut.FileEnd.{End, Trailing, Refused}
 use Rattle.bitmap_input.specs.Raw.{Raw}
 use Rattle.run_output.specs.Made.{Past, page_name, past_file}
 use Rattle.run_output.specs.Messages.{trailing_line}
@@ -63,7 +63,7 @@ whole_page Apart apart name pages text = refl
 whole_page Together apart name pages text = absurd (let no : Together ≡ Apart = apart in cc)
 
 -- what follows the pages of a file
-file_end : (manner : Manner) → manner.binding ≡ Apart → (name base : List ℕ) (ending : Ending) (F : Rest) → WritesWhole F → (pages : ℕ) → WritesWhole (FileEnds manner name base ending F pages)
+file_end : (manner : Manner) → manner.binding ≡ Apart → (name base : List ℕ) (ending : FileEnd) (F : Rest) → WritesWhole F → (pages : ℕ) → WritesWhole (FileEnds manner name base ending F pages)
 file_end manner apart name base End F ends pages past items (rest, is, follow) =
     subst AreWhole (sym is) (whole_end manner.binding apart (next_name base past.made) pages [] rest (ends (past_file manner.binding base pages past) rest follow))
 file_end manner apart name base Trailing F ends pages past items (rest, is, follow) =

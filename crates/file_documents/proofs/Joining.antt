@@ -2,8 +2,8 @@
 use Rattle.std.proofs.Common.{◌≡◌, ℕ, suc, ◌+◌, ◌*◌, ◌<◌, ◌⊎◌, min, List, [], ◌∷◌, ◌++◌, length, Option, None, Some, inl, inr, sym, ◌∙◌, ap, subst, append_assoc, length-append, arith}
 use Rattle.pt_core.specs.Counts.{Rose, last_count}
 use Rattle.pt_core.specs.Files.{Contents}
-use Rattle.bitmap_input.specs.Cut.{Ending}
-use Rattle.bitmap_input.specs.Cut.Ending.{End, Trailing, Refused}
+use Rattle.bitmap_input.specs.Cut.{FileEnd}
+use Rattle.bitmap_input.specs.Cut.FileEnd.{End, Trailing, Refused}
 use Rattle.bitmap_input.specs.FaultText.{cause_text}
 use Rattle.bitmap_input.specs.Raw.{Raw}
 use Rattle.bitmap_input.specs.Reading.Cause.{Device}
@@ -29,7 +29,7 @@ use Rattle.file_documents.specs.Inner.Progress.{EndsWith}
 use Rattle.file_documents.proofs.OnePass.{batch_end_behind}
 
 -- where what follows goes on with these items, so does the end of a file
-end_joins : (b : Binding) (file name : List ℕ) (pages : ℕ) (ending : Ending) (F G : List Item → Type 0) (after : List Item)
+end_joins : (b : Binding) (file name : List ℕ) (pages : ℕ) (ending : FileEnd) (F G : List Item → Type 0) (after : List Item)
     → ((items : List Item) → GoesOn items → F items → G (items ++ after)) → (items : List Item) → GoesOn items
     → AreEndItems b file name pages ending F items → AreEndItems b file name pages ending G (items ++ after)
 end_joins b file name pages End F G after on items goes (rest, is, follow) =
@@ -40,7 +40,7 @@ end_joins b file name pages Trailing F G after on items goes (rest, is, follow) 
     (rest ++ after, ap (λ l. l ++ after) is ∙ append_assoc front rest after, on rest (GoesOn-behind front rest (subst GoesOn is goes)) follow)
 end_joins b file name pages (Refused kind) F G after on items goes is = absurd (subst GoesOn is goes)
 
-file_end_joins : (manner : Manner) (name base : List ℕ) (ending : Ending) (F G : Rest) (after : List Item)
+file_end_joins : (manner : Manner) (name base : List ℕ) (ending : FileEnd) (F G : Rest) (after : List Item)
     → ((past : Past) (items : List Item) → GoesOn items → F past items → G past (items ++ after)) → (pages : ℕ) (past : Past) (items : List Item) → GoesOn items
     → FileEnds manner name base ending F pages past items → FileEnds manner name base ending G pages past (items ++ after)
 file_end_joins manner name base ending F G after on pages past items goes are =

@@ -2,8 +2,8 @@
 use Rattle.std.specs.Prelude.{◌≡◌, ℕ, suc, ◌+◌, ◌<◌, ◌≤◌, ◌⊎◌, false, List, [], ◌∷◌, ◌++◌, codes, Option, None, Some}
 use Rattle.std.specs.FinMap.{get}
 use Rattle.pt_core.specs.Files.{Contents, Files}
-use Rattle.bitmap_input.specs.Cut.{Ending}
-use Rattle.bitmap_input.specs.Cut.Ending.{End, Trailing, Refused}
+use Rattle.bitmap_input.specs.Cut.{FileEnd}
+use Rattle.bitmap_input.specs.Cut.FileEnd.{End, Trailing, Refused}
 use Rattle.bitmap_input.specs.FaultText.{kind_text}
 use Rattle.bitmap_input.specs.Raw.{Raw}
 use Rattle.bitmap_input.specs.FilePages.{FilePages}
@@ -31,7 +31,7 @@ IsAbsent None name = ⊥
 IsAbsent (Some contents) name = get contents name ≡ None
 
 -- the file of this name holds these pages, and ends so; where that isn't told, it may hold any
-abbrev pub HoldsPages : Option Contents → List ℕ → List Raw → Ending → Type 0
+abbrev pub HoldsPages : Option Contents → List ℕ → List Raw → FileEnd → Type 0
 HoldsPages None name raws ending = Unit {0}
 HoldsPages (Some contents) name raws ending = (bytes : List ℕ) × (get contents name ≡ Some bytes) × FilePages false bytes raws ending
 
@@ -54,7 +54,7 @@ page_item manner base past pages text =
 
 -- what follows the pages of a file, so many, that ends like this: where they are bound together their document, which has
 -- this name, is ended, but for a refusal
-abbrev pub AreEndItems : Binding → List ℕ → List ℕ → ℕ → Ending → (List Item → Type 0) → List Item → Type 0
+abbrev pub AreEndItems : Binding → List ℕ → List ℕ → ℕ → FileEnd → (List Item → Type 0) → List Item → Type 0
 AreEndItems b file name pages End Follow items = (rest : List Item) × (items ≡ end_items b name pages [] ++ rest) × Follow rest
 AreEndItems b file name pages Trailing Follow items =
     (rest : List Item) × (items ≡ end_items b name pages (trailing_line file pages ∷ []) ++ rest) × Follow rest
@@ -70,7 +70,7 @@ ArePageItems manner file base Behind (raw ∷ raws) pages past items =
     ⊎ ((most_pages ≤ pages + past.pages) × (items ≡ Stop (page_line file (pages + 1) too_many) ∷ []))
 
 -- what follows the pages of a file that ends like this, and then what follows the file
-abbrev pub FileEnds : Manner → List ℕ → List ℕ → Ending → Rest → ℕ → Rest
+abbrev pub FileEnds : Manner → List ℕ → List ℕ → FileEnd → Rest → ℕ → Rest
 FileEnds manner file base ending Follow pages past items =
     AreEndItems manner.binding file (next_name base past.made) pages ending (Follow (past_file manner.binding base pages past)) items
 
@@ -80,7 +80,7 @@ abbrev pub AreItems : Option Contents → Manner → Rest → List (List ℕ) �
 AreItems contents manner Follow [] past items = Follow past items
 AreItems contents manner Follow (name ∷ names) past items =
     (IsAbsent contents name × (items ≡ Missing name ∷ []))
-    ⊎ ((raws : List Raw) × (ending : Ending) × HoldsPages contents name raws ending
+    ⊎ ((raws : List Raw) × (ending : FileEnd) × HoldsPages contents name raws ending
     × ArePageItems manner name (base_by manner name)
     (FileEnds manner name (base_by manner name) ending (AreItems contents manner Follow names)) raws 0 past items)
 

@@ -3,7 +3,7 @@ use Rattle.std.specs.Prelude.{◌≡◌, ℕ, ◌+◌, ◌≤◌, ◌⊎◌, Boo
 use Rattle.std.specs.FinMap.{get}
 use Rattle.pt_core.specs.Counts.{Rose, last_count}
 use Rattle.pt_core.specs.Files.{Contents, Files}
-use Rattle.bitmap_input.specs.Cut.{Ending, is_by_end}
+use Rattle.bitmap_input.specs.Cut.{FileEnd, is_by_end}
 use Rattle.bitmap_input.specs.FaultText.{cause_text}
 use Rattle.bitmap_input.specs.Raw.{Raw}
 use Rattle.bitmap_input.specs.Reading.Cause.{Device}
@@ -137,7 +137,7 @@ pub record IsStopped (first : List Item) (contents : Option Contents) (manner : 
 -- how its pages end, but for 65,536 bytes
 pub record EndsNear (contents : Option Contents) (name : List ℕ) (source_now : Source) : Type 0 where
   pub raws : List Raw
-  pub ending : Ending
+  pub ending : FileEnd
   pub rest : List ℕ
   pub pages : HoldsPages contents name raws ending
   pub opened : IfSome source_now.files (λ files. files.opened ≡ Some (record { name = name; rest = rest }))

@@ -4,7 +4,7 @@ use Rattle.pt_core.specs.Counts.{Rose, next_count}
 use Rattle.pt_core.specs.Failures.{after_err}
 use Rattle.pt_core.specs.Files.{Files}
 use Rattle.bitmap_input.specs.Cut.{Cut, Kind, is_by_end}
-use Rattle.bitmap_input.specs.Cut.Ending.{Refused}
+use Rattle.bitmap_input.specs.Cut.FileEnd.{Refused}
 use Rattle.bitmap_input.specs.Cut.Cut.{Takes, Stops}
 use Rattle.bitmap_input.specs.FaultText.{kind_text}
 use Rattle.bitmap_input.specs.GrayReader.{FailsToRead, GraySource, Refuses}

@@ -5,7 +5,7 @@ use Rattle.pt_core.specs.Documents.{IsCutOff, with_open}
 use Rattle.pt_core.specs.Failures.{after_err}
 use Rattle.pt_core.specs.Files.{Lacks}
 use Rattle.bitmap_input.specs.Cut.{Kind, is_by_end}
-use Rattle.bitmap_input.specs.Cut.Ending.{Refused}
+use Rattle.bitmap_input.specs.Cut.FileEnd.{Refused}
 use Rattle.bitmap_input.specs.Cut.Cut.{Stops, Takes}
 use Rattle.bitmap_input.specs.FaultText.{kind_text}
 use Rattle.mk_run.specs.Header.{page_header, PageHeader}

@@ -1,7 +1,7 @@
 -- The bytes of a BMP header in the program, and what it makes of them.
 use Rattle.std.specs.Prelude.{◌≡◌, ℕ, ◌+◌, ◌-◌, ◌^◌, ◌≤◌, ◌<◌, true, false, Bool, List, length, slice_index_or, suc, ◌*◌, ◌/◌, reverse, if◌then◌else◌, Option, Some, None, Result, Ok, Err}
 use Rattle.pt_core.specs.declared.limits.TheConstants.{LONGEST_SIDE}
-use Rattle.bitmap_input.specs.Cut.{Ending, Cut, ◌>>=◌}
+use Rattle.bitmap_input.specs.Cut.{FileEnd, Cut, ◌>>=◌}
 use Rattle.bitmap_input.specs.Cut.Cut.{Takes, Stops}
 use Rattle.bitmap_input.specs.Inner.Reading.{cause_of}
 use Rattle.bitmap_input.specs.Reading.Cause.{Says}
@@ -87,7 +87,7 @@ pub record IsReadable (h : Header) : Type 0 where
 -- a check that takes no bytes answers so, whatever the bytes
 abbrev pub Passes : {X A : Type 0} → (X → A → Type 0) → (List ℕ → Cut A) → Result X Stop → Type 0
 Passes {A = A} is part (Ok x) = (a : A) × is x a × ((bytes : List ℕ) → part bytes ≡ Takes false a bytes)
-Passes is part (Err s) = (ending : Ending) × (cause_of s ≡ Says ending) × ((bytes : List ℕ) → part bytes ≡ Stops false ending)
+Passes is part (Err s) = (ending : FileEnd) × (cause_of s ≡ Says ending) × ((bytes : List ℕ) → part bytes ≡ Stops false ending)
 
 -- a table of what colours of a palette are black, whatever their number
 abbrev pub IsPaletteTable : ℕ → Bool → (ℕ → Entry) → List Bool → Type 0

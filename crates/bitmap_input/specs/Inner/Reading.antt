@@ -8,7 +8,7 @@ use Rattle.pt_core.specs.declared.inputs.Inputs.{Ghosts}
 use Rattle.bitmap_input.specs.declared.stop.Stop.{Stop}
 use Rattle.bitmap_input.specs.declared.stop.Stop.TheVariants as stop
 use Rattle.bitmap_input.specs.Cut.{Cut, is_by_end}
-use Rattle.bitmap_input.specs.Cut.Ending.{End, Trailing}
+use Rattle.bitmap_input.specs.Cut.FileEnd.{End, Trailing}
 use Rattle.bitmap_input.specs.Cut.Cut.{Takes, Stops}
 use Rattle.bitmap_input.specs.Reading.{Buffered, Moves, Cause, cause_of_fault, AreNeeded}
 use Rattle.bitmap_input.specs.Reading.Cause.{Says, Device, Memory}

@@ -2,7 +2,7 @@
 use Rattle.std.specs.Prelude.{◌≡◌, ℕ, Bool, true, List, [], ◌++◌, Option}
 use Rattle.pt_core.specs.Counts.{next_count}
 use Rattle.bitmap_input.specs.Cut.Cut.{Takes}
-use Rattle.bitmap_input.specs.Cut.Ending.{End, Trailing, Refused}
+use Rattle.bitmap_input.specs.Cut.FileEnd.{End, Trailing, Refused}
 use Rattle.bitmap_input.specs.GrayReader.{FailsToRead, GraySource, Refuses, gray_at_start}
 use Rattle.bitmap_input.specs.GrayRows.{gray_header}
 use Rattle.bitmap_input.specs.Reading.{Cause}

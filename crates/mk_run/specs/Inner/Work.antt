@@ -4,7 +4,7 @@ use Rattle.std.specs.Prelude.{◌≡◌, ℕ, ◌+◌, ◌*◌, ◌/◌, ◌<◌
 use Rattle.pt_core.specs.Files.{Files}
 use Rattle.pt_core.specs.declared.inputs.Inputs.{Ghosts}
 use Rattle.pt_core.specs.declared.limits.TheConstants.{LONGEST_SIDE}
-use Rattle.bitmap_input.specs.Cut.Ending.{End, Trailing, Refused}
+use Rattle.bitmap_input.specs.Cut.FileEnd.{End, Trailing, Refused}
 use Rattle.bitmap_input.specs.GrayReader.{FailsToRead, GraySource, Refuses}
 use Rattle.bitmap_input.specs.Reading.{AtEnd, Cause, Moves}
 use Rattle.bitmap_input.specs.Reading.Cause.{Says, Device, Memory}
