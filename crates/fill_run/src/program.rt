@@ -17,14 +17,14 @@ ghost use Rattle.fill_run.specs.Round.{GivesBack};
 use bit_image::pbm;
 use point_fill::{FillFault, fill};
 use pt_core::{Inputs, NoMemory, Outputs, Sink};
-use small_program::{Reply, Task, run};
+use small_program::{Replies, Reply, run};
 use std::alloc::Global;
 
 /// Fills points texts.
 #[derive(Clone, Copy, Debug)]
 struct FillTask;
 
-impl Task for FillTask {
+impl Replies for FillTask {
     ghost use Rattle.point_fill.specs.Reply.{IsFillReply};
     ghost use Rattle.point_fill.proofs.Replying.{one_fill_ending, one_fill_text};
 

@@ -7,7 +7,7 @@ ghost use Rattle.small_program.specs.Inner.Reply.{reply_ending, reply_text, stop
 
 use crate::ending::Ending;
 use crate::input::{InputStop, read_all};
-use crate::task::{Reply, Task};
+use crate::task::{Replies, Reply};
 use pt_core::{Inputs, Outputs, Sink};
 use run_output::{say_line, say_of_file, write_document};
 use std::alloc::Global;
@@ -19,7 +19,7 @@ pub const BAD_WORDS: &str = "bad arguments";
 /// answers how it ends. The program's name stands in front of what it says.
 ///
 /// After a fault of the outputs nothing more is written to them.
-pub fn run<I: Inputs, O: Outputs, E: Sink, T: Task>(
+pub fn run<I: Inputs, O: Outputs, E: Sink, T: Replies>(
     alloc: Global,
     program: &str,
     task: &T,
