@@ -12,7 +12,7 @@ use Rattle.run_output.specs.Parts.{Part, page_part, whole}
 use Rattle.run_output.specs.declared.part.Binding.{Binding}
 use Rattle.run_output.specs.declared.part.Binding.TheVariants.{Apart, Together}
 use Rattle.page_batches.specs.Items.{Item, end_items, is_open_behind}
-use Rattle.page_batches.specs.Items.Item.{Missing, Note, Stop, Write}
+use Rattle.page_batches.specs.Items.Item.{Missing, Note, Refuse, Write}
 use Rattle.page_batches.specs.Outcome.{AreCarriedOut}
 use Rattle.run_output.specs.Told.{Sinks}
 use Rattle.file_documents.specs.Items.{AreItems, ArePageItems, AreWhole, FileEnds, Nothing, PagesAlone, Rest}
@@ -23,7 +23,7 @@ pub AreWhole-front : (items more : List Item) → AreWhole (items ++ more) → A
 AreWhole-front [] more all = tt
 AreWhole-front (Write part ∷ items) more all = (all.0, AreWhole-front items more all.1)
 AreWhole-front (Note message ∷ items) more all = AreWhole-front items more all
-AreWhole-front (Stop message ∷ items) more all = AreWhole-front items more all
+AreWhole-front (Refuse message ∷ items) more all = AreWhole-front items more all
 AreWhole-front (Missing name ∷ items) more all = AreWhole-front items more all
 
 -- behind them no document is open
@@ -31,7 +31,7 @@ closed_behind : (is_open : Bool) (items : List Item) → AreWhole items → is_o
 closed_behind is_open [] all closed = closed
 closed_behind is_open (Write part ∷ items) all closed = closed_behind (not part.ends) items all.1 (ap (λ (p : Part). not p.ends) all.0)
 closed_behind is_open (Note message ∷ items) all closed = closed_behind is_open items all closed
-closed_behind is_open (Stop message ∷ items) all closed = closed_behind is_open items all closed
+closed_behind is_open (Refuse message ∷ items) all closed = closed_behind is_open items all closed
 closed_behind is_open (Missing name ∷ items) all closed = closed_behind is_open items all closed
 
 -- whole documents were written: the outputs' count of faults stayed, and no document is open

@@ -17,7 +17,7 @@ use Rattle.run_output.specs.Messages.{page_line, trailing_line}
 use Rattle.run_output.specs.Names.{next_name}
 use Rattle.run_output.specs.declared.part.Binding.{Binding}
 use Rattle.page_batches.specs.Items.{Item, end_items}
-use Rattle.page_batches.specs.Items.Item.{Missing, Stop}
+use Rattle.page_batches.specs.Items.Item.{Missing, Refuse}
 use Rattle.file_documents.specs.Items.{AreEndItems, AreItems, ArePageItems, FileEnds, Nothing, Rest, page_item, too_many}
 use Rattle.file_documents.specs.Manner.{HasTexts, Manner, base_by, shown_by}
 
@@ -25,7 +25,7 @@ end_items_found : (b : Binding) (file name : List ℕ) (pages : ℕ) (ending : F
     → (items : List Item) × AreEndItems b file name pages ending Follow items
 end_items_found b file name pages End Follow (rest, follow) = (end_items b name pages [] ++ rest, (rest, refl, follow))
 end_items_found b file name pages Trailing Follow (rest, follow) = (end_items b name pages (trailing_line file pages ∷ []) ++ rest, (rest, refl, follow))
-end_items_found b file name pages (Refused kind) Follow (rest, follow) = (Stop (page_line file (pages + 1) (kind_text kind)) ∷ [], refl)
+end_items_found b file name pages (Refused kind) Follow (rest, follow) = (Refuse (page_line file (pages + 1) (kind_text kind)) ∷ [], refl)
 
 -- what follows the pages of a file
 file_end_found : (manner : Manner) (name base : List ℕ) (ending : FileEnd) (F : Rest) → ((past : Past) → (items : List Item) × F past items)
@@ -48,7 +48,7 @@ page_items_found manner can name base Behind found (raw ∷ raws) shows pages pa
           let text = can (shown_by manner raw) (All-head P raw raws shows) in
           let rest = page_items_found manner can name base Behind found raws (All-tail P raw raws shows) (suc pages) past in
           (page_item manner base past pages text.0 ∷ rest.0, inl (few, (text.0, rest.0, text.1, refl, rest.1)))
-      | inr many ↦ (Stop (page_line name (pages + 1) too_many) ∷ [], inr (many, refl))
+      | inr many ↦ (Refuse (page_line name (pages + 1) too_many) ∷ [], inr (many, refl))
     ]
 
 -- the items of some pages of a file, and of what follows it

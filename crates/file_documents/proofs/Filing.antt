@@ -24,7 +24,7 @@ use Rattle.run_output.specs.declared.status.Status.TheVariants as status
 use Rattle.page_batches.specs.Held.{AreHeld, Held}
 use Rattle.page_batches.specs.Inner.Held.{Holds}
 use Rattle.page_batches.specs.Items.{Item, end_items}
-use Rattle.page_batches.specs.Items.Item.{Stop}
+use Rattle.page_batches.specs.Items.Item.{Refuse}
 use Rattle.page_batches.specs.Outcome.{HasEnded}
 use Rattle.page_batches.specs.Inner.Outcome.{IsHalt}
 use Rattle.run_output.specs.Told.{Sinks}
@@ -285,7 +285,7 @@ module _ (contents : Option Contents) (manner : Manner) (name : List ℕ) (past 
 
     -- its pages, and a refusal
     abbrev AreRefused : List (List ℕ) → List (List ℕ) → List ℕ → Type 0
-    AreRefused names texts message = AreItems contents manner Nothing (name ∷ names) past (text_items manner base past 0 texts ++ Stop message ∷ [])
+    AreRefused names texts message = AreItems contents manner Nothing (name ∷ names) past (text_items manner base past 0 texts ++ Refuse message ∷ [])
 
     pub refused_items : (f : InFault) → status_of (why.Fault f) ≡ status.Refused → (names : List (List ℕ)) (t : ConvertedTo (why.Fault f))
         → AreRefused names t.texts (end_message name (why.Fault f) k)
@@ -296,11 +296,11 @@ module _ (contents : Option Contents) (manner : Manner) (name : List ℕ) (past 
         let message = page_line name (k + 1) (kind_text kind) in
         let same : page_line name (k + 1) (fault_text f) ≡ message = ap (page_line name (k + 1)) (fault_text-kind f kind cause) in
         subst (AreRefused names t.texts) (sym same)
-        (inr (listed (Behind names) (read_of (why.Fault f) t) k t.count [] (Refused kind) (Stop message ∷ []) (pages_end _ (Refused kind) t.rest here) refl))
+        (inr (listed (Behind names) (read_of (why.Fault f) t) k t.count [] (Refused kind) (Refuse message ∷ []) (pages_end _ (Refused kind) t.rest here) refl))
 
     pub full_items : (names : List (List ℕ)) (t : ConvertedTo why.TooMany) → AreRefused names t.texts (end_message name why.TooMany k)
     full_items names t =
         let (raw, used, here) = t.ends in
         let page = page_found manner raw used (is_later false t.raws) t.rest here in
         let message = page_line name (k + 1) too_many in
-        inr (listed (Behind names) (read_of why.TooMany t) k t.count (raw ∷ page.raws) page.ending (Stop message ∷ []) page.pages (inr (t.full refl, refl)))
+        inr (listed (Behind names) (read_of why.TooMany t) k t.count (raw ∷ page.raws) page.ending (Refuse message ∷ []) page.pages (inr (t.full refl, refl)))

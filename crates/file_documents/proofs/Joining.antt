@@ -16,7 +16,7 @@ use Rattle.run_output.specs.declared.status.Status.TheVariants as status
 use Rattle.page_batches.specs.Held.{AreHeld, Held}
 use Rattle.page_batches.specs.Inner.Held.{Holds}
 use Rattle.page_batches.specs.Items.{GoesOn, Item, end_items, page_count}
-use Rattle.page_batches.specs.Items.Item.{Stop}
+use Rattle.page_batches.specs.Items.Item.{Refuse}
 use Rattle.page_batches.specs.Outcome.{AreCarriedOut, HasEnded}
 use Rattle.run_output.specs.Told.{Sinks, Source}
 use Rattle.page_batches.proofs.Carrying.{GoesOn-append, GoesOn-behind, carried_on, ended_on, unwritten_as, unwritten_on}
@@ -148,8 +148,8 @@ outcome_on s size contents manner front back past mid first before held start th
     opened = u.opened;
     near = u.near;
     items = joined _ u.before u.front u.items;
-    all = subst (λ l. AreItems contents manner Nothing (front ++ back) past l) (sym (append_assoc before u.before (Stop u.message ∷ [])))
-        (joined Nothing (u.before ++ Stop u.message ∷ []) back u.all);
+    all = subst (λ l. AreItems contents manner Nothing (front ++ back) past l) (sym (append_assoc before u.before (Refuse u.message ∷ [])))
+        (joined Nothing (u.before ++ Refuse u.message ∷ []) back u.all);
     done = carried u.before (u.message ∷ []) u.done;
   }
   by_status status.Unwritten o = ended status.Unwritten o

@@ -13,7 +13,7 @@ use Rattle.run_output.specs.Names.{next_name}
 use Rattle.run_output.specs.Parts.{page_part, whole}
 use Rattle.run_output.specs.declared.part.Binding.{Binding}
 use Rattle.page_batches.specs.Items.{Item, end_items}
-use Rattle.page_batches.specs.Items.Item.{Missing, Note, Stop, Write}
+use Rattle.page_batches.specs.Items.Item.{Missing, Note, Refuse, Write}
 use Rattle.file_documents.specs.Manner.{Manner, base_by, shown_by}
 
 -- the pages of the run are more than it accepts
@@ -58,7 +58,7 @@ abbrev pub AreEndItems : Binding → List ℕ → List ℕ → ℕ → FileEnd �
 AreEndItems b file name pages End Follow items = (rest : List Item) × (items ≡ end_items b name pages [] ++ rest) × Follow rest
 AreEndItems b file name pages Trailing Follow items =
     (rest : List Item) × (items ≡ end_items b name pages (trailing_line file pages ∷ []) ++ rest) × Follow rest
-AreEndItems b file name pages (Refused kind) Follow items = items ≡ Stop (page_line file (pages + 1) (kind_text kind)) ∷ []
+AreEndItems b file name pages (Refused kind) Follow items = items ≡ Refuse (page_line file (pages + 1) (kind_text kind)) ∷ []
 
 -- the pages of a file, of which so many came before: for each the part of a document with its text, and then what
 -- follows them. With the first page that is too many for the run it ends.
@@ -67,7 +67,7 @@ ArePageItems manner file base Behind [] pages past items = Behind pages past ite
 ArePageItems manner file base Behind (raw ∷ raws) pages past items =
     ((pages + past.pages < most_pages) × ((text : List ℕ) × (rest : List Item) × manner.belongs (shown_by manner raw) text
     × (items ≡ page_item manner base past pages text ∷ rest) × ArePageItems manner file base Behind raws (suc pages) past rest))
-    ⊎ ((most_pages ≤ pages + past.pages) × (items ≡ Stop (page_line file (pages + 1) too_many) ∷ []))
+    ⊎ ((most_pages ≤ pages + past.pages) × (items ≡ Refuse (page_line file (pages + 1) too_many) ∷ []))
 
 -- what follows the pages of a file that ends like this, and then what follows the file
 abbrev pub FileEnds : Manner → List ℕ → List ℕ → FileEnd → Rest → ℕ → Rest
@@ -89,5 +89,5 @@ abbrev pub AreWhole : List Item → Type 0
 AreWhole [] = Unit {0}
 AreWhole (Write part ∷ items) = (part ≡ whole part.name part.bytes) × AreWhole items
 AreWhole (Note message ∷ items) = AreWhole items
-AreWhole (Stop message ∷ items) = AreWhole items
+AreWhole (Refuse message ∷ items) = AreWhole items
 AreWhole (Missing name ∷ items) = AreWhole items

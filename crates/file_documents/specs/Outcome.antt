@@ -15,7 +15,7 @@ use Rattle.run_output.specs.Messages.{not_opened, page_line}
 use Rattle.run_output.specs.declared.status.Status.{Status}
 use Rattle.run_output.specs.declared.status.Status.TheVariants as status
 use Rattle.page_batches.specs.Items.{Item}
-use Rattle.page_batches.specs.Items.Item.{Stop}
+use Rattle.page_batches.specs.Items.Item.{Refuse}
 use Rattle.page_batches.specs.Outcome.{AreCarriedOut, HasEnded}
 use Rattle.run_output.specs.Told.{Sinks, Source}
 use Rattle.file_documents.specs.Items.{AreItems, ArePageItems, HoldsPages, IsAbsent, Nothing, PagesAlone, told_contents}
@@ -130,7 +130,7 @@ pub record IsStopped (first : List Item) (contents : Option Contents) (manner : 
   pub near : ReadsFileNear contents name raws rest
   pub items : AreItems contents manner
       (λ past items. ArePageItems manner name (base_by manner name) PagesAlone raws 0 past items) front past before
-  pub all : AreItems contents manner Nothing names past (before ++ Stop message ∷ [])
+  pub all : AreItems contents manner Nothing names past (before ++ Refuse message ∷ [])
   pub done : AreCarriedOut (first ++ before) (message ∷ []) old new
 
 -- the file of this name has these pages, and it is the opened one, where that is told: it is read no farther than decides

@@ -8,7 +8,7 @@ use Rattle.run_output.specs.Told.{IsMessage, Sinks, Told}
 use Rattle.run_output.specs.declared.status.Status.{Status}
 use Rattle.run_output.specs.declared.status.Status.TheVariants as status
 use Rattle.page_batches.specs.Items.{GoesOn, Item, is_open_behind, notes, with_items}
-use Rattle.page_batches.specs.Items.Item.{Stop, Write}
+use Rattle.page_batches.specs.Items.Item.{Refuse, Write}
 
 -- these messages were said, one after another
 abbrev pub AreSaid : Told → Told → List (List ℕ) → Type 0
@@ -36,7 +36,7 @@ pub record AreCarriedOut (items : List Item) (last : List (List ℕ)) (old new :
 pub record IsRefused (items : List Item) (old new : Sinks) : Type 0 where
   pub before : List Item
   pub message : List ℕ
-  pub split : items ≡ before ++ Stop message ∷ []
+  pub split : items ≡ before ++ Refuse message ∷ []
   pub done : AreCarriedOut before (message ∷ []) old new
 
 -- all items before a part are carried out, and that part is cut off, by the one call of the outputs that failed,
