@@ -11,7 +11,7 @@ ghost use Rattle.bitmap_input.specs.GrayRows.{gray_alone, gray_kind, gray_magic,
 use crate::channels::Channels;
 use crate::fault::InFault;
 use crate::header::{Format, GREATEST_MAXVAL, read_magic, read_maxval, read_sides, skip_space};
-use crate::number::{Part, read_number_behind_gap};
+use crate::number::{Section, read_number_behind_gap};
 use crate::raw::read_block;
 use crate::run::{Run, skip};
 use crate::samples::{is_wide, sample_at};
@@ -172,7 +172,7 @@ pub(crate) fn read_plain_gray_row<I: Inputs>(
     ensures same_room { length row.new ≡ length row.old }
 {
     for x in 0..row.len() {
-        let sample = read_number_behind_gap(window, inputs, Part::Raster)?;
+        let sample = read_number_behind_gap(window, inputs, Section::Raster)?;
         row[x] = sample.min(GREATEST_MAXVAL) as u16;
     }
     Ok(())

@@ -7,7 +7,7 @@ ghost use Rattle.bitmap_input.specs.Inner.Header.{magic_of, IsFormat, IsSides, C
 
 use crate::channels::Channels;
 use crate::fault::InFault;
-use crate::number::{Part, read_number_behind_gap};
+use crate::number::{Section, read_number_behind_gap};
 use crate::run::is_space;
 use crate::stop::Stop;
 use crate::window::{Look, Window};
@@ -171,8 +171,8 @@ pub(crate) fn read_sides<I: Inputs>(window: &mut Window, inputs: &mut I) -> Resu
     ensures width { IfOk result (λ s. (1 ≤ s.width) × (s.width ≤ LONGEST_SIDE)) }
     ensures height { IfOk result (λ s. (1 ≤ s.height) × (s.height ≤ LONGEST_SIDE)) }
 {
-    let width = read_number_behind_gap(window, inputs, Part::Header)?;
-    let height = read_number_behind_gap(window, inputs, Part::Header)?;
+    let width = read_number_behind_gap(window, inputs, Section::Header)?;
+    let height = read_number_behind_gap(window, inputs, Section::Header)?;
     check(width, height)
 }
 
@@ -197,6 +197,6 @@ pub(crate) fn read_maxval<I: Inputs>(window: &mut Window, inputs: &mut I) -> Res
     ensures free { TakesNone result }
     ensures range { IfOk result (λ maxval. (1 ≤ maxval) × (maxval ≤ GREATEST_MAXVAL)) }
 {
-    let maxval = read_number_behind_gap(window, inputs, Part::Header)?;
+    let maxval = read_number_behind_gap(window, inputs, Section::Header)?;
     check_maxval(maxval)
 }

@@ -22,22 +22,22 @@ use pt_core::Inputs;
 // it.
 pub(crate) const CAP: u32 = 200000;
 
-/// A part of a page, to which a number belongs.
+/// A section of a page, to which a number belongs.
 #[derive(Clone, Copy)]
-pub(crate) enum Part {
+pub(crate) enum Section {
     Header,
     Raster,
 }
 
-impl Part {
+impl Section {
     /// What another byte than a digit or a gap's means here.
     fn fault(self) -> InFault
         ensures cause { cause_of_fault result ≡ Says (Refused (kind_at self)) }
         ensures free { HasMemory (cause_of_fault result) }
     {
         match self {
-            Part::Header => InFault::BadHeader,
-            Part::Raster => InFault::BadRaster,
+            Section::Header => InFault::BadHeader,
+            Section::Raster => InFault::BadRaster,
         }
     }
 }
@@ -76,9 +76,9 @@ fn read_digits<I: Inputs>(window: &mut Window, inputs: &mut I) -> Result<u32, St
 }
 
 /// A number, or 200000 where it is larger.
-fn read_number<I: Inputs>(window: &mut Window, inputs: &mut I, part: Part) -> Result<u32, Stop>
+fn read_number<I: Inputs>(window: &mut Window, inputs: &mut I, section: Section) -> Result<u32, Stop>
     requires { I.is_opened inputs.old ≡ true }
-    ensures reads { Reads IsCapped (number (kind_at part)) window.old
+    ensures reads { Reads IsCapped (number (kind_at section)) window.old
         (I.files inputs.old) result window.new (I.files inputs.new) }
     ensures leaves { Leaves I.Inputs result inputs.old inputs.new }
     ensures free { TakesNone result }
@@ -88,7 +88,7 @@ fn read_number<I: Inputs>(window: &mut Window, inputs: &mut I, part: Part) -> Re
             if is_digit(byte) {
                 read_digits(window, inputs)
             } else {
-                Err(Stop::Fault(part.fault()))
+                Err(Stop::Fault(section.fault()))
             }
         }
         Look::End => Err(Stop::Fault(InFault::Truncated)),
@@ -97,9 +97,9 @@ fn read_number<I: Inputs>(window: &mut Window, inputs: &mut I, part: Part) -> Re
 }
 
 /// Goes on behind whitespace and comments, of which there is at least a byte.
-fn skip_gap<I: Inputs>(window: &mut Window, inputs: &mut I, part: Part) -> Result<(), Stop>
+fn skip_gap<I: Inputs>(window: &mut Window, inputs: &mut I, section: Section) -> Result<(), Stop>
     requires { I.is_opened inputs.old ≡ true }
-    ensures reads { Reads Any (some_gap (kind_at part)) window.old
+    ensures reads { Reads Any (some_gap (kind_at section)) window.old
         (I.files inputs.old) result window.new (I.files inputs.new) }
     ensures leaves { Leaves I.Inputs result inputs.old inputs.new }
     ensures free { TakesNone result }
@@ -107,7 +107,7 @@ fn skip_gap<I: Inputs>(window: &mut Window, inputs: &mut I, part: Part) -> Resul
     match window.look(inputs) {
         Look::Byte(byte) => match behind(Run::Gap, byte) {
             Some(_) => skip(window, inputs, Run::Gap),
-            None => Err(Stop::Fault(part.fault())),
+            None => Err(Stop::Fault(section.fault())),
         },
         Look::End => Err(Stop::Fault(InFault::Truncated)),
         Look::Fault => Err(Stop::Fault(InFault::ReadFault)),
@@ -118,14 +118,14 @@ fn skip_gap<I: Inputs>(window: &mut Window, inputs: &mut I, part: Part) -> Resul
 pub(crate) fn read_number_behind_gap<I: Inputs>(
     window: &mut Window,
     inputs: &mut I,
-    part: Part,
+    section: Section,
 ) -> Result<u32, Stop>
     requires { I.is_opened inputs.old ≡ true }
-    ensures reads { Reads IsCapped (number_behind_gap (kind_at part)) window.old
+    ensures reads { Reads IsCapped (number_behind_gap (kind_at section)) window.old
         (I.files inputs.old) result window.new (I.files inputs.new) }
     ensures leaves { Leaves I.Inputs result inputs.old inputs.new }
     ensures free { TakesNone result }
 {
-    skip_gap(window, inputs, part)?;
-    read_number(window, inputs, part)
+    skip_gap(window, inputs, section)?;
+    read_number(window, inputs, section)
 }

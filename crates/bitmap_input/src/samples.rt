@@ -13,7 +13,7 @@ ghost use Rattle.bitmap_input.specs.declared.channels.Channels.TheVariants as ch
 
 use crate::channels::Channels;
 use crate::header::GREATEST_MAXVAL;
-use crate::number::{Part, read_number_behind_gap};
+use crate::number::{Section, read_number_behind_gap};
 use crate::raw::read_block;
 use crate::stop::Stop;
 use crate::window::Window;
@@ -67,9 +67,9 @@ fn read_plain_color<I: Inputs>(window: &mut Window, inputs: &mut I) -> Result<u3
         window.old (I.files inputs.old) result window.new (I.files inputs.new) }
     ensures leaves { Leaves I.Inputs result inputs.old inputs.new }
 {
-    let red = read_number_behind_gap(window, inputs, Part::Raster)?;
-    let green = read_number_behind_gap(window, inputs, Part::Raster)?;
-    let blue = read_number_behind_gap(window, inputs, Part::Raster)?;
+    let red = read_number_behind_gap(window, inputs, Section::Raster)?;
+    let green = read_number_behind_gap(window, inputs, Section::Raster)?;
+    let blue = read_number_behind_gap(window, inputs, Section::Raster)?;
     Ok(red + green + blue)
 }
 
@@ -86,7 +86,7 @@ fn read_plain_samples<I: Inputs>(
     ensures leaves { Leaves I.Inputs result inputs.old inputs.new }
 {
     match channels {
-        Channels::Gray => read_number_behind_gap(window, inputs, Part::Raster),
+        Channels::Gray => read_number_behind_gap(window, inputs, Section::Raster),
         Channels::Color => read_plain_color(window, inputs),
     }
 }
