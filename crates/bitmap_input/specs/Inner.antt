@@ -79,7 +79,7 @@ pub mod Run
 --     any that can be black
 --   is_black_at: whether a pixel of this brightness is black
 --   black_of: whether a pixel of these samples is black
---   black_in: whether the pixel in column x of a row of bytes is black
+--   black_in_bytes: whether the pixel in column x of a row of bytes is black
 --   IsInRange: the sample for white is at most 65535, and no pixel that is brighter than white is black
 pub mod Shading
 -- Bytes that are passed over.

@@ -8,7 +8,7 @@ ghost use Rattle.bitmap_input.specs.Parts.{repeated};
 ghost use Rattle.bitmap_input.specs.Raw.{is_dark};
 ghost use Rattle.bitmap_input.specs.Samples.{PixelSamples, samples_in, as_entry, plain_samples, is_wide, sample_bytes, samples, grouped, raw_samples_row};
 ghost use Rattle.bitmap_input.specs.Inner.Raster.{with_row};
-ghost use Rattle.bitmap_input.specs.Inner.Shading.{brightness, brightness_at, IsCappedBrightness, is_black_at, black_of, black_in, IsInRange};
+ghost use Rattle.bitmap_input.specs.Inner.Shading.{brightness, brightness_at, IsCappedBrightness, is_black_at, black_of, black_in_bytes, IsInRange};
 ghost use Rattle.bitmap_input.specs.declared.channels.Channels.TheVariants as channels;
 
 use crate::channels::Channels;
@@ -173,7 +173,7 @@ fn word(row: &[u8], from: usize, count: usize, shading: &Shading) -> u64
     requires column { from ≤ LONGEST_SIDE }
     requires within { samples_in shading.now.channels * (from + count)
         ≤ length (samples (is_wide shading.now.maxval) row.now) }
-    ensures { (k : ℕ) → k < count → is_one result k ≡ black_in shading.now row.now (from + k) }
+    ensures { (k : ℕ) → k < count → is_one result k ≡ black_in_bytes shading.now row.now (from + k) }
 {
     let wide = is_wide(shading.maxval);
     let mut word = 0;
