@@ -5,7 +5,7 @@ pub mod Entries
 -- A path with its certificate in a text.
 --   certified_of: the path and its certificate, without the place
 --   IsGroup: the three lines stand at the front, and then the rest
-pub mod Groups
+pub mod CertifiedPaths
 -- The first line of a certificates' text.
 --   IsHead: the line stands at the front, and then the rest
 pub mod Heads
