@@ -4,7 +4,7 @@ use Rattle.bit_image.specs.Page.{Page}
 use Rattle.bit_image.specs.PbmText.{pbm_text}
 use Rattle.run_output.specs.Told.{Sinks, Source}
 use Rattle.small_program.specs.Input.{TellsInput}
-use Rattle.small_program.specs.Outcome.{HasDone, IsProgramRun, Writes}
+use Rattle.small_program.specs.ProgramRun.{HasDone, IsProgramRun, Writes}
 use Rattle.small_program.specs.Reply.{IsReply}
 use Rattle.small_program.specs.declared.ending.Ending.{Ending}
 use Rattle.small_program.specs.declared.ending.Ending.TheVariants as ending

@@ -8,7 +8,7 @@ ghost use Rattle.path_decompose.specs.Decomposition.{IsDecomposition, kept};
 ghost use Rattle.run_output.specs.Told.{sinks_of, source_of};
 ghost use Rattle.small_program.specs.Ending.{exit_code};
 ghost use Rattle.small_program.specs.Input.{TellsInput};
-ghost use Rattle.small_program.specs.Outcome.{IsProgramRun};
+ghost use Rattle.small_program.specs.ProgramRun.{IsProgramRun};
 ghost use Rattle.small_program.specs.declared.ending.Ending.{Ending};
 ghost use Rattle.small_program.specs.declared.input.TheConstants.{MOST_BYTES};
 ghost use Rattle.point_fill.specs.Reply.{IsFillReply, filler};

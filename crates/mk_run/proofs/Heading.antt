@@ -22,7 +22,7 @@ use Rattle.run_output.specs.Messages.{file_line, program_line}
 use Rattle.run_output.specs.Names.{dash}
 use Rattle.run_output.specs.Told.{Sinks, Source, Told}
 use Rattle.small_program.specs.Input.{HasTaken, TellsInput}
-use Rattle.small_program.specs.Outcome.{OnlySays}
+use Rattle.small_program.specs.ProgramRun.{OnlySays}
 use Rattle.small_program.specs.declared.ending.Ending.TheVariants as ending
 use Rattle.small_program.proofs.Taking.{is_not_missing, is_there, one_input}
 use Rattle.filter_words.specs.declared.setup.Setup.{Setup}

@@ -16,7 +16,7 @@ use Rattle.bitmap_input.proofs.Telling.{not_true}
 use Rattle.run_output.specs.Messages.{file_line}
 use Rattle.run_output.specs.Names.{dash}
 use Rattle.run_output.specs.Told.{IsMessage, Sinks, Source}
-use Rattle.small_program.specs.Outcome.{Writes}
+use Rattle.small_program.specs.ProgramRun.{Writes}
 use Rattle.small_program.specs.declared.ending.Ending.{Ending}
 use Rattle.small_program.specs.declared.ending.Ending.TheVariants as ending
 use Rattle.small_program.proofs.Taking.{is_not_missing, one_input}

@@ -13,7 +13,7 @@ use Rattle.run_output.specs.Messages.{file_line, file_page_line, program_line}
 use Rattle.run_output.specs.Names.{dash}
 use Rattle.run_output.specs.Told.{IsMessage, Sinks, Source}
 use Rattle.small_program.specs.Input.{HasTaken, TellsInput}
-use Rattle.small_program.specs.Outcome.{FailsInput, LeavesInput, OnlySays, PutsText, TakesInput, Writes}
+use Rattle.small_program.specs.ProgramRun.{FailsInput, LeavesInput, OnlySays, PutsText, TakesInput, Writes}
 use Rattle.small_program.specs.declared.ending.Ending.{Ending}
 use Rattle.small_program.specs.declared.ending.Ending.TheVariants as ending
 use Rattle.filter_words.specs.Asked.{IsFilterAsked}

@@ -5,8 +5,8 @@ use Rattle.pt_core.specs.Files.{Lacks}
 use Rattle.run_output.specs.Names.{dash}
 use Rattle.run_output.specs.Told.{Sinks, Source, Told}
 use Rattle.small_program.specs.Input.{HasInput, TellsInput}
-use Rattle.small_program.specs.Outcome.{HasDone, IsProgramRun, OnlySays, TakesInput, Writes}
-use Rattle.small_program.specs.Inner.Outcome.{PutsReply}
+use Rattle.small_program.specs.ProgramRun.{HasDone, IsProgramRun, OnlySays, TakesInput, Writes}
+use Rattle.small_program.specs.Inner.ProgramRun.{PutsReply}
 use Rattle.small_program.specs.Reply.{IsReply}
 use Rattle.small_program.specs.Inner.Reply.{stop_ending, stop_line}
 use Rattle.small_program.specs.declared.ending.Ending.{Ending}

@@ -19,6 +19,6 @@ pub mod Input
 --   PutsText: a text is written, or its document is cut off
 --   HasDone: what a run has done that ends so
 --   IsProgramRun: all that a run does that is given so many words and ends so
-pub mod Outcome
+pub mod ProgramRun
 -- What inner contracts alone speak of: no promise rests on it.
 pub mod Inner

@@ -1,8 +1,8 @@
 //! All that a program does.
 ghost use Rattle.std.specs.Prelude.{◌≡◌, ℕ, false, length, true};
 ghost use Rattle.run_output.specs.Told.{IsMessage, sinks_of, source_of, told_of};
-ghost use Rattle.small_program.specs.Outcome.{IsProgramRun, PutsText};
-ghost use Rattle.small_program.specs.Inner.Outcome.{PutsReply};
+ghost use Rattle.small_program.specs.ProgramRun.{IsProgramRun, PutsText};
+ghost use Rattle.small_program.specs.Inner.ProgramRun.{PutsReply};
 ghost use Rattle.small_program.specs.Inner.Reply.{reply_ending, reply_text, stop_ending, stop_line};
 
 use crate::ending::Ending;

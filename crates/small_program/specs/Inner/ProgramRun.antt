@@ -6,7 +6,7 @@ use Rattle.run_output.specs.Names.{dash}
 use Rattle.run_output.specs.Told.{Sinks}
 use Rattle.small_program.specs.declared.ending.Ending.{Ending}
 use Rattle.small_program.specs.declared.ending.Ending.TheVariants as ending
-use Rattle.small_program.specs.Outcome.{OnlySays, PutsText}
+use Rattle.small_program.specs.ProgramRun.{OnlySays, PutsText}
 
 -- a reply was to be put out, which belongs to this ending and this text
 abbrev pub PutsReply : List ℕ → Ending → List ℕ → Ending → Sinks → Sinks → Type 0
