@@ -27,8 +27,8 @@ use Rattle.small_program.specs.declared.ending.Ending.TheVariants as ending
 use Rattle.small_program.proofs.Taking.{is_not_missing, is_there, one_input}
 use Rattle.filter_words.specs.declared.setup.Setup.{Setup}
 use Rattle.mk_run.specs.Inner.Head.{StandsBehindHead, StopsHead}
-use Rattle.mk_run.specs.Outcome.{IsPageRun, LeavesOpen, filter_name, page_says}
-use Rattle.mk_run.specs.Inner.Outcome.{cause_ending}
+use Rattle.mk_run.specs.FilterRun.{IsPageRun, LeavesOpen, filter_name, page_says}
+use Rattle.mk_run.specs.Inner.FilterRun.{cause_ending}
 use Rattle.mk_run.specs.Result.{result_text}
 use Rattle.mk_run.specs.Rows.{fits_result, head_ending, page_ending}
 use Rattle.mk_run.specs.Inner.Work.{StopsBehind, header_of}

@@ -4,7 +4,7 @@
 pub mod Head
 -- What a run of the program has done.
 --   cause_ending: how a run ends where a part of the page isn't there
-pub mod Outcome
+pub mod FilterRun
 -- What of the document a run wrote, and why it broke off.
 --   PutsRows: the open document has all rows above one more
 --   GoesWell: no call of a sink failed

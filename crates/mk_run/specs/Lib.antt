@@ -43,7 +43,7 @@ pub mod Put
 --   HasFiltered: what was done of the page on standard input
 --   IsPageRun: all that a run does with the page on standard input
 --   IsFilterRun: all that a run does that is given these words
-pub mod Outcome
+pub mod FilterRun
 -- The header of a gray page.
 --   PageHeader: whether it is plain, its sides, and the sample that is white
 --   page_header: the header at the front of bytes
