@@ -19,8 +19,8 @@ use Rattle.page_batches.specs.Held.{AreHeld, Held}
 use Rattle.page_batches.specs.Inner.Held.{LeavesBatch}
 use Rattle.page_batches.specs.Items.{Item}
 use Rattle.page_batches.specs.Items.Item.{Refuse}
-use Rattle.page_batches.specs.Outcome.{AreCarriedOut, HasEnded}
-use Rattle.page_batches.specs.Inner.Outcome.{IsHalt}
+use Rattle.page_batches.specs.ItemsDone.{AreCarriedOut, HasEnded}
+use Rattle.page_batches.specs.Inner.ItemsDone.{IsHalt}
 use Rattle.run_output.specs.Told.{IsMessage, Sinks, Source}
 use Rattle.page_batches.proofs.Carrying.{GoesOn-behind, IsSaying, carried_on, ended_more, ended_on, memory_out, only_said}
 use Rattle.page_batches.proofs.Holding.{ended_behind, halts_by, holds_goes_on}

@@ -25,8 +25,8 @@ use Rattle.page_batches.specs.Held.{AreHeld, Held}
 use Rattle.page_batches.specs.Inner.Held.{Holds}
 use Rattle.page_batches.specs.Items.{Item, end_items}
 use Rattle.page_batches.specs.Items.Item.{Refuse}
-use Rattle.page_batches.specs.Outcome.{HasEnded}
-use Rattle.page_batches.specs.Inner.Outcome.{IsHalt}
+use Rattle.page_batches.specs.ItemsDone.{HasEnded}
+use Rattle.page_batches.specs.Inner.ItemsDone.{IsHalt}
 use Rattle.run_output.specs.Told.{Sinks}
 use Rattle.page_batches.proofs.Carrying.{ended_more}
 use Rattle.page_batches.proofs.Holding.{holds_on}

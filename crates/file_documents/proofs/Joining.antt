@@ -17,7 +17,7 @@ use Rattle.page_batches.specs.Held.{AreHeld, Held}
 use Rattle.page_batches.specs.Inner.Held.{Holds}
 use Rattle.page_batches.specs.Items.{GoesOn, Item, end_items, page_count}
 use Rattle.page_batches.specs.Items.Item.{Refuse}
-use Rattle.page_batches.specs.Outcome.{AreCarriedOut, HasEnded}
+use Rattle.page_batches.specs.ItemsDone.{AreCarriedOut, HasEnded}
 use Rattle.run_output.specs.Told.{Sinks, Source}
 use Rattle.page_batches.proofs.Carrying.{GoesOn-append, GoesOn-behind, carried_on, ended_on, unwritten_as, unwritten_on}
 use Rattle.page_batches.proofs.Holding.{holds_goes_on, page_count-append}

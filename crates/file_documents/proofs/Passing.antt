@@ -10,7 +10,7 @@ use Rattle.page_batches.specs.Held.{AreHeld, Held}
 use Rattle.page_batches.specs.Inner.Held.{pages_held}
 use Rattle.page_batches.specs.Items.{GoesOn, Item, page_count}
 use Rattle.page_batches.specs.Items.Item.{Missing, Refuse}
-use Rattle.page_batches.specs.Outcome.{HasEnded, IsUnwritten}
+use Rattle.page_batches.specs.ItemsDone.{HasEnded, IsUnwritten}
 use Rattle.run_output.specs.Told.{Sinks, Source}
 use Rattle.page_batches.proofs.Holding.{page_count-held}
 use Rattle.file_documents.specs.Items.{IsAbsent, told_contents}

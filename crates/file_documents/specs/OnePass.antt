@@ -6,7 +6,7 @@ use Rattle.pt_core.specs.Files.{Contents}
 use Rattle.bitmap_input.specs.Raw.{Raw}
 use Rattle.run_output.specs.Made.{Past}
 use Rattle.page_batches.specs.Items.{GoesOn, Item, page_count}
-use Rattle.page_batches.specs.Outcome.{IsUnwritten}
+use Rattle.page_batches.specs.ItemsDone.{IsUnwritten}
 use Rattle.run_output.specs.Told.{Sinks, Source}
 use Rattle.file_documents.specs.Items.{AreItems, ArePageItems, Nothing, PagesAlone}
 use Rattle.file_documents.specs.Manner.{Manner, base_by}

@@ -12,7 +12,7 @@ use Rattle.run_output.specs.declared.part.Binding.{Binding}
 use Rattle.run_output.specs.declared.part.Binding.TheVariants.{Apart, Together}
 use Rattle.page_batches.specs.Items.{Item, is_open_behind}
 use Rattle.page_batches.specs.Items.Item.{Note, Write}
-use Rattle.page_batches.specs.Outcome.{AreCarriedOut, IsUnwritten}
+use Rattle.page_batches.specs.ItemsDone.{AreCarriedOut, IsUnwritten}
 use Rattle.run_output.specs.Told.{IsMessage, Sinks}
 use Rattle.page_batches.specs.Inner.Entries.{AreInOrder, held_by, items_by, pages_among}
 use Rattle.page_batches.specs.Held.{AreHeld, Held}

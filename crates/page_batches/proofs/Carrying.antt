@@ -10,8 +10,8 @@ use Rattle.run_output.specs.declared.status.Status.{Status}
 use Rattle.run_output.specs.declared.status.Status.TheVariants as status
 use Rattle.page_batches.specs.Items.{GoesOn, Item, is_open_behind, notes, with_items}
 use Rattle.page_batches.specs.Items.Item.{Missing, Note, Refuse, Write}
-use Rattle.page_batches.specs.Outcome.{AreCarriedOut, AreSaid, HasEnded, IsUnwritten}
-use Rattle.page_batches.specs.Inner.Outcome.{EndsWriting, IsHalt}
+use Rattle.page_batches.specs.ItemsDone.{AreCarriedOut, AreSaid, HasEnded, IsUnwritten}
+use Rattle.page_batches.specs.Inner.ItemsDone.{EndsWriting, IsHalt}
 use Rattle.run_output.specs.Told.{IsMessage, Sinks, Told}
 
 pub GoesOn-append : (items more : List Item) → GoesOn items → GoesOn more → GoesOn (items ++ more)

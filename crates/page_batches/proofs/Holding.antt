@@ -13,8 +13,8 @@ use Rattle.page_batches.specs.Inner.Held.{AreInTurn, Holds, HoldsMore, EndsHoldi
 use Rattle.page_batches.specs.Held.Held.{End, Message, Page}
 use Rattle.page_batches.specs.Items.{GoesOn, Item, end_items, page_count, pages_in}
 use Rattle.page_batches.specs.Items.Item.{Missing, Note, Refuse, Write}
-use Rattle.page_batches.specs.Outcome.{AreCarriedOut, HasEnded}
-use Rattle.page_batches.specs.Inner.Outcome.{IsHalt, ended_with}
+use Rattle.page_batches.specs.ItemsDone.{AreCarriedOut, HasEnded}
+use Rattle.page_batches.specs.Inner.ItemsDone.{IsHalt, ended_with}
 use Rattle.run_output.specs.Told.{Sinks}
 use Rattle.page_batches.proofs.Carrying.{GoesOn-append, carried_on, ended_on, nothing_done}
 

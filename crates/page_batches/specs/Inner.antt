@@ -25,4 +25,4 @@ pub mod Held
 --   EndsDocument: how a call ended that was to end a document
 --   ended_with: how a call ended that answers how the run ends, where it does
 --   IsHalt: the run ends within items
-pub mod Outcome
+pub mod ItemsDone

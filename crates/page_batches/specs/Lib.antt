@@ -17,7 +17,7 @@ pub mod Items
 --   IsUnwritten: a part is cut off
 --   IsOutOfMemory: some first items are carried out, and then memory ran out
 --   HasEnded: the items are carried out as far as the status says
-pub mod Outcome
+pub mod ItemsDone
 -- What was read and isn't carried out yet.
 --   Held: one thing that is held
 --   AreHeld: these are the items of what is held

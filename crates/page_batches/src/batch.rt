@@ -10,8 +10,8 @@ ghost use Rattle.page_batches.specs.Inner.Held.{AreInTurn, EndsHolding, HoldsMor
 ghost use Rattle.page_batches.specs.Held.Held.{End, Message, Page};
 ghost use Rattle.page_batches.specs.Items.{Item};
 ghost use Rattle.page_batches.specs.Items.Item.{Write};
-ghost use Rattle.page_batches.specs.Inner.Outcome.{EndsWriting, IsHalt, ended_with};
-ghost use Rattle.page_batches.specs.Outcome.{HasEnded};
+ghost use Rattle.page_batches.specs.Inner.ItemsDone.{EndsWriting, IsHalt, ended_with};
+ghost use Rattle.page_batches.specs.ItemsDone.{HasEnded};
 
 use crate::desk::Desk;
 use crate::laws::held_items_are_one;

@@ -15,7 +15,7 @@ use Rattle.command_asks.specs.declared.ask.Ask.{Ask}
 use Rattle.command_asks.specs.declared.ask.Ask.TheVariants as asks
 use Rattle.page_batches.specs.Items.{Doc, GoesOn, Item}
 use Rattle.page_batches.specs.Items.Item.{Missing, Refuse}
-use Rattle.page_batches.specs.Outcome.{AreCarriedOut, HasEnded}
+use Rattle.page_batches.specs.ItemsDone.{AreCarriedOut, HasEnded}
 use Rattle.run_output.specs.Told.{Sinks, Source}
 use Rattle.file_documents.specs.Items.{AreItems, IsAbsent, Nothing, told_contents}
 use Rattle.file_documents.specs.Manner.{Manner, manner_by}

@@ -9,7 +9,7 @@ ghost use Rattle.command_asks.specs.Asked.{CanBeDone, IsAsked};
 ghost use Rattle.command_asks.specs.declared.ask.Ask.{Ask};
 ghost use Rattle.page_batches.specs.Inner.Desks.{Keeps, sinks_at};
 ghost use Rattle.page_batches.specs.Items.{Doc, Item};
-ghost use Rattle.page_batches.specs.Outcome.{HasEnded};
+ghost use Rattle.page_batches.specs.ItemsDone.{HasEnded};
 ghost use Rattle.run_output.specs.Told.{sinks_of, source_of};
 ghost use Rattle.file_documents.specs.Items.{IsAbsent, told_contents};
 ghost use Rattle.file_documents.specs.Outcome.{LastEndsNear, OpensFirst};

@@ -24,8 +24,8 @@ use Rattle.run_output.specs.declared.status.Status.TheVariants as status
 use Rattle.page_batches.specs.Items.{Item, end_items, page_count}
 use Rattle.page_batches.specs.Held.{AreHeld, Held}
 use Rattle.page_batches.specs.Inner.Held.{Holds, Waits}
-use Rattle.page_batches.specs.Outcome.{AreCarriedOut, HasEnded, IsUnwritten}
-use Rattle.page_batches.specs.Inner.Outcome.{IsHalt}
+use Rattle.page_batches.specs.ItemsDone.{AreCarriedOut, HasEnded, IsUnwritten}
+use Rattle.page_batches.specs.Inner.ItemsDone.{IsHalt}
 use Rattle.run_output.specs.Told.{Sinks, Source}
 use Rattle.page_batches.specs.declared.desk.Desk.{Desk}
 use Rattle.file_documents.specs.Items.{AreItems, Rest, page_item, told_contents, too_many}

@@ -7,7 +7,7 @@ use Rattle.run_output.specs.declared.status.Status.{Status}
 use Rattle.run_output.specs.declared.status.Status.TheVariants as status
 use Rattle.page_batches.specs.Items.{Item, notes}
 use Rattle.page_batches.specs.Items.Item.{Write}
-use Rattle.page_batches.specs.Outcome.{AreCarriedOut, IsUnwritten}
+use Rattle.page_batches.specs.ItemsDone.{AreCarriedOut, IsUnwritten}
 
 -- how a call ended that was to write items: they are carried out, or a part of them isn't written
 abbrev pub EndsWriting : {E : Type 0} → Result Unit E → List Item → Sinks → Sinks → Type 0
