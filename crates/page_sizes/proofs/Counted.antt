@@ -13,8 +13,8 @@ use Rattle.turn_policies.specs.Majority.{count_below, sum_below}
 use Rattle.turn_policies.proofs.Counting.{count_below-sum, sum_below-same}
 use Rattle.path_decompose.specs.Decomposition.{IsDecomposed, IsDecomposition, inverted}
 use Rattle.path_decompose.specs.Inside.{lines_of, lines_to}
-use Rattle.path_decompose.specs.Inner.Line.{IsLineOn}
-use Rattle.path_decompose.specs.Line.{Line, is_edge, level, same_line, upright}
+use Rattle.path_decompose.specs.Inner.GridEdges.{IsLineOn}
+use Rattle.path_decompose.specs.GridEdges.{Line, is_edge, level, same_line, upright}
 use Rattle.path_decompose.proofs.NextPath.{fits_inverted}
 use Rattle.path_decompose.proofs.Sums.{edges_once}
 use Rattle.path_decompose.proofs.Walked.{walk_lines_on}

@@ -5,8 +5,8 @@ use Rattle.std.proofs.lemmas.List.Elements.{All-head, All-tail}
 use Rattle.std.proofs.lemmas.List.Sums.{sum_by-cons}
 use Rattle.turn_policies.specs.Majority.{sum_below}
 use Rattle.turn_policies.proofs.Counting.{sum_below-add, sum_below-at, sum_below-if, sum_below-same, sum_below-zero}
-use Rattle.path_decompose.specs.Inner.Line.{IsLineOn}
-use Rattle.path_decompose.specs.Line.{Line, level, same_line, upright}
+use Rattle.path_decompose.specs.Inner.GridEdges.{IsLineOn}
+use Rattle.path_decompose.specs.GridEdges.{Line, level, same_line, upright}
 
 -- a sum over all sides of the pixels of a page
 abbrev pub over_sides : ℕ → ℕ → (Line → ℕ) → ℕ

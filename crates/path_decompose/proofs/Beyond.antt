@@ -6,8 +6,8 @@ use Rattle.pt_core.specs.declared.path.Sign.{Sign}
 use Rattle.pt_core.specs.declared.policy.Policy.{Policy}
 use Rattle.bit_image.specs.Image.{Image, Fits, differ}
 use Rattle.turn_policies.specs.declared.edge.Edge.{Edge}
-use Rattle.path_decompose.specs.Line.{Line, upright, level, is_in_row}
-use Rattle.path_decompose.specs.Inner.Line.{IsLineOn}
+use Rattle.path_decompose.specs.GridEdges.{Line, upright, level, is_in_row}
+use Rattle.path_decompose.specs.Inner.GridEdges.{IsLineOn}
 use Rattle.path_decompose.specs.Inside.{is_crossed}
 use Rattle.path_decompose.proofs.Parity.{odd_by-agree}
 use Rattle.path_decompose.proofs.EdgeLine.{line_of, within}

@@ -11,7 +11,7 @@ use Rattle.turn_policies.specs.declared.edge.Edge.{Edge}
 use Rattle.turn_policies.specs.Heading.{end_x, end_y}
 use Rattle.turn_policies.specs.Boundary.{IsBoundary, left_pixel}
 use Rattle.turn_policies.specs.Turn.{next}
-use Rattle.path_decompose.specs.Line.{Line, upright, level, same_line, is_edge, is_in_row}
+use Rattle.path_decompose.specs.GridEdges.{Line, upright, level, same_line, is_edge, is_in_row}
 use Rattle.path_decompose.specs.Walk.{IsTrail}
 use Rattle.path_decompose.specs.Inside.{is_crossed}
 use Rattle.path_decompose.proofs.Differ.{differ_swap, differ_solve}

@@ -4,7 +4,7 @@ use Rattle.pt_core.specs.declared.path.Path.{Path}
 use Rattle.pt_core.specs.declared.policy.Policy.{Policy}
 use Rattle.bit_image.specs.Image.{Image, Fits, differ}
 use Rattle.bit_image.specs.Page.{Page}
-use Rattle.path_decompose.specs.Line.{Line, is_edge, same_line}
+use Rattle.path_decompose.specs.GridEdges.{Line, is_edge, same_line}
 use Rattle.path_decompose.specs.Walk.{first_edge}
 use Rattle.path_decompose.specs.Inside.{lines_of, inside}
 use Rattle.path_decompose.specs.Decomposition.{inverted, IsNextPath}

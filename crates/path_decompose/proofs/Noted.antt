@@ -17,8 +17,8 @@ use Rattle.turn_policies.specs.declared.edge.Edge.{Edge}
 use Rattle.turn_policies.specs.Turn.{next}
 use Rattle.path_decompose.specs.declared.trail.Upright.{Upright}
 use Rattle.path_decompose.specs.Inside.{is_crossed, is_odd, inside, black_count}
-use Rattle.path_decompose.specs.Line.{Line, upright, level, is_in_row}
-use Rattle.path_decompose.specs.Inner.Line.{IsLineOn}
+use Rattle.path_decompose.specs.GridEdges.{Line, upright, level, is_in_row}
+use Rattle.path_decompose.specs.Inner.GridEdges.{IsLineOn}
 use Rattle.path_decompose.specs.Inner.Trail.{upright_along, upright_of, column_if_up, column_if_down, column_up, column_down}
 use Rattle.path_decompose.specs.Walk.{first_edge, start_of, IsBoundaryWalk}
 use Rattle.path_decompose.proofs.Area.{circuit_area}

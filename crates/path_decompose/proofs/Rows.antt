@@ -11,7 +11,7 @@ use Rattle.pt_core.specs.declared.point.Point.{Point}
 use Rattle.bit_image.specs.Image.{differ}
 use Rattle.path_decompose.specs.Bounds.{IsCornerOf}
 use Rattle.path_decompose.specs.Inside.{line_at, line_between, lines_to, lines_of, is_odd}
-use Rattle.path_decompose.specs.Line.{Line, upright, level, is_in_row}
+use Rattle.path_decompose.specs.GridEdges.{Line, upright, level, is_in_row}
 use Rattle.path_decompose.proofs.Differ.{differ-false, differ_same, differ_link}
 use Rattle.path_decompose.proofs.Parity.{odd_by, is_odd-count}
 

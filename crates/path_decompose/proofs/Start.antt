@@ -9,7 +9,7 @@ use Rattle.bit_image.specs.Image.{Image, south_west, differ}
 use Rattle.bit_image.specs.FirstBlack.{IsFirstBlack}
 use Rattle.turn_policies.specs.declared.edge.Edge.{Edge}
 use Rattle.turn_policies.specs.Turn.{next}
-use Rattle.path_decompose.specs.Line.{Line, upright, level, same_line, is_edge}
+use Rattle.path_decompose.specs.GridEdges.{Line, upright, level, same_line, is_edge}
 use Rattle.path_decompose.specs.Walk.{IsTrail, first_edge}
 use Rattle.path_decompose.specs.Inside.{is_crossed}
 use Rattle.path_decompose.proofs.Parity.{odd_by, odd_by-agree}

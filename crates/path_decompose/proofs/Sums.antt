@@ -5,7 +5,7 @@ use Rattle.pt_core.specs.declared.path.Path.{Path}
 use Rattle.pt_core.specs.declared.policy.Policy.{Policy}
 use Rattle.bit_image.specs.Image.{Image, IsWhite, differ}
 use Rattle.bit_image.specs.Page.{Page}
-use Rattle.path_decompose.specs.Line.{Line, upright, level, same_line, is_edge}
+use Rattle.path_decompose.specs.GridEdges.{Line, upright, level, same_line, is_edge}
 use Rattle.path_decompose.specs.Walk.{first_edge}
 use Rattle.path_decompose.specs.Inside.{lines_of, inside}
 use Rattle.path_decompose.specs.Decomposition.{inverted, IsNextPath, IsDecomposed}

@@ -10,7 +10,7 @@ pub mod Decomposition
 -- Unit edges of the grid without a direction, each between two pixels.
 --   IsLineOn: the line is a side of a pixel of a page of this width and height
 --   place_of: the column and the row of an upright line
-pub mod Line
+pub mod GridEdges
 -- The search for the pixel where the next path starts.
 --   IsWhiteThrough: on a page of this width the rows above pixel (x, y) are white, and so is its own row up to it
 --   IsStart: the first black pixel, or none where all is white

@@ -5,7 +5,7 @@ use Rattle.std.specs.Prelude.{ℕ, ◌%◌, min, Bool, false, cond, nat_eq, nat_
 use Rattle.pt_core.specs.declared.point.Point.{Point}
 use Rattle.bit_image.specs.Image.{Image, is_from}
 use Rattle.turn_policies.specs.Majority.{count_below, sum_below}
-use Rattle.path_decompose.specs.Line.{Line, upright, level}
+use Rattle.path_decompose.specs.GridEdges.{Line, upright, level}
 
 -- the line between corners (x, y) and (u, v), which are one step apart
 abbrev pub line_at : ℕ → ℕ → ℕ → ℕ → Line

@@ -3,7 +3,7 @@
 --   same_line: the two are one line
 --   is_edge: the line has a black pixel on one of its sides and a white one on the other
 --   is_in_row: the line is upright, in row y
-pub mod Line
+pub mod GridEdges
 -- The walk along the boundary edges of an image (Selinger, "Potrace", 2003, section 2.1.1).
 --   start_of: the corner where an edge begins
 --   first_edge: the left side of pixel (x, y), walked down

@@ -10,7 +10,7 @@ use Rattle.pt_core.specs.declared.point.Point.{Point}
 use Rattle.pt_core.specs.ClosedWalk.{IsClosedWalk}
 use Rattle.path_decompose.specs.Bounds.{IsCornerOf}
 use Rattle.path_decompose.specs.Inside.{line_between, lines_to, lines_of, is_crossed, inside}
-use Rattle.path_decompose.specs.Line.{Line, upright, level, is_in_row}
+use Rattle.path_decompose.specs.GridEdges.{Line, upright, level, is_in_row}
 use Rattle.path_decompose.proofs.Parity.{odd_by, is_odd-count}
 use Rattle.path_tree.specs.declared.bounds.Bounds.{Bounds}
 use Rattle.path_tree.specs.declared.starts.Start.{Start}

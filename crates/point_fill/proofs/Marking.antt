@@ -11,8 +11,8 @@ use Rattle.bit_image.specs.Image.{Image, differ, is_from, is_between}
 use Rattle.bit_image.specs.Page.{Page, image_of}
 use Rattle.path_decompose.specs.Bounds.{IsCornerOf}
 use Rattle.path_decompose.specs.Inside.{is_crossed, line_at, line_between}
-use Rattle.path_decompose.specs.Line.{Line, upright, level}
-use Rattle.path_decompose.specs.Inner.Line.{place_of, IsLineOn}
+use Rattle.path_decompose.specs.GridEdges.{Line, upright, level}
+use Rattle.path_decompose.specs.Inner.GridEdges.{place_of, IsLineOn}
 use Rattle.path_decompose.proofs.Differ.{differ-false, differ_swap}
 use Rattle.point_fill.specs.Inner.Swept.{odd_below, swept, AreMarked}
 

@@ -2,8 +2,8 @@
 -- section 2.1.1).
 -- These serve inner contracts alone: no promise rests on them.
 use Rattle.std.specs.Prelude.{ℕ, ◌<◌, ◌≤◌, Option, Some, None}
-use Rattle.path_decompose.specs.Line.{Line}
-use Rattle.path_decompose.specs.Line.Line.{upright, level}
+use Rattle.path_decompose.specs.GridEdges.{Line}
+use Rattle.path_decompose.specs.GridEdges.Line.{upright, level}
 
 -- the line is a side of a pixel of a page of this width and height
 abbrev pub IsLineOn : ℕ → ℕ → Line → Type 0
