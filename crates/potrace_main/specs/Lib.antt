@@ -2,7 +2,7 @@
 --   demo_line: the line of a trace whose document has so many bytes
 --   IsDemoLine: the line is that of a page's trace and document
 --   IsDemoText: the text is the lines of so many pages, in order
-pub mod Line
+pub mod Demo
 -- What the program tells of itself.
 --   help_text: how the program is used
 --   version_text: which version the program is

@@ -22,7 +22,7 @@ use Rattle.file_documents.specs.Manner.{Manner, manner_by}
 use Rattle.file_documents.specs.OnePass.{IsOnePass}
 use Rattle.file_documents.specs.Outcome.{IsOutcome}
 use Rattle.page_trace.specs.Document.{IsDocument}
-use Rattle.potrace_main.specs.Line.{IsDemoText}
+use Rattle.potrace_main.specs.Demo.{IsDemoText}
 use Rattle.potrace_main.specs.Usage.{help_text, version_text}
 
 -- the exit status is the code of a status of which this holds

@@ -4,7 +4,7 @@ ghost use Rattle.pt_core.specs.Counts.{Rose};
 ghost use Rattle.run_output.specs.Names.{dash};
 ghost use Rattle.run_output.specs.Status.{code_of};
 ghost use Rattle.run_output.specs.declared.status.Status.{Status};
-ghost use Rattle.potrace_main.specs.Line.{IsDemoText};
+ghost use Rattle.potrace_main.specs.Demo.{IsDemoText};
 ghost use Rattle.command_asks.specs.Asked.{CanBeDone, IsAsked};
 ghost use Rattle.command_asks.specs.declared.ask.Ask.{Ask};
 ghost use Rattle.page_batches.specs.Inner.Desks.{Keeps, sinks_at};
