@@ -1,3 +1,3 @@
 -- What the words ask for.
 --   CanFilter: a setup that a page can be filtered with
-pub mod Asked
+pub mod FilterAsked

@@ -4,6 +4,6 @@
 --   GivesSetup: the options give this setup
 --   AsksFilter: what `clap` found in the words asks for this
 --   IsFilterAsked: the words ask for this
-pub mod Asked
+pub mod FilterAsked
 -- What inner contracts alone speak of: no promise rests on it.
 pub mod Inner

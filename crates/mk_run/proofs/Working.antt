@@ -14,7 +14,7 @@ use Rattle.mkbitmap.specs.Packing.{padded}
 use Rattle.mkbitmap.proofs.Lifting.{need-is}
 use Rattle.mkbitmap.proofs.Order.{after-rises}
 use Rattle.filter_words.specs.declared.setup.Setup.{Setup}
-use Rattle.filter_words.specs.Inner.Asked.{CanFilter}
+use Rattle.filter_words.specs.Inner.FilterAsked.{CanFilter}
 use Rattle.mk_run.specs.Put.{need_of}
 use Rattle.mk_run.specs.Rows.{fits_result}
 use Rattle.mk_run.specs.Result.{result_row, scan_of}

@@ -16,7 +16,7 @@ use Rattle.small_program.specs.Input.{HasTaken, TellsInput}
 use Rattle.small_program.specs.ProgramRun.{FailsInput, LeavesInput, OnlySays, PutsText, TakesInput, Writes}
 use Rattle.small_program.specs.declared.ending.Ending.{Ending}
 use Rattle.small_program.specs.declared.ending.Ending.TheVariants as ending
-use Rattle.filter_words.specs.Asked.{IsFilterAsked}
+use Rattle.filter_words.specs.FilterAsked.{IsFilterAsked}
 use Rattle.filter_words.specs.declared.ask.FilterAsk.{FilterAsk}
 use Rattle.filter_words.specs.declared.ask.FilterAsk.TheVariants.{Help, Page}
 use Rattle.filter_words.specs.declared.setup.Setup.{Setup}

@@ -1,7 +1,7 @@
 //! All that a run needs memory for, made before its document is begun.
 ghost use Rattle.std.specs.Prelude.{◌≡◌, ◌*◌, [], false, true, IfOk};
 ghost use Rattle.bitmap_input.specs.GrayReader.{GraySource};
-ghost use Rattle.filter_words.specs.Inner.Asked.{CanFilter};
+ghost use Rattle.filter_words.specs.Inner.FilterAsked.{CanFilter};
 ghost use Rattle.mk_run.specs.Result.{pbm_head};
 ghost use Rattle.mk_run.specs.Rows.{fits_result};
 ghost use Rattle.mk_run.specs.Inner.Work.{HasRooms, IsAtWork, IsGrayHead};
