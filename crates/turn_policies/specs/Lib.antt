@@ -12,7 +12,7 @@ pub mod Heading
 pub mod Boundary
 -- Corners of pixels, as points of the plane.
 --   IsCorner: both coordinates are 0 to 32767, so the corner lies on a page or not far beyond
-pub mod Corner
+pub mod PixelCorner
 -- The colour in the majority around a corner (the potrace manual page.
 --   behind: the pixel r columns to the left of, and r rows below, the one that a corner is the lower left of
 --   count_below: how many of the first n numbers pass a test
