@@ -15,7 +15,7 @@ use Rattle.page_batches.specs.Items.{Item, end_items, is_open_behind}
 use Rattle.page_batches.specs.Items.Item.{Missing, Note, Refuse, Write}
 use Rattle.page_batches.specs.ItemsDone.{AreCarriedOut}
 use Rattle.run_output.specs.Told.{Sinks}
-use Rattle.file_documents.specs.Items.{AreItems, ArePageItems, AreWhole, FileEnds, Nothing, PagesAlone, Rest}
+use Rattle.file_documents.specs.FileItems.{AreItems, ArePageItems, AreWhole, FileEnds, Nothing, PagesAlone, Rest}
 use Rattle.file_documents.specs.Manner.{Manner, base_by}
 
 -- the first of whole documents

@@ -23,7 +23,7 @@ use Rattle.page_batches.specs.Items.{Item}
 use Rattle.page_batches.specs.ItemsDone.{HasEnded}
 use Rattle.run_output.specs.Told.{Sinks}
 use Rattle.page_batches.proofs.Holding.{all_held, ended_behind, holds_on, pages_in-page}
-use Rattle.file_documents.specs.Items.{page_item}
+use Rattle.file_documents.specs.FileItems.{page_item}
 use Rattle.file_documents.specs.Manner.{Manner}
 use Rattle.file_documents.specs.Outcome.{BeginsSettled, LeavesBehind, ReadsNear, is_later}
 use Rattle.file_documents.specs.Inner.Outcome.{BeginsWith}

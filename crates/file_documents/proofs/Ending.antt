@@ -24,7 +24,7 @@ use Rattle.page_batches.specs.Inner.ItemsDone.{IsHalt}
 use Rattle.run_output.specs.Told.{IsMessage, Sinks, Source}
 use Rattle.page_batches.proofs.Carrying.{GoesOn-behind, IsSaying, carried_on, ended_more, ended_on, memory_out, only_said}
 use Rattle.page_batches.proofs.Holding.{ended_behind, halts_by, holds_goes_on}
-use Rattle.file_documents.specs.Items.{AreItems, IsAbsent, Nothing, told_contents}
+use Rattle.file_documents.specs.FileItems.{AreItems, IsAbsent, Nothing, told_contents}
 use Rattle.file_documents.specs.Manner.{HasTexts, Manner, base_by}
 use Rattle.file_documents.specs.Outcome.{EndsNear, HoldsBytes, IsOutcomeBehind, IsUnopened, IsUnread, OpensUpTo, ReadsFileNear, ReadsNear, opened_name}
 use Rattle.file_documents.specs.Inner.Progress.{EndsWithFile, Halts, Converts, ConvertsFile, end_message, status_of, text_items}

@@ -18,7 +18,7 @@ use Rattle.run_output.specs.Names.{next_name}
 use Rattle.run_output.specs.declared.part.Binding.{Binding}
 use Rattle.page_batches.specs.Items.{Item, end_items}
 use Rattle.page_batches.specs.Items.Item.{Missing, Refuse}
-use Rattle.file_documents.specs.Items.{AreEndItems, AreItems, ArePageItems, FileEnds, Nothing, Rest, page_item, too_many}
+use Rattle.file_documents.specs.FileItems.{AreEndItems, AreItems, ArePageItems, FileEnds, Nothing, Rest, page_item, too_many}
 use Rattle.file_documents.specs.Manner.{HasTexts, Manner, base_by, shown_by}
 
 end_items_found : (b : Binding) (file name : List ℕ) (pages : ℕ) (ending : FileEnd) (Follow : List Item → Type 0) → (items : List Item) × Follow items

@@ -21,7 +21,7 @@ use Rattle.page_batches.specs.ItemsDone.{AreCarriedOut, HasEnded}
 use Rattle.run_output.specs.Told.{Sinks, Source}
 use Rattle.page_batches.proofs.Carrying.{GoesOn-append, GoesOn-behind, carried_on, ended_on, unwritten_as, unwritten_on}
 use Rattle.page_batches.proofs.Holding.{holds_goes_on, page_count-append}
-use Rattle.file_documents.specs.Items.{AreEndItems, AreItems, ArePageItems, FileEnds, IsAbsent, Nothing, Rest}
+use Rattle.file_documents.specs.FileItems.{AreEndItems, AreItems, ArePageItems, FileEnds, IsAbsent, Nothing, Rest}
 use Rattle.file_documents.specs.Manner.{Manner, base_by}
 use Rattle.file_documents.specs.OnePass.{IfReadsTo, IsOnePass, batch_end}
 use Rattle.file_documents.specs.Outcome.{IsOutcomeBehind, LastEndsNear, OpensUpTo}

@@ -11,7 +11,7 @@ use Rattle.run_output.specs.Made.{Past, past_file}
 use Rattle.run_output.specs.Names.{next_name}
 use Rattle.run_output.specs.declared.part.Binding.{Binding}
 use Rattle.page_batches.specs.Items.{Item, end_items}
-use Rattle.file_documents.specs.Items.{AreEndItems, AreItems, ArePageItems, FileEnds, HoldsPages, Rest, page_item}
+use Rattle.file_documents.specs.FileItems.{AreEndItems, AreItems, ArePageItems, FileEnds, HoldsPages, Rest, page_item}
 use Rattle.file_documents.specs.Inner.Manner.{HasOneText}
 use Rattle.file_documents.specs.Manner.{Manner, base_by, shown_by}
 

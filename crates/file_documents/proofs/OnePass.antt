@@ -13,7 +13,7 @@ use Rattle.page_batches.specs.ItemsDone.{IsUnwritten}
 use Rattle.run_output.specs.Told.{Sinks, Source}
 use Rattle.page_batches.proofs.Carrying.{unwritten_as, unwritten_more, unwritten_on}
 use Rattle.page_batches.proofs.Holding.{page_count-append, page_count-held, split_on}
-use Rattle.file_documents.specs.Items.{AreItems, Nothing}
+use Rattle.file_documents.specs.FileItems.{AreItems, Nothing}
 use Rattle.file_documents.specs.Manner.{Manner}
 use Rattle.file_documents.specs.OnePass.{IfReadsTo, IsOnePass, batch_end}
 use Rattle.file_documents.specs.Inner.Progress.{IsInBatch, IsInPart}

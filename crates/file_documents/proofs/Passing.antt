@@ -13,7 +13,7 @@ use Rattle.page_batches.specs.Items.Item.{Missing, Refuse}
 use Rattle.page_batches.specs.ItemsDone.{HasEnded, IsUnwritten}
 use Rattle.run_output.specs.Told.{Sinks, Source}
 use Rattle.page_batches.proofs.Holding.{page_count-held}
-use Rattle.file_documents.specs.Items.{IsAbsent, told_contents}
+use Rattle.file_documents.specs.FileItems.{IsAbsent, told_contents}
 use Rattle.file_documents.specs.Manner.{HasTexts, Manner, base_by}
 use Rattle.file_documents.specs.OnePass.{IfReadsTo, IsOnePass}
 use Rattle.file_documents.specs.Outcome.{LeavesBehind, opened_name}

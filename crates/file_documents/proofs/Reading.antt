@@ -23,7 +23,7 @@ use Rattle.bitmap_input.proofs.FrontStays.{front_stays, page_stays}
 use Rattle.bitmap_input.proofs.Behind.{ahead_with_more, begins_with_more, front_within}
 use Rattle.bitmap_input.proofs.Files.{file_pages_some}
 use Rattle.bitmap_input.proofs.Sided.{pages_shown}
-use Rattle.file_documents.specs.Items.{told_contents}
+use Rattle.file_documents.specs.FileItems.{told_contents}
 use Rattle.file_documents.specs.Manner.{Manner, shown_by}
 use Rattle.file_documents.specs.Outcome.{opened_name}
 use Rattle.file_documents.specs.Inner.Progress.{FaultsBy, ReadsPage, Settles, TakesNeeded, ahead}

@@ -19,7 +19,7 @@ pub mod Manner
 --   FileEnds: what follows the pages of a file that ends like this, and then what follows the file
 --   AreItems: the items of files in order, and what follows them
 --   AreWhole: each part of the items is a whole document
-pub mod Items
+pub mod FileItems
 -- What a run has done, against the items that it was to write.
 --   OpensUpTo: the file of this name is listed, and there were as many openings as there are files up to it
 --   opened_name: the name of the opened file, where that is told and a file is opened

@@ -8,7 +8,7 @@ use Rattle.run_output.specs.Made.{Past}
 use Rattle.page_batches.specs.Items.{GoesOn, Item, page_count}
 use Rattle.page_batches.specs.ItemsDone.{IsUnwritten}
 use Rattle.run_output.specs.Told.{Sinks, Source}
-use Rattle.file_documents.specs.Items.{AreItems, ArePageItems, Nothing, PagesAlone}
+use Rattle.file_documents.specs.FileItems.{AreItems, ArePageItems, Nothing, PagesAlone}
 use Rattle.file_documents.specs.Manner.{Manner, base_by}
 use Rattle.file_documents.specs.Outcome.{LeavesBehind, OpensUpTo}
 

@@ -18,7 +18,7 @@ use Rattle.page_batches.specs.Items.{Item}
 use Rattle.page_batches.specs.Items.Item.{Refuse}
 use Rattle.page_batches.specs.ItemsDone.{AreCarriedOut, HasEnded}
 use Rattle.run_output.specs.Told.{Sinks, Source}
-use Rattle.file_documents.specs.Items.{AreItems, ArePageItems, HoldsPages, IsAbsent, Nothing, PagesAlone, told_contents}
+use Rattle.file_documents.specs.FileItems.{AreItems, ArePageItems, HoldsPages, IsAbsent, Nothing, PagesAlone, told_contents}
 use Rattle.file_documents.specs.Manner.{Manner, base_by}
 
 -- the file of this name is listed, and there were as many openings as there are files up to it. Which names these

@@ -19,7 +19,7 @@ use Rattle.page_batches.specs.Items.{Doc, GoesOn, Item}
 use Rattle.page_batches.specs.Items.Item.{Missing, Note, Refuse, Write}
 use Rattle.page_batches.specs.ItemsDone.{AreCarriedOut, HasEnded}
 use Rattle.run_output.specs.Told.{Sinks, Source}
-use Rattle.file_documents.specs.Items.{AreItems, AreWhole, IsAbsent, Nothing, told_contents}
+use Rattle.file_documents.specs.FileItems.{AreItems, AreWhole, IsAbsent, Nothing, told_contents}
 use Rattle.file_documents.specs.Manner.{HasTexts, Manner}
 use Rattle.file_documents.specs.Outcome.{IsOutcome, LastEndsNear}
 use Rattle.file_documents.proofs.Closing.{AreWhole-front, alone_end, carried_closed, items_end, nothing_ends}

@@ -17,7 +17,7 @@ use Rattle.page_batches.specs.Items.{Doc, GoesOn, Item}
 use Rattle.page_batches.specs.Items.Item.{Missing, Refuse}
 use Rattle.page_batches.specs.ItemsDone.{AreCarriedOut, HasEnded}
 use Rattle.run_output.specs.Told.{Sinks, Source}
-use Rattle.file_documents.specs.Items.{AreItems, IsAbsent, Nothing, told_contents}
+use Rattle.file_documents.specs.FileItems.{AreItems, IsAbsent, Nothing, told_contents}
 use Rattle.file_documents.specs.Manner.{Manner, manner_by}
 use Rattle.file_documents.specs.OnePass.{IsOnePass}
 use Rattle.file_documents.specs.Outcome.{IsOutcome}

@@ -28,7 +28,7 @@ use Rattle.page_batches.specs.ItemsDone.{AreCarriedOut, HasEnded, IsUnwritten}
 use Rattle.page_batches.specs.Inner.ItemsDone.{IsHalt}
 use Rattle.run_output.specs.Told.{Sinks, Source}
 use Rattle.page_batches.specs.declared.desk.Desk.{Desk}
-use Rattle.file_documents.specs.Items.{AreItems, Rest, page_item, told_contents, too_many}
+use Rattle.file_documents.specs.FileItems.{AreItems, Rest, page_item, told_contents, too_many}
 use Rattle.file_documents.specs.Manner.{Manner, shown_by}
 use Rattle.file_documents.specs.Inner.Outcome.{BeginsWith}
 use Rattle.file_documents.specs.Outcome.{EndsNear, IsOutcomeBehind, LeavesBehind, ReadsNear, StopsReading, is_later, opened_name}
