@@ -23,7 +23,7 @@ use Rattle.document_readings.proofs.Nearness.{end_near, start_near, origin_near}
 use Rattle.document_readings.proofs.Commands.{step_from, piece_commands, pieces_commands, outline_commands, outlines_drawn}
 use Rattle.document_readings.specs.Drawn.{Command, move, line, curve, close, drawn}
 use Rattle.document_readings.specs.Places.{IsPointInReach, IsPieceInReach, AreInReach, rounded_place, outline_subpath}
-use Rattle.document_readings.specs.Numbers.{nothing, digits}
+use Rattle.document_readings.specs.WholeNumbers.{nothing, digits}
 use Rattle.document_readings.specs.PathData.{PathWord, big_m, small_l, small_c, small_z, number, path_byte, digit, path_words, commands_of, path_commands, path_subpaths}
 use Rattle.document_readings.specs.TraceShapes.{path_data}
 

@@ -11,7 +11,7 @@ use Rattle.pt_core.specs.Outlines.{outline_at}
 use Rattle.outline_pen.specs.Shapes.{shape_text, flat_text, group_text}
 use Rattle.svg_backend.specs.SvgText.{svg_mark, paths_text, head_text, svg_text}
 use Rattle.document_readings.specs.Drawn.{Subpath}
-use Rattle.document_readings.specs.Numbers.{nothing}
+use Rattle.document_readings.specs.WholeNumbers.{nothing}
 use Rattle.document_readings.specs.Places.{AreInReach, outline_subpath}
 use Rattle.document_readings.specs.SvgPicture.{up_the_page, trace_picture}
 use Rattle.document_readings.specs.SvgReading.{View, picture_in, group_in, shapes_in, path_in, svg_picture, length_from, view_in}

@@ -12,7 +12,7 @@ pub mod Texts
 --   signed: the number with this sign and this value
 --   natural_from: the number of a text that is digits alone, behind digits of this value, if there are any
 --   natural_of: the number of a text that is digits alone, at least one
-pub mod Numbers
+pub mod WholeNumbers
 -- What commands draw from a current point.
 --   Place: a place, or the step from one place to another, in the units of the document
 --   displaced: the place that lies a step away
