@@ -1,7 +1,7 @@
 -- Lists of numbers.
 --   inserted: a rising list with one number more, at its place
 --   merged: the numbers of two rising lists, in their order
-pub mod Numbers
+pub mod NumberLists
 -- The rule of the claim word.
 --   hand
 --   sum_of_views: f of each view, added up

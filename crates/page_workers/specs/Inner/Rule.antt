@@ -6,8 +6,8 @@ use lib.ListN.{get_elem?}
 use Rattle.atomic_table.specs.Table.{Step, Me}
 use Rattle.atomic_table.specs.Seated.{TableId}
 use Rattle.page_workers.specs.declared.hand.Hand.{Hand}
-use Rattle.page_workers.specs.Numbers.{count_in, once_below, IsRising, IsAbove, has_from}
-use Rattle.page_workers.specs.Inner.Numbers.{merged}
+use Rattle.page_workers.specs.NumberLists.{count_in, once_below, IsRising, IsAbove, has_from}
+use Rattle.page_workers.specs.Inner.NumberLists.{merged}
 use Rattle.page_workers.specs.Draws.{AreDrawn}
 
 abbrev pub hand : List ℕ → ℕ → ℕ → Hand
