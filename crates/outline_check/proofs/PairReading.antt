@@ -7,7 +7,7 @@ use Rattle.pt_base.specs.PointsText.{point_text}
 use Rattle.pt_base.specs.PolygonsText.{index_text}
 use Rattle.pt_base.specs.Whole.{IsDigit}
 use Rattle.pt_core.specs.declared.point.Point.{Point}
-use Rattle.list_reader.specs.Inner.Numbers.{IsNumeral}
+use Rattle.list_reader.specs.Inner.Numerals.{IsNumeral}
 use Rattle.list_reader.proofs.Runs.{one_number}
 use Rattle.outline_check.specs.declared.label.Label.{Label}
 use Rattle.outline_check.specs.Inner.Entries.{IsEntry, IsPair}

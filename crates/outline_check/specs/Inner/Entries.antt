@@ -1,6 +1,6 @@
 -- The entries of a line: two numbers, or one, behind a space.
 use Rattle.std.specs.Prelude.{◌≡◌, ℕ, ◌≤◌, List, ◌∷◌, ◌++◌, decimal}
-use Rattle.list_reader.specs.Inner.Numbers.{EndsDigits}
+use Rattle.list_reader.specs.Inner.Numerals.{EndsDigits}
 
 -- a space, a number, this byte and another number stand at the front, with all digits that follow, and then the rest
 pub record IsPair (separator most_first most_second : ℕ) (bytes : List ℕ) (first second : ℕ) (rest : List ℕ) : Type 0 where

@@ -6,7 +6,7 @@ use Rattle.pt_core.specs.declared.path.Path.{Path}
 use Rattle.pt_core.specs.declared.path.Sign.{Sign}
 use Rattle.pt_core.specs.declared.point.Point.{Point}
 use Rattle.path_decompose.specs.Bounds.{IsCornerOf}
-use Rattle.list_reader.specs.Inner.Numbers.{EndsDigits}
+use Rattle.list_reader.specs.Inner.Numerals.{EndsDigits}
 use Rattle.point_fill.specs.PointsFile.{IsLoop, IsToldPath}
 
 -- no digit stands at the front, so a number before it ends there
