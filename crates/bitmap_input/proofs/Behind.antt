@@ -8,7 +8,7 @@ use Rattle.bit_image.specs.Page.{Page as Pixels}
 use Rattle.bitmap_input.specs.declared.stop.Stop.{Stop}
 use Rattle.bitmap_input.specs.Cut.{Cut, is_by_end, after, ◌>>=◌}
 use Rattle.bitmap_input.specs.Cut.Cut.{Takes, Stops}
-use Rattle.bitmap_input.specs.Parts.{longest, is_empty, is_space, run_length, run_of, spaces, space, repeated}
+use Rattle.bitmap_input.specs.PageParts.{longest, is_empty, is_space, run_length, run_of, spaces, space, repeated}
 use Rattle.bitmap_input.specs.Raw.{Raw, Entry, entries_page, IsShown}
 use Rattle.bitmap_input.specs.Raw.Entry.{Bit}
 use Rattle.bitmap_input.specs.Front.{Magic, no_magic, magic_of_name, magic_named, magic_behind, magic, sides, maxval, plain_pixel, raw_row, rows_raster, body, page_at, answer_of, front}

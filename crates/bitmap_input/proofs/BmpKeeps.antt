@@ -6,7 +6,7 @@ use Rattle.bitmap_input.specs.Cut.{Kind, ◌>>=◌}
 use Rattle.bitmap_input.specs.Cut.Kind.{BmpKind, BadOffset}
 use Rattle.bitmap_input.specs.Cut.FileEnd.{Refused}
 use Rattle.bitmap_input.specs.Cut.Cut.{Takes}
-use Rattle.bitmap_input.specs.Parts.{block, repeated}
+use Rattle.bitmap_input.specs.PageParts.{block, repeated}
 use Rattle.bitmap_input.specs.Sides.{checked}
 use Rattle.bitmap_input.specs.BmpHeader.{header_size, is_known_size, is_known_kind, mask_bytes, has_known_colors, width, height, pixel_offset, palette_bytes, palette_end, row_length, bits, palette_length, color_bytes}
 use Rattle.bitmap_input.specs.BmpRaster.{palette_color, pixel_in, bmp_row, picture, raster}

@@ -11,7 +11,7 @@ use Rattle.bitmap_input.specs.Inner.Reading.{cause_of, StopsBy, Reads}
 use Rattle.bitmap_input.specs.Reading.Cause.{Says}
 use Rattle.bitmap_input.specs.Bmp.{passes, placed}
 use Rattle.bitmap_input.specs.Cut.Kind.{BadOffset}
-use Rattle.bitmap_input.specs.Parts.{block}
+use Rattle.bitmap_input.specs.PageParts.{block}
 use Rattle.bitmap_input.specs.BmpHeader.{header_size, bits, mask_bytes, width, height, pixel_offset, palette_end}
 use Rattle.bitmap_input.specs.Sides.{checked}
 use Rattle.std.specs.Prelude.{nat_le}

@@ -3,7 +3,7 @@ use Rattle.std.proofs.Common.{◌≡◌, refl, ℕ, ◌+◌, ◌-◌, ◌*◌, t
 use Rattle.bitmap_input.specs.Cut.{Kind}
 use Rattle.bitmap_input.specs.Cut.FileEnd.{Refused}
 use Rattle.bitmap_input.specs.Cut.Cut.{Stops}
-use Rattle.bitmap_input.specs.Parts.{is_digit, value, number}
+use Rattle.bitmap_input.specs.PageParts.{is_digit, value, number}
 use Rattle.bitmap_input.specs.Inner.Run.{cap, IsCapped, digits}
 
 -- one more digit

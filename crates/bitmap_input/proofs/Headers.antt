@@ -6,7 +6,7 @@ use Rattle.bitmap_input.specs.Cut.{Kind, FileEnd, is_by_end}
 use Rattle.bitmap_input.specs.Cut.Kind.{UnknownFormat, ZeroSide, TooLarge, BadHeader}
 use Rattle.bitmap_input.specs.Cut.FileEnd.{End, Trailing, Refused}
 use Rattle.bitmap_input.specs.Cut.Cut.{Takes, Stops}
-use Rattle.bitmap_input.specs.Parts.{is_zero, gap_length, gap, some_gap}
+use Rattle.bitmap_input.specs.PageParts.{is_zero, gap_length, gap, some_gap}
 use Rattle.bitmap_input.specs.Front.{checked, checked_maxval, greatest_maxval, magic, magic_behind, no_magic}
 use Rattle.bitmap_input.specs.Inner.Run.{IsCapped}
 use Rattle.bitmap_input.specs.declared.fault.InFault.TheVariants as fault

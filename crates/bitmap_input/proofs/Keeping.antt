@@ -6,7 +6,7 @@ use Rattle.bitmap_input.specs.Cut.{Kind, FileEnd, Cut, ◌>>=◌}
 use Rattle.bitmap_input.specs.Cut.Kind.{BadHeader, BadRaster, Truncated, TooLong, ZeroSide, TooLarge, UnknownFormat}
 use Rattle.bitmap_input.specs.Cut.FileEnd.{End, Trailing, Refused}
 use Rattle.bitmap_input.specs.Cut.Cut.{Takes, Stops}
-use Rattle.bitmap_input.specs.Parts.{longest, is_zero, is_empty, is_space, is_digit, run_length, gap_length, missing, run_of, gap, some_gap, value, number, number_behind_gap, space, pixel, block, repeated}
+use Rattle.bitmap_input.specs.PageParts.{longest, is_zero, is_empty, is_space, is_digit, run_length, gap_length, missing, run_of, gap, some_gap, value, number, number_behind_gap, space, pixel, block, repeated}
 use Rattle.bitmap_input.specs.Raw.{row_bytes, unpacked}
 use Rattle.bitmap_input.specs.Front.{Magic, no_magic, magic_of_name, magic_named, magic_behind, magic, checked, sides, checked_maxval, maxval, greatest_maxval, plain_pixel, raw_row, front}
 use Rattle.bitmap_input.specs.Samples.{samples_in, plain_sample, plain_samples, is_wide, sample_bytes, samples, grouped, raw_samples_row}

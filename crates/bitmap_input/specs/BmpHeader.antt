@@ -3,7 +3,7 @@
 -- first byte, and of a number the least significant byte comes first. The header's bytes are those
 -- from place 2 on, behind the magic `BM`.
 use Rattle.std.specs.Prelude.{ℕ, ◌+◌, ◌-◌, ◌*◌, ◌/◌, ◌^◌, Bool, not, ◌&&◌, ◌||◌, List, slice_index_or, if◌then◌else◌, nat_eq, nat_le}
-use Rattle.bitmap_input.specs.Parts.{is_zero}
+use Rattle.bitmap_input.specs.PageParts.{is_zero}
 
 -- the byte at a place
 unfoldable pub byte_at : List ℕ → ℕ → ℕ

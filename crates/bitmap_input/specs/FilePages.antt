@@ -1,7 +1,7 @@
 -- The pages of a file, one after another.
 use Rattle.std.specs.Prelude.{ℕ, ◌+◌, ◌≡◌, Bool, true, max, List, [], ◌∷◌, drop}
 use Rattle.bitmap_input.specs.Cut.{FileEnd}
-use Rattle.bitmap_input.specs.Parts.{run_length, is_space}
+use Rattle.bitmap_input.specs.PageParts.{run_length, is_space}
 use Rattle.bitmap_input.specs.Raw.{Raw}
 use Rattle.bitmap_input.specs.Front.{front}
 use Rattle.bitmap_input.specs.Front.Answer.{Page, Ends}

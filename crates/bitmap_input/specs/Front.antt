@@ -5,7 +5,7 @@ use Rattle.bitmap_input.specs.Cut.{FileEnd, Cut, ◌>>=◌}
 use Rattle.bitmap_input.specs.Cut.Kind.{UnknownFormat, BadHeader}
 use Rattle.bitmap_input.specs.Cut.FileEnd.{End, Trailing, Refused}
 use Rattle.bitmap_input.specs.Cut.Cut.{Takes, Stops}
-use Rattle.bitmap_input.specs.Parts.{is_zero, spaces, gap, number_behind_gap, space, pixel, block, repeated}
+use Rattle.bitmap_input.specs.PageParts.{is_zero, spaces, gap, number_behind_gap, space, pixel, block, repeated}
 pub use Rattle.bitmap_input.specs.Sides.{checked}
 use Rattle.bitmap_input.specs.Bmp.{bmp}
 use Rattle.bitmap_input.specs.Raw.{Raw, Entry, entries_page, row_bytes, unpacked}

@@ -27,7 +27,7 @@ pub mod Cut
 --   pixel: the character of a pixel
 --   block: as many bytes as stated
 --   repeated: the same part so many times
-pub mod Parts
+pub mod PageParts
 -- The parts of a page as sets of byte lists (Netpbm's format page "pbm").
 --   AllBytes: each byte passes the test
 --   is_quiet: a byte inside of a comment

@@ -5,7 +5,7 @@ use Rattle.bitmap_input.specs.Cut.{Cut}
 use Rattle.bitmap_input.specs.Cut.Kind.{ZeroSide, TooLarge}
 use Rattle.bitmap_input.specs.Cut.FileEnd.{Refused}
 use Rattle.bitmap_input.specs.Cut.Cut.{Takes, Stops}
-use Rattle.bitmap_input.specs.Parts.{is_zero}
+use Rattle.bitmap_input.specs.PageParts.{is_zero}
 
 -- both sides are in range: first none is 0, and then none is too large
 abbrev pub checked : ℕ → ℕ → List ℕ → Cut (ℕ × ℕ)

@@ -1,7 +1,7 @@
 //! A gray page row by row: its header, and the samples of one row.
 ghost use Rattle.std.specs.Prelude.{◌≡◌, ℕ, ◌+◌, ◌*◌, ◌<◌, ◌≤◌, true, false, length, map, min, IfOk};
 ghost use Rattle.bitmap_input.specs.Inner.Reading.{Reads, Any, Same, Leaves, TakesNone};
-ghost use Rattle.bitmap_input.specs.Parts.{repeated};
+ghost use Rattle.bitmap_input.specs.PageParts.{repeated};
 ghost use Rattle.bitmap_input.specs.Samples.{samples_in, samples, plain_sample, sample_bytes, raw_samples_row};
 ghost use Rattle.bitmap_input.specs.declared.channels.Channels.TheVariants as channels;
 ghost use Rattle.bitmap_input.specs.Inner.Header.{magic_of};

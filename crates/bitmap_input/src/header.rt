@@ -1,7 +1,7 @@
 //! The header of a page: its magic, its sides and its sample for white.
 ghost use Rattle.std.specs.Prelude.{◌≡◌, ℕ, ◌≤◌, true, false, IfOk, if◌then◌else◌, option_map};
 ghost use Rattle.bitmap_input.specs.Inner.Reading.{Reads, Any, Same, Leaves, HasMemory, TakesNone, cause_of};
-ghost use Rattle.bitmap_input.specs.Parts.{space};
+ghost use Rattle.bitmap_input.specs.PageParts.{space};
 ghost use Rattle.bitmap_input.specs.Front.{magic, magic_named, magic_behind, sides, maxval};
 ghost use Rattle.bitmap_input.specs.Inner.Header.{magic_of, IsFormat, IsSides, Checks, ChecksMaxval};
 

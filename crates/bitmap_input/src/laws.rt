@@ -1,7 +1,7 @@
 //! Laws of the pages of a file, which callers and readers of the definitions rest on.
 ghost use Rattle.std.specs.Prelude.{◌≡◌, ℕ, ◌≤◌, Bool, false, List, ◌++◌, length, take, All};
 ghost use Rattle.bitmap_input.specs.Cut.{FileEnd, is_by_end};
-ghost use Rattle.bitmap_input.specs.Parts.{run_length, gap_length};
+ghost use Rattle.bitmap_input.specs.PageParts.{run_length, gap_length};
 ghost use Rattle.bitmap_input.specs.Sets.{AllBytes, IsGap};
 ghost use Rattle.bit_image.specs.Page.{IsPage};
 ghost use Rattle.bitmap_input.specs.Raw.{Raw, shown};

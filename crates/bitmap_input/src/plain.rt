@@ -3,7 +3,7 @@ ghost use Rattle.std.specs.Prelude.{◌≡◌, ℕ, ◌<◌, ◌≤◌, true, fa
 ghost use Rattle.bit_image.specs.Image.{differ};
 ghost use Rattle.bit_image.specs.Page.{Page, SameSides, image_of};
 ghost use Rattle.bitmap_input.specs.Inner.Reading.{Reads, Same, Leaves};
-ghost use Rattle.bitmap_input.specs.Parts.{pixel, repeated};
+ghost use Rattle.bitmap_input.specs.PageParts.{pixel, repeated};
 ghost use Rattle.bitmap_input.specs.Front.{plain_pixel};
 ghost use Rattle.bitmap_input.specs.Inner.Raster.{with_row, with_pixels};
 

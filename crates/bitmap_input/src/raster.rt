@@ -2,7 +2,7 @@
 ghost use Rattle.std.specs.Prelude.{◌≡◌, ℕ, ◌<◌, ◌≤◌, true, Bool, length, map};
 ghost use Rattle.bit_image.specs.Page.{Page, SameSides, image_of};
 ghost use Rattle.bitmap_input.specs.Inner.Reading.{Reads, Leaves};
-ghost use Rattle.bitmap_input.specs.Parts.{repeated};
+ghost use Rattle.bitmap_input.specs.PageParts.{repeated};
 ghost use Rattle.bitmap_input.specs.Front.{rows_raster};
 ghost use Rattle.bitmap_input.specs.Raw.{IsShown};
 ghost use Rattle.bitmap_input.specs.Inner.Raster.{with_row, with_rows};

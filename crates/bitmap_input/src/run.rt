@@ -1,7 +1,7 @@
 //! Runs of whitespace and of comments.
 ghost use Rattle.std.specs.Prelude.{◌≡◌, ℕ, true, false, suc, List, ◌∷◌, MatchOption, IsTrue, ◌↔◌};
 ghost use Rattle.bitmap_input.specs.Inner.Reading.{Reads, Any, Leaves, TakesNone};
-ghost use Rattle.bitmap_input.specs.Parts.{is_space};
+ghost use Rattle.bitmap_input.specs.PageParts.{is_space};
 ghost use Rattle.bitmap_input.specs.Inner.Run.{run_size, run_part, Continues};
 
 use crate::fault::InFault;

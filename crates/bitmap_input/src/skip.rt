@@ -1,7 +1,7 @@
 //! Bytes that are passed over.
 ghost use Rattle.std.specs.Prelude.{◌≡◌, true};
 ghost use Rattle.bitmap_input.specs.Inner.Reading.{Reads, Any, Same, Leaves};
-ghost use Rattle.bitmap_input.specs.Parts.{block};
+ghost use Rattle.bitmap_input.specs.PageParts.{block};
 ghost use Rattle.bitmap_input.specs.Inner.Skip.{passed_over};
 
 use crate::fault::InFault;

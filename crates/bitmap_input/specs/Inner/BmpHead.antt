@@ -7,7 +7,7 @@ use Rattle.bitmap_input.specs.Inner.Reading.{cause_of}
 use Rattle.bitmap_input.specs.Reading.Cause.{Says}
 use Rattle.bitmap_input.specs.Sides.{}
 use Rattle.bitmap_input.specs.BmpHeader.{file_size, pixel_offset, header_size, is_short, bits, is_known_depth, width, height, is_top_down, is_known_size, is_known_kind, mask_bytes, palette_length, color_bytes, palette_end}
-use Rattle.bitmap_input.specs.Parts.{block, repeated}
+use Rattle.bitmap_input.specs.PageParts.{block, repeated}
 use Rattle.bitmap_input.specs.Raw.{Raw, Entry, black}
 use Rattle.bitmap_input.specs.Raw.Entry.{Color}
 use Rattle.bitmap_input.specs.BmpRaster.{color_at, bit_at, half_at, palette_color, color_row}

@@ -2,7 +2,7 @@
 use Rattle.std.specs.Prelude.{◌≡◌, ℕ, suc, true, false, List, ◌∷◌, min, Option, Some, None}
 use Rattle.bitmap_input.specs.Cut.{Cut, ◌>>=◌}
 use Rattle.bitmap_input.specs.Cut.Cut.{Takes}
-use Rattle.bitmap_input.specs.Parts.{run_length, gap_length, is_space, is_digit, run_of, value}
+use Rattle.bitmap_input.specs.PageParts.{run_length, gap_length, is_space, is_digit, run_of, value}
 use Rattle.bitmap_input.specs.declared.run.Run.{Run}
 use Rattle.bitmap_input.specs.declared.run.Run.TheVariants.{Space, Gap, Comment}
 

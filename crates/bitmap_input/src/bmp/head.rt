@@ -1,7 +1,7 @@
 //! The first bytes of a BMP picture, behind its magic.
 ghost use Rattle.std.specs.Prelude.{◌≡◌, ℕ, ◌+◌, ◌-◌, ◌<◌, ◌≤◌, true, false, length, take, [], ◌++◌, OnOk};
 ghost use Rattle.bitmap_input.specs.Inner.Reading.{Reads, Leaves};
-ghost use Rattle.bitmap_input.specs.Parts.{block};
+ghost use Rattle.bitmap_input.specs.PageParts.{block};
 ghost use Rattle.bitmap_input.specs.BmpHeader.{two_at, four_at};
 
 use crate::raw::read_block;

@@ -1,7 +1,7 @@
 //! The palette of a BMP picture.
 ghost use Rattle.std.specs.Prelude.{◌≡◌, ℕ, ◌*◌, ◌≤◌, ◌<◌, true, length};
 ghost use Rattle.bitmap_input.specs.Inner.Reading.{Reads, Leaves};
-ghost use Rattle.bitmap_input.specs.Parts.{block};
+ghost use Rattle.bitmap_input.specs.PageParts.{block};
 ghost use Rattle.bitmap_input.specs.Raw.{black};
 ghost use Rattle.bitmap_input.specs.BmpRaster.{palette_color};
 ghost use Rattle.bitmap_input.specs.Inner.BmpHead.{IsPaletteTable, IsReadable};

@@ -2,7 +2,7 @@ use Rattle.std.proofs.Common.{rules, refl, ◌≡◌, true, false}
 use Rattle.bitmap_input.specs.Cut.Kind.{Truncated}
 use Rattle.bitmap_input.specs.Cut.FileEnd.{Refused}
 use Rattle.bitmap_input.specs.Inner.Number.{kind_at}
-use Rattle.bitmap_input.specs.Parts.{is_digit, number}
+use Rattle.bitmap_input.specs.PageParts.{is_digit, number}
 use Rattle.bitmap_input.proofs.Telling.{reads_look, reads_fault, reads_end, reads_refused}
 use Rattle.bitmap_input.proofs.Digits.{number_at, no_number_at}
 use Rattle.bitmap_input.proofs.number.read_number.Goals as goal

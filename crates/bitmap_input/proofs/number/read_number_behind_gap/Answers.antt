@@ -1,5 +1,5 @@
 use Rattle.std.proofs.lemmas.Result.{err_from_is_err_and}
-use Rattle.bitmap_input.specs.Parts.{number}
+use Rattle.bitmap_input.specs.PageParts.{number}
 use Rattle.bitmap_input.specs.Inner.Number.{kind_at}
 use Rattle.bitmap_input.proofs.Appending.{some_gap_stays}
 use Rattle.bitmap_input.proofs.Telling.{reads_on, reads_stop}

@@ -1,7 +1,7 @@
 use Rattle.std.proofs.Common.{refl}
 use Rattle.bitmap_input.specs.Cut.Kind.{Truncated}
 use Rattle.bitmap_input.specs.Cut.FileEnd.{Refused}
-use Rattle.bitmap_input.specs.Parts.{some_gap}
+use Rattle.bitmap_input.specs.PageParts.{some_gap}
 use Rattle.bitmap_input.specs.Inner.Number.{kind_at}
 use Rattle.bitmap_input.proofs.Telling.{reads_look, reads_fault, reads_end, reads_refused}
 use Rattle.bitmap_input.proofs.Headers.{some_gap_at, no_gap_at}
