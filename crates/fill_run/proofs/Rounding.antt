@@ -11,7 +11,7 @@ use Rattle.small_program.specs.declared.ending.Ending.TheVariants as ending
 use Rattle.small_program.specs.declared.input.TheConstants.{MOST_BYTES}
 use Rattle.small_program.proofs.Taking.{one_input}
 use Rattle.point_fill.specs.Filled.{IsFilled}
-use Rattle.point_fill.specs.Reply.{IsFillReply, filler}
+use Rattle.point_fill.specs.FillReply.{IsFillReply, filler}
 use Rattle.point_fill.proofs.Replying.{one_fill_text}
 use Rattle.fill_run.specs.Round.{GivesBack}
 

@@ -11,7 +11,7 @@ ghost use Rattle.small_program.specs.Input.{TellsInput};
 ghost use Rattle.small_program.specs.ProgramRun.{IsProgramRun};
 ghost use Rattle.small_program.specs.declared.ending.Ending.{Ending};
 ghost use Rattle.small_program.specs.declared.input.TheConstants.{MOST_BYTES};
-ghost use Rattle.point_fill.specs.Reply.{IsFillReply, filler};
+ghost use Rattle.point_fill.specs.FillReply.{IsFillReply, filler};
 ghost use Rattle.fill_run.specs.Round.{GivesBack};
 
 use bit_image::pbm;
@@ -25,7 +25,7 @@ use std::alloc::Global;
 struct FillTask;
 
 impl Replies for FillTask {
-    ghost use Rattle.point_fill.specs.Reply.{IsFillReply};
+    ghost use Rattle.point_fill.specs.FillReply.{IsFillReply};
     ghost use Rattle.point_fill.proofs.Replying.{one_fill_ending, one_fill_text};
 
     ghost makes = { λ _ text end reply. IsFillReply text end reply };

@@ -12,6 +12,6 @@ pub mod Filled
 --   fill_text: why a text can't be filled, in words
 --   IsFillReply: the page that a text fills, as raw PBM, or that it is refused
 --   filler: the program's name
-pub mod Reply
+pub mod FillReply
 -- What inner contracts alone speak of: no promise rests on it.
 pub mod Inner
