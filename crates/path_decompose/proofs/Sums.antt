@@ -9,7 +9,7 @@ use Rattle.path_decompose.specs.GridEdges.{Line, upright, level, same_line, is_e
 use Rattle.path_decompose.specs.Walk.{first_edge}
 use Rattle.path_decompose.specs.Inside.{lines_of, inside}
 use Rattle.path_decompose.specs.Decomposition.{inverted, IsNextPath, IsDecomposed}
-use Rattle.path_decompose.specs.Sums.{IsEvenOdd, IsEdgesOnce}
+use Rattle.path_decompose.specs.AllPaths.{IsEvenOdd, IsEdgesOnce}
 use Rattle.path_decompose.proofs.Differ.{differ_back}
 use Rattle.path_decompose.proofs.Parity.{odd_by, is_odd-count}
 use Rattle.path_decompose.proofs.EdgeLine.{line_of}

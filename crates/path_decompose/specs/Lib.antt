@@ -35,6 +35,6 @@ pub mod Decomposition
 -- What the paths of a page come to together.
 --   IsEvenOdd: a pixel is black exactly where it is inside an odd number of the paths
 --   IsEdgesOnce: the paths run once along each line between a black and a white pixel, and along no other line
-pub mod Sums
+pub mod AllPaths
 -- What inner contracts alone speak of: no promise rests on it.
 pub mod Inner
