@@ -15,7 +15,7 @@ use Rattle.run_output.specs.Parts.{file_text, page_pieces, pages_text, prolog_te
 use Rattle.document_readings.specs.DscReading.{page, number, number_at_end, program, before_pages, in_page, in_trailer, counted, comment_of, dsc_line, dsc_step, is_told, pages_by, dsc_pages}
 use Rattle.document_readings.specs.WholeNumbers.{natural_of}
 use Rattle.document_readings.specs.Places.{AreInReach}
-use Rattle.document_readings.specs.Texts.{spaced_words, text_lines}
+use Rattle.document_readings.specs.TextLines.{spaced_words, text_lines}
 use Rattle.document_readings.proofs.BytesPass.{all_pass, both_true, passes_append, decimal_passes}
 use Rattle.document_readings.proofs.Digits.{by_first_digit}
 use Rattle.document_readings.proofs.Lines.{IsNoLineFeed, number_in_line, within_line}

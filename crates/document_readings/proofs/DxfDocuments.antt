@@ -16,7 +16,7 @@ use Rattle.dxf_geojson.specs.Chords.{chord_points, curve_point, curve_points, po
 use Rattle.dxf_geojson.specs.DxfText.{pixels_text, vertex_text, all_but_last, polyline_text, dxf_text}
 use Rattle.document_readings.specs.Decimals.{Position, decimal_of}
 use Rattle.document_readings.specs.DxfReading.{DxfGroup, section, end_of_section, end_of_file, polyline, vertex, end_of_sequence, name, layer, vertices_follow, flags, across, upwards, dxf_groups, Polyline, beginning, among, heading, within, dxf_steps, polylines_by, dxf_polylines}
-use Rattle.document_readings.specs.Texts.{text_lines}
+use Rattle.document_readings.specs.TextLines.{text_lines}
 use Rattle.document_readings.specs.Places.{AreInReach, IsPieceInReach}
 use Rattle.document_readings.specs.Rings.{HasTwoPieces, position_of, polyline_of}
 use Rattle.document_readings.proofs.Chords.{IsWithin, chords_within, thousandths_small}

@@ -3,7 +3,7 @@
 --   text_lines: the lines, each without the line feed at its end; the last one is what stands behind the last line feed
 --   spaced_words: the words, where one space stands between two
 --   without_spaces: the text without the spaces before it
-pub mod Texts
+pub mod TextLines
 -- Whole numbers, read digit by digit.
 --   Begun: what was read of a number that may go on: nothing, its sign (`true` is minus), or its sign and the value of its digits
 --   is_minus: a minus sign was read

@@ -5,7 +5,7 @@ use Rattle.std.specs.Prelude.{ℕ, ◌==◌, ℤ, Bool, true, false, cond, List,
 use Rattle.std.specs.Char.{is_ascii_digit}
 use Rattle.document_readings.specs.Drawn.{Command, Subpath, move, line, curve, close, drawn}
 use Rattle.document_readings.specs.WholeNumbers.{Begun, nothing, sign, digits, signed, with_digit}
-use Rattle.document_readings.specs.Texts.{is_white_space}
+use Rattle.document_readings.specs.TextLines.{is_white_space}
 
 -- a word of path data: a letter, or a number
 pub data PathWord : Type 0 where

@@ -7,7 +7,7 @@ use Rattle.std.specs.Char.{is_ascii_digit}
 use Rattle.document_readings.specs.Drawn.{Subpath}
 use Rattle.document_readings.specs.WholeNumbers.{Begun, nothing, sign, digits, natural_of, with_digit}
 use Rattle.document_readings.specs.PathData.{path_subpaths}
-use Rattle.document_readings.specs.Texts.{spaced_words}
+use Rattle.document_readings.specs.TextLines.{spaced_words}
 use Rattle.document_readings.specs.Transforms.{Transform, transforms_of}
 use Rattle.document_readings.specs.XmlTags.{Attribute}
 use Rattle.document_readings.specs.XmlTree.{Element, element, Elements, none, behind, xml_root}

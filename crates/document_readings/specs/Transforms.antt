@@ -5,7 +5,7 @@ use Rattle.std.specs.Prelude.{ℕ, ◌==◌, ℤ, ◌*ℤ◌, true, cond, if◌t
 use Rattle.std.specs.Char.{is_ascii_digit, is_ascii_alphabetic}
 use Rattle.document_readings.specs.Drawn.{Place, displaced}
 use Rattle.document_readings.specs.WholeNumbers.{Begun, nothing, sign, digits, signed, with_digit}
-use Rattle.document_readings.specs.Texts.{is_white_space}
+use Rattle.document_readings.specs.TextLines.{is_white_space}
 
 -- a shift by a step, or a factor for each coordinate
 pub data Transform : Type 0 where
