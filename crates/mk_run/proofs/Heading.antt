@@ -31,7 +31,7 @@ use Rattle.mk_run.specs.FilterRun.{IsPageRun, LeavesOpen, filter_name, page_says
 use Rattle.mk_run.specs.Inner.FilterRun.{cause_ending}
 use Rattle.mk_run.specs.Result.{result_text}
 use Rattle.mk_run.specs.Rows.{fits_result, head_ending, page_ending}
-use Rattle.mk_run.specs.Inner.Work.{StopsBehind, header_of}
+use Rattle.mk_run.specs.Inner.FilterWork.{StopsBehind, header_of}
 use Rattle.mk_run.proofs.Running.{not_unwritten, run_refused, run_unread, too_large}
 use Rattle.mk_run.proofs.Standing.{cut_stays}
 use Rattle.mk_run.proofs.Taking.{all_of_taken, taken_on}

@@ -26,7 +26,7 @@ use Rattle.mk_run.specs.FilterRun.{IsPageRun, LeavesOpen, filter_name, page_says
 use Rattle.mk_run.specs.Put.{IsCutAt}
 use Rattle.mk_run.specs.Result.{result_text}
 use Rattle.mk_run.specs.Rows.{LeavesRows, cut_row, fits_result, head_ending, page_ending, row_before, settled_rows, standing}
-use Rattle.mk_run.specs.Inner.Work.{GivesRows, StopsBehind, header_of}
+use Rattle.mk_run.specs.Inner.FilterWork.{GivesRows, StopsBehind, header_of}
 use Rattle.mk_run.proofs.Cutting.{cut_of_more}
 use Rattle.mk_run.proofs.Giving.{header_stays}
 use Rattle.mk_run.proofs.Standing.{cut_stays, leaves_weaken, none_settled, settled_is, standing_is}

@@ -18,8 +18,8 @@ use Rattle.filter_words.specs.Inner.FilterAsked.{CanFilter}
 use Rattle.mk_run.specs.Put.{need_of}
 use Rattle.mk_run.specs.Rows.{fits_result}
 use Rattle.mk_run.specs.Result.{result_row, scan_of}
-use Rattle.mk_run.specs.Inner.Work.{FitsWork, IsAtWork, header_of}
-use Rattle.mk_run.specs.Work.{HasFirstRows}
+use Rattle.mk_run.specs.Inner.FilterWork.{FitsWork, IsAtWork, header_of}
+use Rattle.mk_run.specs.FilterWork.{HasFirstRows}
 use Rattle.mk_run.proofs.Cutting.{scan_is}
 use Rattle.mk_run.proofs.Giving.{fewer_rows, lowered_row}
 

@@ -27,4 +27,4 @@ pub mod Put
 --   HasRooms: rooms for a row of the page, for its mixed columns and for a row of the result
 --   StopsRow: the next row isn't there, by this cause
 --   StopsBehind: behind some rows the next one isn't there
-pub mod Work
+pub mod FilterWork

@@ -19,7 +19,7 @@ pub mod Result
 pub mod Rows
 -- What a run holds and has done, between rows of the result.
 --   HasFirstRows: a page of this header whose first rows are these
-pub mod Work
+pub mod FilterWork
 -- What of the document a run wrote, and why it broke off.
 --   rows_above: all rows of the result above one
 --   need_of: how many rows of the page a row of the result needs

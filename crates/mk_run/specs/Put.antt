@@ -7,7 +7,7 @@ use Rattle.mkbitmap.specs.Enlarged.{need}
 use Rattle.run_output.specs.Names.{dash}
 use Rattle.filter_words.specs.declared.setup.Setup.{Setup}
 use Rattle.mk_run.specs.Result.{result_head, result_row, result_rows}
-use Rattle.mk_run.specs.Work.{HasFirstRows}
+use Rattle.mk_run.specs.FilterWork.{HasFirstRows}
 
 -- all rows of the result above row Y
 abbrev pub rows_above : Setup → Gray → ℕ → List ℕ

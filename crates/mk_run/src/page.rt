@@ -8,7 +8,7 @@ ghost use Rattle.filter_words.specs.Inner.FilterAsked.{CanFilter};
 ghost use Rattle.mk_run.specs.Inner.Head.{StandsBehindHead, StopsHead};
 ghost use Rattle.mk_run.specs.FilterRun.{IsPageRun};
 ghost use Rattle.mk_run.specs.Rows.{fits_result};
-ghost use Rattle.mk_run.specs.Inner.Work.{IsGrayHead, MayRead};
+ghost use Rattle.mk_run.specs.Inner.FilterWork.{IsGrayHead, MayRead};
 ghost use Rattle.mkbitmap.specs.declared.limits.TheConstants.{GREATEST_TIMES};
 ghost use Rattle.pt_core.specs.declared.limits.TheConstants.{LONGEST_SIDE};
 

@@ -11,7 +11,7 @@ use Rattle.pt_core.specs.Files.{Files}
 use Rattle.mk_run.specs.Header.{page_header}
 use Rattle.run_output.specs.Told.{Source}
 use Rattle.small_program.specs.Input.{HasTaken}
-use Rattle.mk_run.specs.Inner.Work.{header_of}
+use Rattle.mk_run.specs.Inner.FilterWork.{header_of}
 
 -- the header isn't there, by this cause
 abbrev pub StopsHead : Cause → GraySource → Option Files → Option Files → Type 0

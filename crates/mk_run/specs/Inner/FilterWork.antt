@@ -17,7 +17,7 @@ use Rattle.mkbitmap.specs.declared.limits.TheConstants.{GREATEST_LEVEL, GREATEST
 use Rattle.filter_words.specs.declared.setup.Setup.{Setup}
 use Rattle.mk_run.specs.Rows.{LeavesRows, cut_row}
 use Rattle.mk_run.specs.declared.rooms.Rooms.{Rooms}
-use Rattle.mk_run.specs.Work.{HasFirstRows}
+use Rattle.mk_run.specs.FilterWork.{HasFirstRows}
 
 -- the header that a reader has read
 abbrev pub header_of : GraySource → PageHeader
