@@ -27,4 +27,4 @@ pub mod Printed
 pub mod Verdicts
 -- Labels with the points that they come from.
 --   onward_by: the label by the segment from point i to point j
-pub mod Windows
+pub mod LabelPoints

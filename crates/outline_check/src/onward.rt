@@ -12,7 +12,7 @@ ghost use Rattle.polygon_optimal.specs.Inner.Lasts.{AreRising, IsUpToLast, Leads
 ghost use Rattle.polygon_optimal.specs.Polygon.{penalty_of};
 ghost use Rattle.outline_check.specs.Labels.{IsRight, label_at, label_by};
 ghost use Rattle.outline_check.specs.Inner.Known.{AreRightDownTo, IsWindowBegin};
-ghost use Rattle.outline_check.specs.Inner.Windows.{onward_by};
+ghost use Rattle.outline_check.specs.Inner.LabelPoints.{onward_by};
 
 use crate::label::Label;
 use crate::segments::Segments;
