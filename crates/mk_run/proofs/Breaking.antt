@@ -17,7 +17,7 @@ use Rattle.mkbitmap.proofs.Order.{need-last, need-rises}
 use Rattle.run_output.specs.Names.{dash}
 use Rattle.run_output.specs.Told.{Told}
 use Rattle.filter_words.specs.declared.setup.Setup.{Setup}
-use Rattle.mk_run.specs.Header.{PageHeader}
+use Rattle.mk_run.specs.PageHeader.{PageHeader}
 use Rattle.mk_run.specs.Inner.Put.{BreaksDown, BreaksPage, BreaksRow, BreaksRows, GoesWell, PutsRow, PutsRows}
 use Rattle.mk_run.specs.Put.{PutsFront, need_of, rows_above}
 use Rattle.mk_run.specs.Result.{result_head, result_row, result_rows, result_text, scan_of}

@@ -2,7 +2,7 @@
 use Rattle.std.proofs.Common.{◌≡◌, ℕ, ◌*◌, ◌≤◌, ◌<◌, inl, inr, List, [], ◌++◌, length, take, get_or, min, refl, ap, sym, ◌∙◌, subst, arith, Option, None, Some, append-nil, length-append}
 use Rattle.std.proofs.lemmas.List.{get_or_append_left, take-append-le}
 use Rattle.pt_core.specs.Documents.{Documents, IsCutOff, with_bytes, with_end, with_open, with_whole}
-use Rattle.mk_run.specs.Header.{PageHeader}
+use Rattle.mk_run.specs.PageHeader.{PageHeader}
 use Rattle.mkbitmap.specs.Enlarged.{need}
 use Rattle.mkbitmap.proofs.Order.{need-ends, need-rises}
 use Rattle.run_output.specs.Names.{dash}

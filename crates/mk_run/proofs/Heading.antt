@@ -16,7 +16,7 @@ use Rattle.pt_core.specs.declared.fault.OpenFault.{OpenFault}
 use Rattle.pt_core.specs.declared.fault.OpenFault.TheVariants as faults
 use Rattle.bitmap_input.specs.Reading.Cause.{Says, Device, Memory}
 use Rattle.bitmap_input.specs.declared.gray_reader.GrayHead.{GrayHead}
-use Rattle.mk_run.specs.Header.{PageHeader, page_header}
+use Rattle.mk_run.specs.PageHeader.{PageHeader, page_header}
 use Rattle.bitmap_input.proofs.GrayHeading.{gray_header_stays}
 use Rattle.run_output.specs.Messages.{file_line, program_line}
 use Rattle.run_output.specs.Names.{dash}

@@ -8,7 +8,7 @@ use Rattle.bitmap_input.specs.Cut.FileEnd.{Refused}
 use Rattle.bitmap_input.specs.Cut.Cut.{Takes, Stops}
 use Rattle.bitmap_input.specs.FaultText.{kind_text}
 use Rattle.bitmap_input.specs.GrayReader.{FailsToRead, GraySource, Refuses}
-use Rattle.mk_run.specs.Header.{PageHeader, page_header}
+use Rattle.mk_run.specs.PageHeader.{PageHeader, page_header}
 use Rattle.bitmap_input.specs.Reading.{AtEnd}
 use Rattle.bitmap_input.specs.Reading.Cause.{Says, Device}
 use Rattle.bitmap_input.proofs.GrayHeading.{gray_row_stays}

@@ -4,7 +4,7 @@ use Rattle.std.proofs.lemmas.List.{get_or_push}
 use Rattle.pt_core.specs.Files.{Files}
 use Rattle.bitmap_input.specs.GrayReader.{GivesRow, GraySource}
 use Rattle.bitmap_input.specs.declared.gray_reader.GrayHead.{GrayHead}
-use Rattle.mk_run.specs.Header.{PageHeader}
+use Rattle.mk_run.specs.PageHeader.{PageHeader}
 use Rattle.mkbitmap.specs.Box.{Gray}
 use Rattle.mkbitmap.specs.Enlarged.{after_of, dark_limit, is_black, need}
 use Rattle.mkbitmap.specs.Follows.{Follows, HasRoom, IsAlong, IsRow, SameSetup, first_held}

@@ -8,7 +8,7 @@ use Rattle.bitmap_input.specs.Cut.{Kind, is_by_end}
 use Rattle.bitmap_input.specs.Cut.FileEnd.{Refused}
 use Rattle.bitmap_input.specs.Cut.Cut.{Stops, Takes}
 use Rattle.bitmap_input.specs.FaultText.{kind_text}
-use Rattle.mk_run.specs.Header.{page_header, PageHeader}
+use Rattle.mk_run.specs.PageHeader.{page_header, PageHeader}
 use Rattle.run_output.specs.Messages.{file_line, file_page_line, program_line}
 use Rattle.run_output.specs.Names.{dash}
 use Rattle.run_output.specs.Told.{IsMessage, Sinks, Source}

@@ -1,6 +1,6 @@
 -- What a run holds and has done, between rows of the result.
 use Rattle.std.specs.Prelude.{◌≡◌, ℕ, ◌<◌, ◌≤◌, List, [], length, get_or}
-use Rattle.mk_run.specs.Header.{PageHeader}
+use Rattle.mk_run.specs.PageHeader.{PageHeader}
 use Rattle.mkbitmap.specs.Box.{Gray}
 use Rattle.mkbitmap.specs.Follows.{IsRow}
 

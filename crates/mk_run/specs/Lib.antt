@@ -47,6 +47,6 @@ pub mod FilterRun
 -- The header of a gray page.
 --   PageHeader: whether it is plain, its sides, and the sample that is white
 --   page_header: the header at the front of bytes
-pub mod Header
+pub mod PageHeader
 -- What inner contracts alone speak of: no promise rests on it.
 pub mod Inner

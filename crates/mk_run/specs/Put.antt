@@ -1,7 +1,7 @@
 -- What of the document a run wrote, and why it broke off.
 use Rattle.std.specs.Prelude.{◌≡◌, ℕ, ◌+◌, ◌*◌, ◌<◌, ◌≤◌, ◌⊎◌, List, [], ◌++◌, length, take, Option}
 use Rattle.pt_core.specs.Documents.{Documents, IsCutOff, with_bytes, with_open}
-use Rattle.mk_run.specs.Header.{PageHeader}
+use Rattle.mk_run.specs.PageHeader.{PageHeader}
 use Rattle.mkbitmap.specs.Box.{Gray}
 use Rattle.mkbitmap.specs.Enlarged.{need}
 use Rattle.run_output.specs.Names.{dash}

@@ -9,7 +9,7 @@ use Rattle.bitmap_input.specs.GrayReader.{FailsToRead, GraySource, Refuses}
 use Rattle.bitmap_input.specs.Reading.{AtEnd, Cause, Moves}
 use Rattle.bitmap_input.specs.Reading.Cause.{Says, Device, Memory}
 use Rattle.bitmap_input.specs.declared.gray_reader.GrayHead.{GrayHead}
-use Rattle.mk_run.specs.Header.{PageHeader}
+use Rattle.mk_run.specs.PageHeader.{PageHeader}
 use Rattle.mkbitmap.specs.Box.{Gray}
 use Rattle.mkbitmap.specs.Follows.{Follows, HasRoom}
 use Rattle.mkbitmap.specs.declared.filter.Filter.{Filter}

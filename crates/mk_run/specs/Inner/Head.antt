@@ -8,7 +8,7 @@ use Rattle.bitmap_input.specs.GrayRows.{gray_header}
 use Rattle.bitmap_input.specs.Reading.{Cause}
 use Rattle.bitmap_input.specs.Reading.Cause.{Says, Device, Memory}
 use Rattle.pt_core.specs.Files.{Files}
-use Rattle.mk_run.specs.Header.{page_header}
+use Rattle.mk_run.specs.PageHeader.{page_header}
 use Rattle.run_output.specs.Told.{Source}
 use Rattle.small_program.specs.Input.{HasTaken}
 use Rattle.mk_run.specs.Inner.FilterWork.{header_of}

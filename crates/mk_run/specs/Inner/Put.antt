@@ -8,7 +8,7 @@ use Rattle.pt_core.specs.Files.{Files}
 use Rattle.bitmap_input.specs.GrayReader.{GraySource}
 use Rattle.bitmap_input.specs.Inner.Reading.{CountsBy}
 use Rattle.bitmap_input.specs.Reading.{cause_of_fault}
-use Rattle.mk_run.specs.Header.{PageHeader}
+use Rattle.mk_run.specs.PageHeader.{PageHeader}
 use Rattle.mkbitmap.specs.Box.{Gray}
 use Rattle.mkbitmap.specs.Enlarged.{need}
 use Rattle.run_output.specs.Names.{dash}
