@@ -7,7 +7,7 @@
 --   HasMarks: and each such index is marked
 --   KeepsToFewest: the step from i to j is allowed, and keeps to the fewest
 --   MarksOnward: the steps from i that keep to the fewest lead to marked indices
-pub mod Places
+pub mod MarkedPlaces
 -- Walks as the search sees them.
 --   WalksOn: from the index i a walk goes on by these indices, and ends at `size`
 --   IsFewestFrom: n is the fewest number of steps from i to the end
