@@ -9,7 +9,7 @@
 --   IsPathAt, IsNoPathAt: a path
 --   ArePathsAt: these paths, so many, are all that is left
 --   IsSidesLine, IsNoSidesLine: the first line
-pub mod Reading
+pub mod PointsReading
 -- Marks that say where a row changes its colour.
 --   odd_below: an odd number of the first n pass
 --   swept: the pixels that have an odd number of marks from the left end of their row up to themselves
