@@ -3,7 +3,7 @@
 --   IsSpread: their covariances
 --   IsLong: it can be turned round, and its length fits
 --   IsOverPage: the line of a segment of a path on a page
-pub mod Bounds
+pub mod LineBounds
 -- The line of a segment.
 pub mod Line
 -- The sum of the squared distances from two lines, as a function of the shift.
