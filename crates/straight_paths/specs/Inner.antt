@@ -95,4 +95,4 @@ pub mod Wedges
 --   AreTaken: which directions occur in the path's first steps
 --   TellsNext: what a step in front of straight steps comes to
 --   TellsFront: the same without the last one of them
-pub mod Words
+pub mod NextSteps

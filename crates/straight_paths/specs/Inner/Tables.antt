@@ -4,7 +4,7 @@ use Rattle.pt_core.specs.declared.point.Point.{Point}
 use Rattle.straight_paths.specs.Inner.Codes.{IsCoded}
 use Rattle.straight_paths.specs.Inner.Courses.{IsCourse, no_course}
 use Rattle.straight_paths.specs.Straight.{IsStraight}
-use Rattle.straight_paths.specs.Inner.Words.{TellsNext}
+use Rattle.straight_paths.specs.Inner.NextSteps.{TellsNext}
 use Rattle.straight_paths.specs.declared.course.Course.{Course}
 use Rattle.straight_paths.specs.declared.table.Table.{Table}
 
