@@ -24,4 +24,4 @@ pub mod Halves
 --   IsNotBehind: the first way on doesn't come behind the second
 --   paid: a way on, with the penalty of its first run
 --   AreLeastCosts: at each index from `low` to the end stands what the least way to go on from there costs
-pub mod Search
+pub mod CutSearch
