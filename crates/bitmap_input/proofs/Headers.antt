@@ -8,7 +8,7 @@ use Rattle.bitmap_input.specs.Cut.FileEnd.{End, Trailing, Refused}
 use Rattle.bitmap_input.specs.Cut.Cut.{Takes, Stops}
 use Rattle.bitmap_input.specs.PageParts.{is_zero, gap_length, gap, some_gap}
 use Rattle.bitmap_input.specs.Front.{checked, checked_maxval, greatest_maxval, magic, magic_behind, no_magic}
-use Rattle.bitmap_input.specs.Inner.Run.{IsCapped}
+use Rattle.bitmap_input.specs.Inner.ByteRuns.{IsCapped}
 use Rattle.bitmap_input.specs.declared.fault.InFault.TheVariants as fault
 use Rattle.bitmap_input.specs.declared.stop.Stop.{Stop}
 use Rattle.bitmap_input.specs.declared.stop.Stop.TheVariants as stop

@@ -71,7 +71,7 @@ pub mod Reading
 --   digits: the digits at the front, as many as there are, and the number that they stand for
 --   cap: the number, or this where it is less
 --   IsCapped: the number, cut where it is larger
-pub mod Run
+pub mod ByteRuns
 -- How the samples of a pixel become a black pixel or a white one, in the program.
 --   brightness: the brightness of a pixel
 --   brightness_at: the same of a row of samples, of the pixel in column x

@@ -5,7 +5,7 @@ ghost use Rattle.bitmap_input.specs.Reading.{cause_of_fault};
 ghost use Rattle.bitmap_input.specs.Reading.Cause.{Says};
 ghost use Rattle.bitmap_input.specs.Cut.FileEnd.{Refused};
 ghost use Rattle.bitmap_input.specs.PageParts.{is_digit, some_gap, number, number_behind_gap};
-ghost use Rattle.bitmap_input.specs.Inner.Run.{digits, IsCapped};
+ghost use Rattle.bitmap_input.specs.Inner.ByteRuns.{digits, IsCapped};
 ghost use Rattle.bitmap_input.specs.Inner.Number.{kind_at};
 
 use crate::fault::InFault;

@@ -2,7 +2,7 @@
 ghost use Rattle.std.specs.Prelude.{◌≡◌, ℕ, true, false, suc, List, ◌∷◌, MatchOption, IsTrue, ◌↔◌};
 ghost use Rattle.bitmap_input.specs.Inner.Reading.{Reads, Any, Leaves, TakesNone};
 ghost use Rattle.bitmap_input.specs.PageParts.{is_space};
-ghost use Rattle.bitmap_input.specs.Inner.Run.{run_size, run_part, Continues};
+ghost use Rattle.bitmap_input.specs.Inner.ByteRuns.{run_size, run_part, Continues};
 
 use crate::fault::InFault;
 use crate::stop::Stop;

@@ -4,7 +4,7 @@ use Rattle.bitmap_input.specs.Cut.Cut.{Takes, Stops}
 use Rattle.bitmap_input.specs.Cut.{FileEnd}
 use Rattle.bitmap_input.specs.Front.{Magic, checked, checked_maxval}
 use Rattle.bitmap_input.specs.Front.Magic.{PlainBits, RawBits, PlainSamples, RawSamples, Picture}
-use Rattle.bitmap_input.specs.Inner.Run.{IsCapped}
+use Rattle.bitmap_input.specs.Inner.ByteRuns.{IsCapped}
 use Rattle.bitmap_input.specs.Inner.Reading.{cause_of}
 use Rattle.bitmap_input.specs.Reading.Cause.{Says}
 use Rattle.bitmap_input.specs.declared.stop.Stop.{Stop}
