@@ -1,7 +1,7 @@
 -- The entries of a line: two numbers, or one, behind a space.
 --   IsPair: a space, a number, a byte and another number stand at the front
 --   IsEntry: the text of a value stands at the front, and no digit behind it
-pub mod Entries
+pub mod LineEntries
 -- A path with its certificate in a text.
 --   certified_of: the path and its certificate, without the place
 --   IsGroup: the three lines stand at the front, and then the rest
