@@ -17,7 +17,7 @@ use Rattle.bitmap_input.specs.Cut.Cut.{Takes, Stops}
 use Rattle.bitmap_input.specs.PageParts.{block}
 use Rattle.bitmap_input.specs.Reading.{Buffered, Moves, AreNeeded}
 use Rattle.bitmap_input.specs.Inner.Reading.{Reads}
-use Rattle.bitmap_input.specs.Inner.Window.{ReadsOn}
+use Rattle.bitmap_input.specs.Inner.Buffer.{ReadsOn}
 use Rattle.bitmap_input.proofs.Needing.{needs_none, needs_look}
 use Rattle.bitmap_input.proofs.Telling.{not_true, stand, move_on}
 use Rattle.bitmap_input.proofs.Running.{two_splits}

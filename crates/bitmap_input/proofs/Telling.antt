@@ -12,7 +12,7 @@ use Rattle.bitmap_input.specs.Cut.Cut.{Takes, Stops}
 use Rattle.bitmap_input.specs.Reading.{Buffered, AtEnd, Moves, Cause}
 use Rattle.bitmap_input.specs.Inner.Reading.{cause_of, StopsBy, Gives, Reads}
 use Rattle.bitmap_input.specs.Reading.Cause.{Says, Device, Memory}
-use Rattle.bitmap_input.specs.Inner.Window.{ReadsOn}
+use Rattle.bitmap_input.specs.Inner.Buffer.{ReadsOn}
 use Rattle.bitmap_input.proofs.Appending.{Stays, is_by_end-after}
 use Rattle.bitmap_input.proofs.Needing.{needs_none, needs_as, needs_behind, needs_first, by_end-bind, front_of_none}
 

@@ -53,7 +53,7 @@ pub mod Number
 --   with_rows: the image with these rows, the first one below row y, and the others downwards
 --   with_placed: the image with these rows, of which the one with number i, and those after it, stand where they are placed
 pub mod Raster
--- Reading from inputs through a window.
+-- Reading from inputs through a buffer.
 --   cause_of: the cause that an end of reading tells
 --   StopsBy: the cut of the bytes stops by this cause
 --   Gives: the result is what the cut of the bytes says, with `held` as the rest
@@ -94,9 +94,9 @@ pub mod Skip
 --   IsAtLevel: the pixels that are black are those at this level, inverted or not
 --   IsStoredInRange: where samples stand as numbers, the shading is in range
 pub mod Stored
--- A look at the next byte through a window.
+-- A look at the next byte through a buffer.
 --   IsFirst: the first byte of a list, if there is one
 --   ReadsOn: bytes were read or not, and all are still there
 --   Looks: the next byte
 --   CountsLook: the inputs' count of faults rises where the read failed, and else it stays
-pub mod Window
+pub mod Buffer

@@ -157,7 +157,7 @@ pub mod PageText
 --   next_begins: where the next page begins
 --   FilePages: the pages at the front of the bytes, one behind another, and how they end
 pub mod FilePages
--- Reading from inputs through a window.
+-- Reading from inputs through a buffer.
 --   Buffered: the bytes that were taken from the inputs and not used yet
 --   AtEnd: nothing is left to be read, where that is told
 --   Moves: these bytes were taken from the inputs

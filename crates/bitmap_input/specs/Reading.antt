@@ -1,4 +1,4 @@
--- Reading from inputs through a window: what is taken from the inputs, and what part of a page the
+-- Reading from inputs through a buffer: what is taken from the inputs, and what part of a page the
 -- bytes at hand and those taken are.
 use Rattle.std.specs.Prelude.{◌≡◌, ℕ, ◌≤◌, Bool, true, ◌⊎◌, List, [], ◌++◌, length, take, Option, IfSome}
 use Rattle.pt_core.specs.Files.{Files, with_read, unread}

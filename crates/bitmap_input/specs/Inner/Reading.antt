@@ -1,4 +1,4 @@
--- Reading from inputs through a window: what is taken from the inputs, and what part of a page the
+-- Reading from inputs through a buffer: what is taken from the inputs, and what part of a page the
 -- bytes at hand and those taken are.
 -- These serve inner contracts alone: no promise rests on them.
 use Rattle.std.specs.Prelude.{◌≡◌, ℕ, ◌≤◌, Bool, true, false, List, ◌++◌, Option, Result, Ok, Err}

@@ -9,7 +9,7 @@ abbrev pub invariant-loop-n : goal.invariant-loop-n
 invariant-loop-n g l =
     let source = g.I.Inputs in
     record {
-      so_far : RunSoFar (run_length is_digit) (run_length is_digit) l.fn.window (source.files l.fn.inputs) l.n l.window (source.files l.inputs);
+      so_far : RunSoFar (run_length is_digit) (run_length is_digit) l.fn.buffer (source.files l.fn.inputs) l.n l.buffer (source.files l.inputs);
       number : IsCapped l.value (value 0 so_far.used);
       most : l.n ≤ 1048577;
       leaves : Leaves source (Ok (tt {0})) l.fn.inputs l.inputs;

@@ -8,7 +8,7 @@ abbrev pub invariant-loop-n : goal.invariant-loop-n
 invariant-loop-n g l =
     let source = g.I.Inputs in
     record {
-      so_far : RunSoFar (run_size l.fn.run) (run_size l.run) l.fn.window (source.files l.fn.inputs) l.n l.window (source.files l.inputs);
+      so_far : RunSoFar (run_size l.fn.run) (run_size l.run) l.fn.buffer (source.files l.fn.inputs) l.n l.buffer (source.files l.inputs);
       most : l.n ≤ 1048577;
       leaves : Leaves source (Ok (tt {0})) l.fn.inputs l.inputs;
     }

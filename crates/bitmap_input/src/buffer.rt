@@ -2,7 +2,7 @@
 ghost use Rattle.std.specs.Prelude.{◌≡◌, ℕ, ◌≤◌, ◌<◌, true, false, length, take, drop, [], ◌∷◌, ◌++◌, IfOk, OnOk, OnErr};
 ghost use Rattle.pt_core.specs.Counts.{Rose};
 ghost use Rattle.bitmap_input.specs.Reading.{Moves};
-ghost use Rattle.bitmap_input.specs.Inner.Window.{IsFirst, Looks, CountsLook};
+ghost use Rattle.bitmap_input.specs.Inner.Buffer.{IsFirst, Looks, CountsLook};
 
 use pt_core::{DeviceFault, Inputs, NoMemory};
 use std::alloc::Global;
@@ -13,14 +13,14 @@ pub(crate) const ROOM: usize = 65536;
 
 /// A buffer of bytes between the inputs and the steps of the reader.
 #[derive(Debug, Drop)]
-pub(crate) struct Window {
+pub(crate) struct Buffer {
     buf: Vec<u8>,
     start: usize,
     end: usize,
     ended: bool,
 }
 
-impl Model for Window {
+impl Model for Buffer {
     ghost use Rattle.std.specs.Prelude.{◌≡◌, ◌≤◌, ◌-◌, length, take, drop};
     ghost use Rattle.bitmap_input.specs.Reading.{Buffered};
 
@@ -46,12 +46,12 @@ pub(crate) enum Look {
     Fault,
 }
 
-impl Window {
-    pub(crate) fn new(alloc: Global) -> Result<Window, NoMemory>
+impl Buffer {
+    pub(crate) fn new(alloc: Global) -> Result<Buffer, NoMemory>
         ensures { IfOk result (λ w. w ≡ record { bytes = []; ended = false }) }
     {
         let buf = vec![in alloc; 0u8; ROOM]?;
-        Ok(Window {
+        Ok(Buffer {
             buf,
             start: 0,
             end: 0,

@@ -1,10 +1,10 @@
--- A look at the next byte through a window.
+-- A look at the next byte through a buffer.
 use Rattle.std.specs.Prelude.{◌≡◌, ℕ, ◌≤◌, ◌⊎◌, true, false, List, [], ◌∷◌, ◌++◌, length, Option, Some, None}
 use Rattle.pt_core.specs.Counts.{Rose}
 use Rattle.pt_core.specs.Files.{Files}
 use Rattle.bitmap_input.specs.Reading.{Buffered, Moves}
-use Rattle.bitmap_input.specs.declared.window.Look.{Look}
-use Rattle.bitmap_input.specs.declared.window.Look.TheVariants.{Byte, End, Fault}
+use Rattle.bitmap_input.specs.declared.buffer.Look.{Look}
+use Rattle.bitmap_input.specs.declared.buffer.Look.TheVariants.{Byte, End, Fault}
 
 -- the first byte of a list, if there is one
 abbrev pub IsFirst : List ℕ → Option ℕ → Type 0

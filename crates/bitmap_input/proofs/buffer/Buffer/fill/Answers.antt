@@ -2,7 +2,7 @@ use Rattle.std.proofs.Common.{◌≡◌, ◌<◌, ◌≤◌, ◌∙◌, List, �
 use Rattle.std.proofs.lemmas.Result.{err_from_is_err_and}
 use Rattle.bitmap_input.specs.Reading.{Buffered}
 use Rattle.bitmap_input.proofs.Filling.{read_moves, none_held, some_filled, none_filled, filled_within}
-use Rattle.bitmap_input.proofs.window.Window.fill.Goals as goal
+use Rattle.bitmap_input.proofs.buffer.Buffer.fill.Goals as goal
 
 pub returns-in_err-n-clause-same : goal.returns-in_err-n-clause-same
 returns-in_err-n-clause-same g c =

@@ -1,6 +1,6 @@
 use Rattle.std.proofs.Common.{arith}
 use Rattle.bitmap_input.proofs.Places.{taken_off}
-use Rattle.bitmap_input.proofs.window.Window.pass_some.Goals as goal
+use Rattle.bitmap_input.proofs.buffer.Buffer.pass_some.Goals as goal
 
 pub returns-clause-bytes : goal.returns-clause-bytes
 returns-clause-bytes c =

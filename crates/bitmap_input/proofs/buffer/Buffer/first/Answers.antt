@@ -1,5 +1,5 @@
 use Rattle.bitmap_input.proofs.Places.{first_of}
-use Rattle.bitmap_input.proofs.window.Window.first.Goals as goal
+use Rattle.bitmap_input.proofs.buffer.Buffer.first.Goals as goal
 
 pub returns-then-self : goal.returns-then-self
 returns-then-self c =

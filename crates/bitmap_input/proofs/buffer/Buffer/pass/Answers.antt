@@ -1,5 +1,5 @@
 use Rattle.bitmap_input.proofs.Places.{taken_off, some_between}
-use Rattle.bitmap_input.proofs.window.Window.pass.Goals as goal
+use Rattle.bitmap_input.proofs.buffer.Buffer.pass.Goals as goal
 
 pub returns-clause-bytes : goal.returns-clause-bytes
 returns-clause-bytes c =
