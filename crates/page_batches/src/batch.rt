@@ -116,7 +116,8 @@ impl Batch {
         ensures { HoldsMore result (End (string_bytes name) pages (trailing_line (string_bytes file) pages ∷ []) ∷ [])
             self.old self.new }
     {
-        self.entries.push(Pending::EndTrailing { name, file, pages })?;
+        self.entries
+            .push(Pending::EndTrailing { name, file, pages })?;
         Ok(())
     }
 
