@@ -21,7 +21,7 @@ use Rattle.path_decompose.specs.Inner.Trail.{column_if_up, column_if_down, colum
 use Rattle.path_decompose.specs.Walk.{first_edge}
 use Rattle.path_decompose.proofs.Beyond.{all_lines_on, fits_within, white_off}
 use Rattle.path_decompose.proofs.Cut.{is_edge-within}
-use Rattle.path_decompose.proofs.EdgeLine.{line_along, line_of, within}
+use Rattle.path_decompose.proofs.EdgeLine.{step_line, line_of, within}
 use Rattle.path_decompose.proofs.Once.{same_line-true, none_passes, count_by-line}
 use Rattle.path_decompose.proofs.Round.{IsCircuit}
 use Rattle.path_decompose.proofs.Sides.{boundary_within}
@@ -70,7 +70,7 @@ row_of (upright x y) = y
 row_of (level x y) = y
 
 -- an edge along an upright line goes up where the pixel on the left side of the line is the black one, and else down
-way_of : (w : Image) (x y u v : ℕ) (d : Dir) → left_pixel (south_west w) u v d ≡ true → right_pixel (south_west w) u v d ≡ false → upright x y ≡ line_along u v d
+way_of : (w : Image) (x y u v : ℕ) (d : Dir) → left_pixel (south_west w) u v d ≡ true → right_pixel (south_west w) u v d ≡ false → upright x y ≡ step_line u v d
     → (is_up d ≡ south_west w x (suc y)) × (is_down d ≡ not (south_west w x (suc y)))
 way_of w x y u v North black white e =
     let column : x ≡ u = ap column_of e in
@@ -229,8 +229,8 @@ left_of_line width height c r narrow low =
     above height r c low = grind (arith, nat_tests)
 
 -- so many pixels has an edge's row left of its line, where it goes that way
-one_edge : (way : Dir → Bool) → way East ≡ false → way West ≡ false → (width height : ℕ) (x y : ℕ) (d : Dir) → IsLineOn width height (line_along x y d)
-    → over_page width height (λ u v. cond (way d && is_right_of u v (line_along x y d)) 1 0) ≡ cond (way d) x 0
+one_edge : (way : Dir → Bool) → way East ≡ false → way West ≡ false → (width height : ℕ) (x y : ℕ) (d : Dir) → IsLineOn width height (step_line x y d)
+    → over_page width height (λ u v. cond (way d && is_right_of u v (step_line x y d)) 1 0) ≡ cond (way d) x 0
 one_edge way east west width height x y North on = one_way (way North) width height x y on.0 on.1
   where
     one_way : (t : Bool) (width height x y : ℕ) → x ≤ width → y < height → over_page width height (λ u v. cond (t && (nat_lt u x && nat_eq y v)) 1 0) ≡ cond t x 0

@@ -17,10 +17,10 @@ use Rattle.path_decompose.specs.Inside.{is_crossed}
 use Rattle.path_decompose.proofs.Differ.{differ_swap, differ_solve}
 use Rattle.path_decompose.proofs.Parity.{odd_by, odd_by-differ, odd_by-same, odd_by-closed}
 use Rattle.turn_policies.proofs.Turning.{next_boundary}
-use Rattle.path_decompose.proofs.EdgeLine.{line_along, line_of, within}
+use Rattle.path_decompose.proofs.EdgeLine.{step_line, line_of, within}
 
 -- a step changes whether the walk is above the bottom of row y exactly where it goes through row y
-row_step : (b : Image) (y u v : ℕ) (d : Dir) → left_pixel (south_west b) u v d ≡ true → is_in_row y (line_along u v d) ≡ differ (nat_lt y v) (nat_lt y (end_y v d))
+row_step : (b : Image) (y u v : ℕ) (d : Dir) → left_pixel (south_west b) u v d ≡ true → is_in_row y (step_line u v d) ≡ differ (nat_lt y v) (nat_lt y (end_y v d))
 row_step b y u v North h = grind (arith, nat_tests)
 row_step b y u v East h = grind (arith, nat_tests)
 row_step b y u zero South h = cc
@@ -65,7 +65,7 @@ is_at_height x y u v = nat_le u x && nat_eq v y
 
 -- a step changes that by a line into row y or the row below it, or by the one level line below pixel (x, y)
 height_step : (b : Image) (x y u v : ℕ) (d : Dir) → left_pixel (south_west b) u v d ≡ true
-    → differ (is_crossed x y (line_along u v d)) (differ (is_crossed_below x y (line_along u v d)) (same_line (level x y) (line_along u v d))) ≡ differ (is_at_height x y u v) (is_at_height x y (end_x u d) (end_y v d))
+    → differ (is_crossed x y (step_line u v d)) (differ (is_crossed_below x y (step_line u v d)) (same_line (level x y) (step_line u v d))) ≡ differ (is_at_height x y u v) (is_at_height x y (end_x u d) (end_y v d))
 height_step b x y u v North h = grind (arith, nat_tests)
 height_step b x y u v East h = grind (arith, nat_tests)
 height_step b x y u zero South h = cc

@@ -17,18 +17,18 @@ use Rattle.path_decompose.proofs.Parity.{odd_by, is_odd-count}
 use Rattle.turn_policies.proofs.Turning.{next_boundary}
 
 -- the line along which a step leaves corner (x, y)
-abbrev pub line_along : ℕ → ℕ → Dir → Line
-line_along x y North = upright x y
-line_along x y East = level x y
-line_along x y South = upright x (pred y)
-line_along x y West = level (pred x) y
+abbrev pub step_line : ℕ → ℕ → Dir → Line
+step_line x y North = upright x y
+step_line x y East = level x y
+step_line x y South = upright x (pred y)
+step_line x y West = level (pred x) y
 
 -- the line that an edge runs along
 abbrev pub line_of : Edge → Line
-line_of e = line_along e.x e.y e.heading
+line_of e = step_line e.x e.y e.heading
 
 -- a step south begins above row 0, and a step west right of column 0, since the pixel on its left is black
-line_at_end : (b : Image) (x y : ℕ) (d : Dir) → left_pixel (south_west b) x y d ≡ true → line_at x y (end_x x d) (end_y y d) ≡ line_along x y d
+line_at_end : (b : Image) (x y : ℕ) (d : Dir) → left_pixel (south_west b) x y d ≡ true → line_at x y (end_x x d) (end_y y d) ≡ step_line x y d
 line_at_end b x y North h = grind (arith, nat_tests)
 line_at_end b x y East h = grind (arith, nat_tests)
 line_at_end b x zero South h = cc

@@ -12,7 +12,7 @@ use Rattle.turn_policies.specs.declared.edge.Edge.{Edge}
 use Rattle.turn_policies.specs.Boundary.{IsBoundary, left_pixel, right_pixel}
 use Rattle.path_decompose.specs.GridEdges.{Line, upright, level, same_line, is_edge}
 use Rattle.path_decompose.proofs.Parity.{odd_by}
-use Rattle.path_decompose.proofs.EdgeLine.{line_along, line_of}
+use Rattle.path_decompose.proofs.EdgeLine.{step_line, line_of}
 use Rattle.path_decompose.proofs.Round.{IsCircuit, all_boundary}
 
 pub same_line-true : (l m : Line) → same_line l m ≡ true → l ≡ m
@@ -30,19 +30,19 @@ edge_along : Image → Line → Edge
 edge_along b (upright x y) = cond (south_west b x (suc y)) (record { x = x; y = y; heading = North }) (record { x = x; y = suc y; heading = South })
 edge_along b (level x y) = cond (south_west b (suc x) y) (record { x = suc x; y = y; heading = West }) (record { x = x; y = y; heading = East })
 
-edge_along-line_along : (b : Image) (x y : ℕ) (d : Dir) → left_pixel (south_west b) x y d ≡ true → right_pixel (south_west b) x y d ≡ false
-    → let e : Edge = record { x = x; y = y; heading = d } in edge_along b (line_along x y d) ≡ e
+edge_along-step_line : (b : Image) (x y : ℕ) (d : Dir) → left_pixel (south_west b) x y d ≡ true → right_pixel (south_west b) x y d ≡ false
+    → let e : Edge = record { x = x; y = y; heading = d } in edge_along b (step_line x y d) ≡ e
 unfolding edge_along
-edge_along-line_along b x y North black white = rw black refl
-edge_along-line_along b x y East black white = rw white refl
-edge_along-line_along b x zero South black white = cc
-edge_along-line_along b x (suc y) South black white = rw white refl
-edge_along-line_along b zero y West black white = cc
-edge_along-line_along b (suc x) y West black white = rw black refl
+edge_along-step_line b x y North black white = rw black refl
+edge_along-step_line b x y East black white = rw white refl
+edge_along-step_line b x zero South black white = cc
+edge_along-step_line b x (suc y) South black white = rw white refl
+edge_along-step_line b zero y West black white = cc
+edge_along-step_line b (suc x) y West black white = rw black refl
 
 -- a boundary edge is the only one along its line
 edge_along-line_of : (b : Image) (e : Edge) → IsBoundary b e → edge_along b (line_of e) ≡ e
-edge_along-line_of b e h = edge_along-line_along b e.x e.y e.heading h.black_left h.white_right
+edge_along-line_of b e h = edge_along-step_line b e.x e.y e.heading h.black_left h.white_right
 
 pub none_passes : {A : Type 0} (f : A → Bool) (es : List A) → All (λ e. f e ≡ false) es → (odd_by f es ≡ false) × (count_by f es ≡ 0)
 none_passes f [] h = (refl, refl)
@@ -77,7 +77,7 @@ count_by-line b policy sign s es c l =
     (λ k d below passes. sym (ap (edge_along b) (same_line-true l (line_of (get_or es k d)) passes) ∙ edge_along-line_of b (get_or es k d) (all_boundary b policy sign s es c k d below)))
     c.distinct
 
-is_edge-along : (b : Image) (x y : ℕ) (d : Dir) → left_pixel (south_west b) x y d ≡ true → right_pixel (south_west b) x y d ≡ false → is_edge b (line_along x y d) ≡ true
+is_edge-along : (b : Image) (x y : ℕ) (d : Dir) → left_pixel (south_west b) x y d ≡ true → right_pixel (south_west b) x y d ≡ false → is_edge b (step_line x y d) ≡ true
 is_edge-along b x y North black white = rw (black, white) refl
 is_edge-along b x y East black white = rw (black, white) refl
 is_edge-along b x zero South black white = cc

@@ -18,7 +18,7 @@ use Rattle.turn_policies.proofs.Turning.{left_behind, right_behind, left_pixel-l
 use Rattle.path_decompose.specs.GridEdges.{Line, upright, level, same_line, is_edge}
 use Rattle.path_decompose.specs.Walk.{IsTrail, first_edge}
 use Rattle.path_decompose.proofs.Cut.{is_edge-within}
-use Rattle.path_decompose.proofs.EdgeLine.{line_along, line_of, within}
+use Rattle.path_decompose.proofs.EdgeLine.{step_line, line_of, within}
 use Rattle.path_decompose.proofs.Once.{count_by-line, odd_by-no_edge}
 use Rattle.path_decompose.proofs.Parity.{odd_by}
 use Rattle.path_decompose.proofs.Round.{IsCircuit}
@@ -32,7 +32,7 @@ differ_turned false false = refl
 
 -- a line has on its sides the pixels on the left and the right of an edge along it (which has black on its left in some image, so
 -- that it doesn't step below zero)
-is_edge-sides : (b w : Image) (x y : ℕ) (d : Dir) → left_pixel (south_west b) x y d ≡ true → is_edge w (line_along x y d) ≡ differ (left_pixel (south_west w) x y d) (right_pixel (south_west w) x y d)
+is_edge-sides : (b w : Image) (x y : ℕ) (d : Dir) → left_pixel (south_west b) x y d ≡ true → is_edge w (step_line x y d) ≡ differ (left_pixel (south_west w) x y d) (right_pixel (south_west w) x y d)
 is_edge-sides b w x y North h = refl
 is_edge-sides b w x y East h = differ_turned (south_west w (suc x) y) (south_west w (suc x) (suc y))
 is_edge-sides b w x zero South h = absurd (false≢true h)
@@ -53,11 +53,11 @@ neither p true h e = refl
 neither p false h e = absurd (false≢true (sym h ∙ ap (λ t. differ t false) e))
 
 -- black on the left of an edge is black on the left and white on the right, in an image in which its line has both on its sides
-by_left : (b w : Image) (x y : ℕ) (t : Dir) → left_pixel (south_west b) x y t ≡ true → is_edge w (line_along x y t) ≡ true
+by_left : (b w : Image) (x y : ℕ) (t : Dir) → left_pixel (south_west b) x y t ≡ true → is_edge w (step_line x y t) ≡ true
     → left_pixel (south_west w) x y t ≡ true → (left_pixel (south_west w) x y t ≡ true) × (right_pixel (south_west w) x y t ≡ false)
 by_left b w x y t black edge h = (h, other_white _ _ (sym (is_edge-sides b w x y t black) ∙ edge) h)
 
-by_right : (b w : Image) (x y : ℕ) (t : Dir) → left_pixel (south_west b) x y t ≡ true → is_edge w (line_along x y t) ≡ true
+by_right : (b w : Image) (x y : ℕ) (t : Dir) → left_pixel (south_west b) x y t ≡ true → is_edge w (step_line x y t) ≡ true
     → right_pixel (south_west w) x y t ≡ false → (left_pixel (south_west w) x y t ≡ true) × (right_pixel (south_west w) x y t ≡ false)
 by_right b w x y t black edge h = (other_black _ _ (sym (is_edge-sides b w x y t black) ∙ edge) h, h)
 
@@ -66,7 +66,7 @@ by_right b w x y t black edge h = (other_black _ _ (sym (is_edge-sides b w x y t
 after_turn : (b w : Image) (x y : ℕ) (l r g : Bool) (d : Dir) → ((m : Line) → is_edge b m ≡ false → is_edge w m ≡ false)
     → left_pixel (south_west b) x y d ≡ l → left_behind (south_west b) x y d ≡ true
     → left_behind (south_west w) x y d ≡ true → right_behind (south_west w) x y d ≡ false
-    → left_pixel (south_west b) x y (turn_of l r g d) ≡ true → is_edge w (line_along x y (turn_of l r g d)) ≡ true
+    → left_pixel (south_west b) x y (turn_of l r g d) ≡ true → is_edge w (step_line x y (turn_of l r g d)) ≡ true
     → (left_pixel (south_west w) x y (turn_of l r g d) ≡ true) × (right_pixel (south_west w) x y (turn_of l r g d) ≡ false)
 after_turn b w x y false true true d none ahead behind left right black edge =
     by_right b w x y (right_of d) black edge (right_pixel-right_of (south_west w) x y d ∙ right)
@@ -79,10 +79,10 @@ after_turn b w x y false false g d none ahead behind left right black edge =
 after_turn b w x y true false g d none ahead behind left right black edge =
     let side : left_pixel (south_west b) x y (left_of d) ≡ true = left_pixel-left_of (south_west b) x y d ∙ behind in
     let here : right_pixel (south_west b) x y (left_of d) ≡ true = right_pixel-left_of (south_west b) x y d ∙ ahead in
-    let apart : is_edge b (line_along x y (left_of d)) ≡ false =
+    let apart : is_edge b (step_line x y (left_of d)) ≡ false =
     is_edge-sides b b x y (left_of d) side ∙ ap (λ p. differ p (right_pixel (south_west b) x y (left_of d))) side ∙ ap (differ true) here in
     let same : differ (left_pixel (south_west w) x y (left_of d)) (right_pixel (south_west w) x y (left_of d)) ≡ false =
-    sym (is_edge-sides b w x y (left_of d) side) ∙ none (line_along x y (left_of d)) apart in
+    sym (is_edge-sides b w x y (left_of d) side) ∙ none (step_line x y (left_of d)) apart in
     by_left b w x y d black edge
     (sym (right_pixel-left_of (south_west w) x y d) ∙ neither _ _ same (left_pixel-left_of (south_west w) x y d ∙ left))
 

@@ -18,11 +18,11 @@ use Rattle.path_decompose.proofs.Round.{IsCircuit, all_boundary}
 use Rattle.path_decompose.proofs.Once.{none_passes, count_by-line, is_edge-line_of}
 
 -- pixel (u, v) comes before pixel (x, y): higher up, or further left in its row
-abbrev pub IsBefore : ℕ → ℕ → ℕ → ℕ → Type 0
-IsBefore u v x y = (y < v) ⊎ ((v ≡ y) × (u < x))
+abbrev pub IsEarlierPixel : ℕ → ℕ → ℕ → ℕ → Type 0
+IsEarlierPixel u v x y = (y < v) ⊎ ((v ≡ y) × (u < x))
 
 -- all is white before the first black pixel, and on the margin too
-white_before : (b : Image) (x y u v : ℕ) → IsFirstBlack b x y → IsBefore u v x y → b u v ≡ false
+white_before : (b : Image) (x y u v : ℕ) → IsFirstBlack b x y → IsEarlierPixel u v x y → b u v ≡ false
 white_before b x y u v first (inl above) = first.above u v above
 white_before b x y u v first (inr left) = ap (b u) left.0 ∙ first.left u left.1
 
@@ -32,7 +32,7 @@ white_left b x y (suc u) v first (inl above) = first.above u v above
 white_left b x y (suc u) v first (inr left) = white_before b x y u v first (inr (left.0, omega (arith, left.1)))
 
 -- a line between a black and a white pixel isn't crossed on the way to a pixel before the first black one
-not_crossed_before : (b : Image) (x y u v : ℕ) (l : Line) → IsFirstBlack b x y → IsBefore u v x y → is_edge b l ≡ true → is_crossed u v l ≡ false
+not_crossed_before : (b : Image) (x y u v : ℕ) (l : Line) → IsFirstBlack b x y → IsEarlierPixel u v x y → is_edge b l ≡ true → is_crossed u v l ≡ false
 not_crossed_before b x y u v (level a c) first before edge = refl
 not_crossed_before b x y u v (upright a c) first before edge =
     elim (cases_Bool (is_crossed u v (upright a c))) [
@@ -40,14 +40,14 @@ not_crossed_before b x y u v (upright a c) first before edge =
           let parts = and_parts (nat_le a u) (nat_eq c v) crossed in
           let column : a ≤ u = leb-true a u parts.0 in
           let row : c ≡ v = eqb-true c v parts.1 in
-          let here : IsBefore a c x y = elim before [ inl above ↦ inl (omega arith) | inr left ↦ inr (row ∙ left.0, omega (arith, left.1)) ] in
+          let here : IsEarlierPixel a c x y = elim before [ inl above ↦ inl (omega arith) | inr left ↦ inr (row ∙ left.0, omega (arith, left.1)) ] in
           let west : south_west b a (suc c) ≡ false = white_left b x y a c first (elim before [ inl above ↦ inl (omega arith) | inr left ↦ inr (row ∙ left.0, omega (arith, left.1)) ]) in
           let white : is_edge b (upright a c) ≡ false = ap (λ p. differ p (b a c)) west ∙ white_before b x y a c first here in
           absurd (false≢true (sym white ∙ edge))
       | inr not_crossed ↦ not_crossed
     ]
 
-pub inside_before : (b : Image) (policy : Policy) (sign : Sign) (x y u v : ℕ) (es : List Edge) → IsFirstBlack b x y → IsCircuit b policy sign (first_edge x y) es → IsBefore u v x y → within es u v ≡ false
+pub inside_before : (b : Image) (policy : Policy) (sign : Sign) (x y u v : ℕ) (es : List Edge) → IsFirstBlack b x y → IsCircuit b policy sign (first_edge x y) es → IsEarlierPixel u v x y → within es u v ≡ false
 inside_before b policy sign x y u v es first c before =
     (none_passes (λ e. is_crossed u v (line_of e)) es
     (λ k d short. not_crossed_before b x y u v (line_of (get_or es k d)) first before (is_edge-line_of b (get_or es k d) (all_boundary b policy sign (first_edge x y) es c k d short)))).0
