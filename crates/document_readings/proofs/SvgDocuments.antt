@@ -18,7 +18,7 @@ use Rattle.document_readings.specs.SvgReading.{View, picture_in, group_in, shape
 use Rattle.document_readings.specs.TraceShapes.{path_data, group_outlines, one_shape, shapes_of}
 use Rattle.document_readings.specs.XmlTags as xml
 use Rattle.document_readings.specs.XmlTags.{Attribute, TagPart, begin, attribute, opened, empty, end, parts_from}
-use Rattle.document_readings.specs.XmlTree.{Element, element, Elements, none, behind, OpenElement, growing, grown, grow_all, root_of, xml_root}
+use Rattle.document_readings.specs.XmlTree.{Element, element, Elements, none, behind, OpenElement, growing, grown, grow_all, closed_root, xml_root}
 use Rattle.document_readings.proofs.BytesPass.{all_pass, decimal_passes, passes_append}
 use Rattle.document_readings.proofs.OutlineBytes.{shapes_near}
 use Rattle.document_readings.proofs.PathReading.{data_drawn}
@@ -221,8 +221,8 @@ document_grows unit flat trace =
 document_rooted : (unit : ℕ) (flat : Bool) (trace : Trace) → unit ≤ 1000 → trace.width < 2 ^ 32 → trace.height < 2 ^ 32 → AreInReach trace.outlines
     → xml_root (svg_text unit flat trace) ≡ Some (document_root unit flat trace)
 document_rooted unit flat trace few wide high near =
-    ap (λ o. option_and_then root_of (option_and_then (grow_all (growing [])) o)) (document_parts unit flat trace few wide high near)
-    ∙ ap (option_and_then root_of) (document_grows unit flat trace)
+    ap (λ o. option_and_then closed_root (option_and_then (grow_all (growing [])) o)) (document_parts unit flat trace few wide high near)
+    ∙ ap (option_and_then closed_root) (document_grows unit flat trace)
 
 -- and what they show
 paths_shown : (unit : ℕ) (before : Elements) (shown : List (List Subpath)) (shapes : List (List (List Piece))) → unit ≤ 1000 → All AreInReach shapes

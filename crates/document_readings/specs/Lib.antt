@@ -77,7 +77,7 @@ pub mod XmlTags
 --   is_new: no attribute has this name
 --   grow: what a part does; nothing follows the root
 --   grow_all: what parts do, one after another
---   root_of: the root, where it is closed
+--   closed_root: the root, where it is closed
 --   xml_root: the root of a text
 pub mod XmlTree
 -- Documents of vector graphics.
