@@ -15,7 +15,7 @@ use Rattle.turn_policies.specs.declared.edge.Edge.{Edge}
 use Rattle.turn_policies.specs.Boundary.{IsBoundary, left_pixel, right_pixel}
 use Rattle.turn_policies.proofs.Counting.{sum_below-same, sum_below-add, count_below-sum, sum_below-zero, sum_below-at, sum_below-if}
 use Rattle.path_decompose.specs.Inside.{black_count}
-use Rattle.path_decompose.specs.GridEdges.{Line, upright, level, same_line}
+use Rattle.path_decompose.specs.GridEdges.{GridEdge, upright, level, same_line}
 use Rattle.path_decompose.specs.Inner.GridEdges.{IsLineOn}
 use Rattle.path_decompose.specs.Inner.Trail.{column_if_up, column_if_down, column_up, column_down}
 use Rattle.path_decompose.specs.Walk.{first_edge}
@@ -61,11 +61,11 @@ count_by-agree f g (x ∷ xs) h =
 -- ---- the edges along one line
 
 -- the column and the row that a line starts from
-abbrev column_of : Line → ℕ
+abbrev column_of : GridEdge → ℕ
 column_of (upright x y) = x
 column_of (level x y) = x
 
-abbrev row_of : Line → ℕ
+abbrev row_of : GridEdge → ℕ
 row_of (upright x y) = y
 row_of (level x y) = y
 
@@ -87,7 +87,7 @@ way_of w x y u (suc v) South black white e =
 way_of w x y u v West black white e = cc
 
 -- how many edges of a list go up, or down, along a line
-abbrev along_line : (Dir → Bool) → List Edge → Line → ℕ
+abbrev along_line : (Dir → Bool) → List Edge → GridEdge → ℕ
 along_line way es l = count_by (λ e. way e.heading && same_line l (line_of e)) es
 
 and_when : (t g : Bool) → (g ≡ true → t ≡ true) → t && g ≡ g
@@ -110,7 +110,7 @@ across_line : (b : Image) (policy : Policy) (sign : Sign) (x y : ℕ) (es : List
     → cond (south_west (within es) u (suc v)) 1 0 + along_line is_down es (upright u v) ≡ cond (within es u v) 1 0 + along_line is_up es (upright u v)
 across_line b policy sign x y es first c u v =
     let w : Image = within es in
-    let l : Line = upright u v in
+    let l : GridEdge = upright u v in
     let at : Edge → Bool = λ e. same_line l (line_of e) in
     let left : Bool = south_west w u (suc v) in
     let edges = boundary_within b policy sign x y es first c in
@@ -146,7 +146,7 @@ across_line b policy sign x y es first c u v =
 -- ---- the lines right of a pixel
 
 -- the line stands in row y, right of pixel (x, y)
-abbrev is_right_of : ℕ → ℕ → Line → Bool
+abbrev is_right_of : ℕ → ℕ → GridEdge → Bool
 is_right_of x y (upright u v) = nat_lt x u && nat_eq v y
 is_right_of x y (level u v) = false
 
@@ -154,12 +154,12 @@ is_right_of x y (level u v) = false
 abbrev right_of_pixel : (Dir → Bool) → List Edge → ℕ → ℕ → ℕ
 right_of_pixel way es x y = count_by (λ e. way e.heading && is_right_of x y (line_of e)) es
 
-first_right : (t : Bool) (x y : ℕ) (l : Line) → cond (t && is_right_of x y l) 1 0 ≡ cond (t && is_right_of (suc x) y l) 1 0 + cond (t && same_line (upright (suc x) y) l) 1 0
+first_right : (t : Bool) (x y : ℕ) (l : GridEdge) → cond (t && is_right_of x y l) 1 0 ≡ cond (t && is_right_of (suc x) y l) 1 0 + cond (t && same_line (upright (suc x) y) l) 1 0
 first_right false x y l = refl
 first_right true x y (upright u v) = grind (arith, nat_tests)
 first_right true x y (level u v) = refl
 
-not_right : (width height x y : ℕ) (l : Line) → IsLineOn width height l → width ≤ x → is_right_of x y l ≡ false
+not_right : (width height x y : ℕ) (l : GridEdge) → IsLineOn width height l → width ≤ x → is_right_of x y l ≡ false
 not_right width height x y (upright u v) on right = grind (arith, nat_tests)
 not_right width height x y (level u v) on right = refl
 

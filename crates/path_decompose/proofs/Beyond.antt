@@ -6,7 +6,7 @@ use Rattle.pt_core.specs.declared.path.Sign.{Sign}
 use Rattle.pt_core.specs.declared.policy.Policy.{Policy}
 use Rattle.bit_image.specs.Image.{Image, Fits, differ}
 use Rattle.turn_policies.specs.declared.edge.Edge.{Edge}
-use Rattle.path_decompose.specs.GridEdges.{Line, upright, level, is_in_row}
+use Rattle.path_decompose.specs.GridEdges.{GridEdge, upright, level, is_in_row}
 use Rattle.path_decompose.specs.Inner.GridEdges.{IsLineOn}
 use Rattle.path_decompose.specs.Inside.{is_crossed}
 use Rattle.path_decompose.proofs.Parity.{odd_by-agree}
@@ -21,11 +21,11 @@ all_lines_on b policy sign s es c width height fits =
     λ k d short. (edge_on b width height fits (get_or es k d) (all_boundary b policy sign s es c k d short)).line
 
 -- right of the page each upright line of the row has been crossed
-pub crossed_right : (width height x y : ℕ) (l : Line) → IsLineOn width height l → width ≤ x → is_crossed x y l ≡ is_in_row y l
+pub crossed_right : (width height x y : ℕ) (l : GridEdge) → IsLineOn width height l → width ≤ x → is_crossed x y l ≡ is_in_row y l
 crossed_right width height x y (level u v) on right = refl
 crossed_right width height x y (upright u v) on right = grind (arith, nat_tests)
 
-not_crossed_above : (width height x y : ℕ) (l : Line) → IsLineOn width height l → height ≤ y → is_crossed x y l ≡ false
+not_crossed_above : (width height x y : ℕ) (l : GridEdge) → IsLineOn width height l → height ≤ y → is_crossed x y l ≡ false
 not_crossed_above width height x y (level u v) on above = refl
 not_crossed_above width height x y (upright u v) on above = grind (arith, nat_tests)
 

@@ -11,7 +11,7 @@ use Rattle.turn_policies.specs.declared.edge.Edge.{Edge}
 use Rattle.turn_policies.specs.Heading.{end_x, end_y}
 use Rattle.turn_policies.specs.Boundary.{IsBoundary, left_pixel}
 use Rattle.turn_policies.specs.Turn.{next}
-use Rattle.path_decompose.specs.GridEdges.{Line, upright, level, same_line, is_edge, is_in_row}
+use Rattle.path_decompose.specs.GridEdges.{GridEdge, upright, level, same_line, is_edge, is_in_row}
 use Rattle.path_decompose.specs.Walk.{IsTrail}
 use Rattle.path_decompose.specs.Inside.{is_crossed}
 use Rattle.path_decompose.proofs.Differ.{differ_swap, differ_solve}
@@ -40,11 +40,11 @@ one_step u v x y = grind (arith, nat_tests)
 first_column : (u v y : ℕ) → (nat_le u zero && nat_eq v y) ≡ (nat_eq zero u && nat_eq y v)
 first_column u v y = grind (arith, nat_tests)
 
-crossed_next : (x y : ℕ) (l : Line) → differ (is_crossed x y l) (is_crossed (suc x) y l) ≡ same_line (upright (suc x) y) l
+crossed_next : (x y : ℕ) (l : GridEdge) → differ (is_crossed x y l) (is_crossed (suc x) y l) ≡ same_line (upright (suc x) y) l
 crossed_next x y (upright u v) = one_step u v x y
 crossed_next x y (level u v) = refl
 
-crossed_first : (y : ℕ) (l : Line) → is_crossed zero y l ≡ same_line (upright zero y) l
+crossed_first : (y : ℕ) (l : GridEdge) → is_crossed zero y l ≡ same_line (upright zero y) l
 crossed_first y (upright u v) = first_column u v y
 crossed_first y (level u v) = refl
 
@@ -55,7 +55,7 @@ upright_cut es (suc x) y =
     ∙ odd_by-same _ _ (λ e. crossed_next x y (line_of e)) es
 
 -- the line is upright, right below row y, at column x or further left
-abbrev is_crossed_below : ℕ → ℕ → Line → Bool
+abbrev is_crossed_below : ℕ → ℕ → GridEdge → Bool
 is_crossed_below x y (upright u v) = nat_le u x && nat_eq (suc v) y
 is_crossed_below x y (level u v) = false
 
@@ -73,11 +73,11 @@ height_step b x y u (suc v) South h = grind (arith, nat_tests)
 height_step b x y zero v West h = cc
 height_step b x y (suc u) v West h = grind (arith, nat_tests)
 
-crossed_below_first : (x : ℕ) (l : Line) → is_crossed_below x zero l ≡ false
+crossed_below_first : (x : ℕ) (l : GridEdge) → is_crossed_below x zero l ≡ false
 crossed_below_first x (upright u v) = grind (arith, nat_tests)
 crossed_below_first x (level u v) = refl
 
-crossed_below_next : (x y : ℕ) (l : Line) → is_crossed_below x (suc y) l ≡ is_crossed x y l
+crossed_below_next : (x y : ℕ) (l : GridEdge) → is_crossed_below x (suc y) l ≡ is_crossed x y l
 crossed_below_next x y (upright u v) = grind (arith, nat_tests)
 crossed_below_next x y (level u v) = refl
 
@@ -103,12 +103,12 @@ level_cut b policy sign s es h run x y =
     ∙ differ_solve (odd_by crossed es) (odd_by below es) (odd_by same es) (sym parts ∙ even)
 
 -- the lines between the inside of a closed walk and its outside are those along which it goes an odd number of times
-pub is_edge-within : (b : Image) (policy : Policy) (sign : Sign) (s : Edge) (es : List Edge) → IsBoundary b s → IsTrail (next b policy sign) s es s → (l : Line) → is_edge (within es) l ≡ odd_by (λ e. same_line l (line_of e)) es
+pub is_edge-within : (b : Image) (policy : Policy) (sign : Sign) (s : Edge) (es : List Edge) → IsBoundary b s → IsTrail (next b policy sign) s es s → (l : GridEdge) → is_edge (within es) l ≡ odd_by (λ e. same_line l (line_of e)) es
 is_edge-within b policy sign s es h run (upright x y) = upright_cut es x y
 is_edge-within b policy sign s es h run (level x y) = level_cut b policy sign s es h run x y
 
 -- the edges of two images, one inverted where the other is black
-pub is_edge-differ : (b c : Image) (l : Line) → is_edge (λ x y. differ (b x y) (c x y)) l ≡ differ (is_edge b l) (is_edge c l)
+pub is_edge-differ : (b c : Image) (l : GridEdge) → is_edge (λ x y. differ (b x y) (c x y)) l ≡ differ (is_edge b l) (is_edge c l)
 is_edge-differ b c (upright zero y) = refl
 is_edge-differ b c (upright (suc x) y) = differ_swap (b x y) (c x y) (b (suc x) y) (c (suc x) y)
 is_edge-differ b c (level x zero) = refl

@@ -10,21 +10,21 @@ use Rattle.turn_policies.specs.declared.edge.Edge.{Edge}
 use Rattle.turn_policies.specs.Heading.{end_x, end_y}
 use Rattle.turn_policies.specs.Boundary.{IsBoundary, left_pixel}
 use Rattle.turn_policies.specs.Turn.{next}
-use Rattle.path_decompose.specs.GridEdges.{Line, upright, level}
+use Rattle.path_decompose.specs.GridEdges.{GridEdge, upright, level}
 use Rattle.path_decompose.specs.Walk.{IsTrail, start_of}
 use Rattle.path_decompose.specs.Inside.{line_at, line_between, lines_to, lines_of, is_crossed, inside}
 use Rattle.path_decompose.proofs.Parity.{odd_by, is_odd-count}
 use Rattle.turn_policies.proofs.Turning.{next_boundary}
 
 -- the line along which a step leaves corner (x, y)
-abbrev pub step_line : ℕ → ℕ → Dir → Line
+abbrev pub step_line : ℕ → ℕ → Dir → GridEdge
 step_line x y North = upright x y
 step_line x y East = level x y
 step_line x y South = upright x (pred y)
 step_line x y West = level (pred x) y
 
 -- the line that an edge runs along
-abbrev pub line_of : Edge → Line
+abbrev pub line_of : Edge → GridEdge
 line_of e = step_line e.x e.y e.heading
 
 -- a step south begins above row 0, and a step west right of column 0, since the pixel on its left is black

@@ -4,7 +4,7 @@ use Rattle.pt_core.specs.declared.path.Path.{Path}
 use Rattle.pt_core.specs.declared.policy.Policy.{Policy}
 use Rattle.bit_image.specs.Image.{Image, Fits, differ}
 use Rattle.bit_image.specs.Page.{Page}
-use Rattle.path_decompose.specs.GridEdges.{Line, is_edge, same_line}
+use Rattle.path_decompose.specs.GridEdges.{GridEdge, is_edge, same_line}
 use Rattle.path_decompose.specs.Walk.{first_edge}
 use Rattle.path_decompose.specs.Inside.{lines_of, inside}
 use Rattle.path_decompose.specs.Decomposition.{inverted, IsNextPath}
@@ -33,7 +33,7 @@ fits_inverted page policy b path width height n fits =
     fits_differ b (inside path.points) width height fits (next_fits page policy b path width height n fits)
 
 -- what the path leaves of the lines between black and white
-pub is_edge-inverted : (page : Page) (policy : Policy) (b : Image) (path : Path) → (n : IsNextPath page policy b path) → (l : Line) → is_edge (inverted b path.points) l ≡ differ (is_edge b l) (odd_by (λ e. same_line l (line_of e)) n.walk.edges)
+pub is_edge-inverted : (page : Page) (policy : Policy) (b : Image) (path : Path) → (n : IsNextPath page policy b path) → (l : GridEdge) → is_edge (inverted b path.points) l ≡ differ (is_edge b l) (odd_by (λ e. same_line l (line_of e)) n.walk.edges)
 is_edge-inverted page policy b path n l =
     let c = next_circuit page policy b path n in
     is_edge-differ b (inside path.points) l

@@ -17,7 +17,7 @@ use Rattle.turn_policies.specs.declared.edge.Edge.{Edge}
 use Rattle.turn_policies.specs.Turn.{next}
 use Rattle.path_decompose.specs.declared.trail.Upright.{Upright}
 use Rattle.path_decompose.specs.Inside.{is_crossed, is_odd, inside, black_count}
-use Rattle.path_decompose.specs.GridEdges.{Line, upright, level, is_in_row}
+use Rattle.path_decompose.specs.GridEdges.{GridEdge, upright, level, is_in_row}
 use Rattle.path_decompose.specs.Inner.GridEdges.{IsLineOn}
 use Rattle.path_decompose.specs.Inner.Trail.{upright_along, upright_of, column_if_up, column_if_down, column_up, column_down}
 use Rattle.path_decompose.specs.Walk.{first_edge, start_of, IsBoundaryWalk}
@@ -40,12 +40,12 @@ uprights_of-push [] e = append-nil (upright_of e)
 uprights_of-push (d ∷ ds) e = ap (λ ls. upright_of d ++ ls) (uprights_of-push ds e) ∙ sym (append_assoc (upright_of d) (uprights_of ds) (upright_of e))
 
 -- a test of what is noted down that is one of upright lines
-odd_by-uprights : (f : Upright → Bool) (g : Line → Bool) → ((x y : ℕ) → f (record { x = x; y = y }) ≡ g (upright x y)) → ((x y : ℕ) → g (level x y) ≡ false)
+odd_by-uprights : (f : Upright → Bool) (g : GridEdge → Bool) → ((x y : ℕ) → f (record { x = x; y = y }) ≡ g (upright x y)) → ((x y : ℕ) → g (level x y) ≡ false)
     → (es : List Edge) → odd_by f (uprights_of es) ≡ odd_by (λ e. g (line_of e)) es
 odd_by-uprights f g up flat [] = refl
 odd_by-uprights f g up flat (e ∷ es) = one f g up flat e.x e.y e.heading (uprights_of es) ∙ ap (differ (g (line_of e))) (odd_by-uprights f g up flat es)
   where
-    one : (f : Upright → Bool) (g : Line → Bool) → ((x y : ℕ) → f (record { x = x; y = y }) ≡ g (upright x y)) → ((x y : ℕ) → g (level x y) ≡ false)
+    one : (f : Upright → Bool) (g : GridEdge → Bool) → ((x y : ℕ) → f (record { x = x; y = y }) ≡ g (upright x y)) → ((x y : ℕ) → g (level x y) ≡ false)
         → (x y : ℕ) (d : Dir) (rest : List Upright) → odd_by f (upright_along x y d ++ rest) ≡ differ (g (step_line x y d)) (odd_by f rest)
     one f g up flat x y North rest = ap (λ t. differ t (odd_by f rest)) (up x y)
     one f g up flat x y East rest = sym (ap (λ t. differ t (odd_by f rest)) (flat x y))

@@ -15,7 +15,7 @@ use Rattle.turn_policies.specs.Heading.{left_of, right_of, end_x, end_y}
 use Rattle.turn_policies.specs.Majority.{major}
 use Rattle.turn_policies.specs.Turn.{goes_right, turn_of, next}
 use Rattle.turn_policies.proofs.Turning.{left_behind, right_behind, left_pixel-left_of, right_pixel-left_of, right_pixel-right_of, left_behind-end, right_behind-end, next_boundary}
-use Rattle.path_decompose.specs.GridEdges.{Line, upright, level, same_line, is_edge}
+use Rattle.path_decompose.specs.GridEdges.{GridEdge, upright, level, same_line, is_edge}
 use Rattle.path_decompose.specs.Walk.{IsTrail, first_edge}
 use Rattle.path_decompose.proofs.Cut.{is_edge-within}
 use Rattle.path_decompose.proofs.EdgeLine.{step_line, line_of, within}
@@ -63,7 +63,7 @@ by_right b w x y t black edge h = (other_black _ _ (sym (is_edge-sides b w x y t
 
 -- A turn to the left keeps the pixel on the left, one to the right that on the right. Straight on, the pixel ahead is as black as the
 -- one behind, so that no edge of b runs between them.
-after_turn : (b w : Image) (x y : ℕ) (l r g : Bool) (d : Dir) → ((m : Line) → is_edge b m ≡ false → is_edge w m ≡ false)
+after_turn : (b w : Image) (x y : ℕ) (l r g : Bool) (d : Dir) → ((m : GridEdge) → is_edge b m ≡ false → is_edge w m ≡ false)
     → left_pixel (south_west b) x y d ≡ l → left_behind (south_west b) x y d ≡ true
     → left_behind (south_west w) x y d ≡ true → right_behind (south_west w) x y d ≡ false
     → left_pixel (south_west b) x y (turn_of l r g d) ≡ true → is_edge w (step_line x y (turn_of l r g d)) ≡ true
@@ -87,7 +87,7 @@ after_turn b w x y true false g d none ahead behind left right black edge =
     (sym (right_pixel-left_of (south_west w) x y d) ∙ neither _ _ same (left_pixel-left_of (south_west w) x y d ∙ left))
 
 -- the edge that follows a boundary edge of both images is one of both, where its line is one of w's and w has no edge that b hasn't
-next_boundary_of : (b w : Image) (policy : Policy) (sign : Sign) (e : Edge) → ((m : Line) → is_edge b m ≡ false → is_edge w m ≡ false)
+next_boundary_of : (b w : Image) (policy : Policy) (sign : Sign) (e : Edge) → ((m : GridEdge) → is_edge b m ≡ false → is_edge w m ≡ false)
     → IsBoundary b e → IsBoundary w e → is_edge w (line_of (next b policy sign e)) ≡ true → IsBoundary w (next b policy sign e)
 next_boundary_of b w policy sign e none hb hw edge =
     let x : ℕ = end_x e.x e.heading in
@@ -101,7 +101,7 @@ next_boundary_of b w policy sign e none hb hw edge =
 
 -- ---- each edge of a round
 
-same_line-same : (l : Line) → same_line l l ≡ true
+same_line-same : (l : GridEdge) → same_line l l ≡ true
 same_line-same (upright x y) = and_from (nat_eq x x) (nat_eq y y) (eq-eqb x x refl) (eq-eqb y y refl)
 same_line-same (level x y) = and_from (nat_eq x x) (nat_eq y y) (eq-eqb x x refl) (eq-eqb y y refl)
 
@@ -118,12 +118,12 @@ some_passes f (e ∷ es) (suc k) d below passes =
 -- the line of each edge of a round is one of its inside
 line_within : (b : Image) (policy : Policy) (sign : Sign) (s : Edge) (es : List Edge) → IsCircuit b policy sign s es → All (λ e. is_edge (within es) (line_of e) ≡ true) es
 line_within b policy sign s es c = λ k d below.
-    let l : Line = line_of (get_or es k d) in
+    let l : GridEdge = line_of (get_or es k d) in
     let some : 1 ≤ count_by (λ e. same_line l (line_of e)) es = some_passes (λ e. same_line l (line_of e)) es k d below (same_line-same l) in
     is_edge-within b policy sign s es c.boundary c.closes l
     ∙ odd_from_some (odd_by (λ e. same_line l (line_of e)) es) (omega (arith, some, count_by-line b policy sign s es c l))
 
-along : (b w : Image) (policy : Policy) (sign : Sign) (es : List Edge) (s z : Edge) → ((m : Line) → is_edge b m ≡ false → is_edge w m ≡ false)
+along : (b w : Image) (policy : Policy) (sign : Sign) (es : List Edge) (s z : Edge) → ((m : GridEdge) → is_edge b m ≡ false → is_edge w m ≡ false)
     → IsBoundary b s → IsBoundary w s → IsTrail (next b policy sign) s es z → All (λ e. is_edge w (line_of e) ≡ true) es → All (IsBoundary w) es
 along b w policy sign [] s z none hb hw run lines = All-nil (IsBoundary w)
 along b w policy sign (e ∷ []) s z none hb hw run lines =

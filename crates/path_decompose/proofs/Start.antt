@@ -9,7 +9,7 @@ use Rattle.bit_image.specs.Image.{Image, south_west, differ}
 use Rattle.bit_image.specs.FirstBlack.{IsFirstBlack}
 use Rattle.turn_policies.specs.declared.edge.Edge.{Edge}
 use Rattle.turn_policies.specs.Turn.{next}
-use Rattle.path_decompose.specs.GridEdges.{Line, upright, level, same_line, is_edge}
+use Rattle.path_decompose.specs.GridEdges.{GridEdge, upright, level, same_line, is_edge}
 use Rattle.path_decompose.specs.Walk.{IsTrail, first_edge}
 use Rattle.path_decompose.specs.Inside.{is_crossed}
 use Rattle.path_decompose.proofs.Parity.{odd_by, odd_by-agree}
@@ -32,7 +32,7 @@ white_left b x y (suc u) v first (inl above) = first.above u v above
 white_left b x y (suc u) v first (inr left) = white_before b x y u v first (inr (left.0, omega (arith, left.1)))
 
 -- a line between a black and a white pixel isn't crossed on the way to a pixel before the first black one
-not_crossed_before : (b : Image) (x y u v : ℕ) (l : Line) → IsFirstBlack b x y → IsEarlierPixel u v x y → is_edge b l ≡ true → is_crossed u v l ≡ false
+not_crossed_before : (b : Image) (x y u v : ℕ) (l : GridEdge) → IsFirstBlack b x y → IsEarlierPixel u v x y → is_edge b l ≡ true → is_crossed u v l ≡ false
 not_crossed_before b x y u v (level a c) first before edge = refl
 not_crossed_before b x y u v (upright a c) first before edge =
     elim (cases_Bool (is_crossed u v (upright a c))) [
@@ -53,7 +53,7 @@ inside_before b policy sign x y u v es first c before =
     (λ k d short. not_crossed_before b x y u v (line_of (get_or es k d)) first before (is_edge-line_of b (get_or es k d) (all_boundary b policy sign (first_edge x y) es c k d short)))).0
 
 -- of the lines between a black and a white pixel only its own left side is crossed on the way to the first black pixel
-crossed_at_start : (b : Image) (x y : ℕ) (l : Line) → IsFirstBlack b x y → is_edge b l ≡ true → is_crossed x y l ≡ same_line (upright x y) l
+crossed_at_start : (b : Image) (x y : ℕ) (l : GridEdge) → IsFirstBlack b x y → is_edge b l ≡ true → is_crossed x y l ≡ same_line (upright x y) l
 crossed_at_start b x y (level a c) first edge = refl
 crossed_at_start b x y (upright a c) first edge =
     elim (cases_lt a x) [

@@ -1,5 +1,5 @@
 -- Unit edges of the grid without a direction, each between two pixels.
---   Line: `upright x y` is the left side of pixel (x, y), and `level x y` is its lower side
+--   GridEdge: `upright x y` is the left side of pixel (x, y), and `level x y` is its lower side
 --   same_line: the two are one line
 --   is_edge: the line has a black pixel on one of its sides and a white one on the other
 --   is_in_row: the line is upright, in row y

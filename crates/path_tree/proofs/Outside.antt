@@ -10,7 +10,7 @@ use Rattle.pt_core.specs.declared.point.Point.{Point}
 use Rattle.pt_core.specs.ClosedWalk.{IsClosedWalk}
 use Rattle.path_decompose.specs.Bounds.{IsCornerOf}
 use Rattle.path_decompose.specs.Inside.{line_between, lines_to, lines_of, is_crossed, inside}
-use Rattle.path_decompose.specs.GridEdges.{Line, upright, level, is_in_row}
+use Rattle.path_decompose.specs.GridEdges.{GridEdge, upright, level, is_in_row}
 use Rattle.path_decompose.proofs.Parity.{odd_by, is_odd-count}
 use Rattle.path_tree.specs.declared.bounds.Bounds.{Bounds}
 use Rattle.path_tree.specs.declared.starts.Start.{Start}
@@ -21,7 +21,7 @@ use Rattle.path_tree.proofs.Even.{even_rows}
 use Rattle.path_tree.proofs.Marking.{and-false, marked-none, no_marking}
 
 -- tests that agree on each line of a walk
-module _ (f g : Line → Bool) (P : Point → Type 0) (agree : (p q : Point) → P p → P q → f (line_between p q) ≡ g (line_between p q)) where
+module _ (f g : GridEdge → Bool) (P : Point → Type 0) (agree : (p q : Point) → P p → P q → f (line_between p q) ≡ g (line_between p q)) where
   same_to : (end p : Point) (qs : List Point) → P end → P p → All P qs → odd_by f (lines_to end p qs) ≡ odd_by g (lines_to end p qs)
   same_to end p [] he hp hs = ap (λ b. differ b false) (agree p end hp he)
   same_to end p (q ∷ qs) he hp hs =
@@ -33,7 +33,7 @@ module _ (f g : Line → Bool) (P : Point → Type 0) (agree : (p q : Point) →
   same_of (p ∷ ps) all = same_to p p ps (All-head P p ps all) (All-head P p ps all) (All-tail P p ps all)
 
 -- no line passes
-none : (lines : List Line) → odd_by (λ _. false) lines ≡ false
+none : (lines : List GridEdge) → odd_by (λ _. false) lines ≡ false
 none [] = refl
 none (line ∷ lines) = none lines
 
