@@ -8,4 +8,4 @@ pub mod Enlarged
 pub mod Packing
 -- Where a pixel of the larger page lies among those of the page, in the program.
 --   IsPlaceOf: this is the place of a column
-pub mod Place
+pub mod CentrePlace

@@ -5,7 +5,7 @@ use Rattle.pt_core.specs.OnPage.{AreOnPage}
 use Rattle.prefix_moments.specs.Sums.{spread_of}
 use Rattle.straight_paths.specs.Straight.{IsPossible}
 use Rattle.polygon_optimal.proofs.Small.{possible_small}
-use Rattle.cyclic_optimal.proofs.sides.Sides.of.Goals as goal
+use Rattle.cyclic_optimal.proofs.sides.WalkSegments.of.Goals as goal
 
 pub invariant_of-result-clause-small : goal.invariant_of-result-clause-small
 invariant_of-result-clause-small c =

@@ -5,7 +5,7 @@ use Rattle.polygon_optimal.specs.Inner.OnePenalty.{penalty_is, penalty_most}
 use Rattle.cyclic_optimal.specs.Inner.Fans.{IsFanOf}
 use Rattle.cyclic_optimal.proofs.Fanning.{fan_penalty, some_is, where_none}
 use Rattle.cyclic_optimal.proofs.Worth.{dear}
-use Rattle.cyclic_optimal.proofs.sides.Sides.penalty_below.Goals as goal
+use Rattle.cyclic_optimal.proofs.sides.WalkSegments.penalty_below.Goals as goal
 
 -- what is written down is the penalty
 is_penalty : (c : goal.In-Some-penalty) → c.in-Some-penalty.penalty ≡ penalty_of c.args.self.now.moments.now c.args.i c.args.j
