@@ -20,8 +20,8 @@ use Rattle.path_decompose.specs.Inner.GridEdges.{IsLineOn}
 use Rattle.path_decompose.specs.Inner.Trail.{column_if_up, column_if_down, column_up, column_down}
 use Rattle.path_decompose.specs.Walk.{first_edge}
 use Rattle.path_decompose.proofs.Beyond.{all_lines_on, fits_within, white_off}
-use Rattle.path_decompose.proofs.Cut.{is_edge-within}
-use Rattle.path_decompose.proofs.EdgeLine.{step_line, line_of, within}
+use Rattle.path_decompose.proofs.Cut.{is_edge-inside_edges}
+use Rattle.path_decompose.proofs.EdgeLine.{step_line, line_of, inside_edges}
 use Rattle.path_decompose.proofs.Once.{same_line-true, none_passes, count_by-line}
 use Rattle.path_decompose.proofs.Round.{IsCircuit}
 use Rattle.path_decompose.proofs.Sides.{boundary_within}
@@ -107,9 +107,9 @@ cond_not false = refl
 -- of the two pixels beside a line the left one is black and an edge goes up between them, or the right one and an edge goes down,
 -- or both are of one colour and none does
 across_line : (b : Image) (policy : Policy) (sign : Sign) (x y : ℕ) (es : List Edge) → IsFirstBlack b x y → IsCircuit b policy sign (first_edge x y) es → (u v : ℕ)
-    → cond (south_west (within es) u (suc v)) 1 0 + along_line is_down es (upright u v) ≡ cond (within es u v) 1 0 + along_line is_up es (upright u v)
+    → cond (south_west (inside_edges es) u (suc v)) 1 0 + along_line is_down es (upright u v) ≡ cond (inside_edges es u v) 1 0 + along_line is_up es (upright u v)
 across_line b policy sign x y es first c u v =
-    let w : Image = within es in
+    let w : Image = inside_edges es in
     let l : GridEdge = upright u v in
     let at : Edge → Bool = λ e. same_line l (line_of e) in
     let left : Bool = south_west w u (suc v) in
@@ -121,7 +121,7 @@ across_line b policy sign x y es first c u v =
     way_of w u v e.x e.y e.heading h.black_left h.white_right (same_line-true l (line_of e) passes) in
     let whole : count_by at es ≡ cond (differ left (w u v)) 1 0 =
     count_by-line b policy sign (first_edge x y) es c l
-    ∙ ap (λ t. cond t 1 0) (sym (is_edge-within b policy sign (first_edge x y) es c.boundary c.closes l)) in
+    ∙ ap (λ t. cond t 1 0) (sym (is_edge-inside_edges b policy sign (first_edge x y) es c.boundary c.closes l)) in
     elim (cases_Bool left) [
       | inl black ↦
           let up : along_line is_up es l ≡ count_by at es = count_by-agree (λ e. is_up e.heading && at e) at es
@@ -166,14 +166,14 @@ not_right width height x y (level u v) on right = refl
 -- a pixel is inside where more edges go up than down right of it in its row
 balance : (b : Image) (policy : Policy) (sign : Sign) (x y : ℕ) (es : List Edge) → IsFirstBlack b x y → IsCircuit b policy sign (first_edge x y) es
     → (width height : ℕ) → Fits b width height → (k u v : ℕ) → u + k ≡ width
-    → cond (within es u v) 1 0 + right_of_pixel is_down es u v ≡ right_of_pixel is_up es u v
+    → cond (inside_edges es u v) 1 0 + right_of_pixel is_down es u v ≡ right_of_pixel is_up es u v
 balance b policy sign x y es first c width height fits zero u v last =
     let on = all_lines_on b policy sign (first_edge x y) es c width height fits in
     let none : (way : Dir → Bool) → right_of_pixel way es u v ≡ 0 =
     λ way. (none_passes (λ e. way e.heading && is_right_of u v (line_of e)) es
     (λ k d below. and_unless _ _ (λ passes. absurd (false≢true (sym (not_right width height u v (line_of (get_or es k d)) (on k d below) (omega arith)) ∙ passes))))).1 in
-    let white : within es u v ≡ false = white_off (within es) width height u v (fits_within b policy sign (first_edge x y) es c width height fits) (omega arith) in
-    let one : ℕ = cond (within es u v) 1 0 in
+    let white : inside_edges es u v ≡ false = white_off (inside_edges es) width height u v (fits_within b policy sign (first_edge x y) es c width height fits) (omega arith) in
+    let one : ℕ = cond (inside_edges es u v) 1 0 in
     let out : one ≡ 0 = ap (λ t. cond t 1 0) white in
     omega (arith, out, none is_down, none is_up)
 balance b policy sign x y es first c width height fits (suc k) u v left =
@@ -282,17 +282,17 @@ if_down x West = refl
 
 -- what the columns come to
 pub circuit_area : (b : Image) (policy : Policy) (sign : Sign) (x y : ℕ) (es : List Edge) → IsFirstBlack b x y → IsCircuit b policy sign (first_edge x y) es → (width height : ℕ) → Fits b width height
-    → black_count (within es) width height + sum_by column_down es ≡ sum_by column_up es
+    → black_count (inside_edges es) width height + sum_by column_down es ≡ sum_by column_up es
 circuit_area b policy sign x y es first c width height fits =
     let on = all_lines_on b policy sign (first_edge x y) es c width height fits in
-    let sums : over_page width height (λ u v. cond (within es u v) 1 0) + over_page width height (λ u v. right_of_pixel is_down es u v) ≡ over_page width height (λ u v. right_of_pixel is_up es u v) =
-    sym (over_page-add width height (λ u v. cond (within es u v) 1 0) (λ u v. right_of_pixel is_down es u v))
-    ∙ over_page-same width height (λ u v. cond (within es u v) 1 0 + right_of_pixel is_down es u v) (λ u v. right_of_pixel is_up es u v)
+    let sums : over_page width height (λ u v. cond (inside_edges es u v) 1 0) + over_page width height (λ u v. right_of_pixel is_down es u v) ≡ over_page width height (λ u v. right_of_pixel is_up es u v) =
+    sym (over_page-add width height (λ u v. cond (inside_edges es u v) 1 0) (λ u v. right_of_pixel is_down es u v))
+    ∙ over_page-same width height (λ u v. cond (inside_edges es u v) 1 0 + right_of_pixel is_down es u v) (λ u v. right_of_pixel is_up es u v)
     (λ u v left. balance b policy sign x y es first c width height fits (width - u) u v (omega arith)) in
     omega (
       arith,
       sums,
-      black_count-sum (within es) width height,
+      black_count-sum (inside_edges es) width height,
       columns is_up refl refl width height es on,
       columns is_down refl refl width height es on,
       sum_by-same column_up (λ e. cond (is_up e.heading) e.x 0) (λ e. if_up e.x e.heading) es,

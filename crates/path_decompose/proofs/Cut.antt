@@ -17,7 +17,7 @@ use Rattle.path_decompose.specs.Inside.{is_crossed}
 use Rattle.path_decompose.proofs.Differ.{differ_swap, differ_solve}
 use Rattle.path_decompose.proofs.Parity.{odd_by, odd_by-differ, odd_by-same, odd_by-closed}
 use Rattle.turn_policies.proofs.Turning.{next_boundary}
-use Rattle.path_decompose.proofs.EdgeLine.{step_line, line_of, within}
+use Rattle.path_decompose.proofs.EdgeLine.{step_line, line_of, inside_edges}
 
 -- a step changes whether the walk is above the bottom of row y exactly where it goes through row y
 row_step : (b : Image) (y u v : ℕ) (d : Dir) → left_pixel (south_west b) u v d ≡ true → is_in_row y (step_line u v d) ≡ differ (nat_lt y v) (nat_lt y (end_y v d))
@@ -48,7 +48,7 @@ crossed_first : (y : ℕ) (l : GridEdge) → is_crossed zero y l ≡ same_line (
 crossed_first y (upright u v) = first_column u v y
 crossed_first y (level u v) = refl
 
-upright_cut : (es : List Edge) (x y : ℕ) → is_edge (within es) (upright x y) ≡ odd_by (λ e. same_line (upright x y) (line_of e)) es
+upright_cut : (es : List Edge) (x y : ℕ) → is_edge (inside_edges es) (upright x y) ≡ odd_by (λ e. same_line (upright x y) (line_of e)) es
 upright_cut es zero y = odd_by-same _ _ (λ e. crossed_first y (line_of e)) es
 upright_cut es (suc x) y =
     sym (odd_by-differ (λ e. is_crossed x y (line_of e)) (λ e. is_crossed (suc x) y (line_of e)) es)
@@ -85,11 +85,11 @@ odd_by-none : {A : Type 0} (xs : List A) → odd_by (λ x. false) xs ≡ false
 odd_by-none [] = refl
 odd_by-none (x ∷ xs) = odd_by-none xs
 
-pixel_below : (es : List Edge) (x y : ℕ) → south_west (within es) (suc x) y ≡ odd_by (λ e. is_crossed_below x y (line_of e)) es
+pixel_below : (es : List Edge) (x y : ℕ) → south_west (inside_edges es) (suc x) y ≡ odd_by (λ e. is_crossed_below x y (line_of e)) es
 pixel_below es x zero = sym (odd_by-same _ _ (λ e. crossed_below_first x (line_of e)) es ∙ odd_by-none es)
 pixel_below es x (suc y) = sym (odd_by-same _ _ (λ e. crossed_below_next x y (line_of e)) es)
 
-level_cut : (b : Image) (policy : Policy) (sign : Sign) (s : Edge) (es : List Edge) → IsBoundary b s → IsTrail (next b policy sign) s es s → (x y : ℕ) → is_edge (within es) (level x y) ≡ odd_by (λ e. same_line (level x y) (line_of e)) es
+level_cut : (b : Image) (policy : Policy) (sign : Sign) (s : Edge) (es : List Edge) → IsBoundary b s → IsTrail (next b policy sign) s es s → (x y : ℕ) → is_edge (inside_edges es) (level x y) ≡ odd_by (λ e. same_line (level x y) (line_of e)) es
 level_cut b policy sign s es h run x y =
     let crossed : Edge → Bool = λ e. is_crossed x y (line_of e) in
     let below : Edge → Bool = λ e. is_crossed_below x y (line_of e) in
@@ -99,13 +99,13 @@ level_cut b policy sign s es h run x y =
     (λ e p. height_step b x y e.x e.y e.heading p.black_left) es s h run in
     let parts : odd_by (λ e. differ (crossed e) (differ (below e) (same e))) es ≡ differ (odd_by crossed es) (differ (odd_by below es) (odd_by same es)) =
     odd_by-differ crossed (λ e. differ (below e) (same e)) es ∙ ap (differ (odd_by crossed es)) (odd_by-differ below same es) in
-    ap (λ p. differ p (within es x y)) (pixel_below es x y)
+    ap (λ p. differ p (inside_edges es x y)) (pixel_below es x y)
     ∙ differ_solve (odd_by crossed es) (odd_by below es) (odd_by same es) (sym parts ∙ even)
 
 -- the lines between the inside of a closed walk and its outside are those along which it goes an odd number of times
-pub is_edge-within : (b : Image) (policy : Policy) (sign : Sign) (s : Edge) (es : List Edge) → IsBoundary b s → IsTrail (next b policy sign) s es s → (l : GridEdge) → is_edge (within es) l ≡ odd_by (λ e. same_line l (line_of e)) es
-is_edge-within b policy sign s es h run (upright x y) = upright_cut es x y
-is_edge-within b policy sign s es h run (level x y) = level_cut b policy sign s es h run x y
+pub is_edge-inside_edges : (b : Image) (policy : Policy) (sign : Sign) (s : Edge) (es : List Edge) → IsBoundary b s → IsTrail (next b policy sign) s es s → (l : GridEdge) → is_edge (inside_edges es) l ≡ odd_by (λ e. same_line l (line_of e)) es
+is_edge-inside_edges b policy sign s es h run (upright x y) = upright_cut es x y
+is_edge-inside_edges b policy sign s es h run (level x y) = level_cut b policy sign s es h run x y
 
 -- the edges of two images, one inverted where the other is black
 pub is_edge-differ : (b c : Image) (l : GridEdge) → is_edge (λ x y. differ (b x y) (c x y)) l ≡ differ (is_edge b l) (is_edge c l)

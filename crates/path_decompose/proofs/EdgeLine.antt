@@ -61,10 +61,10 @@ odd_by-map f g [] = refl
 odd_by-map f g (x ∷ xs) = ap (differ (f (g x))) (odd_by-map f g xs)
 
 -- the pixels into which an odd number of the edges is crossed
-abbrev pub within : List Edge → Image
-within es x y = odd_by (λ e. is_crossed x y (line_of e)) es
+abbrev pub inside_edges : List Edge → Image
+inside_edges es x y = odd_by (λ e. is_crossed x y (line_of e)) es
 
-pub inside-run : (b : Image) (policy : Policy) (sign : Sign) (s : Edge) (es : List Edge) → IsBoundary b s → IsTrail (next b policy sign) s es s → (x y : ℕ) → inside (map start_of es) x y ≡ within es x y
+pub inside-run : (b : Image) (policy : Policy) (sign : Sign) (s : Edge) (es : List Edge) → IsBoundary b s → IsTrail (next b policy sign) s es s → (x y : ℕ) → inside (map start_of es) x y ≡ inside_edges es x y
 inside-run b policy sign s es h run x y =
     is_odd-count (is_crossed x y) (lines_of (map start_of es))
     ∙ ap (odd_by (is_crossed x y)) (lines_of-run b policy sign s es h run)

@@ -24,7 +24,7 @@ use Rattle.path_decompose.specs.Walk.{first_edge, start_of, IsBoundaryWalk}
 use Rattle.path_decompose.proofs.Area.{circuit_area}
 use Rattle.path_decompose.proofs.Beyond.{all_lines_on}
 use Rattle.path_decompose.proofs.Cut.{row_even}
-use Rattle.path_decompose.proofs.EdgeLine.{step_line, line_of, within, inside-run}
+use Rattle.path_decompose.proofs.EdgeLine.{step_line, line_of, inside_edges, inside-run}
 use Rattle.path_decompose.proofs.Orbit.{nth_after, orbit, orbit_push}
 use Rattle.path_decompose.proofs.Parity.{odd_by, is_odd-count}
 use Rattle.path_decompose.proofs.Round.{IsCircuit, circuit_of}
@@ -153,7 +153,7 @@ whole_of : (b : Image) (policy : Policy) (sign : Sign) (x y width height : ℕ) 
     → IsBoundaryWalk b policy sign x y points → points ≡ map start_of es → IsWholeWalk b policy sign x y width height points (uprights_of es) (sum_by column_up es) (sum_by column_down es)
 whole_of b policy sign x y width height es points first fits c walk starts =
     let lines : List Upright = uprights_of es in
-    let crossed : (u v : ℕ) → within es u v ≡ inside points u v =
+    let crossed : (u v : ℕ) → inside_edges es u v ≡ inside points u v =
     λ u v. sym (ap (λ ps. inside ps u v) starts ∙ inside-run b policy sign (first_edge x y) es c.boundary c.closes u v) in
     record {
       walk = walk;

@@ -17,8 +17,8 @@ use Rattle.turn_policies.specs.Turn.{goes_right, turn_of, next}
 use Rattle.turn_policies.proofs.Turning.{left_behind, right_behind, left_pixel-left_of, right_pixel-left_of, right_pixel-right_of, left_behind-end, right_behind-end, next_boundary}
 use Rattle.path_decompose.specs.GridEdges.{GridEdge, upright, level, same_line, is_edge}
 use Rattle.path_decompose.specs.Walk.{IsTrail, first_edge}
-use Rattle.path_decompose.proofs.Cut.{is_edge-within}
-use Rattle.path_decompose.proofs.EdgeLine.{step_line, line_of, within}
+use Rattle.path_decompose.proofs.Cut.{is_edge-inside_edges}
+use Rattle.path_decompose.proofs.EdgeLine.{step_line, line_of, inside_edges}
 use Rattle.path_decompose.proofs.Once.{count_by-line, odd_by-no_edge}
 use Rattle.path_decompose.proofs.Parity.{odd_by}
 use Rattle.path_decompose.proofs.Round.{IsCircuit}
@@ -116,11 +116,11 @@ some_passes f (e ∷ es) (suc k) d below passes =
     omega arith
 
 -- the line of each edge of a round is one of its inside
-line_within : (b : Image) (policy : Policy) (sign : Sign) (s : Edge) (es : List Edge) → IsCircuit b policy sign s es → All (λ e. is_edge (within es) (line_of e) ≡ true) es
+line_within : (b : Image) (policy : Policy) (sign : Sign) (s : Edge) (es : List Edge) → IsCircuit b policy sign s es → All (λ e. is_edge (inside_edges es) (line_of e) ≡ true) es
 line_within b policy sign s es c = λ k d below.
     let l : GridEdge = line_of (get_or es k d) in
     let some : 1 ≤ count_by (λ e. same_line l (line_of e)) es = some_passes (λ e. same_line l (line_of e)) es k d below (same_line-same l) in
-    is_edge-within b policy sign s es c.boundary c.closes l
+    is_edge-inside_edges b policy sign s es c.boundary c.closes l
     ∙ odd_from_some (odd_by (λ e. same_line l (line_of e)) es) (omega (arith, some, count_by-line b policy sign s es c l))
 
 along : (b w : Image) (policy : Policy) (sign : Sign) (es : List Edge) (s z : Edge) → ((m : GridEdge) → is_edge b m ≡ false → is_edge w m ≡ false)
@@ -142,13 +142,13 @@ first_right_of w zero y left = refl
 first_right_of w (suc x) y left = left x (omega arith)
 
 -- the edges of a path are boundary edges of its inside
-pub boundary_within : (b : Image) (policy : Policy) (sign : Sign) (x y : ℕ) (es : List Edge) → IsFirstBlack b x y → IsCircuit b policy sign (first_edge x y) es → All (IsBoundary (within es)) es
+pub boundary_within : (b : Image) (policy : Policy) (sign : Sign) (x y : ℕ) (es : List Edge) → IsFirstBlack b x y → IsCircuit b policy sign (first_edge x y) es → All (IsBoundary (inside_edges es)) es
 boundary_within b policy sign x y es first c =
     let s : Edge = first_edge x y in
-    let start : IsBoundary (within es) s = record {
+    let start : IsBoundary (inside_edges es) s = record {
       black_left = inside_start b policy sign x y es first c;
-      white_right = first_right_of (within es) x y (λ u left. inside_before b policy sign x y u y es first c (inr (refl, left)));
+      white_right = first_right_of (inside_edges es) x y (λ u left. inside_before b policy sign x y u y es first c (inr (refl, left)));
     } in
-    along b (within es) policy sign es s s
-    (λ m white. is_edge-within b policy sign s es c.boundary c.closes m ∙ odd_by-no_edge b policy sign s es c m white)
+    along b (inside_edges es) policy sign es s s
+    (λ m white. is_edge-inside_edges b policy sign s es c.boundary c.closes m ∙ odd_by-no_edge b policy sign s es c m white)
     c.boundary start c.closes (line_within b policy sign s es c)

@@ -13,7 +13,7 @@ use Rattle.path_decompose.specs.GridEdges.{GridEdge, upright, level, same_line, 
 use Rattle.path_decompose.specs.Walk.{IsTrail, first_edge}
 use Rattle.path_decompose.specs.Inside.{is_crossed}
 use Rattle.path_decompose.proofs.Parity.{odd_by, odd_by-agree}
-use Rattle.path_decompose.proofs.EdgeLine.{line_of, within}
+use Rattle.path_decompose.proofs.EdgeLine.{line_of, inside_edges}
 use Rattle.path_decompose.proofs.Round.{IsCircuit, all_boundary}
 use Rattle.path_decompose.proofs.Once.{none_passes, count_by-line, is_edge-line_of}
 
@@ -47,7 +47,7 @@ not_crossed_before b x y u v (upright a c) first before edge =
       | inr not_crossed ↦ not_crossed
     ]
 
-pub inside_before : (b : Image) (policy : Policy) (sign : Sign) (x y u v : ℕ) (es : List Edge) → IsFirstBlack b x y → IsCircuit b policy sign (first_edge x y) es → IsEarlierPixel u v x y → within es u v ≡ false
+pub inside_before : (b : Image) (policy : Policy) (sign : Sign) (x y u v : ℕ) (es : List Edge) → IsFirstBlack b x y → IsCircuit b policy sign (first_edge x y) es → IsEarlierPixel u v x y → inside_edges es u v ≡ false
 inside_before b policy sign x y u v es first c before =
     (none_passes (λ e. is_crossed u v (line_of e)) es
     (λ k d short. not_crossed_before b x y u v (line_of (get_or es k d)) first before (is_edge-line_of b (get_or es k d) (all_boundary b policy sign (first_edge x y) es c k d short)))).0
@@ -82,9 +82,9 @@ some_at_start : (f : Edge → Edge) (x y : ℕ) (es : List Edge) → 1 ≤ lengt
 some_at_start f x y [] some run = absurd (omega arith)
 some_at_start f x y (e ∷ es) some run = first_passes x y e es run.0
 
-pub inside_start : (b : Image) (policy : Policy) (sign : Sign) (x y : ℕ) (es : List Edge) → IsFirstBlack b x y → IsCircuit b policy sign (first_edge x y) es → within es x y ≡ true
+pub inside_start : (b : Image) (policy : Policy) (sign : Sign) (x y : ℕ) (es : List Edge) → IsFirstBlack b x y → IsCircuit b policy sign (first_edge x y) es → inside_edges es x y ≡ true
 inside_start b policy sign x y es first c =
-    let agree : within es x y ≡ odd_by (λ e. same_line (upright x y) (line_of e)) es =
+    let agree : inside_edges es x y ≡ odd_by (λ e. same_line (upright x y) (line_of e)) es =
     odd_by-agree (λ e. is_crossed x y (line_of e)) (λ e. same_line (upright x y) (line_of e)) es
     (λ k d short. crossed_at_start b x y (line_of (get_or es k d)) first (is_edge-line_of b (get_or es k d) (all_boundary b policy sign (first_edge x y) es c k d short))) in
     let once = count_by-line b policy sign (first_edge x y) es c (upright x y) in
