@@ -37,6 +37,7 @@ pub record ReadsTo (pages : ℕ) (first : List Item) (contents : Contents) (mann
   pub goes_on : GoesOn before
   pub count : page_count (first ++ before) ≡ pages
 
+-- the same, where it is told what the files hold
 abbrev pub IfReadsTo : ℕ → List Item → Option Contents → Manner → List (List ℕ) → Past → Source → Source → Type 0
 IfReadsTo pages first None manner names past source source_now = Unit {0}
 IfReadsTo pages first (Some contents) manner names past source source_now = ReadsTo pages first contents manner names past source source_now

@@ -110,9 +110,11 @@ row_place false height i = i
 
 -- What follows a header, by what the program keeps of it.
 
+-- the bytes of a row, which are filled up to four
 abbrev pub row_bytes_by : Header → ℕ
 row_bytes_by h = 4 * ((h.width * bits_in h.depth + 31) / 32)
 
+-- the raw page of these rows, as the file holds them
 abbrev pub picture_by : Header → List (List Entry) → Raw
 picture_by h rows = record {
   width = h.width;

@@ -34,6 +34,7 @@ pub record IsNumberAt (text : List ℕ) (at most value end : ℕ) : Type 0 where
   pub ends : EndsNumber (drop end text)
   pub small : value ≤ most
 
+-- no such number stands there
 abbrev pub IsNoNumberAt : List ℕ → ℕ → ℕ → Type 0
 IsNoNumberAt text at most = (n : ℕ) (rest : List ℕ) → n ≤ most → EndsNumber rest → drop at text ≢ decimal n ++ rest
 
@@ -43,6 +44,7 @@ pub record IsPointAt (text : List ℕ) (at width height : ℕ) (point : Point) (
   pub spelled : IsSpelled text at end (point_text point)
   pub ends : EndsNumber (drop end text)
 
+-- no such point stands there
 abbrev pub IsNoPointAt : List ℕ → ℕ → ℕ → ℕ → Type 0
 IsNoPointAt text at width height = (p : Point) (rest : List ℕ) → IsCornerOf width height p → EndsNumber rest → drop at text ≢ point_text p ++ rest
 
@@ -54,6 +56,7 @@ pub record IsHeadAt (text : List ℕ) (at end : ℕ) : Type 0 where
   pub spelled : IsSpelled text at end (sign_text sign ++ codes " " ++ decimal area)
   pub ends : EndsNumber (drop end text)
 
+-- no sign with an area stands there
 abbrev pub IsNoHeadAt : List ℕ → ℕ → Type 0
 IsNoHeadAt text at = (sign : Sign) (area : ℕ) (rest : List ℕ) → area < 2 ^ 64 → EndsNumber rest → drop at text ≢ (sign_text sign ++ codes " " ++ decimal area) ++ rest
 
@@ -62,6 +65,7 @@ pub record AreLoopAt (text : List ℕ) (at end width height : ℕ) (points : Lis
   pub loop : IsLoop width height points
   pub spelled : IsSpelled text at end (flat_map point_text points ++ codes "\n")
 
+-- no loop with the end of the line stands there
 abbrev pub IsNoLoopAt : List ℕ → ℕ → ℕ → ℕ → Type 0
 IsNoLoopAt text at width height = (points : List Point) (rest : List ℕ) → IsLoop width height points → drop at text ≢ flat_map point_text points ++ 10 ∷ rest
 
@@ -70,6 +74,7 @@ pub record IsPathAt (text : List ℕ) (at end width height : ℕ) (path : Path) 
   pub told : IsToldPath width height path
   pub spelled : IsSpelled text at end (path_text path)
 
+-- no path stands there
 abbrev pub IsNoPathAt : List ℕ → ℕ → ℕ → ℕ → Type 0
 IsNoPathAt text at width height = (path : Path) (rest : List ℕ) → IsToldPath width height path → drop at text ≢ path_text path ++ rest
 
@@ -89,6 +94,7 @@ pub record IsSidesLine (text : List ℕ) (width height count end : ℕ) : Type 0
   pub within : end ≤ length text
   pub split : text ≡ codes "points " ++ (decimal width ++ (32 ∷ (decimal height ++ (32 ∷ (decimal count ++ (10 ∷ drop end text))))))
 
+-- the text doesn't begin with such a line
 abbrev pub IsNoSidesLine : List ℕ → Type 0
 IsNoSidesLine text = (width height count : ℕ) (rest : List ℕ) → 1 ≤ width → width ≤ LONGEST_SIDE → 1 ≤ height → height ≤ LONGEST_SIDE → count < 2 ^ 32
     → text ≢ codes "points " ++ (decimal width ++ (32 ∷ (decimal height ++ (32 ∷ (decimal count ++ (10 ∷ rest))))))
