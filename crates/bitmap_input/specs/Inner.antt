@@ -2,6 +2,8 @@
 pub mod Behind
 pub mod BmpHead
 pub mod BmpHeader
+pub mod Buffer
+pub mod ByteRuns
 pub mod FaultText
 pub mod GrayReader
 pub mod GrayRows
@@ -9,8 +11,6 @@ pub mod Header
 pub mod Number
 pub mod Raster
 pub mod Reading
-pub mod ByteRuns
 pub mod Shading
 pub mod Skip
 pub mod Stored
-pub mod Buffer

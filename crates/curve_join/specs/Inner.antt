@@ -3,5 +3,5 @@ pub mod Bends
 pub mod Choice
 pub mod Costs
 pub mod Cubic
-pub mod Halves
 pub mod CutSearch
+pub mod Halves

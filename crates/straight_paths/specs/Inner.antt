@@ -3,10 +3,10 @@ pub mod Codes
 pub mod Cones
 pub mod Corners
 pub mod Courses
+pub mod NextSteps
 pub mod Slopes
 pub mod Strips
 pub mod Sweeps
 pub mod Tables
 pub mod Tails
 pub mod Wedges
-pub mod NextSteps
