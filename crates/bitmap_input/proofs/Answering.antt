@@ -11,8 +11,8 @@ use Rattle.bitmap_input.specs.declared.fault.InFault.{InFault}
 use Rattle.bitmap_input.specs.declared.fault.InFault.TheVariants as fault
 use Rattle.bitmap_input.specs.declared.next.Next.{Next}
 use Rattle.bitmap_input.specs.declared.next.Next.TheVariants as next
-use Rattle.bitmap_input.specs.Cut.{Ending, is_by_end}
-use Rattle.bitmap_input.specs.Cut.Ending.{End, Trailing}
+use Rattle.bitmap_input.specs.Cut.{FileEnd, is_by_end}
+use Rattle.bitmap_input.specs.Cut.FileEnd.{End, Trailing}
 use Rattle.bitmap_input.specs.Cut.Cut.{Takes}
 use Rattle.bitmap_input.specs.Raw.{Raw, shown}
 use Rattle.bitmap_input.specs.Inner.Behind.{IsRead, counted_page}
@@ -40,7 +40,7 @@ if_nothing None = tt
 if_nothing (Some rest) = tt
 
 -- what is said of an ending holds where there is one
-pub if_says : (why : Cause) (P : Ending → Type 0) → ((ending : Ending) → why ≡ Says ending → P ending) → IfSays why P
+pub if_says : (why : Cause) (P : FileEnd → Type 0) → ((ending : FileEnd) → why ≡ Says ending → P ending) → IfSays why P
 if_says (Says ending) P each = each ending refl
 if_says Device P each = tt
 if_says Memory P each = tt
@@ -104,7 +104,7 @@ module _ (level : ℕ) (invert : Bool) (h h2 : Buffered) (skip skip2 pages pages
       subst (λ c. StopsBy c (cause_of stop) h2) (forget-page (is_later old) (ahead old r.more))
       (stops_forget (counted_page (is_later old) (ahead old r.more)) (cause_of stop) h2 r.gives)
 
-  pub gives_ending : (stop : Stop) → ReadsAhead (Err stop) → pages2 ≡ pages → over ≡ true → (ending : Ending) →
+  pub gives_ending : (stop : Stop) → ReadsAhead (Err stop) → pages2 ≡ pages → over ≡ true → (ending : FileEnd) →
       cause_of stop ≡ Says ending → GivesEnding old before ending new now
   gives_ending stop r counted is_over ending why =
       let (e, is, settled) = subst (λ why. StopsBy (page_at (is_later old) (ahead old r.more)) why h2) why (stops_ahead stop r) in
@@ -174,14 +174,14 @@ module _ (level : ℕ) (invert : Bool) (h h2 : Buffered) (skip skip2 pages pages
             (left_behind gives.used skip2 (next_begins taken gives.raw gives.used) taken tail within.0 (omega arith) gives.skipped));
       })
 
-  pub told_ending : {ending : Ending} → (h.ended ≡ true → AtEnd before) → GivesEnding old before ending new now →
+  pub told_ending : {ending : FileEnd} → (h.ended ≡ true → AtEnd before) → GivesEnding old before ending new now →
       IfSome (unread before) (λ rest. front (is_later old) (ahead old rest) ≡ Ends ending)
   told_ending {ending} at_end gives =
       where_told (unread before) (λ rest. front (is_later old) (ahead old rest) ≡ Ends ending) (λ rest is.
       answer_told (is_by_end (page_at (is_later old) (ahead old gives.answers.more))) rest at_end is gives.answers refl)
 
   -- the same of a fault that the bytes say
-  pub told_says : (why : Cause) → (h.ended ≡ true → AtEnd before) → ((ending : Ending) → why ≡ Says ending → GivesEnding old before ending new now) →
+  pub told_says : (why : Cause) → (h.ended ≡ true → AtEnd before) → ((ending : FileEnd) → why ≡ Says ending → GivesEnding old before ending new now) →
       IfSome (unread before) (λ rest. IfSays why (λ ending. front (is_later old) (ahead old rest) ≡ Ends ending))
   told_says (Says ending) at_end gives = told_ending at_end (gives ending refl)
   told_says Device at_end gives = if_nothing (unread before)

@@ -4,11 +4,11 @@ use Rattle.std.proofs.Common.{◌≡◌, refl, ℕ, zero, suc, ◌*◌, ◌≤�
 use Rattle.std.specs.Prelude.{nat_eq, nat_lt}
 use Rattle.std.proofs.lemmas.List.{take-append-le, drop-append-le, length-append}
 use Rattle.std.proofs.lemmas.Bool.{ltb-true, lt-ltb, le-ltb, ltb-false}
-use Rattle.bitmap_input.specs.Cut.{Kind, Ending, Cut, is_by_end, after, ◌>>=◌}
+use Rattle.bitmap_input.specs.Cut.{Kind, FileEnd, Cut, is_by_end, after, ◌>>=◌}
 use Rattle.bitmap_input.specs.Cut.Kind.{BadHeader, ZeroSide, TooLarge, BadRaster}
-use Rattle.bitmap_input.specs.Cut.Ending.{Refused}
+use Rattle.bitmap_input.specs.Cut.FileEnd.{Refused}
 use Rattle.bitmap_input.specs.Cut.Cut.{Takes, Stops}
-use Rattle.bitmap_input.specs.Parts.{longest, is_zero, is_empty, is_space, is_digit, run_length, gap_length, missing, run_of, spaces, gap, some_gap, value, number, number_behind_gap, space, pixel, block, repeated}
+use Rattle.bitmap_input.specs.PageParts.{longest, is_zero, is_empty, is_space, is_digit, run_length, gap_length, missing, run_of, spaces, gap, some_gap, value, number, number_behind_gap, space, pixel, block, repeated}
 use Rattle.bitmap_input.specs.Raw.{Entry, entries_page, row_bytes, unpacked}
 use Rattle.bitmap_input.specs.Front.{Magic, no_magic, magic_of_name, magic_named, magic_behind, magic, checked, sides, checked_maxval, maxval, greatest_maxval, plain_pixel, raw_row, rows_raster}
 use Rattle.bitmap_input.specs.Samples.{samples_in, plain_sample, plain_samples, is_wide, sample_bytes, samples, grouped, raw_samples_row}
@@ -59,7 +59,7 @@ pick_stays : {A : Type 0} (t : Bool) (c d c2 d2 : Cut A) (more : List ℕ) →
 pick_stays true c d c2 d2 more first second not_end = first not_end
 pick_stays false c d c2 d2 more first second not_end = second not_end
 
-pub stop_stays : {A : Type 0} (e : Bool) (ending : Ending) → Stays {A = A} (λ _. Stops e ending)
+pub stop_stays : {A : Type 0} (e : Bool) (ending : FileEnd) → Stays {A = A} (λ _. Stops e ending)
 stop_stays e ending bytes more not_end = refl
 
 pub take_stays : {A : Type 0} (e : Bool) (x : A) → Stays (Takes e x)

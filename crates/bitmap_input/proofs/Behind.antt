@@ -8,7 +8,7 @@ use Rattle.bit_image.specs.Page.{Page as Pixels}
 use Rattle.bitmap_input.specs.declared.stop.Stop.{Stop}
 use Rattle.bitmap_input.specs.Cut.{Cut, is_by_end, after, ◌>>=◌}
 use Rattle.bitmap_input.specs.Cut.Cut.{Takes, Stops}
-use Rattle.bitmap_input.specs.Parts.{longest, is_empty, is_space, run_length, run_of, spaces, space, repeated}
+use Rattle.bitmap_input.specs.PageParts.{longest, is_empty, is_space, run_length, run_of, spaces, space, repeated}
 use Rattle.bitmap_input.specs.Raw.{Raw, Entry, entries_page, IsShown}
 use Rattle.bitmap_input.specs.Raw.Entry.{Bit}
 use Rattle.bitmap_input.specs.Front.{Magic, no_magic, magic_of_name, magic_named, magic_behind, magic, sides, maxval, plain_pixel, raw_row, rows_raster, body, page_at, answer_of, front}
@@ -23,7 +23,7 @@ use Rattle.bitmap_input.specs.Reading.Cause.{Says, Device, Memory}
 use Rattle.bitmap_input.specs.Inner.Skip.{passed_over}
 use Rattle.bitmap_input.specs.Inner.Behind.{counted, counted_body, counted_page, IsRead, claiming_none}
 use Rattle.bitmap_input.proofs.Bytes.{run_length-le, run_length-append}
-use Rattle.bitmap_input.proofs.Keeping.{Keeps}
+use Rattle.bitmap_input.proofs.Keeping.{LeavesEnd}
 use Rattle.bitmap_input.proofs.FrontKeeps.{keeps_body}
 use Rattle.bitmap_input.proofs.BmpLengths.{Cuts, cuts_bind, cuts_take}
 use Rattle.bitmap_input.proofs.Appending.{after-false}
@@ -157,7 +157,7 @@ cuts_magic false [] e m rest h = cc
 cuts_magic true (a ∷ bs) e m rest h = cuts_behind true a bs e m rest h
 cuts_magic false (a ∷ bs) e m rest h = cuts_behind false a bs e m rest h
 
-cuts_counted : {A : Type 0} (bytes : List ℕ) (c : Cut A) → Keeps bytes c → Cuts (λ p rest. length bytes ≡ p.1 + length rest) (counted bytes c)
+cuts_counted : {A : Type 0} (bytes : List ℕ) (c : Cut A) → LeavesEnd bytes c → Cuts (λ p rest. length bytes ≡ p.1 + length rest) (counted bytes c)
 cuts_counted bytes (Stops e ending) keeps d p rest h = cc
 cuts_counted bytes (Takes e a rest) keeps d p left h =
     let (front, is) = keeps e a rest refl in

@@ -12,12 +12,12 @@ use Rattle.bitmap_input.specs.declared.stop.Stop.{Stop}
 use Rattle.bitmap_input.specs.declared.stop.Stop.TheVariants as stop
 use Rattle.bitmap_input.specs.Cut.{is_by_end}
 use Rattle.bitmap_input.specs.Cut.Kind.{Truncated}
-use Rattle.bitmap_input.specs.Cut.Ending.{Refused}
+use Rattle.bitmap_input.specs.Cut.FileEnd.{Refused}
 use Rattle.bitmap_input.specs.Cut.Cut.{Takes, Stops}
-use Rattle.bitmap_input.specs.Parts.{block}
+use Rattle.bitmap_input.specs.PageParts.{block}
 use Rattle.bitmap_input.specs.Reading.{Buffered, Moves, AreNeeded}
 use Rattle.bitmap_input.specs.Inner.Reading.{Reads}
-use Rattle.bitmap_input.specs.Inner.Window.{ReadsOn}
+use Rattle.bitmap_input.specs.Inner.Buffer.{ReadsOn}
 use Rattle.bitmap_input.proofs.Needing.{needs_none, needs_look}
 use Rattle.bitmap_input.proofs.Telling.{not_true, stand, move_on}
 use Rattle.bitmap_input.proofs.Running.{two_splits}

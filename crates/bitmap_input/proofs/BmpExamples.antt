@@ -1,10 +1,10 @@
 -- The definitions of BMP on small pictures.
 use Rattle.std.proofs.Common.{◌≡◌, refl, ℕ, true, false, List, [], ◌∷◌, ◌++◌, take, drop}
 use Rattle.bitmap_input.specs.Cut.Kind.{BmpKind, Truncated, ZeroSide, BadOffset}
-use Rattle.bitmap_input.specs.Cut.Ending.{Refused}
+use Rattle.bitmap_input.specs.Cut.FileEnd.{Refused}
 use Rattle.bitmap_input.specs.Cut.Cut.{Stops}
 use Rattle.std.specs.Prelude.{codes}
-use Rattle.bitmap_input.specs.Cut.Ending.{End}
+use Rattle.bitmap_input.specs.Cut.FileEnd.{End}
 use Rattle.bitmap_input.specs.FilePages.{FilePages}
 use Rattle.bitmap_input.specs.FilePages.FilePages.{Ended, Next}
 use Rattle.bitmap_input.specs.Raw.{Raw}

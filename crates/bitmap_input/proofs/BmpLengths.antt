@@ -6,12 +6,12 @@ use Rattle.std.proofs.lemmas.List.{length-append, length-take-le, length-drop}
 use Rattle.std.proofs.lemmas.Bool.{ltb-false, leb-true, eqb-true, both_ways}
 use Rattle.std.proofs.lemmas.Bool.Decides.{nat_tests}
 use Rattle.std.proofs.Math.ListN.{get_or-append}
-use Rattle.bitmap_input.specs.Cut.{Kind, Ending, Cut, after, ◌>>=◌}
+use Rattle.bitmap_input.specs.Cut.{Kind, FileEnd, Cut, after, ◌>>=◌}
 use Rattle.bitmap_input.specs.Inner.Behind.{counted}
 use Rattle.bitmap_input.specs.Cut.Kind.{BmpKind, BadOffset, Truncated, ZeroSide, TooLarge}
-use Rattle.bitmap_input.specs.Cut.Ending.{Refused}
+use Rattle.bitmap_input.specs.Cut.FileEnd.{Refused}
 use Rattle.bitmap_input.specs.Cut.Cut.{Takes, Stops}
-use Rattle.bitmap_input.specs.Parts.{is_zero, block, repeated}
+use Rattle.bitmap_input.specs.PageParts.{is_zero, block, repeated}
 use Rattle.bitmap_input.specs.Sides.{checked}
 use Rattle.bitmap_input.specs.Raw.{Raw}
 use Rattle.bitmap_input.specs.BmpHeader.{byte_at, two_at, four_at, header_size, is_short, bits, has_masks, is_known_size, is_known_kind, mask_bytes, has_known_colors, width, height, pixel_offset, palette_bytes, palette_end, row_length, palette_length, color_bytes, file_size}
@@ -45,17 +45,17 @@ cuts_passes P kind true x bytes holds e a rest h = cuts_take P false x bytes (ho
 cuts_passes P kind false x bytes holds e a rest h = cc
 
 -- a block has its length
-abbrev pub IsBlock : ℕ → List ℕ → List ℕ → List ℕ → Type 0
-IsBlock n bytes xs rest = (length xs ≡ n) × (length bytes ≡ n + length rest)
+abbrev pub HasBlockLength : ℕ → List ℕ → List ℕ → List ℕ → Type 0
+HasBlockLength n bytes xs rest = (length xs ≡ n) × (length bytes ≡ n + length rest)
 
 block_taken : (t : Bool) (n : ℕ) (bytes : List ℕ) → nat_lt (length bytes) n ≡ t →
-    Cuts (IsBlock n bytes) (cond t (Stops true (Refused Truncated)) (Takes false (take n bytes) (drop n bytes)))
+    Cuts (HasBlockLength n bytes) (cond t (Stops true (Refused Truncated)) (Takes false (take n bytes) (drop n bytes)))
 block_taken true n bytes test e a rest h = cc
 block_taken false n bytes test e a rest h =
     let within : n ≤ length bytes = ltb-false (length bytes) n test in
-    cuts_take (IsBlock n bytes) false (take n bytes) (drop n bytes) (length-take-le n bytes within, omega (arith, length-drop n bytes)) e a rest h
+    cuts_take (HasBlockLength n bytes) false (take n bytes) (drop n bytes) (length-take-le n bytes within, omega (arith, length-drop n bytes)) e a rest h
 
-pub cuts_block : (n : ℕ) (bytes : List ℕ) → Cuts (IsBlock n bytes) (block n bytes)
+pub cuts_block : (n : ℕ) (bytes : List ℕ) → Cuts (HasBlockLength n bytes) (block n bytes)
 cuts_block n bytes = block_taken (nat_lt (length bytes) n) n bytes refl
 
 -- a part that takes k bytes, n times
@@ -179,21 +179,21 @@ masks_within head is masked = masked_at (is_short head) head is refl masked
 
 cuts_start : (bytes : List ℕ) → Cuts (λ head rest. IsHeaderStart head × (length bytes ≡ length head + length rest)) (start bytes)
 cuts_start bytes =
-    cuts_bind (IsBlock 16 bytes) (λ head rest. IsHeaderStart head × (length bytes ≡ length head + length rest)) (block 16 bytes)
+    cuts_bind (HasBlockLength 16 bytes) (λ head rest. IsHeaderStart head × (length bytes ≡ length head + length rest)) (block 16 bytes)
     (λ head rest. passes BmpKind (is_known_size (header_size head)) head rest) (cuts_block 16 bytes)
     (λ head rest is. cuts_passes (λ head rest. IsHeaderStart head × (length bytes ≡ length head + length rest)) BmpKind (is_known_size (header_size head)) head rest
     (λ known. (record { reach = is.0; known = known }, omega (arith, is.0, is.1))))
 
 cuts_info : (head bytes : List ℕ) → IsHeaderStart head → Cuts (λ whole rest. IsInfo whole × (length head + length bytes ≡ length whole + length rest)) (info head bytes)
 cuts_info head bytes begun =
-    cuts_bind (IsBlock (header_size head - 4) bytes) (λ whole rest. IsInfo whole × (length head + length bytes ≡ length whole + length rest)) (block (header_size head - 4) bytes)
+    cuts_bind (HasBlockLength (header_size head - 4) bytes) (λ whole rest. IsInfo whole × (length head + length bytes ≡ length whole + length rest)) (block (header_size head - 4) bytes)
     (λ more rest. passes BmpKind (is_known_kind (head ++ more)) (head ++ more) rest) (cuts_block (header_size head - 4) bytes)
     (λ more rest is. cuts_passes (λ whole rest. IsInfo whole × (length head + length bytes ≡ length whole + length rest)) BmpKind (is_known_kind (head ++ more)) (head ++ more) rest
     (λ _. (info_grown head more begun is.0, omega (arith, is.0, is.1, length-append head more))))
 
 cuts_masks : (head bytes : List ℕ) → IsInfo head → Cuts (λ whole rest. IsWholeHeader whole × (length head + length bytes ≡ length whole + length rest)) (masks head bytes)
 cuts_masks head bytes begun =
-    cuts_bind (IsBlock (mask_bytes head) bytes) (λ whole rest. IsWholeHeader whole × (length head + length bytes ≡ length whole + length rest)) (block (mask_bytes head) bytes)
+    cuts_bind (HasBlockLength (mask_bytes head) bytes) (λ whole rest. IsWholeHeader whole × (length head + length bytes ≡ length whole + length rest)) (block (mask_bytes head) bytes)
     (λ more rest. passes BmpKind (has_known_colors (head ++ more)) (head ++ more) rest) (cuts_block (mask_bytes head) bytes)
     (λ more rest is. cuts_passes (λ whole rest. IsWholeHeader whole × (length head + length bytes ≡ length whole + length rest)) BmpKind (has_known_colors (head ++ more)) (head ++ more) rest
     (λ _. (masks_grown head more begun is.0, omega (arith, is.0, is.1, length-append head more))))
@@ -202,7 +202,7 @@ cuts_cond : {A : Type 0} (P : A → List ℕ → Type 0) (t : Bool) (c d : Cut A
 cuts_cond P true c d first second = first
 cuts_cond P false c d first second = second
 
-cuts_stop : {A : Type 0} (P : A → List ℕ → Type 0) (e : Bool) (ending : Ending) → Cuts P (Stops e ending)
+cuts_stop : {A : Type 0} (P : A → List ℕ → Type 0) (e : Bool) (ending : FileEnd) → Cuts P (Stops e ending)
 cuts_stop P e ending d a rest h = cc
 
 cuts_checked : (w h : ℕ) (bytes : List ℕ) → Cuts (λ _ rest. length rest ≡ length bytes) (checked w h bytes)
@@ -214,19 +214,19 @@ cuts_checked w h bytes =
     (cuts_stop (λ _ rest. length rest ≡ length bytes) false (Refused TooLarge)) (cuts_take (λ _ rest. length rest ≡ length bytes) false (w, h) bytes refl))
 
 -- the header is whole, and its pixels begin behind its palette
-abbrev pub IsPlaced : List ℕ → Type 0
-IsPlaced head = IsWholeHeader head × (palette_end head ≤ pixel_offset head)
+abbrev pub HasPlacedPixels : List ℕ → Type 0
+HasPlacedPixels head = IsWholeHeader head × (palette_end head ≤ pixel_offset head)
 
-cuts_placed : (head bytes : List ℕ) → IsWholeHeader head → Cuts (λ whole rest. IsPlaced whole × (length head + length bytes ≡ length whole + length rest)) (placed head bytes)
+cuts_placed : (head bytes : List ℕ) → IsWholeHeader head → Cuts (λ whole rest. HasPlacedPixels whole × (length head + length bytes ≡ length whole + length rest)) (placed head bytes)
 cuts_placed head bytes begun =
-    cuts_bind (λ _ rest. length rest ≡ length bytes) (λ whole rest. IsPlaced whole × (length head + length bytes ≡ length whole + length rest)) (checked (width head) (height head) bytes)
+    cuts_bind (λ _ rest. length rest ≡ length bytes) (λ whole rest. HasPlacedPixels whole × (length head + length bytes ≡ length whole + length rest)) (checked (width head) (height head) bytes)
     (λ _ rest. passes BadOffset (nat_le (palette_end head) (pixel_offset head)) head rest) (cuts_checked (width head) (height head) bytes)
-    (λ _ rest is. cuts_passes (λ whole rest. IsPlaced whole × (length head + length bytes ≡ length whole + length rest)) BadOffset (nat_le (palette_end head) (pixel_offset head)) head rest
+    (λ _ rest is. cuts_passes (λ whole rest. HasPlacedPixels whole × (length head + length bytes ≡ length whole + length rest)) BadOffset (nat_le (palette_end head) (pixel_offset head)) head rest
     (λ behind. ((begun, leb-true (palette_end head) (pixel_offset head) behind), ap (λ n. length head + n) (sym is))))
 
-pub cuts_header : (bytes : List ℕ) → Cuts (λ head rest. IsPlaced head × (length bytes ≡ length head + length rest)) (header bytes)
+pub cuts_header : (bytes : List ℕ) → Cuts (λ head rest. HasPlacedPixels head × (length bytes ≡ length head + length rest)) (header bytes)
 cuts_header bytes =
-    let P = λ (head rest : List ℕ). IsPlaced head × (length bytes ≡ length head + length rest) in
+    let P = λ (head rest : List ℕ). HasPlacedPixels head × (length bytes ≡ length head + length rest) in
     cuts_bind (λ head rest. IsHeaderStart head × (length bytes ≡ length head + length rest)) P (start bytes)
     (λ head rest. info head rest >>= λ head rest. masks head rest >>= λ head rest. placed head rest) (cuts_start bytes)
     (λ head rest is. cuts_bind (λ whole left. IsInfo whole × (length head + length rest ≡ length whole + length left)) P (info head rest)
@@ -244,7 +244,7 @@ sum_of_parts n a b c r r2 r3 h h2 h3 = omega arith
 
 cuts_row_of : (head palette bytes : List ℕ) → Cuts (λ _ rest. length bytes ≡ row_length head + length rest) (bmp_row head palette bytes)
 cuts_row_of head palette bytes =
-    cuts_bind (IsBlock (row_length head) bytes) (λ _ rest. length bytes ≡ row_length head + length rest) (block (row_length head) bytes)
+    cuts_bind (HasBlockLength (row_length head) bytes) (λ _ rest. length bytes ≡ row_length head + length rest) (block (row_length head) bytes)
     (λ row rest. Takes false (map (pixel_in (bits head) (palette_color (palette_length head) (color_bytes head) palette) row) (range_with_len 0 (width head))) rest) (cuts_block (row_length head) bytes)
     (λ row rest is. cuts_take (λ _ rest. length bytes ≡ row_length head + length rest) false (map (pixel_in (bits head) (palette_color (palette_length head) (color_bytes head) palette) row) (range_with_len 0 (width head))) rest is.1)
 
@@ -253,10 +253,10 @@ pub cuts_raster : (head bytes : List ℕ) →
     × (length bytes ≡ palette_bytes head + (pixel_offset head - palette_end head) + height head * row_length head + length rest)) (raster head bytes)
 cuts_raster head bytes =
     let Q = λ (raw : Raw) (rest : List ℕ). (raw.least_length ≡ file_size head) × (length bytes ≡ palette_bytes head + (pixel_offset head - palette_end head) + height head * row_length head + length rest) in
-    cuts_bind (IsBlock (palette_bytes head) bytes) Q (block (palette_bytes head) bytes)
+    cuts_bind (HasBlockLength (palette_bytes head) bytes) Q (block (palette_bytes head) bytes)
     (λ palette rest. block (pixel_offset head - palette_end head) rest >>= λ _ rest. repeated (bmp_row head palette) (height head) rest >>= λ rows rest. Takes false (picture head rows) rest)
     (cuts_block (palette_bytes head) bytes)
-    (λ palette rest is. cuts_bind (IsBlock (pixel_offset head - palette_end head) rest) Q (block (pixel_offset head - palette_end head) rest)
+    (λ palette rest is. cuts_bind (HasBlockLength (pixel_offset head - palette_end head) rest) Q (block (pixel_offset head - palette_end head) rest)
     (λ _ rest. repeated (bmp_row head palette) (height head) rest >>= λ rows rest. Takes false (picture head rows) rest)
     (cuts_block (pixel_offset head - palette_end head) rest)
     (λ gap rest2 is2. cuts_bind (λ _ left. length rest2 ≡ height head * row_length head + length left) Q (repeated (bmp_row head palette) (height head) rest2)
@@ -283,7 +283,7 @@ rows_counted : {A : Type 0} (d : Bool) (bytes : List ℕ) (head : List ℕ) (k :
 rows_counted d bytes head k (Stops e ending) taken = refl
 rows_counted d bytes head k (Takes e a rest) taken = rw (taken e a rest refl, or_no d e) refl
 
-picture_counted : (bytes : List ℕ) (c : Cut (List ℕ)) → Cuts (λ head rest. IsPlaced head × (length bytes ≡ length head + length rest)) c →
+picture_counted : (bytes : List ℕ) (c : Cut (List ℕ)) → Cuts (λ head rest. HasPlacedPixels head × (length bytes ≡ length head + length rest)) c →
     (c >>= λ head rest. raster head rest >>= λ raw rest. Takes false (raw, rows_end head - 2) rest) ≡ counted bytes (c >>= λ head rest. raster head rest)
 picture_counted bytes (Stops e ending) cuts = refl
 picture_counted bytes (Takes d head mid) cuts =

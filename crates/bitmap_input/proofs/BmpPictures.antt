@@ -12,7 +12,7 @@ use Rattle.bitmap_input.specs.declared.stop.Stop.{Stop}
 use Rattle.bitmap_input.specs.declared.bmp.header.Header.{Header}
 use Rattle.bitmap_input.specs.Cut.{Cut, ◌>>=◌}
 use Rattle.bitmap_input.specs.Cut.Cut.{Takes}
-use Rattle.bitmap_input.specs.Parts.{repeated}
+use Rattle.bitmap_input.specs.PageParts.{repeated}
 use Rattle.bitmap_input.specs.Raw.{Raw, Entry, black, picture_of, shown, IsShown}
 use Rattle.bitmap_input.specs.BmpHeader.{file_size}
 use Rattle.bitmap_input.specs.Inner.BmpHeader.{rows_end}

@@ -4,14 +4,14 @@ use Rattle.std.proofs.Common.{◌≡◌, refl, ◌+◌, ◌-◌, ◌<◌, arith,
 use Rattle.pt_core.specs.Files.{Files}
 use Rattle.bitmap_input.specs.declared.stop.Stop.{Stop}
 use Rattle.bitmap_input.specs.Cut.{Kind, Cut}
-use Rattle.bitmap_input.specs.Cut.Ending.{Refused}
+use Rattle.bitmap_input.specs.Cut.FileEnd.{Refused}
 use Rattle.bitmap_input.specs.Cut.Cut.{Takes, Stops}
 use Rattle.bitmap_input.specs.Reading.{Buffered}
 use Rattle.bitmap_input.specs.Inner.Reading.{cause_of, StopsBy, Reads}
 use Rattle.bitmap_input.specs.Reading.Cause.{Says}
 use Rattle.bitmap_input.specs.Bmp.{passes, placed}
 use Rattle.bitmap_input.specs.Cut.Kind.{BadOffset}
-use Rattle.bitmap_input.specs.Parts.{block}
+use Rattle.bitmap_input.specs.PageParts.{block}
 use Rattle.bitmap_input.specs.BmpHeader.{header_size, bits, mask_bytes, width, height, pixel_offset, palette_end}
 use Rattle.bitmap_input.specs.Sides.{checked}
 use Rattle.std.specs.Prelude.{nat_le}

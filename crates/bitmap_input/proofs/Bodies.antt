@@ -8,7 +8,7 @@ use Rattle.bitmap_input.specs.declared.header.Sides.{Sides}
 use Rattle.bitmap_input.specs.Inner.Header.{IsSides}
 use Rattle.bitmap_input.specs.Cut.{Cut}
 use Rattle.bitmap_input.specs.Cut.Cut.{Takes}
-use Rattle.bitmap_input.specs.Parts.{repeated}
+use Rattle.bitmap_input.specs.PageParts.{repeated}
 use Rattle.bitmap_input.specs.Raw.{Entry, entries_page, black, IsShown}
 use Rattle.bitmap_input.specs.Front.{rows_raster}
 use Rattle.bitmap_input.specs.Inner.Raster.{with_rows}

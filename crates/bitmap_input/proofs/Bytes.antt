@@ -2,7 +2,7 @@
 -- and the same where the run ends before the list does.
 use Rattle.std.proofs.Common.{◌≡◌, refl, ℕ, suc, ◌≤◌, Bool, true, false, cond, not, List, [], ◌∷◌, ◌++◌, length, drop, arith, ap}
 use Rattle.std.specs.Prelude.{nat_eq}
-use Rattle.bitmap_input.specs.Parts.{is_empty, run_length, gap_length, ends_line, is_space}
+use Rattle.bitmap_input.specs.PageParts.{is_empty, run_length, gap_length, ends_line, is_space}
 
 -- the run takes the byte or not, and is within the list
 within : (t : Bool) (n : ℕ) (b : ℕ) (bs : List ℕ) → n ≤ length bs → cond t (suc n) 0 ≤ length (b ∷ bs)

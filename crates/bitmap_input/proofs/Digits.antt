@@ -1,10 +1,10 @@
 -- Numbers that are read one digit after another.
 use Rattle.std.proofs.Common.{◌≡◌, refl, ℕ, ◌+◌, ◌-◌, ◌*◌, true, false, min, List, [], ◌∷◌, ◌++◌, arith}
 use Rattle.bitmap_input.specs.Cut.{Kind}
-use Rattle.bitmap_input.specs.Cut.Ending.{Refused}
+use Rattle.bitmap_input.specs.Cut.FileEnd.{Refused}
 use Rattle.bitmap_input.specs.Cut.Cut.{Stops}
-use Rattle.bitmap_input.specs.Parts.{is_digit, value, number}
-use Rattle.bitmap_input.specs.Inner.Run.{cap, IsCapped, digits}
+use Rattle.bitmap_input.specs.PageParts.{is_digit, value, number}
+use Rattle.bitmap_input.specs.Inner.ByteRuns.{cap, IsCapped, digits}
 
 -- one more digit
 pub value_more : (n : ℕ) (ds : List ℕ) (d : ℕ) → value n (ds ++ d ∷ []) ≡ 10 * value n ds + (d - 48)

@@ -3,9 +3,9 @@ use Rattle.std.proofs.Common.{◌≡◌, refl, ℕ, Bool, true, false, inl, inr,
 use Rattle.std.specs.Prelude.{codes}
 use Rattle.bitmap_input.specs.Cut.{is_by_end}
 use Rattle.bitmap_input.specs.Cut.Kind.{UnknownFormat, BadHeader, ZeroSide, TooLarge, Truncated, BadRaster, TooLong}
-use Rattle.bitmap_input.specs.Cut.Ending.{End, Trailing, Refused}
+use Rattle.bitmap_input.specs.Cut.FileEnd.{End, Trailing, Refused}
 use Rattle.bitmap_input.specs.Cut.Cut.{Takes, Stops}
-use Rattle.bitmap_input.specs.Parts.{number, gap, gap_length, run_of}
+use Rattle.bitmap_input.specs.PageParts.{number, gap, gap_length, run_of}
 use Rattle.bitmap_input.specs.Sets.{IsGap}
 use Rattle.bitmap_input.specs.Sets.IsGap.{Nothing, Space, Comment}
 use Rattle.bitmap_input.specs.Raw.{Raw, entries_page, bits_of, picture_of}

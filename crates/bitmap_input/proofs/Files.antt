@@ -1,7 +1,7 @@
 -- The pages of a file: there is one list of them.
 use Rattle.std.proofs.Common.{◌≡◌, refl, ℕ, zero, suc, ◌≤◌, Bool, true, List, [], ◌∷◌, length, drop, arith, ap, ◌∙◌, subst}
 use Rattle.std.proofs.lemmas.List.{length-drop}
-use Rattle.bitmap_input.specs.Cut.{Ending}
+use Rattle.bitmap_input.specs.Cut.{FileEnd}
 use Rattle.bitmap_input.specs.Raw.{Raw}
 use Rattle.bitmap_input.specs.Front.{Answer, front}
 use Rattle.bitmap_input.specs.Front.Answer.{Page, Ends}
@@ -9,7 +9,7 @@ use Rattle.bitmap_input.specs.FilePages.{FilePages, next_begins}
 use Rattle.bitmap_input.specs.FilePages.FilePages.{Ended, Next}
 use Rattle.bitmap_input.proofs.FrontKeeps.{front_takes_some}
 
-pub file_pages_same : {later : Bool} {bytes : List ℕ} {raws others : List Raw} {ending other : Ending} →
+pub file_pages_same : {later : Bool} {bytes : List ℕ} {raws others : List Raw} {ending other : FileEnd} →
     FilePages later bytes raws ending → FilePages later bytes others other → (others ≡ raws) × (other ≡ ending)
 file_pages_same (Ended h) (Ended k) = (refl, cc)
 file_pages_same (Ended h) (Next k rest) = cc
@@ -23,7 +23,7 @@ file_pages_same {bytes = bytes} (Next {raw = raw} {used = used} h rest) (Next {r
 
 -- by the number of bytes that are left
 some_pages : (n : ℕ) (later : Bool) (bytes : List ℕ) → length bytes ≤ n → (answer : Answer) → front later bytes ≡ answer →
-    (raws : List Raw) × (ending : Ending) × FilePages later bytes raws ending
+    (raws : List Raw) × (ending : FileEnd) × FilePages later bytes raws ending
 some_pages n later bytes within (Ends ending) is = ([], ending, Ended is)
 some_pages zero later bytes within (Page raw used) is =
     let some = front_takes_some later bytes raw used is in absurd (omega arith)
@@ -34,5 +34,5 @@ some_pages (suc n) later bytes within (Page raw used) is =
     let (raws, ending, pages) = some_pages n true left fewer (front true left) refl in
     (raw ∷ raws, ending, Next is pages)
 
-pub file_pages_some : (later : Bool) (bytes : List ℕ) → (raws : List Raw) × (ending : Ending) × FilePages later bytes raws ending
+pub file_pages_some : (later : Bool) (bytes : List ℕ) → (raws : List Raw) × (ending : FileEnd) × FilePages later bytes raws ending
 file_pages_some later bytes = some_pages (length bytes) later bytes (omega arith) (front later bytes) refl

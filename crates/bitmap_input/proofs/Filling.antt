@@ -1,4 +1,4 @@
--- The bytes that a read puts into the window.
+-- The bytes that a read puts into the buffer.
 use Rattle.std.proofs.Common.{◌≡◌, refl, ℕ, ◌-◌, ◌≤◌, ◌<◌, true, false, inr, List, [], ◌++◌, length, take, drop, arith, ap, sym, ◌∙◌, subst, Option, IfSome}
 use Rattle.std.specs.Prelude.{nat_eq}
 use Rattle.std.proofs.lemmas.List.{length-take, length-take-le, length-drop, take-take, take-append-le}
@@ -16,7 +16,7 @@ first_of_filled n len filled items within whole =
     let fits : n ≤ len = omega arith in
     rw (same, take-take n len (filled ++ drop (length filled) items) fits, take-append-le n filled (drop (length filled) items) within) refl
 
--- a read of n bytes into the window, which was empty
+-- a read of n bytes into the buffer, which was empty
 pub read_moves : (before now : Option Files) (n len : ℕ) (filled items : List ℕ) → n ≤ length filled → length filled ≡ len → 0 < len →
     IfSome (unread before) (λ rest. IsFront rest n filled) → now ≡ with_read before n →
     Moves false before (nat_eq n 0) now (take (n - 0) (take len (filled ++ drop (length filled) items)))

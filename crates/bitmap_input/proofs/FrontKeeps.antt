@@ -5,7 +5,7 @@ use Rattle.std.proofs.lemmas.List.{length-append}
 use Rattle.std.proofs.Math.Seq.{drop-append_seam}
 use Rattle.bitmap_input.specs.Cut.{Cut, ◌>>=◌}
 use Rattle.bitmap_input.specs.Cut.Cut.{Takes, Stops}
-use Rattle.bitmap_input.specs.Parts.{longest, is_empty, is_space, run_length, run_of, spaces, space, repeated}
+use Rattle.bitmap_input.specs.PageParts.{longest, is_empty, is_space, run_length, run_of, spaces, space, repeated}
 use Rattle.bitmap_input.specs.Raw.{Raw, Entry, entries_page}
 use Rattle.bitmap_input.specs.Raw.Entry.{Bit}
 use Rattle.bitmap_input.specs.Front.{Magic, magic, sides, maxval, plain_pixel, raw_row, rows_raster, body, page_at, answer_of, front}
@@ -13,16 +13,16 @@ use Rattle.bitmap_input.specs.Samples.{as_entry, plain_samples, raw_samples_row}
 use Rattle.bitmap_input.specs.Front.Answer.{Page}
 use Rattle.bitmap_input.specs.Front.Magic.{PlainBits, RawBits, PlainSamples, RawSamples, Picture}
 use Rattle.bitmap_input.proofs.Showing.{after_takes}
-use Rattle.bitmap_input.proofs.Keeping.{IsRest, Keeps, all_rest, keeps_take, keeps_bind, keeps_run, keeps_space, keeps_times, keeps_magic_behind, keeps_magic, keeps_sides, keeps_maxval, keeps_plain_pixel, keeps_raw_row, keeps_plain_samples, keeps_raw_samples_row}
+use Rattle.bitmap_input.proofs.Keeping.{IsRest, LeavesEnd, all_rest, keeps_take, keeps_bind, keeps_run, keeps_space, keeps_times, keeps_magic_behind, keeps_magic, keeps_sides, keeps_maxval, keeps_plain_pixel, keeps_raw_row, keeps_plain_samples, keeps_raw_samples_row}
 use Rattle.bitmap_input.proofs.BmpKeeps.{keeps_bmp}
 
-keeps_rows : {A : Type 0} (entry : A → Entry) (row : List ℕ → Cut (List A)) → ((bytes : List ℕ) → Keeps bytes (row bytes)) →
-    (width height : ℕ) (bytes : List ℕ) → Keeps bytes (rows_raster entry row width height bytes)
+keeps_rows : {A : Type 0} (entry : A → Entry) (row : List ℕ → Cut (List A)) → ((bytes : List ℕ) → LeavesEnd bytes (row bytes)) →
+    (width height : ℕ) (bytes : List ℕ) → LeavesEnd bytes (rows_raster entry row width height bytes)
 keeps_rows entry row keeps width height bytes =
     keeps_bind bytes (repeated row height bytes) (λ rows rest. Takes false (entries_page entry width height rows) rest) (keeps_times row keeps height bytes)
     (λ rows rest. keeps_take rest false (entries_page entry width height rows) rest (all_rest rest))
 
-pub keeps_body : (m : Magic) (bytes : List ℕ) → Keeps bytes (body m bytes)
+pub keeps_body : (m : Magic) (bytes : List ℕ) → LeavesEnd bytes (body m bytes)
 keeps_body PlainBits bytes =
     keeps_bind bytes (sides bytes) (λ s rest. rows_raster (λ b. Bit b) (repeated plain_pixel s.0) s.0 s.1 rest) (keeps_sides bytes)
     (λ s. keeps_rows (λ b. Bit b) (repeated plain_pixel s.0) (keeps_times plain_pixel keeps_plain_pixel s.0) s.0 s.1)
@@ -41,7 +41,7 @@ keeps_body (RawSamples c) bytes =
     (λ _. keeps_rows (as_entry c maxval) (raw_samples_row c maxval s.0) (keeps_raw_samples_row c maxval s.0) s.0 s.1)))
 keeps_body Picture bytes = keeps_bmp bytes
 
-keeps_page : (later : Bool) (bytes : List ℕ) → Keeps bytes (page_at later bytes)
+keeps_page : (later : Bool) (bytes : List ℕ) → LeavesEnd bytes (page_at later bytes)
 keeps_page later bytes =
     keeps_bind bytes (spaces bytes) (λ _ rest. magic later rest >>= λ m rest. body m rest) (keeps_run (run_length is_space bytes) bytes)
     (λ _ rest. keeps_bind rest (magic later rest) (λ m rest. body m rest) (keeps_magic later rest) keeps_body)
@@ -58,7 +58,7 @@ rest_behind later bytes e raw rest h = let p = keeps_page later bytes e raw rest
 
 -- what comes behind a run of n bytes leaves an end of what stands behind them
 pub behind_run : {B : Type 0} (t : Bool) (n : ℕ) (bytes : List ℕ) (g : List ℕ → List ℕ → Cut B) (e : Bool) (b : B) (rest : List ℕ) →
-    nat_lt longest n ≡ t → ((x rest : List ℕ) → Keeps rest (g x rest)) → (run_of n bytes >>= g) ≡ Takes e b rest → IsRest rest (drop n bytes)
+    nat_lt longest n ≡ t → ((x rest : List ℕ) → LeavesEnd rest (g x rest)) → (run_of n bytes >>= g) ≡ Takes e b rest → IsRest rest (drop n bytes)
 behind_run true n bytes g e b rest test parts h = let k = rw test at h in cc
 behind_run false n bytes g e b rest test parts h =
     let k = rw test at h in
@@ -84,13 +84,13 @@ magic_shortens true (a ∷ bs) e m rest h = rest_of_shorter rest bs (a ∷ bs) (
 magic_shortens false (a ∷ bs) e m rest h = rest_of_shorter rest bs (a ∷ bs) (omega arith) (keeps_magic_behind false a bs e m rest h)
 
 bind_shortens : {A B : Type 0} (bytes : List ℕ) (c : Cut A) (g : A → List ℕ → Cut B) → Shortens bytes c →
-    ((x : A) (rest : List ℕ) → Keeps rest (g x rest)) → Shortens bytes (c >>= g)
+    ((x : A) (rest : List ℕ) → LeavesEnd rest (g x rest)) → Shortens bytes (c >>= g)
 bind_shortens bytes (Takes d x mid) g first parts e b rest h =
     let p = after_takes d e (g x mid) b rest h in
     rest_of_shorter rest mid bytes (first d x mid refl) (parts x mid p.0 b rest p.1)
 bind_shortens bytes (Stops d ending) g first parts e b rest h = cc
 
-keeps_shortens : {A B : Type 0} (bytes : List ℕ) (c : Cut A) (g : A → List ℕ → Cut B) → Keeps bytes c →
+keeps_shortens : {A B : Type 0} (bytes : List ℕ) (c : Cut A) (g : A → List ℕ → Cut B) → LeavesEnd bytes c →
     ((x : A) (rest : List ℕ) → Shortens rest (g x rest)) → Shortens bytes (c >>= g)
 keeps_shortens bytes (Takes d x mid) g first parts e b rest h =
     let p = after_takes d e (g x mid) b rest h in

@@ -5,9 +5,9 @@ use Rattle.bitmap_input.specs.declared.stop.Stop.{Stop}
 use Rattle.bitmap_input.specs.declared.header.Format.{Format}
 use Rattle.bitmap_input.specs.Cut.{◌>>=◌}
 use Rattle.bitmap_input.specs.Cut.Kind.{UnknownFormat}
-use Rattle.bitmap_input.specs.Cut.Ending.{Refused}
+use Rattle.bitmap_input.specs.Cut.FileEnd.{Refused}
 use Rattle.bitmap_input.specs.Cut.Cut.{Takes}
-use Rattle.bitmap_input.specs.Parts.{spaces}
+use Rattle.bitmap_input.specs.PageParts.{spaces}
 use Rattle.bitmap_input.specs.Front.{Magic, magic, sides, maxval}
 use Rattle.bitmap_input.specs.Samples.{plain_sample}
 use Rattle.bitmap_input.specs.declared.channels.Channels.{Channels}

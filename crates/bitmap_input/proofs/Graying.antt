@@ -10,7 +10,7 @@ use Rattle.bitmap_input.specs.Cut.{Cut}
 use Rattle.bitmap_input.specs.Samples.{PixelSamples, samples_in, samples, grouped}
 use Rattle.bitmap_input.specs.Inner.Shading.{brightness, brightness_at, IsCappedBrightness, is_black_at, black_of, IsInRange}
 use Rattle.bitmap_input.specs.GrayRows.{lowered}
-use Rattle.bitmap_input.specs.Inner.Run.{cap, IsCapped}
+use Rattle.bitmap_input.specs.Inner.ByteRuns.{cap, IsCapped}
 use Rattle.bitmap_input.specs.Reading.{Buffered}
 use Rattle.bitmap_input.specs.Inner.Reading.{Reads}
 use Rattle.bitmap_input.specs.declared.channels.Channels.{Channels}

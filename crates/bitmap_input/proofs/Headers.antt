@@ -2,13 +2,13 @@
 use Rattle.std.proofs.Common.{subst, Option, Result, Ok, Err, append-nil, ◌++◌, ◌≡◌, refl, ℕ, zero, suc, ◌≤◌, ◌<◌, Bool, true, false, ◌||◌, ◌⊎◌, inl, inr, List, [], ◌∷◌, arith, ap, sym, ◌∙◌}
 use Rattle.std.specs.Prelude.{nat_lt, if◌then◌else◌}
 use Rattle.std.proofs.lemmas.Bool.{lt-ltb, le-ltb}
-use Rattle.bitmap_input.specs.Cut.{Kind, Ending, is_by_end}
+use Rattle.bitmap_input.specs.Cut.{Kind, FileEnd, is_by_end}
 use Rattle.bitmap_input.specs.Cut.Kind.{UnknownFormat, ZeroSide, TooLarge, BadHeader}
-use Rattle.bitmap_input.specs.Cut.Ending.{End, Trailing, Refused}
+use Rattle.bitmap_input.specs.Cut.FileEnd.{End, Trailing, Refused}
 use Rattle.bitmap_input.specs.Cut.Cut.{Takes, Stops}
-use Rattle.bitmap_input.specs.Parts.{is_zero, gap_length, gap, some_gap}
+use Rattle.bitmap_input.specs.PageParts.{is_zero, gap_length, gap, some_gap}
 use Rattle.bitmap_input.specs.Front.{checked, checked_maxval, greatest_maxval, magic, magic_behind, no_magic}
-use Rattle.bitmap_input.specs.Inner.Run.{IsCapped}
+use Rattle.bitmap_input.specs.Inner.ByteRuns.{IsCapped}
 use Rattle.bitmap_input.specs.declared.fault.InFault.TheVariants as fault
 use Rattle.bitmap_input.specs.declared.stop.Stop.{Stop}
 use Rattle.bitmap_input.specs.declared.stop.Stop.TheVariants as stop
@@ -39,7 +39,7 @@ magic_of_none true = refl
 magic_of_none false = refl
 
 -- what it means that no magic stands there
-abbrev pub without_magic : Bool → Ending
+abbrev pub without_magic : Bool → FileEnd
 without_magic true = Trailing
 without_magic false = Refused UnknownFormat
 
@@ -83,14 +83,14 @@ no_large m n a b =
     let f : nat_lt LONGEST_SIDE n ≡ false = le-ltb LONGEST_SIDE n b in rw (e, f) refl
 
 pub checks_zero : (x y : ℕ) → (x ≡ 0) ⊎ (y ≡ 0) → (width height : ℕ) → IsCapped x width → IsCapped y height →
-    (ending : Ending) × (Says (Refused ZeroSide) ≡ Says ending) × ((bytes : List ℕ) → checked width height bytes ≡ Stops false ending)
+    (ending : FileEnd) × (Says (Refused ZeroSide) ≡ Says ending) × ((bytes : List ℕ) → checked width height bytes ≡ Stops false ending)
 checks_zero x y zero_side width height a b =
     let z : (width ≡ 0) ⊎ (height ≡ 0) = elim zero_side [ inl h ↦ inl (omega arith) | inr h ↦ inr (omega arith) ] in
     (Refused ZeroSide, refl, λ bytes. rw (some_zero width height z) refl)
 
 pub checks_large : (x y : ℕ) → 0 < x → 0 < y → (LONGEST_SIDE < x) ⊎ (LONGEST_SIDE < y) → (width height : ℕ) →
     IsCapped x width → IsCapped y height →
-    (ending : Ending) × (Says (Refused TooLarge) ≡ Says ending) × ((bytes : List ℕ) → checked width height bytes ≡ Stops false ending)
+    (ending : FileEnd) × (Says (Refused TooLarge) ≡ Says ending) × ((bytes : List ℕ) → checked width height bytes ≡ Stops false ending)
 checks_large x y some_x some_y large width height a b =
     let l : (LONGEST_SIDE < width) ⊎ (LONGEST_SIDE < height) = elim large [ inl h ↦ inl (omega arith) | inr h ↦ inr (omega arith) ] in
     let w : 0 < width = omega arith in
@@ -140,7 +140,7 @@ a_maxval zero some most = absurd (omega arith)
 a_maxval (suc n) some most = le-ltb greatest_maxval (suc n) most
 
 pub checks_no_maxval : (x : ℕ) → (x ≡ 0) ⊎ (greatest_maxval < x) → (n : ℕ) → IsCapped x n →
-    (ending : Ending) × (Says (Refused BadHeader) ≡ Says ending) × ((bytes : List ℕ) → checked_maxval n bytes ≡ Stops false ending)
+    (ending : FileEnd) × (Says (Refused BadHeader) ≡ Says ending) × ((bytes : List ℕ) → checked_maxval n bytes ≡ Stops false ending)
 checks_no_maxval x out n a =
     let o : (n ≡ 0) ⊎ (greatest_maxval < n) = elim out [ inl h ↦ inl (omega arith) | inr h ↦ inr (omega arith) ] in
     (Refused BadHeader, refl, λ bytes. rw (no_maxval n o) refl)

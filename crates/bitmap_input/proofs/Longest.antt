@@ -3,7 +3,7 @@ use Rattle.std.proofs.Common.{◌≡◌, refl, ℕ, zero, suc, ◌+◌, ◌≤�
 use Rattle.std.specs.Prelude.{nat_eq}
 use Rattle.std.proofs.lemmas.List.{length-append, length-take-le, take-append-drop}
 use Rattle.std.proofs.lemmas.Bool.{not-true, eqb-true, eq-eqb, ne_eqb, both_ways, or_cases}
-use Rattle.bitmap_input.specs.Parts.{is_space, ends_line, run_length, gap_length}
+use Rattle.bitmap_input.specs.PageParts.{is_space, ends_line, run_length, gap_length}
 use Rattle.bitmap_input.specs.Sets.{is_quiet, AllBytes, EndsComment, IsGap}
 use Rattle.bitmap_input.specs.Sets.IsGap.{Nothing, Space, Comment}
 

@@ -4,7 +4,7 @@ use Rattle.pt_core.specs.Files.{Files}
 use Rattle.bitmap_input.specs.Cut.{Cut, is_by_end, ◌>>=◌}
 use Rattle.bitmap_input.specs.Cut.Cut.{Takes, Stops}
 use Rattle.bitmap_input.specs.Reading.{Buffered, AreNeeded}
-use Rattle.bitmap_input.specs.Inner.Window.{ReadsOn}
+use Rattle.bitmap_input.specs.Inner.Buffer.{ReadsOn}
 use Rattle.bitmap_input.proofs.Appending.{is_by_end-after}
 
 -- no byte was taken

@@ -6,9 +6,9 @@ use Rattle.std.proofs.Common.{Option, Some, None}
 use Rattle.pt_core.specs.declared.limits.TheConstants.{LONGEST_SIDE}
 use Rattle.bitmap_input.specs.Cut.Kind.{BadHeader, BadRaster, TooLong, ZeroSide, TooLarge, Truncated}
 use Rattle.bitmap_input.specs.Front.Magic.{PlainBits, RawBits, PlainSamples, RawSamples, Picture}
-use Rattle.bitmap_input.specs.Cut.Ending.{End, Trailing, Refused}
+use Rattle.bitmap_input.specs.Cut.FileEnd.{End, Trailing, Refused}
 use Rattle.bitmap_input.specs.Cut.Cut.{Takes, Stops}
-use Rattle.bitmap_input.specs.Parts.{is_zero, is_empty, longest, is_digit, is_space, run_length, gap_length, value, missing, run_of, spaces, gap, some_gap, number, number_behind_gap, space, block, repeated}
+use Rattle.bitmap_input.specs.PageParts.{is_zero, is_empty, longest, is_digit, is_space, run_length, gap_length, value, missing, run_of, spaces, gap, some_gap, number, number_behind_gap, space, block, repeated}
 use Rattle.bitmap_input.specs.Front.{Magic, magic, magic_of_name, magic_named, sides, checked, maxval, checked_maxval, greatest_maxval}
 use Rattle.bitmap_input.specs.Samples.{samples_in, samples, grouped, plain_sample, is_wide, sample_bytes}
 use Rattle.bitmap_input.specs.declared.channels.Channels.{Channels}

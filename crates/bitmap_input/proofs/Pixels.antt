@@ -2,9 +2,9 @@
 use Rattle.std.proofs.Common.{◌≡◌, refl, ℕ, true, false, List, ◌∷◌}
 use Rattle.std.specs.Prelude.{nat_eq}
 use Rattle.bitmap_input.specs.Cut.Kind.{BadRaster}
-use Rattle.bitmap_input.specs.Cut.Ending.{Refused}
+use Rattle.bitmap_input.specs.Cut.FileEnd.{Refused}
 use Rattle.bitmap_input.specs.Cut.Cut.{Takes, Stops}
-use Rattle.bitmap_input.specs.Parts.{pixel}
+use Rattle.bitmap_input.specs.PageParts.{pixel}
 use Rattle.bitmap_input.specs.Front.{plain_pixel}
 
 pub white_at : (b : ℕ) (xs : List ℕ) → b ≡ 48 → pixel (b ∷ xs) ≡ Takes false false xs

@@ -9,11 +9,11 @@ use Rattle.bitmap_input.specs.declared.fault.InFault.TheVariants as fault
 use Rattle.bitmap_input.specs.declared.stop.Stop.TheVariants as stop
 use Rattle.bitmap_input.specs.Cut.{is_by_end}
 use Rattle.bitmap_input.specs.Cut.Cut.{Takes}
-use Rattle.bitmap_input.specs.Parts.{longest, is_empty, run_of}
+use Rattle.bitmap_input.specs.PageParts.{longest, is_empty, run_of}
 use Rattle.bitmap_input.specs.Reading.{Buffered, Moves, AreNeeded}
 use Rattle.bitmap_input.specs.Inner.Reading.{Reads}
-use Rattle.bitmap_input.specs.Inner.Window.{ReadsOn}
-use Rattle.bitmap_input.specs.Inner.Run.{run_size}
+use Rattle.bitmap_input.specs.Inner.Buffer.{ReadsOn}
+use Rattle.bitmap_input.specs.Inner.ByteRuns.{run_size}
 use Rattle.bitmap_input.specs.declared.run.Run.{Run}
 use Rattle.bitmap_input.specs.declared.run.Run.TheVariants.{Space, Gap, Comment}
 use Rattle.bitmap_input.proofs.Needing.{needs_none, needs_look}

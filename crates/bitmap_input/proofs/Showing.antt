@@ -11,7 +11,7 @@ use Rattle.bit_image.specs.Page.{Page as Pixels, image_of, page_of}
 use Rattle.bitmap_input.specs.declared.stop.Stop.{Stop}
 use Rattle.bitmap_input.specs.Cut.{Cut, after, ◌>>=◌}
 use Rattle.bitmap_input.specs.Cut.Cut.{Takes, Stops}
-use Rattle.bitmap_input.specs.Parts.{repeated}
+use Rattle.bitmap_input.specs.PageParts.{repeated}
 use Rattle.bitmap_input.specs.Raw.{Entry, entries_page, black, picture_of, shown}
 use Rattle.bitmap_input.specs.Inner.Raster.{with_row, with_rows}
 use Rattle.bitmap_input.specs.Reading.{Buffered}

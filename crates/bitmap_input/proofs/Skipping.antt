@@ -1,4 +1,4 @@
--- Bytes that are passed over, as many as the window holds at a time.
+-- Bytes that are passed over, as many as the buffer holds at a time.
 use Rattle.std.proofs.Common.{subst, ◌≡◌, refl, ℕ, ◌+◌, ◌-◌, ◌≤◌, ◌<◌, Bool, true, false, List, [], ◌++◌, length, take, drop, arith, ap, sym, ◌∙◌, Option, Ok, Err, append_assoc, append-nil}
 use Rattle.std.specs.Prelude.{nat_lt}
 use Rattle.std.proofs.lemmas.List.{length-append, length-take-le, take-append-drop, drop-append-le, drop_all}
@@ -9,11 +9,11 @@ use Rattle.bitmap_input.specs.declared.fault.InFault.TheVariants as fault
 use Rattle.bitmap_input.specs.declared.stop.Stop.{Stop}
 use Rattle.bitmap_input.specs.declared.stop.Stop.TheVariants as stop
 use Rattle.bitmap_input.specs.Cut.Cut.{Takes}
-use Rattle.bitmap_input.specs.Parts.{block}
+use Rattle.bitmap_input.specs.PageParts.{block}
 use Rattle.bitmap_input.specs.Reading.{Buffered, Moves, AreNeeded, Cause}
 use Rattle.bitmap_input.specs.Inner.Reading.{Same, Any, Reads, cause_of, StopsBy}
 use Rattle.bitmap_input.specs.Reading.Cause.{Says, Device, Memory}
-use Rattle.bitmap_input.specs.Inner.Window.{ReadsOn}
+use Rattle.bitmap_input.specs.Inner.Buffer.{ReadsOn}
 use Rattle.bitmap_input.specs.Inner.Skip.{passed_over}
 use Rattle.bitmap_input.specs.Cut.{is_by_end}
 use Rattle.bitmap_input.proofs.Appending.{Stays}

@@ -5,11 +5,11 @@ use Rattle.std.specs.List.{range_with_len}
 use Rattle.std.proofs.lemmas.List.{length-append, length-take-le, take-append-drop}
 use Rattle.std.proofs.lemmas.Bool.{ltb-false, eqb-true}
 use Rattle.std.proofs.Math.Seq.{take-append_seam}
-use Rattle.bitmap_input.specs.Cut.{Kind, Ending, Cut, ◌>>=◌}
+use Rattle.bitmap_input.specs.Cut.{Kind, FileEnd, Cut, ◌>>=◌}
 use Rattle.bitmap_input.specs.Cut.Kind.{BadHeader, BadRaster, Truncated, TooLong, ZeroSide, TooLarge, UnknownFormat, BmpKind, BadOffset}
-use Rattle.bitmap_input.specs.Cut.Ending.{End, Trailing, Refused}
+use Rattle.bitmap_input.specs.Cut.FileEnd.{End, Trailing, Refused}
 use Rattle.bitmap_input.specs.Cut.Cut.{Takes, Stops}
-use Rattle.bitmap_input.specs.Parts.{longest, is_zero, is_empty, is_space, is_digit, run_length, gap_length, missing, run_of, spaces, gap, some_gap, value, number, number_behind_gap, space, pixel, block, repeated}
+use Rattle.bitmap_input.specs.PageParts.{longest, is_zero, is_empty, is_space, is_digit, run_length, gap_length, missing, run_of, spaces, gap, some_gap, value, number, number_behind_gap, space, pixel, block, repeated}
 use Rattle.bitmap_input.specs.Sets.{AllBytes, IsGap}
 use Rattle.bitmap_input.specs.Sides.{checked}
 use Rattle.bitmap_input.specs.Raw.{Raw, Entry, entries_page, row_bytes, unpacked}
@@ -41,7 +41,7 @@ spells_take S bytes e a rest taken split is d b rest2 h =
     let value_same : a ≡ b = cc in
     (taken, split ∙ ap (λ xs. taken ++ xs) same, subst (λ x. S x taken) value_same is)
 
-spells_stop : {A : Type 0} (S : A → List ℕ → Type 0) (bytes : List ℕ) (e : Bool) (ending : Ending) → Spells S bytes (Stops e ending)
+spells_stop : {A : Type 0} (S : A → List ℕ → Type 0) (bytes : List ℕ) (e : Bool) (ending : FileEnd) → Spells S bytes (Stops e ending)
 spells_stop S bytes e ending d a rest h = cc
 
 spells_if : {A : Type 0} (S : A → List ℕ → Type 0) (bytes : List ℕ) (t : Bool) (c d : Cut A) → (t ≡ true → Spells S bytes c) → (t ≡ false → Spells S bytes d) →

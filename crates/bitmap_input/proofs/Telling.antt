@@ -6,13 +6,13 @@ use Rattle.pt_core.specs.Files.{Files, Opened, taken_of, with_read, unread_of, u
 use Rattle.bitmap_input.specs.declared.stop.Stop.{Stop}
 use Rattle.bitmap_input.specs.declared.stop.Stop.TheVariants as stop
 use Rattle.bitmap_input.specs.declared.fault.InFault.TheVariants as fault
-use Rattle.bitmap_input.specs.Cut.{Ending, Cut, is_by_end, after, ◌>>=◌}
+use Rattle.bitmap_input.specs.Cut.{FileEnd, Cut, is_by_end, after, ◌>>=◌}
 use Rattle.bitmap_input.proofs.Appending.{with_more}
 use Rattle.bitmap_input.specs.Cut.Cut.{Takes, Stops}
 use Rattle.bitmap_input.specs.Reading.{Buffered, AtEnd, Moves, Cause}
 use Rattle.bitmap_input.specs.Inner.Reading.{cause_of, StopsBy, Gives, Reads}
 use Rattle.bitmap_input.specs.Reading.Cause.{Says, Device, Memory}
-use Rattle.bitmap_input.specs.Inner.Window.{ReadsOn}
+use Rattle.bitmap_input.specs.Inner.Buffer.{ReadsOn}
 use Rattle.bitmap_input.proofs.Appending.{Stays, is_by_end-after}
 use Rattle.bitmap_input.proofs.Needing.{needs_none, needs_as, needs_behind, needs_first, by_end-bind, front_of_none}
 
@@ -292,7 +292,7 @@ reads_fault {part = part} {old = old} {files = files} by_end same same_files non
     }
 
 -- a part stops at the bytes at hand
-pub reads_nothing : {A X : Type 0} {is : X → A → Type 0} {part : List ℕ → Cut A} {held : Buffered} {files : Option Files} {s : Stop} (e : Bool) (ending : Ending) →
+pub reads_nothing : {A X : Type 0} {is : X → A → Type 0} {part : List ℕ → Cut A} {held : Buffered} {files : Option Files} {s : Stop} (e : Bool) (ending : FileEnd) →
     part (held.bytes ++ []) ≡ Stops e ending → cause_of s ≡ Says ending → (e ≡ true → held.ended ≡ true) → Reads is part held files (Err s) held files
 reads_nothing {part = part} {held = held} {files = files} e ending stops cause settled =
     let here : StopsBy (part (held.bytes ++ [])) (Says ending) held = (e, stops, settled) in
@@ -304,21 +304,21 @@ reads_nothing {part = part} {held = held} {files = files} e ending stops cause s
     }
 
 -- no byte comes any more where one is due
-pub reads_end : {A X : Type 0} {is : X → A → Type 0} {part : List ℕ → Cut A} {old new : Buffered} {files now : Option Files} {s : Stop} (ending : Ending) →
+pub reads_end : {A X : Type 0} {is : X → A → Type 0} {part : List ℕ → Cut A} {old new : Buffered} {files now : Option Files} {s : Stop} (ending : FileEnd) →
     part [] ≡ Stops true ending → cause_of s ≡ Says ending → ReadsOn old files new now → new.bytes ≡ [] → new.ended ≡ true →
     Reads is part old files (Err s) new now
 reads_end {part = part} ending stops cause on none ended =
     reads_after (ap is_by_end stops) on (reads_nothing true ending (ap (λ bytes. part (bytes ++ [])) none ∙ stops) cause (λ _. ended))
 
 -- the part stops at the byte that is there
-pub reads_refused : {A X : Type 0} {is : X → A → Type 0} {part : List ℕ → Cut A} {old mid : Buffered} {files fmid : Option Files} {s : Stop} {b : ℕ} (ending : Ending) →
+pub reads_refused : {A X : Type 0} {is : X → A → Type 0} {part : List ℕ → Cut A} {old mid : Buffered} {files fmid : Option Files} {s : Stop} {b : ℕ} (ending : FileEnd) →
     is_by_end (part []) ≡ true → (look : (bs : List ℕ) × (mid.bytes ≡ b ∷ bs)) → ReadsOn old files mid fmid →
     ((xs : List ℕ) → part (b ∷ xs) ≡ Stops false ending) → cause_of s ≡ Says ending → Reads is part old files (Err s) mid fmid
 reads_refused ending by_end (bs, here) on stops cause =
     reads_after by_end on (reads_nothing false ending (rw here (stops (bs ++ []))) cause (λ h. absurd (not_true h)))
 
 -- the part stops behind the byte that was there
-pub reads_behind : {A X : Type 0} {is : X → A → Type 0} {part : List ℕ → Cut A} {old mid passed : Buffered} {files fmid : Option Files} {s : Stop} {b : ℕ} (ending : Ending) →
+pub reads_behind : {A X : Type 0} {is : X → A → Type 0} {part : List ℕ → Cut A} {old mid passed : Buffered} {files fmid : Option Files} {s : Stop} {b : ℕ} (ending : FileEnd) →
     is_by_end (part []) ≡ true → (look : (bs : List ℕ) × (mid.bytes ≡ b ∷ bs)) → ReadsOn old files mid fmid → passed.bytes ≡ drop 1 mid.bytes → passed.ended ≡ mid.ended →
     ((xs : List ℕ) → part (b ∷ xs) ≡ Stops false ending) → cause_of s ≡ Says ending → Reads is part old files (Err s) passed fmid
 reads_behind ending by_end look on bytes ended stops cause =

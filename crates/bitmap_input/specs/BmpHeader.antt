@@ -3,7 +3,7 @@
 -- first byte, and of a number the least significant byte comes first. The header's bytes are those
 -- from place 2 on, behind the magic `BM`.
 use Rattle.std.specs.Prelude.{ℕ, ◌+◌, ◌-◌, ◌*◌, ◌/◌, ◌^◌, Bool, not, ◌&&◌, ◌||◌, List, slice_index_or, if◌then◌else◌, nat_eq, nat_le}
-use Rattle.bitmap_input.specs.Parts.{is_zero}
+use Rattle.bitmap_input.specs.PageParts.{is_zero}
 
 -- the byte at a place
 unfoldable pub byte_at : List ℕ → ℕ → ℕ
@@ -33,6 +33,7 @@ header_size head = four_at head 14
 abbrev pub is_short : List ℕ → Bool
 is_short head = nat_eq (header_size head) 12
 
+-- the number of planes that the header tells
 abbrev pub planes : List ℕ → ℕ
 planes head = if is_short head then two_at head 22 else two_at head 26
 
@@ -52,9 +53,11 @@ colors_used head = if is_short head then 0 else four_at head 46
 abbrev pub is_negative : ℕ → Bool
 is_negative n = nat_le 2147483648 n
 
+-- the width that the header tells
 abbrev pub stated_width : List ℕ → ℕ
 stated_width head = if is_short head then two_at head 18 else four_at head 18
 
+-- the height that the header tells, which may have a sign
 abbrev pub stated_height : List ℕ → ℕ
 stated_height head = if is_short head then two_at head 20 else four_at head 22
 
@@ -70,6 +73,7 @@ height head = if is_negative (stated_height head) then 4294967296 - stated_heigh
 abbrev pub is_top_down : List ℕ → Bool
 is_top_down head = is_negative (stated_height head)
 
+-- a header of this many bytes is one of those that are read
 abbrev pub is_known_size : ℕ → Bool
 is_known_size size =
     nat_eq size 12 || nat_eq size 40 || nat_eq size 52 || nat_eq size 56 || nat_eq size 108 || nat_eq size 124
@@ -115,6 +119,7 @@ palette_length head =
 abbrev pub color_bytes : List ℕ → ℕ
 color_bytes head = if is_short head then 3 else 4
 
+-- the bytes of the whole palette
 abbrev pub palette_bytes : List ℕ → ℕ
 palette_bytes head = color_bytes head * palette_length head
 

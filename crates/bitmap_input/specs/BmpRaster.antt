@@ -4,7 +4,7 @@ use Rattle.std.specs.Prelude.{ℕ, ◌+◌, ◌-◌, ◌*◌, ◌/◌, ◌%◌, 
 use Rattle.std.specs.List.{range_with_len}
 use Rattle.bitmap_input.specs.Cut.{Cut, ◌>>=◌}
 use Rattle.bitmap_input.specs.Cut.Cut.{Takes}
-use Rattle.bitmap_input.specs.Parts.{block, repeated}
+use Rattle.bitmap_input.specs.PageParts.{block, repeated}
 use Rattle.bitmap_input.specs.Raw.{Raw, Entry}
 use Rattle.bitmap_input.specs.Raw.Entry.{Color}
 use Rattle.bitmap_input.specs.BmpHeader.{file_size, pixel_offset, bits, width, height, is_top_down, palette_length, color_bytes, palette_bytes, palette_end, row_length}

@@ -14,17 +14,17 @@ pub data Kind : Type 0 where
   TooLong : Kind
 
 -- how the pages of a file end: well, with bytes that begin no page, or with a page that is refused
-pub data Ending : Type 0 where
-  End : Ending
-  Trailing : Ending
-  Refused : Kind → Ending
+pub data FileEnd : Type 0 where
+  End : FileEnd
+  Trailing : FileEnd
+  Refused : Kind → FileEnd
 
 -- what a part of a page is in a list of bytes: it takes a front of the list, which has a value, and
 -- leaves the rest, or the pages end here. The flag says whether this is by the end of the list:
 -- whether it might be otherwise if bytes were added to the list.
 pub data Cut (A : Type 0) : Type 0 where
   Takes : Bool → A → List ℕ → Cut A
-  Stops : Bool → Ending → Cut A
+  Stops : Bool → FileEnd → Cut A
 
 -- whether it is by the end of the list
 abbrev pub is_by_end : {A : Type 0} → Cut A → Bool

@@ -1,11 +1,11 @@
 -- The first page of a list of bytes, or what stands there in place of one (Netpbm's format pages
 -- "pbm", "pgm" and "ppm"): the parts of a page one after another, as far as each is there and passes its checks.
 use Rattle.std.specs.Prelude.{ℕ, ◌-◌, Bool, true, false, ◌&&◌, ◌||◌, List, [], ◌∷◌, length, take, if◌then◌else◌, nat_eq, nat_lt, Option, Some, None}
-use Rattle.bitmap_input.specs.Cut.{Ending, Cut, ◌>>=◌}
+use Rattle.bitmap_input.specs.Cut.{FileEnd, Cut, ◌>>=◌}
 use Rattle.bitmap_input.specs.Cut.Kind.{UnknownFormat, BadHeader}
-use Rattle.bitmap_input.specs.Cut.Ending.{End, Trailing, Refused}
+use Rattle.bitmap_input.specs.Cut.FileEnd.{End, Trailing, Refused}
 use Rattle.bitmap_input.specs.Cut.Cut.{Takes, Stops}
-use Rattle.bitmap_input.specs.Parts.{is_zero, spaces, gap, number_behind_gap, space, pixel, block, repeated}
+use Rattle.bitmap_input.specs.PageParts.{is_zero, spaces, gap, number_behind_gap, space, pixel, block, repeated}
 pub use Rattle.bitmap_input.specs.Sides.{checked}
 use Rattle.bitmap_input.specs.Bmp.{bmp}
 use Rattle.bitmap_input.specs.Raw.{Raw, Entry, entries_page, row_bytes, unpacked}
@@ -108,7 +108,7 @@ page_at later bytes = spaces bytes >>= λ _ rest. magic later rest >>= λ m rest
 -- how the pages end
 pub data Answer : Type 0 where
   Page : Raw → ℕ → Answer
-  Ends : Ending → Answer
+  Ends : FileEnd → Answer
 
 -- the answer that a cut of these bytes is
 abbrev pub answer_of : List ℕ → Cut Raw → Answer

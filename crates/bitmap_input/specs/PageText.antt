@@ -1,7 +1,7 @@
 -- The bytes of a page as a set of byte lists: the sets of its parts, joined one behind another (Netpbm's
 -- format pages "pbm", "pgm" and "ppm"; Microsoft's "Bitmap Storage").
 use Rattle.std.specs.Prelude.{◌≡◌, ℕ, zero, suc, ◌-◌, ◌*◌, ◌≤◌, true, ◌⊎◌, List, [], ◌∷◌, ◌++◌, length, Some}
-use Rattle.bitmap_input.specs.Parts.{is_space, is_digit, value}
+use Rattle.bitmap_input.specs.PageParts.{is_space, is_digit, value}
 use Rattle.bitmap_input.specs.Sets.{AllBytes, IsGap}
 use Rattle.bitmap_input.specs.Raw.{Raw, row_bytes}
 use Rattle.bitmap_input.specs.BmpHeader.{width, height, palette_bytes, pixel_offset, palette_end, row_length}

@@ -5,8 +5,8 @@ use Rattle.bit_image.specs.Page.{Page as Pixels}
 use Rattle.bitmap_input.specs.declared.fault.InFault.{InFault}
 use Rattle.bitmap_input.specs.declared.next.Next.{Next}
 use Rattle.bitmap_input.specs.declared.next.Next.TheVariants as next
-use Rattle.bitmap_input.specs.Cut.{Ending, is_by_end}
-use Rattle.bitmap_input.specs.Cut.Ending.{End, Trailing}
+use Rattle.bitmap_input.specs.Cut.{FileEnd, is_by_end}
+use Rattle.bitmap_input.specs.Cut.FileEnd.{End, Trailing}
 use Rattle.bitmap_input.specs.Raw.{Raw, shown}
 use Rattle.bitmap_input.specs.Front.{Answer, front, page_at}
 use Rattle.bitmap_input.specs.Front.Answer.{Page, Ends}
@@ -59,7 +59,7 @@ pub record GivesPage (level : ℕ) (invert : Bool) (old : Reader) (before : Opti
   pub going_on : new.over ≡ false
 
 -- the pages end so, and the reader is over
-pub record GivesEnding (old : Reader) (before : Option Files) (ending : Ending) (new : Reader) (now : Option Files) : Type 0 where
+pub record GivesEnding (old : Reader) (before : Option Files) (ending : FileEnd) (new : Reader) (now : Option Files) : Type 0 where
   pub answers : Answers old before (Ends ending) new now
   pub counted : new.pages ≡ old.pages
   pub over : new.over ≡ true
@@ -100,13 +100,13 @@ IfPage (Ok next.Trailing) P = Unit {0}
 IfPage (Err f) P = Unit {0}
 
 -- this holds of the ending, where the bytes say one
-abbrev pub IfSays : Cause → (Ending → Type 0) → Type 0
+abbrev pub IfSays : Cause → (FileEnd → Type 0) → Type 0
 IfSays (Says ending) P = P ending
 IfSays Device P = Unit {0}
 IfSays Memory P = Unit {0}
 
 -- this holds of the ending, where the answer is End, Trailing or a refusal
-abbrev pub IfEnding : Result Next InFault → (Ending → Type 0) → Type 0
+abbrev pub IfEnding : Result Next InFault → (FileEnd → Type 0) → Type 0
 IfEnding (Ok next.End) P = P End
 IfEnding (Ok next.Trailing) P = P Trailing
 IfEnding (Ok (next.Page page)) P = Unit {0}

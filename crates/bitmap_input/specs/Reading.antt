@@ -1,12 +1,12 @@
--- Reading from inputs through a window: what is taken from the inputs, and what part of a page the
+-- Reading from inputs through a buffer: what is taken from the inputs, and what part of a page the
 -- bytes at hand and those taken are.
 use Rattle.std.specs.Prelude.{◌≡◌, ℕ, ◌≤◌, Bool, true, ◌⊎◌, List, [], ◌++◌, length, take, Option, IfSome}
 use Rattle.pt_core.specs.Files.{Files, with_read, unread}
 use Rattle.bitmap_input.specs.declared.fault.InFault.{InFault}
 use Rattle.bitmap_input.specs.declared.fault.InFault.TheVariants as fault
-use Rattle.bitmap_input.specs.Cut.{Ending, Cut, is_by_end}
+use Rattle.bitmap_input.specs.Cut.{FileEnd, Cut, is_by_end}
 use Rattle.bitmap_input.specs.Cut.Kind.{UnknownFormat, BadHeader, ZeroSide, TooLarge, Truncated, BadRaster, BmpKind, BadOffset, TooLong}
-use Rattle.bitmap_input.specs.Cut.Ending.{Refused}
+use Rattle.bitmap_input.specs.Cut.FileEnd.{Refused}
 
 -- the bytes that were taken from the inputs and not used yet, and whether a read has given nothing
 pub record Buffered : Type 0 where
@@ -27,7 +27,7 @@ pub record Moves (ended : Bool) (before : Option Files) (ended_now : Bool) (now 
 
 -- why reading stopped: the bytes say so, a read failed, or memory is wanting
 pub data Cause : Type 0 where
-  Says : Ending → Cause
+  Says : FileEnd → Cause
   Device : Cause
   Memory : Cause
 

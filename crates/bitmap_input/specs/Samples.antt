@@ -4,7 +4,7 @@ use Rattle.std.specs.Prelude.{ℕ, ◌+◌, ◌*◌, Bool, true, false, List, []
 use Rattle.bitmap_input.specs.Cut.{Cut, ◌>>=◌}
 use Rattle.bitmap_input.specs.Cut.Kind.{BadRaster}
 use Rattle.bitmap_input.specs.Cut.Cut.{Takes}
-use Rattle.bitmap_input.specs.Parts.{number_behind_gap, block}
+use Rattle.bitmap_input.specs.PageParts.{number_behind_gap, block}
 use Rattle.bitmap_input.specs.Raw.{Entry}
 use Rattle.bitmap_input.specs.Raw.Entry.{Sample, Triple}
 use Rattle.bitmap_input.specs.declared.channels.Channels.{Channels}

@@ -1,7 +1,7 @@
 -- The parts of a page as sets of byte lists (Netpbm's format page "pbm"), beside the lengths that cut
 -- them off the front of a list.
 use Rattle.std.specs.Prelude.{◌≡◌, ℕ, Bool, true, not, List, [], ◌∷◌, ◌++◌}
-use Rattle.bitmap_input.specs.Parts.{is_space, ends_line}
+use Rattle.bitmap_input.specs.PageParts.{is_space, ends_line}
 
 -- each byte passes the test: digits, or whitespace
 abbrev pub AllBytes : (ℕ → Bool) → List ℕ → Type 0

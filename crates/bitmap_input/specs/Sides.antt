@@ -3,9 +3,9 @@ use Rattle.std.specs.Prelude.{ℕ, false, ◌||◌, List, if◌then◌else◌, n
 use Rattle.pt_core.specs.declared.limits.TheConstants.{LONGEST_SIDE}
 use Rattle.bitmap_input.specs.Cut.{Cut}
 use Rattle.bitmap_input.specs.Cut.Kind.{ZeroSide, TooLarge}
-use Rattle.bitmap_input.specs.Cut.Ending.{Refused}
+use Rattle.bitmap_input.specs.Cut.FileEnd.{Refused}
 use Rattle.bitmap_input.specs.Cut.Cut.{Takes, Stops}
-use Rattle.bitmap_input.specs.Parts.{is_zero}
+use Rattle.bitmap_input.specs.PageParts.{is_zero}
 
 -- both sides are in range: first none is 0, and then none is too large
 abbrev pub checked : ℕ → ℕ → List ℕ → Cut (ℕ × ℕ)

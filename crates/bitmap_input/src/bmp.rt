@@ -15,10 +15,10 @@ mod pixels;
 use crate::bmp::header::{Header, read_header};
 use crate::bmp::palette::read_palette;
 use crate::bmp::pixels::{Tone, read_rows};
+use crate::buffer::Buffer;
 use crate::extent::{ReadPage, known};
 use crate::skip::skip_block;
 use crate::stop::Stop;
-use crate::window::Window;
 use bit_image::Bitmap;
 use pt_core::Inputs;
 use std::alloc::Global;
@@ -36,7 +36,7 @@ fn row_bytes(header: &Header) -> u32
 /// The rows, on a page of their own.
 fn read_pixels<I: Inputs>(
     alloc: Global,
-    window: &mut Window,
+    buffer: &mut Buffer,
     inputs: &mut I,
     header: &Header,
     tone: &Tone,
@@ -46,13 +46,13 @@ fn read_pixels<I: Inputs>(
     requires readable { IsReadable header.now }
     requires table { length table.now ≡ 256 }
     ensures reads { (color : ℕ → Entry) → IsPaletteTable tone.now.level tone.now.invert color table.now
-        → Reads (IsShown tone.now.level tone.now.invert) (pixels_by header.now color) window.old
-        (I.files inputs.old) result window.new (I.files inputs.new) }
+        → Reads (IsShown tone.now.level tone.now.invert) (pixels_by header.now color) buffer.old
+        (I.files inputs.old) result buffer.new (I.files inputs.new) }
     ensures leaves { Leaves I.Inputs result inputs.old inputs.new }
 {
     let mut page = Bitmap::new(alloc, header.width, header.height)?;
     let mut row = vec![in alloc; 0u8; row_bytes(header) as usize]?;
-    read_rows(window, inputs, &mut page, header, tone, table, &mut row)?;
+    read_rows(buffer, inputs, &mut page, header, tone, table, &mut row)?;
     known(&page);
     Ok(page)
 }
@@ -60,21 +60,21 @@ fn read_pixels<I: Inputs>(
 /// What follows the header.
 fn read_raster<I: Inputs>(
     alloc: Global,
-    window: &mut Window,
+    buffer: &mut Buffer,
     inputs: &mut I,
     header: &Header,
     tone: &Tone,
 ) -> Result<Bitmap, Stop>
     requires opened { I.is_opened inputs.old ≡ true }
     requires readable { IsReadable header.now }
-    ensures reads { Reads (IsShown tone.now.level tone.now.invert) (raster_by header.now) window.old
-        (I.files inputs.old) result window.new (I.files inputs.new) }
+    ensures reads { Reads (IsShown tone.now.level tone.now.invert) (raster_by header.now) buffer.old
+        (I.files inputs.old) result buffer.new (I.files inputs.new) }
     ensures leaves { Leaves I.Inputs result inputs.old inputs.new }
 {
     let mut table = [false; 256];
-    read_palette(window, inputs, header, tone, &mut table)?;
-    skip_block(window, inputs, header.before_pixels)?;
-    read_pixels(alloc, window, inputs, header, tone, &table)
+    read_palette(buffer, inputs, header, tone, &mut table)?;
+    skip_block(buffer, inputs, header.before_pixels)?;
+    read_pixels(alloc, buffer, inputs, header, tone, &table)
 }
 
 /// How many bytes the picture claims behind its last row.
@@ -97,22 +97,22 @@ fn behind(header: &Header) -> u32
 // Bytes that are passed over, up to 4 GiB, take none either.
 pub(crate) fn read_bmp<I: Inputs>(
     alloc: Global,
-    window: &mut Window,
+    buffer: &mut Buffer,
     inputs: &mut I,
     level: &Level,
     invert: bool,
 ) -> Result<ReadPage, Stop>
     requires { I.is_opened inputs.old ≡ true }
-    ensures reads { Reads (IsRead level.now invert) (counted_body picture) window.old
-        (I.files inputs.old) result window.new (I.files inputs.new) }
+    ensures reads { Reads (IsRead level.now invert) (counted_body picture) buffer.old
+        (I.files inputs.old) result buffer.new (I.files inputs.new) }
     ensures leaves { Leaves I.Inputs result inputs.old inputs.new }
 {
-    let header = read_header(window, inputs)?;
+    let header = read_header(buffer, inputs)?;
     let tone = Tone {
         level: *level,
         invert,
     };
-    let page = read_raster(alloc, window, inputs, &header, &tone)?;
+    let page = read_raster(alloc, buffer, inputs, &header, &tone)?;
     Ok(ReadPage {
         page,
         behind: behind(&header),

@@ -11,13 +11,13 @@ ghost use Rattle.bitmap_input.specs.Inner.Stored.{IsAtLevel};
 ghost use Rattle.bitmap_input.specs.declared.raster.Raster.TheVariants.{RawSamples as raw_samples_raster};
 
 use crate::bmp::read_bmp;
+use crate::buffer::Buffer;
 use crate::channels::Channels;
 use crate::extent::{ReadPage, claiming_none};
 use crate::header::{Format, Sides, read_maxval, read_sides, skip_space};
 use crate::raster::{Raster, read_page};
 use crate::samples::{Shading, brightest_black, row_bytes};
 use crate::stop::Stop;
-use crate::window::Window;
 use bit_image::Bitmap;
 use pt_core::{Inputs, LONGEST_SIDE};
 use std::alloc::Global;
@@ -26,20 +26,20 @@ use threshold_map::Level;
 /// A plain page of bits, behind its magic.
 fn read_plain_body<I: Inputs>(
     alloc: Global,
-    window: &mut Window,
+    buffer: &mut Buffer,
     inputs: &mut I,
     invert: bool,
 ) -> Result<Bitmap, Stop>
     requires { I.is_opened inputs.old ≡ true }
     ensures reads { (level : ℕ)
-        → Reads (IsShown level invert) (body plain_bits) window.old
-        (I.files inputs.old) result window.new (I.files inputs.new) }
+        → Reads (IsShown level invert) (body plain_bits) buffer.old
+        (I.files inputs.old) result buffer.new (I.files inputs.new) }
     ensures leaves { Leaves I.Inputs result inputs.old inputs.new }
 {
-    let sides = read_sides(window, inputs)?;
+    let sides = read_sides(buffer, inputs)?;
     read_page(
         alloc,
-        window,
+        buffer,
         inputs,
         sides,
         Raster::PlainBits { invert },
@@ -53,23 +53,23 @@ const LONGEST_ROW: usize = (LONGEST_SIDE as usize + 7) / 8;
 /// A raw page of bits, behind its magic.
 fn read_raw_body<I: Inputs>(
     alloc: Global,
-    window: &mut Window,
+    buffer: &mut Buffer,
     inputs: &mut I,
     invert: bool,
 ) -> Result<Bitmap, Stop>
     requires { I.is_opened inputs.old ≡ true }
     ensures reads { (level : ℕ)
-        → Reads (IsShown level invert) (body raw_bits) window.old
-        (I.files inputs.old) result window.new (I.files inputs.new) }
+        → Reads (IsShown level invert) (body raw_bits) buffer.old
+        (I.files inputs.old) result buffer.new (I.files inputs.new) }
     ensures leaves { Leaves I.Inputs result inputs.old inputs.new }
 {
-    let sides = read_sides(window, inputs)?;
-    skip_space(window, inputs)?;
-    let mut buffer = [0u8; LONGEST_ROW];
-    let line = &mut buffer[..(sides.width as usize + 7) / 8];
+    let sides = read_sides(buffer, inputs)?;
+    skip_space(buffer, inputs)?;
+    let mut longest = [0u8; LONGEST_ROW];
+    let line = &mut longest[..(sides.width as usize + 7) / 8];
     read_page(
         alloc,
-        window,
+        buffer,
         inputs,
         sides,
         Raster::RawBits { invert },
@@ -80,19 +80,19 @@ fn read_raw_body<I: Inputs>(
 /// A plain page of samples, behind its magic.
 fn read_plain_samples_body<I: Inputs>(
     alloc: Global,
-    window: &mut Window,
+    buffer: &mut Buffer,
     inputs: &mut I,
     channels: Channels,
     level: &Level,
     invert: bool,
 ) -> Result<Bitmap, Stop>
     requires { I.is_opened inputs.old ≡ true }
-    ensures reads { Reads (IsShown level.now invert) (body (plain_samples channels)) window.old
-        (I.files inputs.old) result window.new (I.files inputs.new) }
+    ensures reads { Reads (IsShown level.now invert) (body (plain_samples channels)) buffer.old
+        (I.files inputs.old) result buffer.new (I.files inputs.new) }
     ensures leaves { Leaves I.Inputs result inputs.old inputs.new }
 {
-    let sides = read_sides(window, inputs)?;
-    let maxval = read_maxval(window, inputs)?;
+    let sides = read_sides(buffer, inputs)?;
+    let maxval = read_maxval(buffer, inputs)?;
     let shading = Shading {
         channels,
         maxval,
@@ -101,7 +101,7 @@ fn read_plain_samples_body<I: Inputs>(
     };
     read_page(
         alloc,
-        window,
+        buffer,
         inputs,
         sides,
         Raster::PlainSamples { shading },
@@ -112,7 +112,7 @@ fn read_plain_samples_body<I: Inputs>(
 /// The rows of a raw page of samples, behind its header.
 fn read_raw_samples<I: Inputs>(
     alloc: Global,
-    window: &mut Window,
+    buffer: &mut Buffer,
     inputs: &mut I,
     sides: Sides,
     shading: Shading,
@@ -123,13 +123,13 @@ fn read_raw_samples<I: Inputs>(
     ensures reads { (level : ℕ) (invert : Bool) → IsAtLevel level invert (raw_samples_raster shading)
         → Reads (IsShown level invert) (rows_raster (as_entry shading.channels shading.maxval)
         (raw_samples_row shading.channels shading.maxval sides.width) sides.width sides.height)
-        window.old (I.files inputs.old) result window.new (I.files inputs.new) }
+        buffer.old (I.files inputs.old) result buffer.new (I.files inputs.new) }
     ensures leaves { Leaves I.Inputs result inputs.old inputs.new }
 {
     let mut line = vec![in alloc; 0u8; row_bytes(shading.channels, sides.width, shading.maxval)]?;
     read_page(
         alloc,
-        window,
+        buffer,
         inputs,
         sides,
         Raster::RawSamples { shading },
@@ -140,52 +140,52 @@ fn read_raw_samples<I: Inputs>(
 /// A raw page of samples, behind its magic.
 fn read_raw_samples_body<I: Inputs>(
     alloc: Global,
-    window: &mut Window,
+    buffer: &mut Buffer,
     inputs: &mut I,
     channels: Channels,
     level: &Level,
     invert: bool,
 ) -> Result<Bitmap, Stop>
     requires { I.is_opened inputs.old ≡ true }
-    ensures reads { Reads (IsShown level.now invert) (body (raw_samples channels)) window.old
-        (I.files inputs.old) result window.new (I.files inputs.new) }
+    ensures reads { Reads (IsShown level.now invert) (body (raw_samples channels)) buffer.old
+        (I.files inputs.old) result buffer.new (I.files inputs.new) }
     ensures leaves { Leaves I.Inputs result inputs.old inputs.new }
 {
-    let sides = read_sides(window, inputs)?;
-    let maxval = read_maxval(window, inputs)?;
-    skip_space(window, inputs)?;
+    let sides = read_sides(buffer, inputs)?;
+    let maxval = read_maxval(buffer, inputs)?;
+    skip_space(buffer, inputs)?;
     let shading = Shading {
         channels,
         maxval,
         limit: brightest_black(level, channels, maxval),
         invert,
     };
-    read_raw_samples(alloc, window, inputs, sides, shading)
+    read_raw_samples(alloc, buffer, inputs, sides, shading)
 }
 
 /// The page of this format, behind its magic, at a level and inverted or not.
 pub(crate) fn read_body<I: Inputs>(
     alloc: Global,
-    window: &mut Window,
+    buffer: &mut Buffer,
     inputs: &mut I,
     format: Format,
     level: &Level,
     invert: bool,
 ) -> Result<ReadPage, Stop>
     requires { I.is_opened inputs.old ≡ true }
-    ensures reads { Reads (IsRead level.now invert) (counted_body (magic_of format)) window.old
-        (I.files inputs.old) result window.new (I.files inputs.new) }
+    ensures reads { Reads (IsRead level.now invert) (counted_body (magic_of format)) buffer.old
+        (I.files inputs.old) result buffer.new (I.files inputs.new) }
     ensures leaves { Leaves I.Inputs result inputs.old inputs.new }
 {
     match format {
-        Format::PlainBits => claiming_none(read_plain_body(alloc, window, inputs, invert)),
-        Format::RawBits => claiming_none(read_raw_body(alloc, window, inputs, invert)),
+        Format::PlainBits => claiming_none(read_plain_body(alloc, buffer, inputs, invert)),
+        Format::RawBits => claiming_none(read_raw_body(alloc, buffer, inputs, invert)),
         Format::PlainSamples(channels) => claiming_none(read_plain_samples_body(
-            alloc, window, inputs, channels, level, invert,
+            alloc, buffer, inputs, channels, level, invert,
         )),
         Format::RawSamples(channels) => claiming_none(read_raw_samples_body(
-            alloc, window, inputs, channels, level, invert,
+            alloc, buffer, inputs, channels, level, invert,
         )),
-        Format::Picture => read_bmp(alloc, window, inputs, level, invert),
+        Format::Picture => read_bmp(alloc, buffer, inputs, level, invert),
     }
 }

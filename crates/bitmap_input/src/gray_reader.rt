@@ -8,13 +8,13 @@ ghost use Rattle.bitmap_input.specs.GrayRows.{gray_header, gray_row, lowered};
 ghost use Rattle.bitmap_input.specs.GrayReader.{gray_at_start, GivesHead, GivesRow, Refuses, FailsToRead, IfRefused, TellsHead, TellsRow, RefusesPart, held_of};
 ghost use Rattle.bitmap_input.specs.Inner.GrayReader.{IsNoFault};
 
+use crate::buffer::Buffer;
 use crate::channels::Channels;
 use crate::fault::InFault;
 use crate::gray_rows::{read_gray_header, read_plain_gray_row, read_raw_gray_row};
 use crate::header::GREATEST_MAXVAL;
 use crate::samples::row_bytes;
 use crate::stop::Stop;
-use crate::window::Window;
 use pt_core::{Inputs, LONGEST_SIDE, NoMemory};
 use std::alloc::Global;
 use std::marker::Model;
@@ -31,7 +31,7 @@ pub struct GrayHead {
 /// another from the top.
 #[derive(Debug, Drop)]
 pub struct GrayReader {
-    window: Window,
+    buffer: Buffer,
     // Room for the bytes of a row.
     line: Vec<u8>,
     head: GrayHead,
@@ -48,15 +48,15 @@ impl Model for GrayReader {
     ghost Value = { GraySource };
 
     ghost view = { λ r. record {
-      bytes = r.window.bytes;
+      bytes = r.buffer.bytes;
       head = r.head;
       plain = r.plain;
       given = r.given;
-      ended = r.window.ended;
+      ended = r.buffer.ended;
       failed = r.failed;
     } };
 
-    ghost invariant = { λ r. (length r.window.bytes ≤ 65536)
+    ghost invariant = { λ r. (length r.buffer.bytes ≤ 65536)
         × (length r.line.items ≡ 2 * LONGEST_SIDE)
         × (r.head.width ≤ LONGEST_SIDE) };
 }
@@ -67,10 +67,10 @@ impl GrayReader {
     pub fn new(alloc: Global) -> Result<GrayReader, NoMemory>
         ensures { IfOk result (λ reader. reader ≡ gray_at_start) }
     {
-        let window = Window::new(alloc)?;
+        let buffer = Buffer::new(alloc)?;
         let line = vec![in alloc; 0u8; 2 * LONGEST_SIDE as usize]?;
         Ok(GrayReader {
-            window,
+            buffer,
             line,
             head: GrayHead {
                 width: 0,
@@ -122,8 +122,8 @@ impl GrayReader {
         ensures stays_opened { I.is_opened inputs.new ≡ true }
         ensures same_openings { I.openings inputs.new ≡ I.openings inputs.old }
     {
-        let answer = read_gray_header(&mut self.window, inputs);
-        self.window.bounded();
+        let answer = read_gray_header(&mut self.buffer, inputs);
+        self.buffer.bounded();
         match answer {
             Ok(header) => {
                 self.head = GrayHead {
@@ -184,14 +184,14 @@ impl GrayReader {
         ensures same_openings { I.openings inputs.new ≡ I.openings inputs.old }
     {
         let answer = read_samples(
-            &mut self.window,
+            &mut self.buffer,
             inputs,
             self.plain,
             self.head.maxval,
             &mut self.line,
             row,
         );
-        self.window.bounded();
+        self.buffer.bounded();
         match answer {
             Ok(()) => {
                 self.given += 1;
@@ -220,7 +220,7 @@ fn fault_of(stop: Stop) -> InFault
 
 /// One row of a gray page, with room for its bytes.
 fn read_samples<I: Inputs>(
-    window: &mut Window,
+    buffer: &mut Buffer,
     inputs: &mut I,
     plain: bool,
     maxval: u32,
@@ -231,7 +231,7 @@ fn read_samples<I: Inputs>(
     requires line { length line.old ≡ 2 * LONGEST_SIDE }
     requires width { length row.old ≤ LONGEST_SIDE }
     ensures reads { Reads (λ _ values. row.new ≡ map lowered values)
-        (gray_row plain maxval (length row.old)) window.old (I.files inputs.old) result window.new
+        (gray_row plain maxval (length row.old)) buffer.old (I.files inputs.old) result buffer.new
         (I.files inputs.new) }
     ensures leaves { Leaves I.Inputs result inputs.old inputs.new }
     ensures free { TakesNone result }
@@ -239,9 +239,9 @@ fn read_samples<I: Inputs>(
     ensures same_line { length line.new ≡ length line.old }
 {
     if plain {
-        read_plain_gray_row(window, inputs, row)
+        read_plain_gray_row(buffer, inputs, row)
     } else {
         let bytes = row_bytes(Channels::Gray, row.len() as u32, maxval);
-        read_raw_gray_row(window, inputs, maxval, &mut line[..bytes], row)
+        read_raw_gray_row(buffer, inputs, maxval, &mut line[..bytes], row)
     }
 }

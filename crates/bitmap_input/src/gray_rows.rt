@@ -1,22 +1,22 @@
 //! A gray page row by row: its header, and the samples of one row.
 ghost use Rattle.std.specs.Prelude.{◌≡◌, ℕ, ◌+◌, ◌*◌, ◌<◌, ◌≤◌, true, false, length, map, min, IfOk};
 ghost use Rattle.bitmap_input.specs.Inner.Reading.{Reads, Any, Same, Leaves, TakesNone};
-ghost use Rattle.bitmap_input.specs.Parts.{repeated};
+ghost use Rattle.bitmap_input.specs.PageParts.{repeated};
 ghost use Rattle.bitmap_input.specs.Samples.{samples_in, samples, plain_sample, sample_bytes, raw_samples_row};
 ghost use Rattle.bitmap_input.specs.declared.channels.Channels.TheVariants as channels;
 ghost use Rattle.bitmap_input.specs.Inner.Header.{magic_of};
 ghost use Rattle.bitmap_input.specs.Inner.GrayRows.{ChecksKind};
 ghost use Rattle.bitmap_input.specs.GrayRows.{gray_alone, gray_kind, gray_magic, header_end, gray_header, gray_header_behind, lowered};
 
+use crate::buffer::Buffer;
 use crate::channels::Channels;
 use crate::fault::InFault;
 use crate::header::{Format, GREATEST_MAXVAL, read_magic, read_maxval, read_sides, skip_space};
-use crate::number::{Part, read_number_behind_gap};
+use crate::number::{Section, read_number_behind_gap};
 use crate::raw::read_block;
 use crate::run::{Run, skip};
 use crate::samples::{is_wide, sample_at};
 use crate::stop::Stop;
-use crate::window::Window;
 use pt_core::{Inputs, LONGEST_SIDE};
 
 /// The header of a gray page.
@@ -55,21 +55,21 @@ fn kind_of(format: Format) -> Result<bool, Stop>
 }
 
 /// The magic of a gray page: whether it is plain.
-fn read_gray_kind<I: Inputs>(window: &mut Window, inputs: &mut I) -> Result<bool, Stop>
+fn read_gray_kind<I: Inputs>(buffer: &mut Buffer, inputs: &mut I) -> Result<bool, Stop>
     requires { I.is_opened inputs.old ≡ true }
-    ensures reads { Reads Same gray_magic window.old (I.files inputs.old) result window.new
+    ensures reads { Reads Same gray_magic buffer.old (I.files inputs.old) result buffer.new
         (I.files inputs.new) }
     ensures leaves { Leaves I.Inputs result inputs.old inputs.new }
     ensures free { TakesNone result }
 {
-    let format = read_magic(window, inputs, false)?;
+    let format = read_magic(buffer, inputs, false)?;
     kind_of(format)
 }
 
 /// Goes on behind the byte that ends a raw page's header.
-fn end_header<I: Inputs>(window: &mut Window, inputs: &mut I, plain: bool) -> Result<(), Stop>
+fn end_header<I: Inputs>(buffer: &mut Buffer, inputs: &mut I, plain: bool) -> Result<(), Stop>
     requires { I.is_opened inputs.old ≡ true }
-    ensures reads { Reads Any (header_end plain) window.old (I.files inputs.old) result window.new
+    ensures reads { Reads Any (header_end plain) buffer.old (I.files inputs.old) result buffer.new
         (I.files inputs.new) }
     ensures leaves { Leaves I.Inputs result inputs.old inputs.new }
     ensures free { TakesNone result }
@@ -77,28 +77,28 @@ fn end_header<I: Inputs>(window: &mut Window, inputs: &mut I, plain: bool) -> Re
     if plain {
         Ok(())
     } else {
-        skip_space(window, inputs)
+        skip_space(buffer, inputs)
     }
 }
 
 /// What follows the magic in a gray page's header.
 fn read_behind_kind<I: Inputs>(
-    window: &mut Window,
+    buffer: &mut Buffer,
     inputs: &mut I,
     plain: bool,
 ) -> Result<GrayHeader, Stop>
     requires { I.is_opened inputs.old ≡ true }
-    ensures reads { Reads Same (gray_header_behind plain) window.old (I.files inputs.old) result
-        window.new (I.files inputs.new) }
+    ensures reads { Reads Same (gray_header_behind plain) buffer.old (I.files inputs.old) result
+        buffer.new (I.files inputs.new) }
     ensures leaves { Leaves I.Inputs result inputs.old inputs.new }
     ensures free { TakesNone result }
     ensures width { IfOk result (λ h. (1 ≤ h.width) × (h.width ≤ LONGEST_SIDE)) }
     ensures height { IfOk result (λ h. (1 ≤ h.height) × (h.height ≤ LONGEST_SIDE)) }
     ensures maxval { IfOk result (λ h. (1 ≤ h.maxval) × (h.maxval ≤ GREATEST_MAXVAL)) }
 {
-    let sides = read_sides(window, inputs)?;
-    let maxval = read_maxval(window, inputs)?;
-    end_header(window, inputs, plain)?;
+    let sides = read_sides(buffer, inputs)?;
+    let maxval = read_maxval(buffer, inputs)?;
+    end_header(buffer, inputs, plain)?;
     Ok(GrayHeader {
         plain,
         width: sides.width,
@@ -109,11 +109,11 @@ fn read_behind_kind<I: Inputs>(
 
 /// The header of a gray page, which is the first page of its file.
 pub(crate) fn read_gray_header<I: Inputs>(
-    window: &mut Window,
+    buffer: &mut Buffer,
     inputs: &mut I,
 ) -> Result<GrayHeader, Stop>
     requires { I.is_opened inputs.old ≡ true }
-    ensures reads { Reads Same gray_header window.old (I.files inputs.old) result window.new
+    ensures reads { Reads Same gray_header buffer.old (I.files inputs.old) result buffer.new
         (I.files inputs.new) }
     ensures leaves { Leaves I.Inputs result inputs.old inputs.new }
     ensures free { TakesNone result }
@@ -121,9 +121,9 @@ pub(crate) fn read_gray_header<I: Inputs>(
     ensures height { IfOk result (λ h. (1 ≤ h.height) × (h.height ≤ LONGEST_SIDE)) }
     ensures maxval { IfOk result (λ h. (1 ≤ h.maxval) × (h.maxval ≤ GREATEST_MAXVAL)) }
 {
-    skip(window, inputs, Run::Space)?;
-    let plain = read_gray_kind(window, inputs)?;
-    read_behind_kind(window, inputs, plain)
+    skip(buffer, inputs, Run::Space)?;
+    let plain = read_gray_kind(buffer, inputs)?;
+    read_behind_kind(buffer, inputs, plain)
 }
 
 /// The samples of a row of bytes.
@@ -138,7 +138,7 @@ fn unpack(line: &[u8], wide: bool, row: &mut [u16])
 
 /// One row of a raw gray page, with room for its bytes.
 pub(crate) fn read_raw_gray_row<I: Inputs>(
-    window: &mut Window,
+    buffer: &mut Buffer,
     inputs: &mut I,
     maxval: u32,
     line: &mut [u8],
@@ -146,33 +146,33 @@ pub(crate) fn read_raw_gray_row<I: Inputs>(
 ) -> Result<(), Stop>
     requires opened { I.is_opened inputs.old ≡ true }
     requires whole { length line.old ≡ sample_bytes maxval (samples_in channels.Gray * length row.old) }
-    ensures reads { Reads (λ _ values. row.new ≡ values) (raw_samples_row channels.Gray maxval (length row.old)) window.old
-        (I.files inputs.old) result window.new (I.files inputs.new) }
+    ensures reads { Reads (λ _ values. row.new ≡ values) (raw_samples_row channels.Gray maxval (length row.old)) buffer.old
+        (I.files inputs.old) result buffer.new (I.files inputs.new) }
     ensures leaves { Leaves I.Inputs result inputs.old inputs.new }
     ensures free { TakesNone result }
     ensures same_room { length row.new ≡ length row.old }
 {
-    read_block(window, inputs, line)?;
+    read_block(buffer, inputs, line)?;
     unpack(line, is_wide(maxval), row);
     Ok(())
 }
 
 /// One row of a plain gray page. A sample above 65535 is given as 65535.
 pub(crate) fn read_plain_gray_row<I: Inputs>(
-    window: &mut Window,
+    buffer: &mut Buffer,
     inputs: &mut I,
     row: &mut [u16],
 ) -> Result<(), Stop>
     requires opened { I.is_opened inputs.old ≡ true }
     ensures reads { Reads (λ _ values. row.new ≡ map lowered values)
-        (repeated plain_sample (length row.old)) window.old
-        (I.files inputs.old) result window.new (I.files inputs.new) }
+        (repeated plain_sample (length row.old)) buffer.old
+        (I.files inputs.old) result buffer.new (I.files inputs.new) }
     ensures leaves { Leaves I.Inputs result inputs.old inputs.new }
     ensures free { TakesNone result }
     ensures same_room { length row.new ≡ length row.old }
 {
     for x in 0..row.len() {
-        let sample = read_number_behind_gap(window, inputs, Part::Raster)?;
+        let sample = read_number_behind_gap(buffer, inputs, Section::Raster)?;
         row[x] = sample.min(GREATEST_MAXVAL) as u16;
     }
     Ok(())

@@ -1,16 +1,16 @@
 //! The header of a page: its magic, its sides and its sample for white.
 ghost use Rattle.std.specs.Prelude.{◌≡◌, ℕ, ◌≤◌, true, false, IfOk, if◌then◌else◌, option_map};
 ghost use Rattle.bitmap_input.specs.Inner.Reading.{Reads, Any, Same, Leaves, HasMemory, TakesNone, cause_of};
-ghost use Rattle.bitmap_input.specs.Parts.{space};
+ghost use Rattle.bitmap_input.specs.PageParts.{space};
 ghost use Rattle.bitmap_input.specs.Front.{magic, magic_named, magic_behind, sides, maxval};
 ghost use Rattle.bitmap_input.specs.Inner.Header.{magic_of, IsFormat, IsSides, Checks, ChecksMaxval};
 
+use crate::buffer::{Buffer, Look};
 use crate::channels::Channels;
 use crate::fault::InFault;
-use crate::number::{Part, read_number_behind_gap};
+use crate::number::{Section, read_number_behind_gap};
 use crate::run::is_space;
 use crate::stop::Stop;
-use crate::window::{Look, Window};
 use pt_core::{Inputs, LONGEST_SIDE};
 
 /// The greatest value that the sample for white may have.
@@ -71,20 +71,20 @@ fn format_named(first: u8, second: u8) -> Option<Format>
 // It is asked for whatever the first one is, since a magic of which fewer than two bytes are there is cut short: so a
 // failed read here is a read fault, and not an unknown format.
 fn read_magic_behind<I: Inputs>(
-    window: &mut Window,
+    buffer: &mut Buffer,
     inputs: &mut I,
     later: bool,
     first: u8,
 ) -> Result<Format, Stop>
     requires { I.is_opened inputs.old ≡ true }
-    ensures reads { Reads IsFormat (magic_behind later first) window.old
-        (I.files inputs.old) result window.new (I.files inputs.new) }
+    ensures reads { Reads IsFormat (magic_behind later first) buffer.old
+        (I.files inputs.old) result buffer.new (I.files inputs.new) }
     ensures leaves { Leaves I.Inputs result inputs.old inputs.new }
     ensures free { TakesNone result }
 {
-    match window.look(inputs) {
+    match buffer.look(inputs) {
         Look::Byte(second) => {
-            window.pass();
+            buffer.pass();
             match format_named(first, second) {
                 Some(format) => Ok(format),
                 None => Err(no_magic(later)),
@@ -97,20 +97,20 @@ fn read_magic_behind<I: Inputs>(
 
 /// The magic of a page, where `later` says that a page of this file came before.
 pub(crate) fn read_magic<I: Inputs>(
-    window: &mut Window,
+    buffer: &mut Buffer,
     inputs: &mut I,
     later: bool,
 ) -> Result<Format, Stop>
     requires { I.is_opened inputs.old ≡ true }
-    ensures reads { Reads IsFormat (magic later) window.old (I.files inputs.old) result window.new
+    ensures reads { Reads IsFormat (magic later) buffer.old (I.files inputs.old) result buffer.new
         (I.files inputs.new) }
     ensures leaves { Leaves I.Inputs result inputs.old inputs.new }
     ensures free { TakesNone result }
 {
-    match window.look(inputs) {
+    match buffer.look(inputs) {
         Look::Byte(first) => {
-            window.pass();
-            read_magic_behind(window, inputs, later, first)
+            buffer.pass();
+            read_magic_behind(buffer, inputs, later, first)
         }
         Look::End => {
             if later {
@@ -124,17 +124,17 @@ pub(crate) fn read_magic<I: Inputs>(
 }
 
 /// Goes on behind one byte of whitespace.
-pub(crate) fn skip_space<I: Inputs>(window: &mut Window, inputs: &mut I) -> Result<(), Stop>
+pub(crate) fn skip_space<I: Inputs>(buffer: &mut Buffer, inputs: &mut I) -> Result<(), Stop>
     requires { I.is_opened inputs.old ≡ true }
-    ensures reads { Reads Any space window.old (I.files inputs.old) result window.new
+    ensures reads { Reads Any space buffer.old (I.files inputs.old) result buffer.new
         (I.files inputs.new) }
     ensures leaves { Leaves I.Inputs result inputs.old inputs.new }
     ensures free { TakesNone result }
 {
-    match window.look(inputs) {
+    match buffer.look(inputs) {
         Look::Byte(byte) => {
             if is_space(byte) {
-                window.pass();
+                buffer.pass();
                 Ok(())
             } else {
                 Err(Stop::Fault(InFault::BadHeader))
@@ -162,17 +162,17 @@ pub(crate) fn check(width: u32, height: u32) -> Result<Sides, Stop>
 }
 
 /// The width and the height, each behind a gap.
-pub(crate) fn read_sides<I: Inputs>(window: &mut Window, inputs: &mut I) -> Result<Sides, Stop>
+pub(crate) fn read_sides<I: Inputs>(buffer: &mut Buffer, inputs: &mut I) -> Result<Sides, Stop>
     requires { I.is_opened inputs.old ≡ true }
-    ensures reads { Reads IsSides sides window.old (I.files inputs.old) result window.new
+    ensures reads { Reads IsSides sides buffer.old (I.files inputs.old) result buffer.new
         (I.files inputs.new) }
     ensures leaves { Leaves I.Inputs result inputs.old inputs.new }
     ensures free { TakesNone result }
     ensures width { IfOk result (λ s. (1 ≤ s.width) × (s.width ≤ LONGEST_SIDE)) }
     ensures height { IfOk result (λ s. (1 ≤ s.height) × (s.height ≤ LONGEST_SIDE)) }
 {
-    let width = read_number_behind_gap(window, inputs, Part::Header)?;
-    let height = read_number_behind_gap(window, inputs, Part::Header)?;
+    let width = read_number_behind_gap(buffer, inputs, Section::Header)?;
+    let height = read_number_behind_gap(buffer, inputs, Section::Header)?;
     check(width, height)
 }
 
@@ -189,14 +189,14 @@ fn check_maxval(number: u32) -> Result<u32, Stop>
 }
 
 /// The sample for white, behind a gap.
-pub(crate) fn read_maxval<I: Inputs>(window: &mut Window, inputs: &mut I) -> Result<u32, Stop>
+pub(crate) fn read_maxval<I: Inputs>(buffer: &mut Buffer, inputs: &mut I) -> Result<u32, Stop>
     requires { I.is_opened inputs.old ≡ true }
-    ensures reads { Reads Same maxval window.old (I.files inputs.old) result window.new
+    ensures reads { Reads Same maxval buffer.old (I.files inputs.old) result buffer.new
         (I.files inputs.new) }
     ensures leaves { Leaves I.Inputs result inputs.old inputs.new }
     ensures free { TakesNone result }
     ensures range { IfOk result (λ maxval. (1 ≤ maxval) × (maxval ≤ GREATEST_MAXVAL)) }
 {
-    let maxval = read_number_behind_gap(window, inputs, Part::Header)?;
+    let maxval = read_number_behind_gap(buffer, inputs, Section::Header)?;
     check_maxval(maxval)
 }

@@ -1,7 +1,7 @@
 //! Laws of the pages of a file, which callers and readers of the definitions rest on.
 ghost use Rattle.std.specs.Prelude.{◌≡◌, ℕ, ◌≤◌, Bool, false, List, ◌++◌, length, take, All};
-ghost use Rattle.bitmap_input.specs.Cut.{Ending, is_by_end};
-ghost use Rattle.bitmap_input.specs.Parts.{run_length, gap_length};
+ghost use Rattle.bitmap_input.specs.Cut.{FileEnd, is_by_end};
+ghost use Rattle.bitmap_input.specs.PageParts.{run_length, gap_length};
 ghost use Rattle.bitmap_input.specs.Sets.{AllBytes, IsGap};
 ghost use Rattle.bit_image.specs.Page.{IsPage};
 ghost use Rattle.bitmap_input.specs.Raw.{Raw, shown};
@@ -43,15 +43,15 @@ pub fn fronts_stay()
 /// A file has one list of pages, and one ending.
 pub fn file_pages_are_one()
     ensures some { (later : Bool) (bytes : List ℕ)
-        → (raws : List Raw) × (ending : Ending) × FilePages later bytes raws ending }
-    ensures same { (later : Bool) (bytes : List ℕ) (raws others : List Raw) (ending other : Ending)
+        → (raws : List Raw) × (ending : FileEnd) × FilePages later bytes raws ending }
+    ensures same { (later : Bool) (bytes : List ℕ) (raws others : List Raw) (ending other : FileEnd)
         → FilePages later bytes raws ending → FilePages later bytes others other
         → (others ≡ raws) × (other ≡ ending) }
 {}
 
 /// What the pages of a file show are pages.
 pub fn file_pages_are_pages()
-    ensures { (later : Bool) (bytes : List ℕ) (raws : List Raw) (ending : Ending) (level : ℕ)
+    ensures { (later : Bool) (bytes : List ℕ) (raws : List Raw) (ending : FileEnd) (level : ℕ)
         (invert : Bool)
         → FilePages later bytes raws ending → All (λ raw. IsPage (shown level invert raw)) raws }
 {}

@@ -17,6 +17,7 @@
 
 mod bmp;
 mod body;
+mod buffer;
 mod channels;
 mod extent;
 pub mod fault;
@@ -34,7 +35,6 @@ mod run;
 mod samples;
 mod skip;
 mod stop;
-mod window;
 mod words;
 
 pub use fault::InFault;

@@ -3,15 +3,15 @@ ghost use Rattle.std.specs.Prelude.{◌≡◌, ℕ, ◌≤◌, true, false, suc,
 ghost use Rattle.bitmap_input.specs.Inner.Reading.{Reads, Any, Leaves, HasMemory, TakesNone};
 ghost use Rattle.bitmap_input.specs.Reading.{cause_of_fault};
 ghost use Rattle.bitmap_input.specs.Reading.Cause.{Says};
-ghost use Rattle.bitmap_input.specs.Cut.Ending.{Refused};
-ghost use Rattle.bitmap_input.specs.Parts.{is_digit, some_gap, number, number_behind_gap};
-ghost use Rattle.bitmap_input.specs.Inner.Run.{digits, IsCapped};
+ghost use Rattle.bitmap_input.specs.Cut.FileEnd.{Refused};
+ghost use Rattle.bitmap_input.specs.PageParts.{is_digit, some_gap, number, number_behind_gap};
+ghost use Rattle.bitmap_input.specs.Inner.ByteRuns.{digits, IsCapped};
 ghost use Rattle.bitmap_input.specs.Inner.Number.{kind_at};
 
+use crate::buffer::{Buffer, Look};
 use crate::fault::InFault;
 use crate::run::{LONGEST, Run, behind, skip};
 use crate::stop::Stop;
-use crate::window::{Look, Window};
 use pt_core::Inputs;
 
 /// A number is cut here where it is larger: it is too large for a side, for the sample for white and for a
@@ -22,22 +22,22 @@ use pt_core::Inputs;
 // it.
 pub(crate) const CAP: u32 = 200000;
 
-/// A part of a page, to which a number belongs.
+/// A section of a page, to which a number belongs.
 #[derive(Clone, Copy)]
-pub(crate) enum Part {
+pub(crate) enum Section {
     Header,
     Raster,
 }
 
-impl Part {
+impl Section {
     /// What another byte than a digit or a gap's means here.
     fn fault(self) -> InFault
         ensures cause { cause_of_fault result ≡ Says (Refused (kind_at self)) }
         ensures free { HasMemory (cause_of_fault result) }
     {
         match self {
-            Part::Header => InFault::BadHeader,
-            Part::Raster => InFault::BadRaster,
+            Section::Header => InFault::BadHeader,
+            Section::Raster => InFault::BadRaster,
         }
     }
 }
@@ -49,9 +49,9 @@ fn is_digit(byte: u8) -> bool
 }
 
 /// The digits that stand at the front, of which there may be none.
-fn read_digits<I: Inputs>(window: &mut Window, inputs: &mut I) -> Result<u32, Stop>
+fn read_digits<I: Inputs>(buffer: &mut Buffer, inputs: &mut I) -> Result<u32, Stop>
     requires { I.is_opened inputs.old ≡ true }
-    ensures reads { Reads IsCapped digits window.old (I.files inputs.old) result window.new
+    ensures reads { Reads IsCapped digits buffer.old (I.files inputs.old) result buffer.new
         (I.files inputs.new) }
     ensures leaves { Leaves I.Inputs result inputs.old inputs.new }
     ensures free { TakesNone result }
@@ -59,7 +59,7 @@ fn read_digits<I: Inputs>(window: &mut Window, inputs: &mut I) -> Result<u32, St
     let mut value = 0;
     let mut n = 0;
     while n <= LONGEST {
-        match window.look(inputs) {
+        match buffer.look(inputs) {
             Look::Byte(byte) => {
                 if !is_digit(byte) {
                     return Ok(value);
@@ -69,26 +69,30 @@ fn read_digits<I: Inputs>(window: &mut Window, inputs: &mut I) -> Result<u32, St
             Look::End => return Ok(value),
             Look::Fault => return Err(Stop::Fault(InFault::ReadFault)),
         }
-        window.pass();
+        buffer.pass();
         n += 1;
     }
     Err(Stop::Fault(InFault::TooLong))
 }
 
 /// A number, or 200000 where it is larger.
-fn read_number<I: Inputs>(window: &mut Window, inputs: &mut I, part: Part) -> Result<u32, Stop>
+fn read_number<I: Inputs>(
+    buffer: &mut Buffer,
+    inputs: &mut I,
+    section: Section,
+) -> Result<u32, Stop>
     requires { I.is_opened inputs.old ≡ true }
-    ensures reads { Reads IsCapped (number (kind_at part)) window.old
-        (I.files inputs.old) result window.new (I.files inputs.new) }
+    ensures reads { Reads IsCapped (number (kind_at section)) buffer.old
+        (I.files inputs.old) result buffer.new (I.files inputs.new) }
     ensures leaves { Leaves I.Inputs result inputs.old inputs.new }
     ensures free { TakesNone result }
 {
-    match window.look(inputs) {
+    match buffer.look(inputs) {
         Look::Byte(byte) => {
             if is_digit(byte) {
-                read_digits(window, inputs)
+                read_digits(buffer, inputs)
             } else {
-                Err(Stop::Fault(part.fault()))
+                Err(Stop::Fault(section.fault()))
             }
         }
         Look::End => Err(Stop::Fault(InFault::Truncated)),
@@ -97,17 +101,17 @@ fn read_number<I: Inputs>(window: &mut Window, inputs: &mut I, part: Part) -> Re
 }
 
 /// Goes on behind whitespace and comments, of which there is at least a byte.
-fn skip_gap<I: Inputs>(window: &mut Window, inputs: &mut I, part: Part) -> Result<(), Stop>
+fn skip_gap<I: Inputs>(buffer: &mut Buffer, inputs: &mut I, section: Section) -> Result<(), Stop>
     requires { I.is_opened inputs.old ≡ true }
-    ensures reads { Reads Any (some_gap (kind_at part)) window.old
-        (I.files inputs.old) result window.new (I.files inputs.new) }
+    ensures reads { Reads Any (some_gap (kind_at section)) buffer.old
+        (I.files inputs.old) result buffer.new (I.files inputs.new) }
     ensures leaves { Leaves I.Inputs result inputs.old inputs.new }
     ensures free { TakesNone result }
 {
-    match window.look(inputs) {
+    match buffer.look(inputs) {
         Look::Byte(byte) => match behind(Run::Gap, byte) {
-            Some(_) => skip(window, inputs, Run::Gap),
-            None => Err(Stop::Fault(part.fault())),
+            Some(_) => skip(buffer, inputs, Run::Gap),
+            None => Err(Stop::Fault(section.fault())),
         },
         Look::End => Err(Stop::Fault(InFault::Truncated)),
         Look::Fault => Err(Stop::Fault(InFault::ReadFault)),
@@ -116,16 +120,16 @@ fn skip_gap<I: Inputs>(window: &mut Window, inputs: &mut I, part: Part) -> Resul
 
 /// A number behind a gap, or 200000 where it is larger.
 pub(crate) fn read_number_behind_gap<I: Inputs>(
-    window: &mut Window,
+    buffer: &mut Buffer,
     inputs: &mut I,
-    part: Part,
+    section: Section,
 ) -> Result<u32, Stop>
     requires { I.is_opened inputs.old ≡ true }
-    ensures reads { Reads IsCapped (number_behind_gap (kind_at part)) window.old
-        (I.files inputs.old) result window.new (I.files inputs.new) }
+    ensures reads { Reads IsCapped (number_behind_gap (kind_at section)) buffer.old
+        (I.files inputs.old) result buffer.new (I.files inputs.new) }
     ensures leaves { Leaves I.Inputs result inputs.old inputs.new }
     ensures free { TakesNone result }
 {
-    skip_gap(window, inputs, part)?;
-    read_number(window, inputs, part)
+    skip_gap(buffer, inputs, section)?;
+    read_number(buffer, inputs, section)
 }

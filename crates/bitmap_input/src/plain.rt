@@ -3,27 +3,27 @@ ghost use Rattle.std.specs.Prelude.{◌≡◌, ℕ, ◌<◌, ◌≤◌, true, fa
 ghost use Rattle.bit_image.specs.Image.{differ};
 ghost use Rattle.bit_image.specs.Page.{Page, SameSides, image_of};
 ghost use Rattle.bitmap_input.specs.Inner.Reading.{Reads, Same, Leaves};
-ghost use Rattle.bitmap_input.specs.Parts.{pixel, repeated};
+ghost use Rattle.bitmap_input.specs.PageParts.{pixel, repeated};
 ghost use Rattle.bitmap_input.specs.Front.{plain_pixel};
 ghost use Rattle.bitmap_input.specs.Inner.Raster.{with_row, with_pixels};
 
+use crate::buffer::{Buffer, Look};
 use crate::fault::InFault;
 use crate::run::{Run, skip};
 use crate::stop::Stop;
-use crate::window::{Look, Window};
 use bit_image::Bitmap;
 use pt_core::Inputs;
 
 /// The character of a pixel: whether it is black.
-fn read_pixel<I: Inputs>(window: &mut Window, inputs: &mut I) -> Result<bool, Stop>
+fn read_pixel<I: Inputs>(buffer: &mut Buffer, inputs: &mut I) -> Result<bool, Stop>
     requires { I.is_opened inputs.old ≡ true }
-    ensures reads { Reads Same pixel window.old (I.files inputs.old) result window.new
+    ensures reads { Reads Same pixel buffer.old (I.files inputs.old) result buffer.new
         (I.files inputs.new) }
     ensures leaves { Leaves I.Inputs result inputs.old inputs.new }
 {
-    match window.look(inputs) {
+    match buffer.look(inputs) {
         Look::Byte(byte) => {
-            window.pass();
+            buffer.pass();
             match byte {
                 b'0' => Ok(false),
                 b'1' => Ok(true),
@@ -36,25 +36,25 @@ fn read_pixel<I: Inputs>(window: &mut Window, inputs: &mut I) -> Result<bool, St
 }
 
 /// A pixel, with whitespace and comments before it or not.
-fn read_plain_pixel<I: Inputs>(window: &mut Window, inputs: &mut I) -> Result<bool, Stop>
+fn read_plain_pixel<I: Inputs>(buffer: &mut Buffer, inputs: &mut I) -> Result<bool, Stop>
     requires { I.is_opened inputs.old ≡ true }
-    ensures reads { Reads Same plain_pixel window.old (I.files inputs.old) result window.new
+    ensures reads { Reads Same plain_pixel buffer.old (I.files inputs.old) result buffer.new
         (I.files inputs.new) }
     ensures leaves { Leaves I.Inputs result inputs.old inputs.new }
 {
-    match window.look(inputs) {
+    match buffer.look(inputs) {
         // Most pixels stand right behind one another.
         Look::Byte(b'0') => {
-            window.pass();
+            buffer.pass();
             Ok(false)
         }
         Look::Byte(b'1') => {
-            window.pass();
+            buffer.pass();
             Ok(true)
         }
         Look::Byte(_) => {
-            skip(window, inputs, Run::Gap)?;
-            read_pixel(window, inputs)
+            skip(buffer, inputs, Run::Gap)?;
+            read_pixel(buffer, inputs)
         }
         Look::End => Err(Stop::Fault(InFault::Truncated)),
         Look::Fault => Err(Stop::Fault(InFault::ReadFault)),
@@ -63,7 +63,7 @@ fn read_plain_pixel<I: Inputs>(window: &mut Window, inputs: &mut I) -> Result<bo
 
 /// One row of pixels, painted in row y, inverted or not.
 pub(crate) fn read_plain_row<I: Inputs>(
-    window: &mut Window,
+    buffer: &mut Buffer,
     inputs: &mut I,
     page: &mut Bitmap,
     y: u32,
@@ -73,13 +73,13 @@ pub(crate) fn read_plain_row<I: Inputs>(
     requires row { y < page.old.height }
     ensures reads { Reads (λ _ pixels. image_of page.new
         ≡ with_row (image_of page.old) y (map (differ invert) pixels))
-        (repeated plain_pixel page.old.width) window.old (I.files inputs.old) result window.new
+        (repeated plain_pixel page.old.width) buffer.old (I.files inputs.old) result buffer.new
         (I.files inputs.new) }
     ensures sides { SameSides page.old page.new }
     ensures leaves { Leaves I.Inputs result inputs.old inputs.new }
 {
     for x in 0..page.width() {
-        let black = read_plain_pixel(window, inputs)?;
+        let black = read_plain_pixel(buffer, inputs)?;
         page.set(x, y, black != invert);
     }
     Ok(())

@@ -2,19 +2,19 @@
 ghost use Rattle.std.specs.Prelude.{◌≡◌, ℕ, ◌<◌, ◌≤◌, true, Bool, length, map};
 ghost use Rattle.bit_image.specs.Page.{Page, SameSides, image_of};
 ghost use Rattle.bitmap_input.specs.Inner.Reading.{Reads, Leaves};
-ghost use Rattle.bitmap_input.specs.Parts.{repeated};
+ghost use Rattle.bitmap_input.specs.PageParts.{repeated};
 ghost use Rattle.bitmap_input.specs.Front.{rows_raster};
 ghost use Rattle.bitmap_input.specs.Raw.{IsShown};
 ghost use Rattle.bitmap_input.specs.Inner.Raster.{with_row, with_rows};
 ghost use Rattle.bitmap_input.specs.Inner.Stored.{row_stored, pixel_entry, is_black_pixel, line_bytes, IsAtLevel, IsStoredInRange};
 
+use crate::buffer::Buffer;
 use crate::extent::known;
 use crate::header::Sides;
 use crate::plain::read_plain_row;
 use crate::raw::read_raw_row;
 use crate::samples::{Shading, read_plain_samples_row, read_raw_samples_row};
 use crate::stop::Stop;
-use crate::window::Window;
 use bit_image::Bitmap;
 use pt_core::{Inputs, LONGEST_SIDE};
 use std::alloc::Global;
@@ -34,7 +34,7 @@ pub(crate) enum Raster {
 
 /// One row, put into row y, with room for its bytes.
 fn read_row<I: Inputs>(
-    window: &mut Window,
+    buffer: &mut Buffer,
     inputs: &mut I,
     page: &mut Bitmap,
     y: u32,
@@ -47,26 +47,26 @@ fn read_row<I: Inputs>(
     requires room { length line.old ≡ line_bytes raster page.old.width }
     ensures reads { Reads (λ _ row. image_of page.new
         ≡ with_row (image_of page.old) y (map (is_black_pixel raster) row))
-        (row_stored raster page.old.width) window.old (I.files inputs.old) result window.new
+        (row_stored raster page.old.width) buffer.old (I.files inputs.old) result buffer.new
         (I.files inputs.new) }
     ensures sides { SameSides page.old page.new }
     ensures leaves { Leaves I.Inputs result inputs.old inputs.new }
 {
     match raster {
-        Raster::PlainBits { invert } => read_plain_row(window, inputs, page, y, invert),
-        Raster::RawBits { invert } => read_raw_row(window, inputs, page, y, invert, line),
+        Raster::PlainBits { invert } => read_plain_row(buffer, inputs, page, y, invert),
+        Raster::RawBits { invert } => read_raw_row(buffer, inputs, page, y, invert, line),
         Raster::PlainSamples { shading } => {
-            read_plain_samples_row(window, inputs, page, y, &shading)
+            read_plain_samples_row(buffer, inputs, page, y, &shading)
         }
         Raster::RawSamples { shading } => {
-            read_raw_samples_row(window, inputs, page, y, &shading, line)
+            read_raw_samples_row(buffer, inputs, page, y, &shading, line)
         }
     }
 }
 
 /// The rows from the top, put into the page, with room for the bytes of one of them.
 fn read_rows<I: Inputs>(
-    window: &mut Window,
+    buffer: &mut Buffer,
     inputs: &mut I,
     page: &mut Bitmap,
     raster: Raster,
@@ -77,15 +77,15 @@ fn read_rows<I: Inputs>(
     requires room { length line.old ≡ line_bytes raster page.old.width }
     ensures reads { Reads (λ _ rows. image_of page.new
         ≡ with_rows (image_of page.old) page.old.height (map (map (is_black_pixel raster)) rows))
-        (repeated (row_stored raster page.old.width) page.old.height) window.old
-        (I.files inputs.old) result window.new (I.files inputs.new) }
+        (repeated (row_stored raster page.old.width) page.old.height) buffer.old
+        (I.files inputs.old) result buffer.new (I.files inputs.new) }
     ensures sides { SameSides page.old page.new }
     ensures leaves { Leaves I.Inputs result inputs.old inputs.new }
 {
     let mut y = page.height();
     while y > 0 {
         y -= 1;
-        read_row(window, inputs, page, y, raster, line)?;
+        read_row(buffer, inputs, page, y, raster, line)?;
     }
     Ok(())
 }
@@ -93,7 +93,7 @@ fn read_rows<I: Inputs>(
 /// The rows behind a header, on a page of their own, with room for the bytes of one of them.
 pub(crate) fn read_page<I: Inputs>(
     alloc: Global,
-    window: &mut Window,
+    buffer: &mut Buffer,
     inputs: &mut I,
     sides: Sides,
     raster: Raster,
@@ -107,11 +107,11 @@ pub(crate) fn read_page<I: Inputs>(
     ensures reads { (level : ℕ) (invert : Bool) → IsAtLevel level invert raster
         → Reads (IsShown level invert)
         (rows_raster (pixel_entry raster) (row_stored raster sides.width) sides.width sides.height)
-        window.old (I.files inputs.old) result window.new (I.files inputs.new) }
+        buffer.old (I.files inputs.old) result buffer.new (I.files inputs.new) }
     ensures leaves { Leaves I.Inputs result inputs.old inputs.new }
 {
     let mut page = Bitmap::new(alloc, sides.width, sides.height)?;
-    read_rows(window, inputs, &mut page, raster, line)?;
+    read_rows(buffer, inputs, &mut page, raster, line)?;
     known(&page);
     Ok(page)
 }

@@ -3,33 +3,33 @@ ghost use Rattle.std.specs.Prelude.{◌≡◌, ◌<◌, true, length, take, map}
 ghost use Rattle.bit_image.specs.Image.{differ};
 ghost use Rattle.bit_image.specs.Page.{Page, SameSides, image_of};
 ghost use Rattle.bitmap_input.specs.Inner.Reading.{Reads, Leaves, TakesNone};
-ghost use Rattle.bitmap_input.specs.Parts.{block};
+ghost use Rattle.bitmap_input.specs.PageParts.{block};
 ghost use Rattle.bitmap_input.specs.Front.{raw_row};
 ghost use Rattle.bitmap_input.specs.Raw.{row_bytes, unpacked};
 ghost use Rattle.bitmap_input.specs.Inner.Raster.{with_row};
 
+use crate::buffer::{Buffer, Look};
 use crate::fault::InFault;
 use crate::stop::Stop;
-use crate::window::{Look, Window};
 use bit_image::Bitmap;
 use pt_core::Inputs;
 
 /// As many bytes as the row is long.
 pub(crate) fn read_block<I: Inputs>(
-    window: &mut Window,
+    buffer: &mut Buffer,
     inputs: &mut I,
     row: &mut [u8],
 ) -> Result<(), Stop>
     requires { I.is_opened inputs.old ≡ true }
-    ensures reads { Reads (λ _ bytes. bytes ≡ row.new) (block (length row.old)) window.old
-        (I.files inputs.old) result window.new (I.files inputs.new) }
+    ensures reads { Reads (λ _ bytes. bytes ≡ row.new) (block (length row.old)) buffer.old
+        (I.files inputs.old) result buffer.new (I.files inputs.new) }
     ensures leaves { Leaves I.Inputs result inputs.old inputs.new }
     ensures free { TakesNone result }
 {
     let mut done = 0;
     while done < row.len() {
-        match window.look(inputs) {
-            Look::Byte(_) => done += window.give(&mut row[done..]),
+        match buffer.look(inputs) {
+            Look::Byte(_) => done += buffer.give(&mut row[done..]),
             Look::End => return Err(Stop::Fault(InFault::Truncated)),
             Look::Fault => return Err(Stop::Fault(InFault::ReadFault)),
         }
@@ -57,7 +57,7 @@ pub(crate) fn place_row(page: &mut Bitmap, y: u32, bytes: &[u8], invert: bool)
 
 /// One row of bits, put into row y, inverted or not, with room for its bytes.
 pub(crate) fn read_raw_row<I: Inputs>(
-    window: &mut Window,
+    buffer: &mut Buffer,
     inputs: &mut I,
     page: &mut Bitmap,
     y: u32,
@@ -69,12 +69,12 @@ pub(crate) fn read_raw_row<I: Inputs>(
     requires whole { length line.old ≡ row_bytes page.old.width }
     ensures reads { Reads (λ _ pixels. image_of page.new
         ≡ with_row (image_of page.old) y (map (differ invert) pixels))
-        (raw_row page.old.width) window.old (I.files inputs.old) result window.new
+        (raw_row page.old.width) buffer.old (I.files inputs.old) result buffer.new
         (I.files inputs.new) }
     ensures sides { SameSides page.old page.new }
     ensures leaves { Leaves I.Inputs result inputs.old inputs.new }
 {
-    read_block(window, inputs, line)?;
+    read_block(buffer, inputs, line)?;
     place_row(page, y, line, invert);
     Ok(())
 }

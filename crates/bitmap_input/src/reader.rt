@@ -11,6 +11,7 @@ ghost use Rattle.bitmap_input.specs.Inner.Behind.{IsRead, counted_page};
 ghost use Rattle.bitmap_input.specs.Reader.{at_start, is_later, ahead, GivesPage, GivesEnding, ReadFails, MemoryFails, TellsPage, is_over, IfPage, IfEnding, IsAnswer};
 
 use crate::body::read_body;
+use crate::buffer::Buffer;
 use crate::extent::ReadPage;
 use crate::fault::InFault;
 use crate::header::read_magic;
@@ -18,7 +19,6 @@ use crate::next::Next;
 use crate::run::{Run, skip};
 use crate::skip::pass_over;
 use crate::stop::Stop;
-use crate::window::Window;
 use pt_core::{Inputs, NoMemory};
 use std::alloc::Global;
 use std::marker::Model;
@@ -27,7 +27,7 @@ use threshold_map::Level;
 /// A reader of the pages of the opened file, one after another.
 #[derive(Debug, Drop)]
 pub struct PageReader {
-    window: Window,
+    buffer: Buffer,
     // The bytes behind the last page that it claims, which the next call passes over.
     skip: u32,
     pages: u32,
@@ -41,39 +41,39 @@ impl Model for PageReader {
     ghost Value = { Reader };
 
     ghost view = { λ r. record {
-      bytes = r.window.bytes;
+      bytes = r.buffer.bytes;
       skip = r.skip;
       pages = r.pages;
-      ended = r.window.ended;
+      ended = r.buffer.ended;
       over = r.over;
     } };
 
-    ghost invariant = { λ r. length r.window.bytes ≤ 65536 };
+    ghost invariant = { λ r. length r.buffer.bytes ≤ 65536 };
 }
 
 /// The next page, behind whitespace.
 fn read_page<I: Inputs>(
     alloc: Global,
-    window: &mut Window,
+    buffer: &mut Buffer,
     inputs: &mut I,
     later: bool,
     level: &Level,
     invert: bool,
 ) -> Result<ReadPage, Stop>
     requires { I.is_opened inputs.old ≡ true }
-    ensures reads { Reads (IsRead level.now invert) (counted_page later) window.old
-        (I.files inputs.old) result window.new (I.files inputs.new) }
+    ensures reads { Reads (IsRead level.now invert) (counted_page later) buffer.old
+        (I.files inputs.old) result buffer.new (I.files inputs.new) }
     ensures leaves { Leaves I.Inputs result inputs.old inputs.new }
 {
-    skip(window, inputs, Run::Space)?;
-    let format = read_magic(window, inputs, later)?;
-    read_body(alloc, window, inputs, format, level, invert)
+    skip(buffer, inputs, Run::Space)?;
+    let format = read_magic(buffer, inputs, later)?;
+    read_body(alloc, buffer, inputs, format, level, invert)
 }
 
 /// The next page, behind bytes that the last one claims. Where the file ends sooner there is none.
 fn read_ahead<I: Inputs>(
     alloc: Global,
-    window: &mut Window,
+    buffer: &mut Buffer,
     inputs: &mut I,
     behind: u32,
     later: bool,
@@ -82,12 +82,12 @@ fn read_ahead<I: Inputs>(
 ) -> Result<ReadPage, Stop>
     requires { I.is_opened inputs.old ≡ true }
     ensures reads { Reads (IsRead level.now invert)
-        (λ bytes. counted_page later (drop behind bytes)) window.old
-        (I.files inputs.old) result window.new (I.files inputs.new) }
+        (λ bytes. counted_page later (drop behind bytes)) buffer.old
+        (I.files inputs.old) result buffer.new (I.files inputs.new) }
     ensures leaves { Leaves I.Inputs result inputs.old inputs.new }
 {
-    pass_over(window, inputs, behind)?;
-    read_page(alloc, window, inputs, later, level, invert)
+    pass_over(buffer, inputs, behind)?;
+    read_page(alloc, buffer, inputs, later, level, invert)
 }
 
 impl PageReader {
@@ -95,9 +95,9 @@ impl PageReader {
     pub fn new(alloc: Global) -> Result<PageReader, NoMemory>
         ensures { IfOk result (λ reader. reader ≡ at_start) }
     {
-        let window = Window::new(alloc)?;
+        let buffer = Buffer::new(alloc)?;
         Ok(PageReader {
-            window,
+            buffer,
             skip: 0,
             pages: 0,
             over: false,
@@ -108,7 +108,7 @@ impl PageReader {
     pub fn start(&mut self)
         ensures { self.new ≡ at_start }
     {
-        self.window.clear();
+        self.buffer.clear();
         self.skip = 0;
         self.pages = 0;
         self.over = false;
@@ -188,14 +188,14 @@ impl PageReader {
         let later = self.pages > 0;
         let answer = read_ahead(
             alloc,
-            &mut self.window,
+            &mut self.buffer,
             inputs,
             self.skip,
             later,
             level,
             invert,
         );
-        self.window.bounded();
+        self.buffer.bounded();
         match answer {
             Ok(read) => {
                 self.pages += 1;

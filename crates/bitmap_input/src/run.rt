@@ -1,12 +1,12 @@
 //! Runs of whitespace and of comments.
 ghost use Rattle.std.specs.Prelude.{◌≡◌, ℕ, true, false, suc, List, ◌∷◌, MatchOption, IsTrue, ◌↔◌};
 ghost use Rattle.bitmap_input.specs.Inner.Reading.{Reads, Any, Leaves, TakesNone};
-ghost use Rattle.bitmap_input.specs.Parts.{is_space};
-ghost use Rattle.bitmap_input.specs.Inner.Run.{run_size, run_part, Continues};
+ghost use Rattle.bitmap_input.specs.PageParts.{is_space};
+ghost use Rattle.bitmap_input.specs.Inner.ByteRuns.{run_size, run_part, Continues};
 
+use crate::buffer::{Buffer, Look};
 use crate::fault::InFault;
 use crate::stop::Stop;
-use crate::window::{Look, Window};
 use pt_core::Inputs;
 
 /// The most bytes of a gap, and of a run of digits.
@@ -61,9 +61,9 @@ pub(crate) fn behind(run: Run, byte: u8) -> Option<Run>
 }
 
 /// Goes on behind a run, which may be empty.
-pub(crate) fn skip<I: Inputs>(window: &mut Window, inputs: &mut I, run: Run) -> Result<(), Stop>
+pub(crate) fn skip<I: Inputs>(buffer: &mut Buffer, inputs: &mut I, run: Run) -> Result<(), Stop>
     requires { I.is_opened inputs.old ≡ true }
-    ensures reads { Reads Any (run_part run) window.old (I.files inputs.old) result window.new
+    ensures reads { Reads Any (run_part run) buffer.old (I.files inputs.old) result buffer.new
         (I.files inputs.new) }
     ensures leaves { Leaves I.Inputs result inputs.old inputs.new }
     ensures free { TakesNone result }
@@ -71,7 +71,7 @@ pub(crate) fn skip<I: Inputs>(window: &mut Window, inputs: &mut I, run: Run) -> 
     let mut run = run;
     let mut n = 0;
     while n <= LONGEST {
-        match window.look(inputs) {
+        match buffer.look(inputs) {
             Look::Byte(byte) => match behind(run, byte) {
                 Some(next) => run = next,
                 None => return Ok(()),
@@ -79,7 +79,7 @@ pub(crate) fn skip<I: Inputs>(window: &mut Window, inputs: &mut I, run: Run) -> 
             Look::End => return Ok(()),
             Look::Fault => return Err(Stop::Fault(InFault::ReadFault)),
         }
-        window.pass();
+        buffer.pass();
         n += 1;
     }
     Err(Stop::Fault(InFault::TooLong))

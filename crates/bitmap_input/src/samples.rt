@@ -4,19 +4,19 @@ ghost use Rattle.std.specs.Prelude.{◌≡◌, ℕ, ◌+◌, ◌*◌, ◌<◌, �
 ghost use Rattle.bit_image.specs.Words.{is_one};
 ghost use Rattle.bit_image.specs.Page.{Page, SameSides, image_of};
 ghost use Rattle.bitmap_input.specs.Inner.Reading.{Reads, Leaves};
-ghost use Rattle.bitmap_input.specs.Parts.{repeated};
+ghost use Rattle.bitmap_input.specs.PageParts.{repeated};
 ghost use Rattle.bitmap_input.specs.Raw.{is_dark};
 ghost use Rattle.bitmap_input.specs.Samples.{PixelSamples, samples_in, as_entry, plain_samples, is_wide, sample_bytes, samples, grouped, raw_samples_row};
 ghost use Rattle.bitmap_input.specs.Inner.Raster.{with_row};
-ghost use Rattle.bitmap_input.specs.Inner.Shading.{brightness, brightness_at, IsCappedBrightness, is_black_at, black_of, black_in, IsInRange};
+ghost use Rattle.bitmap_input.specs.Inner.Shading.{brightness, brightness_at, IsCappedBrightness, is_black_at, black_of, black_in_bytes, IsInRange};
 ghost use Rattle.bitmap_input.specs.declared.channels.Channels.TheVariants as channels;
 
+use crate::buffer::Buffer;
 use crate::channels::Channels;
 use crate::header::GREATEST_MAXVAL;
-use crate::number::{Part, read_number_behind_gap};
+use crate::number::{Section, read_number_behind_gap};
 use crate::raw::read_block;
 use crate::stop::Stop;
-use crate::window::Window;
 use crate::words::with_pixel;
 use bit_image::Bitmap;
 use pt_core::{Inputs, LONGEST_SIDE};
@@ -61,39 +61,39 @@ pub(crate) fn brightest_black(level: &Level, channels: Channels, maxval: u32) ->
 }
 
 /// The brightness of a pixel of three samples as numbers.
-fn read_plain_color<I: Inputs>(window: &mut Window, inputs: &mut I) -> Result<u32, Stop>
+fn read_plain_color<I: Inputs>(buffer: &mut Buffer, inputs: &mut I) -> Result<u32, Stop>
     requires { I.is_opened inputs.old ≡ true }
     ensures reads { Reads (IsCappedBrightness channels.Color) (plain_samples channels.Color)
-        window.old (I.files inputs.old) result window.new (I.files inputs.new) }
+        buffer.old (I.files inputs.old) result buffer.new (I.files inputs.new) }
     ensures leaves { Leaves I.Inputs result inputs.old inputs.new }
 {
-    let red = read_number_behind_gap(window, inputs, Part::Raster)?;
-    let green = read_number_behind_gap(window, inputs, Part::Raster)?;
-    let blue = read_number_behind_gap(window, inputs, Part::Raster)?;
+    let red = read_number_behind_gap(buffer, inputs, Section::Raster)?;
+    let green = read_number_behind_gap(buffer, inputs, Section::Raster)?;
+    let blue = read_number_behind_gap(buffer, inputs, Section::Raster)?;
     Ok(red + green + blue)
 }
 
 /// The brightness of a pixel of samples as numbers. One that is too large to be black may have been
 /// cut.
 fn read_plain_samples<I: Inputs>(
-    window: &mut Window,
+    buffer: &mut Buffer,
     inputs: &mut I,
     channels: Channels,
 ) -> Result<u32, Stop>
     requires { I.is_opened inputs.old ≡ true }
-    ensures reads { Reads (IsCappedBrightness channels) (plain_samples channels) window.old
-        (I.files inputs.old) result window.new (I.files inputs.new) }
+    ensures reads { Reads (IsCappedBrightness channels) (plain_samples channels) buffer.old
+        (I.files inputs.old) result buffer.new (I.files inputs.new) }
     ensures leaves { Leaves I.Inputs result inputs.old inputs.new }
 {
     match channels {
-        Channels::Gray => read_number_behind_gap(window, inputs, Part::Raster),
-        Channels::Color => read_plain_color(window, inputs),
+        Channels::Gray => read_number_behind_gap(buffer, inputs, Section::Raster),
+        Channels::Color => read_plain_color(buffer, inputs),
     }
 }
 
 /// One row of samples as numbers, painted in row y.
 pub(crate) fn read_plain_samples_row<I: Inputs>(
-    window: &mut Window,
+    buffer: &mut Buffer,
     inputs: &mut I,
     page: &mut Bitmap,
     y: u32,
@@ -104,13 +104,13 @@ pub(crate) fn read_plain_samples_row<I: Inputs>(
     requires range { IsInRange shading.now }
     ensures reads { Reads (λ _ row. image_of page.new
         ≡ with_row (image_of page.old) y (map (black_of shading.now) row))
-        (repeated (plain_samples shading.now.channels) page.old.width) window.old
-        (I.files inputs.old) result window.new (I.files inputs.new) }
+        (repeated (plain_samples shading.now.channels) page.old.width) buffer.old
+        (I.files inputs.old) result buffer.new (I.files inputs.new) }
     ensures sides { SameSides page.old page.new }
     ensures leaves { Leaves I.Inputs result inputs.old inputs.new }
 {
     for x in 0..page.width() {
-        let brightness = read_plain_samples(window, inputs, shading.channels)?;
+        let brightness = read_plain_samples(buffer, inputs, shading.channels)?;
         page.set(x, y, shading.black(brightness));
     }
     Ok(())
@@ -173,7 +173,7 @@ fn word(row: &[u8], from: usize, count: usize, shading: &Shading) -> u64
     requires column { from ≤ LONGEST_SIDE }
     requires within { samples_in shading.now.channels * (from + count)
         ≤ length (samples (is_wide shading.now.maxval) row.now) }
-    ensures { (k : ℕ) → k < count → is_one result k ≡ black_in shading.now row.now (from + k) }
+    ensures { (k : ℕ) → k < count → is_one result k ≡ black_in_bytes shading.now row.now (from + k) }
 {
     let wide = is_wide(shading.maxval);
     let mut word = 0;
@@ -204,7 +204,7 @@ fn place_row(page: &mut Bitmap, y: u32, row: &[u8], shading: &Shading)
 
 /// One row of samples as bytes, painted in row y, with room for its bytes.
 pub(crate) fn read_raw_samples_row<I: Inputs>(
-    window: &mut Window,
+    buffer: &mut Buffer,
     inputs: &mut I,
     page: &mut Bitmap,
     y: u32,
@@ -217,12 +217,12 @@ pub(crate) fn read_raw_samples_row<I: Inputs>(
         ≡ sample_bytes shading.now.maxval (samples_in shading.now.channels * page.old.width) }
     ensures reads { Reads (λ _ row. image_of page.new
         ≡ with_row (image_of page.old) y (map (black_of shading.now) row))
-        (raw_samples_row shading.now.channels shading.now.maxval page.old.width) window.old
-        (I.files inputs.old) result window.new (I.files inputs.new) }
+        (raw_samples_row shading.now.channels shading.now.maxval page.old.width) buffer.old
+        (I.files inputs.old) result buffer.new (I.files inputs.new) }
     ensures sides { SameSides page.old page.new }
     ensures leaves { Leaves I.Inputs result inputs.old inputs.new }
 {
-    read_block(window, inputs, line)?;
+    read_block(buffer, inputs, line)?;
     place_row(page, y, line, shading);
     Ok(())
 }

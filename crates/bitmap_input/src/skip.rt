@@ -1,27 +1,27 @@
 //! Bytes that are passed over.
 ghost use Rattle.std.specs.Prelude.{◌≡◌, true};
 ghost use Rattle.bitmap_input.specs.Inner.Reading.{Reads, Any, Same, Leaves};
-ghost use Rattle.bitmap_input.specs.Parts.{block};
+ghost use Rattle.bitmap_input.specs.PageParts.{block};
 ghost use Rattle.bitmap_input.specs.Inner.Skip.{passed_over};
 
+use crate::buffer::{Buffer, Look};
 use crate::fault::InFault;
 use crate::stop::Stop;
-use crate::window::{Look, Window};
 use pt_core::Inputs;
 
 /// Goes on behind n bytes, or behind all where there are fewer: how many were missing.
 ///
 /// No memory is taken for them.
-pub(crate) fn pass_over<I: Inputs>(window: &mut Window, inputs: &mut I, n: u32) -> Result<u32, Stop>
+pub(crate) fn pass_over<I: Inputs>(buffer: &mut Buffer, inputs: &mut I, n: u32) -> Result<u32, Stop>
     requires { I.is_opened inputs.old ≡ true }
-    ensures reads { Reads Same (passed_over n) window.old (I.files inputs.old) result window.new
+    ensures reads { Reads Same (passed_over n) buffer.old (I.files inputs.old) result buffer.new
         (I.files inputs.new) }
     ensures leaves { Leaves I.Inputs result inputs.old inputs.new }
 {
     let mut left = n;
     while left > 0 {
-        match window.look(inputs) {
-            Look::Byte(_) => left -= window.pass_some(left),
+        match buffer.look(inputs) {
+            Look::Byte(_) => left -= buffer.pass_some(left),
             Look::End => return Ok(left),
             Look::Fault => return Err(Stop::Fault(InFault::ReadFault)),
         }
@@ -30,13 +30,13 @@ pub(crate) fn pass_over<I: Inputs>(window: &mut Window, inputs: &mut I, n: u32) 
 }
 
 /// Goes on behind n bytes.
-pub(crate) fn skip_block<I: Inputs>(window: &mut Window, inputs: &mut I, n: u32) -> Result<(), Stop>
+pub(crate) fn skip_block<I: Inputs>(buffer: &mut Buffer, inputs: &mut I, n: u32) -> Result<(), Stop>
     requires { I.is_opened inputs.old ≡ true }
-    ensures reads { Reads Any (block n) window.old (I.files inputs.old) result window.new
+    ensures reads { Reads Any (block n) buffer.old (I.files inputs.old) result buffer.new
         (I.files inputs.new) }
     ensures leaves { Leaves I.Inputs result inputs.old inputs.new }
 {
-    let missing = pass_over(window, inputs, n)?;
+    let missing = pass_over(buffer, inputs, n)?;
     if missing == 0 {
         Ok(())
     } else {

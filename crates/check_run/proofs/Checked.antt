@@ -10,7 +10,7 @@ use Rattle.polygon_optimal.specs.Polygon.{IsBestPolygon}
 use Rattle.run_output.specs.Told.{Sinks, Source}
 use Rattle.small_program.specs.Ending.{exit_code}
 use Rattle.small_program.specs.Input.{TellsInput}
-use Rattle.small_program.specs.Outcome.{HasDone, TakesInput}
+use Rattle.small_program.specs.ProgramRun.{HasDone, TakesInput}
 use Rattle.small_program.specs.Reply.{IsReply}
 use Rattle.small_program.specs.declared.ending.Ending.{Ending}
 use Rattle.small_program.specs.declared.ending.Ending.TheVariants as ending

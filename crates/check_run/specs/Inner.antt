@@ -1,4 +1,2 @@
--- A text has one reply.
---   one_ending: no two endings belong to a text
---   one_line: no two lines do
+-- What inner contracts alone speak of: no promise rests on it.
 pub mod OneReply

@@ -7,7 +7,7 @@ ghost use Rattle.polygon_optimal.specs.Polygon.{IsBestPolygon};
 ghost use Rattle.run_output.specs.Told.{sinks_of, source_of};
 ghost use Rattle.small_program.specs.Ending.{exit_code};
 ghost use Rattle.small_program.specs.Input.{TellsInput};
-ghost use Rattle.small_program.specs.Outcome.{IsProgramRun};
+ghost use Rattle.small_program.specs.ProgramRun.{IsProgramRun};
 ghost use Rattle.small_program.specs.declared.ending.Ending.{Ending};
 ghost use Rattle.small_program.specs.declared.ending.Ending.TheVariants.{Done};
 

@@ -4,14 +4,14 @@ ghost use Rattle.check_run.specs.Verdict.{verdict_line};
 
 use outline_check::{Verdict, check_proofs};
 use pt_core::{NoMemory, put_number};
-use small_program::{Reply, Task};
+use small_program::{Replies, Reply};
 use std::alloc::Global;
 
 /// Checking a text of certificates.
 #[derive(Clone, Copy, Debug)]
 pub struct Checking;
 
-impl Task for Checking {
+impl Replies for Checking {
     ghost use Rattle.check_run.specs.Verdict.{IsCheckReply};
     ghost use Rattle.check_run.specs.Inner.OneReply.{one_ending, one_line};
 

@@ -1,3 +1,2 @@
--- The command as `clap` reads it.
---   rule_of_row: the rule of a row of the program's table
+-- What inner contracts alone speak of: no promise rests on it.
 pub mod Command

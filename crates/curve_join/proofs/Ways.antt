@@ -10,7 +10,7 @@ use Rattle.least_walk.proofs.Going.{total_cost-cons}
 use Rattle.least_walk.proofs.Onward.{fewest_onward, least_onward}
 use Rattle.curve_join.specs.Choice.{run_penalty}
 use Rattle.curve_join.specs.Join.{penalty_at}
-use Rattle.curve_join.specs.Inner.Search.{AreLeastCosts, IsNotBehind, paid}
+use Rattle.curve_join.specs.Inner.CutSearch.{AreLeastCosts, IsNotBehind, paid}
 use Rattle.curve_join.specs.declared.bend.Bend.{Bend}
 use Rattle.curve_join.specs.declared.search.WayOn.{WayOn}
 

@@ -10,7 +10,7 @@ ghost use Rattle.curve_join.specs.Inner.Bends.{IsWorkable};
 ghost use Rattle.curve_join.specs.Inner.Choice.{IsLastRun};
 ghost use Rattle.curve_join.specs.Choice.{MayBeOne, run_penalty};
 ghost use Rattle.curve_join.specs.Join.{GoesRound, first_bend, sense_at};
-ghost use Rattle.curve_join.specs.Inner.Search.{AreLeastCosts, IsNotBehind, paid};
+ghost use Rattle.curve_join.specs.Inner.CutSearch.{AreLeastCosts, IsNotBehind, paid};
 
 use crate::bend::Bend;
 use crate::run::{joined_round, round_count};

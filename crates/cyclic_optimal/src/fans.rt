@@ -2,7 +2,7 @@
 ghost use Rattle.std.specs.Prelude.{◌≡◌, ◌+◌, ◌-◌, ◌<◌, ◌≤◌, length, slice_index, IfOk, IfSome};
 ghost use Rattle.cyclic_optimal.specs.Inner.Fans.{HasFans, IsFanOf};
 
-use crate::sides::Sides;
+use crate::sides::WalkSegments;
 use prefix_moments::Start;
 use pt_core::NoMemory;
 use std::alloc::Global;
@@ -33,7 +33,11 @@ impl Fan {
 }
 
 /// The fan of each point, from the segment to `nexts` to the longest one.
-pub(crate) fn all_fans(alloc: Global, sides: &Sides, nexts: &[usize]) -> Result<Vec<Fan>, NoMemory>
+pub(crate) fn all_fans(
+    alloc: Global,
+    sides: &WalkSegments,
+    nexts: &[usize],
+) -> Result<Vec<Fan>, NoMemory>
     requires places { length nexts.now ≡ length sides.now.moments.now }
     ensures { IfOk result (λ fans. HasFans sides.now.moments.now fans.items) }
 {
@@ -50,7 +54,7 @@ pub(crate) fn all_fans(alloc: Global, sides: &Sides, nexts: &[usize]) -> Result<
 /// The fan of point `i`, from the segment to point `first` on, of no more penalties than there is room for.
 fn fan_of(
     alloc: Global,
-    sides: &Sides,
+    sides: &WalkSegments,
     i: usize,
     first: usize,
     room: usize,

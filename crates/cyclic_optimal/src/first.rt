@@ -14,7 +14,7 @@ ghost use Rattle.cyclic_optimal.specs.Inner.Fronts.{IsBestAmong, IsBestFrom};
 use crate::fans::all_fans;
 use crate::fronts::{best_by, tops};
 use crate::leaps::{all_leaps, nexts};
-use crate::sides::Sides;
+use crate::sides::WalkSegments;
 use crate::windows::{narrowest, sparsest};
 use prefix_moments::Moments;
 use pt_core::{NoMemory, Point};
@@ -53,7 +53,7 @@ pub(crate) fn first_vertex(
     ensures first { IfOk result (IsFirstVertex points.now) }
     ensures point { IfOk result (λ first. first < length points.now) }
 {
-    let sides = Sides::of(alloc, points, moments)?;
+    let sides = WalkSegments::of(alloc, points, moments)?;
     let narrow = narrowest(&sides);
     if sides.last(narrow) - narrow <= FEW {
         return first_after(alloc, &sides, narrow);
@@ -64,7 +64,7 @@ pub(crate) fn first_vertex(
 
 /// For each point, the nearest one from which the polygon's other segments can lead round to it, where this point has
 /// the narrowest window.
-fn nexts_round(alloc: Global, sides: &Sides, narrow: usize) -> Result<Vec<usize>, NoMemory>
+fn nexts_round(alloc: Global, sides: &WalkSegments, narrow: usize) -> Result<Vec<usize>, NoMemory>
     requires point { narrow < length sides.now.moments.now }
     requires within { (j : ℕ) → IsPossible sides.now.moments.now narrow j
         → j < length sides.now.moments.now }
@@ -77,7 +77,7 @@ fn nexts_round(alloc: Global, sides: &Sides, narrow: usize) -> Result<Vec<usize>
 /// The first vertex of the least cyclic polygon, by the sparsest window, where this point has the narrowest.
 fn first_by_sparsest(
     alloc: Global,
-    sides: Sides,
+    sides: WalkSegments,
     nexts: &[usize],
     narrow: usize,
 ) -> Result<u32, NoMemory>
@@ -93,7 +93,7 @@ fn first_by_sparsest(
 }
 
 /// The first vertex of the least cyclic polygon, by the window after this point.
-fn first_after(alloc: Global, sides: &Sides, point: usize) -> Result<u32, NoMemory>
+fn first_after(alloc: Global, sides: &WalkSegments, point: usize) -> Result<u32, NoMemory>
     requires point { point < length sides.now.moments.now }
     requires within { (j : ℕ) → IsPossible sides.now.moments.now point j
         → j < length sides.now.moments.now }
@@ -105,7 +105,12 @@ fn first_after(alloc: Global, sides: &Sides, point: usize) -> Result<u32, NoMemo
 }
 
 /// The best way once round from one of the points from `low` to before `high`.
-fn best_among(alloc: Global, sides: &Sides, low: usize, high: usize) -> Result<Best, NoMemory>
+fn best_among(
+    alloc: Global,
+    sides: &WalkSegments,
+    low: usize,
+    high: usize,
+) -> Result<Best, NoMemory>
     requires some { low < high }
     requires within { high ≤ length sides.now.moments.now }
     ensures { IfOk result (IsBestAmong sides.now.moments.now low high) }
@@ -126,7 +131,12 @@ fn best_among(alloc: Global, sides: &Sides, low: usize, high: usize) -> Result<B
 }
 
 /// The fewest segments of a way once round from one of the points from `low` to before `high`.
-fn fewest_among(alloc: Global, sides: &Sides, low: usize, high: usize) -> Result<usize, NoMemory>
+fn fewest_among(
+    alloc: Global,
+    sides: &WalkSegments,
+    low: usize,
+    high: usize,
+) -> Result<usize, NoMemory>
     requires some { low < high }
     requires within { high ≤ length sides.now.moments.now }
     ensures some { IfOk result (λ count. (s : ℕ) × (low ≤ s) × (s < high)

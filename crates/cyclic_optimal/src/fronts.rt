@@ -13,7 +13,7 @@ ghost use Rattle.cyclic_optimal.specs.Inner.Fronts.{AreTops, IsBestFrom, IsFront
 
 use crate::fans::Fan;
 use crate::first::Best;
-use crate::sides::Sides;
+use crate::sides::WalkSegments;
 use pt_core::NoMemory;
 use std::alloc::Global;
 
@@ -34,7 +34,11 @@ struct Front {
 }
 
 /// The farthest points from `start` after no segment, after one, and so on to the same point a lap on.
-pub(crate) fn tops(alloc: Global, sides: &Sides, start: usize) -> Result<Vec<usize>, NoMemory>
+pub(crate) fn tops(
+    alloc: Global,
+    sides: &WalkSegments,
+    start: usize,
+) -> Result<Vec<usize>, NoMemory>
     requires { start < length sides.now.moments.now }
     ensures some { IfOk result (λ tops. 1 ≤ length tops.items) }
     ensures tops { IfOk result (λ tops. AreTops sides.now.moments.now start
@@ -58,7 +62,7 @@ pub(crate) fn tops(alloc: Global, sides: &Sides, start: usize) -> Result<Vec<usi
 // From the last front back to the first: for each point the least of all segments to the next front.
 pub(crate) fn best_by(
     alloc: Global,
-    sides: &Sides,
+    sides: &WalkSegments,
     start: usize,
     tops: &[usize],
 ) -> Result<Best, NoMemory>
@@ -88,7 +92,12 @@ pub(crate) fn best_by(
 }
 
 /// The front before this one, up to `top`.
-fn earlier(alloc: Global, sides: &Sides, top: usize, later: &Front) -> Result<Front, NoMemory>
+fn earlier(
+    alloc: Global,
+    sides: &WalkSegments,
+    top: usize,
+    later: &Front,
+) -> Result<Front, NoMemory>
     requires top { top < 2 * length sides.now.moments.now }
     requires end { later.now.end < 2 ^ 33 }
     requires left { later.now.left < 2 ^ 31 }
@@ -115,7 +124,7 @@ fn earlier(alloc: Global, sides: &Sides, top: usize, later: &Front) -> Result<Fr
 }
 
 /// The first point, or the one after `top`, from which on segments lead to `goal` and beyond.
-fn lowest(sides: &Sides, top: usize, goal: usize) -> usize
+fn lowest(sides: &WalkSegments, top: usize, goal: usize) -> usize
     requires top { top < 2 * length sides.now.moments.now }
     ensures most { result ≤ top + 1 }
     ensures short { (i j : ℕ) → i < result → IsPossible sides.now.moments.now i j → j < goal }
@@ -128,7 +137,7 @@ fn lowest(sides: &Sides, top: usize, goal: usize) -> usize
 }
 
 /// What the least way from this point counts, by a segment to the next front.
-fn cheapest(sides: &Sides, i: usize, later: &Front) -> u128
+fn cheapest(sides: &WalkSegments, i: usize, later: &Front) -> u128
     requires point { i < 2 * length sides.now.moments.now }
     requires end { later.now.end < 2 ^ 33 }
     requires left { later.now.left < 2 ^ 31 }
@@ -150,7 +159,14 @@ fn cheapest(sides: &Sides, i: usize, later: &Front) -> u128
 
 /// What the way by the segment from point `i` to point `j` counts, where the rest counts so much; or `best`, where
 /// that is no more.
-fn lower(sides: &Sides, fan: Option<&Fan>, i: usize, j: usize, rest: u128, best: u128) -> u128
+fn lower(
+    sides: &WalkSegments,
+    fan: Option<&Fan>,
+    i: usize,
+    j: usize,
+    rest: u128,
+    best: u128,
+) -> u128
     requires point { i < 2 * length sides.now.moments.now }
     requires possible { IsPossible sides.now.moments.now i j }
     requires fan { IfSome fan (λ fan. IsFanOf sides.now.moments.now

@@ -4,7 +4,7 @@
 //! and nothing is proved of them but how many they are.
 ghost use Rattle.std.specs.Prelude.{◌≡◌, ◌+◌, ◌<◌, ◌≤◌, ◌^◌, length, IfOk};
 
-use crate::sides::Sides;
+use crate::sides::WalkSegments;
 use pt_core::NoMemory;
 use std::alloc::Global;
 
@@ -12,7 +12,11 @@ use std::alloc::Global;
 //
 // Twice as many lead on by as much, and from there by as much as from there. So it takes two passes for each
 // binary digit of their number.
-pub(crate) fn all_leaps(alloc: Global, sides: &Sides, count: usize) -> Result<Vec<u32>, NoMemory>
+pub(crate) fn all_leaps(
+    alloc: Global,
+    sides: &WalkSegments,
+    count: usize,
+) -> Result<Vec<u32>, NoMemory>
     ensures { IfOk result (λ leaps. length leaps.items ≡ length sides.now.moments.now) }
 {
     let mut leaps = vec![in alloc; 0u32; sides.size]?;
@@ -29,7 +33,7 @@ pub(crate) fn all_leaps(alloc: Global, sides: &Sides, count: usize) -> Result<Ve
 }
 
 /// How many points the longest segment leads on, from each point.
-fn single(alloc: Global, sides: &Sides) -> Result<Vec<u32>, NoMemory>
+fn single(alloc: Global, sides: &WalkSegments) -> Result<Vec<u32>, NoMemory>
     ensures { IfOk result (λ leaps. length leaps.items ≡ length sides.now.moments.now) }
 {
     let mut leaps = Vec::with_capacity(alloc, sides.size)?;

@@ -16,7 +16,7 @@ use straight_paths::Reach;
 
 /// The possible segments of a closed walk, and their penalties.
 #[derive(Drop)]
-pub(crate) struct Sides<'a> {
+pub(crate) struct WalkSegments<'a> {
     pub(crate) moments: &'a Moments,
     reach: Reach,
     pub(crate) size: usize,
@@ -31,20 +31,20 @@ pub(crate) struct Sides<'a> {
     ghost written: { HasFans moments.now fans.items },
 }
 
-impl<'a> Sides<'a> {
+impl<'a> WalkSegments<'a> {
     /// Measures a closed walk on a page, by the sums that are made of it.
     pub(crate) fn of(
         alloc: Global,
         points: &[Point],
         moments: &'a Moments,
-    ) -> Result<Sides<'a>, NoMemory>
+    ) -> Result<WalkSegments<'a>, NoMemory>
         requires closed { IsClosedWalk points.now }
         requires on_page { AreOnPage points.now }
         requires moments { moments.now ≡ points.now }
         ensures { IfOk result (λ sides. sides.moments.now ≡ points.now) }
     {
         let reach = Reach::of(alloc, points)?;
-        Ok(Sides {
+        Ok(WalkSegments {
             moments,
             reach,
             size: points.len(),
@@ -53,11 +53,11 @@ impl<'a> Sides<'a> {
     }
 
     /// The same, with penalties written down.
-    pub(crate) fn with_fans(self, fans: Vec<Fan>) -> Sides<'a>
+    pub(crate) fn with_fans(self, fans: Vec<Fan>) -> WalkSegments<'a>
         requires { HasFans self.moments.now fans.items }
         ensures { result.moments.now ≡ self.entry.moments.now }
     {
-        Sides {
+        WalkSegments {
             moments: self.moments,
             reach: self.reach,
             size: self.size,

@@ -4,12 +4,12 @@
 ghost use Rattle.std.specs.Prelude.{◌≡◌, ℕ, ◌+◌, ◌<◌, length, IfOk};
 ghost use Rattle.straight_paths.specs.Straight.{IsPossible};
 
-use crate::sides::Sides;
+use crate::sides::WalkSegments;
 use pt_core::NoMemory;
 use std::alloc::Global;
 
 /// A point from which no segment leads past the path's end, and of these one whose longest segment is shortest.
-pub(crate) fn narrowest(sides: &Sides) -> usize
+pub(crate) fn narrowest(sides: &WalkSegments) -> usize
     ensures point { result < length sides.now.moments.now }
     ensures within { (j : ℕ) → IsPossible sides.now.moments.now result j
         → j < length sides.now.moments.now }
@@ -31,7 +31,7 @@ pub(crate) fn narrowest(sides: &Sides) -> usize
 // A polygon of fewest segments begins at a point just where a segment from there leads to `nexts` or farther.
 pub(crate) fn sparsest(
     alloc: Global,
-    sides: &Sides,
+    sides: &WalkSegments,
     nexts: &[usize],
     point: usize,
 ) -> Result<usize, NoMemory>
@@ -57,7 +57,7 @@ pub(crate) fn sparsest(
 }
 
 /// At how many of the first points polygons of fewest segments can begin: of none, of one, and so on to all of them.
-fn begins(alloc: Global, sides: &Sides, nexts: &[usize]) -> Result<Vec<u32>, NoMemory>
+fn begins(alloc: Global, sides: &WalkSegments, nexts: &[usize]) -> Result<Vec<u32>, NoMemory>
     requires places { length nexts.now ≡ length sides.now.moments.now }
     ensures places { IfOk result
         (λ begins. length begins.items ≡ length sides.now.moments.now + 1) }

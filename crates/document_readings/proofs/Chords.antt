@@ -19,11 +19,11 @@ use Rattle.document_readings.proofs.Commands.{same_start}
 use Rattle.document_readings.proofs.Nearness.{end_near, start_near, origin_near}
 
 -- the coordinates are small enough to be rounded
-pub record IsWithin (p : Point) : Type 0 where
+pub record IsRoundable (p : Point) : Type 0 where
   pub x : unsigned_abs p.x ≤ 2 ^ 40
   pub y : unsigned_abs p.y ≤ 2 ^ 40
 
-within_reach : (p : Point) → IsPointInReach p → IsWithin p
+within_reach : (p : Point) → IsPointInReach p → IsRoundable p
 within_reach p near = let x = near.x in let y = near.y in record { x = omega arith; y = omega arith }
 
 part_most : (i : ℕ) (a : ℤ) → i ≤ 512 → unsigned_abs a ≤ 2 ^ 31 → unsigned_abs (pos i *ℤ a) ≤ 512 * 2 ^ 31
@@ -43,44 +43,44 @@ mean_most i j k l a b c d hi hj hk hl ha hb hc hd =
     bounded : (n q : ℕ) → n ≤ 2048 * 2 ^ 31 → q ≤ n / 512 + 1 → q ≤ 2 ^ 40
     bounded n q most at = omega arith
 
-mean_within : (i j k l : ℕ) (p q r s : Point) → i ≤ 512 → j ≤ 512 → k ≤ 512 → l ≤ 512 → IsPointInReach p → IsPointInReach q → IsPointInReach r → IsPointInReach s → IsWithin (mean_point i j k l p q r s)
+mean_within : (i j k l : ℕ) (p q r s : Point) → i ≤ 512 → j ≤ 512 → k ≤ 512 → l ≤ 512 → IsPointInReach p → IsPointInReach q → IsPointInReach r → IsPointInReach s → IsRoundable (mean_point i j k l p q r s)
 mean_within i j k l p q r s hi hj hk hl hp hq hr hs = record {
   x = mean_most i j k l p.x q.x r.x s.x hi hj hk hl hp.x hq.x hr.x hs.x;
   y = mean_most i j k l p.y q.y r.y s.y hi hj hk hl hp.y hq.y hr.y hs.y;
 }
 
-curve_within : (p q r s : Point) → IsPointInReach p → IsPointInReach q → IsPointInReach r → IsPointInReach s → All IsWithin (curve_points p q r s)
+curve_within : (p q r s : Point) → IsPointInReach p → IsPointInReach q → IsPointInReach r → IsPointInReach s → All IsRoundable (curve_points p q r s)
 curve_within p q r s hp hq hr hs =
-    let at : (i j k l : ℕ) → i ≤ 512 → j ≤ 512 → k ≤ 512 → l ≤ 512 → IsWithin (mean_point i j k l p q r s) = λ i j k l hi hj hk hl. mean_within i j k l p q r s hi hj hk hl hp hq hr hs in
+    let at : (i j k l : ℕ) → i ≤ 512 → j ≤ 512 → k ≤ 512 → l ≤ 512 → IsRoundable (mean_point i j k l p q r s) = λ i j k l hi hj hk hl. mean_within i j k l p q r s hi hj hk hl hp hq hr hs in
     let f = curve_point p q r s in
-    All-cons IsWithin (f 1) (f 2 ∷ f 3 ∷ f 4 ∷ f 5 ∷ f 6 ∷ f 7 ∷ f 8 ∷ []) (at 343 147 21 1 (omega arith) (omega arith) (omega arith) (omega arith))
-    (All-cons IsWithin (f 2) (f 3 ∷ f 4 ∷ f 5 ∷ f 6 ∷ f 7 ∷ f 8 ∷ []) (at 216 216 72 8 (omega arith) (omega arith) (omega arith) (omega arith))
-    (All-cons IsWithin (f 3) (f 4 ∷ f 5 ∷ f 6 ∷ f 7 ∷ f 8 ∷ []) (at 125 225 135 27 (omega arith) (omega arith) (omega arith) (omega arith))
-    (All-cons IsWithin (f 4) (f 5 ∷ f 6 ∷ f 7 ∷ f 8 ∷ []) (at 64 192 192 64 (omega arith) (omega arith) (omega arith) (omega arith))
-    (All-cons IsWithin (f 5) (f 6 ∷ f 7 ∷ f 8 ∷ []) (at 27 135 225 125 (omega arith) (omega arith) (omega arith) (omega arith))
-    (All-cons IsWithin (f 6) (f 7 ∷ f 8 ∷ []) (at 8 72 216 216 (omega arith) (omega arith) (omega arith) (omega arith))
-    (All-cons IsWithin (f 7) (f 8 ∷ []) (at 1 21 147 343 (omega arith) (omega arith) (omega arith) (omega arith))
-    (All-cons IsWithin (f 8) [] (at 0 0 0 512 (omega arith) (omega arith) (omega arith) (omega arith)) (All-nil IsWithin))))))))
+    All-cons IsRoundable (f 1) (f 2 ∷ f 3 ∷ f 4 ∷ f 5 ∷ f 6 ∷ f 7 ∷ f 8 ∷ []) (at 343 147 21 1 (omega arith) (omega arith) (omega arith) (omega arith))
+    (All-cons IsRoundable (f 2) (f 3 ∷ f 4 ∷ f 5 ∷ f 6 ∷ f 7 ∷ f 8 ∷ []) (at 216 216 72 8 (omega arith) (omega arith) (omega arith) (omega arith))
+    (All-cons IsRoundable (f 3) (f 4 ∷ f 5 ∷ f 6 ∷ f 7 ∷ f 8 ∷ []) (at 125 225 135 27 (omega arith) (omega arith) (omega arith) (omega arith))
+    (All-cons IsRoundable (f 4) (f 5 ∷ f 6 ∷ f 7 ∷ f 8 ∷ []) (at 64 192 192 64 (omega arith) (omega arith) (omega arith) (omega arith))
+    (All-cons IsRoundable (f 5) (f 6 ∷ f 7 ∷ f 8 ∷ []) (at 27 135 225 125 (omega arith) (omega arith) (omega arith) (omega arith))
+    (All-cons IsRoundable (f 6) (f 7 ∷ f 8 ∷ []) (at 8 72 216 216 (omega arith) (omega arith) (omega arith) (omega arith))
+    (All-cons IsRoundable (f 7) (f 8 ∷ []) (at 1 21 147 343 (omega arith) (omega arith) (omega arith) (omega arith))
+    (All-cons IsRoundable (f 8) [] (at 0 0 0 512 (omega arith) (omega arith) (omega arith) (omega arith)) (All-nil IsRoundable))))))))
 
-piece_within : (from : Point) (piece : Piece) → IsPointInReach from → IsPieceInReach piece → All IsWithin (piece_points from piece)
+piece_within : (from : Point) (piece : Piece) → IsPointInReach from → IsPieceInReach piece → All IsRoundable (piece_points from piece)
 piece_within from (Corner at end) from_near near =
-    All-cons IsWithin at (end ∷ []) (within_reach at near.0) (All-cons IsWithin end [] (within_reach end near.1) (All-nil IsWithin))
+    All-cons IsRoundable at (end ∷ []) (within_reach at near.0) (All-cons IsRoundable end [] (within_reach end near.1) (All-nil IsRoundable))
 piece_within from (Curve first second end al) from_near near = curve_within from first second end from_near near.0 near.1 near.2
 
-points_within : (from : Point) (pieces : List Piece) → IsPointInReach from → All IsPieceInReach pieces → All IsWithin (points_from from pieces)
-points_within from [] from_near near = All-nil IsWithin
+points_within : (from : Point) (pieces : List Piece) → IsPointInReach from → All IsPieceInReach pieces → All IsRoundable (points_from from pieces)
+points_within from [] from_near near = All-nil IsRoundable
 points_within from (piece ∷ pieces) from_near near =
     let here = All-head IsPieceInReach piece pieces near in
-    All-append IsWithin (piece_points from piece) (points_from (end_of piece) pieces) (piece_within from piece from_near here)
+    All-append IsRoundable (piece_points from piece) (points_from (end_of piece) pieces) (piece_within from piece from_near here)
     (points_within (end_of piece) pieces (end_near piece here) (All-tail IsPieceInReach piece pieces near))
 
-pub chords_within : (pieces : List Piece) → All IsPieceInReach pieces → All IsWithin (chord_points pieces)
+pub chords_within : (pieces : List Piece) → All IsPieceInReach pieces → All IsRoundable (chord_points pieces)
 chords_within pieces near =
     let start = start_from origin pieces in
     let at_start = start_near origin pieces origin_near near in
-    All-cons IsWithin start (points_from start pieces) (within_reach start at_start) (points_within start pieces at_start near)
+    All-cons IsRoundable start (points_from start pieces) (within_reach start at_start) (points_within start pieces at_start near)
 
-pub outline_chords_within : (outlines : List (List Piece)) (i : ℕ) → AreInReach outlines → All IsWithin (chord_points (outline_at outlines i))
+pub outline_chords_within : (outlines : List (List Piece)) (i : ℕ) → AreInReach outlines → All IsRoundable (chord_points (outline_at outlines i))
 outline_chords_within outlines i near = chords_within (outline_at outlines i) (elim (cases_lt i (length outlines)) [
   | inl h ↦ near i [] h
   | inr h ↦ rw (get_or_past outlines i [] h) (All-nil IsPieceInReach)

@@ -12,14 +12,14 @@ use Rattle.document_readings.specs.Drawn.{Command, Place, Segment, line_to, curv
 use Rattle.document_readings.specs.Places.{rounded_place, piece_segments, outline_subpath, end_from, ComesBack}
 
 -- how far a place lies from another
-abbrev pub step_from : Place → Place → Place
-step_from from to = record { x = to.x -ℤ from.x; y = to.y -ℤ from.y }
+abbrev pub shift_from : Place → Place → Place
+shift_from from to = record { x = to.x -ℤ from.x; y = to.y -ℤ from.y }
 
 -- the commands of a piece
 abbrev pub piece_commands : ℕ → Point → Piece → List Command
-piece_commands unit from (Corner at end) = line (step_from (rounded_place unit from) (rounded_place unit at)) ∷ line (step_from (rounded_place unit at) (rounded_place unit end)) ∷ []
+piece_commands unit from (Corner at end) = line (shift_from (rounded_place unit from) (rounded_place unit at)) ∷ line (shift_from (rounded_place unit at) (rounded_place unit end)) ∷ []
 piece_commands unit from (Curve first second end al) =
-    curve (step_from (rounded_place unit from) (rounded_place unit first)) (step_from (rounded_place unit from) (rounded_place unit second)) (step_from (rounded_place unit from) (rounded_place unit end)) ∷ []
+    curve (shift_from (rounded_place unit from) (rounded_place unit first)) (shift_from (rounded_place unit from) (rounded_place unit second)) (shift_from (rounded_place unit from) (rounded_place unit end)) ∷ []
 
 abbrev pub pieces_commands : ℕ → Point → List Piece → List Command
 pieces_commands unit from [] = []
@@ -30,7 +30,7 @@ abbrev pub outline_commands : ℕ → List Piece → List Command
 outline_commands unit pieces = move (rounded_place unit (start_from origin pieces)) ∷ (pieces_commands unit (start_from origin pieces) pieces ++ close ∷ [])
 
 -- a step from one place to another leads there
-displaced_step : (a b : Place) → displaced a (step_from a b) ≡ b
+displaced_step : (a b : Place) → displaced a (shift_from a b) ≡ b
 displaced_step a b =
     let x : a.x +ℤ (b.x -ℤ a.x) ≡ b.x = omega (arith, ints) in
     let y : a.y +ℤ (b.y -ℤ a.y) ≡ b.y = omega (arith, ints) in
@@ -40,22 +40,22 @@ displaced_step a b =
 
 module _ (done : List Subpath) (start : Place) where
   line_after : (segments : List Segment) (now to : Place) (commands : List Command)
-      → pen_after_all (down done start segments now) (line (step_from now to) ∷ commands) ≡ pen_after_all (down done start (segments ++ line_to to ∷ []) to) commands
+      → pen_after_all (down done start segments now) (line (shift_from now to) ∷ commands) ≡ pen_after_all (down done start (segments ++ line_to to ∷ []) to) commands
   line_after segments now to commands = ap (λ p. pen_after_all (down done start (segments ++ line_to p ∷ []) p) commands) (displaced_step now to)
 
   curve_after : (segments : List Segment) (now first second to : Place) (commands : List Command)
-      → pen_after_all (down done start segments now) (curve (step_from now first) (step_from now second) (step_from now to) ∷ commands)
+      → pen_after_all (down done start segments now) (curve (shift_from now first) (shift_from now second) (shift_from now to) ∷ commands)
       ≡ pen_after_all (down done start (segments ++ curve_to first second to ∷ []) to) commands
   curve_after segments now first second to commands =
-      ap (λ p. pen_after_all (down done start (segments ++ curve_to p (displaced now (step_from now second)) (displaced now (step_from now to)) ∷ []) (displaced now (step_from now to))) commands) (displaced_step now first)
-      ∙ ap (λ p. pen_after_all (down done start (segments ++ curve_to first p (displaced now (step_from now to)) ∷ []) (displaced now (step_from now to))) commands) (displaced_step now second)
+      ap (λ p. pen_after_all (down done start (segments ++ curve_to p (displaced now (shift_from now second)) (displaced now (shift_from now to)) ∷ []) (displaced now (shift_from now to))) commands) (displaced_step now first)
+      ∙ ap (λ p. pen_after_all (down done start (segments ++ curve_to first p (displaced now (shift_from now to)) ∷ []) (displaced now (shift_from now to))) commands) (displaced_step now second)
       ∙ ap (λ p. pen_after_all (down done start (segments ++ curve_to first second p ∷ []) p) commands) (displaced_step now to)
 
   piece_after : (unit : ℕ) (segments : List Segment) (from : Point) (piece : Piece) (commands : List Command)
       → pen_after_all (down done start segments (rounded_place unit from)) (piece_commands unit from piece ++ commands)
       ≡ pen_after_all (down done start (segments ++ piece_segments unit piece) (rounded_place unit (end_of piece))) commands
   piece_after unit segments from (Corner at end) commands =
-      line_after segments (rounded_place unit from) (rounded_place unit at) (line (step_from (rounded_place unit at) (rounded_place unit end)) ∷ commands)
+      line_after segments (rounded_place unit from) (rounded_place unit at) (line (shift_from (rounded_place unit at) (rounded_place unit end)) ∷ commands)
       ∙ line_after (segments ++ line_to (rounded_place unit at) ∷ []) (rounded_place unit at) (rounded_place unit end) commands
       ∙ ap (λ s. pen_after_all (down done start s (rounded_place unit end)) commands) (append_assoc segments (line_to (rounded_place unit at) ∷ []) (line_to (rounded_place unit end) ∷ []))
   piece_after unit segments from (Curve first second end al) commands =

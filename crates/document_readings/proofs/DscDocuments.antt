@@ -13,9 +13,9 @@ use Rattle.pt_core.specs.declared.trace.Trace.{Trace}
 use Rattle.eps_backend.specs.EpsText.{eps_mark, drawing_text, ps_page_text, scale_text}
 use Rattle.run_output.specs.Parts.{file_text, page_pieces, pages_text, prolog_text, trailer_text}
 use Rattle.document_readings.specs.DscReading.{page, number, number_at_end, program, before_pages, in_page, in_trailer, counted, comment_of, dsc_line, dsc_step, is_told, pages_by, dsc_pages}
-use Rattle.document_readings.specs.Numbers.{natural_of}
+use Rattle.document_readings.specs.WholeNumbers.{natural_of}
 use Rattle.document_readings.specs.Places.{AreInReach}
-use Rattle.document_readings.specs.Texts.{spaced_words, text_lines}
+use Rattle.document_readings.specs.TextLines.{spaced_words, text_lines}
 use Rattle.document_readings.proofs.BytesPass.{all_pass, both_true, passes_append, decimal_passes}
 use Rattle.document_readings.proofs.Digits.{by_first_digit}
 use Rattle.document_readings.proofs.Lines.{IsNoLineFeed, number_in_line, within_line}

@@ -16,10 +16,10 @@ use Rattle.dxf_geojson.specs.Chords.{chord_points, curve_point, curve_points, po
 use Rattle.dxf_geojson.specs.DxfText.{pixels_text, vertex_text, all_but_last, polyline_text, dxf_text}
 use Rattle.document_readings.specs.Decimals.{Position, decimal_of}
 use Rattle.document_readings.specs.DxfReading.{DxfGroup, section, end_of_section, end_of_file, polyline, vertex, end_of_sequence, name, layer, vertices_follow, flags, across, upwards, dxf_groups, Polyline, beginning, among, heading, within, dxf_steps, polylines_by, dxf_polylines}
-use Rattle.document_readings.specs.Texts.{text_lines}
+use Rattle.document_readings.specs.TextLines.{text_lines}
 use Rattle.document_readings.specs.Places.{AreInReach, IsPieceInReach}
 use Rattle.document_readings.specs.Rings.{HasTwoPieces, position_of, polyline_of}
-use Rattle.document_readings.proofs.Chords.{IsWithin, chords_within, thousandths_small}
+use Rattle.document_readings.proofs.Chords.{IsRoundable, chords_within, thousandths_small}
 use Rattle.document_readings.proofs.Lines.{IsNoLineFeed, digit_in_line, number_in_line}
 use Rattle.document_readings.proofs.Thousandths.{thousandths_read}
 
@@ -50,7 +50,7 @@ vertex_groups p =
 vertex_bytes : (x y rest : List ℕ) → (codes "0\nVERTEX\n8\n0\n10\n" ++ x ++ codes "\n20\n" ++ y ++ codes "\n") ++ rest ≡ codes "0\nVERTEX\n8\n0\n10\n" ++ (x ++ 10 ∷ (codes "20\n" ++ (y ++ 10 ∷ rest)))
 vertex_bytes x y rest = simp append_assoc
 
-vertex_read : (p : Point) (rest : List ℕ) (groups : List DxfGroup) → IsWithin p → dxf_groups (text_lines rest) ≡ Some groups → dxf_groups (text_lines (vertex_text p ++ rest)) ≡ Some (vertex_groups p ++ groups)
+vertex_read : (p : Point) (rest : List ℕ) (groups : List DxfGroup) → IsRoundable p → dxf_groups (text_lines rest) ≡ Some groups → dxf_groups (text_lines (vertex_text p ++ rest)) ≡ Some (vertex_groups p ++ groups)
 vertex_read p rest groups near reads =
     let x = pixels_text p.x in
     let y = pixels_text p.y in
@@ -66,13 +66,13 @@ vertex_read p rest groups near reads =
     ∙ ap (λ d. option_map (λ gs. vertex ∷ gs) (option_map (λ gs. layer ∷ gs) (option_map (λ gs. across (Some (record { units = rounded p.x 1000; places = 3 })) ∷ gs) (option_map (λ gs. upwards d ∷ gs) (dxf_groups (text_lines rest)))))) (thousandths_read (rounded p.y 1000) y_small)
     ∙ ap (λ o. option_map (λ gs. vertex ∷ gs) (option_map (λ gs. layer ∷ gs) (option_map (λ gs. across (Some (record { units = rounded p.x 1000; places = 3 })) ∷ gs) (option_map (λ gs. upwards (Some (record { units = rounded p.y 1000; places = 3 })) ∷ gs) o)))) reads
 
-vertices_read : (points : List Point) (rest : List ℕ) (groups : List DxfGroup) → All IsWithin points → dxf_groups (text_lines rest) ≡ Some groups
+vertices_read : (points : List Point) (rest : List ℕ) (groups : List DxfGroup) → All IsRoundable points → dxf_groups (text_lines rest) ≡ Some groups
     → dxf_groups (text_lines (flat_map vertex_text points ++ rest)) ≡ Some (flat_map vertex_groups points ++ groups)
 vertices_read [] rest groups near reads = reads
 vertices_read (p ∷ points) rest groups near reads =
     ap (λ t. dxf_groups (text_lines t)) (append_assoc (vertex_text p) (flat_map vertex_text points) rest)
-    ∙ vertex_read p (flat_map vertex_text points ++ rest) (flat_map vertex_groups points ++ groups) (All-head IsWithin p points near)
-    (vertices_read points rest groups (All-tail IsWithin p points near) reads)
+    ∙ vertex_read p (flat_map vertex_text points ++ rest) (flat_map vertex_groups points ++ groups) (All-head IsRoundable p points near)
+    (vertices_read points rest groups (All-tail IsRoundable p points near) reads)
 
 -- the groups of a polyline
 abbrev polyline_groups : List Piece → List DxfGroup
@@ -94,7 +94,7 @@ polyline_read pieces rest groups near reads =
     let behind : dxf_groups (text_lines (codes "0\nSEQEND\n" ++ rest)) ≡ Some (end_of_sequence ∷ groups) = ap (option_map (λ gs. end_of_sequence ∷ gs)) reads in
     ap (λ t. dxf_groups (text_lines t)) (polyline_bytes vertices rest)
     ∙ ap (λ o. option_map (λ gs. polyline ∷ gs) (option_map (λ gs. layer ∷ gs) (option_map (λ gs. vertices_follow ∷ gs) (option_map (λ gs. flags true ∷ gs) o))))
-    (vertices_read points (codes "0\nSEQEND\n" ++ rest) (end_of_sequence ∷ groups) (front_all IsWithin (length (chord_points pieces) - 1) (chord_points pieces) (chords_within pieces near)) behind)
+    (vertices_read points (codes "0\nSEQEND\n" ++ rest) (end_of_sequence ∷ groups) (front_all IsRoundable (length (chord_points pieces) - 1) (chord_points pieces) (chords_within pieces near)) behind)
     ∙ ap (λ gs. Some (polyline ∷ layer ∷ vertices_follow ∷ flags true ∷ gs)) (sym (append_assoc (flat_map vertex_groups points) (end_of_sequence ∷ []) groups))
 
 polylines_read : (outlines : List (List Piece)) (rest : List ℕ) (groups : List DxfGroup) → AreInReach outlines → dxf_groups (text_lines rest) ≡ Some groups

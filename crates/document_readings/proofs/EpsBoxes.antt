@@ -6,8 +6,8 @@ use Rattle.std.specs.Prelude.{All, decimal, ◌==◌}
 use Rattle.pt_core.specs.declared.trace.Trace.{Trace}
 use Rattle.eps_backend.specs.EpsText.{comments_text, drawing_text, eps_text}
 use Rattle.document_readings.specs.EpsBox.{box_by, box_in, box_of_lines, eps_box}
-use Rattle.document_readings.specs.Numbers.{natural_of}
-use Rattle.document_readings.specs.Texts.{spaced_words}
+use Rattle.document_readings.specs.WholeNumbers.{natural_of}
+use Rattle.document_readings.specs.TextLines.{spaced_words}
 use Rattle.document_readings.proofs.Lines.{IsNoLineFeed, number_in_line, within_line}
 use Rattle.document_readings.proofs.Naturals.{last_word, natural_read, word_before_space}
 

@@ -22,7 +22,7 @@ use Rattle.document_readings.specs.GeoJsonReading.{number_in, all_of, list_in, p
 use Rattle.document_readings.specs.Places.{AreInReach}
 use Rattle.document_readings.specs.Rings.{HasTwoPieces, HaveTwoPieces, position_of, ring_of, hole_ring_of, group_rings, trace_polygons}
 use Rattle.document_readings.specs.TraceShapes.{group_outlines}
-use Rattle.document_readings.proofs.Chords.{IsWithin, outline_chords_within, thousandths_small}
+use Rattle.document_readings.proofs.Chords.{IsRoundable, outline_chords_within, thousandths_small}
 use Rattle.document_readings.proofs.JsonTokens.{IsNumbered, ring_tokens, hole_points, feature_head, feature_tokens, geojson_tokens}
 use Rattle.document_readings.proofs.Rings.{ring_is_linear, hole_ring_is_linear}
 use Rattle.document_readings.proofs.Thousandths.{thousandths_are_number, thousandths_read}
@@ -107,7 +107,7 @@ collection_shallow : (outlines : List (List Piece)) (groups : List Group) → de
 collection_shallow outlines groups = omega (arith, items_shallow (feature_json outlines) 5 groups (feature_shallow outlines))
 
 -- the text is this value
-numbered : (p : Point) → IsWithin p → IsNumbered p
+numbered : (p : Point) → IsRoundable p → IsNumbered p
 numbered p near = record {
   x = thousandths_are_number (rounded p.x 1000) (thousandths_small p.x near.x);
   y = thousandths_are_number (rounded p.y 1000) (thousandths_small p.y near.y);
@@ -138,16 +138,16 @@ items_read read f g (x ∷ xs) all =
 number_read : (c : ℤ) → unsigned_abs c ≤ 2 ^ 40 → number_in (number (pixels_text c)) ≡ Some (record { units = rounded c 1000; places = 3 })
 number_read c small = thousandths_read (rounded c 1000) (thousandths_small c small)
 
-position_read : (p : Point) → IsWithin p → position_in (position_json p) ≡ Some (position_of p)
+position_read : (p : Point) → IsRoundable p → position_in (position_json p) ≡ Some (position_of p)
 position_read p near =
     ap (λ x. option_and_then pair_of (option_and_then (λ a. option_map (λ more. a ∷ more) (option_and_then (λ b. option_map (λ more. b ∷ more) (Some [])) (number_in (number (pixels_text p.y))))) x)) (number_read p.x near.x)
     ∙ ap (λ y. option_and_then pair_of (option_map (λ more. record { units = rounded p.x 1000; places = 3 } ∷ more) (option_and_then (λ b. option_map (λ more. b ∷ more) (Some [])) y))) (number_read p.y near.y)
 
-ring_read : (points : List Point) → All IsWithin points → list_in position_in (ring_json points) ≡ Some (map position_of points)
+ring_read : (points : List Point) → All IsRoundable points → list_in position_in (ring_json points) ≡ Some (map position_of points)
 ring_read points near = items_read position_in position_json position_of points (λ k d below. position_read _ (near k d below))
 
 module _ (outlines : List (List Piece)) (near : AreInReach outlines) where
-  within : (i : ℕ) → All IsWithin (chord_points (outline_at outlines i))
+  within : (i : ℕ) → All IsRoundable (chord_points (outline_at outlines i))
   within i = outline_chords_within outlines i near
 
   outer_read : (i : ℕ) → HasTwoPieces (outline_at outlines i) → ring_in (ring_json (chord_points (outline_at outlines i))) ≡ Some (ring_of (outline_at outlines i))
@@ -155,7 +155,7 @@ module _ (outlines : List (List Piece)) (near : AreInReach outlines) where
 
   hole_read : (hole : ℕ) → HasTwoPieces (outline_at outlines hole) → ring_in (ring_json (hole_points outlines hole)) ≡ Some (hole_ring_of (outline_at outlines hole))
   hole_read hole two =
-      ap (option_and_then linear_ring) (ring_read (hole_points outlines hole) (all_reversed IsWithin (chord_points (outline_at outlines hole)) (within hole)))
+      ap (option_and_then linear_ring) (ring_read (hole_points outlines hole) (all_reversed IsRoundable (chord_points (outline_at outlines hole)) (within hole)))
       ∙ hole_ring_is_linear (outline_at outlines hole) two
 
   holes_read : (holes : List ℕ) → All HasTwoPieces (map (outline_at outlines) holes)

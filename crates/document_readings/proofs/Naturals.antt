@@ -6,8 +6,8 @@ use Rattle.std.proofs.lemmas.List.Splits.{slice_split_at, slice_split_none}
 use Rattle.std.specs.Prelude.{decimal, All, ◌==◌}
 use Rattle.pt_base.specs.Whole.{IsDigit, value_after}
 use Rattle.list_reader.proofs.Runs.{digits_of_decimal}
-use Rattle.document_readings.specs.Numbers.{natural_from, natural_of}
-use Rattle.document_readings.specs.Texts.{spaced_words}
+use Rattle.document_readings.specs.WholeNumbers.{natural_from, natural_of}
+use Rattle.document_readings.specs.TextLines.{spaced_words}
 use Rattle.document_readings.proofs.Digits.{by_first_digit, is_digit_true}
 
 -- a number that is digits alone

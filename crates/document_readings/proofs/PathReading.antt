@@ -20,10 +20,10 @@ use Rattle.outline_pen.specs.Shapes.{line_text, curve_text, piece_text, pieces_t
 use Rattle.svg_backend.specs.SvgText.{svg_mark}
 use Rattle.document_readings.proofs.Digits.{by_first_digit}
 use Rattle.document_readings.proofs.Nearness.{end_near, start_near, origin_near}
-use Rattle.document_readings.proofs.Commands.{step_from, piece_commands, pieces_commands, outline_commands, outlines_drawn}
+use Rattle.document_readings.proofs.Commands.{shift_from, piece_commands, pieces_commands, outline_commands, outlines_drawn}
 use Rattle.document_readings.specs.Drawn.{Command, move, line, curve, close, drawn}
 use Rattle.document_readings.specs.Places.{IsPointInReach, IsPieceInReach, AreInReach, rounded_place, outline_subpath}
-use Rattle.document_readings.specs.Numbers.{nothing, digits}
+use Rattle.document_readings.specs.WholeNumbers.{nothing, digits}
 use Rattle.document_readings.specs.PathData.{PathWord, big_m, small_l, small_c, small_z, number, path_byte, digit, path_words, commands_of, path_commands, path_subpaths}
 use Rattle.document_readings.specs.TraceShapes.{path_data}
 
@@ -86,7 +86,7 @@ outline_bytes : (place pieces rest : List ℕ) → (codes "M" ++ place ++ [] ++ 
 outline_bytes place pieces rest = simp append_assoc
 
 -- the words of a text, and the commands that they are
-pub record Reads (text : List ℕ) (commands : List Command) : Type 0 where
+pub record ReadsCommands (text : List ℕ) (commands : List Command) : Type 0 where
   pub words : List PathWord
   pub worded : path_words nothing text ≡ Some words
   pub grouped : commands_of words ≡ Some commands
@@ -111,7 +111,7 @@ module _ (unit : ℕ) (few : unit ≤ 1000) where
       e
 
   line_goes : (from to : Point) (text : List ℕ) (commands : List Command) → IsPointInReach from → IsPointInReach to → Goes text commands
-      → Goes (line_text svg_mark unit from to ++ text) (line (step_from (rounded_place unit from) (rounded_place unit to)) ∷ commands)
+      → Goes (line_text svg_mark unit from to ++ text) (line (shift_from (rounded_place unit from) (rounded_place unit to)) ∷ commands)
   line_goes from to text commands from_near to_near goes = record {
     tail = 108 ∷ (step_text unit from to ++ text);
     spaced = around (codes " l") (step_text unit from to) [] text;
@@ -119,13 +119,13 @@ module _ (unit : ℕ) (few : unit ≤ 1000) where
     worded =
         ap (λ t. path_words nothing (108 ∷ (step_text unit from to ++ t))) goes.spaced
         ∙ ap (option_map (λ more. small_l ∷ more)) (step_behind from to goes.tail goes.words from_near to_near goes.worded);
-    grouped = ap (option_map (λ more. line (step_from (rounded_place unit from) (rounded_place unit to)) ∷ more)) goes.grouped;
+    grouped = ap (option_map (λ more. line (shift_from (rounded_place unit from) (rounded_place unit to)) ∷ more)) goes.grouped;
   }
 
   curve_goes : (from first second end : Point) (text : List ℕ) (commands : List Command) → IsPointInReach from → IsPointInReach first → IsPointInReach second → IsPointInReach end
       → Goes text commands
       → Goes (curve_text svg_mark unit from first second end ++ text)
-      (curve (step_from (rounded_place unit from) (rounded_place unit first)) (step_from (rounded_place unit from) (rounded_place unit second)) (step_from (rounded_place unit from) (rounded_place unit end)) ∷ commands)
+      (curve (shift_from (rounded_place unit from) (rounded_place unit first)) (shift_from (rounded_place unit from) (rounded_place unit second)) (shift_from (rounded_place unit from) (rounded_place unit end)) ∷ commands)
   curve_goes from first second end text commands from_near first_near second_near end_near goes =
       let one = step_text unit from first in
       let two = step_text unit from second in
@@ -143,14 +143,14 @@ module _ (unit : ℕ) (few : unit ≤ 1000) where
             ap (λ t. path_words nothing (99 ∷ (one ++ 32 ∷ (two ++ 32 ∷ (three ++ t))))) goes.spaced
             ∙ ap (option_map (λ more. small_c ∷ more)) all;
         grouped =
-            ap (option_map (λ more. curve (step_from (rounded_place unit from) (rounded_place unit first)) (step_from (rounded_place unit from) (rounded_place unit second)) (step_from (rounded_place unit from) (rounded_place unit end)) ∷ more)) goes.grouped;
+            ap (option_map (λ more. curve (shift_from (rounded_place unit from) (rounded_place unit first)) (shift_from (rounded_place unit from) (rounded_place unit second)) (shift_from (rounded_place unit from) (rounded_place unit end)) ∷ more)) goes.grouped;
       }
 
   piece_goes : (from : Point) (piece : Piece) (text : List ℕ) (commands : List Command) → IsPointInReach from → IsPieceInReach piece → Goes text commands
       → Goes (piece_text svg_mark unit from piece ++ text) (piece_commands unit from piece ++ commands)
   piece_goes from (Corner at end) text commands from_near near goes =
       let last = line_goes at end text commands near.0 near.1 goes in
-      let both = line_goes from at (line_text svg_mark unit at end ++ text) (line (step_from (rounded_place unit at) (rounded_place unit end)) ∷ commands) from_near near.0 last in
+      let both = line_goes from at (line_text svg_mark unit at end ++ text) (line (shift_from (rounded_place unit at) (rounded_place unit end)) ∷ commands) from_near near.0 last in
       subst (λ t. Goes t (piece_commands unit from (Corner at end) ++ commands)) (sym (append_assoc (line_text svg_mark unit from at) (line_text svg_mark unit at end) text)) both
   piece_goes from (Curve first second end al) text commands from_near near goes =
       curve_goes from first second end text commands from_near near.0 near.1 near.2 goes
@@ -168,7 +168,7 @@ module _ (unit : ℕ) (few : unit ≤ 1000) where
   -- an outline, and what follows its `z`
   outline_reads : (pieces : List Piece) (rest : List ℕ) (words : List PathWord) (commands : List Command) → All IsPieceInReach pieces
       → path_words nothing rest ≡ Some words → commands_of words ≡ Some commands
-      → Reads (outline_text svg_mark unit pieces ++ rest) (outline_commands unit pieces ++ commands)
+      → ReadsCommands (outline_text svg_mark unit pieces ++ rest) (outline_commands unit pieces ++ commands)
   outline_reads pieces rest words commands near worded grouped =
       let start = start_from origin pieces in
       let start_is_near = start_near origin pieces origin_near near in
@@ -194,7 +194,7 @@ module _ (unit : ℕ) (few : unit ≤ 1000) where
             ap (option_map (λ more. move (rounded_place unit start) ∷ more)) goes.grouped ∙ ap Some same_commands;
       }
 
-  more_reads : (outlines : List (List Piece)) → AreInReach outlines → Reads (more_text svg_mark unit outlines) (flat_map (outline_commands unit) outlines)
+  more_reads : (outlines : List (List Piece)) → AreInReach outlines → ReadsCommands (more_text svg_mark unit outlines) (flat_map (outline_commands unit) outlines)
   more_reads [] near = record { words = []; worded = refl; grouped = refl }
   more_reads (pieces ∷ outlines) near =
       let later = more_reads outlines (All-tail (All IsPieceInReach) pieces outlines near) in

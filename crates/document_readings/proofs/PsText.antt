@@ -18,7 +18,7 @@ use Rattle.outline_pen.specs.Shapes.{line_text, curve_text, piece_text, pieces_t
 use Rattle.eps_backend.specs.EpsText.{eps_mark, comments_text, drawing_text}
 use Rattle.list_reader.proofs.Runs.{digits_of_decimal}
 use Rattle.document_readings.specs.Drawn.{Command, move, line, curve, close}
-use Rattle.document_readings.specs.Numbers.{sign, digits}
+use Rattle.document_readings.specs.WholeNumbers.{sign, digits}
 use Rattle.document_readings.specs.Places.{IsPointInReach, IsPieceInReach, AreInReach}
 use Rattle.document_readings.specs.PsWords as ps
 use Rattle.document_readings.specs.PsWords.{PsWord, number, gsave, div, dup, scale, moveto, rlineto, rcurveto, closepath, eofill, grestore, ps_words}

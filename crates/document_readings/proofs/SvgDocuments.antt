@@ -11,14 +11,14 @@ use Rattle.pt_core.specs.Outlines.{outline_at}
 use Rattle.outline_pen.specs.Shapes.{shape_text, flat_text, group_text}
 use Rattle.svg_backend.specs.SvgText.{svg_mark, paths_text, head_text, svg_text}
 use Rattle.document_readings.specs.Drawn.{Subpath}
-use Rattle.document_readings.specs.Numbers.{nothing}
+use Rattle.document_readings.specs.WholeNumbers.{nothing}
 use Rattle.document_readings.specs.Places.{AreInReach, outline_subpath}
 use Rattle.document_readings.specs.SvgPicture.{up_the_page, trace_picture}
 use Rattle.document_readings.specs.SvgReading.{View, picture_in, group_in, shapes_in, path_in, svg_picture, length_from, view_in}
 use Rattle.document_readings.specs.TraceShapes.{path_data, group_outlines, one_shape, shapes_of}
 use Rattle.document_readings.specs.XmlTags as xml
 use Rattle.document_readings.specs.XmlTags.{Attribute, TagPart, begin, attribute, opened, empty, end, parts_from}
-use Rattle.document_readings.specs.XmlTree.{Element, element, Elements, none, behind, OpenElement, growing, grown, grow_all, root_of, xml_root}
+use Rattle.document_readings.specs.XmlTree.{Element, element, Elements, none, behind, OpenElement, growing, grown, grow_all, closed_root, xml_root}
 use Rattle.document_readings.proofs.BytesPass.{all_pass, decimal_passes, passes_append}
 use Rattle.document_readings.proofs.OutlineBytes.{shapes_near}
 use Rattle.document_readings.proofs.PathReading.{data_drawn}
@@ -221,8 +221,8 @@ document_grows unit flat trace =
 document_rooted : (unit : ℕ) (flat : Bool) (trace : Trace) → unit ≤ 1000 → trace.width < 2 ^ 32 → trace.height < 2 ^ 32 → AreInReach trace.outlines
     → xml_root (svg_text unit flat trace) ≡ Some (document_root unit flat trace)
 document_rooted unit flat trace few wide high near =
-    ap (λ o. option_and_then root_of (option_and_then (grow_all (growing [])) o)) (document_parts unit flat trace few wide high near)
-    ∙ ap (option_and_then root_of) (document_grows unit flat trace)
+    ap (λ o. option_and_then closed_root (option_and_then (grow_all (growing [])) o)) (document_parts unit flat trace few wide high near)
+    ∙ ap (option_and_then closed_root) (document_grows unit flat trace)
 
 -- and what they show
 paths_shown : (unit : ℕ) (before : Elements) (shown : List (List Subpath)) (shapes : List (List (List Piece))) → unit ≤ 1000 → All AreInReach shapes

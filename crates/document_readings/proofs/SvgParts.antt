@@ -5,10 +5,10 @@ use Rattle.std.proofs.lemmas.List.Elements.{All-head, All-tail}
 use Rattle.std.specs.Prelude.{decimal, All}
 use Rattle.pt_base.specs.Whole.{IsDigit, value_after}
 use Rattle.document_readings.specs.Drawn.{Place}
-use Rattle.document_readings.specs.Numbers.{nothing, digits, natural_of}
+use Rattle.document_readings.specs.WholeNumbers.{nothing, digits, natural_of}
 use Rattle.document_readings.specs.SvgReading.{length_from, view_in, view_of}
 use Rattle.document_readings.specs.SvgPicture.{up_the_page}
-use Rattle.document_readings.specs.Texts.{spaced_words}
+use Rattle.document_readings.specs.TextLines.{spaced_words}
 use Rattle.document_readings.specs.Transforms as transforms
 use Rattle.document_readings.specs.Transforms.{transforms_of, transforms_from, transform_before, named_transform, image_by}
 use Rattle.document_readings.proofs.Naturals.{last_word, natural_read, word_before_space}

@@ -11,7 +11,7 @@ use Rattle.pt_core.specs.declared.piece.Piece.{Piece}
 use Rattle.svg_backend.specs.SvgText.{svg_mark}
 use Rattle.document_readings.specs.Places.{AreInReach}
 use Rattle.document_readings.specs.TraceShapes.{path_data}
-use Rattle.document_readings.specs.Texts.{is_white_space}
+use Rattle.document_readings.specs.TextLines.{is_white_space}
 use Rattle.document_readings.specs.XmlTags.{TagPart, attribute, name_start, name_more, space, less, greater, slash, question, equals, quote, ampersand, other, outside, begins_name, continues_name, is_printable, XmlState, valuing, valued, tag_step, parts_from}
 use Rattle.document_readings.proofs.OutlineBytes.{is_stroke, more_pass}
 use Rattle.document_readings.proofs.BytesPass.{all_pass, both_true}

@@ -2,7 +2,7 @@
 -- without an exponent is one (RFC 8259, section 6); outside are exponents, plus signs, and a point with no digit on one side.
 use Rattle.std.specs.Prelude.{ℕ, zero, suc, ◌+◌, ◌-◌, ◌*◌, ◌==◌, ℤ, Bool, true, false, cond, List, [], ◌∷◌, Option, Some, None, option_map}
 use Rattle.std.specs.Char.{is_ascii_digit}
-use Rattle.document_readings.specs.Numbers.{signed}
+use Rattle.document_readings.specs.WholeNumbers.{signed}
 
 -- a number: so many units of the last one of so many places behind the point, as 2.50 is 250 units of the second
 pub record Decimal : Type 0 where

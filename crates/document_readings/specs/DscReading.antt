@@ -4,8 +4,8 @@
 -- line. Outside are other comments of the conventions, prologs and setups, and lines with carriage returns. How long
 -- a line is isn't looked at.
 use Rattle.std.specs.Prelude.{ℕ, ◌+◌, ◌==◌, Bool, true, false, cond, if◌then◌else◌, List, [], ◌∷◌, ◌++◌, codes, length, Option, Some, None, option_and_then, bytes_eq}
-use Rattle.document_readings.specs.Numbers.{natural_of}
-use Rattle.document_readings.specs.Texts.{spaced_words, text_lines}
+use Rattle.document_readings.specs.WholeNumbers.{natural_of}
+use Rattle.document_readings.specs.TextLines.{spaced_words, text_lines}
 
 -- what a line of a document is
 pub data DscLine : Type 0 where

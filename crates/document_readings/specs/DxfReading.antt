@@ -4,7 +4,7 @@
 -- headers, tables, blocks, other entities, heights, bulges, handles and carriage returns.
 use Rattle.std.specs.Prelude.{ℕ, Bool, true, false, cond, if◌then◌else◌, List, [], ◌∷◌, ◌++◌, codes, Option, Some, None, option_map, option_and_then, unwrap_or, bytes_eq}
 use Rattle.document_readings.specs.Decimals.{Decimal, Position, decimal_of}
-use Rattle.document_readings.specs.Texts.{text_lines, without_spaces}
+use Rattle.document_readings.specs.TextLines.{text_lines, without_spaces}
 
 -- what a group says
 pub data DxfGroup : Type 0 where

@@ -2,8 +2,8 @@
 -- that each such file has). Covered are files whose first line is the version, and whose second one is the box, in whole
 -- numbers without a sign.
 use Rattle.std.specs.Prelude.{ℕ, if◌then◌else◌, List, [], ◌∷◌, codes, Option, Some, None, bytes_eq}
-use Rattle.document_readings.specs.Numbers.{natural_of}
-use Rattle.document_readings.specs.Texts.{spaced_words, text_lines}
+use Rattle.document_readings.specs.WholeNumbers.{natural_of}
+use Rattle.document_readings.specs.TextLines.{spaced_words, text_lines}
 
 -- the lower left corner and the upper right one, in points
 pub record EpsBox : Type 0 where

@@ -4,8 +4,8 @@
 use Rattle.std.specs.Prelude.{ℕ, ◌==◌, ℤ, Bool, true, false, cond, List, [], ◌∷◌, Option, Some, None, option_map, option_and_then}
 use Rattle.std.specs.Char.{is_ascii_digit}
 use Rattle.document_readings.specs.Drawn.{Command, Subpath, move, line, curve, close, drawn}
-use Rattle.document_readings.specs.Numbers.{Begun, nothing, sign, digits, signed, with_digit}
-use Rattle.document_readings.specs.Texts.{is_white_space}
+use Rattle.document_readings.specs.WholeNumbers.{Begun, nothing, sign, digits, signed, with_digit}
+use Rattle.document_readings.specs.TextLines.{is_white_space}
 
 -- a word of path data: a letter, or a number
 pub data PathWord : Type 0 where

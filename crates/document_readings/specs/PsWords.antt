@@ -4,7 +4,7 @@
 -- here, and an interpreter has its limits (appendix B).
 use Rattle.std.specs.Prelude.{ℕ, ◌||◌, ◌==◌, ℤ, true, cond, List, [], ◌∷◌, ◌++◌, codes, Option, Some, None, option_map, bytes_eq}
 use Rattle.std.specs.Char.{is_ascii_digit, is_ascii_alphabetic}
-use Rattle.document_readings.specs.Numbers.{Begun, nothing, sign, digits, signed, with_digit}
+use Rattle.document_readings.specs.WholeNumbers.{Begun, nothing, sign, digits, signed, with_digit}
 
 -- a word of a program: a whole number, or an operator
 pub data PsWord : Type 0 where

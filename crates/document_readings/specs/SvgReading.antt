@@ -5,9 +5,9 @@
 use Rattle.std.specs.Prelude.{ℕ, ◌&&◌, ◌||◌, Bool, true, false, if◌then◌else◌, List, [], ◌∷◌, ◌++◌, codes, map, Option, Some, None, option_map, option_and_then, bytes_eq}
 use Rattle.std.specs.Char.{is_ascii_digit}
 use Rattle.document_readings.specs.Drawn.{Subpath}
-use Rattle.document_readings.specs.Numbers.{Begun, nothing, sign, digits, natural_of, with_digit}
+use Rattle.document_readings.specs.WholeNumbers.{Begun, nothing, sign, digits, natural_of, with_digit}
 use Rattle.document_readings.specs.PathData.{path_subpaths}
-use Rattle.document_readings.specs.Texts.{spaced_words}
+use Rattle.document_readings.specs.TextLines.{spaced_words}
 use Rattle.document_readings.specs.Transforms.{Transform, transforms_of}
 use Rattle.document_readings.specs.XmlTags.{Attribute}
 use Rattle.document_readings.specs.XmlTree.{Element, element, Elements, none, behind, xml_root}

@@ -4,8 +4,8 @@
 use Rattle.std.specs.Prelude.{ℕ, ◌==◌, ℤ, ◌*ℤ◌, true, cond, if◌then◌else◌, List, [], ◌∷◌, ◌++◌, codes, Option, Some, None, option_map, option_and_then, bytes_eq}
 use Rattle.std.specs.Char.{is_ascii_digit, is_ascii_alphabetic}
 use Rattle.document_readings.specs.Drawn.{Place, displaced}
-use Rattle.document_readings.specs.Numbers.{Begun, nothing, sign, digits, signed, with_digit}
-use Rattle.document_readings.specs.Texts.{is_white_space}
+use Rattle.document_readings.specs.WholeNumbers.{Begun, nothing, sign, digits, signed, with_digit}
+use Rattle.document_readings.specs.TextLines.{is_white_space}
 
 -- a shift by a step, or a factor for each coordinate
 pub data Transform : Type 0 where

@@ -4,7 +4,7 @@
 -- apostrophes around values, white space around `=` and in end tags, and carriage returns.
 use Rattle.std.specs.Prelude.{ℕ, ◌&&◌, ◌||◌, ◌==◌, nat_le, Bool, true, false, cond, if◌then◌else◌, List, [], ◌∷◌, ◌++◌, codes, Option, Some, None, option_map, bytes_eq}
 use Rattle.std.specs.Char.{is_ascii_digit, is_ascii_alphabetic}
-use Rattle.document_readings.specs.Texts.{is_white_space}
+use Rattle.document_readings.specs.TextLines.{is_white_space}
 
 -- an attribute: a name and a value
 pub record Attribute : Type 0 where

@@ -53,10 +53,10 @@ grow_all growth [] = Some growth
 grow_all growth (part ∷ parts) = option_and_then (λ next. grow_all next parts) (grow growth part)
 
 -- the root, where it is closed
-abbrev pub root_of : Growth → Option Element
-root_of (growing opens) = None
-root_of (grown root) = Some root
+abbrev pub closed_root : Growth → Option Element
+closed_root (growing opens) = None
+closed_root (grown root) = Some root
 
 -- the root of a text
 abbrev pub xml_root : List ℕ → Option Element
-xml_root text = option_and_then root_of (option_and_then (grow_all (growing [])) (parts_from tags.start text))
+xml_root text = option_and_then closed_root (option_and_then (grow_all (growing [])) (parts_from tags.start text))

@@ -9,31 +9,31 @@ use Rattle.pt_core.specs.Floor.{floor_of}
 use Rattle.pt_core.proofs.Sizes.{back, divided, product_most}
 
 -- a number of 32 bits
-pub record IsShort (c : ℤ) : Type 0 where
+pub record IsOf32Bits (c : ℤ) : Type 0 where
   pub least : negsuc 2147483647 ≤ℤ c
   pub most : c ≤ℤ pos 2147483647
 
-pub weighted_most : (w : ℕ) (c : ℤ) → IsShort c → (pos w *ℤ c) ≤ℤ pos (w * 2147483647)
+pub weighted_most : (w : ℕ) (c : ℤ) → IsOf32Bits c → (pos w *ℤ c) ≤ℤ pos (w * 2147483647)
 weighted_most w (pos n) s =
     let few : n ≤ 2147483647 = omega (arith, ints, s.most) in
     let most : w * n ≤ w * 2147483647 = mul-le w n w 2147483647 (omega arith) few in
     omega (arith, ints)
 weighted_most w (negsuc n) s = rw (*ℤ-negsuc (pos w) n) (omega (arith, ints))
 
-pub weighted_least : (w : ℕ) (c : ℤ) → IsShort c → neg_ℤ (pos (w * 2147483648)) ≤ℤ (pos w *ℤ c)
+pub weighted_least : (w : ℕ) (c : ℤ) → IsOf32Bits c → neg_ℤ (pos (w * 2147483648)) ≤ℤ (pos w *ℤ c)
 weighted_least w (pos n) s = omega (arith, ints)
 weighted_least w (negsuc n) s =
     let few : suc n ≤ 2147483648 = omega (arith, ints, s.least) in
     let most : w * suc n ≤ w * 2147483648 = mul-le w (suc n) w 2147483648 (omega arith) few in
     rw (*ℤ-negsuc (pos w) n) (omega (arith, ints))
 
-pub weighted_fits : (w : ℕ) (c f g : ℤ) → w ≤ 512 → IsShort c → f ≡ pos w → g ≡ c → FitsSigned w64 (to_z w64 (of_z w64 f) *ℤ to_z w64 (of_z w64 g))
+pub weighted_fits : (w : ℕ) (c f g : ℤ) → w ≤ 512 → IsOf32Bits c → f ≡ pos w → g ≡ c → FitsSigned w64 (to_z w64 (of_z w64 f) *ℤ to_z w64 (of_z w64 g))
 weighted_fits w c f g few s ef eg =
     let short : unsigned_abs c ≤ 2 ^ 31 = omega (arith, ints, s.least, s.most) in
     let most : unsigned_abs (pos w *ℤ c) ≤ 512 * 2 ^ 31 = product_most (pos w) c 512 (2 ^ 31) few short in
     rw (ef, eg, back (pos w) (omega arith), back c (omega arith)) (fits_signed_from_abs w64 (pos w *ℤ c) (omega arith))
 
-pub weighted_back : (w : ℕ) (c f g : ℤ) → w ≤ 512 → IsShort c → f ≡ pos w → g ≡ c
+pub weighted_back : (w : ℕ) (c f g : ℤ) → w ≤ 512 → IsOf32Bits c → f ≡ pos w → g ≡ c
     → to_z w64 (of_z w64 (to_z w64 (of_z w64 f) *ℤ to_z w64 (of_z w64 g))) ≡ pos w *ℤ c
 weighted_back w c f g few s ef eg =
     let short : unsigned_abs c ≤ 2 ^ 31 = omega (arith, ints, s.least, s.most) in
@@ -61,7 +61,7 @@ pub long_back : (w : ℕ) (c : ℤ) → w ≤ 512 → IsWeighted w c → to_z w6
 long_back w c few p = back c (size_of w c few p)
 
 -- the mean of numbers of 32 bits is one
-pub mean_short : (c : ℤ) → IsWeighted 512 c → IsShort (floor_of c 512)
+pub mean_short : (c : ℤ) → IsWeighted 512 c → IsOf32Bits (floor_of c 512)
 mean_short (pos n) p = record {
   least = omega (arith, ints, p.least, p.most);
   most = omega (arith, ints, p.least, p.most);
@@ -71,11 +71,11 @@ mean_short (negsuc n) p = record {
   most = omega (arith, ints, p.least, p.most);
 }
 
-pub short_fits : (c : ℤ) → IsShort c → FitsSigned w32 c
+pub short_fits : (c : ℤ) → IsOf32Bits c → FitsSigned w32 c
 short_fits (pos n) s = record { sfits = omega (arith, ints, s.most) }
 short_fits (negsuc n) s = record { sfits = omega (arith, ints, s.least) }
 
-pub short_of : (c : ℤ) → FitsSigned w32 c → IsShort c
+pub short_of : (c : ℤ) → FitsSigned w32 c → IsOf32Bits c
 short_of (pos n) f = record { least = omega (arith, ints, f.sfits); most = omega (arith, ints, f.sfits) }
 short_of (negsuc n) f = record { least = omega (arith, ints, f.sfits); most = omega (arith, ints, f.sfits) }
 
@@ -139,7 +139,7 @@ quotient_is i j k l a b c d q p e =
     ∙ ap (λ v. int_div_euclid v (pos 512)) (long_back 512 (((a +ℤ b) +ℤ c) +ℤ d) (omega arith) (sum_four i j k l a b c d p))
     ∙ divided (((a +ℤ b) +ℤ c) +ℤ d) 512
 
-long_quotient : (m q : ℤ) → IsShort m → q ≡ m → to_z w64 (of_z w64 q) ≡ m
+long_quotient : (m q : ℤ) → IsOf32Bits m → q ≡ m → to_z w64 (of_z w64 q) ≡ m
 long_quotient m q s e = rw e (back m (omega (arith, ints, s.least, s.most)))
 
 -- it fits 32 bits
@@ -147,7 +147,7 @@ pub quotient_fits : (i j k l : ℕ) (a b c d q : ℤ) → AreWeighted i j k l a 
     → FitsSigned w32 (to_z w64 (of_z w64 q))
 quotient_fits i j k l a b c d q p e =
     let m : ℤ = floor_of (((a +ℤ b) +ℤ c) +ℤ d) 512 in
-    let short : IsShort m = mean_short (((a +ℤ b) +ℤ c) +ℤ d) (sum_four i j k l a b c d p) in
+    let short : IsOf32Bits m = mean_short (((a +ℤ b) +ℤ c) +ℤ d) (sum_four i j k l a b c d p) in
     let P : ℤ → Type 0 = FitsSigned w32 in
     subst P (sym (long_quotient m q short e)) (short_fits m short)
 
@@ -155,7 +155,7 @@ pub quotient_back : (i j k l : ℕ) (a b c d q : ℤ) → AreWeighted i j k l a 
     → to_z w32 (of_z w32 (to_z w64 (of_z w64 q))) ≡ floor_of (((a +ℤ b) +ℤ c) +ℤ d) 512
 quotient_back i j k l a b c d q p e =
     let m : ℤ = floor_of (((a +ℤ b) +ℤ c) +ℤ d) 512 in
-    let short : IsShort m = mean_short (((a +ℤ b) +ℤ c) +ℤ d) (sum_four i j k l a b c d p) in
+    let short : IsOf32Bits m = mean_short (((a +ℤ b) +ℤ c) +ℤ d) (sum_four i j k l a b c d p) in
     ap (λ v. to_z w32 (of_z w32 v)) (long_quotient m q short e) ∙ to_z-of_z w32 m (short_fits m short)
 
 -- the four numbers are weighted ones

@@ -2,8 +2,8 @@
 -- between two items.
 use Rattle.std.proofs.Common.{◌≡◌, ℕ, suc, Bool, false, not, List, [], ◌∷◌, ◌++◌, map, Option, inl, inr, refl, sym, ◌∙◌, ap, subst}
 use Rattle.pt_core.specs.Files.{Contents}
-use Rattle.bitmap_input.specs.Cut.{Ending}
-use Rattle.bitmap_input.specs.Cut.Ending.{End, Trailing, Refused}
+use Rattle.bitmap_input.specs.Cut.{FileEnd}
+use Rattle.bitmap_input.specs.Cut.FileEnd.{End, Trailing, Refused}
 use Rattle.bitmap_input.specs.Raw.{Raw}
 use Rattle.run_output.specs.Made.{Past, page_name, past_file}
 use Rattle.run_output.specs.Messages.{trailing_line}
@@ -12,10 +12,10 @@ use Rattle.run_output.specs.Parts.{Part, page_part, whole}
 use Rattle.run_output.specs.declared.part.Binding.{Binding}
 use Rattle.run_output.specs.declared.part.Binding.TheVariants.{Apart, Together}
 use Rattle.page_batches.specs.Items.{Item, end_items, is_open_behind}
-use Rattle.page_batches.specs.Items.Item.{Missing, Note, Stop, Write}
-use Rattle.page_batches.specs.Outcome.{AreCarriedOut}
+use Rattle.page_batches.specs.Items.Item.{Missing, Note, Refuse, Write}
+use Rattle.page_batches.specs.ItemsDone.{AreCarriedOut}
 use Rattle.run_output.specs.Told.{Sinks}
-use Rattle.file_documents.specs.Items.{AreItems, ArePageItems, AreWhole, FileEnds, Nothing, PagesAlone, Rest}
+use Rattle.file_documents.specs.FileItems.{AreItems, ArePageItems, AreWhole, FileEnds, Nothing, PagesAlone, Rest}
 use Rattle.file_documents.specs.Manner.{Manner, base_by}
 
 -- the first of whole documents
@@ -23,7 +23,7 @@ pub AreWhole-front : (items more : List Item) → AreWhole (items ++ more) → A
 AreWhole-front [] more all = tt
 AreWhole-front (Write part ∷ items) more all = (all.0, AreWhole-front items more all.1)
 AreWhole-front (Note message ∷ items) more all = AreWhole-front items more all
-AreWhole-front (Stop message ∷ items) more all = AreWhole-front items more all
+AreWhole-front (Refuse message ∷ items) more all = AreWhole-front items more all
 AreWhole-front (Missing name ∷ items) more all = AreWhole-front items more all
 
 -- behind them no document is open
@@ -31,7 +31,7 @@ closed_behind : (is_open : Bool) (items : List Item) → AreWhole items → is_o
 closed_behind is_open [] all closed = closed
 closed_behind is_open (Write part ∷ items) all closed = closed_behind (not part.ends) items all.1 (ap (λ (p : Part). not p.ends) all.0)
 closed_behind is_open (Note message ∷ items) all closed = closed_behind is_open items all closed
-closed_behind is_open (Stop message ∷ items) all closed = closed_behind is_open items all closed
+closed_behind is_open (Refuse message ∷ items) all closed = closed_behind is_open items all closed
 closed_behind is_open (Missing name ∷ items) all closed = closed_behind is_open items all closed
 
 -- whole documents were written: the outputs' count of faults stayed, and no document is open
@@ -63,7 +63,7 @@ whole_page Apart apart name pages text = refl
 whole_page Together apart name pages text = absurd (let no : Together ≡ Apart = apart in cc)
 
 -- what follows the pages of a file
-file_end : (manner : Manner) → manner.binding ≡ Apart → (name base : List ℕ) (ending : Ending) (F : Rest) → WritesWhole F → (pages : ℕ) → WritesWhole (FileEnds manner name base ending F pages)
+file_end : (manner : Manner) → manner.binding ≡ Apart → (name base : List ℕ) (ending : FileEnd) (F : Rest) → WritesWhole F → (pages : ℕ) → WritesWhole (FileEnds manner name base ending F pages)
 file_end manner apart name base End F ends pages past items (rest, is, follow) =
     subst AreWhole (sym is) (whole_end manner.binding apart (next_name base past.made) pages [] rest (ends (past_file manner.binding base pages past) rest follow))
 file_end manner apart name base Trailing F ends pages past items (rest, is, follow) =

@@ -20,10 +20,10 @@ use Rattle.run_output.specs.declared.status.Status.TheVariants as status
 use Rattle.page_batches.specs.Held.{AreHeld, Held}
 use Rattle.page_batches.specs.Inner.Held.{Holds, pages_held}
 use Rattle.page_batches.specs.Items.{Item}
-use Rattle.page_batches.specs.Outcome.{HasEnded}
+use Rattle.page_batches.specs.ItemsDone.{HasEnded}
 use Rattle.run_output.specs.Told.{Sinks}
 use Rattle.page_batches.proofs.Holding.{all_held, ended_behind, holds_on, pages_in-page}
-use Rattle.file_documents.specs.Items.{page_item}
+use Rattle.file_documents.specs.FileItems.{page_item}
 use Rattle.file_documents.specs.Manner.{Manner}
 use Rattle.file_documents.specs.Outcome.{BeginsSettled, LeavesBehind, ReadsNear, is_later}
 use Rattle.file_documents.specs.Inner.Outcome.{BeginsWith}

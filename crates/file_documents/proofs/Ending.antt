@@ -18,13 +18,13 @@ use Rattle.run_output.specs.declared.part.Binding.{Binding}
 use Rattle.page_batches.specs.Held.{AreHeld, Held}
 use Rattle.page_batches.specs.Inner.Held.{LeavesBatch}
 use Rattle.page_batches.specs.Items.{Item}
-use Rattle.page_batches.specs.Items.Item.{Stop}
-use Rattle.page_batches.specs.Outcome.{AreCarriedOut, HasEnded}
-use Rattle.page_batches.specs.Inner.Outcome.{IsHalt}
+use Rattle.page_batches.specs.Items.Item.{Refuse}
+use Rattle.page_batches.specs.ItemsDone.{AreCarriedOut, HasEnded}
+use Rattle.page_batches.specs.Inner.ItemsDone.{IsHalt}
 use Rattle.run_output.specs.Told.{IsMessage, Sinks, Source}
 use Rattle.page_batches.proofs.Carrying.{GoesOn-behind, IsSaying, carried_on, ended_more, ended_on, memory_out, only_said}
 use Rattle.page_batches.proofs.Holding.{ended_behind, halts_by, holds_goes_on}
-use Rattle.file_documents.specs.Items.{AreItems, IsAbsent, Nothing, told_contents}
+use Rattle.file_documents.specs.FileItems.{AreItems, IsAbsent, Nothing, told_contents}
 use Rattle.file_documents.specs.Manner.{HasTexts, Manner, base_by}
 use Rattle.file_documents.specs.Outcome.{EndsNear, HoldsBytes, IsOutcomeBehind, IsUnopened, IsUnread, OpensUpTo, ReadsFileNear, ReadsNear, opened_name}
 use Rattle.file_documents.specs.Inner.Progress.{EndsWithFile, Halts, Converts, ConvertsFile, end_message, status_of, text_items}
@@ -280,7 +280,7 @@ module _ (size : ℕ) (manner : Manner) (can : HasTexts manner) (name : List ℕ
 
   -- with a page that is refused
   stopped : (end : PagesEnd) (t : ConvertedTo end) (names : List (List ℕ)) (first : List Item)
-      → AreItems (told_contents source.files) manner Nothing (name ∷ names) past (text_items manner base past 0 t.texts ++ Stop (end_message name end k) ∷ [])
+      → AreItems (told_contents source.files) manner Nothing (name ∷ names) past (text_items manner base past 0 t.texts ++ Refuse (end_message name end k) ∷ [])
       → AreCarriedOut (first ++ text_items manner base past 0 t.texts) (end_message name end k ∷ []) a c → Ends status.Refused first names
   stopped end t names first all done =
       let (rest, here, near) = near_of source.files start source_now.files name t.raws opened there contents named t.near in

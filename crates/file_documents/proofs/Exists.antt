@@ -5,8 +5,8 @@ use Rattle.std.proofs.lemmas.Bool.{cases_lt}
 use Rattle.std.proofs.lemmas.List.Elements.{All-head, All-nil, All-tail}
 use Rattle.pt_core.specs.Files.{Contents}
 use Rattle.bit_image.specs.Page.{IsPage}
-use Rattle.bitmap_input.specs.Cut.{Ending}
-use Rattle.bitmap_input.specs.Cut.Ending.{End, Trailing, Refused}
+use Rattle.bitmap_input.specs.Cut.{FileEnd}
+use Rattle.bitmap_input.specs.Cut.FileEnd.{End, Trailing, Refused}
 use Rattle.bitmap_input.specs.FaultText.{kind_text}
 use Rattle.bitmap_input.specs.FilePages.{FilePages}
 use Rattle.bitmap_input.specs.Raw.{Raw}
@@ -17,18 +17,18 @@ use Rattle.run_output.specs.Messages.{page_line, trailing_line}
 use Rattle.run_output.specs.Names.{next_name}
 use Rattle.run_output.specs.declared.part.Binding.{Binding}
 use Rattle.page_batches.specs.Items.{Item, end_items}
-use Rattle.page_batches.specs.Items.Item.{Missing, Stop}
-use Rattle.file_documents.specs.Items.{AreEndItems, AreItems, ArePageItems, FileEnds, Nothing, Rest, page_item, too_many}
+use Rattle.page_batches.specs.Items.Item.{Missing, Refuse}
+use Rattle.file_documents.specs.FileItems.{AreEndItems, AreItems, ArePageItems, FileEnds, Nothing, Rest, page_item, too_many}
 use Rattle.file_documents.specs.Manner.{HasTexts, Manner, base_by, shown_by}
 
-end_items_found : (b : Binding) (file name : List ℕ) (pages : ℕ) (ending : Ending) (Follow : List Item → Type 0) → (items : List Item) × Follow items
+end_items_found : (b : Binding) (file name : List ℕ) (pages : ℕ) (ending : FileEnd) (Follow : List Item → Type 0) → (items : List Item) × Follow items
     → (items : List Item) × AreEndItems b file name pages ending Follow items
 end_items_found b file name pages End Follow (rest, follow) = (end_items b name pages [] ++ rest, (rest, refl, follow))
 end_items_found b file name pages Trailing Follow (rest, follow) = (end_items b name pages (trailing_line file pages ∷ []) ++ rest, (rest, refl, follow))
-end_items_found b file name pages (Refused kind) Follow (rest, follow) = (Stop (page_line file (pages + 1) (kind_text kind)) ∷ [], refl)
+end_items_found b file name pages (Refused kind) Follow (rest, follow) = (Refuse (page_line file (pages + 1) (kind_text kind)) ∷ [], refl)
 
 -- what follows the pages of a file
-file_end_found : (manner : Manner) (name base : List ℕ) (ending : Ending) (F : Rest) → ((past : Past) → (items : List Item) × F past items)
+file_end_found : (manner : Manner) (name base : List ℕ) (ending : FileEnd) (F : Rest) → ((past : Past) → (items : List Item) × F past items)
     → (pages : ℕ) (past : Past) → (items : List Item) × FileEnds manner name base ending F pages past items
 file_end_found manner name base ending F found pages past =
     end_items_found manner.binding name (next_name base past.made) pages ending (F (past_file manner.binding base pages past)) (found (past_file manner.binding base pages past))
@@ -48,11 +48,11 @@ page_items_found manner can name base Behind found (raw ∷ raws) shows pages pa
           let text = can (shown_by manner raw) (All-head P raw raws shows) in
           let rest = page_items_found manner can name base Behind found raws (All-tail P raw raws shows) (suc pages) past in
           (page_item manner base past pages text.0 ∷ rest.0, inl (few, (text.0, rest.0, text.1, refl, rest.1)))
-      | inr many ↦ (Stop (page_line name (pages + 1) too_many) ∷ [], inr (many, refl))
+      | inr many ↦ (Refuse (page_line name (pages + 1) too_many) ∷ [], inr (many, refl))
     ]
 
 -- the items of some pages of a file, and of what follows it
-pub file_pages_found : (manner : Manner) → HasTexts manner → (name base : List ℕ) (ending : Ending) (F : Rest)
+pub file_pages_found : (manner : Manner) → HasTexts manner → (name base : List ℕ) (ending : FileEnd) (F : Rest)
     → ((past : Past) → (items : List Item) × F past items) → (raws : List Raw) → AreShown manner raws → (pages : ℕ) (past : Past)
     → (items : List Item) × ArePageItems manner name base (FileEnds manner name base ending F) raws pages past items
 file_pages_found manner can name base ending F found =
@@ -61,7 +61,7 @@ file_pages_found manner can name base ending F found =
 -- the pages of what is left of a file, or none where that isn't told
 pub record HasPages (manner : Manner) (later : Bool) (rest : Option (List ℕ)) : Type 0 where
   pub raws : List Raw
-  pub ending : Ending
+  pub ending : FileEnd
   pub pages : IfSome rest (λ left. FilePages later left raws ending)
   pub shows : AreShown manner raws
 

@@ -2,8 +2,8 @@
 use Rattle.std.proofs.Common.{◌≡◌, ◌≤◌, ℕ, suc, ◌+◌, Bool, true, false, List, [], ◌∷◌, ◌++◌, length, drop, Option, None, Some, IfSome, option_map, inl, inr, refl, sym, ◌∙◌, ap, subst, append_assoc, arith, append-nil}
 use Rattle.std.specs.FinMap.{get}
 use Rattle.pt_core.specs.Files.{Contents, Files, Lacks, unread, unread_of, with_file}
-use Rattle.bitmap_input.specs.Cut.{Ending, Kind}
-use Rattle.bitmap_input.specs.Cut.Ending.{End, Trailing, Refused}
+use Rattle.bitmap_input.specs.Cut.{FileEnd, Kind}
+use Rattle.bitmap_input.specs.Cut.FileEnd.{End, Trailing, Refused}
 use Rattle.bitmap_input.specs.FaultText.{cause_text, kind_text}
 use Rattle.bitmap_input.specs.Inner.FaultText.{fault_text}
 use Rattle.bitmap_input.specs.Reading.{cause_of_fault}
@@ -24,13 +24,13 @@ use Rattle.run_output.specs.declared.status.Status.TheVariants as status
 use Rattle.page_batches.specs.Held.{AreHeld, Held}
 use Rattle.page_batches.specs.Inner.Held.{Holds}
 use Rattle.page_batches.specs.Items.{Item, end_items}
-use Rattle.page_batches.specs.Items.Item.{Stop}
-use Rattle.page_batches.specs.Outcome.{HasEnded}
-use Rattle.page_batches.specs.Inner.Outcome.{IsHalt}
+use Rattle.page_batches.specs.Items.Item.{Refuse}
+use Rattle.page_batches.specs.ItemsDone.{HasEnded}
+use Rattle.page_batches.specs.Inner.ItemsDone.{IsHalt}
 use Rattle.run_output.specs.Told.{Sinks}
 use Rattle.page_batches.proofs.Carrying.{ended_more}
 use Rattle.page_batches.proofs.Holding.{holds_on}
-use Rattle.file_documents.specs.Items.{AreItems, ArePageItems, FileEnds, HoldsPages, Nothing, PagesAlone, Rest, told_contents, too_many}
+use Rattle.file_documents.specs.FileItems.{AreItems, ArePageItems, FileEnds, HoldsPages, Nothing, PagesAlone, Rest, told_contents, too_many}
 use Rattle.file_documents.specs.Manner.{HasTexts, Manner, base_by}
 use Rattle.file_documents.specs.Inner.Outcome.{BeginsWith}
 use Rattle.file_documents.specs.Outcome.{is_later}
@@ -89,7 +89,7 @@ has_bytes (Some files) now name opened there =
     let (bytes, is) = opened_bytes files.contents name (get files.contents name) refl there in
     (bytes, is, ap unread opened ∙ unread-opened files name bytes is)
 
-pub holds_pages : (contents : Option Contents) (name : List ℕ) (all rest : Option (List ℕ)) (raws more : List Raw) (ending : Ending) → HasBytes contents name all
+pub holds_pages : (contents : Option Contents) (name : List ℕ) (all rest : Option (List ℕ)) (raws more : List Raw) (ending : FileEnd) → HasBytes contents name all
     → IfSome all (λ bytes. (left : List ℕ) × (rest ≡ Some left) × BeginsWith false bytes raws left)
     → IfSome rest (λ left. FilePages (is_later false raws) left more ending) → HoldsPages contents name (raws ++ more) ending
 holds_pages None name all rest raws more ending has begins pages = tt
@@ -99,14 +99,14 @@ holds_pages (Some contents) name all rest raws more ending (bytes, held, is) beg
     (bytes, held, pages_on false bytes raws left more ending b behind)
 
 -- where no page is left
-pages_end : (later : Bool) (ending : Ending) (rest : Option (List ℕ)) → IfSome rest (λ left. front later left ≡ Ends ending) → IfSome rest (λ left. FilePages later left [] ending)
+pages_end : (later : Bool) (ending : FileEnd) (rest : Option (List ℕ)) → IfSome rest (λ left. front later left ≡ Ends ending) → IfSome rest (λ left. FilePages later left [] ending)
 pages_end later ending None here = tt
 pages_end later ending (Some left) here = Ended here
 
 -- behind a page that is left
 record HasPage (manner : Manner) (raw : Raw) (later : Bool) (rest : Option (List ℕ)) : Type 0 where
   raws : List Raw
-  ending : Ending
+  ending : FileEnd
   pages : IfSome rest (λ left. FilePages later left (raw ∷ raws) ending)
   shows : AreShown manner raws
 
@@ -136,7 +136,7 @@ pub record HasRead (contents : Option Contents) (manner : Manner) (name : List �
   pub few : length raws + past.pages ≤ most_pages
   pub converted : AreConverted manner raws texts
   pub rest : Option (List ℕ)
-  pub holds : (more : List Raw) (ending : Ending) → IfSome rest (λ left. FilePages (is_later false raws) left more ending) → HoldsPages contents name (raws ++ more) ending
+  pub holds : (more : List Raw) (ending : FileEnd) → IfSome rest (λ left. FilePages (is_later false raws) left more ending) → HoldsPages contents name (raws ++ more) ending
 
 abbrev pub read_by_converting : (size : ℕ) (contents : Option Contents) (manner : Manner) (name base : List ℕ) (past : Past) (start now : Option Files) (held held_now : List Held) (a b : Sinks) (k : ℕ) (end : PagesEnd)
     → HasBytes contents name (unread start) → Converts size manner base past start now held held_now a b k end → HasRead contents manner name past
@@ -166,7 +166,7 @@ halts_unwritten s size manner base past start now held a b is t = subst (λ (v :
 -- the same where the reading halted
 pub record IsBehind (contents : Option Contents) (name : List ℕ) (raws : List Raw) : Type 0 where
   pub rest : Option (List ℕ)
-  pub holds : (more : List Raw) (ending : Ending) → IfSome rest (λ left. FilePages (is_later false raws) left more ending) → HoldsPages contents name (raws ++ more) ending
+  pub holds : (more : List Raw) (ending : FileEnd) → IfSome rest (λ left. FilePages (is_later false raws) left more ending) → HoldsPages contents name (raws ++ more) ending
 
 pub behind_pages : (contents : Option Contents) (name : List ℕ) (all : Option (List ℕ)) (raws : List Raw) → HasBytes contents name all
     → IfSome all (λ bytes. (left : List ℕ) × BeginsWith false bytes raws left) → IsBehind contents name raws
@@ -186,10 +186,10 @@ module _ (contents : Option Contents) (manner : Manner) (name : List ℕ) (past 
   base = base_by manner name
 
   -- the items of the file, and of what follows it
-  listed : (F : Rest) (r : HasRead contents manner name past) (k : ℕ) → k ≡ length r.raws → (more : List Raw) (ending : Ending) (after : List Item)
+  listed : (F : Rest) (r : HasRead contents manner name past) (k : ℕ) → k ≡ length r.raws → (more : List Raw) (ending : FileEnd) (after : List Item)
       → IfSome r.rest (λ left. FilePages (is_later false r.raws) left more ending)
       → ArePageItems manner name base (FileEnds manner name base ending F) more k past after
-      → (raws : List Raw) × (ending : Ending) × HoldsPages contents name raws ending
+      → (raws : List Raw) × (ending : FileEnd) × HoldsPages contents name raws ending
       × ArePageItems manner name base (FileEnds manner name base ending F) raws 0 past (text_items manner base past 0 r.texts ++ after)
   listed F r k count more ending after pages follow = (
     r.raws ++ more,
@@ -203,7 +203,7 @@ module _ (contents : Option Contents) (manner : Manner) (name : List ℕ) (past 
   EndsFile s first names a c = (items : List Item) × AreItems contents manner Nothing (name ∷ names) past items × HasEnded s (first ++ items) a c
 
   -- no page follows those that were read
-  all_read : (r : HasRead contents manner name past) (ending : Ending) → IfSome r.rest (λ left. FilePages (is_later false r.raws) left [] ending) → HoldsPages contents name r.raws ending
+  all_read : (r : HasRead contents manner name past) (ending : FileEnd) → IfSome r.rest (λ left. FilePages (is_later false r.raws) left [] ending) → HoldsPages contents name r.raws ending
   all_read r ending pages = subst (λ (raws : List Raw). HoldsPages contents name raws ending) (append-nil r.raws) (r.holds [] ending pages)
 
   abbrev Behind : List (List ℕ) → Rest
@@ -248,7 +248,7 @@ module _ (contents : Option Contents) (manner : Manner) (name : List ℕ) (past 
 
     -- the items of the file, where the run goes on behind it
     items_of : (end : PagesEnd) (t : ConvertedTo end) → status_of end ≡ status.Done
-        → (raws : List Raw) × (ending : Ending) × HoldsPages contents name raws ending
+        → (raws : List Raw) × (ending : FileEnd) × HoldsPages contents name raws ending
         × ArePageItems manner name base (FileEnds manner name base ending (EndsWith behind_file)) raws 0 past (text_items manner base past 0 t.texts ++ items_at_end manner name base past end k)
     items_of why.End t done =
         listed (EndsWith behind_file) (read_of why.End t) k t.count [] End (items_at_end manner name base past why.End k) (pages_end _ End t.rest t.ends) (ends_alone [])
@@ -261,7 +261,7 @@ module _ (contents : Option Contents) (manner : Manner) (name : List ℕ) (past 
     items_of (why.Fault f) t done = absurd (let no : status.Refused ≡ status.Done = done in cc)
 
     -- and its pages
-    pub pages_of : (end : PagesEnd) (t : ConvertedTo end) → status_of end ≡ status.Done → (ending : Ending) × HoldsPages contents name t.raws ending
+    pub pages_of : (end : PagesEnd) (t : ConvertedTo end) → status_of end ≡ status.Done → (ending : FileEnd) × HoldsPages contents name t.raws ending
     pages_of why.End t done = (End, all_read (read_of why.End t) End (pages_end _ End t.rest t.ends))
     pages_of why.Trailing t done = (Trailing, all_read (read_of why.Trailing t) Trailing (pages_end _ Trailing t.rest t.ends))
     pages_of why.TooMany t done = absurd (let no : status.Refused ≡ status.Done = done in cc)
@@ -285,7 +285,7 @@ module _ (contents : Option Contents) (manner : Manner) (name : List ℕ) (past 
 
     -- its pages, and a refusal
     abbrev AreRefused : List (List ℕ) → List (List ℕ) → List ℕ → Type 0
-    AreRefused names texts message = AreItems contents manner Nothing (name ∷ names) past (text_items manner base past 0 texts ++ Stop message ∷ [])
+    AreRefused names texts message = AreItems contents manner Nothing (name ∷ names) past (text_items manner base past 0 texts ++ Refuse message ∷ [])
 
     pub refused_items : (f : InFault) → status_of (why.Fault f) ≡ status.Refused → (names : List (List ℕ)) (t : ConvertedTo (why.Fault f))
         → AreRefused names t.texts (end_message name (why.Fault f) k)
@@ -296,11 +296,11 @@ module _ (contents : Option Contents) (manner : Manner) (name : List ℕ) (past 
         let message = page_line name (k + 1) (kind_text kind) in
         let same : page_line name (k + 1) (fault_text f) ≡ message = ap (page_line name (k + 1)) (fault_text-kind f kind cause) in
         subst (AreRefused names t.texts) (sym same)
-        (inr (listed (Behind names) (read_of (why.Fault f) t) k t.count [] (Refused kind) (Stop message ∷ []) (pages_end _ (Refused kind) t.rest here) refl))
+        (inr (listed (Behind names) (read_of (why.Fault f) t) k t.count [] (Refused kind) (Refuse message ∷ []) (pages_end _ (Refused kind) t.rest here) refl))
 
     pub full_items : (names : List (List ℕ)) (t : ConvertedTo why.TooMany) → AreRefused names t.texts (end_message name why.TooMany k)
     full_items names t =
         let (raw, used, here) = t.ends in
         let page = page_found manner raw used (is_later false t.raws) t.rest here in
         let message = page_line name (k + 1) too_many in
-        inr (listed (Behind names) (read_of why.TooMany t) k t.count (raw ∷ page.raws) page.ending (Stop message ∷ []) page.pages (inr (t.full refl, refl)))
+        inr (listed (Behind names) (read_of why.TooMany t) k t.count (raw ∷ page.raws) page.ending (Refuse message ∷ []) page.pages (inr (t.full refl, refl)))

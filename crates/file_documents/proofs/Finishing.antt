@@ -6,7 +6,7 @@ use Rattle.run_output.specs.declared.status.Status.TheVariants as status
 use Rattle.page_batches.specs.Held.{AreHeld, Held}
 use Rattle.page_batches.specs.Inner.Held.{Holds}
 use Rattle.page_batches.specs.Items.{Item}
-use Rattle.page_batches.specs.Outcome.{HasEnded}
+use Rattle.page_batches.specs.ItemsDone.{HasEnded}
 use Rattle.run_output.specs.Told.{Sinks}
 use Rattle.file_documents.specs.Manner.{Manner}
 use Rattle.file_documents.specs.Inner.Progress.{EndsHeld, EndsWithPages, GoesOnAfter, items_at_end, status_of}

@@ -2,8 +2,8 @@
 use Rattle.std.proofs.Common.{◌≡◌, ℕ, suc, ◌+◌, ◌*◌, ◌<◌, ◌⊎◌, min, List, [], ◌∷◌, ◌++◌, length, Option, None, Some, inl, inr, sym, ◌∙◌, ap, subst, append_assoc, length-append, arith}
 use Rattle.pt_core.specs.Counts.{Rose, last_count}
 use Rattle.pt_core.specs.Files.{Contents}
-use Rattle.bitmap_input.specs.Cut.{Ending}
-use Rattle.bitmap_input.specs.Cut.Ending.{End, Trailing, Refused}
+use Rattle.bitmap_input.specs.Cut.{FileEnd}
+use Rattle.bitmap_input.specs.Cut.FileEnd.{End, Trailing, Refused}
 use Rattle.bitmap_input.specs.FaultText.{cause_text}
 use Rattle.bitmap_input.specs.Raw.{Raw}
 use Rattle.bitmap_input.specs.Reading.Cause.{Device}
@@ -16,12 +16,12 @@ use Rattle.run_output.specs.declared.status.Status.TheVariants as status
 use Rattle.page_batches.specs.Held.{AreHeld, Held}
 use Rattle.page_batches.specs.Inner.Held.{Holds}
 use Rattle.page_batches.specs.Items.{GoesOn, Item, end_items, page_count}
-use Rattle.page_batches.specs.Items.Item.{Stop}
-use Rattle.page_batches.specs.Outcome.{AreCarriedOut, HasEnded}
+use Rattle.page_batches.specs.Items.Item.{Refuse}
+use Rattle.page_batches.specs.ItemsDone.{AreCarriedOut, HasEnded}
 use Rattle.run_output.specs.Told.{Sinks, Source}
 use Rattle.page_batches.proofs.Carrying.{GoesOn-append, GoesOn-behind, carried_on, ended_on, unwritten_as, unwritten_on}
 use Rattle.page_batches.proofs.Holding.{holds_goes_on, page_count-append}
-use Rattle.file_documents.specs.Items.{AreEndItems, AreItems, ArePageItems, FileEnds, IsAbsent, Nothing, Rest}
+use Rattle.file_documents.specs.FileItems.{AreEndItems, AreItems, ArePageItems, FileEnds, IsAbsent, Nothing, Rest}
 use Rattle.file_documents.specs.Manner.{Manner, base_by}
 use Rattle.file_documents.specs.OnePass.{IfReadsTo, IsOnePass, batch_end}
 use Rattle.file_documents.specs.Outcome.{IsOutcomeBehind, LastEndsNear, OpensUpTo}
@@ -29,7 +29,7 @@ use Rattle.file_documents.specs.Inner.Progress.{EndsWith}
 use Rattle.file_documents.proofs.OnePass.{batch_end_behind}
 
 -- where what follows goes on with these items, so does the end of a file
-end_joins : (b : Binding) (file name : List ℕ) (pages : ℕ) (ending : Ending) (F G : List Item → Type 0) (after : List Item)
+end_joins : (b : Binding) (file name : List ℕ) (pages : ℕ) (ending : FileEnd) (F G : List Item → Type 0) (after : List Item)
     → ((items : List Item) → GoesOn items → F items → G (items ++ after)) → (items : List Item) → GoesOn items
     → AreEndItems b file name pages ending F items → AreEndItems b file name pages ending G (items ++ after)
 end_joins b file name pages End F G after on items goes (rest, is, follow) =
@@ -40,7 +40,7 @@ end_joins b file name pages Trailing F G after on items goes (rest, is, follow) 
     (rest ++ after, ap (λ l. l ++ after) is ∙ append_assoc front rest after, on rest (GoesOn-behind front rest (subst GoesOn is goes)) follow)
 end_joins b file name pages (Refused kind) F G after on items goes is = absurd (subst GoesOn is goes)
 
-file_end_joins : (manner : Manner) (name base : List ℕ) (ending : Ending) (F G : Rest) (after : List Item)
+file_end_joins : (manner : Manner) (name base : List ℕ) (ending : FileEnd) (F G : Rest) (after : List Item)
     → ((past : Past) (items : List Item) → GoesOn items → F past items → G past (items ++ after)) → (pages : ℕ) (past : Past) (items : List Item) → GoesOn items
     → FileEnds manner name base ending F pages past items → FileEnds manner name base ending G pages past (items ++ after)
 file_end_joins manner name base ending F G after on pages past items goes are =
@@ -148,8 +148,8 @@ outcome_on s size contents manner front back past mid first before held start th
     opened = u.opened;
     near = u.near;
     items = joined _ u.before u.front u.items;
-    all = subst (λ l. AreItems contents manner Nothing (front ++ back) past l) (sym (append_assoc before u.before (Stop u.message ∷ [])))
-        (joined Nothing (u.before ++ Stop u.message ∷ []) back u.all);
+    all = subst (λ l. AreItems contents manner Nothing (front ++ back) past l) (sym (append_assoc before u.before (Refuse u.message ∷ [])))
+        (joined Nothing (u.before ++ Refuse u.message ∷ []) back u.all);
     done = carried u.before (u.message ∷ []) u.done;
   }
   by_status status.Unwritten o = ended status.Unwritten o

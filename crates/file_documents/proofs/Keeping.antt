@@ -8,7 +8,7 @@ use Rattle.run_output.specs.declared.status.Status.TheVariants as status
 use Rattle.page_batches.specs.Inner.Held.{EndsHolding}
 use Rattle.page_batches.specs.Held.{Held}
 use Rattle.page_batches.specs.Items.{Item}
-use Rattle.page_batches.specs.Outcome.{HasEnded}
+use Rattle.page_batches.specs.ItemsDone.{HasEnded}
 use Rattle.run_output.specs.Told.{Sinks, Source}
 use Rattle.file_documents.specs.Inner.Progress.{OpensNoFile, TakesBytes}
 use Rattle.file_documents.proofs.Reading.{contents_taken, name_taken}

@@ -1,8 +1,8 @@
 -- What a run is to write is one list, where it is told what the files hold.
 use Rattle.std.proofs.Common.{◌≡◌, ℕ, suc, inl, inr, false, None, Some, List, [], ◌∷◌, ◌++◌, sym, ◌∙◌, ap, subst, arith}
 use Rattle.pt_core.specs.Files.{Contents}
-use Rattle.bitmap_input.specs.Cut.{Ending}
-use Rattle.bitmap_input.specs.Cut.Ending.{End, Trailing, Refused}
+use Rattle.bitmap_input.specs.Cut.{FileEnd}
+use Rattle.bitmap_input.specs.Cut.FileEnd.{End, Trailing, Refused}
 use Rattle.bitmap_input.specs.Raw.{Raw}
 use Rattle.bitmap_input.specs.FilePages.{FilePages}
 use Rattle.bitmap_input.proofs.Files.{file_pages_same}
@@ -11,7 +11,7 @@ use Rattle.run_output.specs.Made.{Past, past_file}
 use Rattle.run_output.specs.Names.{next_name}
 use Rattle.run_output.specs.declared.part.Binding.{Binding}
 use Rattle.page_batches.specs.Items.{Item, end_items}
-use Rattle.file_documents.specs.Items.{AreEndItems, AreItems, ArePageItems, FileEnds, HoldsPages, Rest, page_item}
+use Rattle.file_documents.specs.FileItems.{AreEndItems, AreItems, ArePageItems, FileEnds, HoldsPages, Rest, page_item}
 use Rattle.file_documents.specs.Inner.Manner.{HasOneText}
 use Rattle.file_documents.specs.Manner.{Manner, base_by, shown_by}
 
@@ -19,7 +19,7 @@ use Rattle.file_documents.specs.Manner.{Manner, base_by, shown_by}
 abbrev IsOne : (List Item → Type 0) → Type 0
 IsOne Follow = (one other : List Item) → Follow one → Follow other → one ≡ other
 
-one_end : (b : Binding) (file name : List ℕ) (pages : ℕ) (ending : Ending) (Follow : List Item → Type 0) → IsOne Follow → IsOne (AreEndItems b file name pages ending Follow)
+one_end : (b : Binding) (file name : List ℕ) (pages : ℕ) (ending : FileEnd) (Follow : List Item → Type 0) → IsOne Follow → IsOne (AreEndItems b file name pages ending Follow)
 one_end b file name pages End Follow is_one one other this that =
     this.1 ∙ ap (λ (items : List Item). end_items b name pages [] ++ items) (is_one this.0 that.0 this.2 that.2) ∙ sym that.1
 one_end b file name pages Trailing Follow is_one one other this that =
@@ -27,7 +27,7 @@ one_end b file name pages Trailing Follow is_one one other this that =
 one_end b file name pages (Refused kind) Follow is_one one other this that = this ∙ sym that
 
 -- what follows the pages of a file
-one_file_end : (manner : Manner) (name base : List ℕ) (ending : Ending) (F : Rest) → ((past : Past) → IsOne (F past)) → (pages : ℕ) (past : Past)
+one_file_end : (manner : Manner) (name base : List ℕ) (ending : FileEnd) (F : Rest) → ((past : Past) → IsOne (F past)) → (pages : ℕ) (past : Past)
     → IsOne (FileEnds manner name base ending F pages past)
 one_file_end manner name base ending F is_one pages past =
     one_end manner.binding name (next_name base past.made) pages ending (F (past_file manner.binding base pages past)) (is_one (past_file manner.binding base pages past))
@@ -44,7 +44,7 @@ one_page_list manner single name base Behind is_one (raw ∷ raws) pages past on
 one_page_list manner single name base Behind is_one (raw ∷ raws) pages past one other (inr a) (inl b) = absurd (let many = a.0 in let few = b.0 in omega (arith, few, many))
 one_page_list manner single name base Behind is_one (raw ∷ raws) pages past one other (inr a) (inr b) = a.1 ∙ sym b.1
 
-one_file : (contents : Contents) (name : List ℕ) (raws others : List Raw) (ending other : Ending) → HoldsPages (Some contents) name raws ending
+one_file : (contents : Contents) (name : List ℕ) (raws others : List Raw) (ending other : FileEnd) → HoldsPages (Some contents) name raws ending
     → HoldsPages (Some contents) name others other → (others ≡ raws) × (other ≡ ending)
 one_file contents name raws others ending other (bytes, held, pages) (bytes2, held2, pages2) =
     let both : Some bytes2 ≡ Some bytes = sym held2 ∙ held in
@@ -64,7 +64,7 @@ one_list contents manner single F is_one (name ∷ names) past one other (inr (r
     let (same, ends) = one_file contents name raws raws2 ending ending2 holds holds2 in
     let base = base_by manner name in
     let G : Rest = AreItems (Some contents) manner F names in
-    let again = subst (λ (e : Ending). ArePageItems manner name base (FileEnds manner name base e G) raws 0 past other) ends
+    let again = subst (λ (e : FileEnd). ArePageItems manner name base (FileEnds manner name base e G) raws 0 past other) ends
     (subst (λ (rs : List Raw). ArePageItems manner name base (FileEnds manner name base ending2 G) rs 0 past other) same are2) in
     one_page_list manner single name base (FileEnds manner name base ending G)
     (one_file_end manner name base ending G (λ m. one_list contents manner single F is_one names m)) raws 0 past one other are again

@@ -9,11 +9,11 @@ use Rattle.run_output.specs.Made.{Past}
 use Rattle.run_output.specs.Parts.{Part}
 use Rattle.page_batches.specs.Items.{Item, page_count, pages_in}
 use Rattle.page_batches.specs.Items.Item.{Write}
-use Rattle.page_batches.specs.Outcome.{IsUnwritten}
+use Rattle.page_batches.specs.ItemsDone.{IsUnwritten}
 use Rattle.run_output.specs.Told.{Sinks, Source}
 use Rattle.page_batches.proofs.Carrying.{unwritten_as, unwritten_more, unwritten_on}
 use Rattle.page_batches.proofs.Holding.{page_count-append, page_count-held, split_on}
-use Rattle.file_documents.specs.Items.{AreItems, Nothing}
+use Rattle.file_documents.specs.FileItems.{AreItems, Nothing}
 use Rattle.file_documents.specs.Manner.{Manner}
 use Rattle.file_documents.specs.OnePass.{IfReadsTo, IsOnePass, batch_end}
 use Rattle.file_documents.specs.Inner.Progress.{IsInBatch, IsInPart}

@@ -1,6 +1,6 @@
 -- The pages of a file, found one after another.
 use Rattle.std.proofs.Common.{◌≡◌, ℕ, Bool, true, List, [], ◌∷◌, ◌++◌, drop, refl, sym, ◌∙◌, ap, subst}
-use Rattle.bitmap_input.specs.Cut.{Ending, is_by_end}
+use Rattle.bitmap_input.specs.Cut.{FileEnd, is_by_end}
 use Rattle.bitmap_input.specs.Raw.{Raw}
 use Rattle.bitmap_input.specs.Front.{front, page_at}
 use Rattle.bitmap_input.specs.Front.Answer.{Page as Gives}
@@ -48,7 +48,7 @@ AreConverted-more manner [] (t ∷ texts) raw text h p = absurd h
 AreConverted-more manner (r ∷ raws) [] raw text h p = absurd h
 
 -- the pages of a file that begins with these, and goes on with those behind them
-pub pages_on : (later : Bool) (bytes : List ℕ) (raws : List Raw) (rest : List ℕ) (more : List Raw) (ending : Ending)
+pub pages_on : (later : Bool) (bytes : List ℕ) (raws : List Raw) (rest : List ℕ) (more : List Raw) (ending : FileEnd)
     → BeginsWith later bytes raws rest → FilePages (is_later later raws) rest more ending → FilePages later bytes (raws ++ more) ending
 pages_on later bytes [] rest more ending b pages = subst (λ bs. FilePages later bs more ending) (sym b) pages
 pages_on later bytes (raw ∷ raws) rest more ending (n, f, b) pages =

@@ -9,11 +9,11 @@ use Rattle.run_output.specs.Made.{Past}
 use Rattle.page_batches.specs.Held.{AreHeld, Held}
 use Rattle.page_batches.specs.Inner.Held.{pages_held}
 use Rattle.page_batches.specs.Items.{GoesOn, Item, page_count}
-use Rattle.page_batches.specs.Items.Item.{Missing, Stop}
-use Rattle.page_batches.specs.Outcome.{HasEnded, IsUnwritten}
+use Rattle.page_batches.specs.Items.Item.{Missing, Refuse}
+use Rattle.page_batches.specs.ItemsDone.{HasEnded, IsUnwritten}
 use Rattle.run_output.specs.Told.{Sinks, Source}
 use Rattle.page_batches.proofs.Holding.{page_count-held}
-use Rattle.file_documents.specs.Items.{IsAbsent, told_contents}
+use Rattle.file_documents.specs.FileItems.{IsAbsent, told_contents}
 use Rattle.file_documents.specs.Manner.{HasTexts, Manner, base_by}
 use Rattle.file_documents.specs.OnePass.{IfReadsTo, IsOnePass}
 use Rattle.file_documents.specs.Outcome.{LeavesBehind, opened_name}
@@ -99,7 +99,7 @@ module _ (size : ℕ) (some : 0 < size) (manner : Manner) (can : HasTexts manner
         → ((left : List Item) → AreHeld manner.binding manner.belongs held_mid left → EndsWithFile name e k status.Unwritten left b c) → (status_of e ≡ status.Refused) ⊎ (status_of e ≡ status.Unread) → Passes first names a c
     by_end why.TooMany rose t ends which =
         let part = part_halts size manner (first ++ text_items manner base past 0 t.texts) held_mid a b c (t.holds first are) (u why.TooMany ends which) few in
-        let last : List Item = Stop (end_message name why.TooMany k) ∷ [] in
+        let last : List Item = Refuse (end_message name why.TooMany k) ∷ [] in
         pass_of_part size some first told manner (name ∷ names) past source source_now a c (first ++ text_items manner base past 0 t.texts) last (text_items manner base past 0 t.texts ++ last)
         (full_items told manner name past size start source_now.files k held held_mid a b has names t) part (split t.texts last) refl
     by_end why.End rose t ends (inl is) = absurd (let no : status.Done ≡ status.Refused = is in cc)
@@ -115,7 +115,7 @@ module _ (size : ℕ) (some : 0 < size) (manner : Manner) (can : HasTexts manner
         items part.unwritten (split t.texts after) (rose refl)
     by_end (why.Fault f) rose t ends which =
         let part = part_halts size manner (first ++ text_items manner base past 0 t.texts) held_mid a b c (t.holds first are) (u (why.Fault f) ends which) few in
-        let last : List Item = Stop (end_message name (why.Fault f) k) ∷ [] in
+        let last : List Item = Refuse (end_message name (why.Fault f) k) ∷ [] in
         pass_of_part size some first told manner (name ∷ names) past source source_now a c (first ++ text_items manner base past 0 t.texts) last (text_items manner base past 0 t.texts ++ last)
         (refused_items told manner name past size start source_now.files k held held_mid a b has f refl names t) part (split t.texts last) refl
 

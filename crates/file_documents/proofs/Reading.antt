@@ -10,7 +10,7 @@ use Rattle.bitmap_input.specs.declared.fault.InFault.{InFault}
 use Rattle.bitmap_input.specs.declared.fault.InFault.TheVariants as fault
 use Rattle.bitmap_input.specs.Cut.{Cut, is_by_end}
 use Rattle.bitmap_input.specs.Cut.Cut.{Takes, Stops}
-use Rattle.bitmap_input.specs.Cut.{Ending}
+use Rattle.bitmap_input.specs.Cut.{FileEnd}
 use Rattle.bitmap_input.specs.Front.{front, page_at}
 use Rattle.bitmap_input.specs.Front.Answer.{Page}
 use Rattle.bitmap_input.specs.FilePages.{FilePages, next_begins}
@@ -23,7 +23,7 @@ use Rattle.bitmap_input.proofs.FrontStays.{front_stays, page_stays}
 use Rattle.bitmap_input.proofs.Behind.{ahead_with_more, begins_with_more, front_within}
 use Rattle.bitmap_input.proofs.Files.{file_pages_some}
 use Rattle.bitmap_input.proofs.Sided.{pages_shown}
-use Rattle.file_documents.specs.Items.{told_contents}
+use Rattle.file_documents.specs.FileItems.{told_contents}
 use Rattle.file_documents.specs.Manner.{Manner, shown_by}
 use Rattle.file_documents.specs.Outcome.{opened_name}
 use Rattle.file_documents.specs.Inner.Progress.{FaultsBy, ReadsPage, Settles, TakesNeeded, ahead}
@@ -223,7 +223,7 @@ pub takes_page : (manner : Manner) (old new : Reader) (before now : Option Files
 takes_page manner old new before now page gives = record { more = gives.answers.more; moves = gives.answers.moves; needed = gives.answers.needed }
 
 -- for an end
-pub takes_ending : (ending : Ending) (old new : Reader) (before now : Option Files) → GivesEnding old before ending new now → TakesNeeded old before new now
+pub takes_ending : (ending : FileEnd) (old new : Reader) (before now : Option Files) → GivesEnding old before ending new now → TakesNeeded old before new now
 takes_ending ending old new before now gives = record { more = gives.answers.more; moves = gives.answers.moves; needed = gives.answers.needed }
 
 -- and for a page that isn't read

@@ -12,12 +12,12 @@ use Rattle.run_output.specs.declared.status.Status.TheVariants as status
 use Rattle.page_batches.specs.Held.{AreHeld, Held}
 use Rattle.page_batches.specs.Inner.Held.{Holds, pages_held}
 use Rattle.page_batches.specs.Items.{Item}
-use Rattle.page_batches.specs.Outcome.{AreCarriedOut, HasEnded, IsUnwritten}
-use Rattle.page_batches.specs.Inner.Outcome.{IsHalt}
+use Rattle.page_batches.specs.ItemsDone.{AreCarriedOut, HasEnded, IsUnwritten}
+use Rattle.page_batches.specs.Inner.ItemsDone.{IsHalt}
 use Rattle.run_output.specs.Told.{Sinks, Source}
 use Rattle.page_batches.proofs.Carrying.{carried_on, ended_on}
 use Rattle.page_batches.proofs.Holding.{all_held, holds_goes_on, holds_on}
-use Rattle.file_documents.specs.Items.{AreItems, Nothing}
+use Rattle.file_documents.specs.FileItems.{AreItems, Nothing}
 use Rattle.file_documents.specs.Manner.{Manner}
 use Rattle.file_documents.specs.OnePass.{IsOnePass}
 use Rattle.file_documents.specs.Outcome.{EndsNear, IsOutcomeBehind, LastEndsNear, OpensFirst, opened_name}

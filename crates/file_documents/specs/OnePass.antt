@@ -6,9 +6,9 @@ use Rattle.pt_core.specs.Files.{Contents}
 use Rattle.bitmap_input.specs.Raw.{Raw}
 use Rattle.run_output.specs.Made.{Past}
 use Rattle.page_batches.specs.Items.{GoesOn, Item, page_count}
-use Rattle.page_batches.specs.Outcome.{IsUnwritten}
+use Rattle.page_batches.specs.ItemsDone.{IsUnwritten}
 use Rattle.run_output.specs.Told.{Sinks, Source}
-use Rattle.file_documents.specs.Items.{AreItems, ArePageItems, Nothing, PagesAlone}
+use Rattle.file_documents.specs.FileItems.{AreItems, ArePageItems, Nothing, PagesAlone}
 use Rattle.file_documents.specs.Manner.{Manner, base_by}
 use Rattle.file_documents.specs.Outcome.{LeavesBehind, OpensUpTo}
 
@@ -37,6 +37,7 @@ pub record ReadsTo (pages : ℕ) (first : List Item) (contents : Contents) (mann
   pub goes_on : GoesOn before
   pub count : page_count (first ++ before) ≡ pages
 
+-- the same, where it is told what the files hold
 abbrev pub IfReadsTo : ℕ → List Item → Option Contents → Manner → List (List ℕ) → Past → Source → Source → Type 0
 IfReadsTo pages first None manner names past source source_now = Unit {0}
 IfReadsTo pages first (Some contents) manner names past source source_now = ReadsTo pages first contents manner names past source source_now

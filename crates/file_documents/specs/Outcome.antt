@@ -3,7 +3,7 @@ use Rattle.std.specs.Prelude.{◌≡◌, ℕ, ◌+◌, ◌≤◌, ◌⊎◌, Boo
 use Rattle.std.specs.FinMap.{get}
 use Rattle.pt_core.specs.Counts.{Rose, last_count}
 use Rattle.pt_core.specs.Files.{Contents, Files}
-use Rattle.bitmap_input.specs.Cut.{Ending, is_by_end}
+use Rattle.bitmap_input.specs.Cut.{FileEnd, is_by_end}
 use Rattle.bitmap_input.specs.FaultText.{cause_text}
 use Rattle.bitmap_input.specs.Raw.{Raw}
 use Rattle.bitmap_input.specs.Reading.Cause.{Device}
@@ -15,10 +15,10 @@ use Rattle.run_output.specs.Messages.{not_opened, page_line}
 use Rattle.run_output.specs.declared.status.Status.{Status}
 use Rattle.run_output.specs.declared.status.Status.TheVariants as status
 use Rattle.page_batches.specs.Items.{Item}
-use Rattle.page_batches.specs.Items.Item.{Stop}
-use Rattle.page_batches.specs.Outcome.{AreCarriedOut, HasEnded}
+use Rattle.page_batches.specs.Items.Item.{Refuse}
+use Rattle.page_batches.specs.ItemsDone.{AreCarriedOut, HasEnded}
 use Rattle.run_output.specs.Told.{Sinks, Source}
-use Rattle.file_documents.specs.Items.{AreItems, ArePageItems, HoldsPages, IsAbsent, Nothing, PagesAlone, told_contents}
+use Rattle.file_documents.specs.FileItems.{AreItems, ArePageItems, HoldsPages, IsAbsent, Nothing, PagesAlone, told_contents}
 use Rattle.file_documents.specs.Manner.{Manner, base_by}
 
 -- the file of this name is listed, and there were as many openings as there are files up to it. Which names these
@@ -130,14 +130,14 @@ pub record IsStopped (first : List Item) (contents : Option Contents) (manner : 
   pub near : ReadsFileNear contents name raws rest
   pub items : AreItems contents manner
       (λ past items. ArePageItems manner name (base_by manner name) PagesAlone raws 0 past items) front past before
-  pub all : AreItems contents manner Nothing names past (before ++ Stop message ∷ [])
+  pub all : AreItems contents manner Nothing names past (before ++ Refuse message ∷ [])
   pub done : AreCarriedOut (first ++ before) (message ∷ []) old new
 
 -- the file of this name has these pages, and it is the opened one, where that is told: it is read no farther than decides
 -- how its pages end, but for 65,536 bytes
 pub record EndsNear (contents : Option Contents) (name : List ℕ) (source_now : Source) : Type 0 where
   pub raws : List Raw
-  pub ending : Ending
+  pub ending : FileEnd
   pub rest : List ℕ
   pub pages : HoldsPages contents name raws ending
   pub opened : IfSome source_now.files (λ files. files.opened ≡ Some (record { name = name; rest = rest }))

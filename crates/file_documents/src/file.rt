@@ -6,7 +6,7 @@ ghost use Rattle.page_batches.specs.Inner.Desks.{Keeps, sinks_at};
 ghost use Rattle.page_batches.specs.Held.{AreHeld};
 ghost use Rattle.page_batches.specs.Inner.Held.{end_held, end_notes};
 ghost use Rattle.page_batches.specs.Items.{Item, end_items};
-ghost use Rattle.page_batches.specs.Inner.Outcome.{IsHalt, ended_with};
+ghost use Rattle.page_batches.specs.Inner.ItemsDone.{IsHalt, ended_with};
 ghost use Rattle.file_documents.specs.Manner.{HasTexts};
 ghost use Rattle.run_output.specs.Told.{source_of};
 ghost use Rattle.file_documents.specs.Inner.Progress.{AsksFor, CanHold, EndsFile, EndsHeld, EndsWithPages, GoesOnAfter, status_of};

@@ -3,7 +3,7 @@ ghost use Rattle.std.specs.Prelude.{◌≡◌, ◌*◌, [], false, true};
 ghost use Rattle.run_output.specs.Made.{no_past};
 ghost use Rattle.run_output.specs.declared.status.Status.{Status};
 ghost use Rattle.page_batches.specs.Inner.Desks.{Keeps, sinks_at};
-ghost use Rattle.file_documents.specs.Items.{told_contents};
+ghost use Rattle.file_documents.specs.FileItems.{told_contents};
 ghost use Rattle.file_documents.specs.Manner.{HasTexts};
 ghost use Rattle.file_documents.specs.OnePass.{IsOnePass};
 ghost use Rattle.file_documents.specs.Outcome.{IsOutcome, OpensFirst};

@@ -4,7 +4,7 @@ ghost use Rattle.pt_core.specs.Files.{Contents};
 ghost use Rattle.run_output.specs.Made.{Past};
 ghost use Rattle.run_output.specs.declared.part.Binding.{Binding};
 ghost use Rattle.page_batches.specs.Items.{Item};
-ghost use Rattle.file_documents.specs.Items.{AreItems, AreWhole, Nothing};
+ghost use Rattle.file_documents.specs.FileItems.{AreItems, AreWhole, Nothing};
 ghost use Rattle.file_documents.specs.Manner.{HasTexts, manner_by};
 
 use page_workers::PageJob;

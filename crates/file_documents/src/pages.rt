@@ -9,7 +9,7 @@ ghost use Rattle.page_batches.specs.Held.{AreHeld};
 ghost use Rattle.page_batches.specs.Inner.Held.{EndsHolding, pages_held};
 ghost use Rattle.page_batches.specs.Items.{Item};
 ghost use Rattle.page_batches.specs.Items.Item.{Write};
-ghost use Rattle.page_batches.specs.Inner.Outcome.{IsHalt};
+ghost use Rattle.page_batches.specs.Inner.ItemsDone.{IsHalt};
 ghost use Rattle.file_documents.specs.Manner.{HasTexts};
 ghost use Rattle.run_output.specs.Told.{source_of};
 ghost use Rattle.file_documents.specs.Inner.Progress.{Answered, CanHold, CanRead, EndsPages, EndsReading, FaultsBy, IsAtStart, OpensNoFile, TakesBytes};

@@ -4,14 +4,14 @@ use Rattle.bit_image.specs.Page.{Page}
 use Rattle.bit_image.specs.PbmText.{pbm_text}
 use Rattle.run_output.specs.Told.{Sinks, Source}
 use Rattle.small_program.specs.Input.{TellsInput}
-use Rattle.small_program.specs.Outcome.{HasDone, IsProgramRun, Writes}
+use Rattle.small_program.specs.ProgramRun.{HasDone, IsProgramRun, Writes}
 use Rattle.small_program.specs.Reply.{IsReply}
 use Rattle.small_program.specs.declared.ending.Ending.{Ending}
 use Rattle.small_program.specs.declared.ending.Ending.TheVariants as ending
 use Rattle.small_program.specs.declared.input.TheConstants.{MOST_BYTES}
 use Rattle.small_program.proofs.Taking.{one_input}
 use Rattle.point_fill.specs.Filled.{IsFilled}
-use Rattle.point_fill.specs.Reply.{IsFillReply, filler}
+use Rattle.point_fill.specs.FillReply.{IsFillReply, filler}
 use Rattle.point_fill.proofs.Replying.{one_fill_text}
 use Rattle.fill_run.specs.Round.{GivesBack}
 

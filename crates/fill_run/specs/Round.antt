@@ -4,7 +4,7 @@ use Rattle.pt_core.specs.Counts.{Rose}
 use Rattle.bit_image.specs.Page.{Page}
 use Rattle.bit_image.specs.PbmText.{pbm_text}
 use Rattle.run_output.specs.Told.{Sinks, Source}
-use Rattle.small_program.specs.Outcome.{Writes}
+use Rattle.small_program.specs.ProgramRun.{Writes}
 use Rattle.small_program.specs.declared.ending.Ending.{Ending}
 use Rattle.small_program.specs.declared.ending.Ending.TheVariants as ending
 

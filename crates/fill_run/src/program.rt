@@ -8,24 +8,24 @@ ghost use Rattle.path_decompose.specs.Decomposition.{IsDecomposition, kept};
 ghost use Rattle.run_output.specs.Told.{sinks_of, source_of};
 ghost use Rattle.small_program.specs.Ending.{exit_code};
 ghost use Rattle.small_program.specs.Input.{TellsInput};
-ghost use Rattle.small_program.specs.Outcome.{IsProgramRun};
+ghost use Rattle.small_program.specs.ProgramRun.{IsProgramRun};
 ghost use Rattle.small_program.specs.declared.ending.Ending.{Ending};
 ghost use Rattle.small_program.specs.declared.input.TheConstants.{MOST_BYTES};
-ghost use Rattle.point_fill.specs.Reply.{IsFillReply, filler};
+ghost use Rattle.point_fill.specs.FillReply.{IsFillReply, filler};
 ghost use Rattle.fill_run.specs.Round.{GivesBack};
 
 use bit_image::pbm;
 use point_fill::{FillFault, fill};
 use pt_core::{Inputs, NoMemory, Outputs, Sink};
-use small_program::{Reply, Task, run};
+use small_program::{Replies, Reply, run};
 use std::alloc::Global;
 
 /// Fills points texts.
 #[derive(Clone, Copy, Debug)]
 struct FillTask;
 
-impl Task for FillTask {
-    ghost use Rattle.point_fill.specs.Reply.{IsFillReply};
+impl Replies for FillTask {
+    ghost use Rattle.point_fill.specs.FillReply.{IsFillReply};
     ghost use Rattle.point_fill.proofs.Replying.{one_fill_ending, one_fill_text};
 
     ghost makes = { λ _ text end reply. IsFillReply text end reply };

@@ -8,8 +8,8 @@ use Rattle.clap.specs.declared.error.kind.ErrorKind.{ErrorKind}
 use Rattle.clap.specs.declared.error.kind.ErrorKind.TheVariants as kind
 use Rattle.command_words.proofs.OneFault.{IsFew, among_few, few_faults}
 use Rattle.pt_base.proofs.Decimals.{one_micro}
-use Rattle.filter_words.specs.Asked.{AsksFilter, GivesSetup, IsFilterAsked, filter_command}
-use Rattle.filter_words.specs.Inner.Asked.{CanFilter}
+use Rattle.filter_words.specs.FilterAsked.{AsksFilter, GivesSetup, IsFilterAsked, filter_command}
+use Rattle.filter_words.specs.Inner.FilterAsked.{CanFilter}
 use Rattle.filter_words.specs.declared.ask.FilterAsk.{FilterAsk}
 use Rattle.filter_words.specs.declared.ask.FilterAsk.TheVariants.{Help, Page}
 use Rattle.filter_words.specs.declared.setup.Setup.{Setup}

@@ -1,3 +1,2 @@
--- What the words ask for.
---   CanFilter: a setup that a page can be filtered with
-pub mod Asked
+-- What inner contracts alone speak of: no promise rests on it.
+pub mod FilterAsked

@@ -1,7 +1,7 @@
 //! Reading the words.
 ghost use Rattle.std.specs.Prelude.{◌≡◌, IfOk, IsErrOf, map, string_bytes};
-ghost use Rattle.filter_words.specs.Inner.Asked.{CanFilter};
-ghost use Rattle.filter_words.specs.Asked.{IsFilterAsked};
+ghost use Rattle.filter_words.specs.Inner.FilterAsked.{CanFilter};
+ghost use Rattle.filter_words.specs.FilterAsked.{IsFilterAsked};
 
 use crate::command::filter_command;
 use crate::setup::{Setup, setup_of};

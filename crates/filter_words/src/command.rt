@@ -3,7 +3,7 @@ ghost use Rattle.std.specs.Prelude.{◌≡◌, IfOk, false};
 ghost use Rattle.clap.specs.Simple.{app_of};
 ghost use Rattle.clap.specs.Walk.{rule_of};
 ghost use Rattle.command_words.specs.Command.{long_option};
-ghost use Rattle.filter_words.specs.Asked.{filter_command};
+ghost use Rattle.filter_words.specs.FilterAsked.{filter_command};
 
 use clap::{Arg, ArgAction, Command};
 use std::alloc::{AllocError, Global};

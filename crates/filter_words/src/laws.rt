@@ -1,6 +1,6 @@
 //! What follows from the definition of what words ask for.
 ghost use Rattle.std.specs.Prelude.{◌≡◌, ℕ, List};
-ghost use Rattle.filter_words.specs.Asked.{IsFilterAsked};
+ghost use Rattle.filter_words.specs.FilterAsked.{IsFilterAsked};
 ghost use Rattle.filter_words.specs.declared.ask.FilterAsk.{FilterAsk};
 
 /// Words ask for one thing at most.

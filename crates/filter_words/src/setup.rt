@@ -2,7 +2,7 @@
 ghost use Rattle.std.specs.Prelude.{◌≡◌, ◌≤◌, ℕ, IfNone, IfSome, option_map};
 ghost use Rattle.clap.specs.Matches.{found_of};
 ghost use Rattle.clap.specs.Walk.{first_of, rows_of};
-ghost use Rattle.filter_words.specs.Asked.{GivesSetup, option_text};
+ghost use Rattle.filter_words.specs.FilterAsked.{GivesSetup, option_text};
 ghost use Rattle.mkbitmap.specs.declared.limits.TheConstants.{GREATEST_LEVEL};
 ghost use Rattle.pt_base.specs.Micro.{IsMicro};
 

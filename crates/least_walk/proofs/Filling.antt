@@ -3,7 +3,7 @@ use Rattle.std.proofs.Common.{ℕ, ◌+◌, ◌<◌, ◌≤◌, List, length, sy
 use Rattle.std.proofs.lemmas.List.{get_or-set_other}
 use Rattle.std.proofs.lemmas.Bool.{cases_eq}
 use Rattle.least_walk.specs.Inner.Suffix.{HasCosts, HasNexts, IsLeastCost, IsLeastNext}
-use Rattle.least_walk.specs.Inner.Places.{IsPlace}
+use Rattle.least_walk.specs.Inner.MarkedPlaces.{IsPlace}
 
 -- what holds of each value from `i + 1` on, and of the new one at i, holds from i on
 pub filled : (Holds : ℕ → ℕ → Type 0) (values : List ℕ) (i v : ℕ) → i < length values → Holds i v

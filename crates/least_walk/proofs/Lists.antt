@@ -4,7 +4,7 @@ use Rattle.std.proofs.Math.ListN.{replicate}
 use Rattle.std.proofs.Math.Seq.{take-append_seam}
 use Rattle.std.proofs.lemmas.Bool.{cases_lt}
 use Rattle.std.proofs.lemmas.List.{get_or_past, get_or-replicate, length-replicate}
-use Rattle.least_walk.specs.Inner.Places.{AreUnmarked}
+use Rattle.least_walk.specs.Inner.MarkedPlaces.{AreUnmarked}
 
 -- what was written through a slice of a whole vector
 pub whole : {A : Type 0} (written rest : List A) (len : ℕ) → len ≡ length written → take len (written ++ rest) ≡ written

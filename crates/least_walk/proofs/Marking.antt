@@ -3,7 +3,7 @@ use Rattle.std.proofs.Common.{◌≡◌, ℕ, suc, ◌+◌, ◌<◌, ◌≤◌, 
 use Rattle.std.proofs.lemmas.List.{get_or-set_other, length-set}
 use Rattle.std.proofs.lemmas.Bool.{cases_eq, false≢true}
 use Rattle.least_walk.specs.Inner.Suffix.{HasFewest}
-use Rattle.least_walk.specs.Inner.Places.{AreMarkedPlaces, AreUnmarked, HasMarks, IsMarked, IsPlace, KeepsToFewest, MarksOnward}
+use Rattle.least_walk.specs.Inner.MarkedPlaces.{AreMarkedPlaces, AreUnmarked, HasMarks, IsMarked, IsPlace, KeepsToFewest, MarksOnward}
 use Rattle.least_walk.proofs.Places.{all_reached, place_at_start, place_onward, stands_after}
 
 -- an index is marked after a write where the value written says so, or where it was before

@@ -5,7 +5,7 @@ use Rattle.std.proofs.lemmas.List.Elements.{Contains-append_right}
 use Rattle.std.proofs.lemmas.Option.{slice_get-get_or}
 use Rattle.least_walk.specs.LeastWalk.{Step, steps_from, step_count, IsFewest, IsFewestStep, IsFewestPlace}
 use Rattle.least_walk.specs.Inner.Suffix.{HasFewest, WalksOn}
-use Rattle.least_walk.specs.Inner.Places.{ComesBy}
+use Rattle.least_walk.specs.Inner.MarkedPlaces.{ComesBy}
 use Rattle.least_walk.proofs.Going.{length-steps_from, goes_below}
 use Rattle.least_walk.proofs.Onward.{count_bound}
 use Rattle.least_walk.proofs.Walks.{walk_from_goes, goes_from_walk}

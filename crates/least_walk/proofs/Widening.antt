@@ -7,7 +7,7 @@ use Rattle.std.proofs.lemmas.Bool.{cases_eq}
 use Rattle.std.proofs.lemmas.Option.{get_or_from_slice_get, slice_get_within, slice_get-get_or}
 use Rattle.least_walk.specs.Inner.Suffix.{HasFewest}
 use Rattle.least_walk.specs.LeastWalk.{IsFewestPlace}
-use Rattle.least_walk.specs.Inner.Places.{IsMarked, HasMarks}
+use Rattle.least_walk.specs.Inner.MarkedPlaces.{IsMarked, HasMarks}
 use Rattle.least_walk.specs.Windows.{IsWindow, AreWindows}
 use Rattle.least_walk.specs.Inner.Windows.{AreNone}
 use Rattle.least_walk.specs.declared.window.Window.{Window}

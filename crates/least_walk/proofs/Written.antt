@@ -6,7 +6,7 @@ use Rattle.std.proofs.lemmas.Bool.{cases_lt}
 use Rattle.std.proofs.lemmas.Option.{slice_get-get_or}
 use Rattle.least_walk.specs.LeastWalk.{step_count, IsLeast}
 use Rattle.least_walk.specs.LeastWalk.IsBefore.{by_steps}
-use Rattle.least_walk.specs.Inner.Places.{IsPlace}
+use Rattle.least_walk.specs.Inner.MarkedPlaces.{IsPlace}
 use Rattle.least_walk.specs.Inner.Suffix.{IsLeastFrom, IsLeastNext, WalksOn}
 use Rattle.least_walk.proofs.Going.{goes_below}
 use Rattle.least_walk.proofs.Walks.{least_from_goes}

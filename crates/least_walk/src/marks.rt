@@ -1,7 +1,7 @@
 //! The indices that walks of fewest steps go through.
 ghost use Rattle.std.specs.Prelude.{◌≡◌, ◌+◌, ◌<◌, ◌≤◌, ◌↔◌, ◌⊎◌, ℕ, length, IsTrue};
 ghost use Rattle.least_walk.specs.Inner.Suffix.{HasFewest};
-ghost use Rattle.least_walk.specs.Inner.Places.{AreMarkedPlaces, AreUnmarked, HasMarks, IsMarked, IsPlace, KeepsToFewest, MarksOnward};
+ghost use Rattle.least_walk.specs.Inner.MarkedPlaces.{AreMarkedPlaces, AreUnmarked, HasMarks, IsMarked, IsPlace, KeepsToFewest, MarksOnward};
 
 use crate::steps::Steps;
 

@@ -1,7 +1,7 @@
 //! The least way to go on from each index, from the last index down to the first.
 ghost use Rattle.std.specs.Prelude.{◌≡◌, ◌+◌, ◌<◌, length};
 ghost use Rattle.least_walk.specs.Inner.Suffix.{HasFewest, HasCosts, HasNexts, IsFewestFrom, IsLeastCost, IsLeastNext};
-ghost use Rattle.least_walk.specs.Inner.Places.{HasMarks, IsPlace};
+ghost use Rattle.least_walk.specs.Inner.MarkedPlaces.{HasMarks, IsPlace};
 
 use crate::steps::Steps;
 

@@ -3,7 +3,7 @@ ghost use Rattle.std.specs.Prelude.{◌≡◌, ◌+◌, length, min, max, slice_
 ghost use Rattle.least_walk.specs.Inner.Suffix.{HasFewest};
 ghost use Rattle.least_walk.specs.Inner.Windows.{AreNone};
 ghost use Rattle.least_walk.specs.Windows.{AreWindows};
-ghost use Rattle.least_walk.specs.Inner.Places.{HasMarks};
+ghost use Rattle.least_walk.specs.Inner.MarkedPlaces.{HasMarks};
 
 use crate::marks::fill_marks;
 use crate::steps::Steps;

@@ -3,7 +3,7 @@ use Rattle.std.proofs.Common.{◌≡◌, [], ◌∷◌, ◌++◌, codes, refl, a
 use Rattle.std.proofs.lemmas.List.Elements.{All-nil, All-cons}
 use Rattle.std.specs.Prelude.{decimal}
 use Rattle.pt_base.specs.Whole.{IsDigit}
-use Rattle.list_reader.specs.Inner.Numbers.{IsNumeral, IsPlain}
+use Rattle.list_reader.specs.Inner.Numerals.{IsNumeral, IsPlain}
 use Rattle.list_reader.proofs.Runs.{decimal_of_value}
 
 forty_two : decimal 42 ≡ codes "42"

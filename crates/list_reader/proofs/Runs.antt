@@ -8,7 +8,7 @@ use Rattle.std.proofs.lemmas.List.Elements.{All-head, All-tail, All-nil, All-con
 use Rattle.std.proofs.lemmas.Fmt.{decimal_nonempty, length-decimal-le, first_decimal, decimal-digits_value, digits_value-decimal, digits_decimal, decimal_injective, decimal_digit}
 use Rattle.std.proofs.lemmas.Str.Parse.{IsNumeralModel, IsDigitsTest, numerals_by_fold}
 use Rattle.pt_base.specs.Whole.{IsDigit, value_after}
-use Rattle.list_reader.specs.Inner.Numbers.{EndsDigits, IsNumeral, IsPlain}
+use Rattle.list_reader.specs.Inner.Numerals.{EndsDigits, IsNumeral, IsPlain}
 
 -- digits and their value, as the library says it
 by_index : IsDigitsTest (All IsDigit)

@@ -1,2 +1,1 @@
--- What inner contracts alone speak of: no promise rests on it.
 pub mod Inner

@@ -1,7 +1,7 @@
 //! Decimal numbers without needless zeros.
 ghost use Rattle.std.specs.Prelude.{◌≡◌, ℕ, ◌*◌, ◌^◌, ◌<◌, ◌≤◌, ◌↔◌, List, All, IfNone, IfSome, IsTrue, decimal, drop, length, slice_index};
 ghost use Rattle.pt_base.specs.Whole.{IsDigit, value_after};
-ghost use Rattle.list_reader.specs.Inner.Numbers.{IsNumeral, IsPlain};
+ghost use Rattle.list_reader.specs.Inner.Numerals.{IsNumeral, IsPlain};
 ghost use Rattle.list_reader.specs.declared.number.TheConstants.{MOST_DIGITS};
 
 /// The most digits of a number below 2^64.

@@ -4,7 +4,7 @@ use Rattle.std.proofs.Math.Seq.{take-length, drop-append_seam, drop-length}
 use Rattle.std.proofs.lemmas.List.{take-append-le, drop-append-le}
 use Rattle.pt_core.specs.Documents.{Document, grown}
 use Rattle.mem_outside.specs.Shelf.{ShelfState, document_at, open_at, IsWithin, shelf_of, count_with}
-use Rattle.mem_outside.specs.declared.shelf.Place.{Place}
+use Rattle.mem_outside.specs.declared.shelf.ShelfPlace.{ShelfPlace}
 
 -- a part of the front stays
 part_stays : (n m : ℕ) (bytes more : List ℕ) → n ≤ m → m ≤ length bytes → take (m - n) (drop n (bytes ++ more)) ≡ take (m - n) (drop n bytes)
@@ -16,14 +16,14 @@ part_stays n m bytes more before within =
 same_document : (n m : List ℕ) (t u : List ℕ) → n ≡ m → t ≡ u → ◌≡◌ {A = Document} (record { name = n; bytes = t }) (record { name = m; bytes = u })
 same_document n m t u p q = cc
 
-document_stays : (bytes more : List ℕ) (p : Place) → IsWithin (length bytes) p → document_at (bytes ++ more) p ≡ document_at bytes p
+document_stays : (bytes more : List ℕ) (p : ShelfPlace) → IsWithin (length bytes) p → document_at (bytes ++ more) p ≡ document_at bytes p
 document_stays bytes more p within =
     same_document _ _ _ _ (part_stays p.start p.middle bytes more within.0 (omega arith)) (part_stays p.middle p.end bytes more within.1 within.2)
 
 same_cons : (d e : Document) (ds es : List Document) → d ≡ e → ds ≡ es → d ∷ ds ≡ e ∷ es
 same_cons d e ds es p q = cc
 
-pub documents_stay : (bytes more : List ℕ) (places : List Place) → All (IsWithin (length bytes)) places
+pub documents_stay : (bytes more : List ℕ) (places : List ShelfPlace) → All (IsWithin (length bytes)) places
     → map (document_at (bytes ++ more)) places ≡ map (document_at bytes) places
 documents_stay bytes more [] all = refl
 documents_stay bytes more (p ∷ places) all =
@@ -47,7 +47,7 @@ is_open_of : (is_open : Bool) (start middle : ℕ) (bytes : List ℕ) → is_som
 is_open_of false start middle bytes e = e
 is_open_of true start middle bytes e = refl
 
-pub shelf_of-add : (bytes more : List ℕ) (room : ℕ) (places : List Place) (room_for : ℕ) (is_open : Bool) (start middle : ℕ)
+pub shelf_of-add : (bytes more : List ℕ) (room : ℕ) (places : List ShelfPlace) (room_for : ℕ) (is_open : Bool) (start middle : ℕ)
     → All (IsWithin (length bytes)) places → (is_open ≡ true → (start ≤ middle) × (middle ≤ length bytes))
     → is_some (open_at is_open start middle bytes) ≡ true
     → shelf_of (bytes ++ more) room places room_for is_open start middle ≡ record {
@@ -77,7 +77,7 @@ one_less : (is_open : Bool) (start middle : ℕ) (bytes : List ℕ) (n room_for 
 one_less false start middle bytes n room_for closed = omega arith
 one_less true start middle bytes n room_for closed = cc
 
-pub shelf_of-begin : (bytes name : List ℕ) (room : ℕ) (places : List Place) (room_for : ℕ) (is_open : Bool) (start middle s m : ℕ)
+pub shelf_of-begin : (bytes name : List ℕ) (room : ℕ) (places : List ShelfPlace) (room_for : ℕ) (is_open : Bool) (start middle s m : ℕ)
     → All (IsWithin (length bytes)) places → open_at is_open start middle bytes ≡ None
     → s ≡ length bytes → m ≡ length (bytes ++ name)
     → shelf_of (bytes ++ name) room places room_for true s m ≡ record {

@@ -1,7 +1,7 @@
 -- Documents in one buffer: all names and texts one after another, and where each begins and ends.
 use Rattle.std.specs.Prelude.{◌≡◌, ℕ, ◌+◌, ◌-◌, ◌≤◌, ◌<◌, ◌^◌, Bool, true, false, cond, List, length, map, take, drop, All, Option, None, Some}
 use Rattle.pt_core.specs.Documents.{Document, Documents}
-use Rattle.mem_outside.specs.declared.shelf.Place.{Place}
+use Rattle.mem_outside.specs.declared.shelf.ShelfPlace.{ShelfPlace}
 
 -- the documents, how many more there is room for, and the free bytes
 pub record ShelfState : Type 0 where
@@ -10,7 +10,7 @@ pub record ShelfState : Type 0 where
   pub free_bytes : ℕ
 
 -- the document at a place of the buffer
-abbrev pub document_at : List ℕ → Place → Document
+abbrev pub document_at : List ℕ → ShelfPlace → Document
 document_at bytes p = record { name = take (p.middle - p.start) (drop p.start bytes); bytes = take (p.end - p.middle) (drop p.middle bytes) }
 
 -- the open document, which goes on to the buffer's end
@@ -19,7 +19,7 @@ open_at false start middle bytes = None
 open_at true start middle bytes = Some (record { name = take (middle - start) (drop start bytes); bytes = drop middle bytes })
 
 -- the place lies in the first n bytes
-abbrev pub IsWithin : ℕ → Place → Type 0
+abbrev pub IsWithin : ℕ → ShelfPlace → Type 0
 IsWithin n p = (p.start ≤ p.middle) × (p.middle ≤ p.end) × (p.end ≤ n)
 
 -- how many documents there are with an open one
@@ -27,7 +27,7 @@ abbrev pub count_with : Bool → ℕ → ℕ
 count_with is_open n = cond is_open (n + 1) n
 
 -- what the fields of a shelf hold
-abbrev pub shelf_of : List ℕ → ℕ → List Place → ℕ → Bool → ℕ → ℕ → ShelfState
+abbrev pub shelf_of : List ℕ → ℕ → List ShelfPlace → ℕ → Bool → ℕ → ℕ → ShelfState
 shelf_of bytes room places room_for is_open start middle = record {
   documents = record { whole = map (document_at bytes) places; last_open = open_at is_open start middle bytes };
   free_documents = room_for - count_with is_open (length places);
@@ -35,7 +35,7 @@ shelf_of bytes room places room_for is_open start middle = record {
 }
 
 -- the places lie in the buffer, and what is held lies in the room that was taken
-pub record IsHeld (bytes : List ℕ) (bytes_taken room : ℕ) (places : List Place) (places_taken room_for : ℕ) (is_open : Bool) (start middle : ℕ) : Type 0 where
+pub record IsHeld (bytes : List ℕ) (bytes_taken room : ℕ) (places : List ShelfPlace) (places_taken room_for : ℕ) (is_open : Bool) (start middle : ℕ) : Type 0 where
   pub within : All (IsWithin (length bytes)) places
   pub begun : is_open ≡ true → (start ≤ middle) × (middle ≤ length bytes)
   pub bytes_fit : length bytes ≤ room

@@ -10,7 +10,7 @@ use std::marker::Model;
 
 /// Where a whole document stands in the buffer: its name, then its text.
 #[derive(Clone, Copy, Debug)]
-pub(crate) struct Place {
+pub(crate) struct ShelfPlace {
     pub start: usize,
     pub middle: usize,
     pub end: usize,
@@ -21,7 +21,7 @@ pub(crate) struct Place {
 pub(crate) struct Shelf {
     bytes: Vec<u8>,
     room: usize,
-    places: Vec<Place>,
+    places: Vec<ShelfPlace>,
     room_for: usize,
     is_open: bool,
     start: usize,
@@ -114,7 +114,7 @@ impl Shelf {
           documents = record { whole = listed self.old.documents; last_open = None };
         } }
     {
-        let place = Place {
+        let place = ShelfPlace {
             start: self.start,
             middle: self.middle,
             end: self.bytes.len(),
@@ -160,13 +160,13 @@ impl Shelf {
 }
 
 /// Where document i stands; the open one goes on to the end.
-fn place_at(places: &[Place], start: usize, middle: usize, end: usize, i: usize) -> Place
+fn place_at(places: &[ShelfPlace], start: usize, middle: usize, end: usize, i: usize) -> ShelfPlace
     ensures { result ≡ slice_index_or places.now i
         (record { start = start; middle = middle; end = end }) }
 {
     if i < places.len() {
         places[i]
     } else {
-        Place { start, middle, end }
+        ShelfPlace { start, middle, end }
     }
 }

@@ -2,7 +2,7 @@
 use Rattle.std.proofs.Common.{◌≡◌, ℕ, ◌*◌, ◌≤◌, ◌<◌, inl, inr, List, [], ◌++◌, length, take, get_or, min, refl, ap, sym, ◌∙◌, subst, arith, Option, None, Some, append-nil, length-append}
 use Rattle.std.proofs.lemmas.List.{get_or_append_left, take-append-le}
 use Rattle.pt_core.specs.Documents.{Documents, IsCutOff, with_bytes, with_end, with_open, with_whole}
-use Rattle.mk_run.specs.Header.{PageHeader}
+use Rattle.mk_run.specs.PageHeader.{PageHeader}
 use Rattle.mkbitmap.specs.Enlarged.{need}
 use Rattle.mkbitmap.proofs.Order.{need-ends, need-rises}
 use Rattle.run_output.specs.Names.{dash}
@@ -10,7 +10,7 @@ use Rattle.filter_words.specs.declared.setup.Setup.{Setup}
 use Rattle.mk_run.specs.Put.{IsCutAt, need_of, rows_above}
 use Rattle.mk_run.specs.Inner.Put.{PutsRows}
 use Rattle.mk_run.specs.Result.{result_head, result_row, result_rows, result_text, scan_of}
-use Rattle.mk_run.specs.Work.{HasFirstRows}
+use Rattle.mk_run.specs.FilterWork.{HasFirstRows}
 use Rattle.mk_run.proofs.Drawing.{front_is, rows_end}
 
 pub opened_with : (told : Option Documents) (name bytes more : List ℕ) → with_bytes (with_open told name bytes) more ≡ with_open told name (bytes ++ more)

@@ -8,10 +8,10 @@ use Rattle.bitmap_input.proofs.GrayHeading.{gray_row_stays}
 use Rattle.bitmap_input.proofs.Telling.{move_on, stand}
 use Rattle.mkbitmap.specs.Box.{Gray}
 use Rattle.mkbitmap.specs.Follows.{IsRow}
-use Rattle.mk_run.specs.Header.{PageHeader}
+use Rattle.mk_run.specs.PageHeader.{PageHeader}
 use Rattle.mk_run.specs.Rows.{LeavesRows, cut_row}
-use Rattle.mk_run.specs.Inner.Work.{GivesRows, header_of}
-use Rattle.mk_run.specs.Work.{HasFirstRows}
+use Rattle.mk_run.specs.Inner.FilterWork.{GivesRows, header_of}
+use Rattle.mk_run.specs.FilterWork.{HasFirstRows}
 use Rattle.mk_run.proofs.Standing.{cut_stays, leaves_on, leaves_weaken}
 
 -- none were given

@@ -3,7 +3,7 @@ use Rattle.std.proofs.Common.{◌≡◌, ℕ, ◌⊎◌, inl, inr, Bool, true, f
 use Rattle.pt_core.specs.Counts.{Rose, next_count}
 use Rattle.pt_core.specs.Files.{Files, Lacks}
 use Rattle.bitmap_input.specs.Cut.{Cut, Kind, is_by_end, ◌>>=◌}
-use Rattle.bitmap_input.specs.Cut.Ending.{End, Trailing, Refused}
+use Rattle.bitmap_input.specs.Cut.FileEnd.{End, Trailing, Refused}
 use Rattle.bitmap_input.specs.Cut.Cut.{Takes, Stops}
 use Rattle.bitmap_input.specs.FaultText.{cause_text, kind_text}
 use Rattle.bitmap_input.specs.GrayReader.{GivesHead, GraySource, gray_at_start}
@@ -16,22 +16,22 @@ use Rattle.pt_core.specs.declared.fault.OpenFault.{OpenFault}
 use Rattle.pt_core.specs.declared.fault.OpenFault.TheVariants as faults
 use Rattle.bitmap_input.specs.Reading.Cause.{Says, Device, Memory}
 use Rattle.bitmap_input.specs.declared.gray_reader.GrayHead.{GrayHead}
-use Rattle.mk_run.specs.Header.{PageHeader, page_header}
+use Rattle.mk_run.specs.PageHeader.{PageHeader, page_header}
 use Rattle.bitmap_input.proofs.GrayHeading.{gray_header_stays}
 use Rattle.run_output.specs.Messages.{file_line, program_line}
 use Rattle.run_output.specs.Names.{dash}
 use Rattle.run_output.specs.Told.{Sinks, Source, Told}
 use Rattle.small_program.specs.Input.{HasTaken, TellsInput}
-use Rattle.small_program.specs.Outcome.{OnlySays}
+use Rattle.small_program.specs.ProgramRun.{OnlySays}
 use Rattle.small_program.specs.declared.ending.Ending.TheVariants as ending
 use Rattle.small_program.proofs.Taking.{is_not_missing, is_there, one_input}
 use Rattle.filter_words.specs.declared.setup.Setup.{Setup}
 use Rattle.mk_run.specs.Inner.Head.{StandsBehindHead, StopsHead}
-use Rattle.mk_run.specs.Outcome.{IsPageRun, LeavesOpen, filter_name, page_says}
-use Rattle.mk_run.specs.Inner.Outcome.{cause_ending}
+use Rattle.mk_run.specs.FilterRun.{IsPageRun, LeavesOpen, filter_name, page_says}
+use Rattle.mk_run.specs.Inner.FilterRun.{cause_ending}
 use Rattle.mk_run.specs.Result.{result_text}
 use Rattle.mk_run.specs.Rows.{fits_result, head_ending, page_ending}
-use Rattle.mk_run.specs.Inner.Work.{StopsBehind, header_of}
+use Rattle.mk_run.specs.Inner.FilterWork.{StopsBehind, header_of}
 use Rattle.mk_run.proofs.Running.{not_unwritten, run_refused, run_unread, too_large}
 use Rattle.mk_run.proofs.Standing.{cut_stays}
 use Rattle.mk_run.proofs.Taking.{all_of_taken, taken_on}

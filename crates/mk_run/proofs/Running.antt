@@ -4,11 +4,11 @@ use Rattle.pt_core.specs.Counts.{Rose, next_count}
 use Rattle.pt_core.specs.Failures.{after_err}
 use Rattle.pt_core.specs.Files.{Files}
 use Rattle.bitmap_input.specs.Cut.{Cut, Kind, is_by_end}
-use Rattle.bitmap_input.specs.Cut.Ending.{Refused}
+use Rattle.bitmap_input.specs.Cut.FileEnd.{Refused}
 use Rattle.bitmap_input.specs.Cut.Cut.{Takes, Stops}
 use Rattle.bitmap_input.specs.FaultText.{kind_text}
 use Rattle.bitmap_input.specs.GrayReader.{FailsToRead, GraySource, Refuses}
-use Rattle.mk_run.specs.Header.{PageHeader, page_header}
+use Rattle.mk_run.specs.PageHeader.{PageHeader, page_header}
 use Rattle.bitmap_input.specs.Reading.{AtEnd}
 use Rattle.bitmap_input.specs.Reading.Cause.{Says, Device}
 use Rattle.bitmap_input.proofs.GrayHeading.{gray_row_stays}
@@ -16,17 +16,17 @@ use Rattle.bitmap_input.proofs.Telling.{not_true}
 use Rattle.run_output.specs.Messages.{file_line}
 use Rattle.run_output.specs.Names.{dash}
 use Rattle.run_output.specs.Told.{IsMessage, Sinks, Source}
-use Rattle.small_program.specs.Outcome.{Writes}
+use Rattle.small_program.specs.ProgramRun.{Writes}
 use Rattle.small_program.specs.declared.ending.Ending.{Ending}
 use Rattle.small_program.specs.declared.ending.Ending.TheVariants as ending
 use Rattle.small_program.proofs.Taking.{is_not_missing, one_input}
 use Rattle.filter_words.specs.declared.setup.Setup.{Setup}
 use Rattle.mk_run.specs.Inner.Head.{StandsBehindHead}
-use Rattle.mk_run.specs.Outcome.{IsPageRun, LeavesOpen, filter_name, page_says, rows_behind}
+use Rattle.mk_run.specs.FilterRun.{IsPageRun, LeavesOpen, filter_name, page_says, rows_behind}
 use Rattle.mk_run.specs.Put.{IsCutAt}
 use Rattle.mk_run.specs.Result.{result_text}
 use Rattle.mk_run.specs.Rows.{LeavesRows, cut_row, fits_result, head_ending, page_ending, row_before, settled_rows, standing}
-use Rattle.mk_run.specs.Inner.Work.{GivesRows, StopsBehind, header_of}
+use Rattle.mk_run.specs.Inner.FilterWork.{GivesRows, StopsBehind, header_of}
 use Rattle.mk_run.proofs.Cutting.{cut_of_more}
 use Rattle.mk_run.proofs.Giving.{header_stays}
 use Rattle.mk_run.proofs.Standing.{cut_stays, leaves_weaken, none_settled, settled_is, standing_is}

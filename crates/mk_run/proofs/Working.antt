@@ -4,7 +4,7 @@ use Rattle.std.proofs.lemmas.List.{get_or_push}
 use Rattle.pt_core.specs.Files.{Files}
 use Rattle.bitmap_input.specs.GrayReader.{GivesRow, GraySource}
 use Rattle.bitmap_input.specs.declared.gray_reader.GrayHead.{GrayHead}
-use Rattle.mk_run.specs.Header.{PageHeader}
+use Rattle.mk_run.specs.PageHeader.{PageHeader}
 use Rattle.mkbitmap.specs.Box.{Gray}
 use Rattle.mkbitmap.specs.Enlarged.{after_of, dark_limit, is_black, need}
 use Rattle.mkbitmap.specs.Follows.{Follows, HasRoom, IsAlong, IsRow, SameSetup, first_held}
@@ -14,12 +14,12 @@ use Rattle.mkbitmap.specs.Packing.{padded}
 use Rattle.mkbitmap.proofs.Lifting.{need-is}
 use Rattle.mkbitmap.proofs.Order.{after-rises}
 use Rattle.filter_words.specs.declared.setup.Setup.{Setup}
-use Rattle.filter_words.specs.Inner.Asked.{CanFilter}
+use Rattle.filter_words.specs.Inner.FilterAsked.{CanFilter}
 use Rattle.mk_run.specs.Put.{need_of}
 use Rattle.mk_run.specs.Rows.{fits_result}
 use Rattle.mk_run.specs.Result.{result_row, scan_of}
-use Rattle.mk_run.specs.Inner.Work.{FitsWork, IsAtWork, header_of}
-use Rattle.mk_run.specs.Work.{HasFirstRows}
+use Rattle.mk_run.specs.Inner.FilterWork.{FitsWork, IsAtWork, header_of}
+use Rattle.mk_run.specs.FilterWork.{HasFirstRows}
 use Rattle.mk_run.proofs.Cutting.{scan_is}
 use Rattle.mk_run.proofs.Giving.{fewer_rows, lowered_row}
 

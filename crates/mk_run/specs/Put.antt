@@ -1,13 +1,13 @@
 -- What of the document a run wrote, and why it broke off.
 use Rattle.std.specs.Prelude.{◌≡◌, ℕ, ◌+◌, ◌*◌, ◌<◌, ◌≤◌, ◌⊎◌, List, [], ◌++◌, length, take, Option}
 use Rattle.pt_core.specs.Documents.{Documents, IsCutOff, with_bytes, with_open}
-use Rattle.mk_run.specs.Header.{PageHeader}
+use Rattle.mk_run.specs.PageHeader.{PageHeader}
 use Rattle.mkbitmap.specs.Box.{Gray}
 use Rattle.mkbitmap.specs.Enlarged.{need}
 use Rattle.run_output.specs.Names.{dash}
 use Rattle.filter_words.specs.declared.setup.Setup.{Setup}
 use Rattle.mk_run.specs.Result.{result_head, result_row, result_rows}
-use Rattle.mk_run.specs.Work.{HasFirstRows}
+use Rattle.mk_run.specs.FilterWork.{HasFirstRows}
 
 -- all rows of the result above row Y
 abbrev pub rows_above : Setup → Gray → ℕ → List ℕ

@@ -1,7 +1,7 @@
 -- The document: the rows of the result that so many rows of the page are enough for.
 use Rattle.std.specs.Prelude.{ℕ, zero, suc, ◌*◌, if◌then◌else◌, List, [], ◌++◌, codes, decimal, length, nat_lt}
 use Rattle.bit_image.specs.PbmText.{row_text}
-use Rattle.mk_run.specs.Header.{PageHeader}
+use Rattle.mk_run.specs.PageHeader.{PageHeader}
 use Rattle.mkbitmap.specs.Box.{Gray, gray_of}
 use Rattle.mkbitmap.specs.Enlarged.{is_black, need}
 use Rattle.mkbitmap.specs.Packing.{padded}

@@ -4,8 +4,8 @@ use Rattle.pt_core.specs.declared.limits.TheConstants.{LONGEST_SIDE}
 use Rattle.bitmap_input.specs.Cut.{Cut}
 use Rattle.bitmap_input.specs.Cut.Cut.{Takes, Stops}
 use Rattle.bitmap_input.specs.GrayRows.{gray_row}
-use Rattle.mk_run.specs.Header.{page_header}
-use Rattle.mk_run.specs.Header.{PageHeader}
+use Rattle.mk_run.specs.PageHeader.{page_header}
+use Rattle.mk_run.specs.PageHeader.{PageHeader}
 use Rattle.small_program.specs.declared.ending.Ending.{Ending}
 use Rattle.small_program.specs.declared.ending.Ending.TheVariants as ending
 use Rattle.filter_words.specs.declared.setup.Setup.{Setup}

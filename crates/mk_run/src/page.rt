@@ -4,11 +4,11 @@ ghost use Rattle.bitmap_input.specs.Inner.Reading.{CountsBy};
 ghost use Rattle.bitmap_input.specs.Reading.{cause_of_fault};
 ghost use Rattle.bitmap_input.specs.GrayReader.{GivesHead, gray_at_start};
 ghost use Rattle.run_output.specs.Told.{Source, sinks_of, source_of};
-ghost use Rattle.filter_words.specs.Inner.Asked.{CanFilter};
+ghost use Rattle.filter_words.specs.Inner.FilterAsked.{CanFilter};
 ghost use Rattle.mk_run.specs.Inner.Head.{StandsBehindHead, StopsHead};
-ghost use Rattle.mk_run.specs.Outcome.{IsPageRun};
+ghost use Rattle.mk_run.specs.FilterRun.{IsPageRun};
 ghost use Rattle.mk_run.specs.Rows.{fits_result};
-ghost use Rattle.mk_run.specs.Inner.Work.{IsGrayHead, MayRead};
+ghost use Rattle.mk_run.specs.Inner.FilterWork.{IsGrayHead, MayRead};
 ghost use Rattle.mkbitmap.specs.declared.limits.TheConstants.{GREATEST_TIMES};
 ghost use Rattle.pt_core.specs.declared.limits.TheConstants.{LONGEST_SIDE};
 

@@ -3,8 +3,8 @@ ghost use Rattle.std.specs.Prelude.{◌≡◌, false, true, map, string_bytes};
 ghost use Rattle.run_output.specs.Told.{sinks_of, source_of};
 ghost use Rattle.small_program.specs.Ending.{exit_code};
 ghost use Rattle.small_program.specs.declared.ending.Ending.{Ending};
-ghost use Rattle.mk_run.specs.Outcome.{IsFilterRun, filter_name, filter_usage};
-ghost use Rattle.small_program.specs.Outcome.{PutsText};
+ghost use Rattle.mk_run.specs.FilterRun.{IsFilterRun, filter_name, filter_usage};
+ghost use Rattle.small_program.specs.ProgramRun.{PutsText};
 ghost use Rattle.small_program.specs.declared.ending.Ending.TheVariants as ending;
 
 use crate::page::filter_input;

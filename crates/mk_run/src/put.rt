@@ -7,7 +7,7 @@ ghost use Rattle.run_output.specs.Names.{dash};
 ghost use Rattle.run_output.specs.Told.{told_of};
 ghost use Rattle.mk_run.specs.Inner.Put.{BreaksPage, BreaksRow, BreaksRows, GoesWell, PutsRow, PutsRows, StaysOpen};
 ghost use Rattle.mk_run.specs.Result.{result_head, result_text};
-ghost use Rattle.mk_run.specs.Inner.Work.{GivesRows, GoesAlong, HasRooms, IsAtWork, header_of, MayRead};
+ghost use Rattle.mk_run.specs.Inner.FilterWork.{GivesRows, GoesAlong, HasRooms, IsAtWork, header_of, MayRead};
 
 use crate::fault::Break;
 use crate::rooms::Rooms;

@@ -1,6 +1,6 @@
 //! Rooms for what goes through a run row by row.
 ghost use Rattle.std.specs.Prelude.{◌≡◌, ◌*◌, ◌≤◌, IfOk};
-ghost use Rattle.mk_run.specs.Inner.Work.{HasRooms};
+ghost use Rattle.mk_run.specs.Inner.FilterWork.{HasRooms};
 ghost use Rattle.mkbitmap.specs.declared.limits.TheConstants.{GREATEST_TIMES};
 ghost use Rattle.pt_core.specs.declared.limits.TheConstants.{LONGEST_SIDE};
 

@@ -4,7 +4,7 @@ ghost use Rattle.bitmap_input.specs.Inner.Reading.{CountsBy};
 ghost use Rattle.bitmap_input.specs.Reading.{cause_of_fault};
 ghost use Rattle.mkbitmap.specs.Enlarged.{after_of, need};
 ghost use Rattle.mkbitmap.specs.Follows.{SameSetup};
-ghost use Rattle.mk_run.specs.Inner.Work.{GivesRows, GoesAlong, IsAtWork, StopsBehind, StopsRow, MayRead};
+ghost use Rattle.mk_run.specs.Inner.FilterWork.{GivesRows, GoesAlong, IsAtWork, StopsBehind, StopsRow, MayRead};
 
 use bitmap_input::{GrayReader, InFault};
 use filter_words::Setup;

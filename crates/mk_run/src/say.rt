@@ -5,8 +5,8 @@ ghost use Rattle.bitmap_input.specs.Reading.{cause_of_fault};
 ghost use Rattle.run_output.specs.Messages.{file_line, file_page_line, program_line};
 ghost use Rattle.run_output.specs.Names.{dash};
 ghost use Rattle.run_output.specs.Told.{IsMessage, told_of};
-ghost use Rattle.mk_run.specs.Inner.Outcome.{cause_ending};
-ghost use Rattle.mk_run.specs.Outcome.{filter_name};
+ghost use Rattle.mk_run.specs.Inner.FilterRun.{cause_ending};
+ghost use Rattle.mk_run.specs.FilterRun.{filter_name};
 ghost use Rattle.small_program.specs.declared.ending.Ending.TheVariants as ending;
 
 use bitmap_input::InFault;

@@ -1,10 +1,10 @@
 //! All that a run needs memory for, made before its document is begun.
 ghost use Rattle.std.specs.Prelude.{◌≡◌, ◌*◌, [], false, true, IfOk};
 ghost use Rattle.bitmap_input.specs.GrayReader.{GraySource};
-ghost use Rattle.filter_words.specs.Inner.Asked.{CanFilter};
+ghost use Rattle.filter_words.specs.Inner.FilterAsked.{CanFilter};
 ghost use Rattle.mk_run.specs.Result.{pbm_head};
 ghost use Rattle.mk_run.specs.Rows.{fits_result};
-ghost use Rattle.mk_run.specs.Inner.Work.{HasRooms, IsAtWork, IsGrayHead};
+ghost use Rattle.mk_run.specs.Inner.FilterWork.{HasRooms, IsAtWork, IsGrayHead};
 
 use crate::rooms::Rooms;
 use bitmap_input::GrayHead;

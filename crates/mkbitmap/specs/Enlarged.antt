@@ -52,11 +52,11 @@ need height radius times Y = clamped height (centre_before times Y +ℤ pos (1 +
 
 -- The same in numbers that aren't negative.
 
--- the column whose centre is the first one further right, or the page's width; and how far the one
--- before it is behind
+-- the column whose centre is the first one further right, or the page's width
 abbrev pub after_of : ℕ → ℕ → ℕ
 after_of times X = (2 * X + 1 + times) / (2 * times)
 
+-- how far the centre before that one is behind
 abbrev pub distance_behind : ℕ → ℕ → ℕ
 distance_behind times X = (2 * X + 1 + times) % (2 * times)
 
@@ -74,6 +74,7 @@ mixed_column page radius times Y x =
     mix (2 * times) (distance_behind times Y) (raised_of page radius x (before_within page.height (after_of times Y)))
     (raised_of page radius x (before_within page.height (after_of times Y + 1)))
 
+-- the same mixture, raised, at a pixel of the larger page
 abbrev pub mixed_raised : Gray → ℕ → ℕ → ℕ → ℕ → ℕ
 mixed_raised page radius times X Y =
     mix (2 * times) (distance_behind times X) (mixed_column page radius times Y (before_within page.width (after_of times X)))

@@ -44,12 +44,12 @@ pub record HoldsRows (page : Gray) (f : Filter) : Type 0 where
       → get_or (get_or f.ring.items (j % (2 * f.radius + 1)) []) x 0 ≡ page.sample x j
   pub sums : (x : ℕ) → x < f.width → get_or f.columns.items x 0 ≡ sum_between (page.sample x) (first_held f) f.taken
 
--- so do the reliefs of a row, raised
+-- these are the reliefs of row y, raised
 abbrev pub AreRaised : Gray → Filter → List ℕ → ℕ → Type 0
 AreRaised page f reliefs y = (x : ℕ) → x < f.width → get_or reliefs x 0 ≡ raised_of page f.radius x y
 
--- and those of the last two rows that were made: of the page's first row twice at the beginning, and
--- of its last row twice at the end
+-- the filter holds the rows of this page, and the reliefs of the last two rows that were made: of the page's first
+-- row twice at the beginning, and of its last row twice at the end
 pub record Follows (page : Gray) (f : Filter) : Type 0 where
   pub holds : HoldsRows page f
   pub upper : 1 ≤ f.pairs → AreRaised page f f.upper.items (before_within f.height (f.pairs - 1))

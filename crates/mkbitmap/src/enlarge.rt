@@ -4,7 +4,7 @@ ghost use Rattle.mkbitmap.specs.Enlarged.{before_within, mix};
 ghost use Rattle.mkbitmap.specs.Inner.Enlarged.{dark};
 ghost use Rattle.mkbitmap.specs.Inner.Packing.{bit, byte_of};
 ghost use Rattle.mkbitmap.specs.Packing.{padded};
-ghost use Rattle.mkbitmap.specs.Inner.Place.{IsPlaceOf};
+ghost use Rattle.mkbitmap.specs.Inner.CentrePlace.{IsPlaceOf};
 ghost use Rattle.mkbitmap.specs.declared.limits.TheConstants.{GREATEST_RELIEF, GREATEST_TIMES};
 ghost use Rattle.pt_core.specs.declared.limits.TheConstants.{LONGEST_SIDE};
 ghost use Rattle.bit_image.specs.PbmText.{row_text};
@@ -33,7 +33,7 @@ pub(crate) fn mix_row(upper: &[u32], lower: &[u32], part: u32, whole: u32, mixed
 
 /// Where the centre of a pixel of the larger page lies among those of the page.
 #[derive(Clone, Copy, Debug)]
-pub(crate) struct Place {
+pub(crate) struct CentrePlace {
     /// The first centre behind it, counted from 0: as many columns, or rows, are before it.
     pub(crate) after: u32,
     /// How far it is behind the one before, in units of which a pixel of the page has twice as many as
@@ -41,23 +41,23 @@ pub(crate) struct Place {
     pub(crate) part: u32,
 }
 
-impl Place {
+impl CentrePlace {
     /// The place of a column or of a row of the larger page.
-    pub(crate) fn of(times: u32, column: u32) -> Place
+    pub(crate) fn of(times: u32, column: u32) -> CentrePlace
         requires least { 1 ≤ times }
         requires most { times ≤ GREATEST_TIMES }
         requires column { column ≤ LONGEST_SIDE }
         ensures { IsPlaceOf times column result }
     {
         let twice = 2 * column + 1 + times;
-        Place {
+        CentrePlace {
             after: twice / (2 * times),
             part: twice % (2 * times),
         }
     }
 
     /// The place of the next one.
-    fn next(self, times: u32) -> Place
+    fn next(self, times: u32) -> CentrePlace
         requires least { 1 ≤ times }
         requires most { times ≤ GREATEST_TIMES }
         requires after { self.after ≤ 65536 }
@@ -65,12 +65,12 @@ impl Place {
         ensures { (X : ℕ) → IsPlaceOf times X self → IsPlaceOf times (X + 1) result }
     {
         if self.part + 2 < 2 * times {
-            Place {
+            CentrePlace {
                 after: self.after,
                 part: self.part + 2,
             }
         } else {
-            Place {
+            CentrePlace {
                 after: self.after + 1,
                 part: self.part + 2 - 2 * times,
             }
@@ -92,7 +92,7 @@ fn is_dark(mixed: &[u32], after: u32, part: u32, whole: u32, limit: u64) -> bool
 }
 
 /// What the pixel in a column adds to its byte. The row has no pixels from `end` on.
-fn pixel(mixed: &[u32], place: Place, times: u32, limit: u64, x: u32, end: u32) -> u32
+fn pixel(mixed: &[u32], place: CentrePlace, times: u32, limit: u64, x: u32, end: u32) -> u32
     requires least { 1 ≤ times }
     requires most { times ≤ GREATEST_TIMES }
     requires place { IsPlaceOf times x place }
@@ -116,7 +116,7 @@ fn byte_at(mixed: &[u32], times: u32, limit: u64, column: u32, end: u32) -> u8
     requires columns { end + 2 * times ≤ times * length mixed.now }
     ensures { result ≡ byte_of (padded end (dark mixed.now times limit)) column }
 {
-    let mut place = Place::of(times, column);
+    let mut place = CentrePlace::of(times, column);
     let mut byte = 0;
     for x in column..column + 8 {
         byte = 2 * byte + pixel(mixed, place, times, limit, x, end);

@@ -8,7 +8,7 @@ ghost use Rattle.mkbitmap.specs.declared.limits.TheConstants.{GREATEST_LEVEL, GR
 ghost use Rattle.bit_image.specs.PbmText.{row_text};
 ghost use Rattle.mkbitmap.specs.Follows.{IsAlong, HasRoom, HoldsRows, AreRaised, Follows, IsRow, SameSetup, first_held};
 
-use crate::enlarge::{Place, mix_row, pack_row};
+use crate::enlarge::{CentrePlace, mix_row, pack_row};
 use crate::relief::raise_row;
 use crate::sums::{enter, leave};
 use pt_core::NoMemory;
@@ -282,7 +282,7 @@ impl Filter {
         requires row { y ≤ LONGEST_SIDE }
         ensures { result ≡ nat_eq self.now.pairs (after_of times y + 1) }
     {
-        self.pairs == Place::of(times, y).after + 1
+        self.pairs == CentrePlace::of(times, y).after + 1
     }
 
     /// Goes on by a row of the page: the lower reliefs become the upper ones.
@@ -325,7 +325,7 @@ impl Filter {
             → row.new ≡ row_text (times * self.now.width) (padded (times * self.now.width)
             (λ X. is_black page self.now.radius times level X y)) }
     {
-        let place = Place::of(times, y);
+        let place = CentrePlace::of(times, y);
         mix_row(&self.upper, &self.lower, place.part, 2 * times, mixed);
         pack_row(mixed, times, limit, times * self.width as u32, row);
     }

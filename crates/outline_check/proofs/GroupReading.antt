@@ -4,7 +4,7 @@ use Rattle.pt_base.specs.PointsText.{point_text}
 use Rattle.pt_base.specs.PolygonsText.{index_text}
 use Rattle.pt_core.specs.declared.point.Point.{Point}
 use Rattle.outline_check.specs.declared.label.Label.{Label}
-use Rattle.outline_check.specs.Inner.Groups.{IsGroup}
+use Rattle.outline_check.specs.Inner.CertifiedPaths.{IsGroup}
 use Rattle.outline_check.specs.Inner.LineTexts.{IsSomeLine}
 use Rattle.outline_check.specs.ProofsText.{Certified, certified_text, label_text}
 use Rattle.outline_check.specs.Texts.{IsInPage, IsIndex, IsShortLabel}

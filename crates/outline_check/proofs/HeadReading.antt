@@ -2,7 +2,7 @@
 use Rattle.std.proofs.Common.{◌≡◌, ℕ, ◌-◌, ◌^◌, List, ◌++◌, length, refl, sym, ◌∙◌, codes, flat_map, arith}
 use Rattle.std.specs.Prelude.{decimal}
 use Rattle.pt_core.specs.declared.limits.TheConstants.{LONGEST_SIDE}
-use Rattle.list_reader.specs.Inner.Numbers.{IsNumeral}
+use Rattle.list_reader.specs.Inner.Numerals.{IsNumeral}
 use Rattle.list_reader.proofs.Runs.{one_number}
 use Rattle.outline_check.specs.Inner.Heads.{IsHead}
 use Rattle.outline_check.specs.ProofsText.{Certified, certified_text}

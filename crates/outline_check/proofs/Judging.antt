@@ -11,7 +11,7 @@ use Rattle.std.specs.Prelude.{decimal}
 use Rattle.pt_core.specs.OnPage.{AreOnPage}
 use Rattle.pt_core.specs.ClosedWalk.{origin}
 use Rattle.pt_core.specs.declared.limits.TheConstants.{LONGEST_SIDE}
-use Rattle.outline_check.specs.Inner.Groups.{IsGroup}
+use Rattle.outline_check.specs.Inner.CertifiedPaths.{IsGroup}
 use Rattle.outline_check.specs.Inner.Heads.{IsHead}
 use Rattle.outline_check.specs.ProofsText.{Certified, certified_text}
 use Rattle.outline_check.specs.Texts.{AreInRanges, IsProofs}

@@ -5,7 +5,7 @@ use Rattle.std.proofs.lemmas.Grind.{flat_map-append}
 use Rattle.std.proofs.lemmas.List.{append-nil, get_or-drop, get_or_past, drop_more}
 use Rattle.std.proofs.lemmas.Bool.{cases_lt}
 use Rattle.std.proofs.lemmas.List.Elements.{All-nil, All-cons, All-head, All-tail, All-append}
-use Rattle.list_reader.specs.Inner.Numbers.{EndsDigits}
+use Rattle.list_reader.specs.Inner.Numerals.{EndsDigits}
 use Rattle.outline_check.specs.Inner.LineTexts.{AreEntries, IsEntryLine, IsSomeLine}
 
 -- the byte at a place of a text

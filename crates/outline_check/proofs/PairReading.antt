@@ -7,10 +7,10 @@ use Rattle.pt_base.specs.PointsText.{point_text}
 use Rattle.pt_base.specs.PolygonsText.{index_text}
 use Rattle.pt_base.specs.Whole.{IsDigit}
 use Rattle.pt_core.specs.declared.point.Point.{Point}
-use Rattle.list_reader.specs.Inner.Numbers.{IsNumeral}
+use Rattle.list_reader.specs.Inner.Numerals.{IsNumeral}
 use Rattle.list_reader.proofs.Runs.{one_number}
 use Rattle.outline_check.specs.declared.label.Label.{Label}
-use Rattle.outline_check.specs.Inner.Entries.{IsEntry, IsPair}
+use Rattle.outline_check.specs.Inner.LineEntries.{IsEntry, IsPair}
 use Rattle.outline_check.specs.ProofsText.{label_text}
 use Rattle.outline_check.specs.Texts.{IsInPage, IsIndex, IsShortLabel}
 use Rattle.outline_check.specs.Inner.LineTexts.{AreEntries}

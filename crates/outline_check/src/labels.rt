@@ -10,7 +10,7 @@ ghost use Rattle.outline_check.specs.Inner.Known.{AreRightDownTo};
 
 use crate::label::Label;
 use crate::onward::{begin_from, label_from};
-use crate::segments::Segments;
+use crate::segments::CheckedSegments;
 use pt_core::{NoMemory, Point};
 use std::alloc::Global;
 
@@ -20,7 +20,7 @@ pub fn labels(alloc: Global, points: &[Point]) -> Result<Vec<Label>, NoMemory>
     requires on_page { AreOnPage points.now }
     ensures { IfOk result (λ labels. AreRightLabels points.now labels.items) }
 {
-    let segments = Segments::of(alloc, points)?;
+    let segments = CheckedSegments::of(alloc, points)?;
     let nothing = Label { count: 0, cost: 0 };
     let mut labels = vec![in alloc; nothing; points.len() + 1]?;
     fill(&segments, &mut labels);
@@ -28,7 +28,7 @@ pub fn labels(alloc: Global, points: &[Point]) -> Result<Vec<Label>, NoMemory>
 }
 
 /// Writes down the right labels, from the end down.
-fn fill(segments: &Segments, labels: &mut [Label])
+fn fill(segments: &CheckedSegments, labels: &mut [Label])
     requires places { length labels.old ≡ length segments.now.moments + 1 }
     requires last { label_at labels.old (length segments.now.moments) ≡ no_label }
     ensures { AreRightDownTo (length segments.now.moments)

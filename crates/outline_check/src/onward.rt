@@ -12,10 +12,10 @@ ghost use Rattle.polygon_optimal.specs.Inner.Lasts.{AreRising, IsUpToLast, Leads
 ghost use Rattle.polygon_optimal.specs.Polygon.{penalty_of};
 ghost use Rattle.outline_check.specs.Labels.{IsRight, label_at, label_by};
 ghost use Rattle.outline_check.specs.Inner.Known.{AreRightDownTo, IsWindowBegin};
-ghost use Rattle.outline_check.specs.Inner.Windows.{onward_by};
+ghost use Rattle.outline_check.specs.Inner.LabelPoints.{onward_by};
 
 use crate::label::Label;
-use crate::segments::Segments;
+use crate::segments::CheckedSegments;
 use prefix_moments::Start;
 
 /// A label, and the point that it comes from.
@@ -26,7 +26,7 @@ pub(crate) struct Onward {
 }
 
 /// Where the window of a point begins, by where that of the next point does.
-pub(crate) fn begin_from(segments: &Segments, labels: &[Label], from: u32, later: u32) -> u32
+pub(crate) fn begin_from(segments: &CheckedSegments, labels: &[Label], from: u32, later: u32) -> u32
     requires from { from < length segments.now.moments }
     requires known { AreRightDownTo (length segments.now.moments)
         (IsUpToLast segments.now.lasts.items) (penalty_of segments.now.moments)
@@ -51,7 +51,7 @@ pub(crate) fn begin_from(segments: &Segments, labels: &[Label], from: u32, later
 // long as its polygons, of a spiral of walls 2.7 times, of a nest of squares 3.9 times; to check it takes less than
 // to make it.
 pub(crate) fn label_from(
-    segments: &Segments,
+    segments: &CheckedSegments,
     labels: &[Label],
     from: u32,
     begin: u32,
@@ -76,7 +76,7 @@ pub(crate) fn label_from(
 }
 
 /// The label by the segment to this point.
-fn by_segment(segments: &Segments, labels: &[Label], start: &Start, to: u32) -> Onward
+fn by_segment(segments: &CheckedSegments, labels: &[Label], start: &Start, to: u32) -> Onward
     requires start { start.now.moments.now ≡ segments.now.moments }
     requires onwards { start.now.from < to }
     requires reached { to ≤ slice_index segments.now.lasts.items start.now.from }
@@ -98,7 +98,13 @@ fn by_segment(segments: &Segments, labels: &[Label], start: &Start, to: u32) -> 
 /// The label by the segment to this point, where it is cheaper than `best`.
 //
 // Where the rest alone isn't cheaper, the segment isn't looked at.
-fn cheaper(segments: &Segments, labels: &[Label], start: &Start, to: u32, best: Onward) -> Onward
+fn cheaper(
+    segments: &CheckedSegments,
+    labels: &[Label],
+    start: &Start,
+    to: u32,
+    best: Onward,
+) -> Onward
     requires start { start.now.moments.now ≡ segments.now.moments }
     requires onwards { start.now.from < to }
     requires reached { to ≤ slice_index segments.now.lasts.items start.now.from }

@@ -49,12 +49,12 @@ crossed f c step (suc d) i j e low high =
 
 -- ---- so many n-ths beyond a whole number
 
-pub record IsShare (n t c r : ℕ) : Type 0 where
+pub record IsEdgeShare (n t c r : ℕ) : Type 0 where
   pub is : t ≡ n * c + r
   pub few : r ≤ n
   pub some : (c ≡ 0) ⊎ (1 ≤ r)
 
-pub share : (n : ℕ) → 1 ≤ n → (t : ℕ) → (c : ℕ) × (r : ℕ) × IsShare n t c r
+pub share : (n : ℕ) → 1 ≤ n → (t : ℕ) → (c : ℕ) × (r : ℕ) × IsEdgeShare n t c r
 share n some zero = (0, 0, record { is = omega arith; few = omega arith; some = inl refl })
 share n some (suc t) =
     let before = share n some t in
@@ -68,7 +68,7 @@ share n some (suc t) =
     ]
 
 -- a share of t isn't beyond the last number before t
-pub share_below : (n p t c r : ℕ) → 1 ≤ n → p ≤ n → 1 ≤ t → IsShare n (p * t) c r → c < t
+pub share_below : (n p t c r : ℕ) → 1 ≤ n → p ≤ n → 1 ≤ t → IsEdgeShare n (p * t) c r → c < t
 share_below n p t c r some part whole is = elim is.some [
   | inl none ↦ omega arith
   | inr more ↦ elim (cases_lt c t) [

@@ -8,7 +8,7 @@ use Rattle.straight_paths.specs.Straight.{StaysWithin}
 use Rattle.straight_paths.proofs.Signs.{product_at_least, factor_at_least, factor_positive}
 
 -- half of a number that isn't negative, rounded down
-pub record IsHalf (n h : ℤ) : Type 0 where
+pub record IsRoundedHalf (n h : ℤ) : Type 0 where
   pub low : (h +ℤ h) ≤ℤ n
   pub high : n ≤ℤ ((h +ℤ h) +ℤ pos 1)
   pub least : pos 0 ≤ℤ h
@@ -24,13 +24,13 @@ halves (suc n) =
       | inr odd ↦ (suc h, inl (omega arith))
     ]
 
-half_is : (n h : ℕ) → (n ≡ h + h) ⊎ (n ≡ suc (h + h)) → IsHalf (pos n) (pos h)
+half_is : (n h : ℕ) → (n ≡ h + h) ⊎ (n ≡ suc (h + h)) → IsRoundedHalf (pos n) (pos h)
 half_is n h is = elim is [
   | inl e ↦ record { low = omega (arith, ints); high = omega (arith, ints); least = omega (arith, ints); most = omega (arith, ints) }
   | inr e ↦ record { low = omega (arith, ints); high = omega (arith, ints); least = omega (arith, ints); most = omega (arith, ints) }
 ]
 
-pub half : (n : ℤ) → pos 0 ≤ℤ n → (h : ℤ) × IsHalf n h
+pub half : (n : ℤ) → pos 0 ≤ℤ n → (h : ℤ) × IsRoundedHalf n h
 half (pos n) some = let h = halves n in (pos h.0, half_is n h.0 h.1)
 half (negsuc n) some = absurd (omega (arith, ints))
 
@@ -133,7 +133,7 @@ rest_of : (a b d e : ℤ) → pos 2 *ℤ e -ℤ b ≡ neg_ℤ ((a +ℤ b) -ℤ p
 rest_of a b d e = omega (arith, ints)
 
 -- where d and e are half of a and b together, d is near half of a
-pub across : (a b d e : ℤ) → pos 0 ≤ℤ a → pos 0 <ℤ b → IsNearBoth a b d e → IsHalf (a +ℤ b) (d +ℤ e) → unsigned_abs (pos 2 *ℤ d -ℤ a) ≤ 2
+pub across : (a b d e : ℤ) → pos 0 ≤ℤ a → pos 0 <ℤ b → IsNearBoth a b d e → IsRoundedHalf (a +ℤ b) (d +ℤ e) → unsigned_abs (pos 2 *ℤ d -ℤ a) ≤ 2
 across a b d e some_a some_b near half =
     let w : ℤ = pos 2 *ℤ d -ℤ a in
     let ε : ℤ = (a +ℤ b) -ℤ pos 2 *ℤ (d +ℤ e) in
@@ -153,7 +153,7 @@ across a b d e some_a some_b near half =
 pub swapped : (a b d e : ℤ) → IsNearBoth a b d e → IsNearBoth b a e d
 swapped a b d e near = record { p = near.p; q = near.q; positive = near.positive; in_x = near.in_y; in_y = near.in_x }
 
-pub swapped_half : (a b d e : ℤ) → IsHalf (a +ℤ b) (d +ℤ e) → IsHalf (b +ℤ a) (e +ℤ d)
+pub swapped_half : (a b d e : ℤ) → IsRoundedHalf (a +ℤ b) (d +ℤ e) → IsRoundedHalf (b +ℤ a) (e +ℤ d)
 swapped_half a b d e half =
     let l = half.low in let h = half.high in let m = half.least in let n = half.most in
     record { low = omega (arith, ints); high = omega (arith, ints); least = omega (arith, ints); most = omega (arith, ints) }

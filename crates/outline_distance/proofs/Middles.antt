@@ -8,7 +8,7 @@ use Rattle.straight_paths.specs.Straight.{IsPossible, StaysWithin}
 use Rattle.outline_distance.proofs.Levels.{passed, compared}
 use Rattle.outline_distance.proofs.Segments.{half_line}
 use Rattle.outline_distance.proofs.Ways.{turned, opposite_within}
-use Rattle.outline_distance.proofs.Halves.{IsHalf, IsNearBoth, half, across, swapped, swapped_half, flat, not_below, above_zero}
+use Rattle.outline_distance.proofs.Halves.{IsRoundedHalf, IsNearBoth, half, across, swapped, swapped_half, flat, not_below, above_zero}
 
 -- ---- two coordinates that rise from i to j
 
@@ -19,7 +19,7 @@ pub record HasMiddle (f g : ℕ → ℤ) (i j : ℕ) : Type 0 where
   pub in_x : unsigned_abs (pos 2 *ℤ f at -ℤ (f i +ℤ f j)) ≤ 2
   pub in_y : unsigned_abs (pos 2 *ℤ g at -ℤ (g i +ℤ g j)) ≤ 2
 
-half_near : (u v x h : ℤ) → IsHalf (v -ℤ u) h → x ≡ u +ℤ h → unsigned_abs (pos 2 *ℤ x -ℤ (u +ℤ v)) ≤ 2
+half_near : (u v x h : ℤ) → IsRoundedHalf (v -ℤ u) h → x ≡ u +ℤ h → unsigned_abs (pos 2 *ℤ x -ℤ (u +ℤ v)) ≤ 2
 half_near u v x h half is = let l = half.low in let k = half.high in omega (arith, ints)
 
 flat_near : (u v x : ℤ) → u ≡ v → unsigned_abs (x -ℤ u) ≤ 1 → unsigned_abs (pos 2 *ℤ x -ℤ (u +ℤ v)) ≤ 2
@@ -31,8 +31,8 @@ moved_near u v x h = omega (arith, ints)
 no_rise : (u v : ℤ) → u ≡ v → v -ℤ u ≡ pos 0
 no_rise u v e = omega (arith, ints)
 
-sum_half : (u v x y u' v' h : ℤ) → IsHalf ((u' -ℤ u) +ℤ (v' -ℤ v)) h → x +ℤ y ≡ (u +ℤ v) +ℤ h
-    → IsHalf ((u' -ℤ u) +ℤ (v' -ℤ v)) ((x -ℤ u) +ℤ (y -ℤ v))
+sum_half : (u v x y u' v' h : ℤ) → IsRoundedHalf ((u' -ℤ u) +ℤ (v' -ℤ v)) h → x +ℤ y ≡ (u +ℤ v) +ℤ h
+    → IsRoundedHalf ((u' -ℤ u) +ℤ (v' -ℤ v)) ((x -ℤ u) +ℤ (y -ℤ v))
 sum_half u v x y u' v' h half is =
     let l = half.low in let k = half.high in let m = half.least in let n = half.most in
     record { low = omega (arith, ints); high = omega (arith, ints); least = omega (arith, ints); most = omega (arith, ints) }

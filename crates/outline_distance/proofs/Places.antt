@@ -80,11 +80,11 @@ near_share m p a b d e some_a some_b some near low high =
 
 -- ---- the nearest whole number to t / n
 
-pub record IsNearest (n t h : ℕ) : Type 0 where
+pub record IsNearestPlace (n t h : ℕ) : Type 0 where
   pub low : 2 * t ≤ 2 * (n * h) + n
   pub high : 2 * (n * h) ≤ 2 * t + n
 
-nearest : (n : ℕ) → 1 ≤ n → (t : ℕ) → (h : ℕ) × IsNearest n t h
+nearest : (n : ℕ) → 1 ≤ n → (t : ℕ) → (h : ℕ) × IsNearestPlace n t h
 nearest n some zero = (0, record { low = omega arith; high = omega arith })
 nearest n some (suc t) =
     let before = nearest n some t in
@@ -96,7 +96,7 @@ nearest n some (suc t) =
       | inr fewer ↦ (h, record { low = fewer; high = omega arith })
     ]
 
-no_more : (n p t h : ℕ) → 1 ≤ n → p ≤ n → IsNearest n (p * t) h → h ≤ t
+no_more : (n p t h : ℕ) → 1 ≤ n → p ≤ n → IsNearestPlace n (p * t) h → h ≤ t
 no_more n p t h some part near = elim (cases_lt t h) [
   | inl over ↦
       let a = mul-le n (suc t) n h (omega arith) over in
@@ -106,11 +106,11 @@ no_more n p t h some part near = elim (cases_lt t h) [
   | inr within ↦ within
 ]
 
-low_share : (n p t h : ℕ) (z w : ℤ) → z ≡ pos t → w ≡ pos h → IsNearest n (p * t) h
+low_share : (n p t h : ℕ) (z w : ℤ) → z ≡ pos t → w ≡ pos h → IsNearestPlace n (p * t) h
     → pos 0 ≤ℤ (pos n -ℤ pos 2 *ℤ (pos p *ℤ z -ℤ pos n *ℤ w))
 low_share n p t h z w e f near = let l = near.low in rw (e, f) (omega (arith, ints))
 
-high_share : (n p t h : ℕ) (z w : ℤ) → z ≡ pos t → w ≡ pos h → IsNearest n (p * t) h
+high_share : (n p t h : ℕ) (z w : ℤ) → z ≡ pos t → w ≡ pos h → IsNearestPlace n (p * t) h
     → pos 0 ≤ℤ (pos n +ℤ pos 2 *ℤ (pos p *ℤ z -ℤ pos n *ℤ w))
 high_share n p t h z w e f near = let l = near.high in rw (e, f) (omega (arith, ints))
 

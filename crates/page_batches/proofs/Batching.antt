@@ -12,14 +12,14 @@ use Rattle.run_output.specs.declared.part.Binding.{Binding}
 use Rattle.run_output.specs.declared.part.Binding.TheVariants.{Apart, Together}
 use Rattle.page_batches.specs.Items.{Item, is_open_behind}
 use Rattle.page_batches.specs.Items.Item.{Note, Write}
-use Rattle.page_batches.specs.Outcome.{AreCarriedOut, IsUnwritten}
+use Rattle.page_batches.specs.ItemsDone.{AreCarriedOut, IsUnwritten}
 use Rattle.run_output.specs.Told.{IsMessage, Sinks}
 use Rattle.page_batches.specs.Inner.Entries.{AreInOrder, held_by, items_by, pages_among}
 use Rattle.page_batches.specs.Held.{AreHeld, Held}
 use Rattle.page_batches.specs.Inner.Held.{AreInTurn, is_open_held, pages_held}
 use Rattle.page_batches.specs.Held.Held.{End, Message, Page}
-use Rattle.page_batches.specs.declared.batch.Entry.{Entry as Given}
-use Rattle.page_batches.specs.declared.batch.Entry.TheVariants as entry
+use Rattle.page_batches.specs.declared.batch.Pending.{Pending as Given}
+use Rattle.page_batches.specs.declared.batch.Pending.TheVariants as entry
 use Rattle.page_batches.proofs.Carrying.{IsSaying, carried_on, ended_on, note_said, nothing_done}
 
 -- what entries hold, and others behind them

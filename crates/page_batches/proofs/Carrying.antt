@@ -9,37 +9,37 @@ use Rattle.run_output.specs.Parts.{IsCutIn, with_part}
 use Rattle.run_output.specs.declared.status.Status.{Status}
 use Rattle.run_output.specs.declared.status.Status.TheVariants as status
 use Rattle.page_batches.specs.Items.{GoesOn, Item, is_open_behind, notes, with_items}
-use Rattle.page_batches.specs.Items.Item.{Missing, Note, Stop, Write}
-use Rattle.page_batches.specs.Outcome.{AreCarriedOut, AreSaid, HasEnded, IsUnwritten}
-use Rattle.page_batches.specs.Inner.Outcome.{EndsWriting, IsHalt}
+use Rattle.page_batches.specs.Items.Item.{Missing, Note, Refuse, Write}
+use Rattle.page_batches.specs.ItemsDone.{AreCarriedOut, AreSaid, HasEnded, IsUnwritten}
+use Rattle.page_batches.specs.Inner.ItemsDone.{EndsWriting, IsHalt}
 use Rattle.run_output.specs.Told.{IsMessage, Sinks, Told}
 
 pub GoesOn-append : (items more : List Item) → GoesOn items → GoesOn more → GoesOn (items ++ more)
 GoesOn-append [] more h k = k
 GoesOn-append (Write part ∷ items) more h k = GoesOn-append items more h k
 GoesOn-append (Note message ∷ items) more h k = GoesOn-append items more h k
-GoesOn-append (Stop message ∷ items) more h k = h
+GoesOn-append (Refuse message ∷ items) more h k = h
 GoesOn-append (Missing name ∷ items) more h k = h
 
 pub with_items-append : (told : Option Documents) (items more : List Item) → with_items told (items ++ more) ≡ with_items (with_items told items) more
 with_items-append told [] more = refl
 with_items-append told (Write part ∷ items) more = with_items-append (with_part told part) items more
 with_items-append told (Note message ∷ items) more = with_items-append told items more
-with_items-append told (Stop message ∷ items) more = with_items-append told items more
+with_items-append told (Refuse message ∷ items) more = with_items-append told items more
 with_items-append told (Missing name ∷ items) more = with_items-append told items more
 
 pub notes-append : (items more : List Item) → notes (items ++ more) ≡ notes items ++ notes more
 notes-append [] more = refl
 notes-append (Write part ∷ items) more = ap (λ ms. part.notes ++ ms) (notes-append items more) ∙ sym (append_assoc part.notes (notes items) (notes more))
 notes-append (Note message ∷ items) more = ap (λ ms. message ∷ ms) (notes-append items more)
-notes-append (Stop message ∷ items) more = notes-append items more
+notes-append (Refuse message ∷ items) more = notes-append items more
 notes-append (Missing name ∷ items) more = notes-append items more
 
 pub is_open_behind-append : (is_open : Bool) (items more : List Item) → is_open_behind is_open (items ++ more) ≡ is_open_behind (is_open_behind is_open items) more
 is_open_behind-append is_open [] more = refl
 is_open_behind-append is_open (Write part ∷ items) more = is_open_behind-append (not part.ends) items more
 is_open_behind-append is_open (Note message ∷ items) more = is_open_behind-append is_open items more
-is_open_behind-append is_open (Stop message ∷ items) more = is_open_behind-append is_open items more
+is_open_behind-append is_open (Refuse message ∷ items) more = is_open_behind-append is_open items more
 is_open_behind-append is_open (Missing name ∷ items) more = is_open_behind-append is_open items more
 
 -- the messages, and then others
@@ -134,7 +134,7 @@ ended_on status.Done items more a b c done next = carried_on items more [] a b c
 ended_on status.Refused items more a b c done next = record {
   before = items ++ next.before;
   message = next.message;
-  split = ap (λ l. items ++ l) next.split ∙ sym (append_assoc items next.before (Stop next.message ∷ []));
+  split = ap (λ l. items ++ l) next.split ∙ sym (append_assoc items next.before (Refuse next.message ∷ []));
   done = carried_on items next.before (next.message ∷ []) a b c done next.done;
 }
 ended_on status.Unwritten items more a b c done next = (unwritten_on items more a b c done next).0
@@ -187,7 +187,7 @@ pub GoesOn-behind : (items more : List Item) → GoesOn (items ++ more) → Goes
 GoesOn-behind [] more goes = goes
 GoesOn-behind (Write part ∷ items) more goes = GoesOn-behind items more goes
 GoesOn-behind (Note message ∷ items) more goes = GoesOn-behind items more goes
-GoesOn-behind (Stop message ∷ items) more goes = absurd goes
+GoesOn-behind (Refuse message ∷ items) more goes = absurd goes
 GoesOn-behind (Missing name ∷ items) more goes = absurd goes
 
 -- memory ran out before any of the items was carried out

@@ -9,7 +9,7 @@ use Rattle.run_output.specs.declared.part.Binding.TheVariants.{Apart, Together}
 use Rattle.page_batches.specs.Inner.Held.{end_held, is_open_held}
 use Rattle.page_batches.specs.Held.Held.{Message}
 use Rattle.page_batches.specs.Items.{Doc, Item, end_items, is_open_behind, notes, page_count, page_items, with_items}
-use Rattle.page_batches.specs.Items.Item.{Note, Stop, Write}
+use Rattle.page_batches.specs.Items.Item.{Note, Refuse, Write}
 
 -- the lines of a page
 abbrev body : List ℕ
@@ -38,7 +38,7 @@ two_pages = refl
 
 -- its second page is refused: the document stays open behind the first one
 abbrev cut_short : List Item
-cut_short = Write (page_part Together dash 0 body) ∷ Stop (codes "refused") ∷ []
+cut_short = Write (page_part Together dash 0 body) ∷ Refuse (codes "refused") ∷ []
 
 open_document : with_items (Some no_documents) cut_short ≡ Some (record {
   whole = [];

@@ -5,7 +5,7 @@ use Rattle.std.proofs.lemmas.List.{take_all}
 use Rattle.pt_core.specs.Counts.{Rose}
 use Rattle.pt_core.specs.Documents.{IsSaid, with_bytes}
 use Rattle.pt_base.proofs.Writing.{with_bytes-none, with_bytes-with_bytes}
-use Rattle.page_batches.specs.Outcome.{AreFronts, AreSaid}
+use Rattle.page_batches.specs.ItemsDone.{AreFronts, AreSaid}
 use Rattle.run_output.specs.Told.{IsMessage, Told}
 
 -- a front of each message stands there

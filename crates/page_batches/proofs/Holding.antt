@@ -12,9 +12,9 @@ use Rattle.page_batches.specs.Held.{AreHeld, Held}
 use Rattle.page_batches.specs.Inner.Held.{AreInTurn, Holds, HoldsMore, EndsHolding, LeavesBatch, Waits, end_held, is_open_held, pages_held}
 use Rattle.page_batches.specs.Held.Held.{End, Message, Page}
 use Rattle.page_batches.specs.Items.{GoesOn, Item, end_items, page_count, pages_in}
-use Rattle.page_batches.specs.Items.Item.{Missing, Note, Stop, Write}
-use Rattle.page_batches.specs.Outcome.{AreCarriedOut, HasEnded}
-use Rattle.page_batches.specs.Inner.Outcome.{IsHalt, ended_with}
+use Rattle.page_batches.specs.Items.Item.{Missing, Note, Refuse, Write}
+use Rattle.page_batches.specs.ItemsDone.{AreCarriedOut, HasEnded}
+use Rattle.page_batches.specs.Inner.ItemsDone.{IsHalt, ended_with}
 use Rattle.run_output.specs.Told.{Sinks}
 use Rattle.page_batches.proofs.Carrying.{GoesOn-append, carried_on, ended_on, nothing_done}
 
@@ -98,7 +98,7 @@ pub page_count-append : (items more : List Item) → page_count (items ++ more) 
 page_count-append [] more = omega arith
 page_count-append (Write part ∷ items) more = let behind = page_count-append items more in omega (arith, behind)
 page_count-append (Note message ∷ items) more = page_count-append items more
-page_count-append (Stop message ∷ items) more = page_count-append items more
+page_count-append (Refuse message ∷ items) more = page_count-append items more
 page_count-append (Missing name ∷ items) more = page_count-append items more
 
 -- a page's part has one page

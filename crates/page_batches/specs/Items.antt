@@ -10,7 +10,7 @@ use Rattle.run_output.specs.declared.part.Binding.TheVariants as binding
 pub data Item : Type 0 where
   Write : Part → Item
   Note : List ℕ → Item
-  Stop : List ℕ → Item
+  Refuse : List ℕ → Item
   Missing : List ℕ → Item
 
 -- a whole document of a name and a text
@@ -41,7 +41,7 @@ abbrev pub page_count : List Item → ℕ
 page_count [] = 0
 page_count (Write part ∷ items) = pages_in part.begins part.ends + page_count items
 page_count (Note message ∷ items) = page_count items
-page_count (Stop message ∷ items) = page_count items
+page_count (Refuse message ∷ items) = page_count items
 page_count (Missing name ∷ items) = page_count items
 
 -- the run goes on after each of the items
@@ -49,7 +49,7 @@ abbrev pub GoesOn : List Item → Type 0
 GoesOn [] = Unit {0}
 GoesOn (Write part ∷ items) = GoesOn items
 GoesOn (Note message ∷ items) = GoesOn items
-GoesOn (Stop message ∷ items) = ⊥
+GoesOn (Refuse message ∷ items) = ⊥
 GoesOn (Missing name ∷ items) = ⊥
 
 -- the parts of the items are written, in order
@@ -57,7 +57,7 @@ abbrev pub with_items : Option Documents → List Item → Option Documents
 with_items told [] = told
 with_items told (Write part ∷ items) = with_items (with_part told part) items
 with_items told (Note message ∷ items) = with_items told items
-with_items told (Stop message ∷ items) = with_items told items
+with_items told (Refuse message ∷ items) = with_items told items
 with_items told (Missing name ∷ items) = with_items told items
 
 -- whether a document is open behind the items
@@ -65,7 +65,7 @@ abbrev pub is_open_behind : Bool → List Item → Bool
 is_open_behind is_open [] = is_open
 is_open_behind is_open (Write part ∷ items) = is_open_behind (not part.ends) items
 is_open_behind is_open (Note message ∷ items) = is_open_behind is_open items
-is_open_behind is_open (Stop message ∷ items) = is_open_behind is_open items
+is_open_behind is_open (Refuse message ∷ items) = is_open_behind is_open items
 is_open_behind is_open (Missing name ∷ items) = is_open_behind is_open items
 
 -- the messages of the items after which the run goes on, in order
@@ -73,5 +73,5 @@ abbrev pub notes : List Item → List (List ℕ)
 notes [] = []
 notes (Write part ∷ items) = part.notes ++ notes items
 notes (Note message ∷ items) = message ∷ notes items
-notes (Stop message ∷ items) = notes items
+notes (Refuse message ∷ items) = notes items
 notes (Missing name ∷ items) = notes items

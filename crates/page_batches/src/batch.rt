@@ -10,8 +10,8 @@ ghost use Rattle.page_batches.specs.Inner.Held.{AreInTurn, EndsHolding, HoldsMor
 ghost use Rattle.page_batches.specs.Held.Held.{End, Message, Page};
 ghost use Rattle.page_batches.specs.Items.{Item};
 ghost use Rattle.page_batches.specs.Items.Item.{Write};
-ghost use Rattle.page_batches.specs.Inner.Outcome.{EndsWriting, IsHalt, ended_with};
-ghost use Rattle.page_batches.specs.Outcome.{HasEnded};
+ghost use Rattle.page_batches.specs.Inner.ItemsDone.{EndsWriting, IsHalt, ended_with};
+ghost use Rattle.page_batches.specs.ItemsDone.{HasEnded};
 
 use crate::desk::Desk;
 use crate::laws::held_items_are_one;
@@ -26,7 +26,7 @@ use std::thread::Threads;
 
 /// One thing to do behind those in front of it.
 #[derive(Drop)]
-enum Entry {
+enum Pending {
     /// To write the part of the document of this name that is the next page, behind so many of its file.
     Page {
         name: String,
@@ -54,7 +54,7 @@ enum Entry {
 /// what is held, in order.
 #[derive(Drop)]
 pub struct Batch {
-    entries: Vec<Entry>,
+    entries: Vec<Pending>,
     pages: Vec<Bitmap>,
 }
 
@@ -93,7 +93,7 @@ impl Batch {
         ensures { HoldsMore result (Page (string_bytes name) before page ∷ []) self.old self.new }
     {
         self.pages.push(page)?;
-        match self.entries.push(Entry::Page { name, before }) {
+        match self.entries.push(Pending::Page { name, before }) {
             Ok(()) => Ok(()),
             Err(_) => {
                 let _ = self.pages.pop();
@@ -106,7 +106,7 @@ impl Batch {
     fn push_end(&mut self, name: String, pages: u32) -> Result<(), NoMemory>
         ensures { HoldsMore result (End (string_bytes name) pages [] ∷ []) self.old self.new }
     {
-        self.entries.push(Entry::End { name, pages })?;
+        self.entries.push(Pending::End { name, pages })?;
         Ok(())
     }
 
@@ -116,7 +116,8 @@ impl Batch {
         ensures { HoldsMore result (End (string_bytes name) pages (trailing_line (string_bytes file) pages ∷ []) ∷ [])
             self.old self.new }
     {
-        self.entries.push(Entry::EndTrailing { name, file, pages })?;
+        self.entries
+            .push(Pending::EndTrailing { name, file, pages })?;
         Ok(())
     }
 
@@ -124,7 +125,7 @@ impl Batch {
     fn push_trailing(&mut self, name: String, pages: u32) -> Result<(), NoMemory>
         ensures { HoldsMore result (Message (trailing_line (string_bytes name) pages) ∷ []) self.old self.new }
     {
-        self.entries.push(Entry::Trailing { name, pages })?;
+        self.entries.push(Pending::Trailing { name, pages })?;
         Ok(())
     }
 
@@ -237,7 +238,7 @@ impl Batch {
 /// between them, in order. After a fault nothing more is written: that is said.
 fn write_entries<O: Outputs, E: Sink>(
     binding: Binding,
-    entries: &[Entry],
+    entries: &[Pending],
     texts: &[Vec<u8>],
     desk: &mut Desk<O, E>,
 ) -> Result<(), SinkFault>
@@ -251,16 +252,16 @@ fn write_entries<O: Outputs, E: Sink>(
     let mut done = 0;
     for entry in entries {
         match entry {
-            Entry::Page { name, before } => {
+            Pending::Page { name, before } => {
                 desk.write_page(binding, name, *before, &texts[done])?;
                 done += 1;
             }
-            Entry::End { name, pages } => desk.write_end(name, *pages)?,
-            Entry::EndTrailing { name, file, pages } => {
+            Pending::End { name, pages } => desk.write_end(name, *pages)?,
+            Pending::EndTrailing { name, file, pages } => {
                 desk.write_end(name, *pages)?;
                 say_trailing(desk.errs, file, u64::from(*pages));
             }
-            Entry::Trailing { name, pages } => say_trailing(desk.errs, name, u64::from(*pages)),
+            Pending::Trailing { name, pages } => say_trailing(desk.errs, name, u64::from(*pages)),
         }
     }
     Ok(())

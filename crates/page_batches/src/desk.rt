@@ -5,8 +5,8 @@ ghost use Rattle.run_output.specs.Inner.Parts.{is_begun};
 ghost use Rattle.run_output.specs.Parts.{page_part};
 ghost use Rattle.page_batches.specs.Items.{Doc};
 ghost use Rattle.page_batches.specs.Items.Item.{Write};
-ghost use Rattle.page_batches.specs.Inner.Outcome.{EndsDocument, EndsWriting};
-ghost use Rattle.page_batches.specs.Outcome.{HasEnded};
+ghost use Rattle.page_batches.specs.Inner.ItemsDone.{EndsDocument, EndsWriting};
+ghost use Rattle.page_batches.specs.ItemsDone.{HasEnded};
 ghost use Rattle.page_batches.specs.Inner.Desks.{Keeps, sinks_at};
 
 use pt_core::{Outputs, Sink, SinkFault};

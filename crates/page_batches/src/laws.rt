@@ -8,7 +8,7 @@ ghost use Rattle.run_output.specs.Parts.{IsCutIn, file_text, pages_text, prolog_
 ghost use Rattle.run_output.specs.declared.part.Binding.{Binding};
 ghost use Rattle.page_batches.specs.Held.{AreHeld, Held};
 ghost use Rattle.page_batches.specs.Items.{Item, end_items, page_items, with_items};
-ghost use Rattle.page_batches.specs.Outcome.{AreFronts, AreSaid};
+ghost use Rattle.page_batches.specs.ItemsDone.{AreFronts, AreSaid};
 ghost use Rattle.run_output.specs.Told.{Told};
 
 use page_workers::PageJob;

@@ -21,7 +21,7 @@ use Rattle.dxf_geojson.specs.Chords.{chord_points, piece_points, points_from}
 use Rattle.dxf_geojson.specs.DxfText.{dxf_text, pixels_text, polyline_text, vertex_text}
 use Rattle.dxf_geojson.specs.GeoJsonText.{feature_text, features_text, geojson_text, hole_text, position_text, ring_text}
 use Rattle.document_readings.specs.Places.{AreInReach, IsPieceInReach}
-use Rattle.document_readings.proofs.Chords.{IsWithin, chords_within, outline_chords_within}
+use Rattle.document_readings.proofs.Chords.{IsRoundable, chords_within, outline_chords_within}
 use Rattle.document_readings.proofs.GeoJsonDocuments.{all_reversed}
 use Rattle.page_sizes.proofs.Drawn.{CanBeDrawn}
 use Rattle.page_sizes.proofs.Grouped.{group_weight, groups_weigh}
@@ -41,13 +41,13 @@ thousandths_most t small =
 pixels_most : (c : ℤ) → unsigned_abs c ≤ 2 ^ 40 → length (pixels_text c) ≤ 15
 pixels_most c small = thousandths_most (rounded c 1000) (rounded_most c 1000 small (omega arith))
 
-vertex_most : (p : Point) → IsWithin p → length (vertex_text p) ≤ 51
+vertex_most : (p : Point) → IsRoundable p → length (vertex_text p) ≤ 51
 vertex_most p within =
     let x = simp length-append at pixels_most p.x within.x in
     let y = simp length-append at pixels_most p.y within.y in
     simp length-append (omega arith)
 
-position_most : (p : Point) → IsWithin p → length (position_text p) ≤ 33
+position_most : (p : Point) → IsRoundable p → length (position_text p) ≤ 33
 position_most p within =
     let x = simp length-append at pixels_most p.x within.x in
     let y = simp length-append at pixels_most p.y within.y in
@@ -78,7 +78,7 @@ polyline_most pieces near =
     let points = chord_points pieces in
     let count = length points in
     let few : length (take (count - 1) points) ≤ 8 * length pieces = omega (arith, chords_few pieces, length-take (count - 1) points) in
-    let texts = each_most vertex_text 51 (take (count - 1) points) (λ k d short. vertex_most (get_or (take (count - 1) points) k d) (All-take IsWithin (count - 1) points (chords_within pieces near) k d short)) in
+    let texts = each_most vertex_text 51 (take (count - 1) points) (λ k d short. vertex_most (get_or (take (count - 1) points) k d) (All-take IsRoundable (count - 1) points (chords_within pieces near) k d short)) in
     simp length-append (omega arith)
 
 pub dxf_most : (trace : Trace) → AreInReach trace.outlines → length (dxf_text trace) ≤ 408 * sum_by length trace.outlines + 34 * length trace.outlines + 36
@@ -103,7 +103,7 @@ joined_most text between (x ∷ xs) =
 sum_most : {A : Type 0} (f : A → ℕ) (most : ℕ) (xs : List A) → All (λ x. f x ≤ most) xs → sum_by f xs ≤ most * length xs
 sum_most f most xs all = omega (arith, sum_by-le f most xs all)
 
-ring_most : (points : List Point) → All IsWithin points → length (ring_text points) ≤ 34 * length points + 2
+ring_most : (points : List Point) → All IsRoundable points → length (ring_text points) ≤ 34 * length points + 2
 ring_most points within =
     let joined = joined_most position_text (codes ",") points in
     let most = sum_most (λ p. length (position_text p) + length (codes ",")) 34 points (λ k d short. let one = position_most (get_or points k d) (within k d short) in omega arith) in
@@ -118,7 +118,7 @@ outer_most outlines i near =
 hole_most : (outlines : List (List Piece)) (i : ℕ) → AreInReach outlines → length (hole_text (outline_at outlines i)) ≤ 37 + 272 * length (outline_at outlines i)
 hole_most outlines i near =
     let points = chord_points (outline_at outlines i) in
-    let ring = ring_most (reverse points) (all_reversed IsWithin points (outline_chords_within outlines i near)) in
+    let ring = ring_most (reverse points) (all_reversed IsRoundable points (outline_chords_within outlines i near)) in
     let few = chords_few (outline_at outlines i) in
     rw (length-append (codes ",") (ring_text (reverse points))) (omega (arith, length-reverse points))
 

@@ -13,8 +13,8 @@ use Rattle.turn_policies.specs.Majority.{count_below, sum_below}
 use Rattle.turn_policies.proofs.Counting.{count_below-sum, sum_below-same}
 use Rattle.path_decompose.specs.Decomposition.{IsDecomposed, IsDecomposition, inverted}
 use Rattle.path_decompose.specs.Inside.{lines_of, lines_to}
-use Rattle.path_decompose.specs.Inner.Line.{IsLineOn}
-use Rattle.path_decompose.specs.Line.{Line, is_edge, level, same_line, upright}
+use Rattle.path_decompose.specs.Inner.GridEdges.{IsLineOn}
+use Rattle.path_decompose.specs.GridEdges.{GridEdge, is_edge, level, same_line, upright}
 use Rattle.path_decompose.proofs.NextPath.{fits_inverted}
 use Rattle.path_decompose.proofs.Sums.{edges_once}
 use Rattle.path_decompose.proofs.Walked.{walk_lines_on}
@@ -31,7 +31,7 @@ length-lines_of [] = refl
 length-lines_of (p ∷ ps) = length-lines_to p p ps
 
 -- the lines of all paths
-abbrev path_lines : List Path → List Line
+abbrev path_lines : List Path → List GridEdge
 path_lines paths = flat_map (λ path. lines_of path.points) paths
 
 lines_on : (page : Page) (policy : Policy) (b : Image) (paths : List Path) (width height : ℕ) → IsDecomposed page policy b paths → Fits b width height → All (IsLineOn width height) (path_lines paths)
@@ -42,7 +42,7 @@ lines_on page policy b (path ∷ paths) width height d fits =
     (walk_lines_on b policy path.sign d.0.x d.0.y path.points width height d.0.first d.0.walk fits)
     (lines_on page policy (inverted b path.points) paths width height d.1 (fits_inverted page policy b path width height d.0 fits)))
 
-met : (side : Line) (paths : List Path) → count_by (same_line side) (path_lines paths) ≡ sum_by (λ path. count_by (same_line side) (lines_of path.points)) paths
+met : (side : GridEdge) (paths : List Path) → count_by (same_line side) (path_lines paths) ≡ sum_by (λ path. count_by (same_line side) (lines_of path.points)) paths
 met side [] = refl
 met side (path ∷ paths) =
     ap (count_by (same_line side)) (flat_map-cons (λ p. lines_of p.points) path paths)

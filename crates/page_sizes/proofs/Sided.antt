@@ -5,11 +5,11 @@ use Rattle.std.proofs.lemmas.List.Elements.{All-head, All-tail}
 use Rattle.std.proofs.lemmas.List.Sums.{sum_by-cons}
 use Rattle.turn_policies.specs.Majority.{sum_below}
 use Rattle.turn_policies.proofs.Counting.{sum_below-add, sum_below-at, sum_below-if, sum_below-same, sum_below-zero}
-use Rattle.path_decompose.specs.Inner.Line.{IsLineOn}
-use Rattle.path_decompose.specs.Line.{Line, level, same_line, upright}
+use Rattle.path_decompose.specs.Inner.GridEdges.{IsLineOn}
+use Rattle.path_decompose.specs.GridEdges.{GridEdge, level, same_line, upright}
 
 -- a sum over all sides of the pixels of a page
-abbrev pub over_sides : ℕ → ℕ → (Line → ℕ) → ℕ
+abbrev pub over_sides : ℕ → ℕ → (GridEdge → ℕ) → ℕ
 over_sides width height f =
     sum_below height (λ y. sum_below (suc width) (λ x. f (upright x y))) + sum_below (suc height) (λ y. sum_below width (λ x. f (level x y)))
 
@@ -38,7 +38,7 @@ no_place : (columns rows : ℕ) → sum_below rows (λ y. sum_below columns (λ 
 no_place columns rows =
     sum_below-same rows (λ y. sum_below columns (λ x. 0)) (λ y. 0) (λ y short. sum_below-zero columns) ∙ sum_below-zero rows
 
-one_side : (width height : ℕ) (l : Line) → IsLineOn width height l → over_sides width height (λ side. cond (same_line side l) 1 0) ≡ 1
+one_side : (width height : ℕ) (l : GridEdge) → IsLineOn width height l → over_sides width height (λ side. cond (same_line side l) 1 0) ≡ 1
 one_side width height (upright u v) on =
     let here = one_place (suc width) height u v (omega (arith, on.0)) on.1 in
     let none = no_place width (suc height) in
@@ -48,7 +48,7 @@ one_side width height (level u v) on =
     let none = no_place (suc width) height in
     omega arith
 
-pub over_sides-add : (width height : ℕ) (f g : Line → ℕ) → over_sides width height (λ side. f side + g side) ≡ over_sides width height f + over_sides width height g
+pub over_sides-add : (width height : ℕ) (f g : GridEdge → ℕ) → over_sides width height (λ side. f side + g side) ≡ over_sides width height f + over_sides width height g
 over_sides-add width height f g =
     let uprights = sum_below-same height (λ y. sum_below (suc width) (λ x. f (upright x y) + g (upright x y))) (λ y. sum_below (suc width) (λ x. f (upright x y)) + sum_below (suc width) (λ x. g (upright x y))) (λ y short. sum_below-add (suc width) (λ x. f (upright x y)) (λ x. g (upright x y)))
     ∙ sum_below-add height (λ y. sum_below (suc width) (λ x. f (upright x y))) (λ y. sum_below (suc width) (λ x. g (upright x y))) in
@@ -56,14 +56,14 @@ over_sides-add width height f g =
     ∙ sum_below-add (suc height) (λ y. sum_below width (λ x. f (level x y))) (λ y. sum_below width (λ x. g (level x y))) in
     omega arith
 
-pub over_sides-same : (width height : ℕ) (f g : Line → ℕ) → ((side : Line) → f side ≡ g side) → over_sides width height f ≡ over_sides width height g
+pub over_sides-same : (width height : ℕ) (f g : GridEdge → ℕ) → ((side : GridEdge) → f side ≡ g side) → over_sides width height f ≡ over_sides width height g
 over_sides-same width height f g same =
     let uprights = sum_below-same height (λ y. sum_below (suc width) (λ x. f (upright x y))) (λ y. sum_below (suc width) (λ x. g (upright x y))) (λ y short. sum_below-same (suc width) (λ x. f (upright x y)) (λ x. g (upright x y)) (λ x near. same (upright x y))) in
     let levels = sum_below-same (suc height) (λ y. sum_below width (λ x. f (level x y))) (λ y. sum_below width (λ x. g (level x y))) (λ y short. sum_below-same width (λ x. f (level x y)) (λ x. g (level x y)) (λ x near. same (level x y))) in
     omega arith
 
 -- so as many lines as there are on a page, so many times its sides are met
-pub met_once : (width height : ℕ) (lines : List Line) → All (IsLineOn width height) lines → over_sides width height (λ side. count_by (same_line side) lines) ≡ length lines
+pub met_once : (width height : ℕ) (lines : List GridEdge) → All (IsLineOn width height) lines → over_sides width height (λ side. count_by (same_line side) lines) ≡ length lines
 met_once width height [] on =
     let up = no_place (suc width) height in
     let across = no_place width (suc height) in

@@ -3,7 +3,7 @@ use Rattle.std.specs.Prelude.{ℕ, suc, ◌+◌, ◌*◌, List, sum_by, length}
 use Rattle.pt_core.specs.declared.path.Path.{Path}
 use Rattle.bit_image.specs.Image.{Image}
 use Rattle.turn_policies.specs.Majority.{count_below, sum_below}
-use Rattle.path_decompose.specs.Line.{upright, level, is_edge}
+use Rattle.path_decompose.specs.GridEdges.{upright, level, is_edge}
 
 -- the points of the paths together
 abbrev pub point_count : List Path → ℕ

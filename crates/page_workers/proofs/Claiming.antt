@@ -5,7 +5,7 @@ use Rattle.std.specs.Prelude.{◌↔◌}
 use mathlib.Core.Option.{some, some-ne-none, some-injective}
 use lib.ListN.{get_elem?}
 use Rattle.page_workers.specs.declared.hand.Hand.{Hand}
-use Rattle.page_workers.specs.Numbers.{IsAbove}
+use Rattle.page_workers.specs.NumberLists.{IsAbove}
 use Rattle.page_workers.specs.Draws.{Draws, AllDrawn, page_numbered}
 use Rattle.page_workers.specs.Inner.Rule.{IsDraw}
 use Rattle.page_workers.specs.Seats.{Claimant, IsClaim}

@@ -15,13 +15,13 @@ use Rattle.turn_policies.specs.declared.edge.Edge.{Edge}
 use Rattle.turn_policies.specs.Boundary.{IsBoundary, left_pixel, right_pixel}
 use Rattle.turn_policies.proofs.Counting.{sum_below-same, sum_below-add, count_below-sum, sum_below-zero, sum_below-at, sum_below-if}
 use Rattle.path_decompose.specs.Inside.{black_count}
-use Rattle.path_decompose.specs.Line.{Line, upright, level, same_line}
-use Rattle.path_decompose.specs.Inner.Line.{IsLineOn}
+use Rattle.path_decompose.specs.GridEdges.{GridEdge, upright, level, same_line}
+use Rattle.path_decompose.specs.Inner.GridEdges.{IsLineOn}
 use Rattle.path_decompose.specs.Inner.Trail.{column_if_up, column_if_down, column_up, column_down}
 use Rattle.path_decompose.specs.Walk.{first_edge}
 use Rattle.path_decompose.proofs.Beyond.{all_lines_on, fits_within, white_off}
-use Rattle.path_decompose.proofs.Cut.{is_edge-within}
-use Rattle.path_decompose.proofs.EdgeLine.{line_along, line_of, within}
+use Rattle.path_decompose.proofs.Cut.{is_edge-inside_edges}
+use Rattle.path_decompose.proofs.EdgeLine.{step_line, line_of, inside_edges}
 use Rattle.path_decompose.proofs.Once.{same_line-true, none_passes, count_by-line}
 use Rattle.path_decompose.proofs.Round.{IsCircuit}
 use Rattle.path_decompose.proofs.Sides.{boundary_within}
@@ -61,16 +61,16 @@ count_by-agree f g (x ∷ xs) h =
 -- ---- the edges along one line
 
 -- the column and the row that a line starts from
-abbrev column_of : Line → ℕ
+abbrev column_of : GridEdge → ℕ
 column_of (upright x y) = x
 column_of (level x y) = x
 
-abbrev row_of : Line → ℕ
+abbrev row_of : GridEdge → ℕ
 row_of (upright x y) = y
 row_of (level x y) = y
 
 -- an edge along an upright line goes up where the pixel on the left side of the line is the black one, and else down
-way_of : (w : Image) (x y u v : ℕ) (d : Dir) → left_pixel (south_west w) u v d ≡ true → right_pixel (south_west w) u v d ≡ false → upright x y ≡ line_along u v d
+way_of : (w : Image) (x y u v : ℕ) (d : Dir) → left_pixel (south_west w) u v d ≡ true → right_pixel (south_west w) u v d ≡ false → upright x y ≡ step_line u v d
     → (is_up d ≡ south_west w x (suc y)) × (is_down d ≡ not (south_west w x (suc y)))
 way_of w x y u v North black white e =
     let column : x ≡ u = ap column_of e in
@@ -87,7 +87,7 @@ way_of w x y u (suc v) South black white e =
 way_of w x y u v West black white e = cc
 
 -- how many edges of a list go up, or down, along a line
-abbrev along_line : (Dir → Bool) → List Edge → Line → ℕ
+abbrev along_line : (Dir → Bool) → List Edge → GridEdge → ℕ
 along_line way es l = count_by (λ e. way e.heading && same_line l (line_of e)) es
 
 and_when : (t g : Bool) → (g ≡ true → t ≡ true) → t && g ≡ g
@@ -107,10 +107,10 @@ cond_not false = refl
 -- of the two pixels beside a line the left one is black and an edge goes up between them, or the right one and an edge goes down,
 -- or both are of one colour and none does
 across_line : (b : Image) (policy : Policy) (sign : Sign) (x y : ℕ) (es : List Edge) → IsFirstBlack b x y → IsCircuit b policy sign (first_edge x y) es → (u v : ℕ)
-    → cond (south_west (within es) u (suc v)) 1 0 + along_line is_down es (upright u v) ≡ cond (within es u v) 1 0 + along_line is_up es (upright u v)
+    → cond (south_west (inside_edges es) u (suc v)) 1 0 + along_line is_down es (upright u v) ≡ cond (inside_edges es u v) 1 0 + along_line is_up es (upright u v)
 across_line b policy sign x y es first c u v =
-    let w : Image = within es in
-    let l : Line = upright u v in
+    let w : Image = inside_edges es in
+    let l : GridEdge = upright u v in
     let at : Edge → Bool = λ e. same_line l (line_of e) in
     let left : Bool = south_west w u (suc v) in
     let edges = boundary_within b policy sign x y es first c in
@@ -121,7 +121,7 @@ across_line b policy sign x y es first c u v =
     way_of w u v e.x e.y e.heading h.black_left h.white_right (same_line-true l (line_of e) passes) in
     let whole : count_by at es ≡ cond (differ left (w u v)) 1 0 =
     count_by-line b policy sign (first_edge x y) es c l
-    ∙ ap (λ t. cond t 1 0) (sym (is_edge-within b policy sign (first_edge x y) es c.boundary c.closes l)) in
+    ∙ ap (λ t. cond t 1 0) (sym (is_edge-inside_edges b policy sign (first_edge x y) es c.boundary c.closes l)) in
     elim (cases_Bool left) [
       | inl black ↦
           let up : along_line is_up es l ≡ count_by at es = count_by-agree (λ e. is_up e.heading && at e) at es
@@ -146,7 +146,7 @@ across_line b policy sign x y es first c u v =
 -- ---- the lines right of a pixel
 
 -- the line stands in row y, right of pixel (x, y)
-abbrev is_right_of : ℕ → ℕ → Line → Bool
+abbrev is_right_of : ℕ → ℕ → GridEdge → Bool
 is_right_of x y (upright u v) = nat_lt x u && nat_eq v y
 is_right_of x y (level u v) = false
 
@@ -154,26 +154,26 @@ is_right_of x y (level u v) = false
 abbrev right_of_pixel : (Dir → Bool) → List Edge → ℕ → ℕ → ℕ
 right_of_pixel way es x y = count_by (λ e. way e.heading && is_right_of x y (line_of e)) es
 
-first_right : (t : Bool) (x y : ℕ) (l : Line) → cond (t && is_right_of x y l) 1 0 ≡ cond (t && is_right_of (suc x) y l) 1 0 + cond (t && same_line (upright (suc x) y) l) 1 0
+first_right : (t : Bool) (x y : ℕ) (l : GridEdge) → cond (t && is_right_of x y l) 1 0 ≡ cond (t && is_right_of (suc x) y l) 1 0 + cond (t && same_line (upright (suc x) y) l) 1 0
 first_right false x y l = refl
 first_right true x y (upright u v) = grind (arith, nat_tests)
 first_right true x y (level u v) = refl
 
-not_right : (width height x y : ℕ) (l : Line) → IsLineOn width height l → width ≤ x → is_right_of x y l ≡ false
+not_right : (width height x y : ℕ) (l : GridEdge) → IsLineOn width height l → width ≤ x → is_right_of x y l ≡ false
 not_right width height x y (upright u v) on right = grind (arith, nat_tests)
 not_right width height x y (level u v) on right = refl
 
 -- a pixel is inside where more edges go up than down right of it in its row
 balance : (b : Image) (policy : Policy) (sign : Sign) (x y : ℕ) (es : List Edge) → IsFirstBlack b x y → IsCircuit b policy sign (first_edge x y) es
     → (width height : ℕ) → Fits b width height → (k u v : ℕ) → u + k ≡ width
-    → cond (within es u v) 1 0 + right_of_pixel is_down es u v ≡ right_of_pixel is_up es u v
+    → cond (inside_edges es u v) 1 0 + right_of_pixel is_down es u v ≡ right_of_pixel is_up es u v
 balance b policy sign x y es first c width height fits zero u v last =
     let on = all_lines_on b policy sign (first_edge x y) es c width height fits in
     let none : (way : Dir → Bool) → right_of_pixel way es u v ≡ 0 =
     λ way. (none_passes (λ e. way e.heading && is_right_of u v (line_of e)) es
     (λ k d below. and_unless _ _ (λ passes. absurd (false≢true (sym (not_right width height u v (line_of (get_or es k d)) (on k d below) (omega arith)) ∙ passes))))).1 in
-    let white : within es u v ≡ false = white_off (within es) width height u v (fits_within b policy sign (first_edge x y) es c width height fits) (omega arith) in
-    let one : ℕ = cond (within es u v) 1 0 in
+    let white : inside_edges es u v ≡ false = white_off (inside_edges es) width height u v (fits_within b policy sign (first_edge x y) es c width height fits) (omega arith) in
+    let one : ℕ = cond (inside_edges es u v) 1 0 in
     let out : one ≡ 0 = ap (λ t. cond t 1 0) white in
     omega (arith, out, none is_down, none is_up)
 balance b policy sign x y es first c width height fits (suc k) u v left =
@@ -229,8 +229,8 @@ left_of_line width height c r narrow low =
     above height r c low = grind (arith, nat_tests)
 
 -- so many pixels has an edge's row left of its line, where it goes that way
-one_edge : (way : Dir → Bool) → way East ≡ false → way West ≡ false → (width height : ℕ) (x y : ℕ) (d : Dir) → IsLineOn width height (line_along x y d)
-    → over_page width height (λ u v. cond (way d && is_right_of u v (line_along x y d)) 1 0) ≡ cond (way d) x 0
+one_edge : (way : Dir → Bool) → way East ≡ false → way West ≡ false → (width height : ℕ) (x y : ℕ) (d : Dir) → IsLineOn width height (step_line x y d)
+    → over_page width height (λ u v. cond (way d && is_right_of u v (step_line x y d)) 1 0) ≡ cond (way d) x 0
 one_edge way east west width height x y North on = one_way (way North) width height x y on.0 on.1
   where
     one_way : (t : Bool) (width height x y : ℕ) → x ≤ width → y < height → over_page width height (λ u v. cond (t && (nat_lt u x && nat_eq y v)) 1 0) ≡ cond t x 0
@@ -282,17 +282,17 @@ if_down x West = refl
 
 -- what the columns come to
 pub circuit_area : (b : Image) (policy : Policy) (sign : Sign) (x y : ℕ) (es : List Edge) → IsFirstBlack b x y → IsCircuit b policy sign (first_edge x y) es → (width height : ℕ) → Fits b width height
-    → black_count (within es) width height + sum_by column_down es ≡ sum_by column_up es
+    → black_count (inside_edges es) width height + sum_by column_down es ≡ sum_by column_up es
 circuit_area b policy sign x y es first c width height fits =
     let on = all_lines_on b policy sign (first_edge x y) es c width height fits in
-    let sums : over_page width height (λ u v. cond (within es u v) 1 0) + over_page width height (λ u v. right_of_pixel is_down es u v) ≡ over_page width height (λ u v. right_of_pixel is_up es u v) =
-    sym (over_page-add width height (λ u v. cond (within es u v) 1 0) (λ u v. right_of_pixel is_down es u v))
-    ∙ over_page-same width height (λ u v. cond (within es u v) 1 0 + right_of_pixel is_down es u v) (λ u v. right_of_pixel is_up es u v)
+    let sums : over_page width height (λ u v. cond (inside_edges es u v) 1 0) + over_page width height (λ u v. right_of_pixel is_down es u v) ≡ over_page width height (λ u v. right_of_pixel is_up es u v) =
+    sym (over_page-add width height (λ u v. cond (inside_edges es u v) 1 0) (λ u v. right_of_pixel is_down es u v))
+    ∙ over_page-same width height (λ u v. cond (inside_edges es u v) 1 0 + right_of_pixel is_down es u v) (λ u v. right_of_pixel is_up es u v)
     (λ u v left. balance b policy sign x y es first c width height fits (width - u) u v (omega arith)) in
     omega (
       arith,
       sums,
-      black_count-sum (within es) width height,
+      black_count-sum (inside_edges es) width height,
       columns is_up refl refl width height es on,
       columns is_down refl refl width height es on,
       sum_by-same column_up (λ e. cond (is_up e.heading) e.x 0) (λ e. if_up e.x e.heading) es,

@@ -10,25 +10,25 @@ use Rattle.turn_policies.specs.declared.edge.Edge.{Edge}
 use Rattle.turn_policies.specs.Heading.{end_x, end_y}
 use Rattle.turn_policies.specs.Boundary.{IsBoundary, left_pixel}
 use Rattle.turn_policies.specs.Turn.{next}
-use Rattle.path_decompose.specs.Line.{Line, upright, level}
+use Rattle.path_decompose.specs.GridEdges.{GridEdge, upright, level}
 use Rattle.path_decompose.specs.Walk.{IsTrail, start_of}
 use Rattle.path_decompose.specs.Inside.{line_at, line_between, lines_to, lines_of, is_crossed, inside}
 use Rattle.path_decompose.proofs.Parity.{odd_by, is_odd-count}
 use Rattle.turn_policies.proofs.Turning.{next_boundary}
 
 -- the line along which a step leaves corner (x, y)
-abbrev pub line_along : ℕ → ℕ → Dir → Line
-line_along x y North = upright x y
-line_along x y East = level x y
-line_along x y South = upright x (pred y)
-line_along x y West = level (pred x) y
+abbrev pub step_line : ℕ → ℕ → Dir → GridEdge
+step_line x y North = upright x y
+step_line x y East = level x y
+step_line x y South = upright x (pred y)
+step_line x y West = level (pred x) y
 
 -- the line that an edge runs along
-abbrev pub line_of : Edge → Line
-line_of e = line_along e.x e.y e.heading
+abbrev pub line_of : Edge → GridEdge
+line_of e = step_line e.x e.y e.heading
 
 -- a step south begins above row 0, and a step west right of column 0, since the pixel on its left is black
-line_at_end : (b : Image) (x y : ℕ) (d : Dir) → left_pixel (south_west b) x y d ≡ true → line_at x y (end_x x d) (end_y y d) ≡ line_along x y d
+line_at_end : (b : Image) (x y : ℕ) (d : Dir) → left_pixel (south_west b) x y d ≡ true → line_at x y (end_x x d) (end_y y d) ≡ step_line x y d
 line_at_end b x y North h = grind (arith, nat_tests)
 line_at_end b x y East h = grind (arith, nat_tests)
 line_at_end b x zero South h = cc
@@ -61,10 +61,10 @@ odd_by-map f g [] = refl
 odd_by-map f g (x ∷ xs) = ap (differ (f (g x))) (odd_by-map f g xs)
 
 -- the pixels into which an odd number of the edges is crossed
-abbrev pub within : List Edge → Image
-within es x y = odd_by (λ e. is_crossed x y (line_of e)) es
+abbrev pub inside_edges : List Edge → Image
+inside_edges es x y = odd_by (λ e. is_crossed x y (line_of e)) es
 
-pub inside-run : (b : Image) (policy : Policy) (sign : Sign) (s : Edge) (es : List Edge) → IsBoundary b s → IsTrail (next b policy sign) s es s → (x y : ℕ) → inside (map start_of es) x y ≡ within es x y
+pub inside-run : (b : Image) (policy : Policy) (sign : Sign) (s : Edge) (es : List Edge) → IsBoundary b s → IsTrail (next b policy sign) s es s → (x y : ℕ) → inside (map start_of es) x y ≡ inside_edges es x y
 inside-run b policy sign s es h run x y =
     is_odd-count (is_crossed x y) (lines_of (map start_of es))
     ∙ ap (odd_by (is_crossed x y)) (lines_of-run b policy sign s es h run)

@@ -17,14 +17,14 @@ use Rattle.turn_policies.specs.declared.edge.Edge.{Edge}
 use Rattle.turn_policies.specs.Turn.{next}
 use Rattle.path_decompose.specs.declared.trail.Upright.{Upright}
 use Rattle.path_decompose.specs.Inside.{is_crossed, is_odd, inside, black_count}
-use Rattle.path_decompose.specs.Line.{Line, upright, level, is_in_row}
-use Rattle.path_decompose.specs.Inner.Line.{IsLineOn}
+use Rattle.path_decompose.specs.GridEdges.{GridEdge, upright, level, is_in_row}
+use Rattle.path_decompose.specs.Inner.GridEdges.{IsLineOn}
 use Rattle.path_decompose.specs.Inner.Trail.{upright_along, upright_of, column_if_up, column_if_down, column_up, column_down}
 use Rattle.path_decompose.specs.Walk.{first_edge, start_of, IsBoundaryWalk}
 use Rattle.path_decompose.proofs.Area.{circuit_area}
 use Rattle.path_decompose.proofs.Beyond.{all_lines_on}
 use Rattle.path_decompose.proofs.Cut.{row_even}
-use Rattle.path_decompose.proofs.EdgeLine.{line_along, line_of, within, inside-run}
+use Rattle.path_decompose.proofs.EdgeLine.{step_line, line_of, inside_edges, inside-run}
 use Rattle.path_decompose.proofs.Orbit.{nth_after, orbit, orbit_push}
 use Rattle.path_decompose.proofs.Parity.{odd_by, is_odd-count}
 use Rattle.path_decompose.proofs.Round.{IsCircuit, circuit_of}
@@ -40,13 +40,13 @@ uprights_of-push [] e = append-nil (upright_of e)
 uprights_of-push (d ∷ ds) e = ap (λ ls. upright_of d ++ ls) (uprights_of-push ds e) ∙ sym (append_assoc (upright_of d) (uprights_of ds) (upright_of e))
 
 -- a test of what is noted down that is one of upright lines
-odd_by-uprights : (f : Upright → Bool) (g : Line → Bool) → ((x y : ℕ) → f (record { x = x; y = y }) ≡ g (upright x y)) → ((x y : ℕ) → g (level x y) ≡ false)
+odd_by-uprights : (f : Upright → Bool) (g : GridEdge → Bool) → ((x y : ℕ) → f (record { x = x; y = y }) ≡ g (upright x y)) → ((x y : ℕ) → g (level x y) ≡ false)
     → (es : List Edge) → odd_by f (uprights_of es) ≡ odd_by (λ e. g (line_of e)) es
 odd_by-uprights f g up flat [] = refl
 odd_by-uprights f g up flat (e ∷ es) = one f g up flat e.x e.y e.heading (uprights_of es) ∙ ap (differ (g (line_of e))) (odd_by-uprights f g up flat es)
   where
-    one : (f : Upright → Bool) (g : Line → Bool) → ((x y : ℕ) → f (record { x = x; y = y }) ≡ g (upright x y)) → ((x y : ℕ) → g (level x y) ≡ false)
-        → (x y : ℕ) (d : Dir) (rest : List Upright) → odd_by f (upright_along x y d ++ rest) ≡ differ (g (line_along x y d)) (odd_by f rest)
+    one : (f : Upright → Bool) (g : GridEdge → Bool) → ((x y : ℕ) → f (record { x = x; y = y }) ≡ g (upright x y)) → ((x y : ℕ) → g (level x y) ≡ false)
+        → (x y : ℕ) (d : Dir) (rest : List Upright) → odd_by f (upright_along x y d ++ rest) ≡ differ (g (step_line x y d)) (odd_by f rest)
     one f g up flat x y North rest = ap (λ t. differ t (odd_by f rest)) (up x y)
     one f g up flat x y East rest = sym (ap (λ t. differ t (odd_by f rest)) (flat x y))
     one f g up flat x y South rest = ap (λ t. differ t (odd_by f rest)) (up x (pred y))
@@ -62,7 +62,7 @@ uprights_on width height (e ∷ es) on =
     one width height e.x e.y e.heading (uprights_of es) (All-head (λ d. IsLineOn width height (line_of d)) e es on)
     (uprights_on width height es (All-tail (λ d. IsLineOn width height (line_of d)) e es on))
   where
-    one : (width height x y : ℕ) (d : Dir) (rest : List Upright) → IsLineOn width height (line_along x y d) → All (IsUprightOn width height) rest → All (IsUprightOn width height) (upright_along x y d ++ rest)
+    one : (width height x y : ℕ) (d : Dir) (rest : List Upright) → IsLineOn width height (step_line x y d) → All (IsUprightOn width height) rest → All (IsUprightOn width height) (upright_along x y d ++ rest)
     one width height x y North rest on others = All-cons (IsUprightOn width height) (record { x = x; y = y }) rest on others
     one width height x y East rest on others = others
     one width height x y South rest on others = All-cons (IsUprightOn width height) (record { x = x; y = pred y }) rest on others
@@ -142,7 +142,7 @@ noted_more f s points new_points lines new_lines up down new_up new_down here af
 -- ---- once round
 
 -- what is noted down of a whole walk
-pub record IsWhole (b : Image) (policy : Policy) (sign : Sign) (x y width height : ℕ) (points : List Point) (lines : List Upright) (up down : ℕ) : Type 0 where
+pub record IsWholeWalk (b : Image) (policy : Policy) (sign : Sign) (x y width height : ℕ) (points : List Point) (lines : List Upright) (up down : ℕ) : Type 0 where
   pub walk : IsBoundaryWalk b policy sign x y points
   pub on_page : All (IsUprightOn width height) lines
   pub even : (v : ℕ) → is_odd (count_by (λ (line : Upright). nat_eq line.y v) lines) ≡ false
@@ -150,10 +150,10 @@ pub record IsWhole (b : Image) (policy : Policy) (sign : Sign) (x y width height
   pub area : black_count (inside points) width height + down ≡ up
 
 whole_of : (b : Image) (policy : Policy) (sign : Sign) (x y width height : ℕ) (es : List Edge) (points : List Point) → IsFirstBlack b x y → Fits b width height → IsCircuit b policy sign (first_edge x y) es
-    → IsBoundaryWalk b policy sign x y points → points ≡ map start_of es → IsWhole b policy sign x y width height points (uprights_of es) (sum_by column_up es) (sum_by column_down es)
+    → IsBoundaryWalk b policy sign x y points → points ≡ map start_of es → IsWholeWalk b policy sign x y width height points (uprights_of es) (sum_by column_up es) (sum_by column_down es)
 whole_of b policy sign x y width height es points first fits c walk starts =
     let lines : List Upright = uprights_of es in
-    let crossed : (u v : ℕ) → within es u v ≡ inside points u v =
+    let crossed : (u v : ℕ) → inside_edges es u v ≡ inside points u v =
     λ u v. sym (ap (λ ps. inside ps u v) starts ∙ inside-run b policy sign (first_edge x y) es c.boundary c.closes u v) in
     record {
       walk = walk;
@@ -175,7 +175,7 @@ whole_of b policy sign x y width height es points first fits c walk starts =
 pub noted_closed : (b : Image) (policy : Policy) (sign : Sign) (x y width height : ℕ) (points new_points : List Point) (lines new_lines : List Upright) (up down new_up new_down : ℕ) (here : Edge)
     → IsFirstBlack b x y → Fits b width height → IsNoted (next b policy sign) (first_edge x y) points lines up down here
     → new_points ≡ points ++ start_of here ∷ [] → new_lines ≡ lines ++ upright_of here → new_up ≡ up + column_up here → new_down ≡ down + column_down here → next b policy sign here ≡ first_edge x y
-    → IsWhole b policy sign x y width height new_points new_lines new_up new_down
+    → IsWholeWalk b policy sign x y width height new_points new_lines new_up new_down
 noted_closed b policy sign x y width height points new_points lines new_lines up down new_up new_down here first fits noted ps ls u d closed =
     let f : Edge → Edge = next b policy sign in
     let s : Edge = first_edge x y in

@@ -14,8 +14,8 @@ use Rattle.turn_policies.specs.declared.heading.Dir.TheVariants.{North, East, So
 use Rattle.turn_policies.specs.declared.edge.Edge.{Edge}
 use Rattle.turn_policies.specs.Heading.{end_x, end_y}
 use Rattle.turn_policies.specs.Boundary.{IsBoundary, left_pixel, right_pixel}
-use Rattle.path_decompose.specs.Inner.Line.{IsLineOn}
-use Rattle.path_decompose.proofs.EdgeLine.{line_along}
+use Rattle.path_decompose.specs.Inner.GridEdges.{IsLineOn}
+use Rattle.path_decompose.proofs.EdgeLine.{step_line}
 
 -- a step and its line stay on the page
 pub record IsStepOn (width height x y : ℕ) (d : Dir) : Type 0 where
@@ -23,7 +23,7 @@ pub record IsStepOn (width height x y : ℕ) (d : Dir) : Type 0 where
   pub row : y ≤ height
   pub end_column : end_x x d ≤ width
   pub end_row : end_y y d ≤ height
-  pub line : IsLineOn width height (line_along x y d)
+  pub line : IsLineOn width height (step_line x y d)
 
 step_on : (b : Image) (width height : ℕ) → Fits b width height → (x y : ℕ) (d : Dir) → left_pixel (south_west b) x y d ≡ true → IsStepOn width height x y d
 step_on b width height fits zero y North black = cc

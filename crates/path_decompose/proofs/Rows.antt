@@ -11,7 +11,7 @@ use Rattle.pt_core.specs.declared.point.Point.{Point}
 use Rattle.bit_image.specs.Image.{differ}
 use Rattle.path_decompose.specs.Bounds.{IsCornerOf}
 use Rattle.path_decompose.specs.Inside.{line_at, line_between, lines_to, lines_of, is_odd}
-use Rattle.path_decompose.specs.Line.{Line, upright, level, is_in_row}
+use Rattle.path_decompose.specs.GridEdges.{GridEdge, upright, level, is_in_row}
 use Rattle.path_decompose.proofs.Differ.{differ-false, differ_same, differ_link}
 use Rattle.path_decompose.proofs.Parity.{odd_by, is_odd-count}
 
@@ -48,7 +48,7 @@ unit_line y width height p q hp hq (inr across) =
 
 -- Where each line of a closed list of points tells whether S changes along it, the lines from point k on tell whether S
 -- differs between that point and the first.
-chain : (f : Line → Bool) (S : Point → Bool) (points : List Point)
+chain : (f : GridEdge → Bool) (S : Point → Bool) (points : List Point)
     → ((k : ℕ) → f (line_between (point_at points k) (point_at points (suc k))) ≡ differ (S (point_at points k)) (S (point_at points (suc k))))
     → (m k : ℕ) → k + suc m ≡ length points
     → odd_by f (lines_to (point_at points 0) (point_at points k) (drop (suc k) points)) ≡ differ (S (point_at points k)) (S (point_at points 0))

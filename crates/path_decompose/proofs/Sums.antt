@@ -5,11 +5,11 @@ use Rattle.pt_core.specs.declared.path.Path.{Path}
 use Rattle.pt_core.specs.declared.policy.Policy.{Policy}
 use Rattle.bit_image.specs.Image.{Image, IsWhite, differ}
 use Rattle.bit_image.specs.Page.{Page}
-use Rattle.path_decompose.specs.Line.{Line, upright, level, same_line, is_edge}
+use Rattle.path_decompose.specs.GridEdges.{GridEdge, upright, level, same_line, is_edge}
 use Rattle.path_decompose.specs.Walk.{first_edge}
 use Rattle.path_decompose.specs.Inside.{lines_of, inside}
 use Rattle.path_decompose.specs.Decomposition.{inverted, IsNextPath, IsDecomposed}
-use Rattle.path_decompose.specs.Sums.{IsEvenOdd, IsEdgesOnce}
+use Rattle.path_decompose.specs.AllPaths.{IsEvenOdd, IsEdgesOnce}
 use Rattle.path_decompose.proofs.Differ.{differ_back}
 use Rattle.path_decompose.proofs.Parity.{odd_by, is_odd-count}
 use Rattle.path_decompose.proofs.EdgeLine.{line_of}
@@ -25,7 +25,7 @@ odd_inside page policy b (path ∷ paths) d x y =
 pub even_odd : (page : Page) (policy : Policy) (b : Image) (paths : List Path) → IsDecomposed page policy b paths → IsEvenOdd b paths
 even_odd page policy b paths d x y = odd_inside page policy b paths d x y ∙ sym (is_odd-count (λ path. inside path.points x y) paths)
 
-no_edge : (b : Image) → IsWhite b → (l : Line) → is_edge b l ≡ false
+no_edge : (b : Image) → IsWhite b → (l : GridEdge) → is_edge b l ≡ false
 no_edge b white (upright zero y) = white zero y
 no_edge b white (upright (suc x) y) = rw (white x y, white (suc x) y) refl
 no_edge b white (level x zero) = white x zero

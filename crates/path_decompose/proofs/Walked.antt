@@ -8,12 +8,12 @@ use Rattle.pt_core.specs.declared.path.Sign.{Sign}
 use Rattle.pt_core.specs.declared.policy.Policy.{Policy}
 use Rattle.bit_image.specs.Image.{Image, Fits, differ}
 use Rattle.bit_image.specs.FirstBlack.{IsFirstBlack}
-use Rattle.path_decompose.specs.Inner.Line.{IsLineOn}
-use Rattle.path_decompose.specs.Line.{is_in_row}
+use Rattle.path_decompose.specs.Inner.GridEdges.{IsLineOn}
+use Rattle.path_decompose.specs.GridEdges.{is_in_row}
 use Rattle.path_decompose.specs.Walk.{first_edge, IsBoundaryWalk}
 use Rattle.path_decompose.specs.Inside.{lines_of, is_crossed, is_odd, inside}
 use Rattle.path_decompose.specs.Inner.Start.{IsWhiteThrough}
-use Rattle.path_decompose.proofs.EdgeLine.{line_of, lines_of-run, within, inside-run}
+use Rattle.path_decompose.proofs.EdgeLine.{line_of, lines_of-run, inside_edges, inside-run}
 use Rattle.path_decompose.proofs.Round.{IsCircuit, circuit_of}
 use Rattle.path_decompose.proofs.Parity.{is_odd-count, odd_by-agree}
 use Rattle.path_decompose.proofs.Start.{inside_before, inside_start}
@@ -27,7 +27,7 @@ walk_lines b policy sign x y points first w =
     let c = walk_circuit b policy sign x y points first w in
     ap lines_of w.starts ∙ lines_of-run b policy sign (first_edge x y) w.edges c.boundary c.closes
 
-pub walk_inside : (b : Image) (policy : Policy) (sign : Sign) (x y : ℕ) (points : List Point) → IsFirstBlack b x y → (w : IsBoundaryWalk b policy sign x y points) → inside points ≡ within w.edges
+pub walk_inside : (b : Image) (policy : Policy) (sign : Sign) (x y : ℕ) (points : List Point) → IsFirstBlack b x y → (w : IsBoundaryWalk b policy sign x y points) → inside points ≡ inside_edges w.edges
 walk_inside b policy sign x y points first w =
     let c = walk_circuit b policy sign x y points first w in
     fun_ext (λ u. fun_ext (λ v. ap (λ ps. inside ps u v) w.starts ∙ inside-run b policy sign (first_edge x y) w.edges c.boundary c.closes u v))
@@ -53,7 +53,7 @@ both_white p q white outside = ap (λ t. differ t q) white ∙ outside
 pub white_through : (b c : Image) (policy : Policy) (sign : Sign) (x y width : ℕ) (points : List Point) → IsFirstBlack b x y → IsBoundaryWalk b policy sign x y points → x < width → ((u v : ℕ) → u < width → c u v ≡ differ (b u v) (inside points u v)) → IsWhiteThrough c width x y
 white_through b c policy sign x y width points first w on_page flipped =
     let circuit = walk_circuit b policy sign x y points first w in
-    let to_edges : (u v : ℕ) → inside points u v ≡ within w.edges u v = λ u v. ap (λ i. i u v) (walk_inside b policy sign x y points first w) in
+    let to_edges : (u v : ℕ) → inside points u v ≡ inside_edges w.edges u v = λ u v. ap (λ i. i u v) (walk_inside b policy sign x y points first w) in
     record {
       above = λ u v left higher.
           flipped u v left

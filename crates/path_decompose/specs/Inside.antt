@@ -5,28 +5,28 @@ use Rattle.std.specs.Prelude.{ℕ, ◌%◌, min, Bool, false, cond, nat_eq, nat_
 use Rattle.pt_core.specs.declared.point.Point.{Point}
 use Rattle.bit_image.specs.Image.{Image, is_from}
 use Rattle.turn_policies.specs.Majority.{count_below, sum_below}
-use Rattle.path_decompose.specs.Line.{Line, upright, level}
+use Rattle.path_decompose.specs.GridEdges.{GridEdge, upright, level}
 
 -- the line between corners (x, y) and (u, v), which are one step apart
-abbrev pub line_at : ℕ → ℕ → ℕ → ℕ → Line
+abbrev pub line_at : ℕ → ℕ → ℕ → ℕ → GridEdge
 line_at x y u v = cond (nat_eq x u) (upright x (min y v)) (level (min x u) y)
 
 -- the line between two points that are one step apart (no path has a coordinate below 0)
-abbrev pub line_between : Point → Point → Line
+abbrev pub line_between : Point → Point → GridEdge
 line_between p q = line_at (nat_abs p.x) (nat_abs p.y) (nat_abs q.x) (nat_abs q.y)
 
 -- the lines from each point to the next, and from the last one to `end`
-abbrev pub lines_to : Point → Point → List Point → List Line
+abbrev pub lines_to : Point → Point → List Point → List GridEdge
 lines_to end p [] = line_between p end ∷ []
 lines_to end p (q ∷ qs) = line_between p q ∷ lines_to end q qs
 
 -- the lines of a path: from each point to the next, and from the last one back to the first
-abbrev pub lines_of : List Point → List Line
+abbrev pub lines_of : List Point → List GridEdge
 lines_of [] = []
 lines_of (p ∷ ps) = lines_to p p ps
 
 -- on the way along row y from the left into pixel (x, y) the line is crossed
-abbrev pub is_crossed : ℕ → ℕ → Line → Bool
+abbrev pub is_crossed : ℕ → ℕ → GridEdge → Bool
 is_crossed x y (upright u v) = is_from u v x y
 is_crossed x y (level u v) = false
 

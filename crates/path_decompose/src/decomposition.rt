@@ -11,7 +11,7 @@ ghost use Rattle.path_decompose.specs.Inner.Decomposition.{above, is_large, path
 ghost use Rattle.path_decompose.specs.Decomposition.{kept, sign_at, inverted, IsNextPath, IsDecomposition};
 ghost use Rattle.path_decompose.specs.Inside.{inside};
 ghost use Rattle.path_decompose.specs.Inner.Start.{IsWhiteThrough, IsStart};
-ghost use Rattle.path_decompose.specs.Sums.{IsEvenOdd, IsEdgesOnce};
+ghost use Rattle.path_decompose.specs.AllPaths.{IsEvenOdd, IsEdgesOnce};
 ghost use Rattle.pt_core.specs.declared.path.Path.{Path};
 
 use crate::inversion::invert;

@@ -8,8 +8,8 @@ ghost use Rattle.bit_image.specs.Page.{Page, IsPage, image_of};
 ghost use Rattle.path_decompose.specs.Bounds.{IsCornerOf};
 ghost use Rattle.path_decompose.specs.Decomposition.{IsDecomposition};
 ghost use Rattle.path_decompose.specs.Inside.{lines_of, is_odd};
-ghost use Rattle.path_decompose.specs.Line.{is_in_row};
-ghost use Rattle.path_decompose.specs.Sums.{IsEvenOdd, IsEdgesOnce};
+ghost use Rattle.path_decompose.specs.GridEdges.{is_in_row};
+ghost use Rattle.path_decompose.specs.AllPaths.{IsEvenOdd, IsEdgesOnce};
 
 /// A page has at most one decomposition under a policy.
 pub fn decompositions_are_one()

@@ -7,7 +7,7 @@ use Rattle.std.proofs.Math.Seq.{drop-cons}
 use Rattle.std.proofs.lemmas.Bool.{cases_eq, cases_lt, false≢true}
 use Rattle.std.proofs.lemmas.List.{drop_all, length-set}
 use Rattle.std.proofs.lemmas.List.FromFn.{get_or-range_with_len, length-range_with_len}
-use Rattle.path_tree.specs.declared.starts.Start.{Start}
+use Rattle.path_tree.specs.declared.starts.PathStart.{PathStart}
 use Rattle.path_tree.specs.Inner.Free.{AreFree, AreSkips, LeadPast, has_holder, no_start}
 use Rattle.path_tree.specs.Inner.Starts.{is_in_span, marked, marked_one}
 use Rattle.path_tree.proofs.Marking.{and-false, below_low, from_high, marked-past, no_marking, within_both}
@@ -68,7 +68,7 @@ pub range-more : (n : ℕ) → range_with_len 0 (n + 1) ≡ range_with_len 0 n +
 range-more n = let on : n + 1 ≡ suc n = omega arith in ap (range_with_len 0) on ∙ last 0 n n (omega arith)
 
 -- at first each place points to itself
-module _ (starts : List Start) (holders : List (Option ℕ)) (skips : List ℕ) (few : length starts < 2 ^ 32) (all : skips ≡ range_with_len 0 (length starts + 1)) where
+module _ (starts : List PathStart) (holders : List (Option ℕ)) (skips : List ℕ) (few : length starts < 2 ^ 32) (all : skips ≡ range_with_len 0 (length starts + 1)) where
   len : length skips ≡ length starts + 1
   len = ap length all ∙ length-range_with_len 0 (length starts + 1)
 
@@ -93,7 +93,7 @@ still_some holders p j v within some = elim (cases_eq j p) [
 ]
 
 -- the path of start number `at` gets a holder
-pub free-one : (starts : List Start) (holders : List (Option ℕ)) (skips : List ℕ) (at v : ℕ) → AreFree starts holders skips → at < length starts
+pub free-one : (starts : List PathStart) (holders : List (Option ℕ)) (skips : List ℕ) (at v : ℕ) → AreFree starts holders skips → at < length starts
     → (get_or starts at no_start).path < length holders → AreFree starts (set holders (get_or starts at no_start).path (Some v)) (set skips at (at + 1))
 free-one starts holders skips at v free short within =
     let p : ℕ = (get_or starts at no_start).path in
@@ -113,7 +113,7 @@ free-one starts holders skips at v free short within =
     }
 
 -- a search that leads on keeps what the places lead past
-pub free-found : (starts : List Start) (holders : List (Option ℕ)) (old new : List ℕ) → AreFree starts holders old → AreSkips new → length new ≡ length old
+pub free-found : (starts : List PathStart) (holders : List (Option ℕ)) (old new : List ℕ) → AreFree starts holders old → AreSkips new → length new ≡ length old
     → ((held : ℕ → Bool) → LeadPast held old → LeadPast held new) → AreFree starts holders new
 free-found starts holders old new free are len past = record {
   are = are;
@@ -127,42 +127,42 @@ held_marks later passes None some = absurd (false≢true some)
 held_marks later passes (Some j) some = ap (λ b. later && b) (and-false passes) ∙ and-false later
 
 -- starts whose paths have holders get none
-pub past-held : (i : ℕ) (test : ℕ → Bool) (starts : List Start) (holders : List (Option ℕ)) (from to : ℕ) → from ≤ to → to ≤ length starts
+pub past-held : (i : ℕ) (test : ℕ → Bool) (starts : List PathStart) (holders : List (Option ℕ)) (from to : ℕ) → from ≤ to → to ≤ length starts
     → ((k : ℕ) → from ≤ k → k < to → has_holder starts holders k ≡ true)
     → marked i test (drop from starts) holders ≡ marked i test (drop to starts) holders
 past-held i test starts holders from to order within held =
     let e : from + (to - from) ≡ to = omega arith in
     marked-past i test starts holders no_start (to - from) from (omega arith)
     (λ k low high. (
-    let s : Start = get_or starts k no_start in
+    let s : PathStart = get_or starts k no_start in
     held_marks (nat_lt i s.path) (test s.place) (get_or holders s.path None) (held k low (omega arith))))
     ∙ ap (λ n. marked i test (drop n starts) holders) e
 
 -- starts before the span get none
-pub before-span : (i low high first : ℕ) (starts : List Start) (holders : List (Option ℕ)) → first ≤ length starts
+pub before-span : (i low high first : ℕ) (starts : List PathStart) (holders : List (Option ℕ)) → first ≤ length starts
     → IsPartitionPoint (λ s. nat_lt s.place low ≡ true) (λ s. nat_lt s.place low ≡ false) starts first
     → marked i (is_in_span low high) starts holders ≡ marked i (is_in_span low high) (drop first starts) holders
 before-span i low high first starts holders within parted =
     let e : 0 + first ≡ first = omega arith in
     marked-past i (is_in_span low high) starts holders no_start first 0 (omega arith)
     (λ k least most. (
-    let s : Start = get_or starts k no_start in
+    let s : PathStart = get_or starts k no_start in
     no_marking i s holders (is_in_span low high s.place)
     (ap (λ b. nat_lt i s.path && b) (below_low low high s.place (parted.0 k no_start (omega arith) (omega arith))) ∙ and-false (nat_lt i s.path))))
     ∙ ap (λ n. marked i (is_in_span low high) (drop n starts) holders) e
 
 -- no start is left
-pub no_more : (i : ℕ) (test : ℕ → Bool) (starts : List Start) (holders : List (Option ℕ)) (n : ℕ) → length starts ≤ n → marked i test (drop n starts) holders ≡ holders
+pub no_more : (i : ℕ) (test : ℕ → Bool) (starts : List PathStart) (holders : List (Option ℕ)) (n : ℕ) → length starts ≤ n → marked i test (drop n starts) holders ≡ holders
 no_more i test starts holders n most = ap (λ ss. marked i test ss holders) (drop_all n starts most)
 
 -- starts behind the span get none
-pub behind-span : (i low high at : ℕ) (starts : List Start) (holders : List (Option ℕ)) → IsNonDecreasingBy (λ s. s.place) starts → at < length starts
+pub behind-span : (i low high at : ℕ) (starts : List PathStart) (holders : List (Option ℕ)) → IsNonDecreasingBy (λ s. s.place) starts → at < length starts
     → high ≤ (get_or starts at no_start).place → marked i (is_in_span low high) (drop at starts) holders ≡ holders
 behind-span i low high at starts holders order within from =
     let e : at + (length starts - at) ≡ length starts = omega arith in
     marked-past i (is_in_span low high) starts holders no_start (length starts - at) at (omega arith)
     (λ k least most. (
-    let s : Start = get_or starts k no_start in
+    let s : PathStart = get_or starts k no_start in
     let later : (get_or starts at no_start).place ≤ s.place = order at k no_start least (omega arith) in
     no_marking i s holders (is_in_span low high s.place)
     (ap (λ b. nat_lt i s.path && b) (from_high low high s.place (omega arith)) ∙ and-false (nat_lt i s.path))))
@@ -170,13 +170,13 @@ behind-span i low high at starts holders order within from =
     ∙ no_more i (is_in_span low high) starts holders (length starts) (omega arith)
 
 -- the start at a place of the span, and those behind it
-pub in-span : (i low high at next first : ℕ) (starts : List Start) (old new : List (Option ℕ))
+pub in-span : (i low high at next first : ℕ) (starts : List PathStart) (old new : List (Option ℕ))
     → IsPartitionPoint (λ s. nat_lt s.place low ≡ true) (λ s. nat_lt s.place low ≡ false) starts first → first ≤ at → at < length starts
     → (get_or starts at no_start).place < high → new ≡ marked_one i true (get_or starts at no_start) old
     → at + 1 ≤ next → next ≤ length starts → ((k : ℕ) → at + 1 ≤ k → k < next → has_holder starts new k ≡ true)
     → marked i (is_in_span low high) (drop next starts) new ≡ marked i (is_in_span low high) (drop at starts) old
 in-span i low high at next first starts old new parted from short below made order within held =
-    let s : Start = get_or starts at no_start in
+    let s : PathStart = get_or starts at no_start in
     let e : at + 1 ≡ suc at = omega arith in
     sym (past-held i (is_in_span low high) starts new (at + 1) next order within held)
     ∙ ap (λ n. marked i (is_in_span low high) (drop n starts) new) e

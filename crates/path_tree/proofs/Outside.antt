@@ -10,10 +10,10 @@ use Rattle.pt_core.specs.declared.point.Point.{Point}
 use Rattle.pt_core.specs.ClosedWalk.{IsClosedWalk}
 use Rattle.path_decompose.specs.Bounds.{IsCornerOf}
 use Rattle.path_decompose.specs.Inside.{line_between, lines_to, lines_of, is_crossed, inside}
-use Rattle.path_decompose.specs.Line.{Line, upright, level, is_in_row}
+use Rattle.path_decompose.specs.GridEdges.{GridEdge, upright, level, is_in_row}
 use Rattle.path_decompose.proofs.Parity.{odd_by, is_odd-count}
 use Rattle.path_tree.specs.declared.bounds.Bounds.{Bounds}
-use Rattle.path_tree.specs.declared.starts.Start.{Start}
+use Rattle.path_tree.specs.declared.starts.PathStart.{PathStart}
 use Rattle.path_tree.specs.declared.starts.TheConstants.{ROW}
 use Rattle.path_tree.specs.Inner.Candidates.{IsInBounds, is_candidate, is_held}
 use Rattle.path_tree.specs.Inner.Starts.{marked}
@@ -21,7 +21,7 @@ use Rattle.path_tree.proofs.Even.{even_rows}
 use Rattle.path_tree.proofs.Marking.{and-false, marked-none, no_marking}
 
 -- tests that agree on each line of a walk
-module _ (f g : Line → Bool) (P : Point → Type 0) (agree : (p q : Point) → P p → P q → f (line_between p q) ≡ g (line_between p q)) where
+module _ (f g : GridEdge → Bool) (P : Point → Type 0) (agree : (p q : Point) → P p → P q → f (line_between p q) ≡ g (line_between p q)) where
   same_to : (end p : Point) (qs : List Point) → P end → P p → All P qs → odd_by f (lines_to end p qs) ≡ odd_by g (lines_to end p qs)
   same_to end p [] he hp hs = ap (λ b. differ b false) (agree p end hp he)
   same_to end p (q ∷ qs) he hp hs =
@@ -33,7 +33,7 @@ module _ (f g : Line → Bool) (P : Point → Type 0) (agree : (p q : Point) →
   same_of (p ∷ ps) all = same_to p p ps (All-head P p ps all) (All-head P p ps all) (All-tail P p ps all)
 
 -- no line passes
-none : (lines : List Line) → odd_by (λ _. false) lines ≡ false
+none : (lines : List GridEdge) → odd_by (λ _. false) lines ≡ false
 none [] = refl
 none (line ∷ lines) = none lines
 
@@ -114,7 +114,7 @@ one_fails false b c h = inl refl
 one_fails true false c h = inr (inl refl)
 one_fails true true c h = inr (inr h)
 
-module _ (bounds : Bounds) (points : List Point) (within : All (IsInBounds bounds) points) (number : ℕ) (start : Start) where
+module _ (bounds : Bounds) (points : List Point) (within : All (IsInBounds bounds) points) (number : ℕ) (start : PathStart) where
   -- a start that is no candidate
   pub no_candidate : IsClosedWalk points → All (IsCornerOf 32767 32767) points → is_candidate number bounds start ≡ false → is_held number points start ≡ false
   no_candidate closed corners h = elim (one_fails (nat_lt number start.path) (nat_le bounds.left (start.place % ROW)) (nat_lt (start.place % ROW) bounds.right) h) [
@@ -138,7 +138,7 @@ module _ (bounds : Bounds) (points : List Point) (within : All (IsInBounds bound
       (outside_top bounds points within (start.place % ROW) (start.place / ROW) (high_row start.place bounds.top h))
 
 -- no start is held, where none between the rows is a candidate
-pub none_held : (bounds : Bounds) (points : List Point) (number first count : ℕ) (starts : List Start)
+pub none_held : (bounds : Bounds) (points : List Point) (number first count : ℕ) (starts : List PathStart)
     → IsClosedWalk points → All (IsCornerOf 32767 32767) points → All (IsInBounds bounds) points
     → IsPartitionPoint (λ s. nat_lt s.place (ROW * bounds.bottom) ≡ true) (λ s. nat_lt s.place (ROW * bounds.bottom) ≡ false) starts first
     → IsPartitionPoint (λ s. nat_lt s.place (ROW * (bounds.top + 1)) ≡ true) (λ s. nat_lt s.place (ROW * (bounds.top + 1)) ≡ false) (drop first starts) count
@@ -163,6 +163,6 @@ none_held bounds points number first count starts closed corners within lows hig
 ]
 
 -- starts of which none is marked
-pub marked-unheld : (i : ℕ) (test : ℕ → Bool) (starts : List Start) (holders : List (Option ℕ)) → All (λ s. (nat_lt i s.path && test s.place) ≡ false) starts
+pub marked-unheld : (i : ℕ) (test : ℕ → Bool) (starts : List PathStart) (holders : List (Option ℕ)) → All (λ s. (nat_lt i s.path && test s.place) ≡ false) starts
     → marked i test starts holders ≡ holders
 marked-unheld i test starts holders none = marked-none i test starts holders (λ k d h. no_marking i (get_or starts k d) holders (test (get_or starts k d).place) (none k d h))

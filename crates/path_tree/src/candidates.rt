@@ -7,7 +7,7 @@ ghost use Rattle.path_tree.specs.Inner.Candidates.{is_candidate, is_held};
 
 use crate::bounds::Bounds;
 use crate::marks::count_below;
-use crate::starts::{ROW, Start};
+use crate::starts::{PathStart, ROW};
 use pt_core::Point;
 
 /// How many starts are looked at in the time that a point of a path takes when its lines are put in order.
@@ -17,7 +17,7 @@ const STARTS_FOR_A_POINT: usize = 16;
 //
 // Most paths go round no hole. They are told by their bounds, and their lines needn't be put in order. Where so many
 // starts are in the path's rows that to look at each would take longer than that, it isn't asked.
-pub(crate) fn may_hold(starts: &[Start], points: &[Point], number: u32) -> bool
+pub(crate) fn may_hold(starts: &[PathStart], points: &[Point], number: u32) -> bool
     requires closed { IsClosedWalk points.now }
     requires corners { All (IsCornerOf 32767 32767) points.now }
     requires order { IsNonDecreasingBy (λ start. start.place) starts.now }
@@ -37,7 +37,7 @@ pub(crate) fn may_hold(starts: &[Start], points: &[Point], number: u32) -> bool
 }
 
 /// Whether one of these starts is that of a later path, in a column between the bounds.
-fn has_candidate(starts: &[Start], bounds: Bounds, number: u32) -> bool
+fn has_candidate(starts: &[PathStart], bounds: Bounds, number: u32) -> bool
     ensures { result ≡ false → All (λ start. is_candidate number bounds start ≡ false) starts.now }
 {
     for start in starts {
@@ -49,7 +49,7 @@ fn has_candidate(starts: &[Start], bounds: Bounds, number: u32) -> bool
 }
 
 /// Whether a start is that of a later path, in a column between the bounds.
-fn is_candidate(start: Start, bounds: Bounds, number: u32) -> bool
+fn is_candidate(start: PathStart, bounds: Bounds, number: u32) -> bool
     ensures { result ≡ is_candidate number bounds start }
 {
     let column = start.place % ROW;

@@ -11,8 +11,8 @@ use Rattle.bit_image.specs.Image.{Image, differ, is_from, is_between}
 use Rattle.bit_image.specs.Page.{Page, image_of}
 use Rattle.path_decompose.specs.Bounds.{IsCornerOf}
 use Rattle.path_decompose.specs.Inside.{is_crossed, line_at, line_between}
-use Rattle.path_decompose.specs.Line.{Line, upright, level}
-use Rattle.path_decompose.specs.Inner.Line.{place_of, IsLineOn}
+use Rattle.path_decompose.specs.GridEdges.{GridEdge, upright, level}
+use Rattle.path_decompose.specs.Inner.GridEdges.{place_of, IsLineOn}
 use Rattle.path_decompose.proofs.Differ.{differ-false, differ_swap}
 use Rattle.point_fill.specs.Inner.Swept.{odd_below, swept, AreMarked}
 
@@ -55,7 +55,7 @@ place_in : Option (ℕ × ℕ) → ℕ × ℕ
 place_in (Some place) = place
 place_in None = (0, 0)
 
-pub upright_is : (l : Line) (x y : ℕ) → place_of l ≡ Some (x, y) → l ≡ upright x y
+pub upright_is : (l : GridEdge) (x y : ℕ) → place_of l ≡ Some (x, y) → l ≡ upright x y
 unfolding place_in
 upright_is (upright a b) x y e =
     let column : a ≡ x = ap (λ o. (place_in o).0) e in
@@ -63,7 +63,7 @@ upright_is (upright a b) x y e =
     ap (λ k. upright k b) column ∙ ap (λ k. upright x k) row
 upright_is (level a b) x y e = cc
 
-pub level_uncrossed : (l : Line) (u v : ℕ) → place_of l ≡ None → is_crossed u v l ≡ false
+pub level_uncrossed : (l : GridEdge) (u v : ℕ) → place_of l ≡ None → is_crossed u v l ≡ false
 level_uncrossed (upright a b) u v e = cc
 level_uncrossed (level a b) u v e = refl
 

@@ -3,7 +3,7 @@ use Rattle.std.proofs.Common.{◌≡◌, ℕ, ◌<◌, ◌^◌, List, ◌++◌}
 use Rattle.std.specs.Prelude.{decimal}
 use Rattle.std.proofs.lemmas.Fmt.{decimal_injective}
 use Rattle.list_reader.proofs.Runs.{digits_of_decimal, one_run}
-use Rattle.point_fill.specs.Inner.Reading.{EndsNumber}
+use Rattle.point_fill.specs.Inner.PointsReading.{EndsNumber}
 
 pub number_ends : (n m : ℕ) (s t : List ℕ) → n < 2 ^ 64 → m < 2 ^ 64 → EndsNumber s → EndsNumber t → decimal n ++ s ≡ decimal m ++ t → (n ≡ m) × (s ≡ t)
 number_ends n m s t hn hm hs ht e =

@@ -17,7 +17,7 @@ use Rattle.bit_image.proofs.Pages.{page_of-image_of, page_of-same}
 use Rattle.bitmap_input.specs.Cut.{Kind, Cut, ◌>>=◌}
 use Rattle.bitmap_input.specs.Cut.Kind.{BadHeader}
 use Rattle.bitmap_input.specs.Cut.Cut.{Takes}
-use Rattle.bitmap_input.specs.Parts.{longest, is_digit, is_space, is_zero, run_length, gap_length, some_gap, value, number, number_behind_gap, space, block, repeated, spaces}
+use Rattle.bitmap_input.specs.PageParts.{longest, is_digit, is_space, is_zero, run_length, gap_length, some_gap, value, number, number_behind_gap, space, block, repeated, spaces}
 use Rattle.bitmap_input.specs.Sides.{checked}
 use Rattle.bitmap_input.specs.Raw.{Raw, Entry, entries_page, row_bytes, bits_of, unpacked, black, picture_of, shown}
 use Rattle.bitmap_input.specs.Raw.Entry.{Bit}

@@ -1,6 +1,6 @@
 //! Bytes and numbers at a place of a text.
 ghost use Rattle.std.specs.Prelude.{◌≤◌, IfSome, IfNone, length, MatchBool};
-ghost use Rattle.point_fill.specs.Inner.Reading.{IsByteAt, IsNoByteAt, IsNumberAt, IsNoNumberAt};
+ghost use Rattle.point_fill.specs.Inner.PointsReading.{IsByteAt, IsNoByteAt, IsNumberAt, IsNoNumberAt};
 
 use list_reader::{Number, read_number};
 

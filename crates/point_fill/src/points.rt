@@ -11,7 +11,7 @@ ghost use Rattle.path_decompose.specs.Bounds.{IsCornerOf};
 ghost use Rattle.path_decompose.specs.Inside.{inside, is_crossed, line_between};
 ghost use Rattle.point_fill.specs.Filled.{even_odd};
 ghost use Rattle.point_fill.specs.PointsFile.{IsToldPath};
-ghost use Rattle.point_fill.specs.Inner.Reading.{IsPointAt, IsNoPointAt, IsHeadAt, IsNoHeadAt, AreLoopAt, IsNoLoopAt, IsPathAt, IsNoPathAt, ArePathsAt, IsSpelled};
+ghost use Rattle.point_fill.specs.Inner.PointsReading.{IsPointAt, IsNoPointAt, IsHeadAt, IsNoHeadAt, AreLoopAt, IsNoLoopAt, IsPathAt, IsNoPathAt, ArePathsAt, IsSpelled};
 ghost use Rattle.point_fill.specs.Inner.Swept.{AreMarked};
 
 use crate::number::{is_at, number_at};

@@ -1,6 +1,6 @@
 //! The first line of a text.
 ghost use Rattle.std.specs.Prelude.{◌≡◌, ◌≢◌, ◌++◌, ℕ, List, IfSome, IfNone, MatchBool, codes, drop};
-ghost use Rattle.point_fill.specs.Inner.Reading.{IsSidesLine, IsNoSidesLine};
+ghost use Rattle.point_fill.specs.Inner.PointsReading.{IsSidesLine, IsNoSidesLine};
 
 use crate::number::{is_at, number_at};
 use pt_core::LONGEST_SIDE;

@@ -4,7 +4,7 @@ use Rattle.std.proofs.lemmas.Bool.{cases_lt}
 use Rattle.std.specs.Prelude.{slice_index}
 use Rattle.least_walk.specs.LeastWalk.{total_cost}
 use Rattle.least_walk.specs.Inner.Suffix.{HasCosts, HasFewest, IsLeastCost, IsLeastNext, WalksOn}
-use Rattle.least_walk.specs.Inner.Places.{IsPlace}
+use Rattle.least_walk.specs.Inner.MarkedPlaces.{IsPlace}
 use Rattle.least_walk.proofs.Cheapest.{IsCheapest, cheapest_onward}
 use Rattle.least_walk.proofs.Going.{goes_below, total_cost-cons}
 use Rattle.least_walk.proofs.Places.{place_onward}

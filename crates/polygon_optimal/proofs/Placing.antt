@@ -3,7 +3,7 @@ use Rattle.std.proofs.Common.{◌≡◌, ℕ, zero, suc, ◌+◌, ◌-◌, ◌<�
 use Rattle.std.proofs.lemmas.Bool.{cases_lt}
 use Rattle.std.specs.Prelude.{slice_index}
 use Rattle.least_walk.specs.Inner.Suffix.{HasFewest}
-use Rattle.least_walk.specs.Inner.Places.{ComesBy, IsPlace}
+use Rattle.least_walk.specs.Inner.MarkedPlaces.{ComesBy, IsPlace}
 use Rattle.least_walk.proofs.Places.{all_reached, place_after, stands_after}
 use Rattle.polygon_optimal.specs.Inner.Lasts.{AreRising, IsUpToLast, LeadsOn}
 use Rattle.polygon_optimal.specs.Inner.Search.{AreFalling, AreFarthest}

@@ -4,7 +4,7 @@ use Rattle.std.proofs.lemmas.Bool.{cases_eq}
 use Rattle.std.proofs.lemmas.List.{get_or-set_other, length-replicate, length-set}
 use Rattle.std.specs.Prelude.{slice_index}
 use Rattle.pt_core.specs.declared.limits.TheConstants.{MOST_STEPS}
-use Rattle.least_walk.specs.Inner.Places.{IsPlace}
+use Rattle.least_walk.specs.Inner.MarkedPlaces.{IsPlace}
 use Rattle.least_walk.specs.Inner.Suffix.{HasCosts, IsLeastCost}
 use Rattle.least_walk.proofs.Filling.{costs_more}
 use Rattle.least_walk.proofs.Onward.{cost_at_end}

@@ -16,10 +16,10 @@ use Rattle.command_asks.specs.Asked.{CanBeDone}
 use Rattle.command_asks.specs.declared.ask.Ask.{Ask}
 use Rattle.command_asks.specs.declared.ask.Ask.TheVariants as asks
 use Rattle.page_batches.specs.Items.{Doc, GoesOn, Item}
-use Rattle.page_batches.specs.Items.Item.{Missing, Note, Stop, Write}
-use Rattle.page_batches.specs.Outcome.{AreCarriedOut, HasEnded}
+use Rattle.page_batches.specs.Items.Item.{Missing, Note, Refuse, Write}
+use Rattle.page_batches.specs.ItemsDone.{AreCarriedOut, HasEnded}
 use Rattle.run_output.specs.Told.{Sinks, Source}
-use Rattle.file_documents.specs.Items.{AreItems, AreWhole, IsAbsent, Nothing, told_contents}
+use Rattle.file_documents.specs.FileItems.{AreItems, AreWhole, IsAbsent, Nothing, told_contents}
 use Rattle.file_documents.specs.Manner.{HasTexts, Manner}
 use Rattle.file_documents.specs.Outcome.{IsOutcome, LastEndsNear}
 use Rattle.file_documents.proofs.Closing.{AreWhole-front, alone_end, carried_closed, items_end, nothing_ends}
@@ -35,11 +35,11 @@ abbrev pub HaveDocuments : Type 0
 HaveDocuments = (settings : Settings) → CanWrite settings → (output : Option (List ℕ)) → HasTexts (manner_under settings output)
 
 -- a run doesn't go on after a refusal
-no_stop : (before : List Item) (message : List ℕ) → GoesOn (before ++ Stop message ∷ []) → ⊥
+no_stop : (before : List Item) (message : List ℕ) → GoesOn (before ++ Refuse message ∷ []) → ⊥
 no_stop [] message h = h
 no_stop (Write part ∷ before) message h = no_stop before message h
 no_stop (Note note ∷ before) message h = no_stop before message h
-no_stop (Stop other ∷ before) message h = h
+no_stop (Refuse other ∷ before) message h = h
 no_stop (Missing name ∷ before) message h = h
 
 -- nor after a file that isn't there
@@ -47,7 +47,7 @@ no_missing : (before : List Item) (name : List ℕ) → GoesOn (before ++ Missin
 no_missing [] name h = h
 no_missing (Write part ∷ before) name h = no_missing before name h
 no_missing (Note note ∷ before) name h = no_missing before name h
-no_missing (Stop other ∷ before) name h = h
+no_missing (Refuse other ∷ before) name h = h
 no_missing (Missing other ∷ before) name h = h
 
 never_refused : (items : List Item) → GoesOn items → EndsRefused items → ⊥
@@ -57,14 +57,14 @@ never_missing : (items : List Item) → GoesOn items → EndsMissing items → �
 never_missing items goes (before, name, is) = no_missing before name (subst GoesOn is goes)
 
 -- the last item is one
-one_last : (before others : List Item) (message name : List ℕ) → before ++ Stop message ∷ [] ≡ others ++ Missing name ∷ [] → ⊥
+one_last : (before others : List Item) (message name : List ℕ) → before ++ Refuse message ∷ [] ≡ others ++ Missing name ∷ [] → ⊥
 one_last [] [] message name e = cc
 one_last [] (item ∷ []) message name e = cc
 one_last [] (item ∷ other ∷ others) message name e = cc
 one_last (item ∷ []) [] message name e = cc
 one_last (item ∷ other ∷ before) [] message name e = cc
 one_last (item ∷ before) (other ∷ others) message name e =
-    let rest : before ++ Stop message ∷ [] ≡ others ++ Missing name ∷ [] = cc in one_last before others message name rest
+    let rest : before ++ Refuse message ∷ [] ≡ others ++ Missing name ∷ [] = cc in one_last before others message name rest
 
 no_both : (items : List Item) → EndsRefused items → EndsMissing items → ⊥
 no_both items (before, message, is) (others, name, are) = one_last before others message name (sym is ∙ are)
@@ -89,7 +89,7 @@ files_complete status.Done manner can names source now a b (items, are, done, op
     (items, are, λ _ _. record { all = λ _. inl refl; refusal = λ r. absurd (never_refused items done.goes_on r); missing = λ m. absurd (never_missing items done.goes_on m) })
 files_complete status.BadWords manner can names source now a b (items, are, ended) = absurd ended
 files_complete status.Refused manner can names source now a b r =
-    let items : List Item = r.before ++ Stop r.message ∷ [] in
+    let items : List Item = r.before ++ Refuse r.message ∷ [] in
     let refusal : EndsRefused items = (r.before, r.message, refl) in
     (items, r.all, λ _ _. record { all = λ goes. absurd (never_refused items goes refusal); refusal = λ _. inl refl; missing = λ m. absurd (no_both items refusal m) })
 files_complete status.Unwritten manner can names source now a b (items, are, u) = (items, are, λ _ no_write. absurd (no_write u.rose))
@@ -172,7 +172,7 @@ only_missing (Some contents) manner name names items absent (inl (none, is)) = i
 only_missing (Some contents) manner name names items absent (inr (raws, ending, (bytes, held, pages), are)) =
     absurd (let e : None ≡ Some bytes = sym absent ∙ held in cc)
 
-not_stop : (name : List ℕ) (before : List Item) (message : List ℕ) → Missing name ∷ [] ≡ before ++ Stop message ∷ [] → ⊥
+not_stop : (name : List ℕ) (before : List Item) (message : List ℕ) → Missing name ∷ [] ≡ before ++ Refuse message ∷ [] → ⊥
 not_stop name [] message e = cc
 not_stop name (item ∷ []) message e = cc
 not_stop name (item ∷ other ∷ before) message e = cc
@@ -188,7 +188,7 @@ first_absent status.Done manner name names source now a b absent (items, are, do
     absurd (subst GoesOn (only_missing (told_contents source.files) manner name names items absent are) done.goes_on)
 first_absent status.BadWords manner name names source now a b absent (items, are, ended) = absurd ended
 first_absent status.Refused manner name names source now a b absent r =
-    absurd (not_stop name r.before r.message (sym (only_missing (told_contents source.files) manner name names (r.before ++ Stop r.message ∷ []) absent r.all)))
+    absurd (not_stop name r.before r.message (sym (only_missing (told_contents source.files) manner name names (r.before ++ Refuse r.message ∷ []) absent r.all)))
 first_absent status.Unread manner name names source now a b absent u = inl refl
 first_absent status.Unwritten manner name names source now a b absent (items, are, u) =
     absurd (not_document name u.before u.part u.after (sym (only_missing (told_contents source.files) manner name names items absent are) ∙ u.split))
@@ -222,7 +222,7 @@ ended_moves : (P : Type 0) (s : Status) (items : List Item) (a b : Sinks) → (P
 ended_moves P status.Done items a b all closed done = carried_moves P items [] a b all closed done
 ended_moves P status.BadWords items a b all closed ended = absurd ended
 ended_moves P status.Refused items a b all closed r =
-    carried_moves P r.before (r.message ∷ []) a b (λ p. AreWhole-front r.before (Stop r.message ∷ []) (subst AreWhole r.split (all p))) closed r.done
+    carried_moves P r.before (r.message ∷ []) a b (λ p. AreWhole-front r.before (Refuse r.message ∷ []) (subst AreWhole r.split (all p))) closed r.done
 ended_moves P status.Unread items a b all closed ended = absurd ended
 ended_moves P status.Unwritten items a b all closed u = (u.rose, u.failed)
 ended_moves P status.OutOfMemory items a b all closed o =
@@ -241,7 +241,7 @@ files_move s manner names source now a b closed outcome = by_status s outcome wh
   by_status status.Done (items, are, done, opens, near) = carried_moves (manner.binding ≡ Apart) items [] a b (whole items are) closed done
   by_status status.BadWords (items, are, ended) = absurd ended
   by_status status.Refused r =
-      carried_moves (manner.binding ≡ Apart) r.before (r.message ∷ []) a b (λ apart. AreWhole-front r.before (Stop r.message ∷ []) (whole (r.before ++ Stop r.message ∷ []) r.all apart)) closed r.done
+      carried_moves (manner.binding ≡ Apart) r.before (r.message ∷ []) a b (λ apart. AreWhole-front r.before (Refuse r.message ∷ []) (whole (r.before ++ Refuse r.message ∷ []) r.all apart)) closed r.done
   by_status status.Unread (inl u) =
       carried_moves (manner.binding ≡ Apart) u.before (not_opened u.name ∷ []) a b (λ apart. items_end told manner apart Nothing nothing_ends u.front no_past u.before u.items) closed u.done
   by_status status.Unread (inr u) =

@@ -7,7 +7,7 @@ use Rattle.pt_core.specs.Needs.{CanWrite}
 use Rattle.page_trace.proofs.Exists.{document_found, trace_found}
 use Rattle.demo_pages.specs.declared.page.TheConstants.{BARS, RECTANGLES}
 use Rattle.demo_pages.specs.Generator.{state_after}
-use Rattle.potrace_main.specs.Line.{IsDemoLine, IsDemoText, demo_line}
+use Rattle.potrace_main.specs.Demo.{IsDemoLine, IsDemoText, demo_line}
 use Rattle.demo_pages.specs.Picture.{pages_from, picture_page}
 use Rattle.demo_pages.proofs.Drawing.{is_page}
 

@@ -11,7 +11,7 @@ use Rattle.pt_core.specs.declared.settings.Settings.{Settings}
 use Rattle.pt_core.specs.declared.trace.Trace.{Trace}
 use Rattle.page_trace.specs.Document.{IsDocumentUnder}
 use Rattle.page_trace.specs.Trace.{ArePaths, HasPolygons, IsOutlineOf, IsOutlineWith, IsTrace}
-use Rattle.potrace_main.specs.Line.{IsDemoLine, IsDemoText}
+use Rattle.potrace_main.specs.Demo.{IsDemoLine, IsDemoText}
 use Rattle.demo_pages.specs.Picture.{pages_from}
 
 -- the settings with another level

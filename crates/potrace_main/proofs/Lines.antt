@@ -5,7 +5,7 @@ use Rattle.std.specs.List.{AllZip, concat}
 use Rattle.std.proofs.lemmas.List.Concat.{flat_map-cons}
 use Rattle.bit_image.specs.Page.{Page}
 use Rattle.pt_core.specs.declared.settings.Settings.{Settings}
-use Rattle.potrace_main.specs.Line.{IsDemoLine, IsDemoText}
+use Rattle.potrace_main.specs.Demo.{IsDemoLine, IsDemoText}
 use Rattle.demo_pages.specs.Picture.{pages_from}
 
 -- the lines of some pages, with those of further pages behind

@@ -5,7 +5,7 @@ use Rattle.pt_core.specs.declared.settings.Settings.{Settings}
 use Rattle.pt_core.specs.declared.trace.Trace.{Trace}
 use Rattle.bit_image.specs.Page.{Page}
 use Rattle.page_trace.proofs.OneTrace.{one_document, one_trace}
-use Rattle.potrace_main.specs.Line.{IsDemoLine, IsDemoText, demo_line}
+use Rattle.potrace_main.specs.Demo.{IsDemoLine, IsDemoText, demo_line}
 use Rattle.demo_pages.specs.Picture.{pages_from}
 
 pub one_line : (settings : Settings) (page : Page) (a b : List ℕ) → IsDemoLine settings page a → IsDemoLine settings page b → a ≡ b

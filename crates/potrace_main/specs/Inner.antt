@@ -1,8 +1,3 @@
--- The text of the demo.
---   CanCount: what a line needs of the settings
-pub mod Line
--- What the top call promises.
---   OutputsMove: how the outputs moved
---   IsRun: all that a run does that is asked for this
---   IsRunBy: all that a run does of these words
+-- What inner contracts alone speak of: no promise rests on it.
+pub mod Demo
 pub mod Run

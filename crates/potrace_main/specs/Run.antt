@@ -14,15 +14,15 @@ use Rattle.run_output.specs.declared.status.Status.TheVariants as status
 use Rattle.command_asks.specs.declared.ask.Ask.{Ask}
 use Rattle.command_asks.specs.declared.ask.Ask.TheVariants as asks
 use Rattle.page_batches.specs.Items.{Doc, GoesOn, Item}
-use Rattle.page_batches.specs.Items.Item.{Missing, Stop}
-use Rattle.page_batches.specs.Outcome.{AreCarriedOut, HasEnded}
+use Rattle.page_batches.specs.Items.Item.{Missing, Refuse}
+use Rattle.page_batches.specs.ItemsDone.{AreCarriedOut, HasEnded}
 use Rattle.run_output.specs.Told.{Sinks, Source}
-use Rattle.file_documents.specs.Items.{AreItems, IsAbsent, Nothing, told_contents}
+use Rattle.file_documents.specs.FileItems.{AreItems, IsAbsent, Nothing, told_contents}
 use Rattle.file_documents.specs.Manner.{Manner, manner_by}
 use Rattle.file_documents.specs.OnePass.{IsOnePass}
 use Rattle.file_documents.specs.Outcome.{IsOutcome}
 use Rattle.page_trace.specs.Document.{IsDocument}
-use Rattle.potrace_main.specs.Line.{IsDemoText}
+use Rattle.potrace_main.specs.Demo.{IsDemoText}
 use Rattle.potrace_main.specs.Usage.{help_text, version_text}
 
 -- the exit status is the code of a status of which this holds
@@ -81,7 +81,7 @@ BindsApart (asks.Files names output workers settings) = binding_of settings.back
 
 -- the last of the items is a refusal
 abbrev pub EndsRefused : List Item → Type 0
-EndsRefused items = (before : List Item) × (message : List ℕ) × (items ≡ before ++ Stop message ∷ [])
+EndsRefused items = (before : List Item) × (message : List ℕ) × (items ≡ before ++ Refuse message ∷ [])
 
 -- the last of the items is a file that isn't there
 abbrev pub EndsMissing : List Item → Type 0

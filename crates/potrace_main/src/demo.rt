@@ -1,7 +1,7 @@
 //! The text of the demo.
 ghost use Rattle.std.specs.Prelude.{◌≡◌, ◌≤◌, ◌++◌, flat_map, IfOk, OnOk};
 ghost use Rattle.pt_core.specs.Needs.{CanTrace, CanWrite};
-ghost use Rattle.potrace_main.specs.Line.{IsDemoText};
+ghost use Rattle.potrace_main.specs.Demo.{IsDemoText};
 
 use crate::line::LineJob;
 use demo_pages::{Generator, next_pages};

@@ -2,7 +2,7 @@
 ghost use Rattle.std.specs.Prelude.{◌≡◌, ℕ, Bool, List};
 ghost use Rattle.pt_core.specs.declared.settings.Settings.{Settings};
 ghost use Rattle.pt_core.specs.Needs.{CanWrite};
-ghost use Rattle.potrace_main.specs.Line.{IsDemoText};
+ghost use Rattle.potrace_main.specs.Demo.{IsDemoText};
 
 /// There is at most one text of so many pages under some settings.
 pub fn demo_texts_are_one()

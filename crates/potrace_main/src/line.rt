@@ -2,7 +2,7 @@
 ghost use Rattle.std.specs.Prelude.{◌≡◌, ◌++◌, decimal, length, sum_by, IfOk, OnOk};
 ghost use Rattle.page_trace.specs.Trace.{IsTrace};
 ghost use Rattle.pt_core.specs.Needs.{CanWrite};
-ghost use Rattle.potrace_main.specs.Line.{IsDemoLine, demo_line};
+ghost use Rattle.potrace_main.specs.Demo.{IsDemoLine, demo_line};
 
 use bit_image::Bitmap;
 use page_trace::{document, trace};
@@ -20,7 +20,7 @@ pub(crate) struct LineJob {
 }
 
 impl Model for LineJob {
-    ghost use Rattle.potrace_main.specs.Inner.Line.{CanCount};
+    ghost use Rattle.potrace_main.specs.Inner.Demo.{CanCount};
     ghost use Rattle.pt_core.specs.declared.settings.Settings.{Settings};
 
     ghost Value = { Settings };
@@ -33,7 +33,7 @@ impl Model for LineJob {
 impl PageJob for LineJob {
     ghost use Rattle.std.proofs.Common.{ap, sym, ◌∙◌};
     ghost use Rattle.page_trace.proofs.OneTrace.{one_document, one_trace};
-    ghost use Rattle.potrace_main.specs.Line.{IsDemoLine};
+    ghost use Rattle.potrace_main.specs.Demo.{IsDemoLine};
 
     ghost belongs = { λ job page line. IsDemoLine job page line };
 

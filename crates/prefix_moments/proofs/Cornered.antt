@@ -8,7 +8,7 @@ use Rattle.pt_core.specs.declared.point.Point.{Point}
 use Rattle.pt_core.specs.ClosedWalk.{point_at}
 use Rattle.pt_core.proofs.Terms.{num, plus, less, times, same_value}
 use Rattle.prefix_moments.specs.Sums.{sum_of, spread_of, chord_cross_of, rightward_of, above_of}
-use Rattle.prefix_moments.specs.declared.raw.Raw.{Raw}
+use Rattle.prefix_moments.specs.declared.raw.RawSums.{RawSums}
 use Rattle.prefix_moments.specs.Inner.Table.{raw_of, spread_from}
 use Rattle.prefix_moments.proofs.Prefixes.{sum_same}
 
@@ -72,7 +72,7 @@ spread_from_is points i j =
     ∙ sum_same (λ d. one d *ℤ one d) (λ d. chord_cross_of points i j (i + d) *ℤ chord_cross_of points i j (i + d)) (j - i + 1) same
 
 -- it is what is left of it in 64 bits, where it is small
-pub wrapped_total : (points : List Point) (i j : ℕ) (r : Raw) (count right above number t : ℤ)
+pub wrapped_total : (points : List Point) (i j : ℕ) (r : RawSums) (count right above number t : ℤ)
     → r ≡ raw_of (λ d. point_at points (i + d)) (j - i + 1) → count ≡ pos (j - i + 1)
     → right ≡ rightward_of points i j → above ≡ above_of points i j
     → number ≡ (point_at points i).x *ℤ above_of points i j -ℤ (point_at points i).y *ℤ rightward_of points i j

@@ -12,7 +12,7 @@ use Rattle.pt_core.specs.ClosedWalk.{point_at, origin}
 use Rattle.pt_core.specs.declared.limits.TheConstants.{MOST_STEPS}
 use Rattle.pt_core.specs.OnPage.{IsOnPage, AreOnPage}
 use Rattle.prefix_moments.specs.declared.prefix.Prefix.{Prefix}
-use Rattle.prefix_moments.specs.declared.raw.Raw.{Raw}
+use Rattle.prefix_moments.specs.declared.raw.RawSums.{RawSums}
 use Rattle.prefix_moments.specs.Sums.{sum_of}
 use Rattle.prefix_moments.specs.Inner.Table.{raw_of, kept_of, prefix_of, both_of, less_of, no_prefix, IsTable, point_between, points_after, points_of}
 use Rattle.prefix_moments.proofs.Summing.{split}
@@ -30,7 +30,7 @@ point_same : (p q : Point) → p.x ≡ q.x → p.y ≡ q.y → p ≡ q
 point_same p q x y = ap (λ v. record { x = v; y = p.y }) x ∙ ap (λ v. record { x = q.x; y = v }) y
 
 -- no sum is below zero
-record IsNatural (r : Raw) : Type 0 where
+record IsNatural (r : RawSums) : Type 0 where
   x : pos 0 ≤ℤ r.x
   y : pos 0 ≤ℤ r.y
   xx : pos 0 ≤ℤ r.xx
@@ -79,7 +79,7 @@ pub next_prefix : (at : ℕ → Point) (k : ℕ) (p r : Prefix) (q : Point) → 
     → r.yy ≡ (p.yy + unsigned_abs q.y * unsigned_abs q.y) % 2 ^ 64
     → r ≡ kept_of (raw_of at (k + 1))
 next_prefix at k p r q on_page ep eq x y xx xy yy =
-    let s : Raw = raw_of at k in
+    let s : RawSums = raw_of at k in
     let z : Point = at k in
     let n = raw_natural at k on_page in
     let here = on_page k in
@@ -132,7 +132,7 @@ lap_is points on_page lap k a b m size beyond ea eb em =
     ∙ both_laps points on_page (k - lap) ∙ ap (λ n. prefix_of points n) end
 
 -- the sums themselves, none of which is cut
-abbrev pub whole_of : Raw → Prefix
+abbrev pub whole_of : RawSums → Prefix
 whole_of r = prefix (unsigned_abs r.x) (unsigned_abs r.y) (unsigned_abs r.xx) (unsigned_abs r.xy) (unsigned_abs r.yy)
 
 -- the sums over a segment, of those up to its end and those before it
@@ -163,7 +163,7 @@ natural_back : (z : ℤ) → pos 0 ≤ℤ z → pos (unsigned_abs z) ≡ z
 natural_back z h = omega (arith, ints)
 
 -- what `raw` gives of them: they fit
-pub whole_back : (points : List Point) → AreOnPage points → (i count : ℕ) (m : Prefix) (r : Raw) → count ≤ MOST_STEPS + 1
+pub whole_back : (points : List Point) → AreOnPage points → (i count : ℕ) (m : Prefix) (r : RawSums) → count ≤ MOST_STEPS + 1
     → m ≡ whole_of (raw_of (λ d. point_at points (i + d)) count)
     → r.x ≡ pos m.x → r.y ≡ pos m.y → (m.xx < 2 ^ 63 → r.xx ≡ pos m.xx) → (m.xy < 2 ^ 63 → r.xy ≡ pos m.xy) → (m.yy < 2 ^ 63 → r.yy ≡ pos m.yy)
     → r ≡ raw_of (λ d. point_at points (i + d)) count

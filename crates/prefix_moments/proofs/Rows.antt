@@ -5,7 +5,7 @@ use Rattle.std.specs.Prelude.{unsigned_abs}
 use Rattle.pt_core.specs.declared.point.Point.{Point}
 use Rattle.pt_core.specs.ClosedWalk.{point_at}
 use Rattle.pt_core.specs.declared.limits.TheConstants.{LONGEST_SIDE, MOST_STEPS}
-use Rattle.prefix_moments.specs.declared.raw.Raw.{Raw}
+use Rattle.prefix_moments.specs.declared.raw.RawSums.{RawSums}
 use Rattle.prefix_moments.specs.declared.sums.Sums.{Sums}
 use Rattle.pt_core.specs.OnPage.{IsOnPage, AreOnPage}
 use Rattle.prefix_moments.specs.Sums.{sum_of, sums_of, rightward_of, above_of, spread_of}
@@ -13,14 +13,14 @@ use Rattle.prefix_moments.specs.Inner.Table.{raw_of, IsRawOf, offsets_of, spread
 use Rattle.pt_core.proofs.Sizes.{product_most}
 use Rattle.prefix_moments.proofs.Summing.{sum_most, shifted, products_shifted, spread_is, squares_at_least}
 
-abbrev raw : ℤ → ℤ → ℤ → ℤ → ℤ → Raw
+abbrev raw : ℤ → ℤ → ℤ → ℤ → ℤ → RawSums
 raw x y xx xy yy = record { x = x; y = y; xx = xx; xy = xy; yy = yy }
 
 abbrev sums : ℕ → ℤ → ℤ → ℤ → ℤ → ℤ → Sums
 sums count x y xx xy yy = record { count = count; x = x; y = y; xx = xx; xy = xy; yy = yy }
 
 -- lists of sums are the same where their sums are
-pub raw_same : (r s : Raw) → r.x ≡ s.x → r.y ≡ s.y → r.xx ≡ s.xx → r.xy ≡ s.xy → r.yy ≡ s.yy → r ≡ s
+pub raw_same : (r s : RawSums) → r.x ≡ s.x → r.y ≡ s.y → r.xx ≡ s.xx → r.xy ≡ s.xy → r.yy ≡ s.yy → r ≡ s
 raw_same r s x y xx xy yy =
     ap (λ v. raw v r.y r.xx r.xy r.yy) x ∙ ap (λ v. raw s.x v r.xx r.xy r.yy) y ∙ ap (λ v. raw s.x s.y v r.xy r.yy) xx
     ∙ ap (λ v. raw s.x s.y s.xx v r.yy) xy ∙ ap (λ v. raw s.x s.y s.xx s.xy v) yy
@@ -39,7 +39,7 @@ raw_most at count on_page =
     }
 
 -- so are those of fewer points
-pub raw_more : (r : Raw) (count most : ℕ) → count ≤ most → IsRawOf count r → IsRawOf most r
+pub raw_more : (r : RawSums) (count most : ℕ) → count ≤ most → IsRawOf count r → IsRawOf most r
 raw_more r count most h small = record { x = omega arith; y = omega arith; xx = omega arith; xy = omega arith; yy = omega arith }
 
 pub sums_same : (r s : Sums) → r.count ≡ s.count → r.x ≡ s.x → r.y ≡ s.y → r.xx ≡ s.xx → r.xy ≡ s.xy → r.yy ≡ s.yy → r ≡ s
@@ -79,15 +79,15 @@ spread_at_least points i j =
     squares_at_least (λ d. rightward_of points i (i + d) *ℤ above_of points i j -ℤ above_of points i (i + d) *ℤ rightward_of points i j) (j - i + 1)
 
 -- sums that were worked out from a segment's own
-pub sums_by : (points : List Point) (i j : ℕ) (r : Raw) (x y : ℤ) (s : Sums)
+pub sums_by : (points : List Point) (i j : ℕ) (r : RawSums) (x y : ℤ) (s : Sums)
     → r ≡ raw_of (λ d. point_at points (i + d)) (j - i + 1) → x ≡ (point_at points i).x → y ≡ (point_at points i).y
     → s ≡ offsets_of r (j - i + 1) x y → s ≡ sums_of points i j
 sums_by points i j r x y s er ex ey es = es ∙ rw (er, ex, ey) (offsets_are points i j)
 
-pub segment_most : (points : List Point) → AreOnPage points → (i count : ℕ) (m : Raw) → count ≤ MOST_STEPS + 1
+pub segment_most : (points : List Point) → AreOnPage points → (i count : ℕ) (m : RawSums) → count ≤ MOST_STEPS + 1
     → m ≡ raw_of (λ d. point_at points (i + d)) count → IsRawOf (MOST_STEPS + 1) m
 segment_most points on_page i count m h e =
-    let P : Raw → Type 0 = λ v. IsRawOf (MOST_STEPS + 1) v in
+    let P : RawSums → Type 0 = λ v. IsRawOf (MOST_STEPS + 1) v in
     subst P (sym e) (raw_more _ count (MOST_STEPS + 1) h (raw_most (λ d. point_at points (i + d)) count (λ k. on_page (i + k))))
 
 -- the total that `spread` gives

@@ -1,16 +1,2 @@
--- What a path's table of sums holds.
---   raw_of: the sums over the first `count` of a run of points
---   IsRawOf: the sums are at most what `count` points give
---   no_prefix: the sums over no points
---   kept_of: as much of some sums as a row has
---   prefix_of: the row of the first `count` points of a path
---   both_of: the sums over two runs of points
---   less_of: the sums over a run of points without those over its first ones
---   point_between: the one point that the latter of two rows has more
---   points_after: the points that the rows after this one have more
---   points_of: the points whose sums a table holds
---   offsets_of: the sums of offsets from (x, y), for `count` points
---   spread_by: the sum of the squared cross products of some offsets with one offset
---   spread_from: the sum of the squared differences between some points' cross products with one offset and a number
---   IsTable: row number k has the sums over the first k points, for one lap round the path
+-- What inner contracts alone speak of: no promise rests on it.
 pub mod Table

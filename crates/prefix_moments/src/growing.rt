@@ -6,7 +6,7 @@ ghost use Rattle.pt_core.specs.declared.limits.TheConstants.{LONGEST_SIDE, MOST_
 ghost use Rattle.prefix_moments.specs.Sums.{above_of, rightward_of, spread_of, sums_of, IsPenalty};
 
 use crate::moments::{Moments, between};
-use crate::raw::{Raw, wrapped_spread};
+use crate::raw::{RawSums, wrapped_spread};
 use crate::start::root_below;
 use pt_core::Point;
 
@@ -116,7 +116,7 @@ impl<'a> Growing<'a> {
         ensures value { result ≡ unsigned_abs (spread_of self.now.moments.now self.now.from self.now.to) }
         ensures most { result < 2 ^ 48 }
     {
-        let sums = Raw {
+        let sums = RawSums {
             x: 0,
             y: 0,
             xx: self.xx,

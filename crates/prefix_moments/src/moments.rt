@@ -7,7 +7,7 @@ ghost use Rattle.prefix_moments.specs.Sums.{sums_of, spread_of, IsPenalty};
 ghost use Rattle.prefix_moments.specs.Inner.Table.{raw_of, prefix_of, IsRawOf, IsTable, offsets_of};
 
 use crate::prefix::Prefix;
-use crate::raw::{Raw, moved, moved_products, spread};
+use crate::raw::{RawSums, moved, moved_products, spread};
 use crate::sums::Sums;
 use pt_core::{LONGEST_SIDE, MOST_STEPS, NoMemory, Point, isqrt};
 use std::alloc::Global;
@@ -68,7 +68,7 @@ impl Moments {
     }
 
     /// The coordinates' own sums over the points from number `i` to number `j`.
-    fn segment(&self, i: u32, j: u32) -> Raw
+    fn segment(&self, i: u32, j: u32) -> RawSums
         requires start { i < length self.now }
         requires onwards { i < j }
         requires steps { j - i ≤ MOST_STEPS }
@@ -181,7 +181,7 @@ pub(crate) fn between(from: i32, to: i32) -> i64
 }
 
 /// The sums of the offsets of `count` points from the first of them, which is at (`x0`, `y0`).
-fn offsets(raw: Raw, count: u32, x0: i64, y0: i64) -> Sums
+fn offsets(raw: RawSums, count: u32, x0: i64, y0: i64) -> Sums
     requires count { count ≤ MOST_STEPS + 1 }
     requires raw { IsRawOf (MOST_STEPS + 1) raw }
     requires x0 { unsigned_abs x0 ≤ LONGEST_SIDE }

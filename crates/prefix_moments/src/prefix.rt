@@ -3,7 +3,7 @@ ghost use Rattle.std.specs.Prelude.{◌≡◌, ◌+◌, ◌-◌, ◌*◌, ◌%�
 ghost use Rattle.pt_core.specs.OnPage.{IsOnPage};
 ghost use Rattle.prefix_moments.specs.Inner.Table.{no_prefix, both_of, less_of, point_between};
 
-use crate::raw::Raw;
+use crate::raw::RawSums;
 use pt_core::{LONGEST_SIDE, Point};
 
 /// The sums of some points' coordinates modulo 2^32, and of their squares and products modulo 2^64.
@@ -88,14 +88,14 @@ impl Prefix {
     }
 
     /// The same sums, where they are small.
-    pub(crate) fn raw(self) -> Raw
+    pub(crate) fn raw(self) -> RawSums
         ensures x { result.x ≡ pos self.x }
         ensures y { result.y ≡ pos self.y }
         ensures xx { self.xx < 2 ^ 63 → result.xx ≡ pos self.xx }
         ensures xy { self.xy < 2 ^ 63 → result.xy ≡ pos self.xy }
         ensures yy { self.yy < 2 ^ 63 → result.yy ≡ pos self.yy }
     {
-        Raw {
+        RawSums {
             x: i64::from(self.x),
             y: i64::from(self.y),
             xx: self.xx.cast_signed(),

@@ -7,7 +7,7 @@ use pt_core::{LONGEST_SIDE, MOST_STEPS};
 
 /// The sums of some points' coordinates, of their squares and of their products.
 #[derive(Clone, Copy)]
-pub(crate) struct Raw {
+pub(crate) struct RawSums {
     pub(crate) x: i64,
     pub(crate) y: i64,
     pub(crate) xx: i64,
@@ -67,7 +67,7 @@ pub(crate) fn spread(xx: i64, xy: i64, yy: i64, right: i64, above: i64) -> i128
 
 /// The sum of the squared differences of the cross products from a number, of `count` points with these sums; as much
 /// of it as fits in 64 bits.
-pub(crate) fn wrapped_spread(sums: Raw, count: i64, right: i64, above: i64, number: i64) -> i64
+pub(crate) fn wrapped_spread(sums: RawSums, count: i64, right: i64, above: i64, number: i64) -> i64
     ensures { result ≡ int_wrap w64 (spread_from sums count right above number) }
 {
     let mixed = right.wrapping_mul(sums.xy).wrapping_mul(2);

@@ -1,71 +1,7 @@
--- The names of documents, from those of files or of the output.
---   dash: the name of standard input and of standard output
---   last_place: where the last such byte of a name stands
---   behind_place: the place behind this one
---   part_begins: where the last part of a name begins
---   place_behind: the place, where it stands behind the first one
---   suffix_begins: where the suffix of a name begins
---   stem_of: a name without its suffix
---   suffix_of: the suffix of a name
---   backend_suffix: the suffix of a backend's documents
---   base_name: the name by which the documents of a file go
---   document_name: the k-th document with a base name
---   count_of: how many documents have this base name
---   next_name: the next document with a base name
---   made_with: the base names after n more documents with this one
 pub mod Names
--- The lines that a program writes to standard error, and those of `potrace`.
---   program_line: a line of a program
---   file_line: its line about a file
---   file_page_line: its line about a page of a file, counted from 1
---   tracer: the tracer's name
---   bad_words: the words aren't the tracer's
---   out_of_memory: memory ran out
---   page_line: a line about a page of a file, counted from 1
---   not_opened: a file couldn't be opened
---   not_written: a document couldn't be written
---   trailing_line: the bytes after so many pages of a file begin no page
 pub mod Messages
--- What a run made, file by file: documents, and their pages.
---   most_pages: how many pages a run accepts
---   Past: what was made
---   no_past: nothing was made
---   past_with: so many documents more, of so many pages
---   documents_in: how many documents a file of so many pages has
---   documents_before: how many documents of its file come before that of a page
---   page_name: the name of the document of a page
---   past_file: a file of so many pages more
 pub mod Made
--- How a run ends, as a number.
---   code_of: the exit status
 pub mod Status
--- Documents in parts.
---   Part: a part of a document
---   part_in_pieces: a part of these pieces
---   whole: the one part of a whole document
---   prolog_text: what stands before all pages that are bound together
---   page_pieces: one of them, in pieces
---   trailer_text: what stands behind n of them
---   is_first_page: whether a page behind so many of its file is the first one
---   prolog_before: what stands before it
---   binding_of: how the pages of a file are bound in a backend's documents
---   page_part: the part that is a page
---   end_part: the part that ends a document of several pages
---   pages_text: the texts of pages, one behind another
---   file_text: the document of a file of pages
---   begun: a document is begun, where the part begins one
---   ended: the open document is ended, where the part ends it
---   with_part: the part is written
---   IsCutIn: the part was cut off
 pub mod Parts
--- What surrounds a run, as far as it is told.
---   Source: the inputs
---   source_of: what inputs tell
---   Told: what a sink tells
---   told_of: what this sink tells
---   Sinks: the outputs and the sink for messages
---   sinks_of: what outputs and a sink for messages tell
---   IsMessage: a message was said
 pub mod Told
--- What inner contracts alone speak of: no promise rests on it.
 pub mod Inner

@@ -28,6 +28,7 @@ pub record Told : Type 0 where
   pub faults : ℕ
   pub failures : Failures
 
+-- what this sink tells
 abbrev pub told_of : {A : Type 0} → SinkGhosts A → A → Told
 told_of of_sink sink =
     record { documents = of_sink.documents sink; faults = of_sink.faults sink; failures = of_sink.failures sink }

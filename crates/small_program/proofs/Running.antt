@@ -5,8 +5,8 @@ use Rattle.pt_core.specs.Files.{Lacks}
 use Rattle.run_output.specs.Names.{dash}
 use Rattle.run_output.specs.Told.{Sinks, Source, Told}
 use Rattle.small_program.specs.Input.{HasInput, TellsInput}
-use Rattle.small_program.specs.Outcome.{HasDone, IsProgramRun, OnlySays, TakesInput, Writes}
-use Rattle.small_program.specs.Inner.Outcome.{PutsReply}
+use Rattle.small_program.specs.ProgramRun.{HasDone, IsProgramRun, OnlySays, TakesInput, Writes}
+use Rattle.small_program.specs.Inner.ProgramRun.{PutsReply}
 use Rattle.small_program.specs.Reply.{IsReply}
 use Rattle.small_program.specs.Inner.Reply.{stop_ending, stop_line}
 use Rattle.small_program.specs.declared.ending.Ending.{Ending}
@@ -17,7 +17,7 @@ use Rattle.small_program.specs.declared.input.TheConstants.{MOST_BYTES}
 use Rattle.small_program.proofs.Taking.{is_not_missing, is_there, one_input}
 
 -- what is known where standard input isn't there whole
-pub record IsStopped (stop : InputStop) (source source_now : Source) : Type 0 where
+pub record IsInputStopped (stop : InputStop) (source source_now : Source) : Type 0 where
   pub opened : source_now.openings ≡ next_count source.openings
   pub too_long : stop ≡ stops.TooLong → (bytes : List ℕ) × HasInput source.files bytes × (MOST_BYTES < length bytes)
   pub unread : stop ≡ stops.Unread → (Lacks source.files dash × (source_now.faults ≡ source.faults)) ⊎ Rose source.faults source_now.faults
@@ -35,7 +35,7 @@ long_is_refused makes bytes text well long (inr (most, is, why)) = sym is
 
 -- the run ends where standard input does
 pub run_stopped : (makes : List ℕ → Ending → List ℕ → Type 0) (program : List ℕ) (words : ℕ) (stop : InputStop) (source source_now : Source) (old new : Sinks)
-    → words ≡ 0 → IsStopped stop source source_now → OnlySays (stop_line program stop) old new
+    → words ≡ 0 → IsInputStopped stop source source_now → OnlySays (stop_line program stop) old new
     → IsProgramRun makes program words (stop_ending stop) source source_now old new
 run_stopped makes program words stops.Unread source source_now old new none stopped says = record {
   outcome = (record { opened = stopped.opened; cause = stopped.unread refl }, says);

@@ -12,4 +12,4 @@ pub mod task;
 
 pub use ending::Ending;
 pub use program::{BAD_WORDS, run};
-pub use task::{Reply, Task};
+pub use task::{Replies, Reply};

@@ -1,13 +1,13 @@
 //! All that a program does.
 ghost use Rattle.std.specs.Prelude.{◌≡◌, ℕ, false, length, true};
 ghost use Rattle.run_output.specs.Told.{IsMessage, sinks_of, source_of, told_of};
-ghost use Rattle.small_program.specs.Outcome.{IsProgramRun, PutsText};
-ghost use Rattle.small_program.specs.Inner.Outcome.{PutsReply};
+ghost use Rattle.small_program.specs.ProgramRun.{IsProgramRun, PutsText};
+ghost use Rattle.small_program.specs.Inner.ProgramRun.{PutsReply};
 ghost use Rattle.small_program.specs.Inner.Reply.{reply_ending, reply_text, stop_ending, stop_line};
 
 use crate::ending::Ending;
 use crate::input::{InputStop, read_all};
-use crate::task::{Reply, Task};
+use crate::task::{Replies, Reply};
 use pt_core::{Inputs, Outputs, Sink};
 use run_output::{say_line, say_of_file, write_document};
 use std::alloc::Global;
@@ -19,7 +19,7 @@ pub const BAD_WORDS: &str = "bad arguments";
 /// answers how it ends. The program's name stands in front of what it says.
 ///
 /// After a fault of the outputs nothing more is written to them.
-pub fn run<I: Inputs, O: Outputs, E: Sink, T: Task>(
+pub fn run<I: Inputs, O: Outputs, E: Sink, T: Replies>(
     alloc: Global,
     program: &str,
     task: &T,

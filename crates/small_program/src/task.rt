@@ -6,7 +6,7 @@ ghost use Rattle.small_program.specs.declared.ending.Ending.{Ending};
 use pt_core::NoMemory;
 use std::alloc::Global;
 
-/// What a task makes of an input.
+/// What a program makes of an input.
 #[derive(Debug, Drop)]
 pub enum Reply {
     /// The document.
@@ -18,7 +18,7 @@ pub enum Reply {
 }
 
 /// What a program makes of its whole input. At most one ending and one text belong to an input.
-pub trait Task {
+pub trait Replies {
     /// Which ending belongs to an input, with which text: the document's, or why the input is refused.
     ghost makes: { Self → List ℕ → Ending → List ℕ → Type 0 };
 

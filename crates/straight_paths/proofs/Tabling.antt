@@ -8,7 +8,7 @@ use Rattle.straight_paths.specs.Inner.Cones.{IsSound}
 use Rattle.straight_paths.specs.Inner.Courses.{HasCourse, IsCourse, cone_of, no_course}
 use Rattle.straight_paths.specs.Straight.{IsStraight}
 use Rattle.straight_paths.specs.Inner.Tables.{IsWordTable, StandsFor, KeepsWords, LeadsToWord, count_at, course_at, digits_at}
-use Rattle.straight_paths.specs.Inner.Words.{IsStraightUpTo, TellsFront, TellsNext}
+use Rattle.straight_paths.specs.Inner.NextSteps.{IsStraightUpTo, TellsFront, TellsNext}
 use Rattle.straight_paths.specs.declared.course.Course.{Course}
 use Rattle.straight_paths.specs.declared.table.Table.{Table}
 use Rattle.straight_paths.proofs.Pieces.{none_is_straight, rest_of, shorter, without_first}

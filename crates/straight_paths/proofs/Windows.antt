@@ -10,7 +10,7 @@ use Rattle.straight_paths.specs.Inner.Strips.{IsStrip, StaysIn}
 use Rattle.straight_paths.specs.Inner.Sweeps.{IsEnd, IsEnough, IsSeen, IsTold, IsStraightBefore}
 use Rattle.straight_paths.specs.Inner.Tables.{StandsFor, KeepsWords, LeadsToWord, count_at, digits_at}
 use Rattle.straight_paths.specs.Inner.Tails.{IsAhead, IsStraightFor, IsTail, limit_of}
-use Rattle.straight_paths.specs.Inner.Words.{IsStraightUpTo, TellsNext}
+use Rattle.straight_paths.specs.Inner.NextSteps.{IsStraightUpTo, TellsNext}
 use Rattle.straight_paths.specs.declared.strip.Strip.{Strip}
 use Rattle.straight_paths.specs.declared.sweep.Seen.{Seen}
 use Rattle.straight_paths.specs.declared.table.Table.{Table}

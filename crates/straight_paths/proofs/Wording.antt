@@ -10,7 +10,7 @@ use Rattle.straight_paths.specs.Corners.{step_from}
 use Rattle.straight_paths.specs.Inner.Courses.{HasCourse, cone_of, wide_of}
 use Rattle.straight_paths.specs.Straight.{IsNear, IsStraight, Takes, TakesAllFour}
 use Rattle.straight_paths.specs.Inner.Tails.{way_along}
-use Rattle.straight_paths.specs.Inner.Words.{AreTaken}
+use Rattle.straight_paths.specs.Inner.NextSteps.{AreTaken}
 use Rattle.straight_paths.specs.declared.course.Course.{Course}
 use Rattle.straight_paths.specs.declared.vector.Vector.{Vector}
 use Rattle.straight_paths.proofs.Clear.{next_clear, next_holds}

@@ -4,7 +4,7 @@ ghost use Rattle.pt_core.specs.declared.point.Point.{Point};
 ghost use Rattle.straight_paths.specs.Inner.Codes.{coded_step};
 ghost use Rattle.straight_paths.specs.Corners.{step_from};
 ghost use Rattle.straight_paths.specs.Straight.{TakesAllFour};
-ghost use Rattle.straight_paths.specs.Inner.Words.{AreTaken};
+ghost use Rattle.straight_paths.specs.Inner.NextSteps.{AreTaken};
 
 /// Which of the four directions were taken.
 #[derive(Clone, Copy)]

@@ -7,7 +7,7 @@ ghost use Rattle.straight_paths.specs.Corners.{step_from};
 ghost use Rattle.straight_paths.specs.Inner.Courses.{IsCourse, cone_of, no_course, wide_of};
 ghost use Rattle.straight_paths.specs.Straight.{IsStraight};
 ghost use Rattle.straight_paths.specs.Inner.Tables.{IsWordTable, KeepsWords, LeadsToWord, StandsFor, count_at, course_at, digits_at};
-ghost use Rattle.straight_paths.specs.Inner.Words.{TellsFront};
+ghost use Rattle.straight_paths.specs.Inner.NextSteps.{TellsFront};
 
 use crate::course::Course;
 use crate::word::{LONGEST, Word};

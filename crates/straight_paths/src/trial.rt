@@ -30,7 +30,7 @@ pub(crate) struct Ends {
 
 /// What was found along a way.
 #[derive(Clone, Copy)]
-pub(crate) struct Trial {
+pub(crate) struct StripTrial {
     /// The strip along it, or None where the path doesn't stay in it.
     pub strip: Option<Strip>,
     /// Where the path is farthest across it; where it goes back by more than 1, its start alone.
@@ -155,7 +155,7 @@ fn simplest_strip(
 
 /// The strip along a way in which the path from this point stays for so many steps, if it does.
 #[inline(always)]
-fn strip_along(track: &Track, first: usize, most: usize, way: Vector) -> Trial
+fn strip_along(track: &Track, first: usize, most: usize, way: Vector) -> StripTrial
     requires first { first < length track.now }
     requires most { most < length track.now }
     requires short { IsShort 65535 way }
@@ -173,7 +173,7 @@ fn strip_along(track: &Track, first: usize, most: usize, way: Vector) -> Trial
         let across = way.cross(place);
         ends = ends.with(extent.across, across, next);
         let Some(farther) = extent.with(across, quarter.turned(place)) else {
-            return Trial {
+            return StripTrial {
                 strip: None,
                 ends: Ends::at_start(),
             };
@@ -181,7 +181,7 @@ fn strip_along(track: &Track, first: usize, most: usize, way: Vector) -> Trial
         extent = farther;
         steps = next;
     }
-    Trial {
+    StripTrial {
         strip: extent.strip(quarter, way),
         ends,
     }

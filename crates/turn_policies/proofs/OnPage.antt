@@ -9,7 +9,7 @@ use Rattle.turn_policies.specs.Heading.{end_x, end_y}
 use Rattle.turn_policies.specs.Boundary.{left_pixel, IsBoundary}
 
 -- an edge and its end lie on a page of this width and height, and it doesn't step below zero
-pub record IsOnPage (w h x y : ℕ) (d : Dir) : Type 0 where
+pub record IsEdgeOnPage (w h x y : ℕ) (d : Dir) : Type 0 where
   pub x_in : x ≤ w
   pub y_in : y ≤ h
   pub end_x_in : end_x x d ≤ w
@@ -24,7 +24,7 @@ south_west-in b w h (suc x) zero fits e = absurd (false≢true e)
 south_west-in b w h (suc x) (suc y) fits e =
     let f = fits x y e in (omega arith, omega (arith, f.0), omega arith, omega (arith, f.1))
 
-on_page : (b : Image) (w h x y : ℕ) (d : Dir) → Fits b w h → left_pixel (south_west b) x y d ≡ true → IsOnPage w h x y d
+on_page : (b : Image) (w h x y : ℕ) (d : Dir) → Fits b w h → left_pixel (south_west b) x y d ≡ true → IsEdgeOnPage w h x y d
 on_page b w h x y North fits e =
     let f = south_west-in b w h x (suc y) fits e in
     record { x_in = f.1; y_in = omega arith; end_x_in = f.1; end_y_in = f.3; west = λ k. cc; south = λ k. cc }
@@ -41,5 +41,5 @@ on_page b w h (suc x) y West fits e =
     record { x_in = f.1; y_in = f.3; end_x_in = omega arith; end_y_in = f.3; west = λ k. omega arith; south = λ k. cc }
 
 -- a boundary edge lies on the page
-pub IsOnPage-boundary : (b : Image) (w h : ℕ) (e : Edge) → Fits b w h → IsBoundary b e → IsOnPage w h e.x e.y e.heading
-IsOnPage-boundary b w h e fits edge = on_page b w h e.x e.y e.heading fits edge.black_left
+pub IsEdgeOnPage-boundary : (b : Image) (w h : ℕ) (e : Edge) → Fits b w h → IsBoundary b e → IsEdgeOnPage w h e.x e.y e.heading
+IsEdgeOnPage-boundary b w h e fits edge = on_page b w h e.x e.y e.heading fits edge.black_left

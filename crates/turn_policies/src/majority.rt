@@ -2,7 +2,7 @@
 ghost use Rattle.std.specs.Prelude.{◌≡◌, ℕ, ◌≤◌, nat_abs};
 ghost use Rattle.bit_image.specs.Image.{Image};
 ghost use Rattle.bit_image.specs.Page.{image_of};
-ghost use Rattle.turn_policies.specs.Corner.{IsCorner};
+ghost use Rattle.turn_policies.specs.PixelCorner.{IsCorner};
 ghost use Rattle.turn_policies.specs.Majority.{black_in_ring, major};
 ghost use Rattle.turn_policies.specs.Inner.Square.{IsSquare};
 

@@ -3,7 +3,7 @@ ghost use Rattle.std.specs.Prelude.{◌≡◌, ◌≤◌, nat_abs};
 ghost use Rattle.bit_image.specs.Image.{south_west};
 ghost use Rattle.bit_image.specs.Page.{image_of};
 ghost use Rattle.turn_policies.specs.Boundary.{left_pixel, right_pixel, IsBoundary};
-ghost use Rattle.turn_policies.specs.Corner.{IsCorner};
+ghost use Rattle.turn_policies.specs.PixelCorner.{IsCorner};
 ghost use Rattle.turn_policies.specs.Majority.{major};
 ghost use Rattle.turn_policies.specs.Turn.{goes_right, turn, next};
 

@@ -1,6 +1,6 @@
 //! What was found of other vertices.
 ghost use Rattle.std.specs.Prelude.{◌≡◌, ℕ, true};
-ghost use Rattle.vertex_adjust.specs.Inner.Bounds.{IsSpread};
+ghost use Rattle.vertex_adjust.specs.Inner.LineBounds.{IsSpread};
 ghost use Rattle.vertex_adjust.specs.Inner.Line.{IsNormal};
 ghost use Rattle.vertex_adjust.specs.Inner.Quadratic.{IsErrorOver, IsQuadratic, IsLeastShift};
 ghost use Rattle.vertex_adjust.specs.Vertex.{IsCandidate, IsLeast};

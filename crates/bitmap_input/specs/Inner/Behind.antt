@@ -3,7 +3,7 @@ use Rattle.std.specs.Prelude.{◌≡◌, ℕ, ◌+◌, ◌-◌, Bool, List, leng
 use Rattle.bit_image.specs.Page.{Page}
 use Rattle.bitmap_input.specs.Cut.{Cut, ◌>>=◌}
 use Rattle.bitmap_input.specs.Cut.Cut.{Takes, Stops}
-use Rattle.bitmap_input.specs.Parts.{spaces}
+use Rattle.bitmap_input.specs.PageParts.{spaces}
 use Rattle.bitmap_input.specs.Raw.{Raw, IsShown}
 use Rattle.bitmap_input.specs.Front.{Magic, magic, body}
 use Rattle.bitmap_input.specs.declared.stop.Stop.{Stop}

@@ -1,13 +1,13 @@
 -- The bytes of a BMP header in the program, and what it makes of them.
 use Rattle.std.specs.Prelude.{◌≡◌, ℕ, ◌+◌, ◌-◌, ◌^◌, ◌≤◌, ◌<◌, true, false, Bool, List, length, slice_index_or, suc, ◌*◌, ◌/◌, reverse, if◌then◌else◌, Option, Some, None, Result, Ok, Err}
 use Rattle.pt_core.specs.declared.limits.TheConstants.{LONGEST_SIDE}
-use Rattle.bitmap_input.specs.Cut.{Ending, Cut, ◌>>=◌}
+use Rattle.bitmap_input.specs.Cut.{FileEnd, Cut, ◌>>=◌}
 use Rattle.bitmap_input.specs.Cut.Cut.{Takes, Stops}
 use Rattle.bitmap_input.specs.Inner.Reading.{cause_of}
 use Rattle.bitmap_input.specs.Reading.Cause.{Says}
 use Rattle.bitmap_input.specs.Sides.{}
 use Rattle.bitmap_input.specs.BmpHeader.{file_size, pixel_offset, header_size, is_short, bits, is_known_depth, width, height, is_top_down, is_known_size, is_known_kind, mask_bytes, palette_length, color_bytes, palette_end}
-use Rattle.bitmap_input.specs.Parts.{block, repeated}
+use Rattle.bitmap_input.specs.PageParts.{block, repeated}
 use Rattle.bitmap_input.specs.Raw.{Raw, Entry, black}
 use Rattle.bitmap_input.specs.Raw.Entry.{Color}
 use Rattle.bitmap_input.specs.BmpRaster.{color_at, bit_at, half_at, palette_color, color_row}
@@ -87,7 +87,7 @@ pub record IsReadable (h : Header) : Type 0 where
 -- a check that takes no bytes answers so, whatever the bytes
 abbrev pub Passes : {X A : Type 0} → (X → A → Type 0) → (List ℕ → Cut A) → Result X Stop → Type 0
 Passes {A = A} is part (Ok x) = (a : A) × is x a × ((bytes : List ℕ) → part bytes ≡ Takes false a bytes)
-Passes is part (Err s) = (ending : Ending) × (cause_of s ≡ Says ending) × ((bytes : List ℕ) → part bytes ≡ Stops false ending)
+Passes is part (Err s) = (ending : FileEnd) × (cause_of s ≡ Says ending) × ((bytes : List ℕ) → part bytes ≡ Stops false ending)
 
 -- a table of what colours of a palette are black, whatever their number
 abbrev pub IsPaletteTable : ℕ → Bool → (ℕ → Entry) → List Bool → Type 0
@@ -110,9 +110,11 @@ row_place false height i = i
 
 -- What follows a header, by what the program keeps of it.
 
+-- the bytes of a row, which are filled up to four
 abbrev pub row_bytes_by : Header → ℕ
 row_bytes_by h = 4 * ((h.width * bits_in h.depth + 31) / 32)
 
+-- the raw page of these rows, as the file holds them
 abbrev pub picture_by : Header → List (List Entry) → Raw
 picture_by h rows = record {
   width = h.width;

@@ -1,6 +1,6 @@
 -- The reader of a gray page, and what its answers say of the file.
 -- These serve inner contracts alone: no promise rests on them.
-use Rattle.bitmap_input.specs.Cut.Ending.{End, Trailing, Refused}
+use Rattle.bitmap_input.specs.Cut.FileEnd.{End, Trailing, Refused}
 use Rattle.bitmap_input.specs.Reading.{Cause}
 use Rattle.bitmap_input.specs.Reading.Cause.{Says, Device, Memory}
 

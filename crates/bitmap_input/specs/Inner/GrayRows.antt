@@ -2,7 +2,7 @@
 -- and then one row after another.
 -- These serve inner contracts alone: no promise rests on them.
 use Rattle.std.specs.Prelude.{◌≡◌, ℕ, Bool, false, List, Result, Ok, Err}
-use Rattle.bitmap_input.specs.Cut.{Ending, Cut}
+use Rattle.bitmap_input.specs.Cut.{FileEnd, Cut}
 use Rattle.bitmap_input.specs.Cut.Cut.{Takes, Stops}
 use Rattle.bitmap_input.specs.Inner.Reading.{cause_of}
 use Rattle.bitmap_input.specs.Reading.Cause.{Says}
@@ -12,4 +12,4 @@ use Rattle.bitmap_input.specs.declared.stop.Stop.{Stop}
 abbrev pub ChecksKind : (List ℕ → Cut Bool) → Result Bool Stop → Type 0
 ChecksKind kind (Ok plain) = (bytes : List ℕ) → kind bytes ≡ Takes false plain bytes
 ChecksKind kind (Err stop) =
-    (ending : Ending) × (cause_of stop ≡ Says ending) × ((bytes : List ℕ) → kind bytes ≡ Stops false ending)
+    (ending : FileEnd) × (cause_of stop ≡ Says ending) × ((bytes : List ℕ) → kind bytes ≡ Stops false ending)

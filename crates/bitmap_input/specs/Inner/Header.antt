@@ -1,10 +1,10 @@
 -- The header of a page in the program: its format, its sides and its sample for white.
 use Rattle.std.specs.Prelude.{◌≡◌, ℕ, false, List, Result, Ok, Err}
 use Rattle.bitmap_input.specs.Cut.Cut.{Takes, Stops}
-use Rattle.bitmap_input.specs.Cut.{Ending}
+use Rattle.bitmap_input.specs.Cut.{FileEnd}
 use Rattle.bitmap_input.specs.Front.{Magic, checked, checked_maxval}
 use Rattle.bitmap_input.specs.Front.Magic.{PlainBits, RawBits, PlainSamples, RawSamples, Picture}
-use Rattle.bitmap_input.specs.Inner.Run.{IsCapped}
+use Rattle.bitmap_input.specs.Inner.ByteRuns.{IsCapped}
 use Rattle.bitmap_input.specs.Inner.Reading.{cause_of}
 use Rattle.bitmap_input.specs.Reading.Cause.{Says}
 use Rattle.bitmap_input.specs.declared.stop.Stop.{Stop}
@@ -36,7 +36,7 @@ Checks x y (Ok s) =
     (width ≡ s.width) × (height ≡ s.height) × ((bytes : List ℕ) → checked width height bytes ≡ Takes false (width, height) bytes)
 Checks x y (Err stop) =
     (width height : ℕ) → IsCapped x width → IsCapped y height →
-    (ending : Ending) × (cause_of stop ≡ Says ending) × ((bytes : List ℕ) → checked width height bytes ≡ Stops false ending)
+    (ending : FileEnd) × (cause_of stop ≡ Says ending) × ((bytes : List ℕ) → checked width height bytes ≡ Stops false ending)
 
 -- a number of a header, maybe cut where it is too large, is the sample for white of a page or not, as
 -- the number itself is
@@ -45,4 +45,4 @@ ChecksMaxval x (Ok maxval) =
     (n : ℕ) → IsCapped x n → (n ≡ maxval) × ((bytes : List ℕ) → checked_maxval n bytes ≡ Takes false n bytes)
 ChecksMaxval x (Err stop) =
     (n : ℕ) → IsCapped x n →
-    (ending : Ending) × (cause_of stop ≡ Says ending) × ((bytes : List ℕ) → checked_maxval n bytes ≡ Stops false ending)
+    (ending : FileEnd) × (cause_of stop ≡ Says ending) × ((bytes : List ℕ) → checked_maxval n bytes ≡ Stops false ending)

@@ -1,4 +1,4 @@
--- Reading from inputs through a window: what is taken from the inputs, and what part of a page the
+-- Reading from inputs through a buffer: what is taken from the inputs, and what part of a page the
 -- bytes at hand and those taken are.
 -- These serve inner contracts alone: no promise rests on them.
 use Rattle.std.specs.Prelude.{◌≡◌, ℕ, ◌≤◌, Bool, true, false, List, ◌++◌, Option, Result, Ok, Err}
@@ -8,7 +8,7 @@ use Rattle.pt_core.specs.declared.inputs.Inputs.{Ghosts}
 use Rattle.bitmap_input.specs.declared.stop.Stop.{Stop}
 use Rattle.bitmap_input.specs.declared.stop.Stop.TheVariants as stop
 use Rattle.bitmap_input.specs.Cut.{Cut, is_by_end}
-use Rattle.bitmap_input.specs.Cut.Ending.{End, Trailing}
+use Rattle.bitmap_input.specs.Cut.FileEnd.{End, Trailing}
 use Rattle.bitmap_input.specs.Cut.Cut.{Takes, Stops}
 use Rattle.bitmap_input.specs.Reading.{Buffered, Moves, Cause, cause_of_fault, AreNeeded}
 use Rattle.bitmap_input.specs.Reading.Cause.{Says, Device, Memory}

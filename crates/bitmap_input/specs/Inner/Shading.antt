@@ -2,7 +2,7 @@
 use Rattle.std.specs.Prelude.{◌≡◌, ℕ, ◌+◌, ◌*◌, ◌≤◌, Bool, List, min, nat_le, get_or}
 use Rattle.bit_image.specs.Image.{differ}
 use Rattle.bitmap_input.specs.Front.{greatest_maxval}
-use Rattle.bitmap_input.specs.Inner.Run.{cap}
+use Rattle.bitmap_input.specs.Inner.ByteRuns.{cap}
 use Rattle.bitmap_input.specs.Samples.{PixelSamples, samples_in, is_wide, samples}
 use Rattle.bitmap_input.specs.declared.channels.Channels.{Channels}
 use Rattle.bitmap_input.specs.declared.channels.Channels.TheVariants.{Gray, Color}
@@ -32,8 +32,8 @@ abbrev pub black_of : (s : Shading) → PixelSamples s.channels → Bool
 black_of s a = is_black_at s (brightness s.channels a)
 
 -- whether the pixel in column x of a row of bytes is black
-abbrev pub black_in : Shading → List ℕ → ℕ → Bool
-black_in s row x = is_black_at s (brightness_at s.channels (samples (is_wide s.maxval) row) x)
+abbrev pub black_in_bytes : Shading → List ℕ → ℕ → Bool
+black_in_bytes s row x = is_black_at s (brightness_at s.channels (samples (is_wide s.maxval) row) x)
 
 -- the sample for white is at most 65535, and no pixel that is brighter than white is black
 pub record IsInRange (s : Shading) : Type 0 where

@@ -2,7 +2,7 @@
 use Rattle.std.specs.Prelude.{◌≡◌, ℕ, ◌*◌, Bool, List}
 use Rattle.bit_image.specs.Image.{differ}
 use Rattle.bitmap_input.specs.Cut.{Cut}
-use Rattle.bitmap_input.specs.Parts.{repeated}
+use Rattle.bitmap_input.specs.PageParts.{repeated}
 use Rattle.bitmap_input.specs.Raw.{Entry, black, row_bytes}
 use Rattle.bitmap_input.specs.Raw.Entry.{Bit}
 use Rattle.bitmap_input.specs.Front.{plain_pixel, raw_row}

@@ -1,12 +1,12 @@
 //! The first bytes of a BMP picture, behind its magic.
 ghost use Rattle.std.specs.Prelude.{◌≡◌, ℕ, ◌+◌, ◌-◌, ◌<◌, ◌≤◌, true, false, length, take, [], ◌++◌, OnOk};
 ghost use Rattle.bitmap_input.specs.Inner.Reading.{Reads, Leaves};
-ghost use Rattle.bitmap_input.specs.Parts.{block};
+ghost use Rattle.bitmap_input.specs.PageParts.{block};
 ghost use Rattle.bitmap_input.specs.BmpHeader.{two_at, four_at};
 
+use crate::buffer::Buffer;
 use crate::raw::read_block;
 use crate::stop::Stop;
-use crate::window::Window;
 use pt_core::Inputs;
 use std::marker::Model;
 
@@ -30,23 +30,23 @@ impl Model for Head {
     ghost invariant = { λ h. h.len ≤ 136 };
 }
 
-/// Reads the bytes of a buffer between two places.
+/// Fills the bytes between two places.
 fn read_into<I: Inputs>(
-    window: &mut Window,
+    buffer: &mut Buffer,
     inputs: &mut I,
-    buffer: &mut [u8],
+    bytes: &mut [u8],
     from: usize,
     to: usize,
 ) -> Result<(), Stop>
     requires opened { I.is_opened inputs.old ≡ true }
     requires order { from ≤ to }
-    requires within { to ≤ length buffer.old }
-    ensures reads { Reads (λ _ more. take to buffer.new ≡ take from buffer.old ++ more)
-        (block (to - from)) window.old (I.files inputs.old) result window.new (I.files inputs.new) }
-    ensures same_room { length buffer.new ≡ length buffer.old }
+    requires within { to ≤ length bytes.old }
+    ensures reads { Reads (λ _ more. take to bytes.new ≡ take from bytes.old ++ more)
+        (block (to - from)) buffer.old (I.files inputs.old) result buffer.new (I.files inputs.new) }
+    ensures same_room { length bytes.new ≡ length bytes.old }
     ensures leaves { Leaves I.Inputs result inputs.old inputs.new }
 {
-    read_block(window, inputs, &mut buffer[from..to])
+    read_block(buffer, inputs, &mut bytes[from..to])
 }
 
 impl Head {
@@ -63,19 +63,19 @@ impl Head {
     /// Reads n more bytes.
     pub(crate) fn read<I: Inputs>(
         &mut self,
-        window: &mut Window,
+        buffer: &mut Buffer,
         inputs: &mut I,
         n: usize,
     ) -> Result<(), Stop>
         requires opened { I.is_opened inputs.old ≡ true }
         requires room { length self.old + n ≤ 136 }
-        ensures reads { Reads (λ _ more. self.new ≡ self.old ++ more) (block n) window.old
-            (I.files inputs.old) result window.new (I.files inputs.new) }
+        ensures reads { Reads (λ _ more. self.new ≡ self.old ++ more) (block n) buffer.old
+            (I.files inputs.old) result buffer.new (I.files inputs.new) }
         ensures reach { OnOk result (length self.new ≡ length self.old + n) }
         ensures leaves { Leaves I.Inputs result inputs.old inputs.new }
     {
         let end = self.len + n;
-        read_into(window, inputs, &mut self.bytes, self.len, end)?;
+        read_into(buffer, inputs, &mut self.bytes, self.len, end)?;
         self.len = end;
         Ok(())
     }

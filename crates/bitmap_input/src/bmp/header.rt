@@ -10,11 +10,11 @@ use crate::bmp::fields::{
     palette_end, palette_length, pixel_depth, width,
 };
 use crate::bmp::head::Head;
+use crate::buffer::Buffer;
 use crate::fault::InFault;
 use crate::header::check;
 use crate::number::CAP;
 use crate::stop::Stop;
-use crate::window::Window;
 use pt_core::Inputs;
 
 /// What the header of a BMP picture says.
@@ -38,15 +38,15 @@ pub(crate) struct Header {
 }
 
 /// The header up to its size, which is a known one.
-fn read_start<I: Inputs>(window: &mut Window, inputs: &mut I, head: &mut Head) -> Result<(), Stop>
+fn read_start<I: Inputs>(buffer: &mut Buffer, inputs: &mut I, head: &mut Head) -> Result<(), Stop>
     requires opened { I.is_opened inputs.old ≡ true }
     requires none { head.old ≡ [] }
-    ensures reads { Reads (λ _ bytes. bytes ≡ head.new) start window.old
-        (I.files inputs.old) result window.new (I.files inputs.new) }
+    ensures reads { Reads (λ _ bytes. bytes ≡ head.new) start buffer.old
+        (I.files inputs.old) result buffer.new (I.files inputs.new) }
     ensures begun { OnOk result (IsHeaderStart head.new) }
     ensures leaves { Leaves I.Inputs result inputs.old inputs.new }
 {
-    head.read(window, inputs, 16)?;
+    head.read(buffer, inputs, 16)?;
     if is_known_size(head.four_at(14)) {
         Ok(())
     } else {
@@ -55,17 +55,17 @@ fn read_start<I: Inputs>(window: &mut Window, inputs: &mut I, head: &mut Head) -
 }
 
 /// The rest of the header, of a kind that is read.
-fn read_info<I: Inputs>(window: &mut Window, inputs: &mut I, head: &mut Head) -> Result<Depth, Stop>
+fn read_info<I: Inputs>(buffer: &mut Buffer, inputs: &mut I, head: &mut Head) -> Result<Depth, Stop>
     requires opened { I.is_opened inputs.old ≡ true }
     requires begun { IsHeaderStart head.old }
-    ensures reads { Reads (λ _ bytes. bytes ≡ head.new) (info head.old) window.old
-        (I.files inputs.old) result window.new (I.files inputs.new) }
+    ensures reads { Reads (λ _ bytes. bytes ≡ head.new) (info head.old) buffer.old
+        (I.files inputs.old) result buffer.new (I.files inputs.new) }
     ensures begun { OnOk result (IsInfo head.new) }
     ensures depth { IfOk result (λ d. bits head.new ≡ bits_in d) }
     ensures leaves { Leaves I.Inputs result inputs.old inputs.new }
 {
     let size = head.four_at(14) as usize;
-    head.read(window, inputs, size - 4)?;
+    head.read(buffer, inputs, size - 4)?;
     match pixel_depth(head) {
         Some(depth) => Ok(depth),
         None => Err(Stop::Fault(InFault::BmpKind)),
@@ -74,7 +74,7 @@ fn read_info<I: Inputs>(window: &mut Window, inputs: &mut I, head: &mut Head) ->
 
 /// The masks, where they stand behind the header.
 fn read_masks<I: Inputs>(
-    window: &mut Window,
+    buffer: &mut Buffer,
     inputs: &mut I,
     head: &mut Head,
     depth: Depth,
@@ -82,15 +82,15 @@ fn read_masks<I: Inputs>(
     requires opened { I.is_opened inputs.old ≡ true }
     requires begun { IsInfo head.old }
     requires kind { bits head.old ≡ bits_in depth }
-    ensures reads { Reads (λ _ bytes. bytes ≡ head.new) (masks head.old) window.old
-        (I.files inputs.old) result window.new (I.files inputs.new) }
+    ensures reads { Reads (λ _ bytes. bytes ≡ head.new) (masks head.old) buffer.old
+        (I.files inputs.old) result buffer.new (I.files inputs.new) }
     ensures whole { OnOk result (IsWholeHeader head.new) }
     ensures kind { OnOk result (bits head.new ≡ bits_in depth) }
     ensures colors { OnOk result (has_known_colors head.new ≡ true) }
     ensures leaves { Leaves I.Inputs result inputs.old inputs.new }
 {
     let n = mask_bytes(head) as usize;
-    head.read(window, inputs, n)?;
+    head.read(buffer, inputs, n)?;
     if has_known_colors(head, depth) {
         Ok(())
     } else {
@@ -127,16 +127,16 @@ fn describe(head: &Head, depth: Depth) -> Result<Header, Stop>
 }
 
 /// The header with its masks.
-pub(crate) fn read_header<I: Inputs>(window: &mut Window, inputs: &mut I) -> Result<Header, Stop>
+pub(crate) fn read_header<I: Inputs>(buffer: &mut Buffer, inputs: &mut I) -> Result<Header, Stop>
     requires { I.is_opened inputs.old ≡ true }
-    ensures reads { Reads IsHeader header window.old (I.files inputs.old) result window.new
+    ensures reads { Reads IsHeader header buffer.old (I.files inputs.old) result buffer.new
         (I.files inputs.new) }
     ensures readable { IfOk result IsReadable }
     ensures leaves { Leaves I.Inputs result inputs.old inputs.new }
 {
     let mut head = Head::new();
-    read_start(window, inputs, &mut head)?;
-    let depth = read_info(window, inputs, &mut head)?;
-    read_masks(window, inputs, &mut head, depth)?;
+    read_start(buffer, inputs, &mut head)?;
+    let depth = read_info(buffer, inputs, &mut head)?;
+    read_masks(buffer, inputs, &mut head, depth)?;
     describe(&head, depth)
 }

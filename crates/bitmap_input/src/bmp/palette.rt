@@ -1,16 +1,16 @@
 //! The palette of a BMP picture.
 ghost use Rattle.std.specs.Prelude.{◌≡◌, ℕ, ◌*◌, ◌≤◌, ◌<◌, true, length};
 ghost use Rattle.bitmap_input.specs.Inner.Reading.{Reads, Leaves};
-ghost use Rattle.bitmap_input.specs.Parts.{block};
+ghost use Rattle.bitmap_input.specs.PageParts.{block};
 ghost use Rattle.bitmap_input.specs.Raw.{black};
 ghost use Rattle.bitmap_input.specs.BmpRaster.{palette_color};
 ghost use Rattle.bitmap_input.specs.Inner.BmpHead.{IsPaletteTable, IsReadable};
 
 use crate::bmp::header::Header;
 use crate::bmp::pixels::Tone;
+use crate::buffer::Buffer;
 use crate::raw::read_block;
 use crate::stop::Stop;
-use crate::window::Window;
 use pt_core::Inputs;
 
 /// Whether a colour of a palette is a black pixel.
@@ -49,7 +49,7 @@ fn fill_table(tone: &Tone, colors: u32, size: u32, palette: &[u8], table: &mut [
 
 /// Reads the palette into its room, and the table of it.
 fn read_colors<I: Inputs>(
-    window: &mut Window,
+    buffer: &mut Buffer,
     inputs: &mut I,
     header: &Header,
     tone: &Tone,
@@ -62,12 +62,12 @@ fn read_colors<I: Inputs>(
     requires room { length table.old ≡ 256 }
     ensures reads { Reads (λ _ palette. IsPaletteTable tone.now.level tone.now.invert
         (palette_color header.now.palette_length header.now.color_bytes palette) table.new)
-        (block (header.now.color_bytes * header.now.palette_length)) window.old
-        (I.files inputs.old) result window.new (I.files inputs.new) }
+        (block (header.now.color_bytes * header.now.palette_length)) buffer.old
+        (I.files inputs.old) result buffer.new (I.files inputs.new) }
     ensures room { length table.new ≡ 256 }
     ensures leaves { Leaves I.Inputs result inputs.old inputs.new }
 {
-    read_block(window, inputs, palette)?;
+    read_block(buffer, inputs, palette)?;
     fill_table(
         tone,
         header.palette_length,
@@ -83,7 +83,7 @@ const ROOM: usize = 1024;
 
 /// Reads the palette into a table of which of its colours are black pixels.
 pub(crate) fn read_palette<I: Inputs>(
-    window: &mut Window,
+    buffer: &mut Buffer,
     inputs: &mut I,
     header: &Header,
     tone: &Tone,
@@ -94,12 +94,12 @@ pub(crate) fn read_palette<I: Inputs>(
     requires room { length table.old ≡ 256 }
     ensures reads { Reads (λ _ palette. IsPaletteTable tone.now.level tone.now.invert
         (palette_color header.now.palette_length header.now.color_bytes palette) table.new)
-        (block (header.now.color_bytes * header.now.palette_length)) window.old
-        (I.files inputs.old) result window.new (I.files inputs.new) }
+        (block (header.now.color_bytes * header.now.palette_length)) buffer.old
+        (I.files inputs.old) result buffer.new (I.files inputs.new) }
     ensures room { length table.new ≡ 256 }
     ensures leaves { Leaves I.Inputs result inputs.old inputs.new }
 {
-    let mut buffer = [0u8; ROOM];
+    let mut palette = [0u8; ROOM];
     let n = (header.color_bytes * header.palette_length) as usize;
-    read_colors(window, inputs, header, tone, &mut buffer[..n], table)
+    read_colors(buffer, inputs, header, tone, &mut palette[..n], table)
 }

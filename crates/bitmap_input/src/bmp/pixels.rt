@@ -4,7 +4,7 @@ ghost use Rattle.std.specs.List.{range_with_len};
 ghost use Rattle.bit_image.specs.Words.{is_one};
 ghost use Rattle.bit_image.specs.Page.{Page, SameSides, image_of};
 ghost use Rattle.bitmap_input.specs.Inner.Reading.{Reads, Leaves};
-ghost use Rattle.bitmap_input.specs.Parts.{block, repeated};
+ghost use Rattle.bitmap_input.specs.PageParts.{block, repeated};
 ghost use Rattle.bitmap_input.specs.Raw.{Entry, black};
 ghost use Rattle.bitmap_input.specs.Raw.Entry.{Color as color};
 ghost use Rattle.bitmap_input.specs.BmpRaster.{color_at, bit_at, half_at, palette_color, color_row};
@@ -13,9 +13,9 @@ ghost use Rattle.bitmap_input.specs.Inner.Raster.{with_row, with_placed};
 
 use crate::bmp::fields::Depth;
 use crate::bmp::header::Header;
+use crate::buffer::Buffer;
 use crate::raw::{place_row as place_bits, read_block};
 use crate::stop::Stop;
-use crate::window::Window;
 use crate::words::with_pixel;
 use bit_image::Bitmap;
 use pt_core::{Inputs, LONGEST_SIDE};
@@ -159,7 +159,7 @@ fn row_place(top_down: bool, height: u32, i: u32) -> u32
 
 /// The rows of a picture, painted on the page, with room for one of them.
 pub(crate) fn read_rows<I: Inputs>(
-    window: &mut Window,
+    buffer: &mut Buffer,
     inputs: &mut I,
     page: &mut Bitmap,
     header: &Header,
@@ -177,14 +177,14 @@ pub(crate) fn read_rows<I: Inputs>(
         ≡ with_placed (row_place header.now.top_down page.old.height) (image_of page.old) 0
         (map (map (black tone.now.level tone.now.invert)) rows))
         (repeated (color_row (row_bytes_by header.now)
-        (bits_in header.now.depth) color_of page.old.width) page.old.height) window.old
-        (I.files inputs.old) result window.new (I.files inputs.new) }
+        (bits_in header.now.depth) color_of page.old.width) page.old.height) buffer.old
+        (I.files inputs.old) result buffer.new (I.files inputs.new) }
     ensures sides { SameSides page.old page.new }
     ensures leaves { Leaves I.Inputs result inputs.old inputs.new }
 {
     let height = page.height();
     for i in 0..height {
-        read_block(window, inputs, row)?;
+        read_block(buffer, inputs, row)?;
         let y = row_place(header.top_down, height, i);
         place_row(page, y, header.depth, tone, table, row);
     }

@@ -6,6 +6,7 @@ use Rattle.small_program.specs.declared.ending.Ending.{Ending}
 use Rattle.small_program.specs.declared.ending.Ending.TheVariants as ending
 use Rattle.check_run.specs.Verdict.{IsCheckReply, verdict_line}
 
+-- no two endings belong to a text
 pub one_ending : (bytes a b : List ℕ) (this that : Ending) → IsCheckReply bytes this a → IsCheckReply bytes that b → this ≡ that
 one_ending bytes a b ending.Done ending.Done x y = refl
 one_ending bytes a b ending.Done ending.Wrong x y = absurd (let e : Right x.0 ≡ Wrong y.0 = one_verdict bytes (Right x.0) (Wrong y.0) x.1 y.1 in cc)
@@ -41,6 +42,7 @@ one_of_ending bytes a b ending.Unread x y = absurd x
 one_of_ending bytes a b ending.Unwritten x y = absurd x
 one_of_ending bytes a b ending.OutOfMemory x y = absurd x
 
+-- no two lines belong to a text
 pub one_line : (bytes a b : List ℕ) (this that : Ending) → IsCheckReply bytes this a → IsCheckReply bytes that b → a ≡ b
 one_line bytes a b this that x y =
     one_of_ending bytes a b that (subst (λ (e : Ending). IsCheckReply bytes e a) (one_ending bytes a b this that x y) x) y

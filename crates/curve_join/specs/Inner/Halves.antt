@@ -6,13 +6,14 @@ use Rattle.curve_join.specs.declared.touch.Stretch.{Stretch}
 abbrev pub middle_value : Stretch → ℤ
 middle_value s = (s.start +ℤ s.between) +ℤ (s.between +ℤ s.end)
 
--- four times its coefficients on the first half, and on the second
+-- four times its coefficients on the first half
 pub record IsFirstHalf (s half : Stretch) : Type 0 where
   pub last : half.last ≡ 2 * s.last
   pub start : half.start ≡ pos 4 *ℤ s.start
   pub between : half.between ≡ pos 2 *ℤ (s.start +ℤ s.between)
   pub end : half.end ≡ middle_value s
 
+-- four times its coefficients on the second half
 pub record IsSecondHalf (s half : Stretch) : Type 0 where
   pub last : half.last ≡ 2 * s.last + 1
   pub start : half.start ≡ middle_value s

@@ -7,7 +7,7 @@ use Rattle.pt_core.specs.Files.{Contents, Files, unread}
 use Rattle.bit_image.specs.Page.{IsPage, Page as Pixels}
 use Rattle.bitmap_input.specs.declared.fault.InFault.TheVariants as fault
 use Rattle.bitmap_input.specs.Cut.{is_by_end}
-use Rattle.bitmap_input.specs.Cut.Ending.{End, Trailing}
+use Rattle.bitmap_input.specs.Cut.FileEnd.{End, Trailing}
 use Rattle.bitmap_input.specs.Inner.FaultText.{fault_text}
 use Rattle.bitmap_input.specs.Raw.{Raw}
 use Rattle.bitmap_input.specs.Front.{front, page_at}
@@ -24,11 +24,11 @@ use Rattle.run_output.specs.declared.status.Status.TheVariants as status
 use Rattle.page_batches.specs.Items.{Item, end_items, page_count}
 use Rattle.page_batches.specs.Held.{AreHeld, Held}
 use Rattle.page_batches.specs.Inner.Held.{Holds, Waits}
-use Rattle.page_batches.specs.Outcome.{AreCarriedOut, HasEnded, IsUnwritten}
-use Rattle.page_batches.specs.Inner.Outcome.{IsHalt}
+use Rattle.page_batches.specs.ItemsDone.{AreCarriedOut, HasEnded, IsUnwritten}
+use Rattle.page_batches.specs.Inner.ItemsDone.{IsHalt}
 use Rattle.run_output.specs.Told.{Sinks, Source}
 use Rattle.page_batches.specs.declared.desk.Desk.{Desk}
-use Rattle.file_documents.specs.Items.{AreItems, Rest, page_item, told_contents, too_many}
+use Rattle.file_documents.specs.FileItems.{AreItems, Rest, page_item, told_contents, too_many}
 use Rattle.file_documents.specs.Manner.{Manner, shown_by}
 use Rattle.file_documents.specs.Inner.Outcome.{BeginsWith}
 use Rattle.file_documents.specs.Outcome.{EndsNear, IsOutcomeBehind, LeavesBehind, ReadsNear, StopsReading, is_later, opened_name}

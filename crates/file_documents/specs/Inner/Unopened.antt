@@ -4,8 +4,8 @@ use Rattle.run_output.specs.Messages.{not_opened}
 use Rattle.run_output.specs.declared.status.Status.{Status}
 use Rattle.run_output.specs.declared.status.Status.TheVariants as status
 use Rattle.page_batches.specs.Items.{Item}
-use Rattle.page_batches.specs.Outcome.{AreCarriedOut, HasEnded}
-use Rattle.page_batches.specs.Inner.Outcome.{IsHalt}
+use Rattle.page_batches.specs.ItemsDone.{AreCarriedOut, HasEnded}
+use Rattle.page_batches.specs.Inner.ItemsDone.{IsHalt}
 use Rattle.run_output.specs.Told.{Sinks}
 
 -- the run ends where the file of this name can't be opened: these items, which were held, are carried out, and

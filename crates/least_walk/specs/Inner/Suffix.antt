@@ -1,7 +1,7 @@
 -- Walks as the search sees them: from an index on to the end.
 use Rattle.std.specs.Prelude.{◌≡◌, ℕ, ◌<◌, ◌≤◌, List, [], ◌∷◌, length, slice_index}
 use Rattle.least_walk.specs.LeastWalk.{total_cost, IsBefore}
-use Rattle.least_walk.specs.Inner.Places.{IsPlace}
+use Rattle.least_walk.specs.Inner.MarkedPlaces.{IsPlace}
 
 -- from the index i a walk goes on by these indices, and ends at `size`
 abbrev pub WalksOn : ℕ → (ℕ → ℕ → Type 0) → ℕ → List ℕ → Type 0

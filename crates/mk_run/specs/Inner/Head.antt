@@ -2,16 +2,16 @@
 use Rattle.std.specs.Prelude.{◌≡◌, ℕ, Bool, true, List, [], ◌++◌, Option}
 use Rattle.pt_core.specs.Counts.{next_count}
 use Rattle.bitmap_input.specs.Cut.Cut.{Takes}
-use Rattle.bitmap_input.specs.Cut.Ending.{End, Trailing, Refused}
+use Rattle.bitmap_input.specs.Cut.FileEnd.{End, Trailing, Refused}
 use Rattle.bitmap_input.specs.GrayReader.{FailsToRead, GraySource, Refuses, gray_at_start}
 use Rattle.bitmap_input.specs.GrayRows.{gray_header}
 use Rattle.bitmap_input.specs.Reading.{Cause}
 use Rattle.bitmap_input.specs.Reading.Cause.{Says, Device, Memory}
 use Rattle.pt_core.specs.Files.{Files}
-use Rattle.mk_run.specs.Header.{page_header}
+use Rattle.mk_run.specs.PageHeader.{page_header}
 use Rattle.run_output.specs.Told.{Source}
 use Rattle.small_program.specs.Input.{HasTaken}
-use Rattle.mk_run.specs.Inner.Work.{header_of}
+use Rattle.mk_run.specs.Inner.FilterWork.{header_of}
 
 -- the header isn't there, by this cause
 abbrev pub StopsHead : Cause → GraySource → Option Files → Option Files → Type 0

@@ -8,7 +8,7 @@ use Rattle.pt_core.specs.Files.{Files}
 use Rattle.bitmap_input.specs.GrayReader.{GraySource}
 use Rattle.bitmap_input.specs.Inner.Reading.{CountsBy}
 use Rattle.bitmap_input.specs.Reading.{cause_of_fault}
-use Rattle.mk_run.specs.Header.{PageHeader}
+use Rattle.mk_run.specs.PageHeader.{PageHeader}
 use Rattle.mkbitmap.specs.Box.{Gray}
 use Rattle.mkbitmap.specs.Enlarged.{need}
 use Rattle.run_output.specs.Names.{dash}
@@ -16,8 +16,8 @@ use Rattle.run_output.specs.Told.{Told}
 use Rattle.filter_words.specs.declared.setup.Setup.{Setup}
 use Rattle.mk_run.specs.Result.{result_row, result_text}
 use Rattle.mkbitmap.specs.declared.filter.Filter.{Filter}
-use Rattle.mk_run.specs.Inner.Work.{GivesRows, IsAtWork, StopsBehind, header_of}
-use Rattle.mk_run.specs.Work.{HasFirstRows}
+use Rattle.mk_run.specs.Inner.FilterWork.{GivesRows, IsAtWork, StopsBehind, header_of}
+use Rattle.mk_run.specs.FilterWork.{HasFirstRows}
 use Rattle.mk_run.specs.declared.fault.Break.{Break}
 use Rattle.mk_run.specs.declared.fault.Break.TheVariants as breaks
 use Rattle.mk_run.specs.Put.{rows_above, need_of, PutsFront, IsCutAt}

@@ -1,6 +1,6 @@
 -- Lines: the texts of values, and a line feed.
 use Rattle.std.specs.Prelude.{◌≡◌, ℕ, ◌≤◌, List, ◌∷◌, ◌++◌, All, flat_map, length}
-use Rattle.list_reader.specs.Inner.Numbers.{EndsDigits}
+use Rattle.list_reader.specs.Inner.Numerals.{EndsDigits}
 
 -- how the text of a value begins, and that it is the text of one value
 pub record AreEntries (A : Type 0) (text : A → List ℕ) (IsIn : A → Type 0) : Type 0 where

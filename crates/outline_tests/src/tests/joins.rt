@@ -5,7 +5,7 @@ ghost use Rattle.curve_join.specs.Vector.{IsPlaced};
 
 use super::samples::{self, Place, Row, at, points_at};
 use corner_smooth::smooth;
-use curve_join::{Cubic, Vector, join, joined, touching};
+use curve_join::{Cubic, Displacement, join, joined, touching};
 use pt_core::{Piece, Point};
 use std::alloc::Global;
 use std::test::Fail;
@@ -198,11 +198,11 @@ fn steepness(heights: [i8; 4], u: u8) -> u64 {
 #[test]
 fn flattest_parts(rt: HostRuntime) -> Result<(), Fail> {
     let heights = [-128, -99, -31, -2, 0, 1, 7, 64, 127];
-    let long = Vector {
+    let long = Displacement {
         x: 134_217_728,
         y: 0,
     };
-    let short = Vector { x: 1_048_576, y: 0 };
+    let short = Displacement { x: 1_048_576, y: 0 };
     for start in heights {
         for first in heights {
             for second in heights {

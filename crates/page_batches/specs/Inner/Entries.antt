@@ -10,8 +10,8 @@ use Rattle.page_batches.specs.Items.{Item}
 use Rattle.page_batches.specs.Items.Item.{Note, Write}
 use Rattle.page_batches.specs.Held.{Held}
 use Rattle.page_batches.specs.Held.Held.{End, Message, Page}
-use Rattle.page_batches.specs.declared.batch.Entry.{Entry as Given}
-use Rattle.page_batches.specs.declared.batch.Entry.TheVariants as entry
+use Rattle.page_batches.specs.declared.batch.Pending.{Pending as Given}
+use Rattle.page_batches.specs.declared.batch.Pending.TheVariants as entry
 
 -- how many pages these entries speak of
 abbrev pub pages_among : List Given → ℕ

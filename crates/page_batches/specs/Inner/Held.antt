@@ -9,7 +9,7 @@ use Rattle.run_output.specs.declared.part.Binding.TheVariants as binding
 use Rattle.run_output.specs.declared.status.Status.{Status}
 use Rattle.run_output.specs.declared.status.Status.TheVariants as status
 use Rattle.page_batches.specs.Items.{Item, page_count}
-use Rattle.page_batches.specs.Outcome.{AreCarriedOut, HasEnded}
+use Rattle.page_batches.specs.ItemsDone.{AreCarriedOut, HasEnded}
 use Rattle.run_output.specs.Told.{Sinks}
 use Rattle.page_batches.specs.Held.{Held, AreHeld}
 use Rattle.page_batches.specs.Held.Held.{Page, End, Message}

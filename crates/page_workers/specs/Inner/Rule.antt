@@ -6,10 +6,11 @@ use lib.ListN.{get_elem?}
 use Rattle.atomic_table.specs.Table.{Step, Me}
 use Rattle.atomic_table.specs.Seated.{TableId}
 use Rattle.page_workers.specs.declared.hand.Hand.{Hand}
-use Rattle.page_workers.specs.Numbers.{count_in, once_below, IsRising, IsAbove, has_from}
-use Rattle.page_workers.specs.Inner.Numbers.{merged}
+use Rattle.page_workers.specs.NumberLists.{count_in, once_below, IsRising, IsAbove, has_from}
+use Rattle.page_workers.specs.Inner.NumberLists.{merged}
 use Rattle.page_workers.specs.Draws.{AreDrawn}
 
+-- the view of a seat with these
 abbrev pub hand : List ℕ → ℕ → ℕ → Hand
 hand drawn parts credits = record { drawn = drawn; parts = parts; credits = credits }
 
@@ -54,6 +55,7 @@ pub record IsDraw (v : Hand) (word : ℕ) (w : Hand) : Type 0 where
   pub drawn : AreDrawn (record { next = word; lists = lists })
   pub mine : get_elem? lists by ≡ some v.drawn
 
+-- what a claim tells its seat, and it keeps what else it has
 abbrev pub ClaimTells : {S : Type 0} → Step S → Me S Hand → ℕ → Me S Hand → Type 0
 ClaimTells s v word w = IsDraw v.0 word w.0 × (w.1 ≡ v.1)
 
@@ -61,6 +63,7 @@ ClaimTells s v word w = IsDraw v.0 word w.0 × (w.1 ≡ v.1)
 abbrev pub with_one_less : Hand → Hand
 with_one_less v = hand v.drawn (v.parts - 1) (v.credits - 1)
 
+-- the view of one part and one credit, before anything was drawn
 abbrev pub one_part : Hand
 one_part = hand [] 1 1
 
@@ -68,6 +71,7 @@ one_part = hand [] 1 1
 abbrev pub together : Hand → Hand → Hand
 together v w = hand (merged v.drawn w.drawn) (v.parts + w.parts) (v.credits + w.credits)
 
+-- the view of nothing
 abbrev pub empty_hand : Hand
 empty_hand = hand [] 0 0
 

@@ -15,7 +15,7 @@ abbrev pub is_large : Option ℕ → ℕ → Bool
 is_large None area = true
 is_large (Some t) area = nat_lt t area
 
--- the path has more pixels inside than the limit
+-- the path has more pixels inside than the limit, where there is one
 abbrev pub is_above : Option ℕ → Path → Bool
 is_above limit path = is_large limit path.area
 

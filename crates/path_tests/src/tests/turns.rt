@@ -1,5 +1,5 @@
 //! Turns and majorities at the corners of small pages.
-ghost use Rattle.turn_policies.specs.Corner.{IsCorner};
+ghost use Rattle.turn_policies.specs.PixelCorner.{IsCorner};
 
 use page_samples::drawn;
 use pt_core::{Point, Policy, Sign};

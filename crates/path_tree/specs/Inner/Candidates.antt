@@ -3,7 +3,7 @@ use Rattle.std.specs.Prelude.{ℕ, ◌≤◌, ◌/◌, ◌%◌, Bool, ◌&&◌, 
 use Rattle.pt_core.specs.declared.point.Point.{Point}
 use Rattle.path_decompose.specs.Inside.{inside}
 use Rattle.path_tree.specs.declared.bounds.Bounds.{Bounds}
-use Rattle.path_tree.specs.declared.starts.Start.{Start}
+use Rattle.path_tree.specs.declared.starts.PathStart.{PathStart}
 use Rattle.path_tree.specs.declared.starts.TheConstants.{ROW}
 
 -- the point lies between the bounds
@@ -14,9 +14,9 @@ pub record IsInBounds (bounds : Bounds) (p : Point) : Type 0 where
   pub top : nat_abs p.y ≤ bounds.top
 
 -- it is that of a later path, in a column between the bounds
-abbrev pub is_candidate : ℕ → Bounds → Start → Bool
+abbrev pub is_candidate : ℕ → Bounds → PathStart → Bool
 is_candidate number bounds start = nat_lt number start.path && (nat_le bounds.left (start.place % ROW) && nat_lt (start.place % ROW) bounds.right)
 
 -- it is that of a later path, inside a path of these points
-abbrev pub is_held : ℕ → List Point → Start → Bool
+abbrev pub is_held : ℕ → List Point → PathStart → Bool
 is_held number points start = nat_lt number start.path && inside points (start.place % ROW) (start.place / ROW)

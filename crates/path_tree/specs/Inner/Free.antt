@@ -1,14 +1,14 @@
 -- Which starts are looked at when their paths want a holder: those whose paths have one already are left out, by the
 -- pointers of a union-find structure (Tarjan, "Efficiency of a good but not linear set union algorithm", 1975).
 use Rattle.std.specs.Prelude.{◌≡◌, ℕ, ◌+◌, ◌<◌, ◌≤◌, ◌^◌, Bool, true, None, Option, is_some, List, length, slice_index_or}
-use Rattle.path_tree.specs.declared.starts.Start.{Start}
+use Rattle.path_tree.specs.declared.starts.PathStart.{PathStart}
 
 -- no start, which stands for those that aren't in a list
-abbrev pub no_start : Start
+abbrev pub no_start : PathStart
 no_start = record { place = 0; path = 0 }
 
 -- the path of start number k has a holder
-abbrev pub has_holder : List Start → List (Option ℕ) → ℕ → Bool
+abbrev pub has_holder : List PathStart → List (Option ℕ) → ℕ → Bool
 has_holder starts holders k = is_some (slice_index_or holders (slice_index_or starts k no_start).path None)
 
 -- each place points to itself or to a later one of the list
@@ -21,7 +21,7 @@ abbrev pub LeadPast : (ℕ → Bool) → List ℕ → Type 0
 LeadPast held skips = (i k : ℕ) → i < length skips → i ≤ k → k < slice_index_or skips i 0 → held k ≡ true
 
 -- there is a place for each start and one behind them, and they lead past starts alone whose paths have a holder
-pub record AreFree (starts : List Start) (holders : List (Option ℕ)) (skips : List ℕ) : Type 0 where
+pub record AreFree (starts : List PathStart) (holders : List (Option ℕ)) (skips : List ℕ) : Type 0 where
   pub are : AreSkips skips
   pub places : length skips ≡ length starts + 1
   pub few : length starts < 2 ^ 32

@@ -17,6 +17,7 @@ pub penalty_is : (points : List Point) (i j : ℕ) → IsPenalty points i j (pen
 unfolding penalty_of
 penalty_is points i j = root_is (65536 * unsigned_abs (spread_of points i j) / (j - i + 1))
 
+-- no other number is the penalty of a segment
 pub penalty_is_one : (points : List Point) (i j penalty : ℕ) → IsPenalty points i j penalty → penalty ≡ penalty_of points i j
 penalty_is_one points i j penalty is =
     root_is_one (65536 * unsigned_abs (spread_of points i j) / (j - i + 1)) penalty (penalty_of points i j) is (penalty_is points i j)
@@ -25,9 +26,11 @@ penalty_is_one points i j penalty is =
 right_most : (points : List Point) → AreOnPage points → (i k : ℕ) → unsigned_abs (rightward_of points i k) ≤ LONGEST_SIDE
 right_most points on_page i k = let p = on_page k in let q = on_page i in omega (arith, ints)
 
+-- the same of how far one is above the other
 above_most : (points : List Point) → AreOnPage points → (i k : ℕ) → unsigned_abs (above_of points i k) ≤ LONGEST_SIDE
 above_most points on_page i k = let p = on_page k in let q = on_page i in omega (arith, ints)
 
+-- a difference of two numbers is at most twice as large
 difference_most : (a b : ℤ) (most : ℕ) → unsigned_abs a ≤ most → unsigned_abs b ≤ most → unsigned_abs (a -ℤ b) ≤ 2 * most
 difference_most a b most h k = omega (arith, ints)
 
@@ -35,12 +38,14 @@ difference_most a b most h k = omega (arith, ints)
 abbrev most_cross : ℕ
 most_cross = 2 * (LONGEST_SIDE * LONGEST_SIDE)
 
+-- no cross product is larger than that
 cross_most : (points : List Point) → AreOnPage points → (i j k : ℕ) → unsigned_abs (chord_cross_of points i j k) ≤ most_cross
 cross_most points on_page i j k =
     difference_most (rightward_of points i k *ℤ above_of points i j) (above_of points i k *ℤ rightward_of points i j) (LONGEST_SIDE * LONGEST_SIDE)
     (product_most (rightward_of points i k) (above_of points i j) LONGEST_SIDE LONGEST_SIDE (right_most points on_page i k) (above_most points on_page i j))
     (product_most (above_of points i k) (rightward_of points i j) LONGEST_SIDE LONGEST_SIDE (above_most points on_page i k) (right_most points on_page i j))
 
+-- so the sum of their squares is small
 spread_most : (points : List Point) → AreOnPage points → (i j : ℕ) → unsigned_abs (spread_of points i j) ≤ (j - i + 1) * (most_cross * most_cross)
 spread_most points on_page i j =
     sum_most (λ d. chord_cross_of points i j (i + d) *ℤ chord_cross_of points i j (i + d)) (most_cross * most_cross) (j - i + 1)

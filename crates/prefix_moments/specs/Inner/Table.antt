@@ -7,10 +7,10 @@ use Rattle.pt_core.specs.OnPage.{AreOnPage}
 use Rattle.prefix_moments.specs.Sums.{sum_of}
 use Rattle.prefix_moments.specs.declared.sums.Sums.{Sums}
 use Rattle.prefix_moments.specs.declared.prefix.Prefix.{Prefix}
-use Rattle.prefix_moments.specs.declared.raw.Raw.{Raw}
+use Rattle.prefix_moments.specs.declared.raw.RawSums.{RawSums}
 
 -- the sums over the first `count` of a run of points
-abbrev pub raw_of : (ℕ → Point) → ℕ → Raw
+abbrev pub raw_of : (ℕ → Point) → ℕ → RawSums
 raw_of at count = record {
   x = sum_of (λ k. (at k).x) count;
   y = sum_of (λ k. (at k).y) count;
@@ -20,7 +20,7 @@ raw_of at count = record {
 }
 
 -- the sums are at most what `count` points of a page give
-pub record IsRawOf (count : ℕ) (r : Raw) : Type 0 where
+pub record IsRawOf (count : ℕ) (r : RawSums) : Type 0 where
   pub x : unsigned_abs r.x ≤ count * LONGEST_SIDE
   pub y : unsigned_abs r.y ≤ count * LONGEST_SIDE
   pub xx : unsigned_abs r.xx ≤ count * (LONGEST_SIDE * LONGEST_SIDE)
@@ -32,7 +32,7 @@ abbrev pub no_prefix : Prefix
 no_prefix = record { x = 0; y = 0; xx = 0; xy = 0; yy = 0 }
 
 -- as much of some sums as a row has: of coordinates modulo 2^32, of squares and products modulo 2^64
-abbrev pub kept_of : Raw → Prefix
+abbrev pub kept_of : RawSums → Prefix
 kept_of r = record {
   x = unsigned_abs r.x % 2 ^ 32;
   y = unsigned_abs r.y % 2 ^ 32;
@@ -80,7 +80,7 @@ points_of [] = []
 points_of (p ∷ rows) = points_after p rows
 
 -- the sums of offsets from (x, y), for `count` points
-abbrev pub offsets_of : Raw → ℕ → ℤ → ℤ → Sums
+abbrev pub offsets_of : RawSums → ℕ → ℤ → ℤ → Sums
 offsets_of r count x y = record {
   count = count;
   x = r.x -ℤ pos count *ℤ x;
@@ -97,7 +97,7 @@ spread_by xx xy yy right above = ((above *ℤ above) *ℤ xx -ℤ pos 2 *ℤ ((r
 
 -- the sum of the squared differences between some points' cross products with one offset and a number, by the sums of
 -- these points' coordinates
-abbrev pub spread_from : Raw → ℤ → ℤ → ℤ → ℤ → ℤ
+abbrev pub spread_from : RawSums → ℤ → ℤ → ℤ → ℤ → ℤ
 spread_from r count right above number =
     ((above *ℤ (above *ℤ r.xx -ℤ (right *ℤ r.xy) *ℤ pos 2)) +ℤ (right *ℤ right) *ℤ r.yy)
     +ℤ number *ℤ (count *ℤ number -ℤ (above *ℤ r.x -ℤ right *ℤ r.y) *ℤ pos 2)

@@ -28,7 +28,7 @@ stop_ending stops.Unread = ending.Unread
 stop_ending stops.TooLong = ending.Refused
 stop_ending stops.OutOfMemory = ending.OutOfMemory
 
--- and what it says
+-- what a run says that stops so at its input
 abbrev pub stop_line : List ℕ → InputStop → List ℕ
 stop_line program stops.Unread = file_line program dash (codes "read fault")
 stop_line program stops.TooLong = file_line program dash (codes "text too long")

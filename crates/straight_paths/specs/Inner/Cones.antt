@@ -8,6 +8,7 @@ use Rattle.straight_paths.specs.declared.cone.Cone.{Cone}
 use Rattle.straight_paths.specs.declared.cone.Cone.TheVariants.{Open, Between}
 use Rattle.straight_paths.specs.Cones.{cross_of}
 
+-- from a point to itself
 abbrev pub nowhere : Vector
 nowhere = record { x = pos 0; y = pos 0 }
 
@@ -33,6 +34,7 @@ pub record IsProper (low high : Vector) : Type 0 where
   pub high_short : IsShort 65536 high
   pub left : pos 0 <ℤ cross_of low high
 
+-- the cone is open, or its borders are proper
 abbrev pub IsSound : Cone → Type 0
 IsSound Open = Unit
 IsSound (Between low high) = IsProper low high

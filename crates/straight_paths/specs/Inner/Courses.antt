@@ -6,7 +6,7 @@ use Rattle.straight_paths.specs.Inner.Cones.{HoldsNear, IsSound}
 use Rattle.straight_paths.specs.Corners.{step_from}
 use Rattle.straight_paths.specs.Straight.{IsStraight}
 use Rattle.straight_paths.specs.Inner.Tails.{way_along}
-use Rattle.straight_paths.specs.Inner.Words.{AreTaken}
+use Rattle.straight_paths.specs.Inner.NextSteps.{AreTaken}
 use Rattle.straight_paths.specs.declared.cone.Cone.{Cone}
 use Rattle.straight_paths.specs.declared.cone.Cone.TheVariants.{Between, Open}
 use Rattle.straight_paths.specs.declared.course.Course.{Course}

@@ -38,13 +38,15 @@ pub record IsStrip (strip : Strip) : Type 0 where
 abbrev pub IsOnward : (ℕ → ℤ) → ℕ → Type 0
 IsOnward f count = (j k : ℕ) → j ≤ k → k ≤ count → f j ≤ℤ (f k +ℤ pos 1)
 
--- how far the path's point number k is from its start: across the way, and to the right and up in a quarter
+-- how far the path's point number k is from its start across the way
 abbrev pub across_at : Vector → (ℕ → Point) → ℕ → ℤ
 across_at way path k = cross_of way (way_along path k)
 
+-- how far it is to the right in a quarter
 abbrev pub right_at : Quarter → (ℕ → Point) → ℕ → ℤ
 right_at quarter path k = quarter.right *ℤ (way_along path k).x
 
+-- how far it is up in a quarter
 abbrev pub up_at : Quarter → (ℕ → Point) → ℕ → ℤ
 up_at quarter path k = quarter.up *ℤ (way_along path k).y
 

@@ -40,6 +40,7 @@ pub record IsSeen (points : List Point) (last at : ℕ) (seen : Seen) : Type 0 w
   pub strip : IfSome seen.strip IsStrip
   pub stays : IfSome seen.strip (λ strip. StaysIn strip (path_from points at) (seen.tail.end - at))
 
+-- what a sweep has seen is told by a word of the table, or held as a tail and a strip
 abbrev pub IsSweep : Table → List Point → ℕ → ℕ → Sweep → Type 0
 IsSweep table points last at (Told node) = IsTold table points last at node
 IsSweep table points last at (Held seen) = IsSeen points last at seen

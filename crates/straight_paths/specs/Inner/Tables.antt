@@ -4,14 +4,15 @@ use Rattle.pt_core.specs.declared.point.Point.{Point}
 use Rattle.straight_paths.specs.Inner.Codes.{IsCoded}
 use Rattle.straight_paths.specs.Inner.Courses.{IsCourse, no_course}
 use Rattle.straight_paths.specs.Straight.{IsStraight}
-use Rattle.straight_paths.specs.Inner.Words.{TellsNext}
+use Rattle.straight_paths.specs.Inner.NextSteps.{TellsNext}
 use Rattle.straight_paths.specs.declared.course.Course.{Course}
 use Rattle.straight_paths.specs.declared.table.Table.{Table}
 
--- the number of steps of word number `node`, and its digits
+-- the number of steps of word number `node`
 abbrev pub count_at : Table → ℕ → ℕ
 count_at table node = slice_index table.counts.items node
 
+-- the digits of word number `node`
 abbrev pub digits_at : Table → ℕ → ℕ
 digits_at table node = slice_index table.digits.items node
 

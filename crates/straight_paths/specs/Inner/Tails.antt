@@ -57,6 +57,7 @@ pub record IsNext (points : List Point) (last at : ℕ) (step : Vector) (index :
   pub taken : (c : ℕ) → at + c ≤ last → index < at + c → Takes (path_from points at) c step
   pub first : (c : ℕ) → at + c ≤ last → Takes (path_from points at) c step → index < at + c
 
+-- each of the four directions is taken next where it is said, as far as a last index can tell
 pub record IsAhead (points : List Point) (at : ℕ) (ahead : Ahead) : Type 0 where
   pub within : ahead.last ≤ last_of points
   pub east : IsNext points ahead.last at east ahead.east

@@ -12,11 +12,12 @@ use Rattle.straight_paths.specs.declared.wedge.Wedge.{Wedge}
 abbrev pub IsSign : ℤ → Type 0
 IsSign z = (z ≡ pos 1) ⊎ (z ≡ negsuc 0)
 
+-- both of its numbers are signs
 pub record IsQuarter (quarter : Quarter) : Type 0 where
   pub right : IsSign quarter.right
   pub up : IsSign quarter.up
 
--- how far a vector goes into the quarter
+-- how far a vector goes into the quarter, in both coordinates together
 abbrev pub far_of : Quarter → Vector → ℤ
 far_of quarter way = quarter.right *ℤ way.x +ℤ quarter.up *ℤ way.y
 
@@ -30,6 +31,7 @@ pub record IsBorder (quarter : Quarter) (border : Border) : Type 0 where
   pub short : IsShort 65536 border.at
   pub far : border.far ≡ far_of quarter border.at
 
+-- a cone between two borders in a quarter
 pub record IsWedge (wedge : Wedge) : Type 0 where
   pub quarter : IsQuarter wedge.quarter
   pub low : IsBorder wedge.quarter wedge.low

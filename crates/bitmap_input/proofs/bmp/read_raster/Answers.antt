@@ -1,7 +1,7 @@
 use Rattle.std.proofs.Common.{◌*◌}
 use Rattle.std.proofs.lemmas.Result.{err_from_is_err_and}
 use Rattle.bitmap_input.specs.Cut.{◌>>=◌}
-use Rattle.bitmap_input.specs.Parts.{block}
+use Rattle.bitmap_input.specs.PageParts.{block}
 use Rattle.bitmap_input.specs.BmpRaster.{palette_color}
 use Rattle.bitmap_input.specs.Inner.BmpHead.{pixels_by}
 use Rattle.bitmap_input.proofs.Appending.{block_stays}

@@ -1,6 +1,6 @@
 use Rattle.std.proofs.Common.{refl}
 use Rattle.std.proofs.lemmas.Result.{err_from_is_err_and}
-use Rattle.bitmap_input.specs.Parts.{repeated}
+use Rattle.bitmap_input.specs.PageParts.{repeated}
 use Rattle.bitmap_input.specs.Front.{plain_pixel, rows_raster}
 use Rattle.bitmap_input.specs.Raw.Entry.{Bit}
 use Rattle.bitmap_input.proofs.Appending.{sides_stay}

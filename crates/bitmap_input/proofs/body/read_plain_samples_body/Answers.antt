@@ -2,7 +2,7 @@ use Rattle.std.proofs.Common.{ap, Bool, ℕ}
 use Rattle.bit_image.specs.Image.{differ}
 use Rattle.std.proofs.lemmas.Result.{err_from_is_err_and}
 use Rattle.bitmap_input.specs.Cut.{◌>>=◌}
-use Rattle.bitmap_input.specs.Parts.{repeated}
+use Rattle.bitmap_input.specs.PageParts.{repeated}
 use Rattle.bitmap_input.specs.Front.{maxval, rows_raster}
 use Rattle.bitmap_input.specs.Samples.{as_entry, plain_samples}
 use Rattle.bitmap_input.proofs.Appending.{sides_stay, maxval_stays}

@@ -1,7 +1,7 @@
 use Rattle.std.proofs.Common.{refl}
 use Rattle.std.proofs.lemmas.Result.{err_from_is_err_and}
 use Rattle.bitmap_input.specs.Cut.{◌>>=◌}
-use Rattle.bitmap_input.specs.Parts.{space}
+use Rattle.bitmap_input.specs.PageParts.{space}
 use Rattle.bitmap_input.specs.Front.{raw_row, rows_raster}
 use Rattle.bitmap_input.specs.Raw.Entry.{Bit}
 use Rattle.bitmap_input.proofs.Appending.{sides_stay, space_stays}

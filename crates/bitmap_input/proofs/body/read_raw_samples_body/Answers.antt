@@ -2,7 +2,7 @@ use Rattle.std.proofs.Common.{ap, Bool, ℕ}
 use Rattle.bit_image.specs.Image.{differ}
 use Rattle.std.proofs.lemmas.Result.{err_from_is_err_and}
 use Rattle.bitmap_input.specs.Cut.{◌>>=◌}
-use Rattle.bitmap_input.specs.Parts.{space}
+use Rattle.bitmap_input.specs.PageParts.{space}
 use Rattle.bitmap_input.specs.Front.{maxval, rows_raster}
 use Rattle.bitmap_input.specs.Samples.{as_entry, raw_samples_row}
 use Rattle.bitmap_input.proofs.Appending.{sides_stay, maxval_stays, space_stays}

@@ -9,8 +9,8 @@ abbrev pub invariant-loop-x : goal.invariant-loop-x
 invariant-loop-x g l =
     let source = g.I.Inputs in
     record {
-      so_far : IsGatheredSoFar plain_sample l.fn.window (source.files l.fn.inputs) (λ values. map lowered values) (length l.fn.row)
-          l.window (source.files l.inputs) (λ values. take l.x l.row ++ map lowered values) (length l.fn.row - l.x);
+      so_far : IsGatheredSoFar plain_sample l.fn.buffer (source.files l.fn.inputs) (λ values. map lowered values) (length l.fn.row)
+          l.buffer (source.files l.inputs) (λ values. take l.x l.row ++ map lowered values) (length l.fn.row - l.x);
       room : length l.row ≡ length l.fn.row;
       leaves : Leaves source (Ok (tt {0})) l.fn.inputs l.inputs;
     }

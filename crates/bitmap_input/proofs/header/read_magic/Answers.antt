@@ -1,6 +1,6 @@
 use Rattle.std.proofs.Common.{refl}
 use Rattle.bitmap_input.specs.Cut.Kind.{UnknownFormat}
-use Rattle.bitmap_input.specs.Cut.Ending.{End, Refused}
+use Rattle.bitmap_input.specs.Cut.FileEnd.{End, Refused}
 use Rattle.bitmap_input.specs.Front.{magic}
 use Rattle.bitmap_input.proofs.Telling.{reads_pass, reads_end, reads_fault}
 use Rattle.bitmap_input.proofs.Headers.{magic_at, magic_of_none, later_ends, first_ends}

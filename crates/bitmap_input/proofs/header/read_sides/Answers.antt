@@ -2,7 +2,7 @@ use Rattle.std.proofs.lemmas.Result.{err_from_is_err_and}
 use Rattle.bitmap_input.specs.Cut.{◌>>=◌}
 use Rattle.bitmap_input.specs.Front.{checked}
 use Rattle.bitmap_input.specs.Cut.Kind.{BadHeader}
-use Rattle.bitmap_input.specs.Parts.{number_behind_gap}
+use Rattle.bitmap_input.specs.PageParts.{number_behind_gap}
 use Rattle.bitmap_input.proofs.Appending.{number_behind_gap_stays}
 use Rattle.bitmap_input.proofs.Telling.{reads_on, reads_stop}
 use Rattle.bitmap_input.proofs.Headers.{reads_checked}

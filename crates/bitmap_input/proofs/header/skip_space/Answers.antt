@@ -1,7 +1,7 @@
 use Rattle.std.proofs.Common.{◌≡◌, true, false, refl, ◌∷◌, [], rules}
 use Rattle.bitmap_input.specs.Cut.Kind.{BadHeader, Truncated}
-use Rattle.bitmap_input.specs.Cut.Ending.{Refused}
-use Rattle.bitmap_input.specs.Parts.{is_space, space}
+use Rattle.bitmap_input.specs.Cut.FileEnd.{Refused}
+use Rattle.bitmap_input.specs.PageParts.{is_space, space}
 use Rattle.bitmap_input.specs.Cut.Cut.{Takes}
 use Rattle.bitmap_input.proofs.Telling.{reads_pass, reads_value, reads_refused, reads_end, reads_fault}
 use Rattle.bitmap_input.proofs.header.skip_space.Goals as goal

@@ -1,7 +1,7 @@
 use Rattle.std.proofs.Common.{◌-◌, ◌≤◌, Ok}
 use Rattle.bitmap_input.specs.Inner.Reading.{Leaves}
-use Rattle.bitmap_input.specs.Parts.{run_length, is_digit, value}
-use Rattle.bitmap_input.specs.Inner.Run.{IsCapped}
+use Rattle.bitmap_input.specs.PageParts.{run_length, is_digit, value}
+use Rattle.bitmap_input.specs.Inner.ByteRuns.{IsCapped}
 use Rattle.bitmap_input.proofs.Running.{RunSoFar}
 use Rattle.bitmap_input.proofs.number.read_digits.Given as goal
 
@@ -9,7 +9,7 @@ abbrev pub invariant-loop-n : goal.invariant-loop-n
 invariant-loop-n g l =
     let source = g.I.Inputs in
     record {
-      so_far : RunSoFar (run_length is_digit) (run_length is_digit) l.fn.window (source.files l.fn.inputs) l.n l.window (source.files l.inputs);
+      so_far : RunSoFar (run_length is_digit) (run_length is_digit) l.fn.buffer (source.files l.fn.inputs) l.n l.buffer (source.files l.inputs);
       number : IsCapped l.value (value 0 so_far.used);
       most : l.n ≤ 1048577;
       leaves : Leaves source (Ok (tt {0})) l.fn.inputs l.inputs;

@@ -1,8 +1,8 @@
 use Rattle.std.proofs.Common.{◌≡◌, refl, true, false, rules}
 use Rattle.bitmap_input.specs.Cut.Kind.{Truncated}
-use Rattle.bitmap_input.specs.Cut.Ending.{Refused}
+use Rattle.bitmap_input.specs.Cut.FileEnd.{Refused}
 use Rattle.bitmap_input.specs.Cut.Cut.{Takes}
-use Rattle.bitmap_input.specs.Parts.{pixel}
+use Rattle.bitmap_input.specs.PageParts.{pixel}
 use Rattle.bitmap_input.specs.Front.{plain_pixel}
 use Rattle.std.proofs.lemmas.Result.{err_from_is_err_and}
 use Rattle.bitmap_input.proofs.Appending.{gap_stays}

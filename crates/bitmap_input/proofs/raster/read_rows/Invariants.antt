@@ -10,8 +10,8 @@ abbrev pub invariant-loop-y : goal.invariant-loop-y
 invariant-loop-y g l =
     let source = g.I.Inputs in
     record {
-      so_far : IsGatheredSoFar (row_stored l.raster l.fn.page.width) l.fn.window (source.files l.fn.inputs) (λ rows. with_rows (image_of l.fn.page) l.fn.page.height (map (map (is_black_pixel l.raster)) rows)) l.fn.page.height
-          l.window (source.files l.inputs) (λ rows. with_rows (image_of l.page) l.y (map (map (is_black_pixel l.raster)) rows)) l.y;
+      so_far : IsGatheredSoFar (row_stored l.raster l.fn.page.width) l.fn.buffer (source.files l.fn.inputs) (λ rows. with_rows (image_of l.fn.page) l.fn.page.height (map (map (is_black_pixel l.raster)) rows)) l.fn.page.height
+          l.buffer (source.files l.inputs) (λ rows. with_rows (image_of l.page) l.y (map (map (is_black_pixel l.raster)) rows)) l.y;
       sides : SameSides l.fn.page l.page;
       room : length l.line ≡ line_bytes l.raster l.fn.page.width;
       within : l.y ≤ l.fn.page.height;

@@ -4,7 +4,7 @@ use Rattle.bitmap_input.proofs.raw.read_block.Goals as goal
 
 pub loop-done-init : goal.loop-done-init
 loop-done-init g c = record {
-  so_far = block_begins (length c.args.row.now) c.args.window.now (g.I.Inputs.files c.args.inputs.now) c.args.row.now;
+  so_far = block_begins (length c.args.row.now) c.args.buffer.now (g.I.Inputs.files c.args.inputs.now) c.args.row.now;
   within = omega arith;
   leaves = search rules;
 }

@@ -7,7 +7,7 @@ abbrev pub invariant-loop-done : goal.invariant-loop-done
 invariant-loop-done g l =
     let source = g.I.Inputs in
     record {
-      so_far : IsBlockSoFar (length l.fn.row) l.fn.window (source.files l.fn.inputs) l.done l.row l.window (source.files l.inputs);
+      so_far : IsBlockSoFar (length l.fn.row) l.fn.buffer (source.files l.fn.inputs) l.done l.row l.buffer (source.files l.inputs);
       within : l.done ≤ length l.row;
       leaves : Leaves source (Ok (tt {0})) l.fn.inputs l.inputs;
     }

@@ -9,10 +9,10 @@ use Rattle.bitmap_input.proofs.reader.read_ahead.Goals as goal
 pub returns-in_err-pass_over-clause-reads : goal.returns-in_err-pass_over-clause-reads
 returns-in_err-pass_over-clause-reads g c =
     let p = err_from_is_err_and c.from_residual.result c.from_residual.ensures.1 in
-    rw (p.1, p.2) (reads_as (λ more. sym (page_ahead c.args.behind c.args.later (c.args.window.now.bytes ++ more)))
+    rw (p.1, p.2) (reads_as (λ more. sym (page_ahead c.args.behind c.args.later (c.args.buffer.now.bytes ++ more)))
     (reads_stop (λ _ rest. counted_page c.args.later rest) c.in_err-pass_over.ensures.reads))
 
 pub returns-clause-reads : goal.returns-clause-reads
 returns-clause-reads g c =
-    reads_as (λ more. sym (page_ahead c.args.behind c.args.later (c.args.window.now.bytes ++ more)))
+    reads_as (λ more. sym (page_ahead c.args.behind c.args.later (c.args.buffer.now.bytes ++ more)))
     (reads_on (passed_over_stays c.args.behind) c.in_ok-pass_over.ensures.reads (λ _ _. c.read_page.ensures.reads))

@@ -11,8 +11,8 @@ abbrev pub invariant-loop-x : goal.invariant-loop-x
 invariant-loop-x g l =
     let source = g.I.Inputs in
     record {
-      so_far : IsGatheredSoFar (plain_samples l.shading.channels) l.fn.window (source.files l.fn.inputs) (λ row. with_pixels (image_of l.fn.page) l.y 0 (map (black_of l.shading) row)) l.fn.page.width
-          l.window (source.files l.inputs) (λ row. with_pixels (image_of l.page) l.y l.x (map (black_of l.shading) row)) (l.fn.page.width - l.x);
+      so_far : IsGatheredSoFar (plain_samples l.shading.channels) l.fn.buffer (source.files l.fn.inputs) (λ row. with_pixels (image_of l.fn.page) l.y 0 (map (black_of l.shading) row)) l.fn.page.width
+          l.buffer (source.files l.inputs) (λ row. with_pixels (image_of l.page) l.y l.x (map (black_of l.shading) row)) (l.fn.page.width - l.x);
       sides : SameSides l.fn.page l.page;
       end : l.x-end ≡ l.fn.page.width;
       leaves : Leaves source (Ok (tt {0})) l.fn.inputs l.inputs;

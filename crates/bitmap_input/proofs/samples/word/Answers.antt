@@ -1,7 +1,7 @@
 use Rattle.std.proofs.Common.{◌+◌, ◌&&◌, ◌∙◌, ap, arith}
 use Rattle.std.proofs.lemmas.Bool.{lt-ltb}
 use Rattle.bitmap_input.specs.Samples.{samples}
-use Rattle.bitmap_input.specs.Inner.Shading.{brightness_at, is_black_at, black_in}
+use Rattle.bitmap_input.specs.Inner.Shading.{brightness_at, is_black_at, black_in_bytes}
 use Rattle.bitmap_input.proofs.Graying.{fewer_samples}
 use Rattle.bitmap_input.proofs.Rows.{none_first, one_more}
 use Rattle.bitmap_input.proofs.samples.word.Goals as goal
@@ -21,7 +21,7 @@ loop-i-preserved c =
     let bright = c.brightness_at-brightness.ensures ∙ ap (λ wide. brightness_at c.args.shading.now.channels (samples wide c.args.row.now) (c.args.from + c.loop-i.i)) c.loop-i.invariant.wide in
     let pixel = c.black.ensures ∙ ap (is_black_at c.args.shading.now) bright in
     record {
-      first = one_more (λ k. black_in c.args.shading.now c.args.row.now (c.args.from + k)) c.loop-i.word c.with_pixel-word.result c.loop-i.i
+      first = one_more (λ k. black_in_bytes c.args.shading.now c.args.row.now (c.args.from + k)) c.loop-i.word c.with_pixel-word.result c.loop-i.i
           c.loop-i.invariant.first (rw pixel at c.with_pixel-word.ensures);
       wide = c.loop-i.invariant.wide;
     }
@@ -29,4 +29,4 @@ loop-i-preserved c =
 pub returns : goal.returns
 returns c = λ k h.
     c.loop-i.invariant.first k (omega arith) ∙
-    ap (λ t. t && black_in c.args.shading.now c.args.row.now (c.args.from + k)) (lt-ltb k c.loop-i.i (omega arith))
+    ap (λ t. t && black_in_bytes c.args.shading.now c.args.row.now (c.args.from + k)) (lt-ltb k c.loop-i.i (omega arith))

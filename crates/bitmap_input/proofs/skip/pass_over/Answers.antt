@@ -4,7 +4,7 @@ use Rattle.bitmap_input.proofs.skip.pass_over.Goals as goal
 
 pub loop-left-init : goal.loop-left-init
 loop-left-init g c = record {
-  so_far = skip_begins c.args.window.now (g.I.Inputs.files c.args.inputs.now) c.args.n;
+  so_far = skip_begins c.args.buffer.now (g.I.Inputs.files c.args.inputs.now) c.args.n;
   leaves = search rules;
 }
 

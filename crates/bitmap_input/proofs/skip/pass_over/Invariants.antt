@@ -7,7 +7,7 @@ abbrev pub invariant-loop-left : goal.invariant-loop-left
 invariant-loop-left g l =
     let source = g.I.Inputs in
     record {
-      so_far : IsPassedSoFar l.fn.window (source.files l.fn.inputs) l.n l.left l.window (source.files l.inputs);
+      so_far : IsPassedSoFar l.fn.buffer (source.files l.fn.inputs) l.n l.left l.buffer (source.files l.inputs);
       leaves : Leaves source (Ok (tt {0})) l.fn.inputs l.inputs;
     }
 

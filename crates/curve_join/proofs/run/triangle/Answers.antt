@@ -3,14 +3,14 @@ use Rattle.curve_join.proofs.Fitting.{size_back, back}
 use Rattle.curve_join.proofs.Joining.{crosses}
 use Rattle.curve_join.proofs.Meetings.{way_round}
 use Rattle.curve_join.specs.Vector.{GoesNoFarther, way_of}
-use Rattle.curve_join.specs.declared.vector.Vector.{Vector}
+use Rattle.curve_join.specs.declared.vector.Displacement.{Displacement}
 use Rattle.curve_join.proofs.run.triangle.Goals as goal
 
 pub returns-clause-most : goal.returns-clause-most
 returns-clause-most c = size_back c.cross.result (2 ^ 58) c.cross.ensures.most (omega arith)
 
 pub cross-requires-clause-short : goal.cross-requires-clause-short
-cross-requires-clause-short c = let P : Vector → Type 0 = λ v. GoesNoFarther (2 ^ 27) v in
+cross-requires-clause-short c = let P : Displacement → Type 0 = λ v. GoesNoFarther (2 ^ 27) v in
     subst P (sym c.way.ensures) c.requires.from_start
 
 pub cross-requires-clause-long : goal.cross-requires-clause-long

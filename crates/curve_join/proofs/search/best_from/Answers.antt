@@ -6,7 +6,7 @@ use Rattle.curve_join.proofs.Ways.{best_more, cost_there, fewest_there, next_the
 use Rattle.curve_join.specs.Inner.Choice.{IsLastRun}
 use Rattle.curve_join.specs.Choice.{MayBeOne, run_penalty}
 use Rattle.curve_join.specs.Inner.Costs.{run_penalty_most}
-use Rattle.curve_join.specs.Inner.Search.{IsNotBehind}
+use Rattle.curve_join.specs.Inner.CutSearch.{IsNotBehind}
 use Rattle.std.specs.List.{All}
 use Rattle.curve_join.specs.Inner.Bends.{IsWorkable}
 use Rattle.curve_join.specs.declared.bend.Bend.{Bend}

@@ -1,6 +1,6 @@
 use Rattle.std.proofs.Common.{◌≡◌, ℕ, ◌+◌, ◌-◌, ◌<◌, inr, refl, ap, ◌∙◌, subst, arith, inl}
 use Rattle.curve_join.specs.Inner.Costs.{slice_most}
-use Rattle.curve_join.specs.Inner.Search.{IsNotBehind, paid}
+use Rattle.curve_join.specs.Inner.CutSearch.{IsNotBehind, paid}
 use Rattle.curve_join.specs.declared.search.WayOn.{WayOn}
 use Rattle.curve_join.proofs.Slices.{joinable, may_be_one, penalty_is, some_of_slice, shown_small}
 use Rattle.curve_join.proofs.search.better.Goals as goal

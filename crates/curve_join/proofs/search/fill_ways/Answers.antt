@@ -5,7 +5,7 @@ use Rattle.least_walk.proofs.Filling.{nexts_more}
 use Rattle.least_walk.proofs.Onward.{cost_at_end}
 use Rattle.curve_join.proofs.Ways.{counts_more, none_left, spent_more}
 use Rattle.curve_join.specs.Choice.{MayBeOne, run_penalty}
-use Rattle.curve_join.specs.Inner.Search.{AreLeastCosts}
+use Rattle.curve_join.specs.Inner.CutSearch.{AreLeastCosts}
 use Rattle.curve_join.proofs.search.fill_ways.Goals as goal
 
 -- from the end on no run is left, and nothing to pay

@@ -1,7 +1,7 @@
 use Rattle.std.proofs.Common.{length}
 use Rattle.least_walk.specs.Inner.Suffix.{HasFewest, HasNexts}
 use Rattle.curve_join.specs.Choice.{MayBeOne, run_penalty}
-use Rattle.curve_join.specs.Inner.Search.{AreLeastCosts}
+use Rattle.curve_join.specs.Inner.CutSearch.{AreLeastCosts}
 use Rattle.curve_join.proofs.search.fill_ways.Given as goal
 
 abbrev pub invariant-loop-from : goal.invariant-loop-from

@@ -3,7 +3,7 @@ use Rattle.pt_core.specs.Files.{Lacks}
 use Rattle.page_batches.specs.Inner.Desks.{sinks_at}
 use Rattle.page_batches.proofs.Counts.{same_count, some_room}
 use Rattle.page_batches.proofs.Desks.{keeps_on}
-use Rattle.file_documents.specs.Items.{told_contents}
+use Rattle.file_documents.specs.FileItems.{told_contents}
 use Rattle.file_documents.specs.Manner.{base_by}
 use Rattle.run_output.specs.Told.{source_of}
 use Rattle.file_documents.specs.Progress.{InputCount}

@@ -4,7 +4,7 @@ use Rattle.run_output.specs.Made.{no_past}
 use Rattle.page_batches.specs.Inner.Desks.{sinks_at}
 use Rattle.page_batches.proofs.Counts.{same_count, some_room}
 use Rattle.page_batches.proofs.Desks.{keeps_on}
-use Rattle.file_documents.specs.Items.{told_contents}
+use Rattle.file_documents.specs.FileItems.{told_contents}
 use Rattle.run_output.specs.Told.{source_of}
 use Rattle.file_documents.specs.Inner.Tasks.{manner_of}
 use Rattle.file_documents.proofs.Counting.{input_from}

@@ -1,7 +1,7 @@
 use Rattle.std.proofs.Common.{◌≡◌, ◌≤◌, ◌+◌, ◌*◌, length, min, take}
 use Rattle.pt_core.specs.Counts.{last_count}
 use Rattle.page_batches.specs.Inner.Desks.{Keeps, sinks_at}
-use Rattle.file_documents.specs.Items.{told_contents}
+use Rattle.file_documents.specs.FileItems.{told_contents}
 use Rattle.file_documents.specs.Outcome.{LastEndsNear, OpensFirst}
 use Rattle.run_output.specs.Told.{source_of}
 use Rattle.file_documents.specs.Inner.Progress.{CanHold}

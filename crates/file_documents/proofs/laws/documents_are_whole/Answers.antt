@@ -1,6 +1,6 @@
 use Rattle.std.proofs.Common.{refl}
 use Rattle.run_output.specs.declared.part.Binding.TheVariants.{Apart}
-use Rattle.file_documents.specs.Items.{Nothing}
+use Rattle.file_documents.specs.FileItems.{Nothing}
 use Rattle.file_documents.specs.Manner.{manner_by}
 use Rattle.file_documents.proofs.Closing.{items_end, nothing_ends}
 use Rattle.file_documents.proofs.laws.documents_are_whole.Goals as goal

@@ -1,5 +1,5 @@
 use Rattle.std.proofs.Common.{◌∙◌, sym}
-use Rattle.file_documents.specs.Items.{Nothing}
+use Rattle.file_documents.specs.FileItems.{Nothing}
 use Rattle.file_documents.specs.Manner.{manner_by}
 use Rattle.file_documents.proofs.OneItems.{one_list}
 use Rattle.file_documents.proofs.laws.items_are_one.Goals as goal

@@ -1,6 +1,6 @@
 use Rattle.std.proofs.Common.{◌≡◌, Err, ap}
 use Rattle.pt_core.specs.Files.{unread}
-use Rattle.bitmap_input.specs.Cut.Ending.{End, Trailing}
+use Rattle.bitmap_input.specs.Cut.FileEnd.{End, Trailing}
 use Rattle.bitmap_input.specs.Front.{front}
 use Rattle.bitmap_input.specs.Front.Answer.{Ends}
 use Rattle.bitmap_input.specs.Reader.{IfSays, ahead, is_later}

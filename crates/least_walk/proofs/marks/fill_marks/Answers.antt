@@ -1,6 +1,6 @@
 use Rattle.std.proofs.Common.{◌+◌, Bool, List, sym, ◌∙◌, subst, arith}
 use Rattle.std.proofs.lemmas.Bool.{false≢true}
-use Rattle.least_walk.specs.Inner.Places.{IsMarked}
+use Rattle.least_walk.specs.Inner.MarkedPlaces.{IsMarked}
 use Rattle.least_walk.proofs.Marking.{AreSpread, spread_start, spread_same, spread_more, spread_whole}
 use Rattle.least_walk.proofs.marks.fill_marks.Goals as goal
 use Rattle.least_walk.proofs.marks.fill_marks.Goals.{then-marks-from, else-marks-from}

@@ -2,7 +2,7 @@ use Rattle.std.proofs.Common.{◌≡◌, ℕ, ◌+◌, ◌-◌, ◌<◌, length,
 use Rattle.std.proofs.lemmas.Bool.{false≢true}
 use Rattle.std.proofs.lemmas.List.{length-set}
 use Rattle.least_walk.specs.Inner.Suffix.{HasCosts, HasNexts}
-use Rattle.least_walk.specs.Inner.Places.{IsPlace}
+use Rattle.least_walk.specs.Inner.MarkedPlaces.{IsPlace}
 use Rattle.least_walk.proofs.Filling.{costs_more, costs_same, nexts_more, nexts_same}
 use Rattle.least_walk.proofs.Onward.{cost_at_end}
 use Rattle.least_walk.proofs.suffixes.fill_costs.Goals as goal

@@ -1,5 +1,5 @@
 use Rattle.std.proofs.Common.{ℕ, Bool, List, sym, ◌∙◌, subst, arith}
-use Rattle.least_walk.specs.Inner.Places.{HasMarks}
+use Rattle.least_walk.specs.Inner.MarkedPlaces.{HasMarks}
 use Rattle.least_walk.specs.Inner.Suffix.{HasCosts, HasFewest, HasNexts}
 use Rattle.least_walk.proofs.Lists.{unmarked, whole}
 use Rattle.least_walk.proofs.walk.least.Goals as goal

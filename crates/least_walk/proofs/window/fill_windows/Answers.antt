@@ -2,7 +2,7 @@ use Rattle.std.proofs.Common.{◌≡◌, ℕ, ◌+◌, ◌-◌, ◌≤◌, sym, 
 use Rattle.std.specs.Prelude.{min, max, slice_index}
 use Rattle.std.proofs.lemmas.List.{get_or_default}
 use Rattle.std.proofs.lemmas.Bool.{false≢true}
-use Rattle.least_walk.specs.Inner.Places.{IsMarked}
+use Rattle.least_walk.specs.Inner.MarkedPlaces.{IsMarked}
 use Rattle.least_walk.specs.declared.window.Window.{Window}
 use Rattle.least_walk.proofs.Widening.{AreBelow, below_none, below_same, below_more, count_below, windows_whole}
 use Rattle.least_walk.proofs.window.fill_windows.Goals as goal

@@ -1,5 +1,5 @@
 use Rattle.std.proofs.Common.{ℕ, Bool, List, sym, ◌∙◌, subst, arith}
-use Rattle.least_walk.specs.Inner.Places.{HasMarks}
+use Rattle.least_walk.specs.Inner.MarkedPlaces.{HasMarks}
 use Rattle.least_walk.specs.Inner.Suffix.{HasFewest}
 use Rattle.least_walk.specs.Windows.{AreWindows}
 use Rattle.least_walk.specs.declared.window.Window.{Window}

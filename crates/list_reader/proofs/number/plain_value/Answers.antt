@@ -1,5 +1,5 @@
 use Rattle.std.proofs.Common.{◌<◌, ◌^◌, subst}
-use Rattle.list_reader.specs.Inner.Numbers.{IsPlain}
+use Rattle.list_reader.specs.Inner.Numerals.{IsPlain}
 use Rattle.list_reader.proofs.Runs.{plain_decimal, decimal_of_value}
 use Rattle.list_reader.proofs.number.plain_value.Goals as goal
 

@@ -1,6 +1,6 @@
 use Rattle.std.proofs.Common.{Err, inl, inr, refl, ap, map, subst}
 use Rattle.std.specs.Prelude.{string_bytes}
-use Rattle.filter_words.specs.Asked.{IsFilterAsked}
+use Rattle.filter_words.specs.FilterAsked.{IsFilterAsked}
 use Rattle.filter_words.specs.declared.ask.FilterAsk.{FilterAsk}
 use Rattle.mk_run.proofs.program.run.Goals as goal
 

@@ -1,6 +1,6 @@
 use Rattle.std.proofs.Common.{ℕ, ◌≤◌, inl, inr, List, [], length, take, refl, ap, ◌∙◌, subst, arith}
 use Rattle.mk_run.specs.Inner.Put.{GoesWell}
-use Rattle.mk_run.specs.Inner.Work.{header_of}
+use Rattle.mk_run.specs.Inner.FilterWork.{header_of}
 use Rattle.pt_core.specs.Documents.{with_bytes, with_open}
 use Rattle.run_output.specs.Names.{dash}
 use Rattle.run_output.specs.Told.{told_of}

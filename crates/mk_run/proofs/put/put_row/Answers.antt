@@ -2,7 +2,7 @@ use Rattle.std.proofs.Common.{◌≡◌, ℕ, ◌≤◌, List, ◌++◌, length,
 use Rattle.std.proofs.lemmas.List.{with_items_is}
 use Rattle.pt_core.specs.Documents.{with_bytes}
 use Rattle.mk_run.specs.Result.{scan_of}
-use Rattle.mk_run.specs.Inner.Work.{header_of}
+use Rattle.mk_run.specs.Inner.FilterWork.{header_of}
 use Rattle.mk_run.proofs.Cutting.{scan_is}
 use Rattle.mk_run.proofs.Giving.{header_stays}
 use Rattle.mk_run.proofs.Working.{along_of, given_is, row_is}

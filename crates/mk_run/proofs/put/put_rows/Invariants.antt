@@ -4,7 +4,7 @@ use Rattle.mkbitmap.specs.Follows.{SameSetup}
 use Rattle.run_output.specs.Told.{told_of}
 use Rattle.mk_run.specs.Inner.Put.{GoesWell, PutsRows}
 use Rattle.mk_run.specs.Put.{need_of}
-use Rattle.mk_run.specs.Inner.Work.{GivesRows, HasRooms, IsAtWork, header_of, MayRead}
+use Rattle.mk_run.specs.Inner.FilterWork.{GivesRows, HasRooms, IsAtWork, header_of, MayRead}
 use Rattle.mk_run.proofs.put.put_rows.Given as goal
 
 -- the rows above this one are written

@@ -3,7 +3,7 @@ use Rattle.bitmap_input.specs.declared.gray_reader.GrayHead.{GrayHead}
 use Rattle.mkbitmap.specs.Enlarged.{after_of}
 use Rattle.mkbitmap.proofs.Lifting.{need-is}
 use Rattle.mkbitmap.proofs.Order.{after-ends}
-use Rattle.mk_run.specs.Inner.Work.{IsAtWork}
+use Rattle.mk_run.specs.Inner.FilterWork.{IsAtWork}
 use Rattle.mk_run.proofs.Giving.{gives_none, gives_on}
 use Rattle.mk_run.proofs.Working.{along_of, ge_of, is_less, lt_of, same_setup_on, work_step}
 use Rattle.mk_run.proofs.rows.make_ready.Goals as goal

@@ -1,7 +1,7 @@
 use Rattle.std.proofs.Common.{◌≡◌, ℕ, ◌+◌, ◌-◌, ◌≤◌, List, length}
 use Rattle.mkbitmap.specs.Enlarged.{after_of, need}
 use Rattle.mkbitmap.specs.Follows.{SameSetup}
-use Rattle.mk_run.specs.Inner.Work.{GivesRows, GoesAlong, MayRead}
+use Rattle.mk_run.specs.Inner.FilterWork.{GivesRows, GoesAlong, MayRead}
 use Rattle.mk_run.proofs.rows.make_ready.Given as goal
 
 -- some rows more were read and taken, no more than the row of the result needs

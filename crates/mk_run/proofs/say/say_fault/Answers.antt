@@ -1,6 +1,6 @@
 use Rattle.std.proofs.Common.{ℕ, List, subst}
 use Rattle.run_output.specs.Told.{IsMessage, told_of}
-use Rattle.mk_run.specs.Outcome.{page_says}
+use Rattle.mk_run.specs.FilterRun.{page_says}
 use Rattle.mk_run.proofs.Heading.{refused_cause}
 use Rattle.mk_run.proofs.say.say_fault.Goals as goal
 

@@ -2,7 +2,7 @@ use Rattle.std.proofs.Common.{◌≡◌, ◌-◌}
 use Rattle.mkbitmap.specs.Inner.Enlarged.{dark}
 use Rattle.mkbitmap.specs.Inner.Packing.{bits_value}
 use Rattle.mkbitmap.specs.Packing.{padded}
-use Rattle.mkbitmap.specs.Inner.Place.{IsPlaceOf}
+use Rattle.mkbitmap.specs.Inner.CentrePlace.{IsPlaceOf}
 use Rattle.mkbitmap.proofs.enlarge.byte_at.Given as goal
 
 abbrev pub invariant-loop-x : goal.invariant-loop-x

@@ -1,7 +1,7 @@
 use Rattle.std.proofs.Common.{◌≡◌, ◌+◌, ℕ, refl, sym, subst}
 use Rattle.path_decompose.specs.Bounds.{IsCornerOf}
 use Rattle.bit_image.specs.Page.{Page, SameSides}
-use Rattle.point_fill.specs.Inner.Reading.{IsPointAt, IsNoPointAt}
+use Rattle.point_fill.specs.Inner.PointsReading.{IsPointAt, IsNoPointAt}
 use Rattle.point_fill.proofs.Looping.{first_read, next_read, loop_read, last_is_corner, no_loop_in, no_loop_without_first, no_loop_without_point, no_loop_by_step, no_loop_of_few, no_loop_open}
 use Rattle.point_fill.proofs.points.mark_loop.Goals as goal
 

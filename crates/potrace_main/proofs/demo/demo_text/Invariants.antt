@@ -1,6 +1,6 @@
 use Rattle.std.proofs.Common.{◌≤◌, ◌++◌, ℕ, List}
 use Rattle.std.specs.List.{AllZip, concat}
-use Rattle.potrace_main.specs.Line.{IsDemoLine, IsDemoText}
+use Rattle.potrace_main.specs.Demo.{IsDemoLine, IsDemoText}
 use Rattle.demo_pages.specs.Picture.{pages_from}
 use Rattle.potrace_main.proofs.demo.demo_text.Given as goal
 

@@ -24,5 +24,5 @@ returns-in-Ok-reply g c =
       takes = record { opened = c.read_all.ensures.one_opening; steady = c.in-Ok.ensures.steady; has = c.in-Ok.ensures.whole };
       few = c.in-Ok.ensures.few;
       made = c.in-Ok-reply.ensures;
-      one = λ text other other_made. g.met.T.Task.one_ending c.args.task.now c.in-Ok.bytes.items _ text _ other c.in-Ok-reply.ensures other_made;
+      one = λ text other other_made. g.met.T.Replies.one_ending c.args.task.now c.in-Ok.bytes.items _ text _ other c.in-Ok-reply.ensures other_made;
     }) c.put_reply.ensures

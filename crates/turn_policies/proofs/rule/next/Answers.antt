@@ -4,21 +4,21 @@ use Rattle.std.proofs.Common.{◌≡◌, suc, ◌-◌, ◌≤◌, pred, refl, su
 use Rattle.bit_image.specs.Page.{image_of}
 use Rattle.turn_policies.specs.Heading.{end_x, end_y}
 use Rattle.turn_policies.specs.declared.heading.Dir.TheVariants.{South, West}
-use Rattle.turn_policies.proofs.OnPage.{IsOnPage-boundary}
+use Rattle.turn_policies.proofs.OnPage.{IsEdgeOnPage-boundary}
 use Rattle.turn_policies.proofs.Turning.{next_is}
 use Rattle.turn_policies.proofs.rule.next.Goals as goal
 
 pub turned_at-requires-clause-y : goal.turned_at-requires-clause-y
 turned_at-requires-clause-y c =
     let page = c.args.page.now in
-    let on = IsOnPage-boundary (image_of page) page.width page.height c.args.edge c.width-width.ensures.fits c.requires in
+    let on = IsEdgeOnPage-boundary (image_of page) page.width page.height c.args.edge c.width-width.ensures.fits c.requires in
     let row : suc c.args.edge.y ≤ page.height = subst (λ d. end_y c.args.edge.y d ≤ page.height) c.in-North.is on.end_y_in in
     omega (arith, row, c.width-width.ensures.page.most_height)
 
 pub turned_at-requires-in-East-clause-x : goal.turned_at-requires-in-East-clause-x
 turned_at-requires-in-East-clause-x c =
     let page = c.args.page.now in
-    let on = IsOnPage-boundary (image_of page) page.width page.height c.args.edge c.width-width.ensures.fits c.requires in
+    let on = IsEdgeOnPage-boundary (image_of page) page.width page.height c.args.edge c.width-width.ensures.fits c.requires in
     let column : suc c.args.edge.x ≤ page.width = subst (λ d. end_x c.args.edge.x d ≤ page.width) c.in-East.is on.end_x_in in
     omega (arith, column, c.width-width.ensures.page.most_width)
 

@@ -1,8 +1,8 @@
 use Rattle.std.proofs.Common.{◌<◌, refl, min, ap, ◌∙◌}
 use Rattle.bitmap_input.specs.Cut.Kind.{BadOffset}
-use Rattle.bitmap_input.specs.Cut.Ending.{Refused}
+use Rattle.bitmap_input.specs.Cut.FileEnd.{Refused}
 use Rattle.bitmap_input.specs.BmpHeader.{width, height, pixel_offset, palette_end}
-use Rattle.bitmap_input.specs.Inner.Run.{cap, IsCapped}
+use Rattle.bitmap_input.specs.Inner.ByteRuns.{cap, IsCapped}
 use Rattle.bitmap_input.proofs.BmpReading.{placed_too_soon}
 use Rattle.bitmap_input.proofs.bmp.header.describe.Goals as goal
 

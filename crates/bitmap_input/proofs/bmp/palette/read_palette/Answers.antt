@@ -6,6 +6,6 @@ pub overflow_mul-n : goal.overflow_mul-n
 overflow_mul-n g c =
     omega (arith, mul-le c.args.header.now.color_bytes c.args.header.now.palette_length 4 256 c.requires.readable.most_bytes c.requires.readable.most_colors)
 
-pub slice_bounds-buffer-end : goal.slice_bounds-buffer-end
-slice_bounds-buffer-end g c =
+pub slice_bounds-palette-end : goal.slice_bounds-palette-end
+slice_bounds-palette-end g c =
     omega (arith, mul-le c.args.header.now.color_bytes c.args.header.now.palette_length 4 256 c.requires.readable.most_bytes c.requires.readable.most_colors)

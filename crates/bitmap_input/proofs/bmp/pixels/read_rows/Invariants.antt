@@ -13,9 +13,9 @@ invariant-loop-i g l =
     let source = g.I.Inputs in
     record {
       so_far : (color : ℕ → Entry) → IsPaletteTable l.tone.level l.tone.invert color l.table →
-          IsGatheredSoFar (color_row (row_bytes_by l.header) (bits_in l.header.depth) color l.fn.page.width) l.fn.window (source.files l.fn.inputs)
+          IsGatheredSoFar (color_row (row_bytes_by l.header) (bits_in l.header.depth) color l.fn.page.width) l.fn.buffer (source.files l.fn.inputs)
           (λ rows. with_placed (row_place l.header.top_down l.fn.page.height) (image_of l.fn.page) 0 (map (map (black l.tone.level l.tone.invert)) rows)) l.fn.page.height
-          l.window (source.files l.inputs)
+          l.buffer (source.files l.inputs)
           (λ rows. with_placed (row_place l.header.top_down l.fn.page.height) (image_of l.page) l.i (map (map (black l.tone.level l.tone.invert)) rows)) (l.fn.page.height - l.i);
       sides : SameSides l.fn.page l.page;
       row : length l.row ≡ row_bytes_by l.header;

@@ -1,6 +1,6 @@
 use Rattle.std.proofs.Common.{◌≡◌, true, refl, ap, sym, arith}
 use Rattle.bitmap_input.specs.declared.fault.InFault.TheVariants as fault
-use Rattle.bitmap_input.specs.Cut.Ending.{End, Trailing}
+use Rattle.bitmap_input.specs.Cut.FileEnd.{End, Trailing}
 use Rattle.bitmap_input.specs.Inner.Reading.{cause_of}
 use Rattle.bitmap_input.specs.Reading.{cause_of_fault}
 use Rattle.bitmap_input.specs.Reader.{Reader}
@@ -11,20 +11,20 @@ use Rattle.bitmap_input.proofs.reader.PageReader.next.Goals.{in-End, in-Trailing
 
 pub returns-in-Ok-clause-page : goal.returns-in-Ok-clause-page
 returns-in-Ok-clause-page g c =
-    rw (← c.self.view_is) (gives_page c.args.level.now c.args.invert c.self.inside.window c.read_ahead-answer.new.window _ _ _ _ _ _ _ _ c.in-Ok.ensures.reads refl refl c.if-self.false)
+    rw (← c.self.view_is) (gives_page c.args.level.now c.args.invert c.self.inside.buffer c.read_ahead-answer.new.buffer _ _ _ _ _ _ _ _ c.in-Ok.ensures.reads refl refl c.if-self.false)
 
 pub returns-in-Ok-clause-told_page : goal.returns-in-Ok-clause-told_page
 returns-in-Ok-clause-told_page g c =
     let at_end = rw (← c.self.view_is) at c.requires.at_end in
-    rw (← c.self.view_is) (told_page c.args.level.now c.args.invert c.self.inside.window c.read_ahead-answer.new.window _ _ _ _ _ _ _ _ at_end
-    (gives_page c.args.level.now c.args.invert c.self.inside.window c.read_ahead-answer.new.window _ _ _ _ _ _ _ _ c.in-Ok.ensures.reads refl refl c.if-self.false))
+    rw (← c.self.view_is) (told_page c.args.level.now c.args.invert c.self.inside.buffer c.read_ahead-answer.new.buffer _ _ _ _ _ _ _ _ at_end
+    (gives_page c.args.level.now c.args.invert c.self.inside.buffer c.read_ahead-answer.new.buffer _ _ _ _ _ _ _ _ c.in-Ok.ensures.reads refl refl c.if-self.false))
 
 pub returns-after-stop-clause-told_ending : goal.returns-after-stop-clause-told_ending
 returns-after-stop-clause-told_ending g c =
     let at_end = rw (← c.self.view_is) at c.requires.at_end in
-    let gives = gives_ending c.args.level.now c.args.invert c.self.inside.window c.read_ahead-answer.new.window c.self.inside.skip c.self.inside.skip c.self.inside.pages c.self.inside.pages c.self.inside.over true
+    let gives = gives_ending c.args.level.now c.args.invert c.self.inside.buffer c.read_ahead-answer.new.buffer c.self.inside.skip c.self.inside.skip c.self.inside.pages c.self.inside.pages c.self.inside.over true
     (g.I.Inputs.files c.args.inputs.now) (g.I.Inputs.files c.read_ahead-answer.new.inputs) c.in-Err.stop c.in-Err.ensures.reads refl refl in
-    let told = told_says c.args.level.now c.args.invert c.self.inside.window c.read_ahead-answer.new.window c.self.inside.skip c.self.inside.skip c.self.inside.pages c.self.inside.pages c.self.inside.over true
+    let told = told_says c.args.level.now c.args.invert c.self.inside.buffer c.read_ahead-answer.new.buffer c.self.inside.skip c.self.inside.skip c.self.inside.pages c.self.inside.pages c.self.inside.over true
     (g.I.Inputs.files c.args.inputs.now) (g.I.Inputs.files c.read_ahead-answer.new.inputs) (cause_of c.in-Err.stop) at_end gives in
     rw (← c.self.view_is) (elim c.match-stop.branch [
       | in-End w ↦ rw w.result-is (rw w.in-End.is at told)
@@ -34,7 +34,7 @@ returns-after-stop-clause-told_ending g c =
 
 pub returns-after-stop-clause-ending : goal.returns-after-stop-clause-ending
 returns-after-stop-clause-ending g c =
-    let gives = gives_ending c.args.level.now c.args.invert c.self.inside.window c.read_ahead-answer.new.window c.self.inside.skip c.self.inside.skip c.self.inside.pages c.self.inside.pages c.self.inside.over true
+    let gives = gives_ending c.args.level.now c.args.invert c.self.inside.buffer c.read_ahead-answer.new.buffer c.self.inside.skip c.self.inside.skip c.self.inside.pages c.self.inside.pages c.self.inside.over true
     (g.I.Inputs.files c.args.inputs.now) (g.I.Inputs.files c.read_ahead-answer.new.inputs) c.in-Err.stop c.in-Err.ensures.reads refl refl in
     rw (← c.self.view_is) (elim c.match-stop.branch [
       | in-End w ↦ rw w.result-is (gives End (rw w.in-End.is refl))
@@ -44,7 +44,7 @@ returns-after-stop-clause-ending g c =
 
 pub returns-after-stop-clause-read_fault : goal.returns-after-stop-clause-read_fault
 returns-after-stop-clause-read_fault g c = λ err.
-    rw (← c.self.view_is) (fails_read c.args.level.now c.args.invert c.self.inside.window c.read_ahead-answer.new.window c.self.inside.skip c.self.inside.skip c.self.inside.pages c.self.inside.pages c.self.inside.over true
+    rw (← c.self.view_is) (fails_read c.args.level.now c.args.invert c.self.inside.buffer c.read_ahead-answer.new.buffer c.self.inside.skip c.self.inside.skip c.self.inside.pages c.self.inside.pages c.self.inside.over true
     (g.I.Inputs.files c.args.inputs.now) (g.I.Inputs.files c.read_ahead-answer.new.inputs) c.in-Err.stop c.in-Err.ensures.reads refl refl
     (elim c.match-stop.branch [
       | in-End w ↦ let e = rw w.result-is at err in (cc)
@@ -54,27 +54,27 @@ returns-after-stop-clause-read_fault g c = λ err.
 
 pub returns-after-stop-clause-no_memory : goal.returns-after-stop-clause-no_memory
 returns-after-stop-clause-no_memory g c = λ _.
-    rw (← c.self.view_is) (wants_memory c.args.level.now c.args.invert c.self.inside.window c.read_ahead-answer.new.window c.self.inside.skip c.self.inside.skip c.self.inside.pages c.self.inside.pages c.self.inside.over true
+    rw (← c.self.view_is) (wants_memory c.args.level.now c.args.invert c.self.inside.buffer c.read_ahead-answer.new.buffer c.self.inside.skip c.self.inside.skip c.self.inside.pages c.self.inside.pages c.self.inside.over true
     (g.I.Inputs.files c.args.inputs.now) (g.I.Inputs.files c.read_ahead-answer.new.inputs) c.in-Err.stop c.in-Err.ensures.reads refl refl)
 
 pub returns-then-self-clause-always : goal.returns-then-self-clause-always
 returns-then-self-clause-always g c =
-    rw (← c.self.view_is) (over_comes c.args.level.now c.args.invert (reader_of c.self.inside.window c.self.inside.skip c.self.inside.pages c.self.inside.over) _ _ _ c.if-self.true)
+    rw (← c.self.view_is) (over_comes c.args.level.now c.args.invert (reader_of c.self.inside.buffer c.self.inside.skip c.self.inside.pages c.self.inside.over) _ _ _ c.if-self.true)
 
 pub returns-in-Ok-clause-always : goal.returns-in-Ok-clause-always
 returns-in-Ok-clause-always g c =
     let at_end = rw (← c.self.view_is) at c.requires.at_end in
-    rw (← c.self.view_is) (page_comes c.args.level.now c.args.invert (reader_of c.self.inside.window c.self.inside.skip c.self.inside.pages c.self.inside.over) _ _ c.in-Ok.read.page _ _ _
-    (told_page c.args.level.now c.args.invert c.self.inside.window c.read_ahead-answer.new.window _ _ _ _ _ _ _ _ at_end
-    (gives_page c.args.level.now c.args.invert c.self.inside.window c.read_ahead-answer.new.window _ _ _ _ _ _ _ _ c.in-Ok.ensures.reads refl refl c.if-self.false)))
+    rw (← c.self.view_is) (page_comes c.args.level.now c.args.invert (reader_of c.self.inside.buffer c.self.inside.skip c.self.inside.pages c.self.inside.over) _ _ c.in-Ok.read.page _ _ _
+    (told_page c.args.level.now c.args.invert c.self.inside.buffer c.read_ahead-answer.new.buffer _ _ _ _ _ _ _ _ at_end
+    (gives_page c.args.level.now c.args.invert c.self.inside.buffer c.read_ahead-answer.new.buffer _ _ _ _ _ _ _ _ c.in-Ok.ensures.reads refl refl c.if-self.false)))
 
 pub returns-after-stop-clause-always : goal.returns-after-stop-clause-always
 returns-after-stop-clause-always g c =
-    let reader : Reader = reader_of c.self.inside.window c.self.inside.skip c.self.inside.pages c.self.inside.over in
+    let reader : Reader = reader_of c.self.inside.buffer c.self.inside.skip c.self.inside.pages c.self.inside.over in
     let at_end = rw (← c.self.view_is) at c.requires.at_end in
-    let gives = gives_ending c.args.level.now c.args.invert c.self.inside.window c.read_ahead-answer.new.window c.self.inside.skip c.self.inside.skip c.self.inside.pages c.self.inside.pages c.self.inside.over true
+    let gives = gives_ending c.args.level.now c.args.invert c.self.inside.buffer c.read_ahead-answer.new.buffer c.self.inside.skip c.self.inside.skip c.self.inside.pages c.self.inside.pages c.self.inside.over true
     (g.I.Inputs.files c.args.inputs.now) (g.I.Inputs.files c.read_ahead-answer.new.inputs) c.in-Err.stop c.in-Err.ensures.reads refl refl in
-    let told = told_says c.args.level.now c.args.invert c.self.inside.window c.read_ahead-answer.new.window c.self.inside.skip c.self.inside.skip c.self.inside.pages c.self.inside.pages c.self.inside.over true
+    let told = told_says c.args.level.now c.args.invert c.self.inside.buffer c.read_ahead-answer.new.buffer c.self.inside.skip c.self.inside.skip c.self.inside.pages c.self.inside.pages c.self.inside.over true
     (g.I.Inputs.files c.args.inputs.now) (g.I.Inputs.files c.read_ahead-answer.new.inputs) (cause_of c.in-Err.stop) at_end gives in
     rw (← c.self.view_is) (elim c.match-stop.branch [
       | in-End w ↦ rw w.result-is (end_comes c.args.level.now c.args.invert reader _ _ _ (rw w.in-End.is at told))

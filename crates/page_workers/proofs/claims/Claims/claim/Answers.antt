@@ -1,6 +1,6 @@
 use Rattle.std.proofs.Common.{◌≡◌, ◌<◌, ◌≤◌, ◌^◌, ◌∙◌, true, true≢false, refl, sym, ap, arith, rules}
 use Rattle.page_workers.specs.declared.hand.Hand.{Hand}
-use Rattle.page_workers.specs.Numbers.{has_from}
+use Rattle.page_workers.specs.NumberLists.{has_from}
 use Rattle.page_workers.specs.Seats.{Counter, Counting, Claimant}
 use Rattle.page_workers.proofs.Lists.{still, ends}
 use Rattle.page_workers.proofs.Claiming.{is_claim, page_below, page_past}

@@ -2,7 +2,7 @@ use Rattle.std.proofs.Common.{◌≡◌, ◌+◌, ◌↔◌, suc, sym, subst, ar
 use Rattle.straight_paths.specs.Inner.Cones.{HoldsWay}
 use Rattle.straight_paths.specs.Inner.Courses.{cone_of}
 use Rattle.straight_paths.specs.Straight.{IsNear}
-use Rattle.straight_paths.specs.Inner.Words.{AreTaken}
+use Rattle.straight_paths.specs.Inner.NextSteps.{AreTaken}
 use Rattle.straight_paths.specs.declared.cone.Cone.{Cone}
 use Rattle.straight_paths.specs.declared.course.Course.{Course}
 use Rattle.straight_paths.specs.declared.vector.Vector.{Vector}

@@ -1,6 +1,6 @@
 use Rattle.std.proofs.Common.{◌<◌, sym, subst, arith}
 use Rattle.straight_paths.specs.Inner.Tables.{LeadsToWord, count_at, digits_at}
-use Rattle.straight_paths.specs.Inner.Words.{TellsFront}
+use Rattle.straight_paths.specs.Inner.NextSteps.{TellsFront}
 use Rattle.straight_paths.specs.declared.course.Course.{Course}
 use Rattle.straight_paths.proofs.Tabling.{keeps_on, tells_front}
 use Rattle.straight_paths.proofs.table.Table.+next.Goals as goal

@@ -1,0 +1,177 @@
+//! The bytes that were taken from the inputs and not used yet.
+ghost use Rattle.std.specs.Prelude.{◌≡◌, ℕ, ◌≤◌, ◌<◌, true, false, length, take, drop, [], ◌∷◌, ◌++◌, IfOk, OnOk, OnErr};
+ghost use Rattle.pt_core.specs.Counts.{Rose};
+ghost use Rattle.bitmap_input.specs.Reading.{Moves};
+ghost use Rattle.bitmap_input.specs.Inner.Buffer.{IsFirst, Looks, CountsLook};
+
+use pt_core::{DeviceFault, Inputs, NoMemory};
+use std::alloc::Global;
+use std::marker::Model;
+
+/// The most bytes that are taken ahead of those that were used.
+pub(crate) const ROOM: usize = 65536;
+
+/// A buffer of bytes between the inputs and the steps of the reader.
+#[derive(Debug, Drop)]
+pub(crate) struct Buffer {
+    buf: Vec<u8>,
+    start: usize,
+    end: usize,
+    ended: bool,
+}
+
+impl Model for Buffer {
+    ghost use Rattle.std.specs.Prelude.{◌≡◌, ◌≤◌, ◌-◌, length, take, drop};
+    ghost use Rattle.bitmap_input.specs.Reading.{Buffered};
+
+    ghost Value = { Buffered };
+
+    ghost view = { λ w. record {
+      bytes = take (w.end - w.start)
+          (drop w.start w.buf.items);
+      ended = w.ended;
+    } };
+
+    ghost invariant = { λ w. (w.start ≤ w.end) × (w.end ≤ length w.buf.items)
+        × (length w.buf.items ≡ 65536) };
+}
+
+/// What stands at the front of what is still to be used.
+#[derive(Clone, Copy)]
+pub(crate) enum Look {
+    Byte(u8),
+    /// No byte is left.
+    End,
+    /// The next byte could not be read.
+    Fault,
+}
+
+impl Buffer {
+    pub(crate) fn new(alloc: Global) -> Result<Buffer, NoMemory>
+        ensures { IfOk result (λ w. w ≡ record { bytes = []; ended = false }) }
+    {
+        let buf = vec![in alloc; 0u8; ROOM]?;
+        Ok(Buffer {
+            buf,
+            start: 0,
+            end: 0,
+            ended: false,
+        })
+    }
+
+    /// Forgets the bytes, for a file that begins.
+    pub(crate) fn clear(&mut self)
+        ensures { self.new ≡ record { bytes = []; ended = false } }
+    {
+        self.start = 0;
+        self.end = 0;
+        self.ended = false;
+    }
+
+    /// No more bytes are held than the buffer has room for.
+    pub(crate) fn bounded(&self)
+        ensures { length self.now.bytes ≤ 65536 }
+    {
+        let _start = &self.start;
+    }
+
+    /// Takes the next bytes from the inputs, where none are left here.
+    #[cold]
+    #[inline(never)]
+    fn fill<I: Inputs>(&mut self, inputs: &mut I) -> Result<(), DeviceFault>
+        requires opened { I.is_opened inputs.old ≡ true }
+        requires none_left { self.old.bytes ≡ [] }
+        requires going_on { self.old.ended ≡ false }
+        ensures moves { OnOk result
+            (Moves false (I.files inputs.old) self.new.ended (I.files inputs.new) self.new.bytes) }
+        ensures some { OnOk result (self.new.ended ≡ false → 0 < length self.new.bytes) }
+        ensures none { OnOk result (self.new.ended ≡ true → self.new.bytes ≡ []) }
+        ensures within { OnOk result (length self.new.bytes ≤ 65536) }
+        ensures same { OnErr result (self.new ≡ self.old) }
+        ensures nothing { OnErr result (I.files inputs.new ≡ I.files inputs.old) }
+        ensures steady { OnOk result (I.faults inputs.new ≡ I.faults inputs.old) }
+        ensures cause { OnErr result (Rose (I.faults inputs.old) (I.faults inputs.new)) }
+        ensures never_falls { I.faults inputs.old ≤ I.faults inputs.new }
+        ensures stays_opened { I.is_opened inputs.new ≡ true }
+        ensures same_openings { I.openings inputs.new ≡ I.openings inputs.old }
+    {
+        let n = inputs.read(&mut self.buf)?;
+        self.start = 0;
+        self.end = n;
+        self.ended = n == 0;
+        Ok(())
+    }
+
+    /// The first byte, where there is one here.
+    fn first(&self) -> Option<u8>
+        ensures { IsFirst self.now.bytes result }
+    {
+        if self.start < self.end {
+            Some(self.buf[self.start])
+        } else {
+            None
+        }
+    }
+
+    /// The next byte, which stays where it is.
+    #[inline(always)]
+    pub(crate) fn look<I: Inputs>(&mut self, inputs: &mut I) -> Look
+        requires { I.is_opened inputs.old ≡ true }
+        ensures looks { Looks self.old (I.files inputs.old) result self.new (I.files inputs.new) }
+        ensures counts { CountsLook result (I.faults inputs.old) (I.faults inputs.new) }
+        ensures stays_opened { I.is_opened inputs.new ≡ true }
+        ensures same_openings { I.openings inputs.new ≡ I.openings inputs.old }
+    {
+        if let Some(byte) = self.first() {
+            return Look::Byte(byte);
+        }
+        if self.ended {
+            return Look::End;
+        }
+        match self.fill(inputs) {
+            Ok(()) => match self.first() {
+                Some(byte) => Look::Byte(byte),
+                None => Look::End,
+            },
+            Err(_) => Look::Fault,
+        }
+    }
+
+    /// Goes on behind the first byte.
+    pub(crate) fn pass(&mut self)
+        requires { 0 < length self.old.bytes }
+        ensures bytes { self.new.bytes ≡ drop 1 self.old.bytes }
+        ensures ended { self.new.ended ≡ self.old.ended }
+    {
+        self.start += 1;
+    }
+
+    /// Goes on behind the first bytes, as many as are here and no more than this: how many.
+    pub(crate) fn pass_some(&mut self, most: u32) -> u32
+        ensures within { result ≤ most }
+        ensures fits { result ≤ length self.old.bytes }
+        ensures some { 0 < most → 0 < length self.old.bytes → 0 < result }
+        ensures bytes { self.new.bytes ≡ drop result self.old.bytes }
+        ensures ended { self.new.ended ≡ self.old.ended }
+    {
+        let n = (most as usize).min(self.end - self.start);
+        self.start += n;
+        n as u32
+    }
+
+    /// Copies the first bytes to the beginning of `to`, as many as are here and fit, and goes on
+    /// behind them.
+    pub(crate) fn give(&mut self, to: &mut [u8]) -> usize
+        ensures within { result ≤ length to.old }
+        ensures fits { result ≤ length self.old.bytes }
+        ensures some { 0 < length to.old → 0 < length self.old.bytes → 0 < result }
+        ensures copied { take result to.new ≡ take result self.old.bytes }
+        ensures bytes { self.new.bytes ≡ drop result self.old.bytes }
+        ensures ended { self.new.ended ≡ self.old.ended }
+    {
+        let n = to.len().min(self.end - self.start);
+        to[..n].copy_from_slice(&self.buf[self.start..self.start + n]);
+        self.start += n;
+        n
+    }
+}

@@ -1,9 +1,0 @@
--- Where a pixel of the larger page lies among those of the page, in the program.
-use Rattle.std.specs.Prelude.{◌≡◌, ℕ}
-use Rattle.mkbitmap.specs.Enlarged.{after_of, distance_behind}
-use Rattle.mkbitmap.specs.declared.enlarge.Place.{Place}
-
--- this is the place of column X
-pub record IsPlaceOf (times X : ℕ) (p : Place) : Type 0 where
-  pub after : p.after ≡ after_of times X
-  pub part : p.part ≡ distance_behind times X

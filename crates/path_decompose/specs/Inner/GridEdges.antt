@@ -1,0 +1,16 @@
+-- Unit edges of the grid without a direction, each between two pixels (Selinger, "Potrace", 2003,
+-- section 2.1.1).
+-- These serve inner contracts alone: no promise rests on them.
+use Rattle.std.specs.Prelude.{ℕ, ◌<◌, ◌≤◌, Option, Some, None}
+use Rattle.path_decompose.specs.GridEdges.{GridEdge}
+use Rattle.path_decompose.specs.GridEdges.GridEdge.{upright, level}
+
+-- the line is a side of a pixel of a page of this width and height
+abbrev pub IsLineOn : ℕ → ℕ → GridEdge → Type 0
+IsLineOn width height (upright x y) = (x ≤ width) × (y < height)
+IsLineOn width height (level x y) = (x < width) × (y ≤ height)
+
+-- the column and the row of an upright line
+abbrev pub place_of : GridEdge → Option (ℕ × ℕ)
+place_of (upright x y) = Some (x, y)
+place_of (level x y) = None
