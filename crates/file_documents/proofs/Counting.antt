@@ -4,7 +4,7 @@ use Rattle.pt_core.specs.Counts.{Rose}
 use Rattle.bitmap_input.specs.declared.fault.InFault.TheVariants as fault
 use Rattle.run_output.specs.declared.status.Status.{Status}
 use Rattle.file_documents.specs.Inner.Progress.{FaultsBy, status_of}
-use Rattle.file_documents.specs.Progress.{InputCount}
+use Rattle.file_documents.specs.Outcome.{InputCount}
 use Rattle.file_documents.specs.declared.pages.PagesEnd.{PagesEnd}
 use Rattle.file_documents.specs.declared.pages.PagesEnd.TheVariants as why
 

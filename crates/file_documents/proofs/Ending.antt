@@ -26,9 +26,8 @@ use Rattle.page_batches.proofs.Carrying.{GoesOn-behind, IsSaying, carried_on, en
 use Rattle.page_batches.proofs.Holding.{ended_behind, halts_by, holds_goes_on}
 use Rattle.file_documents.specs.FileItems.{AreItems, IsAbsent, Nothing, told_contents}
 use Rattle.file_documents.specs.Manner.{HasTexts, Manner, base_by}
-use Rattle.file_documents.specs.Outcome.{EndsNear, HoldsBytes, IsOutcomeBehind, IsUnopened, IsUnread, OpensUpTo, ReadsFileNear, ReadsNear, opened_name}
+use Rattle.file_documents.specs.Outcome.{EndsNear, HoldsBytes, IsOutcomeBehind, IsUnopened, IsUnread, OpensUpTo, ReadsFileNear, ReadsNear, opened_name, InputCount}
 use Rattle.file_documents.specs.Inner.Progress.{EndsWithFile, Halts, Converts, ConvertsFile, end_message, status_of, text_items}
-use Rattle.file_documents.specs.Progress.{InputCount}
 use Rattle.file_documents.specs.Inner.Unopened.{EndsUnopened}
 use Rattle.file_documents.specs.declared.pages.PagesEnd.{PagesEnd}
 use Rattle.file_documents.specs.declared.pages.PagesEnd.TheVariants as why

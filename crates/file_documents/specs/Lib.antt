@@ -2,5 +2,4 @@ pub mod Manner
 pub mod FileItems
 pub mod Outcome
 pub mod OnePass
-pub mod Progress
 pub mod Inner

@@ -164,3 +164,13 @@ IsOutcomeBehind s first contents manner names past source source_now old new =
 -- what was done of the items of the files of these names
 abbrev pub IsOutcome : Status → Manner → List (List ℕ) → Source → Source → Sinks → Sinks → Type 0
 IsOutcome s manner names source source_now old new = IsOutcomeBehind s [] (told_contents source.files) manner names no_past source source_now old new
+
+-- how the inputs' count of faults moved: it stayed, but where a read failed (and then perhaps a document of a
+-- page in front of it couldn't be written) or memory ran out
+abbrev pub InputCount : Status → ℕ → ℕ → Type 0
+InputCount status.Unread before now = Unit {0}
+InputCount status.OutOfMemory before now = Unit {0}
+InputCount status.Done before now = now ≡ before
+InputCount status.BadWords before now = now ≡ before
+InputCount status.Refused before now = now ≡ before
+InputCount status.Unwritten before now = Unit {0}

@@ -10,7 +10,7 @@ ghost use Rattle.page_batches.specs.Inner.ItemsDone.{IsHalt, ended_with};
 ghost use Rattle.file_documents.specs.Manner.{HasTexts};
 ghost use Rattle.run_output.specs.Told.{source_of};
 ghost use Rattle.file_documents.specs.Inner.Progress.{AsksFor, CanHold, EndsFile, EndsHeld, EndsWithPages, GoesOnAfter, status_of};
-ghost use Rattle.file_documents.specs.Progress.{InputCount};
+ghost use Rattle.file_documents.specs.Outcome.{InputCount};
 ghost use Rattle.file_documents.specs.declared.pages.PagesEnd.{PagesEnd};
 ghost use Rattle.file_documents.specs.Inner.Tasks.{manner_of};
 ghost use Rattle.file_documents.specs.Inner.Unopened.{EndsUnopened};

@@ -6,9 +6,8 @@ ghost use Rattle.page_batches.specs.Inner.Desks.{Keeps, sinks_at};
 ghost use Rattle.file_documents.specs.FileItems.{told_contents};
 ghost use Rattle.file_documents.specs.Manner.{HasTexts};
 ghost use Rattle.file_documents.specs.OnePass.{IsOnePass};
-ghost use Rattle.file_documents.specs.Outcome.{IsOutcome, OpensFirst};
+ghost use Rattle.file_documents.specs.Outcome.{IsOutcome, OpensFirst, InputCount};
 ghost use Rattle.run_output.specs.Told.{source_of};
-ghost use Rattle.file_documents.specs.Progress.{InputCount};
 ghost use Rattle.file_documents.specs.Inner.Tasks.{manner_of};
 
 use crate::file::convert_file;

@@ -12,8 +12,7 @@ ghost use Rattle.page_batches.specs.Items.{Doc, Item};
 ghost use Rattle.page_batches.specs.ItemsDone.{HasEnded};
 ghost use Rattle.run_output.specs.Told.{sinks_of, source_of};
 ghost use Rattle.file_documents.specs.FileItems.{IsAbsent, told_contents};
-ghost use Rattle.file_documents.specs.Outcome.{LastEndsNear, OpensFirst};
-ghost use Rattle.file_documents.specs.Progress.{InputCount};
+ghost use Rattle.file_documents.specs.Outcome.{LastEndsNear, OpensFirst, InputCount};
 ghost use Rattle.potrace_main.specs.Run.{AreItemsOf, BindsApart, FailureCount, IsCodeOf, IsComplete, IsMissing, IsOnePassOf, IsOutcomeOf, RefusesWords, names_of};
 ghost use Rattle.potrace_main.specs.Inner.Run.{IsRun, IsRunBy};
 

@@ -9,8 +9,7 @@ use Rattle.run_output.specs.declared.status.Status.TheVariants as status
 use Rattle.command_asks.specs.Asked.{IsAsked}
 use Rattle.command_asks.specs.declared.ask.Ask.{Ask}
 use Rattle.run_output.specs.Told.{Sinks, Source, source_of}
-use Rattle.file_documents.specs.Outcome.{OpensFirst}
-use Rattle.file_documents.specs.Progress.{InputCount}
+use Rattle.file_documents.specs.Outcome.{OpensFirst, InputCount}
 use Rattle.potrace_main.specs.Run.{IsOutcomeOf, names_of, RefusesWords, BindsApart, IsOnePassOf}
 
 -- how the outputs moved: where a document couldn't be written their count of faults rose, and one call failed, the last

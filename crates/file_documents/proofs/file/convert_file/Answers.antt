@@ -6,7 +6,7 @@ use Rattle.page_batches.proofs.Desks.{keeps_on}
 use Rattle.file_documents.specs.FileItems.{told_contents}
 use Rattle.file_documents.specs.Manner.{base_by}
 use Rattle.run_output.specs.Told.{source_of}
-use Rattle.file_documents.specs.Progress.{InputCount}
+use Rattle.file_documents.specs.Outcome.{InputCount}
 use Rattle.file_documents.specs.Inner.Tasks.{manner_of}
 use Rattle.file_documents.proofs.Counting.{faults_from, input_by, rose_by}
 use Rattle.file_documents.proofs.Differing.{ok_not_err, out_not_unwritten}
