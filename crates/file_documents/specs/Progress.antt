@@ -1,4 +1,4 @@
--- How far the converting of a file has come: its first pages are converted.
+-- How the inputs' count of faults moves in a run over files.
 use Rattle.std.specs.Prelude.{◌≡◌, ℕ}
 use Rattle.run_output.specs.declared.status.Status.{Status}
 use Rattle.run_output.specs.declared.status.Status.TheVariants as status
