@@ -1,5 +1,4 @@
--- Reading from inputs through a buffer: what is taken from the inputs, and what part of a page the
--- bytes at hand and those taken are.
+-- Reading from inputs: which bytes are taken, whether they are needed, and why reading stops.
 use Rattle.std.specs.Prelude.{◌≡◌, ℕ, ◌≤◌, Bool, true, ◌⊎◌, List, [], ◌++◌, length, take, Option, IfSome}
 use Rattle.pt_core.specs.Files.{Files, with_read, unread}
 use Rattle.bitmap_input.specs.declared.fault.InFault.{InFault}

@@ -52,8 +52,8 @@ abbrev pub page_item : Manner → List ℕ → Past → ℕ → List ℕ → Ite
 page_item manner base past pages text =
     Write (page_part manner.binding (page_name manner.binding base past.made pages) pages text)
 
--- what follows the pages of a file, so many, that ends like this: where they are bound together their document, which has
--- this name, is ended, but for a refusal
+-- the items behind the pages of a file, of which there are so many, by how it ends. Well, or with trailing bytes: the items
+-- of its end, and then what follows. With a refusal: its message is the last item, and no document is ended.
 abbrev pub AreEndItems : Binding → List ℕ → List ℕ → ℕ → FileEnd → (List Item → Type 0) → List Item → Type 0
 AreEndItems b file name pages End Follow items = (rest : List Item) × (items ≡ end_items b name pages [] ++ rest) × Follow rest
 AreEndItems b file name pages Trailing Follow items =

@@ -103,8 +103,8 @@ pub record IsUnread (first : List Item) (contents : Option Contents) (manner : M
       (λ past items. ArePageItems manner name (base_by manner name) PagesAlone raws 0 past items) front past before
   pub done : AreCarriedOut (first ++ before) (page_line name (length raws + 1) (cause_text Device) ∷ []) old new
 
--- of these bytes, which begin with these pages, the `rest` ones are unread: no more than 65,536 were taken behind those
--- that the pages take, or behind so many that it isn't settled yet what follows the pages
+-- the bytes begin with these pages, and as many as `rest` has are unread. At most 65,536 were taken behind those that the
+-- pages take; or behind some first bytes, by whose end it isn't settled yet what follows the pages
 abbrev pub ReadsNear : List ℕ → List Raw → List ℕ → Type 0
 ReadsNear bytes raws rest =
     ((behind : List ℕ) × LeavesBehind false bytes raws behind × (length behind ≤ length rest + 65536))

@@ -1,4 +1,4 @@
--- What a run holds and has done, between rows of the result.
+-- Pages of which the first rows are known.
 use Rattle.std.specs.Prelude.{◌≡◌, ℕ, ◌<◌, ◌≤◌, List, [], length, get_or}
 use Rattle.mk_run.specs.PageHeader.{PageHeader}
 use Rattle.mkbitmap.specs.Box.{Gray}

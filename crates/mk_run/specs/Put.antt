@@ -1,4 +1,4 @@
--- What of the document a run wrote, and why it broke off.
+-- Where a document was cut off, among the rows of the result.
 use Rattle.std.specs.Prelude.{◌≡◌, ℕ, ◌+◌, ◌*◌, ◌<◌, ◌≤◌, ◌⊎◌, List, [], ◌++◌, length, take, Option}
 use Rattle.pt_core.specs.Documents.{Documents, IsCutOff, with_bytes, with_open}
 use Rattle.mk_run.specs.PageHeader.{PageHeader}
@@ -17,7 +17,7 @@ rows_above setup page Y = result_rows setup page page.height Y
 abbrev pub need_of : Setup → PageHeader → ℕ → ℕ
 need_of setup header Y = need header.height setup.radius setup.times Y + 1
 
--- it has those and a front of row Y more
+-- the open document has all rows above row Y and a front of that row more, whatever page begins with these rows
 abbrev pub PutsFront : Setup → PageHeader → List (List ℕ) → ℕ → Option Documents → Option Documents → Type 0
 PutsFront setup header rows Y old new =
     (page : Gray) → HasFirstRows header rows page → (n : ℕ) × (n ≤ length (result_row setup page Y))

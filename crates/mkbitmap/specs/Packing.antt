@@ -1,4 +1,4 @@
--- Pixels of a row as bits and bytes (Netpbm's format page "pbm").
+-- The pixels of a row, with white behind them.
 use Rattle.std.specs.Prelude.{ℕ, Bool, ◌&&◌, nat_lt}
 
 -- the pixels of a row of this width, with white behind it

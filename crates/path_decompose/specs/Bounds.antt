@@ -1,4 +1,4 @@
--- Where the points of a path lie, and the pixels inside.
+-- Corners of the pixels of a page, as points.
 use Rattle.std.specs.Prelude.{ℕ, pos, ◌≤ℤ◌}
 use Rattle.pt_core.specs.declared.point.Point.{Point}
 

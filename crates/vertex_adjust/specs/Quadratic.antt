@@ -1,9 +1,9 @@
--- The sum of the squared distances from two lines, as a function of the shift: a paraboloid (Selinger,
--- "Potrace", 2003, section 2.3.1, has the same form). Its working in whole numbers is our own.
+-- The shift of a column at which a sum of squared distances is least. Columns of whole steps, and the order of shifts that
+-- tie, are our own.
 use Rattle.std.specs.Prelude.{◌≡◌, ℕ, ◌*◌, ◌<◌, ◌≤◌, ◌^◌, ℤ, ◌<ℤ◌, unsigned_abs}
 use Rattle.vertex_adjust.specs.declared.line.Line.{Line}
 
--- the line of a segment of a path on a much larger page
+-- the line's numbers are no greater than those of a segment's line on a much larger page can be
 pub record IsOverWidePage (line : Line) : Type 0 where
   pub nx : unsigned_abs line.nx ≤ 2 ^ 12
   pub ny : unsigned_abs line.ny ≤ 2 ^ 12

@@ -1,6 +1,4 @@
--- How a bitmap keeps its pixels: 64 in a word, the least significant bit leftmost, the words of a row from
--- left to right, and row after row from the lowest up.
--- These serve inner contracts alone: no promise rests on them.
+-- How a bitmap keeps its pixels: 64 in a word, the least significant bit leftmost, and row after row from the lowest up.
 use Rattle.std.specs.Prelude.{◌≡◌, ℕ, ◌+◌, ◌*◌, ◌/◌, ◌%◌, ◌≤◌, ◌<◌, Bool, false, List, length, take, drop, slice_index_or}
 use Rattle.pt_core.specs.declared.limits.TheConstants.{LONGEST_SIDE}
 use Rattle.bit_image.specs.Image.{Image}

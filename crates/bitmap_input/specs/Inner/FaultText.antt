@@ -1,5 +1,4 @@
--- Why a page can't be read, in words, as messages tell it.
--- These serve inner contracts alone: no promise rests on them.
+-- The text of a fault.
 use Rattle.std.specs.Prelude.{ℕ, List}
 use Rattle.bitmap_input.specs.Reading.{cause_of_fault}
 use Rattle.bitmap_input.specs.declared.fault.InFault.{InFault}

@@ -1,5 +1,4 @@
--- The reader of a gray page, and what its answers say of the file.
--- These serve inner contracts alone: no promise rests on them.
+-- The causes by which pages end and none is refused.
 use Rattle.bitmap_input.specs.Cut.FileEnd.{End, Trailing, Refused}
 use Rattle.bitmap_input.specs.Reading.{Cause}
 use Rattle.bitmap_input.specs.Reading.Cause.{Says, Device, Memory}

@@ -1,6 +1,4 @@
--- A gray page row by row (Netpbm's format page "pgm"): its header, which is that of a file's first page,
--- and then one row after another.
--- These serve inner contracts alone: no promise rests on them.
+-- The check that a format is that of a gray page.
 use Rattle.std.specs.Prelude.{◌≡◌, ℕ, Bool, false, List, Result, Ok, Err}
 use Rattle.bitmap_input.specs.Cut.{FileEnd, Cut}
 use Rattle.bitmap_input.specs.Cut.Cut.{Takes, Stops}

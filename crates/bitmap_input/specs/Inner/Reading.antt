@@ -1,6 +1,4 @@
--- Reading from inputs through a buffer: what is taken from the inputs, and what part of a page the
--- bytes at hand and those taken are.
--- These serve inner contracts alone: no promise rests on them.
+-- A step of the reader, which reads one part of a page: what it gives, and how it leaves the inputs.
 use Rattle.std.specs.Prelude.{◌≡◌, ℕ, ◌≤◌, Bool, true, false, List, ◌++◌, Option, Result, Ok, Err}
 use Rattle.pt_core.specs.Files.{Files}
 use Rattle.pt_core.specs.Counts.{Rose}

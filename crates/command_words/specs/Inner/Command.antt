@@ -1,6 +1,4 @@
--- The command as `clap` reads it: options that stand at most once, and any number of file names
--- (the potrace manual page; `--cyclic` and `--flat` too).
--- These serve inner contracts alone: no promise rests on them.
+-- The rules of the command, from the program's table of options.
 use Rattle.clap.specs.Walk.{Rule}
 use Rattle.command_words.specs.declared.command.OptionRow.{OptionRow}
 use Rattle.command_words.specs.Command.{option_rule}

@@ -1,10 +1,9 @@
--- What the vertices of an outline and their pieces bring to each run of pieces that holds them.
--- These serve inner contracts alone: no promise rests on them.
+-- How large the numbers of a bend are.
 use Rattle.std.specs.Prelude.{◌*◌, ◌≤◌, ◌^◌, unsigned_abs}
 use Rattle.curve_join.specs.Vector.{GoesNoFarther, IsPlaced}
 use Rattle.curve_join.specs.declared.bend.Bend.{Bend}
 
--- all is near enough to work with
+-- the numbers of a bend are small enough to work with
 pub record IsWorkable (b : Bend) : Type 0 where
   pub at : IsPlaced (2 ^ 26) b.at
   pub start : IsPlaced (2 ^ 26) b.start

@@ -1,7 +1,4 @@
--- The choice among all ways to cut an outline into runs (Selinger, "Potrace: a polygon-based tracing algorithm",
--- 2003, section 2.4): the fewest pieces, then the least penalty. That no run goes on over the first piece, and the
--- last of the rules by which one cut comes before another, are our own.
--- These serve inner contracts alone: no promise rests on them.
+-- How far the runs that begin at a piece go on.
 use Rattle.std.specs.Prelude.{ℕ, ◌+◌, ◌<◌, ◌≤◌, List, length, slice_range, All}
 use Rattle.curve_join.specs.Join.{GoesRound, first_bend, sense_at}
 use Rattle.curve_join.specs.declared.bend.Bend.{Bend}

@@ -1,18 +1,16 @@
--- One cubic curve in place of several (Selinger, "Potrace: a polygon-based tracing algorithm", 2003,
--- section 2.4). The form in whole numbers is our own.
--- These serve inner contracts alone: no promise rests on them.
+-- How large the numbers of a cubic curve are.
 use Rattle.std.specs.Prelude.{ℕ, ◌≤◌, ℤ, unsigned_abs}
 use Rattle.curve_join.specs.Vector.{IsPlaced}
 use Rattle.curve_join.specs.declared.cubic.Cubic.{Cubic}
 
--- none of its places is farther from 0
+-- no coordinate of the curve's places is farther from 0 than this
 pub record LiesWithin (most : ℕ) (c : Cubic) : Type 0 where
   pub start : IsPlaced most c.start
   pub first : IsPlaced most c.first
   pub second : IsPlaced most c.second
   pub end : IsPlaced most c.end
 
--- none of a quadratic's coefficients is farther from 0
+-- none of a quadratic's coefficients is farther from 0 than this
 pub record AreWithin (most : ℕ) (x y z : ℤ) : Type 0 where
   pub a : unsigned_abs x ≤ most
   pub b : unsigned_abs y ≤ most

@@ -1,5 +1,4 @@
--- What a run has done, against the items that it was to write.
--- These serve inner contracts alone: no promise rests on them.
+-- The first pages of a file's bytes, and what follows them.
 use Rattle.std.specs.Prelude.{◌≡◌, ℕ, Bool, true, List, [], ◌∷◌, drop}
 use Rattle.bitmap_input.specs.Raw.{Raw}
 use Rattle.bitmap_input.specs.Front.{front}

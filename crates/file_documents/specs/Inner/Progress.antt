@@ -1,5 +1,4 @@
--- How far the converting of a file has come: its first pages are converted.
--- These serve inner contracts alone: no promise rests on them.
+-- How far the converting of files has come: which pages were read, and what of them is carried out or held.
 use Rattle.std.specs.Prelude.{◌≡◌, ◌≢◌, ◌⊎◌, ℕ, suc, ◌+◌, ◌*◌, ◌<◌, ◌≤◌, Bool, false, true, List, [], ◌∷◌, ◌++◌, length, drop, Option, Some, IfSome, option_map, Result, Ok, Err}
 use Rattle.pt_core.specs.Counts.{Rose, next_count}
 use Rattle.pt_core.specs.declared.sink.Sink.{Ghosts as SinkGhosts}

@@ -1,5 +1,4 @@
--- What the words of `mkbitmap` ask for: `--box`, `--times` and `--level`, each at most once, and no file.
--- These serve inner contracts alone: no promise rests on them.
+-- Setups that a page can be filtered with.
 use Rattle.std.specs.Prelude.{◌≤◌}
 use Rattle.filter_words.specs.declared.setup.Setup.{Setup}
 use Rattle.mkbitmap.specs.declared.limits.TheConstants.{GREATEST_LEVEL, GREATEST_RADIUS, GREATEST_TIMES}

@@ -1,5 +1,4 @@
--- Windows: where walks of fewest steps stand after so many steps.
--- These serve inner contracts alone: no promise rests on them.
+-- Windows that are all empty, as a search begins with them.
 use Rattle.std.specs.Prelude.{◌≡◌, ℕ, List, slice_get, Some}
 use Rattle.least_walk.specs.declared.window.Window.{Window}
 

@@ -1,5 +1,4 @@
--- What a run of the program has done.
--- These serve inner contracts alone: no promise rests on them.
+-- How a run ends where a part of the page isn't there.
 use Rattle.bitmap_input.specs.Reading.{Cause}
 use Rattle.bitmap_input.specs.Reading.Cause.{Says, Device, Memory}
 use Rattle.small_program.specs.declared.ending.Ending.{Ending}

@@ -1,5 +1,4 @@
--- What of the document a run wrote, and why it broke off.
--- These serve inner contracts alone: no promise rests on them.
+-- What of the document a run wrote, row by row, and why it broke off.
 use Rattle.std.specs.Prelude.{◌≡◌, ℕ, ◌*◌, ◌<◌, ◌≤◌, Bool, true, List, ◌++◌, length, take, Option}
 use Rattle.pt_core.specs.Counts.{Rose}
 use Rattle.pt_core.specs.Documents.{Documents, with_bytes, with_open}

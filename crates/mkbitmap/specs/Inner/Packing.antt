@@ -1,5 +1,4 @@
--- Pixels of a row as bits and bytes (Netpbm's format page "pbm").
--- These serve inner contracts alone: no promise rests on them.
+-- Pixels of a row as the bits of a byte (Netpbm's format page "pbm").
 use Rattle.std.specs.Prelude.{ℕ, zero, suc, ◌+◌, ◌*◌, Bool, true, false}
 
 -- a black pixel is 1

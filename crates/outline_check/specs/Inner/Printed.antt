@@ -1,5 +1,4 @@
--- The text that a page's certificates are written as.
--- These serve inner contracts alone: no promise rests on them.
+-- The first line of a certificates' text, and the lines of a path.
 use Rattle.std.specs.Prelude.{◌≡◌, ℕ, List, ◌++◌, codes, decimal}
 use Rattle.pt_core.specs.declared.point.Point.{Point}
 use Rattle.outline_check.specs.declared.label.Label.{Label}

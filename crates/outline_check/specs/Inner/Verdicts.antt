@@ -1,5 +1,4 @@
--- What the checker says of a text.
--- These serve inner contracts alone: no promise rests on them.
+-- The first bad path of some, if there is one.
 use Rattle.std.specs.Prelude.{ℕ, List, All, Option, Some, None}
 use Rattle.outline_check.specs.ProofsText.{Certified}
 use Rattle.outline_check.specs.Verdicts.{IsGood, IsFirstBad}

@@ -1,5 +1,4 @@
--- What was read and isn't carried out yet.
--- These serve inner contracts alone: no promise rests on them.
+-- What is held until a batch is full: how many pages, whether documents are begun and ended in turn, and how calls leave it.
 use Rattle.std.specs.Prelude.{◌≡◌, ℕ, zero, suc, ◌*◌, ◌<◌, Bool, true, false, List, [], ◌∷◌, ◌++◌, map, Option, None, Some, Result, Ok, Err}
 use Rattle.bit_image.specs.Page.{Page as Pixels}
 use Rattle.run_output.specs.Messages.{trailing_line}

@@ -1,5 +1,4 @@
--- What a run has done, against the items that it was to do.
--- These serve inner contracts alone: no promise rests on them.
+-- How calls end that carry out items.
 use Rattle.std.specs.Prelude.{◌≡◌, ℕ, ◌⊎◌, List, [], ◌∷◌, Result, Ok, Err}
 use Rattle.run_output.specs.Parts.{end_part}
 use Rattle.run_output.specs.Told.{Sinks}

@@ -1,5 +1,4 @@
--- The document of a page: all that is said of a backend stands here, but the suffix of its documents' names.
--- These serve inner contracts alone: no promise rests on them.
+-- Which backends draw a whole trace.
 use Rattle.pt_core.specs.declared.settings.Backend.{Backend}
 use Rattle.pt_core.specs.declared.settings.Backend.TheVariants.{Eps, Ps, Svg, Dxf, GeoJson, Points, Polygons, Proofs}
 

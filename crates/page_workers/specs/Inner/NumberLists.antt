@@ -1,5 +1,4 @@
--- Lists of numbers: how often a number stands in one, and lists that rise.
--- These serve inner contracts alone: no promise rests on them.
+-- Rising lists of numbers, put together in their order.
 use Rattle.std.specs.Prelude.{ℕ, List, [], ◌∷◌, cond, nat_lt}
 
 -- a rising list with one number more, at its place

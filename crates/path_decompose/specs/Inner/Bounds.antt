@@ -1,5 +1,4 @@
--- Where the points of a path lie, and the pixels inside.
--- These serve inner contracts alone: no promise rests on them.
+-- Paths that lie on a page, as do the pixels inside.
 use Rattle.std.specs.Prelude.{ℕ, pos, ◌≤ℤ◌, All}
 use Rattle.pt_core.specs.ClosedWalk.{point_at, IsClosedWalk}
 use Rattle.pt_core.specs.declared.path.Path.{Path}

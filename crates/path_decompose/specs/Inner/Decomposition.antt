@@ -1,6 +1,4 @@
--- The decomposition of a page into paths (Selinger, "Potrace", 2003, section 2.1.1), and the removal of
--- speckles (section 2.1.3).
--- These serve inner contracts alone: no promise rests on them.
+-- The paths with more pixels inside than a limit, where there is one.
 use Rattle.std.specs.Prelude.{ℕ, Bool, true, List, filter, nat_lt, Option, None, Some}
 use Rattle.pt_core.specs.declared.point.Point.{Point}
 use Rattle.pt_core.specs.declared.path.Path.{Path}
@@ -10,7 +8,7 @@ use Rattle.pt_core.specs.declared.path.Sign.{Sign}
 abbrev pub path_of : Sign → ℕ → List Point → Path
 path_of sign area points = record { sign = sign; area = area; points = points }
 
--- so many pixels are more than the limit, where there is one
+-- an area of so many pixels is above the limit, where there is one
 abbrev pub is_large : Option ℕ → ℕ → Bool
 is_large None area = true
 is_large (Some t) area = nat_lt t area

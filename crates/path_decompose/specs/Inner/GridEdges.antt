@@ -1,6 +1,4 @@
--- Unit edges of the grid without a direction, each between two pixels (Selinger, "Potrace", 2003,
--- section 2.1.1).
--- These serve inner contracts alone: no promise rests on them.
+-- Lines on a page, and where upright ones stand.
 use Rattle.std.specs.Prelude.{ℕ, ◌<◌, ◌≤◌, Option, Some, None}
 use Rattle.path_decompose.specs.GridEdges.{GridEdge}
 use Rattle.path_decompose.specs.GridEdges.GridEdge.{upright, level}

@@ -1,9 +1,8 @@
--- The text of the demo: a line of counts for each page.
--- These serve inner contracts alone: no promise rests on them.
+-- What the lines of a demo need of the settings.
 use Rattle.pt_core.specs.declared.settings.Settings.{Settings}
 use Rattle.pt_core.specs.Needs.{CanTrace, CanWrite}
 
--- what a line needs of the settings
+-- what a line of a demo needs of the settings
 pub record CanCount (settings : Settings) : Type 0 where
   pub traced : CanTrace settings
   pub written : CanWrite settings

@@ -1,5 +1,4 @@
--- What the top call promises.
--- These serve inner contracts alone: no promise rests on them.
+-- All that a run does, in one record for the calls below the top call.
 use Rattle.std.specs.Prelude.{◌≡◌, ℕ, false, List}
 use Rattle.pt_core.specs.Counts.{Rose}
 use Rattle.pt_core.specs.Failures.{after_err}

@@ -1,6 +1,4 @@
--- Counts of faults and of openings: whole numbers of 64 bits that never fall and stand still at
--- the greatest one.
--- These serve inner contracts alone: no promise rests on them.
+-- By how much a count grew.
 use Rattle.std.specs.Prelude.{◌≡◌, ℕ, ◌+◌, ◌<◌}
 use Rattle.pt_core.specs.Counts.{last_count}
 

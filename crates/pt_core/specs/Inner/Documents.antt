@@ -1,5 +1,4 @@
--- The documents of a sink: the whole ones in the order in which they were begun, and the open one.
--- These serve inner contracts alone: no promise rests on them.
+-- The documents of a sink as one list.
 use Rattle.std.specs.Prelude.{List, [], ◌++◌, None}
 use Rattle.pt_core.specs.Documents.{Document, Documents, as_list}
 

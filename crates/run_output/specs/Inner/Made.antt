@@ -1,5 +1,4 @@
--- What a run made, file by file: documents, and their pages.
--- These serve inner contracts alone: no promise rests on them.
+-- The base names of what was made, from the program's list of files.
 use Rattle.std.specs.Prelude.{ℕ, List, [], ◌∷◌, ◌++◌, replicate, string_bytes}
 use Rattle.run_output.specs.Names.{count_of}
 use Rattle.run_output.specs.declared.made.FileMade.{FileMade}

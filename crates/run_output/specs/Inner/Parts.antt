@@ -1,6 +1,4 @@
--- Documents in parts: how pages become parts of them (PostScript Language Document Structuring Conventions 3.0:
--- a prolog, the pages, a trailer), and what a part adds to the documents that are told.
--- These serve inner contracts alone: no promise rests on them.
+-- Whether a file's document is open between two of its pages.
 use Rattle.std.specs.Prelude.{ℕ, Bool, false, not}
 use Rattle.run_output.specs.declared.part.Binding.{Binding}
 use Rattle.run_output.specs.declared.part.Binding.TheVariants as binding

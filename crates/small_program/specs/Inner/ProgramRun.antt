@@ -1,5 +1,4 @@
--- What a run of a program has done.
--- These serve inner contracts alone: no promise rests on them.
+-- How a run ends whose reply is put out.
 use Rattle.std.specs.Prelude.{◌≡◌, ℕ, ◌⊎◌, List}
 use Rattle.run_output.specs.Messages.{file_line}
 use Rattle.run_output.specs.Names.{dash}

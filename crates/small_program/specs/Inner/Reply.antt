@@ -1,5 +1,4 @@
--- What a program makes of its whole input.
--- These serve inner contracts alone: no promise rests on them.
+-- How a run ends, and what it says, by a reply or a stop at the input as the program has them.
 use Rattle.std.specs.Prelude.{ℕ, List, codes}
 use Rattle.small_program.specs.declared.ending.Ending.{Ending}
 use Rattle.small_program.specs.declared.ending.Ending.TheVariants as ending

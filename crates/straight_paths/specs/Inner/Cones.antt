@@ -1,5 +1,4 @@
--- The vectors that a cone of half-lines holds.
--- These serve inner contracts alone: no promise rests on them.
+-- Cones of half-lines: which they hold, and those that come near the points of a path.
 use Rattle.std.specs.Prelude.{ℕ, ◌<◌, ◌≤◌, ◌≢◌, zero, suc, ℤ, pos, negsuc, neg_ℤ, ◌+ℤ◌, ◌≤ℤ◌, ◌<ℤ◌, unsigned_abs}
 use Rattle.pt_core.specs.declared.point.Point.{Point}
 use Rattle.straight_paths.specs.Straight.{vector_of, IsNear}

@@ -1,5 +1,4 @@
--- Corners of a closed path, and the straight runs between them.
--- These serve inner contracts alone: no promise rests on them.
+-- The next corner of each point of a path, and the straight runs between corners.
 use Rattle.std.specs.Prelude.{◌≡◌, ℕ, ◌+◌, ◌<◌, List, length, slice_index}
 use Rattle.pt_core.specs.declared.point.Point.{Point}
 use Rattle.straight_paths.specs.Corners.{step_from, IsNextCorner}

@@ -1,7 +1,4 @@
--- The line of a segment: through the centre of its points, along the eigenvector of the greater
--- eigenvalue of their covariances (Selinger, "Potrace", 2003, section 2.3.1). The form in whole numbers
--- is our own.
--- These serve inner contracts alone: no promise rests on them.
+-- The normal of a segment's line.
 use Rattle.std.specs.Prelude.{◌≡◌, ◌≤◌, ◌^◌, neg_ℤ, unsigned_abs}
 use Rattle.vertex_adjust.specs.declared.spread.Covariance.{Covariance}
 use Rattle.vertex_adjust.specs.declared.normal.Normal.{Normal}

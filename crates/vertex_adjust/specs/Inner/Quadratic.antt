@@ -1,6 +1,4 @@
--- The sum of the squared distances from two lines, as a function of the shift: a paraboloid (Selinger,
--- "Potrace", 2003, section 2.3.1, has the same form). Its working in whole numbers is our own.
--- These serve inner contracts alone: no promise rests on them.
+-- The sum of the squared distances as a function of the shift, a paraboloid (compare Selinger, "Potrace", 2003, 2.3.1).
 use Rattle.std.specs.Prelude.{◌≡◌, ◌≢◌, ℕ, ◌+◌, ◌*◌, ◌<◌, ◌≤◌, ◌^◌, ℤ, pos, ◌+ℤ◌, ◌-ℤ◌, ◌*ℤ◌, ◌<ℤ◌, ◌≤ℤ◌, ◌⊎◌, unsigned_abs}
 use Rattle.vertex_adjust.specs.Vertex.{IsCandidate, IsBefore, IsLeast}
 use Rattle.vertex_adjust.specs.declared.shift.Shift.{Shift}
