@@ -116,6 +116,7 @@ pub mod Decimals
 -- Polygons of a GeoJSON text.
 --   only_member: the value of the only member of this name: where two have one name, readers differ (RFC 8259, section 4)
 --   member_of: what that member of an object is
+--   lacks: the object has no member of these names
 --   number_in: the value of a number
 --   all_of: the values of an array's items, each read the same way
 --   list_in: the values of an array
@@ -133,9 +134,9 @@ pub mod Decimals
 --   is_string: the value is the string
 --   is_type: the member `type` names this type
 --   are_properties: the properties of a feature: an object, or null (section 3.2)
---   geometry_in: a geometry that is a polygon
---   feature_in: a feature, with its properties
---   collection_in: a collection of features
+--   geometry_in: a geometry that is a polygon, and has no member of a feature or of a collection (section 7.1)
+--   feature_in: a feature, with its properties, and no member of a geometry or of a collection (section 7.1)
+--   collection_in: a collection of features, with no member of a geometry or of a feature (section 7.1)
 --   geojson_polygons: the polygons of a text
 pub mod GeoJsonReading
 -- Polylines of a drawing interchange file.
@@ -159,7 +160,7 @@ pub mod DxfReading
 --   ps_byte: what this byte is
 --   PsState: where the text has come to: between words, in a comment, in a number, or in a name
 --   word_before: the word that has ended, before those that follow
---   ps_word_step: what a byte does; a comment goes to the end of its line
+--   ps_word_step: what a byte does; a comment goes to the end of its line, or to a form feed
 --   ps_words: the words of a text, behind such a beginning
 pub mod PsWords
 -- What a PostScript program paints.
@@ -228,7 +229,7 @@ pub mod Rings
 pub mod DscReading
 -- The bounding box of an Encapsulated PostScript file.
 --   EpsBox: the lower left corner and the upper right one, in points
---   box_by: four numbers
+--   box_by: four numbers, of which none on the right or at the top is less than the one on the left or at the bottom
 --   box_in: the box of the words of a line
 --   box_of_lines: the box of the first two lines
 --   eps_box: the bounding box of a file
