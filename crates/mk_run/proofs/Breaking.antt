@@ -83,6 +83,7 @@ module _ (setup : Setup) (old r : GraySource) (f : Filter) (before at : Option F
         stops = stop.stops;
         few = stop.few;
         early = subst (λ (h : ℕ). stop.mid.given ≤ need h setup.radius setup.times Y) same_height stop.early;
+        within = stop.within;
       } in (
         Y,
         within,

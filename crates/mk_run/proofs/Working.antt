@@ -156,6 +156,9 @@ row_is setup r s g Y rows page limit row work same has dark writes =
     let follows = work.follows page (subst (λ (h : PageHeader). HasFirstRows h rows page) (sym same) has) in
     writes page setup.level follows dark ∙ row_same setup page g Y follows.holds.width work.fits.radius
 
+pub fits_both : (a b c d : ℕ) → (nat_le a b && nat_le c d) ≡ true → (a ≤ b) × (c ≤ d)
+fits_both a b c d both = grind (arith, both)
+
 -- both before the first row
 pub work_start : (setup : Setup) (r : GraySource) (f : Filter) → HasRoom f → f.width ≡ r.head.width → f.height ≡ r.head.height → f.maxval ≡ r.head.maxval → f.radius ≡ setup.radius
     → f.taken ≡ 0 → f.pairs ≡ 0 → r.given ≡ 0 → r.failed ≡ false → CanFilter setup → fits_result setup r.head.width r.head.height ≡ true
@@ -180,6 +183,3 @@ work_start setup r f room width height maxval radius taken pairs given going can
   enough = λ some. absurd (omega (arith, some, pairs));
   follows = λ page has. follows page (has.width ∙ sym width) (has.height ∙ sym height) (has.maxval ∙ sym maxval) (λ x y. let most = has.bright x y in omega (arith, most, has.maxval, maxval));
 }
-  where
-    fits_both : (a b c d : ℕ) → (nat_le a b && nat_le c d) ≡ true → (a ≤ b) × (c ≤ d)
-    fits_both a b c d both = grind (arith, both)

@@ -9,6 +9,7 @@
 #![tactic(auto)]
 
 mod fault;
+pub mod laws;
 mod page;
 pub mod program;
 mod put;

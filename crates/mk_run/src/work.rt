@@ -1,16 +1,17 @@
 //! All that a run needs memory for, made before its document is begun.
 ghost use Rattle.std.specs.Prelude.{◌≡◌, ◌*◌, [], false, true, IfOk};
+ghost use Rattle.bit_image.specs.PbmText.{pbm_head};
 ghost use Rattle.bitmap_input.specs.GrayReader.{GraySource};
 ghost use Rattle.filter_words.specs.Inner.FilterAsked.{CanFilter};
-ghost use Rattle.mk_run.specs.Result.{pbm_head};
 ghost use Rattle.mk_run.specs.Rows.{fits_result};
 ghost use Rattle.mk_run.specs.Inner.FilterWork.{HasRooms, IsAtWork, IsGrayHead};
 
 use crate::rooms::Rooms;
+use bit_image::put_pbm_head;
 use bitmap_input::GrayHead;
 use filter_words::Setup;
 use mkbitmap::Filter;
-use pt_core::{NoMemory, put_number};
+use pt_core::NoMemory;
 use std::alloc::Global;
 
 /// All that a run needs memory for, but its reader.
@@ -35,7 +36,12 @@ impl Work {
         ensures none { IfOk result (λ work. work.filter.pairs ≡ 0) }
         ensures rooms { IfOk result (λ work. HasRooms setup work.filter.width work.rooms) }
     {
-        let text = pbm_head(alloc, setup.times * head.width, setup.times * head.height)?;
+        let mut text = Vec::new(alloc);
+        put_pbm_head(
+            &mut text,
+            setup.times * head.width,
+            setup.times * head.height,
+        )?;
         let filter = Filter::new(
             alloc,
             head.width as usize,
@@ -50,17 +56,4 @@ impl Work {
             rooms,
         })
     }
-}
-
-/// What a raw PBM of these sides begins with.
-fn pbm_head(alloc: Global, width: u32, height: u32) -> Result<Vec<u8>, NoMemory>
-    ensures { IfOk result (λ text. text.items ≡ pbm_head width height) }
-{
-    let mut text = Vec::new(alloc);
-    text.extend_from_slice(b"P4\n")?;
-    put_number(&mut text, width)?;
-    text.extend_from_slice(b" ")?;
-    put_number(&mut text, height)?;
-    text.extend_from_slice(b"\n")?;
-    Ok(text)
 }

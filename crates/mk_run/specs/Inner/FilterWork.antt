@@ -90,7 +90,8 @@ StopsRow (Says Trailing) old before new now = ⊥
 StopsRow Device old before new now = FailsToRead (cut_row (header_of old)) old before new now
 StopsRow Memory old before new now = ⊥
 
--- behind some rows, no more than this one, the next one isn't there
+-- behind some rows, no more than this one, the next one isn't there; and no more bytes are held there than a reader has
+-- room for
 pub record StopsBehind (why : Cause) (last : ℕ) (old : GraySource) (before : Option Files) (new : GraySource) (now : Option Files) : Type 0 where
   pub rows : List (List ℕ)
   pub mid : GraySource
@@ -99,3 +100,4 @@ pub record StopsBehind (why : Cause) (last : ℕ) (old : GraySource) (before : O
   pub stops : StopsRow why mid at new now
   pub few : mid.given < mid.head.height
   pub early : mid.given ≤ last
+  pub within : length mid.bytes ≤ 65536

@@ -71,6 +71,7 @@ returns-in-Err-clause-stops g c =
       stops = c.in-Err.ensures.stops;
       few = omega (arith, work.given, work.taken, wanted, work.fits.height);
       early = omega (arith, need-is e.height e.radius c.args.setup.times c.args.y work.fits.some_times tall, work.given, work.taken, wanted, less, held.setup.height, held.setup.radius);
+      within = held.reading.within;
     }
 
 pub step-requires-clause-along : goal.step-requires-clause-along
