@@ -12,7 +12,6 @@ mod fault;
 mod page;
 pub mod program;
 mod put;
-mod rooms;
 mod rows;
 mod say;
 mod work;
