@@ -9,7 +9,7 @@ use Rattle.std.proofs.lemmas.List.FromFn.{get_or-map-range_with_len, length-map-
 use Rattle.mkbitmap.specs.Box.{Gray, sum_between, box_from, box_end, box_count, box_area, column_sum, box_sum}
 use Rattle.mkbitmap.specs.Relief.{raised_by, raised_of}
 use Rattle.mkbitmap.specs.Filtering.{Filtering, HasGone, SameSetup}
-use Rattle.mkbitmap.specs.Follows.{HoldsRows, AreRaised, IsRow}
+use Rattle.mkbitmap.specs.Follows.{HoldsRows, AreRaised}
 use Rattle.mkbitmap.specs.Inner.Layout.{HasRoom, IsLaidOut, filtering_of, first_held, held_row}
 use Rattle.mkbitmap.specs.declared.filter.Filter.TheInside.{Inside}
 use Rattle.mkbitmap.proofs.Adding.{sum-first, sum-grown, sum-most, sum-same}

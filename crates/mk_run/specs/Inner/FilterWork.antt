@@ -1,6 +1,6 @@
 -- What a run holds and has done, between rows of the result.
 -- These serve inner contracts alone: no promise rests on them.
-use Rattle.std.specs.Prelude.{◌≡◌, ℕ, ◌+◌, ◌*◌, ◌/◌, ◌<◌, ◌≤◌, true, false, List, [], ◌++◌, length, min, Option}
+use Rattle.std.specs.Prelude.{◌≡◌, ℕ, ◌+◌, ◌<◌, ◌≤◌, true, false, List, [], ◌++◌, length, min, Option}
 use Rattle.pt_core.specs.Files.{Files}
 use Rattle.pt_core.specs.declared.inputs.Inputs.{Ghosts}
 use Rattle.pt_core.specs.declared.limits.TheConstants.{LONGEST_SIDE}

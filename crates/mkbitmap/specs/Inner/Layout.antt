@@ -6,7 +6,7 @@ use Rattle.pt_core.specs.declared.limits.TheConstants.{LONGEST_SIDE}
 use Rattle.mkbitmap.specs.Box.{sum_between}
 use Rattle.mkbitmap.specs.Enlarged.{dark_limit}
 use Rattle.mkbitmap.specs.Filtering.{Filtering}
-use Rattle.mkbitmap.specs.declared.limits.TheConstants.{GREATEST_LEVEL, GREATEST_MAXVAL, GREATEST_RADIUS, GREATEST_RELIEF, GREATEST_TIMES}
+use Rattle.mkbitmap.specs.declared.limits.TheConstants.{GREATEST_MAXVAL, GREATEST_RADIUS, GREATEST_RELIEF, GREATEST_TIMES}
 use Rattle.mkbitmap.specs.declared.filter.Filter.TheInside.{Inside}
 
 -- the first row that is held: those whose reliefs were made reach no farther up

@@ -1,4 +1,4 @@
-use Rattle.std.proofs.Common.{◌≡◌, ℕ, ◌+◌, ◌*◌, ◌≤◌, ◌<◌, List, ◌++◌, length, take, ap, sym, ◌∙◌, subst, arith}
+use Rattle.std.proofs.Common.{◌≡◌, ℕ, ◌+◌, ◌≤◌, List, ◌++◌, length, take, ap, sym, ◌∙◌, subst, arith}
 use Rattle.pt_core.specs.Documents.{with_bytes}
 use Rattle.mkbitmap.specs.Enlarged.{after_of}
 use Rattle.mk_run.proofs.Giving.{header_stays}

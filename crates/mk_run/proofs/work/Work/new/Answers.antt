@@ -1,7 +1,7 @@
-use Rattle.std.proofs.Common.{◌≡◌, ◌*◌, ◌≤◌, sym, ap, ◌∙◌, subst}
+use Rattle.std.proofs.Common.{◌≤◌, sym, ap, ◌∙◌, subst}
 use Rattle.bitmap_input.specs.declared.gray_reader.GrayHead.{GrayHead}
 use Rattle.mk_run.specs.Inner.FilterWork.{IsGrayHead}
-use Rattle.mk_run.proofs.Working.{fits_both, work_start}
+use Rattle.mk_run.proofs.Working.{work_start}
 use Rattle.mk_run.proofs.work.Work.new.Goals as goal
 
 -- both are before the first row

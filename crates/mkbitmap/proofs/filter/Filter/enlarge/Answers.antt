@@ -1,8 +1,7 @@
-use Rattle.std.proofs.Common.{◌≡◌, ℕ, List, ◌+◌, ◌-◌, ◌*◌, ◌/◌, ◌≤◌, ◌<◌, length, get_or, arith, ap, sym, ◌∙◌, subst, Fits, w32}
+use Rattle.std.proofs.Common.{◌≡◌, ℕ, List, ◌+◌, ◌*◌, ◌≤◌, ◌<◌, length, get_or, arith, ap, sym, ◌∙◌, subst}
 use Rattle.std.specs.Prelude.{nat_le}
 use Rattle.std.proofs.lemmas.List.{with_items_is}
 use Rattle.std.proofs.lemmas.Nat.{mul-le}
-use Rattle.pt_core.specs.declared.limits.TheConstants.{LONGEST_SIDE}
 use Rattle.bit_image.specs.PbmText.{row_text}
 use Rattle.mkbitmap.specs.Enlarged.{after_of, before_within, mixed_column, mixed_raised, is_black, dark_limit}
 use Rattle.mkbitmap.specs.Filtering.{Filtering}

@@ -1,4 +1,4 @@
-use Rattle.std.proofs.Common.{◌≡◌, ℕ, List, refl, ◌+◌, ◌*◌, ◌-◌, ◌≤◌, min, get_or, arith, ap, sym, ◌∙◌, subst}
+use Rattle.std.proofs.Common.{◌≡◌, ℕ, List, refl, ◌+◌, ◌*◌, ◌-◌, min, get_or, arith, ap, sym, ◌∙◌, subst}
 use Rattle.mkbitmap.specs.Enlarged.{before_within}
 use Rattle.mkbitmap.specs.Filtering.{Filtering}
 use Rattle.mkbitmap.specs.Follows.{AreRaised, Follows}

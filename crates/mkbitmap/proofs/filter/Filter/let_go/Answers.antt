@@ -1,10 +1,10 @@
-use Rattle.std.proofs.Common.{◌≡◌, ℕ, List, refl, ◌+◌, ◌*◌, ◌<◌, ◌≤◌, length, get_or, min, [], ◌-◌, ◌%◌, arith, ap, sym, ◌∙◌, subst, inl, inr}
+use Rattle.std.proofs.Common.{◌≡◌, ℕ, List, refl, ◌+◌, ◌*◌, ◌<◌, length, get_or, min, [], ◌-◌, ◌%◌, arith, ap, sym, ◌∙◌, subst, inl, inr}
 use Rattle.std.proofs.lemmas.Bool.{cases_lt}
 use Rattle.std.proofs.lemmas.Nat.{mod_below}
 use Rattle.std.proofs.lemmas.List.{with_items_is, get_or_past}
 use Rattle.mkbitmap.specs.Filtering.{Filtering}
 use Rattle.mkbitmap.specs.Follows.{HoldsRows}
-use Rattle.mkbitmap.specs.Inner.Layout.{filtering_of, held_row}
+use Rattle.mkbitmap.specs.Inner.Layout.{held_row}
 use Rattle.mkbitmap.proofs.Following.{first_goes, holds_of, ring_of, slot_is}
 use Rattle.mkbitmap.proofs.filter.Filter.let_go.Goals as goal
 

@@ -1,4 +1,4 @@
-use Rattle.std.proofs.Common.{[], List, ◌≡◌, ℕ, refl, ◌≤◌, ◌+◌, ◌*◌, ◌<◌, length, get_or, min, ◌-◌, ◌%◌, arith, ap, sym, ◌∙◌, subst}
+use Rattle.std.proofs.Common.{[], List, ◌≡◌, ℕ, ◌+◌, ◌*◌, ◌<◌, length, get_or, min, ◌-◌, ◌%◌, arith, ap, sym, ◌∙◌, subst}
 use Rattle.std.proofs.lemmas.Nat.{mod_below}
 use Rattle.std.proofs.lemmas.List.{with_items_is}
 use Rattle.mkbitmap.specs.Relief.{raised_of}
