@@ -12,7 +12,7 @@ use Rattle.bitmap_input.specs.Reading.{cause_of_fault}
 use Rattle.bitmap_input.specs.declared.gray_reader.GrayHead.{GrayHead}
 use Rattle.mkbitmap.specs.Box.{Gray}
 use Rattle.mkbitmap.specs.Enlarged.{need}
-use Rattle.mkbitmap.specs.declared.filter.Filter.{Filter}
+use Rattle.mkbitmap.specs.Filtering.{Filtering}
 use Rattle.mkbitmap.proofs.Order.{need-last, need-rises}
 use Rattle.run_output.specs.Names.{dash}
 use Rattle.run_output.specs.Told.{Told}
@@ -41,7 +41,7 @@ down_on a b c x y = record {
   failed = y.failed ∙ ap (λ (n : ℕ). record { count = next_count n; is_last = true }) x.went;
 }
 
-module _ (setup : Setup) (old r : GraySource) (f : Filter) (before at : Option Files) (rows : List (List ℕ)) (work : IsAtWork setup r f rows)
+module _ (setup : Setup) (old r : GraySource) (f : Filtering) (before at : Option Files) (rows : List (List ℕ)) (work : IsAtWork setup r f rows)
     (gives : GivesRows old before rows r at) where
   same_header : header_of r ≡ header_of old
   same_header = header_stays old r before at rows gives
@@ -50,7 +50,7 @@ module _ (setup : Setup) (old r : GraySource) (f : Filter) (before at : Option F
   same_height = ap (λ (h : GrayHead). h.height) gives.same_head
 
   tall : 1 ≤ old.head.height
-  tall = omega (arith, work.fits.room.some_rows, work.fits.height, same_height)
+  tall = omega (arith, work.fits.some_rows, work.fits.height, same_height)
 
   here : (all : List (List ℕ)) (page : Gray) → HasFirstRows (header_of old) all page → HasFirstRows (header_of r) all page
   here all page has = subst (λ (h : PageHeader). HasFirstRows h all page) (sym same_header) has

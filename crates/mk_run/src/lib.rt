@@ -13,7 +13,6 @@ pub mod laws;
 mod page;
 pub mod program;
 mod put;
-mod rooms;
 mod rows;
 mod say;
 mod work;

@@ -1,12 +1,11 @@
 //! All that a run needs memory for, made before its document is begun.
-ghost use Rattle.std.specs.Prelude.{◌≡◌, ◌*◌, [], false, true, IfOk};
+ghost use Rattle.std.specs.Prelude.{◌≡◌, ◌*◌, [], false, length, true, IfOk};
 ghost use Rattle.bit_image.specs.PbmText.{pbm_head};
 ghost use Rattle.bitmap_input.specs.GrayReader.{GraySource};
 ghost use Rattle.filter_words.specs.Inner.FilterAsked.{CanFilter};
 ghost use Rattle.mk_run.specs.Rows.{fits_result};
-ghost use Rattle.mk_run.specs.Inner.FilterWork.{HasRooms, IsAtWork, IsGrayHead};
+ghost use Rattle.mk_run.specs.Inner.FilterWork.{IsAtWork, IsGrayHead};
 
-use crate::rooms::Rooms;
 use bit_image::put_pbm_head;
 use bitmap_input::GrayHead;
 use filter_words::Setup;
@@ -20,7 +19,8 @@ pub(crate) struct Work {
     /// What the document begins with.
     pub(crate) head: Vec<u8>,
     pub(crate) filter: Filter,
-    pub(crate) rooms: Rooms,
+    /// Room for a row of the page.
+    pub(crate) row: Vec<u16>,
 }
 
 impl Work {
@@ -34,7 +34,7 @@ impl Work {
         ensures at_work { IfOk result (λ work. (reader : GraySource) → reader.head ≡ head
             → reader.given ≡ 0 → reader.failed ≡ false → IsAtWork setup reader work.filter []) }
         ensures none { IfOk result (λ work. work.filter.pairs ≡ 0) }
-        ensures rooms { IfOk result (λ work. HasRooms setup work.filter.width work.rooms) }
+        ensures width { IfOk result (λ work. length work.row.items ≡ head.width) }
     {
         let mut text = Vec::new(alloc);
         put_pbm_head(
@@ -48,12 +48,14 @@ impl Work {
             head.height,
             head.maxval as u16,
             setup.radius as usize,
+            setup.times,
+            setup.level,
         )?;
-        let rooms = Rooms::new(alloc, setup, head.width)?;
+        let row = vec![in alloc; 0u16; head.width as usize]?;
         Ok(Work {
             head: text,
             filter,
-            rooms,
+            row,
         })
     }
 }
