@@ -19,10 +19,9 @@ use Rattle.run_output.specs.Told.{Told}
 use Rattle.filter_words.specs.declared.setup.Setup.{Setup}
 use Rattle.mk_run.specs.PageHeader.{PageHeader}
 use Rattle.mk_run.specs.Inner.Put.{BreaksDown, BreaksPage, BreaksRow, BreaksRows, GoesWell, PutsRow, PutsRows}
-use Rattle.mk_run.specs.Put.{PutsFront, need_of, rows_above}
+use Rattle.mk_run.specs.FilterRun.{PutsFront, need_of, rows_above, HasFirstRows}
 use Rattle.mk_run.specs.Result.{result_head, result_row, result_rows, result_text, scan_of}
 use Rattle.mk_run.specs.Inner.FilterWork.{GivesRows, IsAtWork, StopsBehind, header_of}
-use Rattle.mk_run.specs.FilterWork.{HasFirstRows}
 use Rattle.mk_run.specs.declared.fault.Break.{Break}
 use Rattle.mk_run.specs.declared.fault.Break.TheVariants as breaks
 use Rattle.mk_run.proofs.Cutting.{ended_with, opened_with, scan_is, text_above}

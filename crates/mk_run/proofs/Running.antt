@@ -22,8 +22,7 @@ use Rattle.small_program.specs.declared.ending.Ending.TheVariants as ending
 use Rattle.small_program.proofs.Taking.{is_not_missing, one_input}
 use Rattle.filter_words.specs.declared.setup.Setup.{Setup}
 use Rattle.mk_run.specs.Inner.Head.{StandsBehindHead}
-use Rattle.mk_run.specs.FilterRun.{IsPageRun, LeavesOpen, ReadsNearNext, ReadsNearRows, filter_name, page_says, rows_behind}
-use Rattle.mk_run.specs.Put.{IsCutAt}
+use Rattle.mk_run.specs.FilterRun.{IsPageRun, LeavesOpen, ReadsNearNext, ReadsNearRows, filter_name, page_says, rows_behind, IsCutAt}
 use Rattle.mk_run.specs.Result.{result_text}
 use Rattle.mk_run.specs.Rows.{LeavesRows, ReachesNear, cut_row, fits_result, head_ending, page_ending, row_before, settled_rows, standing}
 use Rattle.mk_run.specs.Inner.FilterWork.{GivesRows, StopsBehind, header_of}

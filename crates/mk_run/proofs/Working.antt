@@ -15,10 +15,9 @@ use Rattle.mkbitmap.proofs.Lifting.{need-is}
 use Rattle.mkbitmap.proofs.Order.{after-rises}
 use Rattle.filter_words.specs.declared.setup.Setup.{Setup}
 use Rattle.filter_words.specs.Inner.FilterAsked.{CanFilter}
-use Rattle.mk_run.specs.Put.{need_of}
+use Rattle.mk_run.specs.FilterRun.{need_of, HasFirstRows}
 use Rattle.mk_run.specs.Result.{result_row}
 use Rattle.mk_run.specs.Inner.FilterWork.{FitsWork, IsAtWork, IsGrayHead, header_of}
-use Rattle.mk_run.specs.FilterWork.{HasFirstRows}
 use Rattle.mk_run.proofs.Giving.{fewer_rows, lowered_row}
 
 fits_stay : (setup : Setup) (r s : GraySource) (f g : Filtering) → s.head ≡ r.head → SameSetup f g → FitsWork setup r f → FitsWork setup s g

@@ -1,7 +1,7 @@
 -- What a run of the program has done.
-use Rattle.std.specs.Prelude.{◌≡◌, ℕ, ◌<◌, ◌≤◌, ◌⊎◌, Bool, true, false, List, ◌++◌, codes, length}
+use Rattle.std.specs.Prelude.{◌≡◌, ℕ, ◌<◌, ◌≤◌, ◌⊎◌, Bool, true, false, List, ◌++◌, codes, length, [], get_or, ◌+◌, ◌*◌, take, Option}
 use Rattle.pt_core.specs.Counts.{Rose, next_count}
-use Rattle.pt_core.specs.Documents.{IsCutOff, with_open}
+use Rattle.pt_core.specs.Documents.{IsCutOff, with_open, Documents, with_bytes}
 use Rattle.pt_core.specs.Failures.{after_err}
 use Rattle.pt_core.specs.Files.{Lacks}
 use Rattle.bitmap_input.specs.Cut.{Kind, is_by_end}
@@ -20,9 +20,11 @@ use Rattle.filter_words.specs.FilterAsked.{IsFilterAsked}
 use Rattle.filter_words.specs.declared.ask.FilterAsk.{FilterAsk}
 use Rattle.filter_words.specs.declared.ask.FilterAsk.TheVariants.{Help, Page}
 use Rattle.filter_words.specs.declared.setup.Setup.{Setup}
-use Rattle.mk_run.specs.Put.{IsCutAt}
-use Rattle.mk_run.specs.Result.{result_text}
+use Rattle.mk_run.specs.Result.{result_text, result_head, result_row, result_rows}
 use Rattle.mk_run.specs.Rows.{LeavesRows, ReachesNear, cut_row, fits_result, page_ending, settled_rows, standing}
+use Rattle.mkbitmap.specs.Box.{Gray}
+use Rattle.mkbitmap.specs.Follows.{IsRow}
+use Rattle.mkbitmap.specs.Enlarged.{need}
 
 -- the program's name
 abbrev pub filter_name : List ℕ
@@ -134,6 +136,28 @@ pub record HasTakenSo (P : List ℕ → Type 0) (source source_now : Source) : T
   pub has : HasTaken source.files source_now.files taken
   pub so : P taken
 
+-- all rows of the result above row Y
+abbrev pub rows_above : Setup → Gray → ℕ → List ℕ
+rows_above setup page Y = result_rows setup page page.height Y
+
+-- how many rows of the page row Y of the result needs
+abbrev pub need_of : Setup → PageHeader → ℕ → ℕ
+need_of setup header Y = need header.height setup.radius setup.times Y + 1
+
+-- the open document has all rows above row Y and a front of that row more, whatever page begins with these rows
+abbrev pub PutsFront : Setup → PageHeader → List (List ℕ) → ℕ → Option Documents → Option Documents → Type 0
+PutsFront setup header rows Y old new =
+    (page : Gray) → HasFirstRows header rows page → (n : ℕ) × (n ≤ length (result_row setup page Y))
+    × (new ≡ with_bytes old (rows_above setup page Y ++ take n (result_row setup page Y)))
+
+-- the document was cut off: before a row of the page was read, within its head; or within row Y, and no more rows were read
+-- than that one needs
+abbrev pub IsCutAt : Setup → PageHeader → List (List ℕ) → Option Documents → Option Documents → Type 0
+IsCutAt setup header rows old new =
+    ((rows ≡ []) × IsCutOff old new dash (result_head setup header))
+    ⊎ ((Y : ℕ) × (Y < setup.times * header.height) × (length rows ≡ need_of setup header Y)
+    × PutsFront setup header rows Y (with_open old dash (result_head setup header)) new)
+
 -- a call of the outputs failed: the document is cut off, and no more of the page was read than its last row needs
 pub record CutsResult (setup : Setup) (source source_now : Source) (old new : Sinks) : Type 0 where
   pub taken : List ℕ
@@ -192,3 +216,11 @@ IsFilterRun words end source source_now old new =
     ⊎ ((end ≡ ending.BadWords) × ((ask : FilterAsk) → IsFilterAsked words ask → ⊥) × (source_now ≡ source)
     × OnlySays (program_line filter_name (codes "bad arguments, see mkbitmap -h")) old new)
     ⊎ ((end ≡ ending.OutOfMemory) × (source_now ≡ source) × OnlySays (program_line filter_name (codes "out of memory")) old new)
+
+-- a page of this header whose first rows are these
+pub record HasFirstRows (header : PageHeader) (rows : List (List ℕ)) (page : Gray) : Type 0 where
+  pub width : page.width ≡ header.width
+  pub height : page.height ≡ header.height
+  pub maxval : page.maxval ≡ header.maxval
+  pub bright : (x y : ℕ) → page.sample x y ≤ page.maxval
+  pub row : (y : ℕ) → y < length rows → IsRow page y (get_or rows y [])

@@ -1,8 +1,6 @@
 pub mod Result
 pub mod Rows
 pub mod Shown
-pub mod FilterWork
-pub mod Put
 pub mod FilterRun
 pub mod PageHeader
 pub mod Inner

@@ -14,7 +14,7 @@ use Rattle.mkbitmap.specs.Filtering.{Filtering}
 use Rattle.mkbitmap.specs.Follows.{Follows}
 use Rattle.filter_words.specs.declared.setup.Setup.{Setup}
 use Rattle.mk_run.specs.Rows.{LeavesRows, cut_row}
-use Rattle.mk_run.specs.FilterWork.{HasFirstRows}
+use Rattle.mk_run.specs.FilterRun.{HasFirstRows}
 
 -- the header that a reader has read
 abbrev pub header_of : GraySource → PageHeader

@@ -16,10 +16,9 @@ use Rattle.filter_words.specs.declared.setup.Setup.{Setup}
 use Rattle.mk_run.specs.Result.{result_row, result_text}
 use Rattle.mkbitmap.specs.Filtering.{Filtering}
 use Rattle.mk_run.specs.Inner.FilterWork.{GivesRows, IsAtWork, StopsBehind, header_of}
-use Rattle.mk_run.specs.FilterWork.{HasFirstRows}
+use Rattle.mk_run.specs.FilterRun.{HasFirstRows, rows_above, need_of, PutsFront, IsCutAt}
 use Rattle.mk_run.specs.declared.fault.Break.{Break}
 use Rattle.mk_run.specs.declared.fault.Break.TheVariants as breaks
-use Rattle.mk_run.specs.Put.{rows_above, need_of, PutsFront, IsCutAt}
 
 -- the open document has all rows above row Y more, whatever page begins with these rows
 abbrev pub PutsRows : Setup → PageHeader → List (List ℕ) → ℕ → Option Documents → Option Documents → Type 0

@@ -4,7 +4,7 @@ use Rattle.bitmap_input.specs.declared.gray_reader.GrayHead.{GrayHead}
 use Rattle.mkbitmap.specs.Enlarged.{after_of}
 use Rattle.mkbitmap.proofs.Order.{need-last}
 use Rattle.mk_run.specs.Inner.Put.{PutsRows}
-use Rattle.mk_run.specs.Put.{need_of}
+use Rattle.mk_run.specs.FilterRun.{need_of}
 use Rattle.mk_run.specs.Inner.FilterWork.{header_of}
 use Rattle.mk_run.proofs.Breaking.{breaks_on, pos_of, puts_on, well_on}
 use Rattle.mk_run.proofs.Giving.{gives_none, gives_on, header_stays}

@@ -3,7 +3,7 @@ use Rattle.mkbitmap.specs.Enlarged.{after_of}
 use Rattle.mkbitmap.specs.Filtering.{SameSetup}
 use Rattle.run_output.specs.Told.{told_of}
 use Rattle.mk_run.specs.Inner.Put.{GoesWell, PutsRows}
-use Rattle.mk_run.specs.Put.{need_of}
+use Rattle.mk_run.specs.FilterRun.{need_of}
 use Rattle.mk_run.specs.Inner.FilterWork.{GivesRows, IsAtWork, header_of, MayRead}
 use Rattle.mk_run.proofs.put.put_rows.Given as goal
 
