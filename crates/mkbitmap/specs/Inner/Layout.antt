@@ -34,17 +34,21 @@ filtering_of f = record {
   packed = f.packed.items;
 }
 
+-- the sides, the boxes and how many times larger the page is made are in range, and this is the limit of dark mixtures
+pub record IsSetUp (width height maxval radius times level limit : ℕ) : Type 0 where
+  pub some_columns : 1 ≤ width
+  pub some_rows : 1 ≤ height
+  pub most_white : maxval ≤ GREATEST_MAXVAL
+  pub most_radius : radius ≤ GREATEST_RADIUS
+  pub some_times : 1 ≤ times
+  pub most_times : times ≤ GREATEST_TIMES
+  pub most_columns : times * width ≤ LONGEST_SIDE
+  pub most_rows : times * height ≤ LONGEST_SIDE
+  pub dark : limit ≡ dark_limit maxval times level
+
 -- the sizes of what is held
 pub record HasRoom (f : Inside) : Type 0 where
-  pub some_columns : 1 ≤ f.width
-  pub some_rows : 1 ≤ f.height
-  pub maxval : f.maxval ≤ GREATEST_MAXVAL
-  pub radius : f.radius ≤ GREATEST_RADIUS
-  pub some_times : 1 ≤ f.times
-  pub most_times : f.times ≤ GREATEST_TIMES
-  pub most_columns : f.times * f.width ≤ LONGEST_SIDE
-  pub most_rows : f.times * f.height ≤ LONGEST_SIDE
-  pub limit : f.limit ≡ dark_limit f.maxval f.times f.level
+  pub setup : IsSetUp f.width f.height f.maxval f.radius f.times f.level f.limit
   pub slots : length f.ring.items ≡ 2 * f.radius + 1
   pub slot : (k : ℕ) → k < 2 * f.radius + 1 → length (get_or f.ring.items k []) ≡ f.width
   pub columns : length f.columns.items ≡ f.width

@@ -19,8 +19,8 @@ pub overflow_cast-self-inside : goal.overflow_cast-self-inside
 overflow_cast-self-inside c =
     let f = c.self.inside in
     let room = c.self.invariant.room in
-    let one : 1 * f.width ≤ f.times * f.width = mul-le 1 f.width f.times f.width room.some_times (omega arith) in
-    omega (arith, one, room.most_columns)
+    let one : 1 * f.width ≤ f.times * f.width = mul-le 1 f.width f.times f.width room.setup.some_times (omega arith) in
+    omega (arith, one, room.setup.most_columns)
 
 pub returns-clause-row : goal.returns-clause-row
 returns-clause-row c = λ page old.
@@ -39,18 +39,18 @@ returns-clause-row c = λ page old.
     let value = c.mix_row.ensures.value u (omega (arith, h, page_wide, mixed_wide, c.mix_row.ensures.same_room)) in
     let same : before_within (length c.deref.result.now) u ≡ before_within page.width u = omega (arith, wide, page_wide) in
     value ∙ column_is page (filtering_of f) f.times c.args.y c.of-place.result.part c.deref.result.now c.deref-2.result.now follows some ready
-    c.of-place.ensures.part c.deref.ensures.value c.deref-2.ensures.value (before_within (length c.deref.result.now) u) (omega (arith, wide, room.some_columns))
+    c.of-place.ensures.part c.deref.ensures.value c.deref-2.ensures.value (before_within (length c.deref.result.now) u) (omega (arith, wide, room.setup.some_columns))
     ∙ ap (λ x. mixed_column page f.radius f.times c.args.y x) same in
     let all : f.times * (page.width + 2) ≡ f.times * f.width + 2 * f.times = rw page_wide (omega arith) in
     let bright : (a b : ℕ) → page.sample a b ≤ page.maxval = λ a b. rw follows.holds.maxval (follows.holds.bright a b) in
-    let limit : f.limit ≡ dark_limit page.maxval f.times f.level = room.limit ∙ ap (λ w. dark_limit w f.times f.level) (sym follows.holds.maxval) in
+    let limit : f.limit ≡ dark_limit page.maxval f.times f.level = room.setup.dark ∙ ap (λ w. dark_limit w f.times f.level) (sym follows.holds.maxval) in
     let row : c.pack_row.new.row ≡ row_text (f.times * f.width) (padded (f.times * f.width) (λ X. is_black page f.radius f.times f.level X c.args.y))
     = c.pack_row.ensures ∙ ap (λ (m : List ℕ). row_text (f.times * f.width) (padded (f.times * f.width) (dark m f.times f.limit))) mixed
     ∙ packed_same (f.times * f.width) (dark c.mix_row.new.mixed f.times f.limit) (λ X. is_black page f.radius f.times f.level X c.args.y)
     (λ X h. dark_is page f.radius f.times f.limit c.args.y X c.mix_row.new.mixed columns
-    (after-within f.times X (f.times * f.width) (page.width + 2) room.some_times h (omega (arith, all)))
+    (after-within f.times X (f.times * f.width) (page.width + 2) room.setup.some_times h (omega (arith, all)))
     ∙ ap (λ n. nat_le (mixed_raised page f.radius f.times X c.args.y) n) limit
-    ∙ sym (black-is page f.radius f.times f.level X c.args.y bright (omega (arith, page_wide, room.some_columns)) (omega (arith, follows.holds.height, room.some_rows)) room.some_times)) in
+    ∙ sym (black-is page f.radius f.times f.level X c.args.y bright (omega (arith, page_wide, room.setup.some_columns)) (omega (arith, follows.holds.height, room.setup.some_rows)) room.setup.some_times)) in
     let packed : length c.pack_row.new.row ≡ f.packed.len = ap length row ∙ length-row_text (f.times * f.width) (padded (f.times * f.width) (λ X. is_black page f.radius f.times f.level X c.args.y)) ∙ sym (f.packed.ok.0 ∙ room.packed) in
     with_items_is f.packed c.pack_row.new.row packed ∙ row
     ∙ ap (λ (v : Filtering). row_text (v.times * v.width) (padded (v.times * v.width) (λ X. is_black page v.radius v.times v.level X c.args.y))) c.self.view_is

@@ -17,7 +17,7 @@ returns-clause-follows c = λ page old.
     let low : min (f.pairs + 1) f.height - f.radius ≡ first_held f = omega (arith, due) in
     let y_up : before_within f.height (f.pairs + 1 - 1) ≡ before_within f.height f.pairs = omega arith in
     let y_low : before_within f.height (f.pairs + 1) ≡ before_within f.height f.pairs = omega (arith, due) in
-    let last : AreRaised page (filtering_of f) f.lower.items (before_within f.height f.pairs) = follows.lower (omega (arith, due, laid.room.some_rows)) in
+    let last : AreRaised page (filtering_of f) f.lower.items (before_within f.height f.pairs) = follows.lower (omega (arith, due, laid.room.setup.some_rows)) in
     let copied : c.copy_from_slice.new.self.items ≡ f.lower.items = c.copy_from_slice.ensures.items ∙ c.deref.ensures.value in
     record {
       holds = holds_of page _ (2 * f.radius + 1) (min (f.pairs + 1) f.height - f.radius) f.ring.items refl (omega (arith, low, laid.room.low)) ring.width ring.height ring.maxval ring.bright

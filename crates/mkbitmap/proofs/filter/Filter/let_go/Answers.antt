@@ -45,15 +45,7 @@ invariant_of-self-2 c =
     let size : length c.leave.new.columns ≡ f.columns.len = c.leave.ensures.length ∙ c.deref_mut.ensures.len in
     record {
       room = record {
-        some_columns = room.some_columns;
-        some_rows = room.some_rows;
-        maxval = room.maxval;
-        radius = room.radius;
-        some_times = room.some_times;
-        most_times = room.most_times;
-        most_columns = room.most_columns;
-        most_rows = room.most_rows;
-        limit = room.limit;
+        setup = room.setup;
         slots = room.slots;
         slot = room.slot;
         columns = ap length (with_items_is f.columns c.leave.new.columns size) ∙ size ∙ f.columns.ok.0 ∙ room.columns;

@@ -46,15 +46,7 @@ invariant_of-self c =
     is c.deref.ensures.value (omega (arith, c.saturating_sub.ensures)) (c.raise_row.ensures.value x (rw c.deref.ensures.value (omega (arith, within, room.columns)))) in
     record {
       room = record {
-        some_columns = room.some_columns;
-        some_rows = room.some_rows;
-        maxval = room.maxval;
-        radius = room.radius;
-        some_times = room.some_times;
-        most_times = room.most_times;
-        most_columns = room.most_columns;
-        most_rows = room.most_rows;
-        limit = room.limit;
+        setup = room.setup;
         slots = room.slots;
         slot = room.slot;
         columns = room.columns;
@@ -71,7 +63,7 @@ invariant_of-self c =
       sums = laid.sums;
       upper = laid.upper;
       lower = λ x. rw (with_items_is f.lower c.raise_row.new.relief size)
-          (row_most (held_page f) f.radius f.pairs c.raise_row.new.relief (holds_itself f laid).bright room.maxval due wide raised x);
+          (row_most (held_page f) f.radius f.pairs c.raise_row.new.relief (holds_itself f laid).bright room.setup.most_white due wide raised x);
     }
 
 pub returns-clause-lower : goal.returns-clause-lower

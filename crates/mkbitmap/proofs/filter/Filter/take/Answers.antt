@@ -16,8 +16,8 @@ keep-requires-clause-small c = λ x.
     let wanted : f.taken < min f.height (f.pairs + f.radius + 1) = subst (λ (v : Filtering). v.taken < min v.height (v.pairs + v.radius + 1)) (sym c.self.view_is) c.requires.wanted in
     let free = has_slot f room wanted in
     let small = sums_small f c.self.invariant x in
-    let bound : (f.taken - first_held f) * f.maxval ≤ LONGEST_BOX * GREATEST_MAXVAL = mul-le (f.taken - first_held f) f.maxval LONGEST_BOX GREATEST_MAXVAL (omega (arith, room.radius, free)) room.maxval in
-    rw c.deref_mut.ensures.value (omega (arith, small, bound, room.maxval))
+    let bound : (f.taken - first_held f) * f.maxval ≤ LONGEST_BOX * GREATEST_MAXVAL = mul-le (f.taken - first_held f) f.maxval LONGEST_BOX GREATEST_MAXVAL (omega (arith, room.setup.most_radius, free)) room.setup.most_white in
+    rw c.deref_mut.ensures.value (omega (arith, small, bound, room.setup.most_white))
 
 pub invariant_of-self : goal.invariant_of-self
 invariant_of-self c =
@@ -34,15 +34,7 @@ invariant_of-self c =
     ∙ room.slot (f.taken % c.len.result) below in
     record {
       room = record {
-        some_columns = room.some_columns;
-        some_rows = room.some_rows;
-        maxval = room.maxval;
-        radius = room.radius;
-        some_times = room.some_times;
-        most_times = room.most_times;
-        most_columns = room.most_columns;
-        most_rows = room.most_rows;
-        limit = room.limit;
+        setup = room.setup;
         slots = length-set f.ring.items (f.taken % c.len.result) c.keep.new.self ∙ room.slots;
         slot = slot_next (2 * f.radius + 1) (f.taken % c.len.result) f.width f.ring.items c.keep.new.self (omega (arith, below, room.slots)) room.slot wide;
         columns = ap length (with_items_is f.columns c.keep.new.columns columns) ∙ columns ∙ f.columns.ok.0 ∙ room.columns;
