@@ -136,6 +136,14 @@ pub record HasTakenSo (P : List ℕ → Type 0) (source source_now : Source) : T
   pub has : HasTaken source.files source_now.files taken
   pub so : P taken
 
+-- a page of this header whose first rows are these
+pub record HasFirstRows (header : PageHeader) (rows : List (List ℕ)) (page : Gray) : Type 0 where
+  pub width : page.width ≡ header.width
+  pub height : page.height ≡ header.height
+  pub maxval : page.maxval ≡ header.maxval
+  pub bright : (x y : ℕ) → page.sample x y ≤ page.maxval
+  pub row : (y : ℕ) → y < length rows → IsRow page y (get_or rows y [])
+
 -- all rows of the result above row Y
 abbrev pub rows_above : Setup → Gray → ℕ → List ℕ
 rows_above setup page Y = result_rows setup page page.height Y
@@ -216,11 +224,3 @@ IsFilterRun words end source source_now old new =
     ⊎ ((end ≡ ending.BadWords) × ((ask : FilterAsk) → IsFilterAsked words ask → ⊥) × (source_now ≡ source)
     × OnlySays (program_line filter_name (codes "bad arguments, see mkbitmap -h")) old new)
     ⊎ ((end ≡ ending.OutOfMemory) × (source_now ≡ source) × OnlySays (program_line filter_name (codes "out of memory")) old new)
-
--- a page of this header whose first rows are these
-pub record HasFirstRows (header : PageHeader) (rows : List (List ℕ)) (page : Gray) : Type 0 where
-  pub width : page.width ≡ header.width
-  pub height : page.height ≡ header.height
-  pub maxval : page.maxval ≡ header.maxval
-  pub bright : (x y : ℕ) → page.sample x y ≤ page.maxval
-  pub row : (y : ℕ) → y < length rows → IsRow page y (get_or rows y [])
