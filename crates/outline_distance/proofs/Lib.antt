@@ -15,3 +15,4 @@ pub mod Edges
 pub mod Between
 pub mod Unjoined
 pub mod Chords
+pub mod Written

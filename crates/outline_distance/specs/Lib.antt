@@ -1,3 +1,4 @@
 pub mod Distance
 pub mod Curves
 pub mod Polygons
+pub mod Written

@@ -1,5 +1,5 @@
 //! What follows from the definitions alone.
-ghost use Rattle.std.specs.Prelude.{◌≡◌, false, ℕ, ◌+◌, ◌-◌, ◌*◌, ◌<◌, ◌≤◌, ◌+ℤ◌, List, length, slice_index, slice_index_or, slice_range};
+ghost use Rattle.std.specs.Prelude.{◌≡◌, ◌⊎◌, false, ℕ, ◌+◌, ◌-◌, ◌*◌, ◌<◌, ◌≤◌, ◌+ℤ◌, List, length, slice_index, slice_index_or, slice_range};
 ghost use Rattle.pt_core.specs.ClosedWalk.{IsClosedWalk, point_at, origin};
 ghost use Rattle.pt_core.specs.declared.point.Point.{Point};
 ghost use Rattle.pt_core.specs.declared.piece.Piece.TheVariants.{Corner, Curve};
@@ -18,6 +18,7 @@ ghost use Rattle.page_trace.specs.Trace.{IsOutlineOf};
 ghost use Rattle.dxf_geojson.specs.Chords.{curve_point};
 ghost use Rattle.outline_distance.specs.Curves.{BendsBy, curve_place};
 ghost use Rattle.outline_distance.specs.Polygons.{IsAnyPolygon};
+ghost use Rattle.outline_distance.specs.Written.{as_written};
 ghost use Rattle.outline_distance.specs.Distance.{DividesBy, IsCloseTo, LinePassesBy, PassesBy, divided, eightfold_middle, multiple, point_place};
 
 /// Each vertex is at most half a pixel from its point of the path.
@@ -153,4 +154,39 @@ pub fn chords_pass_by_curves()
 pub fn chord_points_are_rounded()
     ensures { (start first second end : Point) (k : ℕ)
         → IsCloseTo 512 (multiple 512 (curve_point start first second end k)) (curve_place (8 - k) k start first second end) }
+{}
+
+/// A place as a text has it is off by at most half a unit.
+pub fn places_are_rounded()
+    ensures { (unit : ℕ) (p : Point) → IsCloseTo 512 (as_written unit p) (multiple unit p) }
+{}
+
+/// As a text has them, vertices are at most half a pixel and half a unit from their points of the path. Joints are at
+/// most one and a half pixels and half a unit from a point. Each point of the path is so close to one of the lines
+/// between a vertex and a joint, and each place of these lines to a place of an edge that the side stands for.
+pub fn written_outlines_are_close()
+    ensures vertices { (points : List Point) (at : List ℕ) (vertices : List Point) (unit k : ℕ)
+        → AreVertices points at vertices → k < length at
+        → IsCloseTo (unit * 512 + 512) (as_written unit (point_at vertices k)) (multiple unit (point_place (point_at points (slice_index at k)))) }
+    ensures joints { (points : List Point) (at : List ℕ) (vertices : List Point) (unit k : ℕ)
+        → IsClosedWalk points → IsAnyPolygon points at → AreVertices points at vertices → k < length at
+        → (i : ℕ) × (slice_index at k ≤ i) × (i ≤ segment_end_of points at k)
+        × IsCloseTo (unit * 1536 + 512) (as_written unit (middle_of (point_at vertices k) (point_at vertices (k + 1)))) (multiple unit (point_place (point_at points i))) }
+    ensures points { (points : List Point) (at : List ℕ) (vertices : List Point) (unit i : ℕ)
+        → IsClosedWalk points → IsAnyPolygon points at → AreVertices points at vertices → i < length points
+        → (k : ℕ) × (k < length vertices) × (let joint = middle_of (point_at vertices k) (point_at vertices (k + 1)) in
+        (PassesBy (unit * 1536 + 512) (as_written unit (point_at vertices k)) (as_written unit joint) (multiple unit (point_place (point_at points i)))
+        ⊎ PassesBy (unit * 1536 + 512) (as_written unit joint) (as_written unit (point_at vertices (k + 1))) (multiple unit (point_place (point_at points i))))) }
+    ensures to_joints { (points : List Point) (at : List ℕ) (vertices : List Point) (unit k before after : ℕ)
+        → IsClosedWalk points → IsAnyPolygon points at → AreVertices points at vertices → k < length at → 1 ≤ before + after
+        → (i : ℕ) × (slice_index at k ≤ i) × (i < segment_end_of points at k) × (here : ℕ) × (there : ℕ) × (here + there ≡ 2 * (before + after))
+        × IsCloseTo (2 * (before + after) * (unit * 1536 + 512))
+        (multiple 2 (divided before after (as_written unit (point_at vertices k)) (as_written unit (middle_of (point_at vertices k) (point_at vertices (k + 1))))))
+        (multiple unit (divided here there (point_place (point_at points i)) (point_place (point_at points (i + 1))))) }
+    ensures from_joints { (points : List Point) (at : List ℕ) (vertices : List Point) (unit k before after : ℕ)
+        → IsClosedWalk points → IsAnyPolygon points at → AreVertices points at vertices → k < length at → 1 ≤ before + after
+        → (i : ℕ) × (slice_index at k ≤ i) × (i < segment_end_of points at k) × (here : ℕ) × (there : ℕ) × (here + there ≡ 2 * (before + after))
+        × IsCloseTo (2 * (before + after) * (unit * 1536 + 512))
+        (multiple 2 (divided before after (as_written unit (middle_of (point_at vertices k) (point_at vertices (k + 1)))) (as_written unit (point_at vertices (k + 1)))))
+        (multiple unit (divided here there (point_place (point_at points i)) (point_place (point_at points (i + 1))))) }
 {}
