@@ -16,3 +16,6 @@ pub mod Between
 pub mod Unjoined
 pub mod Chords
 pub mod Written
+pub mod Means
+pub mod AlmostOnPage
+mod Examples
