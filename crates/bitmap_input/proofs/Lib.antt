@@ -25,6 +25,7 @@ pub mod Placing
 pub mod Rows
 pub mod Graying
 pub mod Showing
+pub mod Shown
 pub mod Bodies
 pub mod BmpPictures
 pub mod Keeping

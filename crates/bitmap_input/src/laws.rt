@@ -3,8 +3,9 @@ ghost use Rattle.std.specs.Prelude.{◌≡◌, ℕ, ◌≤◌, Bool, false, List
 ghost use Rattle.bitmap_input.specs.Cut.{FileEnd, is_by_end};
 ghost use Rattle.bitmap_input.specs.PageParts.{run_length, gap_length};
 ghost use Rattle.bitmap_input.specs.Sets.{AllBytes, IsGap};
-ghost use Rattle.bit_image.specs.Page.{IsPage};
-ghost use Rattle.bitmap_input.specs.Raw.{Raw, shown};
+ghost use Rattle.bit_image.specs.Page.{IsPage, Page as BitmapPage};
+ghost use Rattle.bit_image.specs.PbmText.{pbm_text};
+ghost use Rattle.bitmap_input.specs.Raw.{IsShown, Raw, shown};
 ghost use Rattle.bitmap_input.specs.Front.{front, page_at};
 ghost use Rattle.bitmap_input.specs.Front.Answer.{Page};
 ghost use Rattle.bitmap_input.specs.PageText.{IsPageText};
@@ -54,4 +55,12 @@ pub fn file_pages_are_pages()
     ensures { (later : Bool) (bytes : List ℕ) (raws : List Raw) (ending : FileEnd) (level : ℕ)
         (invert : Bool)
         → FilePages later bytes raws ending → All (λ raw. IsPage (shown level invert raw)) raws }
+{}
+
+/// Whoever reads a page's raw PBM text finds one page, which takes all of the bytes and is this one at
+/// any level.
+pub fn pbm_texts_show_their_pages()
+    ensures { (page : BitmapPage) → IsPage page → (raw : Raw)
+        × (front false (pbm_text page) ≡ Page raw (length (pbm_text page)))
+        × ((level : ℕ) → IsShown level false page raw) }
 {}

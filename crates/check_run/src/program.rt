@@ -1,7 +1,10 @@
 //! The top call: all that the program does.
-ghost use Rattle.std.specs.Prelude.{◌≡◌, ℕ, List, All, codes, false, length, true};
+ghost use Rattle.std.specs.Prelude.{◌≡◌, ℕ, ◌≤◌, ◌^◌, List, All, codes, false, length, true};
 ghost use Rattle.outline_check.specs.ProofsText.{Certified};
 ghost use Rattle.outline_check.specs.Texts.{IsProofs};
+ghost use Rattle.outline_check.specs.Verdicts.{IsVerdict};
+ghost use Rattle.outline_check.specs.declared.verdict.Verdict.TheVariants.{Right};
+ghost use Rattle.check_run.specs.Rechecked.{FindsRight};
 ghost use Rattle.check_run.specs.Verdict.{IsCheckReply};
 ghost use Rattle.polygon_optimal.specs.Polygon.{IsBestPolygon};
 ghost use Rattle.run_output.specs.Told.{sinks_of, source_of};
@@ -36,6 +39,13 @@ pub fn check_run<I: Inputs, O: Outputs, E: Sink>(
     ensures best { result ≡ exit_code Done → (text : List ℕ) (width height : ℕ) (paths : List Certified)
         → TellsInput (I.files inputs.old) text → IsProofs text width height paths
         → All (λ c. IsBestPolygon c.points c.at) paths }
+
+    // A text of right certificates is found right.
+    ensures finds_right { (text : List ℕ) (paths : ℕ) → IsVerdict text (Right paths) → length words.now ≡ 0
+        → TellsInput (I.files inputs.old) text → length text ≤ 2 ^ 30
+        → (ending : Ending) × (result ≡ exit_code ending) × FindsRight paths ending
+        (source_of I.Inputs inputs.old) (source_of I.Inputs inputs.new)
+        (sinks_of O.Sink E.Sink outs.old errs.old) (sinks_of O.Sink E.Sink outs.new errs.new) }
 {
     run(alloc, "outline_check", &Checking, words, inputs, outs, errs).code()
 }

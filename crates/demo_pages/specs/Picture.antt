@@ -4,8 +4,6 @@ use Rattle.std.specs.Prelude.{ℕ, zero, suc, ◌+◌, ◌-◌, ◌*◌, ◌/◌
 use Rattle.bit_image.specs.Image.{Image, differ, white, within}
 use Rattle.bit_image.specs.Page.{Page, page_of}
 use Rattle.demo_pages.specs.declared.bar.Bar.{Bar}
-use Rattle.demo_pages.specs.declared.bar.TheConstants.{BAR_HEIGHT, BAR_LENGTH}
-use Rattle.demo_pages.specs.declared.page.TheConstants.{BARS, HEIGHT, RECTANGLES, WIDTH}
 use Rattle.demo_pages.specs.declared.rectangle.Rectangle.{Rectangle}
 use Rattle.demo_pages.specs.Generator.{number_at, state_after}
 
@@ -13,11 +11,11 @@ use Rattle.demo_pages.specs.Generator.{number_at, state_after}
 abbrev pub is_in_rectangle : Rectangle → ℕ → ℕ → Bool
 is_in_rectangle r u v = within r.left (r.left + r.width) u && within r.bottom (r.bottom + r.height) v
 
--- pixel (u, v) lies in the bar: in one of its columns, and there at the bar's height
+-- pixel (u, v) lies in the bar: in one of its 64 columns, and there in one of 6 rows
 abbrev pub is_in_bar : Bar → ℕ → ℕ → Bool
 is_in_bar bar u v =
     let low = bar.bottom + (u - bar.left) / bar.run in
-    within bar.left (bar.left + BAR_LENGTH) u && within low (low + BAR_HEIGHT) v
+    within bar.left (bar.left + 64) u && within low (low + 6) v
 
 -- the image with the pixels of an area inverted
 abbrev pub inverted_area : Image → (ℕ → ℕ → Bool) → Image
@@ -52,13 +50,13 @@ with_bars (suc n) state b = inverted_area (with_bars n state b) (is_in_bar (bar_
 
 -- the image of a page: first the rectangles, and then the bars
 abbrev pub demo_image : ℕ → Image
-demo_image state = with_bars BARS (state_after (4 * RECTANGLES) state) (with_rectangles RECTANGLES state white)
+demo_image state = with_bars 4 (state_after (4 * 40) state) (with_rectangles 40 state white)
 
--- the page that is made from a state on
+-- the page that is made from a state on: 256 columns and 192 rows
 abbrev pub picture_page : ℕ → Page
-picture_page state = page_of WIDTH HEIGHT (demo_image state)
+picture_page state = page_of 256 192 (demo_image state)
 
 -- so many pages, each made from where the one before ended, 172 draws on
 unfoldable pub pages_from : ℕ → ℕ → List Page
 pages_from zero state = []
-pages_from (suc n) state = picture_page state ∷ pages_from n (state_after (4 * RECTANGLES + 3 * BARS) state)
+pages_from (suc n) state = picture_page state ∷ pages_from n (state_after 172 state)

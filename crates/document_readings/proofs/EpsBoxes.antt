@@ -1,5 +1,6 @@
 -- The head of a document tells its page's box.
-use Rattle.std.proofs.Common.{◌≡◌, ℕ, ◌^◌, ◌<◌, List, ◌∷◌, ◌++◌, codes, refl, ap, ◌∙◌, append_assoc, Some, arith}
+use Rattle.std.proofs.Common.{◌≡◌, ℕ, ◌^◌, ◌<◌, nat_le, ◌&&◌, true, if◌then◌else◌, List, ◌∷◌, ◌++◌, codes, refl, ap, ◌∙◌, append_assoc, Some, None, arith}
+use Rattle.std.proofs.lemmas.Bool.Decides.{nat_tests}
 use Rattle.std.proofs.lemmas.List.Splits.{slice_split_at}
 use Rattle.std.proofs.lemmas.List.Elements.{All-append, All-cons}
 use Rattle.std.specs.Prelude.{All, decimal, ◌==◌}
@@ -23,6 +24,9 @@ box_line_within width height wide high =
     All-append IsNoLineFeed (codes "%%BoundingBox: 0 0 ") (decimal width ++ 32 ∷ decimal height) (within_line (codes "%%BoundingBox: 0 0 ") refl)
     (All-append IsNoLineFeed (decimal width) (32 ∷ decimal height) (number_in_line width wide) (All-cons IsNoLineFeed 32 (decimal height) refl (number_in_line height high)))
 
+none_is_least : (n : ℕ) → nat_le 0 n ≡ true
+none_is_least n = grind (arith, nat_tests)
+
 box_line_read : (width height : ℕ) → width < 2 ^ 64 → height < 2 ^ 64
     → box_in (spaced_words (box_line width height)) ≡ Some (record { left = 0; bottom = 0; right = width; top = height })
 box_line_read width height wide high =
@@ -30,6 +34,8 @@ box_line_read width height wide high =
     ∙ ap (λ ws. box_in (codes "%%BoundingBox:" ∷ codes "0" ∷ codes "0" ∷ decimal width ∷ ws)) (last_word height high)
     ∙ ap (λ w. box_by (Some 0) (Some 0) w (natural_of (decimal height))) (natural_read width wide)
     ∙ ap (λ h. box_by (Some 0) (Some 0) (Some width) h) (natural_read height high)
+    ∙ ap (λ wide. if wide && nat_le 0 height then Some (record { left = 0; bottom = 0; right = width; top = height }) else None) (none_is_least width)
+    ∙ ap (λ high. if high then Some (record { left = 0; bottom = 0; right = width; top = height }) else None) (none_is_least height)
 
 head_boxed : (width height : ℕ) (rest : List ℕ) → width < 2 ^ 64 → height < 2 ^ 64
     → eps_box (comments_text width height ++ rest) ≡ Some (record { left = 0; bottom = 0; right = width; top = height })

@@ -110,6 +110,32 @@ number_properties : read (codes "\"type\":\"Feature\",\"properties\":1") (codes 
 unfolding lex content punctuate word after_number value items members
 number_properties = refl
 
+-- members that would be those of another object (section 7.1): a feature's of a geometry and of a collection, a collection's
+-- of a feature, a geometry's of a feature; and members that aren't covered
+feature_coordinates : read (codes "\"type\":\"Feature\",\"properties\":{},\"coordinates\":[]") (codes "[[0.0,0.0],[1.5,0.0],[0.0,2.0],[0.0,0.0]]") ≡ None
+unfolding lex content punctuate word after_number value items members
+feature_coordinates = refl
+
+feature_features : read (codes "\"type\":\"Feature\",\"properties\":{},\"features\":[]") (codes "[[0.0,0.0],[1.5,0.0],[0.0,2.0],[0.0,0.0]]") ≡ None
+unfolding lex content punctuate word after_number value items members
+feature_features = refl
+
+collection_properties : geojson_polygons (codes "{\"type\":\"FeatureCollection\",\"properties\":{},\"features\":[]}") ≡ None
+unfolding lex content punctuate word after_number value items members
+collection_properties = refl
+
+geometry_properties : geojson_polygons (codes "{\"type\":\"FeatureCollection\",\"features\":[{\"type\":\"Feature\",\"properties\":{},\"geometry\":{\"type\":\"Polygon\",\"properties\":{},\"coordinates\":[[[0.0,0.0],[1.5,0.0],[0.0,2.0],[0.0,0.0]]]}}]}") ≡ None
+unfolding lex content punctuate word after_number value items members
+geometry_properties = refl
+
+boxed : read (codes "\"type\":\"Feature\",\"properties\":{},\"bbox\":[0,0,1]") (codes "[[0.0,0.0],[1.5,0.0],[0.0,2.0],[0.0,0.0]]") ≡ None
+unfolding lex content punctuate word after_number value items members
+boxed = refl
+
+identified : read (codes "\"type\":\"Feature\",\"properties\":{},\"id\":[]") (codes "[[0.0,0.0],[1.5,0.0],[0.0,2.0],[0.0,0.0]]") ≡ None
+unfolding lex content punctuate word after_number value items members
+identified = refl
+
 -- collections: of another geometry, with a comma too many, with something behind
 point : geojson_polygons (codes "{\"type\":\"FeatureCollection\",\"features\":[{\"type\":\"Feature\",\"properties\":null,\"geometry\":{\"type\":\"Point\",\"coordinates\":[0,0]}}]}") ≡ None
 unfolding lex content punctuate word after_number value items members

@@ -1,5 +1,5 @@
 -- Programs of PostScript that are read, and programs that are not.
-use Rattle.std.proofs.Common.{◌≡◌, pos, [], ◌∷◌, codes, refl, Some, None}
+use Rattle.std.proofs.Common.{◌≡◌, pos, [], ◌∷◌, ◌++◌, codes, refl, Some, None}
 use Rattle.document_readings.specs.Drawn.{line_to, curve_to}
 use Rattle.document_readings.specs.DscReading.{dsc_pages}
 use Rattle.document_readings.specs.EpsBox.{eps_box}
@@ -28,6 +28,13 @@ shown = refl
 two_pages : ps_painted (codes "2 3 scale showpage 1 1 moveto 1 0 2 1 2 2 rcurveto closepath eofill showpage")
     ≡ Some (record { pages = [] ∷ (record { scales = []; subpaths = record { start = record { x = pos 1; y = pos 1 }; segments = curve_to (record { x = pos 2; y = pos 1 }) (record { x = pos 3; y = pos 2 }) (record { x = pos 3; y = pos 3 }) ∷ [] } ∷ [] } ∷ []) ∷ []; unshown = [] })
 two_pages = refl
+
+-- a form feed stands between words, and ends a comment
+form_feed : ps_painted (codes "% a" ++ 12 ∷ codes "2" ++ 12 ∷ codes "3 scale showpage") ≡ Some (record { pages = [] ∷ []; unshown = [] })
+form_feed = refl
+
+behind_form_feed : ps_painted (codes "% a" ++ 12 ∷ codes "2 3 scale 1\nshowpage") ≡ None
+behind_form_feed = refl
 
 -- what was saved comes back, the path too
 restored : ps_painted (codes "gsave 1 1 moveto grestore 2 3 scale eofill")
@@ -159,7 +166,8 @@ cut_end = refl
 other_comment : dsc_pages (codes "%!PS-Adobe-3.0\n%%Pages: (atend)\n%%EndComments\n%%Page: 1 1\n%%PageTrailer\n%%Trailer\n%%Pages: 1\n%%EOF\n") ≡ None
 other_comment = refl
 
--- a box, and heads that tell none: of another version, without the box, of three numbers, left to the end, with a fraction
+-- a box, and heads that tell none: of another version, without the box, of three numbers, left to the end, with a fraction,
+-- turned round
 box : eps_box (codes "%!PS-Adobe-3.0 EPSF-3.0\n%%BoundingBox: 0 0 4 3\n%%EndComments\n") ≡ Some (record { left = 0; bottom = 0; right = 4; top = 3 })
 box = refl
 
@@ -177,3 +185,6 @@ box_at_end = refl
 
 box_fraction : eps_box (codes "%!PS-Adobe-3.0 EPSF-3.0\n%%BoundingBox: 0 0 4.5 3\n") ≡ None
 box_fraction = refl
+
+box_round : eps_box (codes "%!PS-Adobe-3.0 EPSF-3.0\n%%BoundingBox: 4 3 0 0\n") ≡ None
+box_round = refl

@@ -105,7 +105,8 @@ inkscape = refl
 corner : option_map (λ transforms. image_by transforms (record { x = pos 10; y = pos 10 })) (transforms_of (codes "translate(0,40) scale(1,-1)")) ≡ Some (record { x = pos 10; y = pos 30 })
 corner = refl
 
--- roots: without the namespace, with another one, without a unit, with a negative side, with the aspect changed
+-- roots: without the namespace, with another one, without a unit, without a width, with the aspect changed, of another
+-- version, with another name
 no_namespace : svg_picture (document_with (codes "version=\"1.0\" width=\"4pt\" height=\"4pt\" viewBox=\"0 0 40 40\"") group_as_ours path_as_ours) ≡ None
 no_namespace = refl
 
@@ -120,6 +121,9 @@ no_width = refl
 
 aspect : svg_picture (document_with (root_as_ours ++ codes " preserveAspectRatio=\"none\"") group_as_ours path_as_ours) ≡ None
 aspect = refl
+
+other_version : svg_picture (document_with (codes "version=\"2.0\" xmlns=\"http://www.w3.org/2000/svg\" width=\"4pt\" height=\"4pt\" viewBox=\"0 0 40 40\"") group_as_ours path_as_ours) ≡ None
+other_version = refl
 
 other_root : svg_picture (codes "<SVG xmlns=\"http://www.w3.org/2000/svg\" width=\"4pt\" height=\"4pt\" viewBox=\"0 0 40 40\"><g transform=\"scale(1,1)\"></g></SVG>") ≡ None
 other_root = refl

@@ -1,7 +1,8 @@
 -- Polylines of a drawing interchange file (DXF Reference: "ASCII DXF files", on groups; "ENTITIES section"; "POLYLINE",
 -- "VERTEX", "SEQEND"). A group is a line with its code, which may be indented by spaces, and a line with its value. Covered
--- is a file of one section, ENTITIES, with polylines in the plane, whose layers are named and passed over. Outside are
--- headers, tables, blocks, other entities, heights, bulges, handles and carriage returns.
+-- is a file of one section, ENTITIES, with polylines in the plane as release 12 has them, whose layers are named and passed
+-- over, and whose vertices end with a SEQEND without groups. Outside are headers, tables, blocks, other entities, heights,
+-- bulges, handles, comments, exponents, and carriage returns.
 use Rattle.std.specs.Prelude.{ℕ, Bool, true, false, cond, if◌then◌else◌, List, [], ◌∷◌, ◌++◌, codes, Option, Some, None, option_map, option_and_then, unwrap_or, bytes_eq}
 use Rattle.document_readings.specs.Decimals.{Decimal, Position, decimal_of}
 use Rattle.document_readings.specs.TextLines.{text_lines, without_spaces}

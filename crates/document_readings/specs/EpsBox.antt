@@ -1,7 +1,8 @@
 -- The bounding box of an Encapsulated PostScript file (Encapsulated PostScript File Format, version 3.0: the two comments
 -- that each such file has). Covered are files whose first line is the version, and whose second one is the box, in whole
--- numbers without a sign.
-use Rattle.std.specs.Prelude.{ℕ, if◌then◌else◌, List, [], ◌∷◌, codes, Option, Some, None, bytes_eq}
+-- numbers without a sign, with one space before each. Outside are a box further down, or left to the end, and carriage
+-- returns.
+use Rattle.std.specs.Prelude.{ℕ, ◌&&◌, nat_le, if◌then◌else◌, List, [], ◌∷◌, codes, Option, Some, None, bytes_eq}
 use Rattle.document_readings.specs.WholeNumbers.{natural_of}
 use Rattle.document_readings.specs.TextLines.{spaced_words, text_lines}
 
@@ -12,9 +13,10 @@ pub record EpsBox : Type 0 where
   pub right : ℕ
   pub top : ℕ
 
--- four numbers
+-- four numbers, of which none on the right or at the top is less than the one on the left or at the bottom
 abbrev pub box_by : Option ℕ → Option ℕ → Option ℕ → Option ℕ → Option EpsBox
-box_by (Some left) (Some bottom) (Some right) (Some top) = Some (record { left = left; bottom = bottom; right = right; top = top })
+box_by (Some left) (Some bottom) (Some right) (Some top) =
+    if nat_le left right && nat_le bottom top then Some (record { left = left; bottom = bottom; right = right; top = top }) else None
 box_by left bottom right top = None
 
 -- the box of the words of a line

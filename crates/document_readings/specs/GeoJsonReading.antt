@@ -1,8 +1,10 @@
--- Polygons of a GeoJSON text (RFC 7946, sections 3.1.1, 3.1.6, 3.2 and 3.3), over the values of JSON texts that the
+-- Polygons of a GeoJSON text (RFC 7946, sections 3.1.1, 3.1.6, 3.2, 3.3 and 7.1), over the values of JSON texts that the
 -- kit's `json` defines (RFC 8259). Covered is a collection of features that are polygons, with positions of two numbers.
--- Members that no section names may stand beside (section 6.1). Which way rings run isn't read: a reader shouldn't refuse
--- one that runs the other way (section 3.1.6).
-use Rattle.std.specs.Prelude.{ℕ, ◌&&◌, ◌==◌, nat_le, ℤ, pos, negsuc, Bool, true, false, if◌then◌else◌, List, [], ◌∷◌, codes, length, Option, Some, None, option_map, option_and_then, is_some, bytes_eq}
+-- Members that no section names may stand beside (section 6.1). Outside are bounding boxes (section 5), identifiers of
+-- features, heights, exponents, and a last position that is spelled otherwise than the first one. Which way rings run
+-- isn't read: a reader shouldn't refuse one that runs the other way (section 3.1.6). Nor is whether positions are degrees
+-- (section 4).
+use Rattle.std.specs.Prelude.{ℕ, ◌&&◌, ◌==◌, nat_le, ℤ, pos, negsuc, Bool, true, false, not, if◌then◌else◌, List, [], ◌∷◌, codes, length, Option, Some, None, option_map, option_and_then, is_some, bytes_eq}
 use Rattle.json.specs.Json as json
 use Rattle.json.specs.Json.{Json, Items, no_items, item, Members, no_members, member, document}
 use Rattle.json.specs.Find.{get_member}
@@ -18,6 +20,12 @@ only_member name (member first value members) =
 abbrev pub member_of : List ℕ → Json → Option Json
 member_of name (json.object members) = only_member name members
 member_of name value = None
+
+-- the object has no member of these names
+abbrev pub lacks : List (List ℕ) → Json → Bool
+lacks [] value = true
+lacks (name ∷ names) (json.object members) = not (is_some (get_member name members)) && lacks names (json.object members)
+lacks (name ∷ names) value = false
 
 -- the value of a number
 abbrev pub number_in : Json → Option Decimal
@@ -99,19 +107,28 @@ are_properties (Some (json.object _)) = true
 are_properties (Some json.null) = true
 are_properties value = false
 
--- a geometry that is a polygon
+-- a geometry that is a polygon, and has no member of a feature or of a collection (section 7.1)
 abbrev pub geometry_in : Json → Option (List (List Position))
-geometry_in value = if is_type (codes "Polygon") value then option_and_then rings_in (member_of (codes "coordinates") value) else None
+geometry_in value =
+    if is_type (codes "Polygon") value && lacks (codes "bbox" ∷ codes "geometry" ∷ codes "properties" ∷ codes "features" ∷ []) value
+    then option_and_then rings_in (member_of (codes "coordinates") value)
+    else None
 
--- a feature, with its properties
+-- a feature, with its properties, and no member of a geometry or of a collection (section 7.1)
 abbrev pub feature_in : Json → Option (List (List Position))
 feature_in value =
-    if is_type (codes "Feature") value && are_properties (member_of (codes "properties") value) then option_and_then geometry_in (member_of (codes "geometry") value) else None
+    if is_type (codes "Feature") value && are_properties (member_of (codes "properties") value)
+    && lacks (codes "bbox" ∷ codes "id" ∷ codes "coordinates" ∷ codes "geometries" ∷ codes "features" ∷ []) value
+    then option_and_then geometry_in (member_of (codes "geometry") value)
+    else None
 
--- a collection of features
+-- a collection of features, with no member of a geometry or of a feature (section 7.1)
 abbrev pub collection_in : Json → Option (List (List (List Position)))
 collection_in value =
-    if is_type (codes "FeatureCollection") value then option_and_then (list_in feature_in) (member_of (codes "features") value) else None
+    if is_type (codes "FeatureCollection") value
+    && lacks (codes "bbox" ∷ codes "coordinates" ∷ codes "geometries" ∷ codes "geometry" ∷ codes "properties" ∷ []) value
+    then option_and_then (list_in feature_in) (member_of (codes "features") value)
+    else None
 
 -- the polygons of a text
 abbrev pub geojson_polygons : List ℕ → Option (List (List (List Position)))

@@ -1,7 +1,7 @@
 -- The words of a PostScript program (PostScript Language Reference, third edition, section 3.2: a scanner's tokens, white
--- space and comments). Covered are whole numbers, some operators, spaces, tabs, and ends of lines. Outside are other
--- tokens, as fractions, strings, procedures, names with a slash, and names of one's own. A number may be of any size
--- here, and an interpreter has its limits (appendix B).
+-- space and comments). Covered are whole numbers, some operators, spaces, tabs, form feeds, and ends of lines. Outside are
+-- other tokens, as fractions, plus signs, strings, procedures, names with a slash, and names of one's own. A number may be
+-- of any size here, and an interpreter has its limits (appendix B).
 use Rattle.std.specs.Prelude.{ℕ, ◌||◌, ◌==◌, ℤ, true, cond, List, [], ◌∷◌, ◌++◌, codes, Option, Some, None, option_map, bytes_eq}
 use Rattle.std.specs.Char.{is_ascii_digit, is_ascii_alphabetic}
 use Rattle.document_readings.specs.WholeNumbers.{Begun, nothing, sign, digits, signed, with_digit}
@@ -36,7 +36,7 @@ pub data PsByte : Type 0 where
   minus : PsByte
   letter : PsByte
   space : PsByte
-  line_end : PsByte
+  line_end : PsByte  -- the end of a line, or a form feed
   percent : PsByte
   other : PsByte
 
@@ -44,7 +44,7 @@ pub data PsByte : Type 0 where
 abbrev pub ps_byte : ℕ → PsByte
 ps_byte byte =
     cond (is_ascii_digit byte) digit (cond (is_ascii_alphabetic byte) letter (cond (byte == 45) minus
-    (cond ((byte == 10) || (byte == 13)) line_end (cond ((byte == 32) || (byte == 9)) space (cond (byte == 37) percent other)))))
+    (cond ((byte == 10) || (byte == 12) || (byte == 13)) line_end (cond ((byte == 32) || (byte == 9)) space (cond (byte == 37) percent other)))))
 
 -- where the text has come to: between words, in a comment, in a number, or in a name
 pub data PsState : Type 0 where
@@ -62,7 +62,7 @@ word_before (counting (sign negative)) words = None
 word_before (counting (digits negative value)) words = option_map (λ more. number (signed negative value) ∷ more) words
 word_before (naming name) words = option_map (λ more. operator_of name ∷ more) words
 
--- what a byte does; a comment goes to the end of its line
+-- what a byte does; a comment goes to the end of its line, or to a form feed
 abbrev pub ps_word_step : PsState → PsByte → ℕ → (PsState → Option (List PsWord)) → Option (List PsWord)
 ps_word_step comment line_end byte go_on = go_on between
 ps_word_step comment c byte go_on = go_on comment

@@ -1,7 +1,8 @@
 -- Documents of vector graphics (SVG 1.1, sections 5.1, 7.6, 7.7, 7.10, 8.3 and 11.3). Covered is the part in which the root
 -- `svg`, in the namespace of SVG, has a size in points and a view box, and in it is one group, which is transformed; and
 -- in the group there are paths, filled black by the even-odd rule, with no line along them. No other attribute stands
--- there but `version` and `id`, which change nothing that is seen.
+-- there but `version` and `id`, which change nothing that is seen. A size or a view of zero, by which nothing is shown
+-- (sections 5.1 and 7.7), is read as any other; and whether identifiers are names, each of one element, isn't read.
 use Rattle.std.specs.Prelude.{ℕ, ◌&&◌, ◌||◌, Bool, true, false, if◌then◌else◌, List, [], ◌∷◌, ◌++◌, codes, map, Option, Some, None, option_map, option_and_then, bytes_eq}
 use Rattle.std.specs.Char.{is_ascii_digit}
 use Rattle.document_readings.specs.Drawn.{Subpath}
@@ -117,7 +118,7 @@ abbrev pub picture_in : Element → Option Picture
 picture_in (element name attributes children) =
     if bytes_eq name (codes "svg")
     && are_among attributes (codes "version" ∷ codes "id" ∷ codes "xmlns" ∷ codes "width" ∷ codes "height" ∷ codes "viewBox" ∷ [])
-    && is_svg_namespace (value_of (codes "xmlns") attributes)
+    && is_svg_namespace (value_of (codes "xmlns") attributes) && is_one_of (value_of (codes "version") attributes) (codes "1.0" ∷ codes "1.1" ∷ [])
     then option_and_then (λ width. option_and_then (λ height. option_and_then (λ view. group_in width height view children)
     (read_by view_in (codes "viewBox") attributes))
     (read_by (length_from nothing) (codes "height") attributes))

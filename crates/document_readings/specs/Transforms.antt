@@ -1,6 +1,6 @@
 -- Lists of transformations (SVG 1.1, section 7.6). Covered are `translate` and `scale` with two whole numbers in
--- parentheses, a comma between, and white space between two of them. Outside are the other transformations, fractions,
--- and white space within one.
+-- parentheses, a comma between, and white space between two of them. Outside are the other transformations, one number
+-- alone, fractions, plus signs, commas between two, and white space within one.
 use Rattle.std.specs.Prelude.{ℕ, ◌==◌, ℤ, ◌*ℤ◌, true, cond, if◌then◌else◌, List, [], ◌∷◌, ◌++◌, codes, Option, Some, None, option_map, option_and_then, bytes_eq}
 use Rattle.std.specs.Char.{is_ascii_digit, is_ascii_alphabetic}
 use Rattle.document_readings.specs.Drawn.{Place, displaced}

@@ -1,7 +1,8 @@
 -- The tags of an XML text (XML 1.0, fifth edition, sections 2.2, 2.3, 2.8, 3.1 and 3.3.3). Covered is the part that has an
 -- XML declaration or none, tags with attributes in quotation marks, and white space between tags, in printable ASCII,
 -- spaces, tabs and line feeds. Outside are other character data, references, comments, instructions, document types,
--- apostrophes around values, white space around `=` and in end tags, and carriage returns.
+-- apostrophes around values, white space around `=`, in end tags and before the first tag, other spellings of the
+-- declaration, and carriage returns.
 use Rattle.std.specs.Prelude.{ℕ, ◌&&◌, ◌||◌, ◌==◌, nat_le, Bool, true, false, cond, if◌then◌else◌, List, [], ◌∷◌, ◌++◌, codes, Option, Some, None, option_map, bytes_eq}
 use Rattle.std.specs.Char.{is_ascii_digit, is_ascii_alphabetic}
 use Rattle.document_readings.specs.TextLines.{is_white_space}

@@ -1,5 +1,5 @@
--- The text of a page as GeoJSON (RFC 7946, sections 3.1.6 and 3.3). A shape is a polygon: its outer ring runs
--- against the clock, and the rings of its holes run with it. The layout of the lines is our own.
+-- The text of a page as GeoJSON (RFC 7946, sections 3.1.6 and 3.3). A shape is a polygon: its outer ring runs as its
+-- outline does, and the rings of its holes run against theirs. The layout of the lines is our own.
 use Rattle.std.specs.Prelude.{ℕ, List, [], ◌∷◌, ◌++◌, codes, flat_map, reverse}
 use Rattle.std.specs.List.{join_by}
 use Rattle.pt_core.specs.declared.piece.Piece.{Piece}

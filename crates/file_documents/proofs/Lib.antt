@@ -14,3 +14,4 @@ pub mod Passing
 pub mod Reading
 pub mod Running
 pub mod Converting
+pub mod OneEnd

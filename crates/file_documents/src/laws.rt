@@ -2,10 +2,14 @@
 ghost use Rattle.std.specs.Prelude.{◌≡◌, ℕ, Bool, List, Option, Some};
 ghost use Rattle.pt_core.specs.Files.{Contents};
 ghost use Rattle.run_output.specs.Made.{Past};
+ghost use Rattle.run_output.specs.Told.{Sinks, Source};
 ghost use Rattle.run_output.specs.declared.part.Binding.{Binding};
+ghost use Rattle.run_output.specs.declared.status.Status.{Status};
 ghost use Rattle.page_batches.specs.Items.{Item};
+ghost use Rattle.file_documents.specs.Alike.{EndAlike, IsUndisturbed};
 ghost use Rattle.file_documents.specs.FileItems.{AreItems, AreWhole, Nothing};
 ghost use Rattle.file_documents.specs.Manner.{HasTexts, manner_by};
+ghost use Rattle.file_documents.specs.Outcome.{IsOutcome};
 
 use page_workers::PageJob;
 use run_output::Binding;
@@ -38,4 +42,19 @@ pub fn documents_are_whole<J: PageJob>(job: &J)
         → AreItems contents (manner_by level invert output suffix Binding.Apart (J.belongs job.now))
         Nothing names past items
         → AreWhole items }
+{}
+
+/// Two runs over told files end alike, where nothing disturbs them: the outcome is a function of what the files hold, of
+/// how pages are read and documents named, and of the names.
+pub fn outcomes_are_alike<J: PageJob>(job: &J)
+    ensures { (level : ℕ) (invert : Bool) (output : Option (List ℕ)) (suffix : List ℕ) (binding : Binding)
+        (contents : Contents) (names : List (List ℕ)) (s t : Status)
+        (source source_now other other_now : Source) (old now before after : Sinks)
+        → IsOutcome s (manner_by level invert output suffix binding (J.belongs job.now))
+        names source source_now old now
+        → IsOutcome t (manner_by level invert output suffix binding (J.belongs job.now))
+        names other other_now before after
+        → IsUndisturbed contents s source source_now old now
+        → IsUndisturbed contents t other other_now before after
+        → EndAlike s t old now before after }
 {}

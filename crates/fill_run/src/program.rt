@@ -1,5 +1,5 @@
 //! All that the program does.
-ghost use Rattle.std.specs.Prelude.{◌≡◌, ◌≤◌, List, false, length, true};
+ghost use Rattle.std.specs.Prelude.{◌≡◌, ◌^◌, ◌≤◌, List, false, length, true};
 ghost use Rattle.pt_base.specs.PointsText.{points_text};
 ghost use Rattle.pt_core.specs.declared.path.Path.{Path};
 ghost use Rattle.pt_core.specs.declared.policy.Policy.{Policy};
@@ -10,7 +10,6 @@ ghost use Rattle.small_program.specs.Ending.{exit_code};
 ghost use Rattle.small_program.specs.Input.{TellsInput};
 ghost use Rattle.small_program.specs.ProgramRun.{IsProgramRun};
 ghost use Rattle.small_program.specs.declared.ending.Ending.{Ending};
-ghost use Rattle.small_program.specs.declared.input.TheConstants.{MOST_BYTES};
 ghost use Rattle.point_fill.specs.FillReply.{IsFillReply, filler};
 ghost use Rattle.fill_run.specs.Round.{GivesBack};
 
@@ -71,7 +70,7 @@ pub fn fill_run<I: Inputs, O: Outputs, E: Sink>(
     ensures gives_back { (page : Page) (policy : Policy) (all : List Path) → IsPage page
         → IsDecomposition page policy all → length words.now ≡ 0
         → TellsInput (I.files inputs.old) (points_text page.width page.height (kept 0 all))
-        → length (points_text page.width page.height (kept 0 all)) ≤ MOST_BYTES
+        → length (points_text page.width page.height (kept 0 all)) ≤ 2 ^ 30
         → (end : Ending) × (result ≡ exit_code end) × GivesBack page end
         (source_of I.Inputs inputs.old) (source_of I.Inputs inputs.new)
         (sinks_of O.Sink E.Sink outs.old errs.old) (sinks_of O.Sink E.Sink outs.new errs.new) }

@@ -2,4 +2,5 @@
 
 mod cases;
 mod failing;
+mod long;
 mod texts;

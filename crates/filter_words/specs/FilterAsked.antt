@@ -11,7 +11,6 @@ use Rattle.pt_base.specs.Whole.{IsWhole}
 use Rattle.filter_words.specs.declared.ask.FilterAsk.{FilterAsk}
 use Rattle.filter_words.specs.declared.ask.FilterAsk.TheVariants.{Help, Page}
 use Rattle.filter_words.specs.declared.setup.Setup.{Setup}
-use Rattle.mkbitmap.specs.declared.limits.TheConstants.{GREATEST_LEVEL, GREATEST_RADIUS, GREATEST_TIMES}
 
 -- the program's command: its words come without the program's name, and `-h` and `--help` are in each command
 abbrev pub filter_command : App
@@ -26,12 +25,12 @@ option_text name default rows = unwrap_or (first_of name rows) default
 -- the options give this setup
 pub record GivesSetup (rows : List Row) (setup : Setup) : Type 0 where
   pub radius : IsWhole (option_text (codes "box") (codes "4") rows) setup.radius
-  pub most_radius : setup.radius ≤ GREATEST_RADIUS
+  pub most_radius : setup.radius ≤ 64
   pub times : IsWhole (option_text (codes "times") (codes "2") rows) setup.times
   pub some_times : 1 ≤ setup.times
-  pub most_times : setup.times ≤ GREATEST_TIMES
+  pub most_times : setup.times ≤ 8
   pub level : IsMicro (option_text (codes "level") (codes "0.45") rows) setup.level
-  pub most_level : setup.level ≤ GREATEST_LEVEL
+  pub most_level : setup.level ≤ 1000000
 
 -- what `clap` found in the words asks for this: they ask for help, or there is no fault and the options give a setup
 abbrev pub AsksFilter : Kinds → List Row → FilterAsk → Type 0

@@ -12,17 +12,16 @@ use Rattle.bitmap_input.specs.Reading.{cause_of_fault}
 use Rattle.bitmap_input.specs.declared.gray_reader.GrayHead.{GrayHead}
 use Rattle.mkbitmap.specs.Box.{Gray}
 use Rattle.mkbitmap.specs.Enlarged.{need}
-use Rattle.mkbitmap.specs.declared.filter.Filter.{Filter}
+use Rattle.mkbitmap.specs.Filtering.{Filtering}
 use Rattle.mkbitmap.proofs.Order.{need-last, need-rises}
 use Rattle.run_output.specs.Names.{dash}
 use Rattle.run_output.specs.Told.{Told}
 use Rattle.filter_words.specs.declared.setup.Setup.{Setup}
 use Rattle.mk_run.specs.PageHeader.{PageHeader}
 use Rattle.mk_run.specs.Inner.Put.{BreaksDown, BreaksPage, BreaksRow, BreaksRows, GoesWell, PutsRow, PutsRows}
-use Rattle.mk_run.specs.Put.{PutsFront, need_of, rows_above}
+use Rattle.mk_run.specs.FilterRun.{PutsFront, need_of, rows_above, HasFirstRows}
 use Rattle.mk_run.specs.Result.{result_head, result_row, result_rows, result_text, scan_of}
 use Rattle.mk_run.specs.Inner.FilterWork.{GivesRows, IsAtWork, StopsBehind, header_of}
-use Rattle.mk_run.specs.FilterWork.{HasFirstRows}
 use Rattle.mk_run.specs.declared.fault.Break.{Break}
 use Rattle.mk_run.specs.declared.fault.Break.TheVariants as breaks
 use Rattle.mk_run.proofs.Cutting.{ended_with, opened_with, scan_is, text_above}
@@ -41,7 +40,7 @@ down_on a b c x y = record {
   failed = y.failed ∙ ap (λ (n : ℕ). record { count = next_count n; is_last = true }) x.went;
 }
 
-module _ (setup : Setup) (old r : GraySource) (f : Filter) (before at : Option Files) (rows : List (List ℕ)) (work : IsAtWork setup r f rows)
+module _ (setup : Setup) (old r : GraySource) (f : Filtering) (before at : Option Files) (rows : List (List ℕ)) (work : IsAtWork setup r f rows)
     (gives : GivesRows old before rows r at) where
   same_header : header_of r ≡ header_of old
   same_header = header_stays old r before at rows gives
@@ -50,7 +49,7 @@ module _ (setup : Setup) (old r : GraySource) (f : Filter) (before at : Option F
   same_height = ap (λ (h : GrayHead). h.height) gives.same_head
 
   tall : 1 ≤ old.head.height
-  tall = omega (arith, work.fits.room.some_rows, work.fits.height, same_height)
+  tall = omega (arith, work.fits.some_rows, work.fits.height, same_height)
 
   here : (all : List (List ℕ)) (page : Gray) → HasFirstRows (header_of old) all page → HasFirstRows (header_of r) all page
   here all page has = subst (λ (h : PageHeader). HasFirstRows h all page) (sym same_header) has
@@ -83,6 +82,7 @@ module _ (setup : Setup) (old r : GraySource) (f : Filter) (before at : Option F
         stops = stop.stops;
         few = stop.few;
         early = subst (λ (h : ℕ). stop.mid.given ≤ need h setup.radius setup.times Y) same_height stop.early;
+        within = stop.within;
       } in (
         Y,
         within,

@@ -7,10 +7,9 @@ use Rattle.mkbitmap.specs.Enlarged.{need}
 use Rattle.mkbitmap.proofs.Order.{need-ends, need-rises}
 use Rattle.run_output.specs.Names.{dash}
 use Rattle.filter_words.specs.declared.setup.Setup.{Setup}
-use Rattle.mk_run.specs.Put.{IsCutAt, need_of, rows_above}
+use Rattle.mk_run.specs.FilterRun.{IsCutAt, need_of, rows_above, HasFirstRows}
 use Rattle.mk_run.specs.Inner.Put.{PutsRows}
 use Rattle.mk_run.specs.Result.{result_head, result_row, result_rows, result_text, scan_of}
-use Rattle.mk_run.specs.FilterWork.{HasFirstRows}
 use Rattle.mk_run.proofs.Drawing.{front_is, rows_end}
 
 pub opened_with : (told : Option Documents) (name bytes more : List ℕ) → with_bytes (with_open told name bytes) more ≡ with_open told name (bytes ++ more)

@@ -6,7 +6,7 @@ use Rattle.mkbitmap.specs.Box.{Gray}
 use Rattle.mkbitmap.specs.Enlarged.{need}
 use Rattle.mkbitmap.proofs.Order.{need-ends, need-rises}
 use Rattle.filter_words.specs.declared.setup.Setup.{Setup}
-use Rattle.mk_run.specs.Put.{rows_above}
+use Rattle.mk_run.specs.FilterRun.{rows_above}
 use Rattle.mk_run.specs.Result.{result_row, result_rows}
 
 lt_true : (a b : ℕ) → a < b → nat_lt a b ≡ true

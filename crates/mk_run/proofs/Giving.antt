@@ -11,7 +11,7 @@ use Rattle.mkbitmap.specs.Follows.{IsRow}
 use Rattle.mk_run.specs.PageHeader.{PageHeader}
 use Rattle.mk_run.specs.Rows.{LeavesRows, cut_row}
 use Rattle.mk_run.specs.Inner.FilterWork.{GivesRows, header_of}
-use Rattle.mk_run.specs.FilterWork.{HasFirstRows}
+use Rattle.mk_run.specs.FilterRun.{HasFirstRows}
 use Rattle.mk_run.proofs.Standing.{cut_stays, leaves_on, leaves_weaken}
 
 -- none were given

@@ -1,5 +1,5 @@
 -- How a run ends that stops at the page's header.
-use Rattle.std.proofs.Common.{◌≡◌, ℕ, ◌⊎◌, inl, inr, Bool, true, false, ◌||◌, List, [], ◌++◌, refl, ap, sym, ◌∙◌, subst, codes, Option}
+use Rattle.std.proofs.Common.{◌≡◌, ℕ, ◌⊎◌, inl, inr, Bool, true, false, ◌||◌, List, [], ◌++◌, refl, ap, sym, ◌∙◌, subst, arith, codes, Option}
 use Rattle.pt_core.specs.Counts.{Rose, next_count}
 use Rattle.pt_core.specs.Files.{Files, Lacks}
 use Rattle.bitmap_input.specs.Cut.{Cut, Kind, is_by_end, ◌>>=◌}
@@ -17,7 +17,9 @@ use Rattle.pt_core.specs.declared.fault.OpenFault.TheVariants as faults
 use Rattle.bitmap_input.specs.Reading.Cause.{Says, Device, Memory}
 use Rattle.bitmap_input.specs.declared.gray_reader.GrayHead.{GrayHead}
 use Rattle.mk_run.specs.PageHeader.{PageHeader, page_header}
+use Rattle.bitmap_input.proofs.BmpLengths.{cuts_bind, cuts_take}
 use Rattle.bitmap_input.proofs.GrayHeading.{gray_header_stays}
+use Rattle.bitmap_input.proofs.Sided.{AreSidesInRange, IsHeaderSided, cuts_gray_header}
 use Rattle.run_output.specs.Messages.{file_line, program_line}
 use Rattle.run_output.specs.Names.{dash}
 use Rattle.run_output.specs.Told.{Sinks, Source, Told}
@@ -33,7 +35,7 @@ use Rattle.mk_run.specs.Result.{result_text}
 use Rattle.mk_run.specs.Rows.{fits_result, head_ending, page_ending}
 use Rattle.mk_run.specs.Inner.FilterWork.{StopsBehind, header_of}
 use Rattle.mk_run.proofs.Running.{not_unwritten, run_refused, run_unread, too_large}
-use Rattle.mk_run.proofs.Standing.{cut_stays}
+use Rattle.mk_run.proofs.Standing.{cut_stays, near_by, near_of}
 use Rattle.mk_run.proofs.Taking.{all_of_taken, taken_on}
 
 -- The header as this program reads it.
@@ -58,15 +60,21 @@ ends_so g (Stops e why) = refl
 head_ends : (bytes : List ℕ) → is_by_end (page_header bytes) ≡ is_by_end (gray_header bytes)
 head_ends bytes = ends_so (λ h. record { plain = h.plain; width = h.width; height = h.height; maxval = h.maxval }) (gray_header bytes)
 
+-- its sides are those of a page
+pub header_sided : (bytes : List ℕ) (e : Bool) (header : PageHeader) (rest : List ℕ) → page_header bytes ≡ Takes e header rest → AreSidesInRange header.width header.height
+header_sided bytes =
+    cuts_bind IsHeaderSided (λ (h : PageHeader) _. AreSidesInRange h.width h.height) (gray_header bytes) _ (cuts_gray_header bytes)
+    (λ h rest are. cuts_take (λ (h : PageHeader) _. AreSidesInRange h.width h.height) false (record { plain = h.plain; width = h.width; height = h.height; maxval = h.maxval }) rest are)
+
 same_outs : (old new : Sinks) → new.outs ≡ old.outs → new.outs.faults ≡ old.outs.faults
 same_outs old new same = ap (λ (t : Told). t.faults) same
 
 module _ (setup : Setup) (source now : Source) (old new : Sinks) where
   -- standard input can't be opened
-  pub run_unopened : now.openings ≡ next_count source.openings → (Lacks source.files dash × (now.faults ≡ source.faults)) ⊎ Rose source.faults now.faults
+  pub run_unopened : now.openings ≡ next_count source.openings → now.is_opened ≡ false → (Lacks source.files dash × (now.faults ≡ source.faults)) ⊎ Rose source.faults now.faults
       → OnlySays (file_line filter_name dash (codes "cannot be opened")) old new → IsPageRun setup ending.Unread source now old new
-  run_unopened opened cause says = record {
-    outcome = inl (record { opened = opened; cause = cause }, says);
+  run_unopened opened none cause says = record {
+    outcome = inl (record { fails = record { opened = opened; cause = cause }; closed = none }, says);
     missing = λ lacks. refl;
     complete = λ bytes tells still_in still_out. absurd (no_cause bytes tells still_in cause);
     unwritten = not_unwritten ending.Unread old new (same_outs old new says.same);
@@ -87,10 +95,10 @@ module _ (setup : Setup) (source now : Source) (old new : Sinks) where
   }
 
   -- the header is refused, or a read failed within it
-  pub run_at_head : (why : Cause) (reader : GraySource) (at : Option Files) → now.openings ≡ next_count source.openings → HasTaken source.files at []
+  pub run_at_head : (why : Cause) (reader : GraySource) (at : Option Files) → now.openings ≡ next_count source.openings → now.is_opened ≡ true → HasTaken source.files at []
       → CountsBy why source.faults now.faults → StopsHead why reader at now.files → (reader.ended ≡ true → AtEnd now.files)
       → OnlySays (page_says (cause_text why)) old new → IsPageRun setup (cause_ending why) source now old new
-  run_at_head (Says (Refused kind)) reader at opened none counts stops at_end says =
+  run_at_head (Says (Refused kind)) reader at opened still none counts stops at_end says =
       let cut = stops.cut in
       let taken = taken_on source.files at now.files [] cut.more false reader.ended none cut.moves in
       let (more, has, empty) = all_of_taken source.files now.files cut.more reader.ended taken at_end in
@@ -101,17 +109,20 @@ module _ (setup : Setup) (source now : Source) (old new : Sinks) where
         outcome = (
           bytes,
           record { opened = opened; steady = counts; has = has },
-          inl (record { why = kind_text kind; cause = inl (stops.by_end, kind, ends, refl); says = says }),
+          inl (
+            record { why = kind_text kind; cause = inl (stops.by_end, kind, ends, refl); says = says },
+            record { taken = cut.more; has = taken; so = near_by gray_header page_header cut.more head_ends (near_of gray_header [] cut.more (omega arith) cut.needed) },
+          ),
         );
         missing = λ lacks. absurd (is_not_missing source.files bytes has lacks);
         complete = λ others tells still_in still_out. inl (sym (ap (page_ending setup) (one_input source.files bytes others has tells) ∙ ap (head_ending setup) ends));
         unwritten = not_unwritten ending.Refused old new (same_outs old new says.same);
       }
-  run_at_head (Says End) reader at opened none counts stops at_end says = absurd stops
-  run_at_head (Says Trailing) reader at opened none counts stops at_end says = absurd stops
-  run_at_head Memory reader at opened none counts stops at_end says = absurd stops
-  run_at_head Device reader at opened none counts stops at_end says = record {
-    outcome = inr (stops.more, record { opened = opened; rose = counts.0; has = taken_on source.files at now.files [] stops.more false reader.ended none stops.moves }, inl (head_ends stops.more ∙ stops.by_end, says));
+  run_at_head (Says End) reader at opened still none counts stops at_end says = absurd stops
+  run_at_head (Says Trailing) reader at opened still none counts stops at_end says = absurd stops
+  run_at_head Memory reader at opened still none counts stops at_end says = absurd stops
+  run_at_head Device reader at opened still none counts stops at_end says = record {
+    outcome = inr (stops.more, record { opened = opened; still_opened = still; rose = counts.0; has = taken_on source.files at now.files [] stops.more false reader.ended none stops.moves }, inl (head_ends stops.more ∙ stops.by_end, says));
     missing = λ lacks. refl;
     complete = λ others tells still_in still_out. absurd (still_in counts.0);
     unwritten = not_unwritten ending.Unread old new (same_outs old new says.same);
@@ -134,7 +145,10 @@ module _ (source mid : Source) (reader : GraySource) (stands : StandsBehindHead 
         outcome = (
           bytes,
           record { opened = stands.opened; steady = stands.steady; has = has },
-          inl (record { why = codes "result too large"; cause = inr (e, header_of reader, reader.bytes ++ more, head, large, refl); says = says }),
+          inl (
+            record { why = codes "result too large"; cause = inr (e, header_of reader, reader.bytes ++ more, head, large, refl); says = says },
+            record { taken = stands.taken; has = stands.has; so = stands.near },
+          ),
         );
         missing = λ lacks. absurd (is_not_missing source.files bytes has lacks);
         complete = λ others tells still_in still_out.
@@ -144,16 +158,16 @@ module _ (source mid : Source) (reader : GraySource) (stands : StandsBehindHead 
 
   -- a row isn't there
   pub run_at_row : (setup : Setup) (now : Source) (old new : Sinks) (why : Cause) (after : GraySource) (last : ℕ) → fits_result setup reader.head.width reader.head.height ≡ true
-      → now.openings ≡ mid.openings → (stop : StopsBehind why last reader mid.files after now.files) → (after.ended ≡ true → AtEnd now.files)
+      → now.openings ≡ mid.openings → now.is_opened ≡ true → (stop : StopsBehind why last reader mid.files after now.files) → (after.ended ≡ true → AtEnd now.files)
       → CountsBy why mid.faults now.faults → LeavesOpen (result_text setup (header_of reader) stop.rows) (page_says (cause_text why)) old new
       → IsPageRun setup (cause_ending why) source now old new
-  run_at_row setup now old new (Says (Refused kind)) after last fits openings stop ends counts leaves =
+  run_at_row setup now old new (Says (Refused kind)) after last fits openings still stop ends counts leaves =
       run_refused source mid reader stands setup now old new fits openings after kind last stop ends counts leaves
-  run_at_row setup now old new (Says End) after last fits openings stop ends counts leaves = absurd stop.stops
-  run_at_row setup now old new (Says Trailing) after last fits openings stop ends counts leaves = absurd stop.stops
-  run_at_row setup now old new Memory after last fits openings stop ends counts leaves = absurd stop.stops
-  run_at_row setup now old new Device after last fits openings stop ends counts leaves =
-      run_unread source mid reader stands setup now old new fits openings after last stop (subst (λ (n : ℕ). Rose n now.faults) stands.steady counts.0) leaves
+  run_at_row setup now old new (Says End) after last fits openings still stop ends counts leaves = absurd stop.stops
+  run_at_row setup now old new (Says Trailing) after last fits openings still stop ends counts leaves = absurd stop.stops
+  run_at_row setup now old new Memory after last fits openings still stop ends counts leaves = absurd stop.stops
+  run_at_row setup now old new Device after last fits openings still stop ends counts leaves =
+      run_unread source mid reader stands setup now old new fits openings after last still stop (subst (λ (n : ℕ). Rose n now.faults) stands.steady counts.0) leaves
 
 -- the header was read
 pub header_stands : (source opened mid : Source) (reader : GraySource) (head : GrayHead) → opened.openings ≡ next_count source.openings → opened.faults ≡ source.faults
@@ -168,6 +182,7 @@ header_stands source opened mid reader head openings steady none same_openings s
       steady = same_faults ∙ steady;
       taken = cut.more;
       has = taken_on source.files opened.files mid.files [] cut.more false reader.ended none cut.moves;
+      near = near_by gray_header page_header cut.more head_ends (near_of gray_header [] cut.more (omega arith) cut.needed);
       head = λ tail empty. (
         gives.by_end,
         cut.settled,

@@ -7,3 +7,4 @@ pub mod Breaking
 pub mod Taking
 pub mod Running
 pub mod Heading
+pub mod Whole

@@ -22,14 +22,13 @@ use Rattle.small_program.specs.declared.ending.Ending.TheVariants as ending
 use Rattle.small_program.proofs.Taking.{is_not_missing, one_input}
 use Rattle.filter_words.specs.declared.setup.Setup.{Setup}
 use Rattle.mk_run.specs.Inner.Head.{StandsBehindHead}
-use Rattle.mk_run.specs.FilterRun.{IsPageRun, LeavesOpen, filter_name, page_says, rows_behind}
-use Rattle.mk_run.specs.Put.{IsCutAt}
+use Rattle.mk_run.specs.FilterRun.{IsPageRun, LeavesOpen, ReadsNearNext, ReadsNearRows, filter_name, page_says, rows_behind, IsCutAt}
 use Rattle.mk_run.specs.Result.{result_text}
-use Rattle.mk_run.specs.Rows.{LeavesRows, cut_row, fits_result, head_ending, page_ending, row_before, settled_rows, standing}
+use Rattle.mk_run.specs.Rows.{LeavesRows, ReachesNear, cut_row, fits_result, head_ending, page_ending, row_before, settled_rows, standing}
 use Rattle.mk_run.specs.Inner.FilterWork.{GivesRows, StopsBehind, header_of}
 use Rattle.mk_run.proofs.Cutting.{cut_of_more}
 use Rattle.mk_run.proofs.Giving.{header_stays}
-use Rattle.mk_run.proofs.Standing.{cut_stays, leaves_weaken, none_settled, settled_is, standing_is}
+use Rattle.mk_run.proofs.Standing.{cut_stays, leaves_weaken, near_of, none_settled, settled_is, standing_is}
 use Rattle.mk_run.proofs.Taking.{all_of_taken, taken_on}
 
 -- How the bytes say that a run ends.
@@ -83,16 +82,31 @@ module _ (source mid : Source) (reader : GraySource) (stands : StandsBehindHead 
         leaves = subst (λ (l : List ℕ). LeavesRows new.ended (cut_row (header_of reader)) l rows (new.bytes ++ tail)) (append_assoc reader.bytes gives.more tail) (gives.leaves tail none);
       }
 
+  -- no more was taken behind the rows than a reader holds
+  reads_near : (new : GraySource) (now : Option Files) (rows : List (List ℕ)) → (gives : GivesRows reader mid.files rows new now) → length new.bytes ≤ 65536
+      → ReadsNearRows (header_of reader) (stands.taken ++ gives.more) rows
+  reads_near new now rows gives within =
+      let near = page_stands new now rows gives [] (λ _. refl) in
+      record {
+        ended = new.ended;
+        by_end = near.by_end;
+        rest = near.rest;
+        left = new.bytes ++ [];
+        head = ap page_header (sym (append-nil (stands.taken ++ gives.more))) ∙ near.head;
+        leaves = near.leaves;
+        near = omega (arith, within, ap length (append-nil new.bytes));
+      }
+
   module _ (setup : Setup) (now : Source) (old new : Sinks) (fits : fits_result setup reader.head.width reader.head.height ≡ true)
       (openings : now.openings ≡ mid.openings) where
     opened_once : now.openings ≡ next_count source.openings
     opened_once = openings ∙ stands.opened
 
     -- all rows were read, and the document was written
-    pub run_done : (after : GraySource) (rows : List (List ℕ)) → GivesRows reader mid.files rows after now.files → (after.ended ≡ true → AtEnd now.files)
+    pub run_done : (after : GraySource) (rows : List (List ℕ)) → GivesRows reader mid.files rows after now.files → (after.ended ≡ true → AtEnd now.files) → length after.bytes ≤ 65536
         → length rows ≡ reader.head.height → now.faults ≡ mid.faults → Writes (result_text setup (header_of reader) rows) old new
         → IsPageRun setup ending.Done source now old new
-    run_done after rows gives at_end all steady writes =
+    run_done after rows gives at_end within all steady writes =
         let header = header_of reader in
         let taken = taken_on source.files mid.files now.files stands.taken gives.more reader.ended after.ended stands.has gives.moves in
         let (more, has, none) = all_of_taken source.files now.files (stands.taken ++ gives.more) after.ended taken at_end in
@@ -110,6 +124,11 @@ module _ (source mid : Source) (reader : GraySource) (stands : StandsBehindHead 
               head = record { by_end = so.by_end; head = so.head; fits = fits };
               all = whole;
               writes = subst (λ (l : List (List ℕ)). Writes (result_text setup header l) old new) (sym same) writes;
+            },
+            record {
+              taken = stands.taken ++ gives.more;
+              has = taken;
+              so = subst (λ (l : List (List ℕ)). ReadsNearRows header (stands.taken ++ gives.more) l) (sym same) (reads_near after now.files rows gives within);
             },
           );
           missing = λ lacks. absurd (is_not_missing source.files bytes has lacks);
@@ -150,22 +169,39 @@ module _ (source mid : Source) (reader : GraySource) (stands : StandsBehindHead 
         let same : rows_behind header so.rest ≡ rows =
         standing_is m.ended part so.rest rows left header.height (suc k) (omega (arith, few)) so.leaves ∙ ap (λ (l : List (List ℕ)). rows ++ l) none_behind ∙ append-nil rows in
         let short : length (rows_behind header so.rest) < header.height = omega (arith, few, ap length same) in
+        let so_far = page_stands m stop.at rows gives cut.more (λ ended. (cut.moves.stopped ended).0) in
+        let near : ReadsNearNext header ((stands.taken ++ gives.more) ++ cut.more) rows = record {
+          ended = m.ended;
+          by_end = so_far.by_end;
+          rest = so_far.rest;
+          left = m.bytes ++ cut.more;
+          head = so_far.head;
+          leaves = so_far.leaves;
+          near = subst (λ (h : PageHeader). ReachesNear (cut_row h) (m.bytes ++ cut.more)) same_head (near_of (cut_row (header_of m)) m.bytes cut.more stop.within cut.needed);
+        } in
         record {
           outcome = (
             bytes,
             record { opened = opened_once; steady = steady ∙ stands.steady; has = has },
-            inr (record {
-              header = header;
-              rest = so.rest;
-              left = left;
-              by_end = stops.by_end;
-              kind = kind;
-              head = record { by_end = so.by_end; head = head; fits = fits };
-              few = short;
-              rows = subst (λ (l : List (List ℕ)). LeavesRows true part so.rest l left) (sym same) (leaves_weaken m.ended true part so.rest rows left (λ _. refl) so.leaves);
-              refused = refused;
-              leaves = subst (λ (l : List (List ℕ)). LeavesOpen (result_text setup header l) (page_says (kind_text kind)) old new) (sym same) leaves;
-            }),
+            inr (
+              record {
+                header = header;
+                rest = so.rest;
+                left = left;
+                by_end = stops.by_end;
+                kind = kind;
+                head = record { by_end = so.by_end; head = head; fits = fits };
+                few = short;
+                rows = subst (λ (l : List (List ℕ)). LeavesRows true part so.rest l left) (sym same) (leaves_weaken m.ended true part so.rest rows left (λ _. refl) so.leaves);
+                refused = refused;
+                leaves = subst (λ (l : List (List ℕ)). LeavesOpen (result_text setup header l) (page_says (kind_text kind)) old new) (sym same) leaves;
+              },
+              record {
+                taken = (stands.taken ++ gives.more) ++ cut.more;
+                has = taken;
+                so = subst (λ (l : List (List ℕ)). ReadsNearNext header ((stands.taken ++ gives.more) ++ cut.more) l) (sym same) near;
+              },
+            ),
           );
           missing = λ lacks. absurd (is_not_missing source.files bytes has lacks);
           complete = λ others tells still_in still_out.
@@ -174,10 +210,10 @@ module _ (source mid : Source) (reader : GraySource) (stands : StandsBehindHead 
         }
 
     -- a read failed within the next row
-    pub run_unread : (after : GraySource) (last : ℕ) → (stop : StopsBehind Device last reader mid.files after now.files)
+    pub run_unread : (after : GraySource) (last : ℕ) → now.is_opened ≡ true → (stop : StopsBehind Device last reader mid.files after now.files)
         → Rose source.faults now.faults → LeavesOpen (result_text setup (header_of reader) stop.rows) (page_says (codes "read fault")) old new
         → IsPageRun setup ending.Unread source now old new
-    run_unread after last stop rose leaves =
+    run_unread after last still stop rose leaves =
         let header = header_of reader in
         let rows = stop.rows in
         let m = stop.mid in
@@ -201,13 +237,16 @@ module _ (source mid : Source) (reader : GraySource) (stands : StandsBehindHead 
         record {
           outcome = inr (
             (stands.taken ++ gives.more) ++ stops.more,
-            record { opened = opened_once; rose = rose; has = taken },
+            record { opened = opened_once; still_opened = still; rose = rose; has = taken },
             inr (record {
               header = header;
               rest = so.rest;
               head = subst (λ (b : Bool). page_header ((stands.taken ++ gives.more) ++ stops.more) ≡ Takes b header so.rest) not_by_end so.head;
               fits = fits;
+              left = left;
               few = omega (arith, few, ap length same);
+              rows = subst (λ (l : List (List ℕ)). LeavesRows false part so.rest l left) (sym same) settled;
+              undecided = ends;
               leaves = subst (λ (l : List (List ℕ)). LeavesOpen (result_text setup header l) (page_says (codes "read fault")) old new) (sym same) leaves;
             }),
           );
@@ -232,7 +271,6 @@ module _ (source mid : Source) (reader : GraySource) (stands : StandsBehindHead 
         let (more, has, none) = all_of_taken source.files now.files (stands.taken ++ gives.more) after.ended taken at_end in
         let bytes = (stands.taken ++ gives.more) ++ more in
         let so = page_stands after now.files rows gives more none in
-        let near = page_stands after now.files rows gives [] (λ _. refl) in
         let behind : List (List ℕ) = standing (cut_row header) (header.height - length rows) (after.bytes ++ more) in
         let same : rows_behind header so.rest ≡ rows ++ behind = standing_is after.ended (cut_row header) so.rest rows _ header.height (header.height - length rows) (omega (arith, few)) so.leaves in
         record {
@@ -247,15 +285,7 @@ module _ (source mid : Source) (reader : GraySource) (stands : StandsBehindHead 
             head = record { by_end = so.by_end; head = so.head; fits = fits };
             cut = rw same (cut_of_more setup header some tall rows behind old.outs.documents new.outs.documents cut);
             place = cut;
-            near = record {
-              ended = after.ended;
-              by_end = near.by_end;
-              rest = near.rest;
-              left = after.bytes ++ [];
-              head = ap page_header (sym (append-nil (stands.taken ++ gives.more))) ∙ near.head;
-              leaves = near.leaves;
-              near = omega (arith, within, ap length (append-nil after.bytes));
-            };
+            near = reads_near after now.files rows gives within;
             rose = rose;
             failed = failed;
             says = says;

@@ -1,11 +1,12 @@
 -- Rows that stand at the front of bytes.
-use Rattle.std.proofs.Common.{◌≡◌, ℕ, zero, suc, ◌+◌, Bool, true, false, List, [], ◌∷◌, ◌++◌, length, refl, ap, sym, ◌∙◌, subst, arith}
+use Rattle.std.proofs.Common.{◌≡◌, ℕ, zero, suc, ◌+◌, ◌≤◌, ◌⊎◌, inl, inr, Bool, true, false, List, [], ◌∷◌, ◌++◌, length, refl, ap, sym, ◌∙◌, subst, arith, append_assoc}
 use Rattle.std.proofs.lemmas.List.{append-nil}
 use Rattle.bitmap_input.specs.Cut.{Cut, is_by_end}
 use Rattle.bitmap_input.specs.Cut.Cut.{Takes, Stops}
+use Rattle.bitmap_input.specs.Reading.{AreNeeded}
 use Rattle.bitmap_input.proofs.Appending.{Stays, with_more}
 use Rattle.bitmap_input.proofs.Telling.{not_true}
-use Rattle.mk_run.specs.Rows.{LeavesRows, row_before, settled_before, settled_rows, standing}
+use Rattle.mk_run.specs.Rows.{LeavesRows, ReachesNear, row_before, settled_before, settled_rows, standing}
 
 none_more : {A : Type 0} (cut : Cut A) → with_more [] cut ≡ cut
 none_more (Takes e x rest) = ap (Takes e x) (append-nil rest)
@@ -63,3 +64,32 @@ stopped behind (Stops e why) end = refl
 pub none_settled : (part : List ℕ → Cut (List ℕ)) (bytes : List ℕ) (k : ℕ) → is_by_end (part bytes) ≡ true → settled_rows part k bytes ≡ []
 none_settled part bytes zero end = refl
 none_settled part bytes (suc k) end = stopped (λ (l : List ℕ). settled_rows part k l) (part bytes) end
+
+-- bytes that were needed behind those at hand, of which there were no more than a block has
+pub near_of : {A : Type 0} (part : List ℕ → Cut A) (held more : List ℕ) → length held ≤ 65536 → AreNeeded (λ bytes. part (held ++ bytes)) more → ReachesNear part (held ++ more)
+near_of part held more few needed = by needed.undecided
+  where
+    by : (more ≡ []) ⊎ (is_by_end (part (held ++ needed.before)) ≡ true) → ReachesNear part (held ++ more)
+    by (inl none) = record {
+      front = [];
+      block = held ++ more;
+      split = refl;
+      undecided = inl refl;
+      near = omega (arith, few, ap length (ap (λ (l : List ℕ). held ++ l) none ∙ append-nil held));
+    }
+    by (inr undecided) = record {
+      front = held ++ needed.before;
+      block = needed.block;
+      split = ap (λ (l : List ℕ). held ++ l) needed.split ∙ sym (append_assoc held needed.before needed.block);
+      undecided = inr undecided;
+      near = needed.within;
+    }
+
+-- what decides one part decides another
+pub near_by : {A B : Type 0} (part : List ℕ → Cut A) (other : List ℕ → Cut B) (bytes : List ℕ) → ((bytes : List ℕ) → is_by_end (other bytes) ≡ is_by_end (part bytes))
+    → ReachesNear part bytes → ReachesNear other bytes
+near_by part other bytes same near = record { front = near.front; block = near.block; split = near.split; undecided = by near.undecided; near = near.near }
+  where
+    by : (near.front ≡ []) ⊎ (is_by_end (part near.front) ≡ true) → (near.front ≡ []) ⊎ (is_by_end (other near.front) ≡ true)
+    by (inl none) = inl none
+    by (inr undecided) = inr (same near.front ∙ undecided)

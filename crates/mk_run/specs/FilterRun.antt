@@ -1,7 +1,7 @@
 -- What a run of the program has done.
-use Rattle.std.specs.Prelude.{◌≡◌, ℕ, ◌<◌, ◌≤◌, ◌⊎◌, Bool, true, false, List, ◌++◌, codes, length}
+use Rattle.std.specs.Prelude.{◌≡◌, ℕ, ◌<◌, ◌≤◌, ◌⊎◌, Bool, true, false, List, ◌++◌, codes, length, [], get_or, ◌+◌, ◌*◌, take, Option}
 use Rattle.pt_core.specs.Counts.{Rose, next_count}
-use Rattle.pt_core.specs.Documents.{IsCutOff, with_open}
+use Rattle.pt_core.specs.Documents.{IsCutOff, with_open, Documents, with_bytes}
 use Rattle.pt_core.specs.Failures.{after_err}
 use Rattle.pt_core.specs.Files.{Lacks}
 use Rattle.bitmap_input.specs.Cut.{Kind, is_by_end}
@@ -20,9 +20,11 @@ use Rattle.filter_words.specs.FilterAsked.{IsFilterAsked}
 use Rattle.filter_words.specs.declared.ask.FilterAsk.{FilterAsk}
 use Rattle.filter_words.specs.declared.ask.FilterAsk.TheVariants.{Help, Page}
 use Rattle.filter_words.specs.declared.setup.Setup.{Setup}
-use Rattle.mk_run.specs.Put.{IsCutAt}
-use Rattle.mk_run.specs.Result.{result_text}
-use Rattle.mk_run.specs.Rows.{LeavesRows, cut_row, fits_result, page_ending, settled_rows, standing}
+use Rattle.mk_run.specs.Result.{result_text, result_head, result_row, result_rows}
+use Rattle.mk_run.specs.Rows.{LeavesRows, ReachesNear, cut_row, fits_result, page_ending, settled_rows, standing}
+use Rattle.mkbitmap.specs.Box.{Gray}
+use Rattle.mkbitmap.specs.Follows.{IsRow}
+use Rattle.mkbitmap.specs.Enlarged.{need}
 
 -- the program's name
 abbrev pub filter_name : List ℕ
@@ -83,20 +85,29 @@ pub record RefusesRow (setup : Setup) (bytes : List ℕ) (old new : Sinks) : Typ
   pub refused : cut_row header left ≡ Stops by_end (Refused kind)
   pub leaves : LeavesOpen (result_text setup header (rows_behind header rest)) (page_says (kind_text kind)) old new
 
--- standard input was opened once, a read of it failed, and these bytes had been taken
+-- standard input couldn't be opened, or it is told that there is none; and no file is opened
+pub record CannotOpen (source source_now : Source) : Type 0 where
+  pub fails : FailsInput source source_now
+  pub closed : source_now.is_opened ≡ false
+
+-- standard input was opened once and still is, a read of it failed, and these bytes had been taken
 pub record StopsTaking (taken : List ℕ) (source source_now : Source) : Type 0 where
   pub opened : source_now.openings ≡ next_count source.openings
+  pub still_opened : source_now.is_opened ≡ true
   pub rose : Rose source.faults source_now.faults
   pub has : HasTaken source.files source_now.files taken
 
--- a read failed within a row of the page: the document is open with the rows of the result that those before it are enough
--- for, of which none is by the end of the bytes that were taken
+-- a read failed within a row of the page, which the bytes that were taken leave undecided: the document is open with the
+-- rows of the result that those before it are enough for, of which none is by the end of those bytes
 pub record StopsInRow (setup : Setup) (taken : List ℕ) (old new : Sinks) : Type 0 where
   pub header : PageHeader
   pub rest : List ℕ
+  pub left : List ℕ
   pub head : page_header taken ≡ Takes false header rest
   pub fits : fits_result setup header.width header.height ≡ true
   pub few : length (settled_rows (cut_row header) header.height rest) < header.height
+  pub rows : LeavesRows false (cut_row header) rest (settled_rows (cut_row header) header.height rest) left
+  pub undecided : is_by_end (cut_row header left) ≡ true
   pub leaves : LeavesOpen (result_text setup header (settled_rows (cut_row header) header.height rest)) (page_says (codes "read fault")) old new
 
 -- these rows of the page stand at the front of what was taken behind its header, and at most 65,536 bytes more were taken
@@ -108,6 +119,52 @@ pub record ReadsNearRows (header : PageHeader) (taken : List ℕ) (rows : List (
   pub head : page_header taken ≡ Takes by_end header rest
   pub leaves : LeavesRows ended (cut_row header) rest rows left
   pub near : length left ≤ 65536
+
+-- these rows of the page stand there, and at most 65,536 bytes were taken behind what leaves the next one undecided
+pub record ReadsNearNext (header : PageHeader) (taken : List ℕ) (rows : List (List ℕ)) : Type 0 where
+  pub ended : Bool
+  pub by_end : Bool
+  pub rest : List ℕ
+  pub left : List ℕ
+  pub head : page_header taken ≡ Takes by_end header rest
+  pub leaves : LeavesRows ended (cut_row header) rest rows left
+  pub near : ReachesNear (cut_row header) left
+
+-- the bytes that were taken of standard input, where it is told, are such ones
+pub record HasTakenSo (P : List ℕ → Type 0) (source source_now : Source) : Type 0 where
+  pub taken : List ℕ
+  pub has : HasTaken source.files source_now.files taken
+  pub so : P taken
+
+-- a page of this header whose first rows are these
+pub record HasFirstRows (header : PageHeader) (rows : List (List ℕ)) (page : Gray) : Type 0 where
+  pub width : page.width ≡ header.width
+  pub height : page.height ≡ header.height
+  pub maxval : page.maxval ≡ header.maxval
+  pub bright : (x y : ℕ) → page.sample x y ≤ page.maxval
+  pub row : (y : ℕ) → y < length rows → IsRow page y (get_or rows y [])
+
+-- all rows of the result above row Y
+abbrev pub rows_above : Setup → Gray → ℕ → List ℕ
+rows_above setup page Y = result_rows setup page page.height Y
+
+-- how many rows of the page row Y of the result needs
+abbrev pub need_of : Setup → PageHeader → ℕ → ℕ
+need_of setup header Y = need header.height setup.radius setup.times Y + 1
+
+-- the open document has all rows above row Y and a front of that row more, whatever page begins with these rows
+abbrev pub PutsFront : Setup → PageHeader → List (List ℕ) → ℕ → Option Documents → Option Documents → Type 0
+PutsFront setup header rows Y old new =
+    (page : Gray) → HasFirstRows header rows page → (n : ℕ) × (n ≤ length (result_row setup page Y))
+    × (new ≡ with_bytes old (rows_above setup page Y ++ take n (result_row setup page Y)))
+
+-- the document was cut off: before a row of the page was read, within its head; or within row Y, and no more rows were read
+-- than that one needs
+abbrev pub IsCutAt : Setup → PageHeader → List (List ℕ) → Option Documents → Option Documents → Type 0
+IsCutAt setup header rows old new =
+    ((rows ≡ []) × IsCutOff old new dash (result_head setup header))
+    ⊎ ((Y : ℕ) × (Y < setup.times * header.height) × (length rows ≡ need_of setup header Y)
+    × PutsFront setup header rows Y (with_open old dash (result_head setup header)) new)
 
 -- a call of the outputs failed: the document is cut off, and no more of the page was read than its last row needs
 pub record CutsResult (setup : Setup) (source source_now : Source) (old new : Sinks) : Type 0 where
@@ -129,14 +186,17 @@ pub record CutsResult (setup : Setup) (source source_now : Source) (old new : Si
 -- what was done of the page on standard input in a run that ends so
 abbrev pub HasFiltered : Setup → Ending → Source → Source → Sinks → Sinks → Type 0
 HasFiltered setup ending.Done source source_now old new =
-    (bytes : List ℕ) × TakesInput bytes source source_now × WritesResult setup bytes old new
+    (bytes : List ℕ) × TakesInput bytes source source_now × (whole : WritesResult setup bytes old new)
+    × HasTakenSo (λ taken. ReadsNearRows whole.header taken (rows_behind whole.header whole.rest)) source source_now
 HasFiltered setup ending.Wrong source source_now old new = ⊥
 HasFiltered setup ending.BadWords source source_now old new = ⊥
 HasFiltered setup ending.Refused source source_now old new =
     (bytes : List ℕ) × TakesInput bytes source source_now
-    × (RefusesHead setup bytes old new ⊎ RefusesRow setup bytes old new)
+    × ((RefusesHead setup bytes old new × HasTakenSo (ReachesNear page_header) source source_now)
+    ⊎ ((refuses : RefusesRow setup bytes old new)
+    × HasTakenSo (λ taken. ReadsNearNext refuses.header taken (rows_behind refuses.header refuses.rest)) source source_now))
 HasFiltered setup ending.Unread source source_now old new =
-    (FailsInput source source_now × OnlySays (file_line filter_name dash (codes "cannot be opened")) old new)
+    (CannotOpen source source_now × OnlySays (file_line filter_name dash (codes "cannot be opened")) old new)
     ⊎ ((taken : List ℕ) × StopsTaking taken source source_now
     × (((is_by_end (page_header taken) ≡ true) × OnlySays (page_says (codes "read fault")) old new)
     ⊎ StopsInRow setup taken old new))

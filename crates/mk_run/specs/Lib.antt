@@ -1,7 +1,6 @@
 pub mod Result
 pub mod Rows
-pub mod FilterWork
-pub mod Put
+pub mod Shown
 pub mod FilterRun
 pub mod PageHeader
 pub mod Inner

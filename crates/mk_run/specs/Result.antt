@@ -1,6 +1,7 @@
 -- The document: the rows of the result that so many rows of the page are enough for.
-use Rattle.std.specs.Prelude.{ℕ, zero, suc, ◌*◌, if◌then◌else◌, List, [], ◌++◌, codes, decimal, length, nat_lt}
-use Rattle.bit_image.specs.PbmText.{row_text}
+use Rattle.std.specs.Prelude.{ℕ, zero, suc, ◌*◌, ◌-◌, if◌then◌else◌, List, [], ◌++◌, length, nat_lt}
+use Rattle.bit_image.specs.Page.{Page, page_of}
+use Rattle.bit_image.specs.PbmText.{pbm_head, row_text}
 use Rattle.mk_run.specs.PageHeader.{PageHeader}
 use Rattle.mkbitmap.specs.Box.{Gray, gray_of}
 use Rattle.mkbitmap.specs.Enlarged.{is_black, need}
@@ -23,10 +24,6 @@ result_rows setup page n zero = []
 result_rows setup page n (suc Y) =
     result_rows setup page n Y ++ (if nat_lt (need page.height setup.radius setup.times Y) n then result_row setup page Y else [])
 
--- what a raw PBM of these sides begins with
-abbrev pub pbm_head : ℕ → ℕ → List ℕ
-pbm_head width height = codes "P4\n" ++ decimal width ++ codes " " ++ decimal height ++ codes "\n"
-
 -- what the document begins with
 abbrev pub result_head : Setup → PageHeader → List ℕ
 result_head setup header = pbm_head (setup.times * header.width) (setup.times * header.height)
@@ -35,3 +32,9 @@ result_head setup header = pbm_head (setup.times * header.width) (setup.times * 
 abbrev pub result_text : Setup → PageHeader → List (List ℕ) → List ℕ
 result_text setup header rows =
     result_head setup header ++ result_rows setup (scan_of header rows) (length rows) (setup.times * header.height)
+
+-- the result as a page, whose row 0 is the lowest
+abbrev pub result_page : Setup → Gray → Page
+result_page setup page =
+    page_of (setup.times * page.width) (setup.times * page.height)
+    (λ X y. is_black page setup.radius setup.times setup.level X (setup.times * page.height - suc y))

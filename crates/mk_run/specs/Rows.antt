@@ -1,7 +1,7 @@
 -- What of a gray page stands at the front of bytes.
-use Rattle.std.specs.Prelude.{◌≡◌, ℕ, zero, suc, ◌*◌, Bool, true, false, ◌&&◌, if◌then◌else◌, List, [], ◌∷◌, length, nat_eq, nat_le}
+use Rattle.std.specs.Prelude.{◌≡◌, ℕ, zero, suc, ◌*◌, ◌≤◌, ◌⊎◌, Bool, true, false, ◌&&◌, if◌then◌else◌, List, [], ◌∷◌, ◌++◌, length, nat_eq, nat_le}
 use Rattle.pt_core.specs.declared.limits.TheConstants.{LONGEST_SIDE}
-use Rattle.bitmap_input.specs.Cut.{Cut}
+use Rattle.bitmap_input.specs.Cut.{Cut, is_by_end}
 use Rattle.bitmap_input.specs.Cut.Cut.{Takes, Stops}
 use Rattle.bitmap_input.specs.GrayRows.{gray_row}
 use Rattle.mk_run.specs.PageHeader.{page_header}
@@ -40,6 +40,14 @@ abbrev pub LeavesRows : Bool → (List ℕ → Cut (List ℕ)) → List ℕ → 
 LeavesRows ended part bytes [] left = bytes ≡ left
 LeavesRows ended part bytes (row ∷ rows) left =
     (e : Bool) × (rest : List ℕ) × (part bytes ≡ Takes e row rest) × (e ≡ true → ended ≡ true) × LeavesRows ended part rest rows left
+
+-- these bytes reach at most 65,536 bytes behind a front that leaves this part undecided, or behind none
+pub record ReachesNear {A : Type 0} (part : List ℕ → Cut A) (bytes : List ℕ) : Type 0 where
+  pub front : List ℕ
+  pub block : List ℕ
+  pub split : bytes ≡ front ++ block
+  pub undecided : (front ≡ []) ⊎ (is_by_end (part front) ≡ true)
+  pub near : length block ≤ 65536
 
 -- whether the result of a page with these sides isn't too large
 abbrev pub fits_result : Setup → ℕ → ℕ → Bool

@@ -9,10 +9,10 @@
 #![tactic(auto)]
 
 mod fault;
+pub mod laws;
 mod page;
 pub mod program;
 mod put;
-mod rooms;
 mod rows;
 mod say;
 mod work;

@@ -108,7 +108,7 @@ fn filter_page<I: Inputs, O: Outputs, E: Sink>(
         &work.head,
         &mut reader,
         &mut work.filter,
-        &mut work.rooms,
+        &mut work.row,
         inputs,
         outs,
     );

@@ -2,19 +2,18 @@
 ghost use Rattle.std.specs.Prelude.{◌≡◌, ℕ, ◌+◌, ◌*◌, ◌<◌, ◌≤◌, List, [], ◌++◌, length, false, true, IfErr, OnOk};
 ghost use Rattle.pt_core.specs.Documents.{with_whole};
 ghost use Rattle.mkbitmap.specs.Enlarged.{after_of, need};
-ghost use Rattle.mkbitmap.specs.Follows.{SameSetup};
+ghost use Rattle.mkbitmap.specs.Filtering.{SameSetup};
 ghost use Rattle.run_output.specs.Names.{dash};
 ghost use Rattle.run_output.specs.Told.{told_of};
 ghost use Rattle.mk_run.specs.Inner.Put.{BreaksPage, BreaksRow, BreaksRows, GoesWell, PutsRow, PutsRows, StaysOpen};
 ghost use Rattle.mk_run.specs.Result.{result_head, result_text};
-ghost use Rattle.mk_run.specs.Inner.FilterWork.{GivesRows, GoesAlong, HasRooms, IsAtWork, header_of, MayRead};
+ghost use Rattle.mk_run.specs.Inner.FilterWork.{GivesRows, GoesAlong, IsAtWork, header_of, MayRead};
 
 use crate::fault::Break;
-use crate::rooms::Rooms;
 use crate::rows::make_ready;
 use bitmap_input::GrayReader;
 use filter_words::Setup;
-use mkbitmap::{Filter, limit};
+use mkbitmap::Filter;
 use pt_base::write_whole;
 use pt_core::{Inputs, Outputs};
 
@@ -24,12 +23,12 @@ fn put_row<I: Inputs, O: Outputs>(
     y: u32,
     reader: &mut GrayReader,
     filter: &mut Filter,
-    rooms: &mut Rooms,
+    row: &mut [u16],
     inputs: &mut I,
     outs: &mut O,
 ) -> Result<(), Break>
     requires reading { MayRead I.Inputs reader.old inputs.old }
-    requires rooms { HasRooms setup filter.old.width rooms.old }
+    requires width { length row.old ≡ reader.old.head.width }
     requires at_work { (rows : List (List ℕ)) × IsAtWork setup reader.old filter.old rows }
     requires row { y < setup.times * filter.old.height }
     requires behind { filter.old.pairs ≤ after_of setup.times y + 1 }
@@ -48,19 +47,18 @@ fn put_row<I: Inputs, O: Outputs>(
     ensures breaks { IfErr result (λ why. BreaksRow why setup y reader.old filter.old
         (I.files inputs.old) (I.faults inputs.old) (told_of O.Sink outs.old) reader.new
         (I.files inputs.new) (I.faults inputs.new) (told_of O.Sink outs.new)) }
-    ensures setup { SameSetup filter.old filter.new }
-    ensures same_rooms { HasRooms setup filter.old.width rooms.new }
+    ensures setup { OnOk result (SameSetup filter.old filter.new) }
+    ensures same_room { length row.new ≡ length row.old }
     ensures reading { MayRead I.Inputs reader.new inputs.new }
     ensures same_openings { I.openings inputs.new ≡ I.openings inputs.old }
     ensures stays_ready { O.is_ready outs.new ≡ true }
 {
-    match make_ready(setup, y, reader, filter, inputs, &mut rooms.row) {
+    match make_ready(setup, y, reader, filter, inputs, row) {
         Ok(()) => {}
         Err(fault) => return Err(Break::Input(fault)),
     }
-    let limit = limit(filter.maxval, setup.times, setup.level);
-    filter.enlarged(y, setup.times, limit, &mut rooms.mixed, &mut rooms.packed);
-    match write_whole(outs, &rooms.packed) {
+    filter.enlarge(y);
+    match write_whole(outs, filter.row()) {
         Ok(()) => Ok(()),
         Err(_) => Err(Break::Output),
     }
@@ -71,12 +69,12 @@ fn put_rows<I: Inputs, O: Outputs>(
     setup: Setup,
     reader: &mut GrayReader,
     filter: &mut Filter,
-    rooms: &mut Rooms,
+    row: &mut [u16],
     inputs: &mut I,
     outs: &mut O,
 ) -> Result<(), Break>
     requires reading { MayRead I.Inputs reader.old inputs.old }
-    requires rooms { HasRooms setup filter.old.width rooms.old }
+    requires width { length row.old ≡ reader.old.head.width }
     requires at_work { IsAtWork setup reader.old filter.old [] }
     requires none { filter.old.pairs ≡ 0 }
     requires ready { O.is_ready outs.old ≡ true }
@@ -94,8 +92,8 @@ fn put_rows<I: Inputs, O: Outputs>(
     ensures same_openings { I.openings inputs.new ≡ I.openings inputs.old }
     ensures stays_ready { O.is_ready outs.new ≡ true }
 {
-    for y in 0..setup.times * filter.height {
-        match put_row(setup, y, reader, filter, rooms, inputs, outs) {
+    for y in 0..filter.rows() {
+        match put_row(setup, y, reader, filter, row, inputs, outs) {
             Ok(()) => {}
             Err(why) => return Err(why),
         }
@@ -112,13 +110,13 @@ pub(crate) fn put_page<I: Inputs, O: Outputs>(
     head: &[u8],
     reader: &mut GrayReader,
     filter: &mut Filter,
-    rooms: &mut Rooms,
+    row: &mut [u16],
     inputs: &mut I,
     outs: &mut O,
 ) -> Result<(), Break>
     requires reading { MayRead I.Inputs reader.old inputs.old }
     requires head { head.now ≡ result_head setup (header_of reader.old) }
-    requires rooms { HasRooms setup filter.old.width rooms.old }
+    requires width { length row.old ≡ reader.old.head.width }
     requires at_work { IsAtWork setup reader.old filter.old [] }
     requires none { filter.old.pairs ≡ 0 }
     requires closed { O.is_ready outs.old ≡ false }
@@ -145,7 +143,7 @@ pub(crate) fn put_page<I: Inputs, O: Outputs>(
         Ok(()) => {}
         Err(_) => return Err(Break::Output),
     }
-    match put_rows(setup, reader, filter, rooms, inputs, outs) {
+    match put_rows(setup, reader, filter, row, inputs, outs) {
         Ok(()) => {}
         Err(why) => return Err(why),
     }

@@ -3,7 +3,7 @@ ghost use Rattle.std.specs.Prelude.{◌≡◌, ℕ, ◌+◌, ◌*◌, ◌<◌, �
 ghost use Rattle.bitmap_input.specs.Inner.Reading.{CountsBy};
 ghost use Rattle.bitmap_input.specs.Reading.{cause_of_fault};
 ghost use Rattle.mkbitmap.specs.Enlarged.{after_of, need};
-ghost use Rattle.mkbitmap.specs.Follows.{SameSetup};
+ghost use Rattle.mkbitmap.specs.Filtering.{HasGone, SameSetup};
 ghost use Rattle.mk_run.specs.Inner.FilterWork.{GivesRows, GoesAlong, IsAtWork, StopsBehind, StopsRow, MayRead};
 
 use bitmap_input::{GrayReader, InFault};
@@ -27,14 +27,12 @@ pub(crate) fn take_row<I: Inputs>(
     ensures takes { OnOk result ((next : List ℕ)
         × GivesRows reader.old (I.files inputs.old) (next ∷ []) reader.new (I.files inputs.new)
         × GoesAlong setup reader.old filter.old (next ∷ []) reader.new filter.new) }
-    ensures one { OnOk result (filter.new.taken ≡ filter.old.taken + 1) }
-    ensures pairs { OnOk result (filter.new.pairs ≡ filter.old.pairs) }
+    ensures goes { OnOk result (HasGone 1 0 filter.old filter.new) }
     ensures steady { OnOk result (I.faults inputs.new ≡ I.faults inputs.old) }
     ensures stops { IfErr result (λ fault. StopsRow (cause_of_fault fault) reader.old
         (I.files inputs.old) reader.new (I.files inputs.new)) }
     ensures counts { IfErr result (λ fault.
         CountsBy (cause_of_fault fault) (I.faults inputs.old) (I.faults inputs.new)) }
-    ensures setup { SameSetup filter.old filter.new }
     ensures same_room { length row.new ≡ length row.old }
     ensures reading { MayRead I.Inputs reader.new inputs.new }
     ensures same_openings { I.openings inputs.new ≡ I.openings inputs.old }
@@ -72,12 +70,12 @@ pub(crate) fn make_ready<I: Inputs>(
         (I.files inputs.old) reader.new (I.files inputs.new)) }
     ensures counts { IfErr result (λ fault.
         CountsBy (cause_of_fault fault) (I.faults inputs.old) (I.faults inputs.new)) }
-    ensures setup { SameSetup filter.old filter.new }
+    ensures setup { OnOk result (SameSetup filter.old filter.new) }
     ensures same_room { length row.new ≡ length row.old }
     ensures reading { MayRead I.Inputs reader.new inputs.new }
     ensures same_openings { I.openings inputs.new ≡ I.openings inputs.old }
 {
-    'rows: while !filter.is_ready(y, setup.times) {
+    'rows: while !filter.is_ready(y) {
         if filter.wants_row() {
             match take_row(setup, reader, filter, inputs, row) {
                 Ok(()) => {}

@@ -1,16 +1,16 @@
 //! All that a run needs memory for, made before its document is begun.
-ghost use Rattle.std.specs.Prelude.{◌≡◌, ◌*◌, [], false, true, IfOk};
+ghost use Rattle.std.specs.Prelude.{◌≡◌, ◌*◌, [], false, length, true, IfOk};
+ghost use Rattle.bit_image.specs.PbmText.{pbm_head};
 ghost use Rattle.bitmap_input.specs.GrayReader.{GraySource};
 ghost use Rattle.filter_words.specs.Inner.FilterAsked.{CanFilter};
-ghost use Rattle.mk_run.specs.Result.{pbm_head};
 ghost use Rattle.mk_run.specs.Rows.{fits_result};
-ghost use Rattle.mk_run.specs.Inner.FilterWork.{HasRooms, IsAtWork, IsGrayHead};
+ghost use Rattle.mk_run.specs.Inner.FilterWork.{IsAtWork, IsGrayHead};
 
-use crate::rooms::Rooms;
+use bit_image::put_pbm_head;
 use bitmap_input::GrayHead;
 use filter_words::Setup;
 use mkbitmap::Filter;
-use pt_core::{NoMemory, put_number};
+use pt_core::NoMemory;
 use std::alloc::Global;
 
 /// All that a run needs memory for, but its reader.
@@ -19,7 +19,8 @@ pub(crate) struct Work {
     /// What the document begins with.
     pub(crate) head: Vec<u8>,
     pub(crate) filter: Filter,
-    pub(crate) rooms: Rooms,
+    /// Room for a row of the page.
+    pub(crate) row: Vec<u16>,
 }
 
 impl Work {
@@ -33,34 +34,28 @@ impl Work {
         ensures at_work { IfOk result (λ work. (reader : GraySource) → reader.head ≡ head
             → reader.given ≡ 0 → reader.failed ≡ false → IsAtWork setup reader work.filter []) }
         ensures none { IfOk result (λ work. work.filter.pairs ≡ 0) }
-        ensures rooms { IfOk result (λ work. HasRooms setup work.filter.width work.rooms) }
+        ensures width { IfOk result (λ work. length work.row.items ≡ head.width) }
     {
-        let text = pbm_head(alloc, setup.times * head.width, setup.times * head.height)?;
+        let mut text = Vec::new(alloc);
+        put_pbm_head(
+            &mut text,
+            setup.times * head.width,
+            setup.times * head.height,
+        )?;
         let filter = Filter::new(
             alloc,
             head.width as usize,
             head.height,
             head.maxval as u16,
             setup.radius as usize,
+            setup.times,
+            setup.level,
         )?;
-        let rooms = Rooms::new(alloc, setup, head.width)?;
+        let row = vec![in alloc; 0u16; head.width as usize]?;
         Ok(Work {
             head: text,
             filter,
-            rooms,
+            row,
         })
     }
-}
-
-/// What a raw PBM of these sides begins with.
-fn pbm_head(alloc: Global, width: u32, height: u32) -> Result<Vec<u8>, NoMemory>
-    ensures { IfOk result (λ text. text.items ≡ pbm_head width height) }
-{
-    let mut text = Vec::new(alloc);
-    text.extend_from_slice(b"P4\n")?;
-    put_number(&mut text, width)?;
-    text.extend_from_slice(b" ")?;
-    put_number(&mut text, height)?;
-    text.extend_from_slice(b"\n")?;
-    Ok(text)
 }

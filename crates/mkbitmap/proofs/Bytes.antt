@@ -1,6 +1,6 @@
 -- Bytes of eight pixels each.
 use Rattle.std.proofs.Common.{◌≡◌, ℕ, zero, suc, ◌+◌, ◌-◌, ◌*◌, ◌/◌, ◌^◌, ◌<◌, ◌≤◌, Bool, true, false, List, map, length, get_or, refl, arith, ap, ◌∙◌}
-use Rattle.std.proofs.lemmas.List.FromFn.{fill_by_all}
+use Rattle.std.proofs.lemmas.List.FromFn.{fill_by_all, length-map-range_with_len}
 use Rattle.std.proofs.Math.Nat.{pow-le-pow_right}
 use Rattle.std.specs.Prelude.{cond}
 use Rattle.std.specs.List.{range_with_len}
@@ -46,6 +46,9 @@ byte_of-is : (black : ℕ → Bool) (x : ℕ) → byte_of black x ≡ byte_from 
 unfolding byte_of
 byte_of-is black x =
     omega (arith, ap (λ k. bit (black k)) (zero_added x), bit_cond (black x), bit_cond (black (x + 1)), bit_cond (black (x + 2)), bit_cond (black (x + 3)), bit_cond (black (x + 4)), bit_cond (black (x + 5)), bit_cond (black (x + 6)), bit_cond (black (x + 7)))
+
+pub length-row_text : (width : ℕ) (row : ℕ → Bool) → length (row_text width row) ≡ (width + 7) / 8
+length-row_text width row = length-map-range_with_len (λ k. byte_from row (8 * k)) 0 ((width + 7) / 8)
 
 pub packed : (black : ℕ → Bool) (width : ℕ) (row : List ℕ) → length row ≡ (width + 7) / 8
     → ((k : ℕ) → k < (width + 7) / 8 → get_or row k 0 ≡ byte_of (padded width black) (8 * k)) → row ≡ row_text width (padded width black)

@@ -11,9 +11,9 @@ use Rattle.mkbitmap.specs.Relief.{raised_by, raised_of}
 use Rattle.mkbitmap.specs.Enlarged.{after_of, distance_behind, before_within, mix, mixed_column, mixed_raised}
 use Rattle.mkbitmap.specs.Inner.Enlarged.{dark}
 use Rattle.mkbitmap.specs.Packing.{padded}
-use Rattle.mkbitmap.specs.Follows.{HasRoom, HoldsRows, Follows, AreRaised}
-use Rattle.mkbitmap.specs.declared.filter.Filter.{Filter}
-use Rattle.mkbitmap.specs.declared.limits.TheConstants.{GREATEST_RELIEF}
+use Rattle.mkbitmap.specs.Filtering.{Filtering}
+use Rattle.mkbitmap.specs.Follows.{Follows}
+use Rattle.mkbitmap.specs.declared.limits.TheConstants.{GREATEST_MAXVAL, GREATEST_RELIEF}
 use Rattle.mkbitmap.proofs.Raising.{raised-most}
 
 -- a box has a pixel
@@ -32,22 +32,20 @@ raised_of-most : (page : Gray) (radius x y : ℕ) → page.sample x y ≤ page.m
 raised_of-most page radius x y bright in_row in_page =
     relief_by_most (nat_eq radius 0) (page.sample x y) (box_sum page radius x y) (box_area page radius x y) page.maxval (area_some page radius x y in_row in_page) bright
 
--- the reliefs that are held fit
-pub held_most : (page : Gray) (f : Filter) (reliefs : List ℕ) (u : ℕ) → HasRoom f → HoldsRows page f → length reliefs ≡ f.width
-    → AreRaised page f reliefs (before_within f.height u) → (x : ℕ) → get_or reliefs x 0 ≤ GREATEST_RELIEF
-held_most page f reliefs u room holds wide raised x =
-    elim (cases_lt x f.width) [
+-- the reliefs of a row fit
+pub row_most : (page : Gray) (radius y : ℕ) (reliefs : List ℕ) → ((a b : ℕ) → page.sample a b ≤ page.maxval) → page.maxval ≤ GREATEST_MAXVAL → y < page.height
+    → length reliefs ≡ page.width → ((x : ℕ) → x < page.width → get_or reliefs x 0 ≡ raised_of page radius x y) → (x : ℕ) → get_or reliefs x 0 ≤ GREATEST_RELIEF
+row_most page radius y reliefs bright white below wide raised x =
+    elim (cases_lt x page.width) [
       | inl within ↦
-          let most : raised_of page f.radius x (before_within f.height u) ≤ 512 * page.maxval
-          = raised_of-most page f.radius x (before_within f.height u) (rw holds.maxval (holds.bright x (before_within f.height u)))
-          (omega (arith, within, holds.width)) (omega (arith, room.some_rows, holds.height)) in
-          rw (raised x within) (omega (arith, most, holds.maxval, room.maxval))
+          let most : raised_of page radius x y ≤ 512 * page.maxval = raised_of-most page radius x y (bright x y) within below in
+          rw (raised x within) (omega (arith, most, white))
       | inr past ↦ rw (get_or_past reliefs x 0 (omega (arith, wide, past))) (omega arith)
     ]
 
 -- a column of the page above and below a row of the larger page
-pub column_is : (page : Gray) (f : Filter) (times y p : ℕ) (upper lower : List ℕ) → Follows page f → 1 ≤ f.pairs → f.pairs ≡ after_of times y + 1
-    → p ≡ distance_behind times y → upper ≡ f.upper.items → lower ≡ f.lower.items → (x : ℕ) → x < f.width
+pub column_is : (page : Gray) (f : Filtering) (times y p : ℕ) (upper lower : List ℕ) → Follows page f → 1 ≤ f.pairs → f.pairs ≡ after_of times y + 1
+    → p ≡ distance_behind times y → upper ≡ f.upper → lower ≡ f.lower → (x : ℕ) → x < f.width
     → mix (2 * times) p (get_or upper x 0) (get_or lower x 0) ≡ mixed_column page f.radius times y x
 column_is page f times y p upper lower follows some pairs part up low x within =
     let u : f.pairs - 1 ≡ after_of times y = omega (arith, pairs) in

@@ -1,14 +1,18 @@
 -- Going along a page row by row.
-use Rattle.std.proofs.Common.{◌≡◌, ℕ, suc, ◌+◌, ◌-◌, ◌*◌, ◌/◌, ◌%◌, ◌<◌, ◌≤◌, min, List, [], length, get_or, set, arith, sym, ap, ◌∙◌, inl, inr}
+use Rattle.std.proofs.Common.{◌≡◌, ℕ, suc, ◌+◌, ◌-◌, ◌*◌, ◌/◌, ◌%◌, ◌<◌, ◌≤◌, min, List, [], length, get_or, set, map, refl, arith, sym, ap, ◌∙◌, inl, inr, subst}
+use Rattle.std.specs.List.{range_with_len}
 use Rattle.std.specs.Prelude.{if◌then◌else◌, nat_eq}
 use Rattle.std.proofs.lemmas.Nat.{div-add-mod', mod_below, mul-le}
 use Rattle.std.proofs.lemmas.Bool.{cases_lt, cases_eq}
 use Rattle.std.proofs.lemmas.List.{get_or-set_same, get_or-set_other, get_or_past, get_or_default}
+use Rattle.std.proofs.lemmas.List.FromFn.{get_or-map-range_with_len, length-map-range_with_len}
 use Rattle.mkbitmap.specs.Box.{Gray, sum_between, box_from, box_end, box_count, box_area, column_sum, box_sum}
 use Rattle.mkbitmap.specs.Relief.{raised_by, raised_of}
-use Rattle.mkbitmap.specs.Follows.{HasRoom, HoldsRows, AreRaised, SameSetup, first_held}
-use Rattle.mkbitmap.specs.declared.filter.Filter.{Filter}
-use Rattle.mkbitmap.proofs.Adding.{sum-first, sum-most, sum-same}
+use Rattle.mkbitmap.specs.Filtering.{Filtering, HasGone, SameSetup}
+use Rattle.mkbitmap.specs.Follows.{HoldsRows, AreRaised}
+use Rattle.mkbitmap.specs.Inner.Layout.{HasRoom, IsLaidOut, filtering_of, first_held, held_row}
+use Rattle.mkbitmap.specs.declared.filter.Filter.TheInside.{Inside}
+use Rattle.mkbitmap.proofs.Adding.{sum-first, sum-grown, sum-most, sum-same}
 
 -- two rows of which fewer than n stand between don't share a slot
 apart : (n j t : ℕ) → 1 ≤ n → j < t → t < j + n → j % n ≡ t % n → ⊥
@@ -24,23 +28,25 @@ apart n j t some before near same =
           omega (arith, p, q, same, back, before)
     ]
 
-pub held_next : (n low taken width : ℕ) (ring : List (List ℕ)) (sample : ℕ → ℕ → ℕ) (s : List ℕ) → 1 ≤ n → length ring ≡ n
-    → taken < low + n
+slot_other : (n low taken : ℕ) (ring : List (List ℕ)) (s : List ℕ) → 1 ≤ n → taken < low + n → (j : ℕ) → low ≤ j → j < taken
+    → get_or (set ring (taken % n) s) (j % n) [] ≡ get_or ring (j % n) []
+slot_other n low taken ring s some near j from less =
+    get_or-set_other ring (taken % n) (j % n) s [] (λ e. apart n j taken some less (omega (arith, near, from)) e)
+
+slot_same : (n taken : ℕ) (ring : List (List ℕ)) (s : List ℕ) → 1 ≤ n → length ring ≡ n → get_or (set ring (taken % n) s) (taken % n) [] ≡ s
+slot_same n taken ring s some len = get_or-set_same ring (taken % n) s [] (rw len (mod_below taken n some))
+
+-- one row more is held
+pub held_next : (n low taken width : ℕ) (ring : List (List ℕ)) (sample : ℕ → ℕ → ℕ) (s : List ℕ) → 1 ≤ n → length ring ≡ n → taken < low + n
     → ((j : ℕ) → low ≤ j → j < taken → (x : ℕ) → x < width → get_or (get_or ring (j % n) []) x 0 ≡ sample x j)
     → ((x : ℕ) → x < width → get_or s x 0 ≡ sample x taken)
-    → (j : ℕ) → low ≤ j → j < taken + 1 → (x : ℕ) → x < width
-    → get_or (get_or (set ring (taken % n) s) (j % n) []) x 0 ≡ sample x j
+    → (j : ℕ) → low ≤ j → j < taken + 1 → (x : ℕ) → x < width → get_or (get_or (set ring (taken % n) s) (j % n) []) x 0 ≡ sample x j
 held_next n low taken width ring sample s some len near held here j from to x within =
     elim (cases_lt j taken) [
-      | inl less ↦
-          let other : get_or (set ring (taken % n) s) (j % n) [] ≡ get_or ring (j % n) []
-          = get_or-set_other ring (taken % n) (j % n) s [] (λ e. apart n j taken some less (omega arith) e) in
-          ap (λ r. get_or r x 0) other ∙ held j from less x within
+      | inl less ↦ ap (λ (r : List ℕ). get_or r x 0) (slot_other n low taken ring s some near j from less) ∙ held j from less x within
       | inr more ↦
-          let is : j ≡ taken = omega arith in
-          let below : taken % n < length ring = rw len (mod_below taken n some) in
-          let same : get_or (set ring (taken % n) s) (taken % n) [] ≡ s = get_or-set_same ring (taken % n) s [] below in
-          rw is (ap (λ r. get_or r x 0) same ∙ here x within)
+          let is : j ≡ taken = omega (arith, more, to) in
+          rw is (ap (λ (r : List ℕ). get_or r x 0) (slot_same n taken ring s some len) ∙ here x within)
     ]
 
 -- the slots keep their width
@@ -53,33 +59,124 @@ slot_next n i width ring s within widths same k h =
       | inr isnt ↦ ap length (get_or-set_other ring i k s [] isnt) ∙ widths k h
     ]
 
--- the sums are small
-pub sums_small : (page : Gray) (f : Filter) → HasRoom f → HoldsRows page f → (x : ℕ)
-    → get_or f.columns.items x 0 ≤ (f.taken - first_held f) * f.maxval
-sums_small page f room holds x =
-    elim (cases_lt x f.width) [
-      | inl within ↦
-          let most : sum_between (page.sample x) (first_held f) f.taken ≤ (f.taken - first_held f) * f.maxval
-          = sum-most (page.sample x) f.maxval (first_held f) f.taken (λ k. holds.bright x k) in
-          rw (holds.sums x within) most
-      | inr past ↦ rw (get_or_past f.columns.items x 0 (omega (arith, room.columns, past))) (omega arith)
+-- a sample of a row that comes, which is lowered to white, and of those in the other slots
+pub bright_next : (n low taken most : ℕ) (ring : List (List ℕ)) (s : List ℕ) → 1 ≤ n → length ring ≡ n → taken < low + n
+    → ((j : ℕ) → low ≤ j → j < taken → (x : ℕ) → get_or (get_or ring (j % n) []) x 0 ≤ most) → ((x : ℕ) → get_or s x 0 ≤ most)
+    → (j : ℕ) → low ≤ j → j < taken + 1 → (x : ℕ) → get_or (get_or (set ring (taken % n) s) (j % n) []) x 0 ≤ most
+bright_next n low taken most ring s some len near bright here j from to x =
+    elim (cases_lt j taken) [
+      | inl less ↦ rw (slot_other n low taken ring s some near j from less) (bright j from less x)
+      | inr more ↦
+          let is : j ≡ taken = omega (arith, more, to) in
+          rw (is, slot_same n taken ring s some len) (here x)
     ]
+
+-- the columns' sums with it
+pub sums_next : (n low taken : ℕ) (ring : List (List ℕ)) (s : List ℕ) → 1 ≤ n → length ring ≡ n → low ≤ taken → taken < low + n → (x : ℕ)
+    → sum_between (λ j. get_or (get_or ring (j % n) []) x 0) low taken + get_or s x 0
+    ≡ sum_between (λ j. get_or (get_or (set ring (taken % n) s) (j % n) []) x 0) low (taken + 1)
+sums_next n low taken ring s some len order near x =
+    let new : ℕ → ℕ = λ j. get_or (get_or (set ring (taken % n) s) (j % n) []) x 0 in
+    let before : sum_between new low taken ≡ sum_between (λ j. get_or (get_or ring (j % n) []) x 0) low taken
+    = sum-same new (λ j. get_or (get_or ring (j % n) []) x 0) low taken (λ j from to. ap (λ (r : List ℕ). get_or r x 0) (slot_other n low taken ring s some near j from to)) in
+    let here : new taken ≡ get_or s x 0 = ap (λ (r : List ℕ). get_or r x 0) (slot_same n taken ring s some len) in
+    let one : taken + 1 ≡ suc taken = omega arith in
+    sym (ap (sum_between new low) one ∙ sum-grown new low taken order ∙ ap (λ k. k + new taken) before ∙ ap (λ k. sum_between (λ j. get_or (get_or ring (j % n) []) x 0) low taken + k) here)
 
 -- an item, whatever would stand in its place if there were none
 pub slot_is : (ring : List (List ℕ)) (i : ℕ) (s : List ℕ) → i < length ring → s ≡ get_or ring i s → s ≡ get_or ring i []
 slot_is ring i s within is = is ∙ get_or_default ring i s [] within
 
--- the samples of a row that is held aren't brighter than white
-pub held_bright : (page : Gray) (f : Filter) → HasRoom f → HoldsRows page f → (j : ℕ) → first_held f ≤ j → j < f.taken
-    → (x : ℕ) → get_or (get_or f.ring.items (j % (2 * f.radius + 1)) []) x 0 ≤ f.maxval
-held_bright page f room holds j from to x =
+-- there is a free slot where another row is wanted
+pub has_slot : (f : Inside) → HasRoom f → f.taken < min f.height (f.pairs + f.radius + 1) → f.taken < first_held f + (2 * f.radius + 1)
+has_slot f room wanted = omega (arith, wanted, room.pairs)
+
+-- the sums are small
+pub sums_small : (f : Inside) → IsLaidOut f → (x : ℕ) → get_or f.columns.items x 0 ≤ (f.taken - first_held f) * f.maxval
+sums_small f laid x =
     elim (cases_lt x f.width) [
-      | inl within ↦ rw (holds.held j from to x within) (holds.bright x j)
-      | inr past ↦
-          let wide : length (get_or f.ring.items (j % (2 * f.radius + 1)) []) ≡ f.width
-          = room.slot (j % (2 * f.radius + 1)) (mod_below j (2 * f.radius + 1) (omega arith)) in
-          rw (get_or_past (get_or f.ring.items (j % (2 * f.radius + 1)) []) x 0 (omega (arith, wide, past))) (omega arith)
+      | inl within ↦
+          let lowered : ℕ → ℕ = λ j. min (get_or (held_row f j) x 0) f.maxval in
+          let same : sum_between (λ j. get_or (held_row f j) x 0) (first_held f) f.taken ≡ sum_between lowered (first_held f) f.taken
+          = sum-same (λ j. get_or (held_row f j) x 0) lowered (first_held f) f.taken (λ j from to. omega (arith, laid.bright j from to x)) in
+          let most : sum_between lowered (first_held f) f.taken ≤ (f.taken - first_held f) * f.maxval
+          = sum-most lowered f.maxval (first_held f) f.taken (λ j. omega arith) in
+          rw (laid.sums x within, same) most
+      | inr past ↦ rw (get_or_past f.columns.items x 0 (omega (arith, laid.room.columns, past))) (omega arith)
     ]
+
+-- The page whose rows stand in the slots.
+
+pub record RingHolds (page : Gray) (f : Inside) : Type 0 where
+  pub width : page.width ≡ f.width
+  pub height : page.height ≡ f.height
+  pub maxval : page.maxval ≡ f.maxval
+  pub bright : (x y : ℕ) → page.sample x y ≤ f.maxval
+  pub held : (j : ℕ) → first_held f ≤ j → j < f.taken → (x : ℕ) → x < f.width → get_or (held_row f j) x 0 ≡ page.sample x j
+
+-- there is one
+abbrev pub held_page : Inside → Gray
+held_page f = record { width = f.width; height = f.height; maxval = f.maxval; sample = λ x y. min (get_or (held_row f y) x 0) f.maxval }
+
+pub holds_itself : (f : Inside) → IsLaidOut f → RingHolds (held_page f) f
+holds_itself f laid = record {
+  width = refl;
+  height = refl;
+  maxval = refl;
+  bright = λ x y. omega arith;
+  held = λ j from to x within. omega (arith, laid.bright j from to x);
+}
+
+held_length : (f : Inside) → length (filtering_of f).held ≡ f.taken - first_held f
+held_length f = length-map-range_with_len (held_row f) (first_held f) (f.taken - first_held f)
+
+held_at : (f : Inside) (k j : ℕ) → k < f.taken - first_held f → first_held f + k ≡ j → get_or (filtering_of f).held k [] ≡ held_row f j
+held_at f k j = get_or-map-range_with_len (held_row f) (first_held f) (f.taken - first_held f) k j []
+
+-- the slots have what the filter holds
+pub ring_of : (page : Gray) (f : Inside) → IsLaidOut f → HoldsRows page (filtering_of f) → RingHolds page f
+ring_of page f laid holds = record {
+  width = holds.width;
+  height = holds.height;
+  maxval = holds.maxval;
+  bright = holds.bright;
+  held = λ j from to x within.
+      let is : get_or (filtering_of f).held (j - first_held f) [] ≡ held_row f j = held_at f (j - first_held f) j (omega (arith, from, to)) (omega (arith, from)) in
+      let row = holds.held (j - first_held f) (rw (held_length f) (omega (arith, from, to))) in
+      let at : f.taken - length (filtering_of f).held + (j - first_held f) ≡ j = rw (held_length f) (omega (arith, from, to, laid.room.low)) in
+      let sample : page.sample x (f.taken - length (filtering_of f).held + (j - first_held f)) ≡ min (get_or (get_or (filtering_of f).held (j - first_held f) []) x 0) page.maxval
+      = row.sample x (omega (arith, within, holds.width)) in
+      let here : page.sample x j ≡ min (get_or (held_row f j) x 0) page.maxval
+      = ap (page.sample x) (sym at) ∙ sample ∙ ap (λ (r : List ℕ). min (get_or r x 0) page.maxval) is in
+      omega (arith, here, laid.bright j from to x, holds.maxval);
+}
+
+-- and the other way round
+pub holds_of : (page : Gray) (g : Filtering) (n low : ℕ) (ring : List (List ℕ)) → g.held ≡ map (λ j. get_or ring (j % n) []) (range_with_len low (g.taken - low)) → low ≤ g.taken
+    → page.width ≡ g.width → page.height ≡ g.height → page.maxval ≡ g.maxval → ((x y : ℕ) → page.sample x y ≤ g.maxval)
+    → ((j : ℕ) → low ≤ j → j < g.taken → (x : ℕ) → x < g.width → get_or (get_or ring (j % n) []) x 0 ≡ page.sample x j) → HoldsRows page g
+holds_of page g n low ring has order width height maxval bright held = record {
+  width = width;
+  height = height;
+  maxval = maxval;
+  bright = bright;
+  held = λ k within.
+      let row : ℕ → List ℕ = λ j. get_or ring (j % n) [] in
+      let many : length g.held ≡ g.taken - low = ap length has ∙ length-map-range_with_len row low (g.taken - low) in
+      let below : k < g.taken - low = subst (λ (m : ℕ). k < m) many within in
+      let at : g.taken - length g.held + k ≡ low + k = omega (arith, many, order) in
+      let is : get_or g.held k [] ≡ row (low + k) = ap (λ (l : List (List ℕ)). get_or l k []) has ∙ get_or-map-range_with_len row low (g.taken - low) k (low + k) [] below refl in
+      rw (at, is) (record {
+        sample = λ x across.
+            let here : get_or (row (low + k)) x 0 ≡ page.sample x (low + k) = held (low + k) (omega arith) (omega (arith, below)) x (omega (arith, across, width)) in
+            omega (arith, here, bright x (low + k), maxval);
+      });
+}
+
+-- the columns' sums are those of its rows
+sums_are : (page : Gray) (f : Inside) → IsLaidOut f → RingHolds page f → (x : ℕ) → x < f.width → get_or f.columns.items x 0 ≡ sum_between (page.sample x) (first_held f) f.taken
+sums_are page f laid ring x within =
+    laid.sums x within ∙ sum-same (λ j. get_or (held_row f j) x 0) (page.sample x) (first_held f) f.taken (λ j from to. ring.held j from to x within)
 
 -- the same of four numbers
 four : (F : ℕ → ℕ → ℕ → ℕ → ℕ) {a b c d a' b' c' d' : ℕ} → a ≡ a' → b ≡ b' → c ≡ c' → d ≡ d' → F a b c d ≡ F a' b' c' d'
@@ -89,15 +186,15 @@ four F p q r s = λ i. F (p i) (q i) (r i) (s i)
 abbrev raised_with : ℕ → ℕ → ℕ → ℕ → ℕ → ℕ
 raised_with radius sample sum area maxval = if nat_eq radius 0 then 256 * sample + 128 * maxval else raised_by sample sum area maxval
 
-pub row_raised : (page : Gray) (f : Filter) → HasRoom f → HoldsRows page f → f.pairs < f.height
+pub row_raised : (page : Gray) (f : Inside) → IsLaidOut f → RingHolds page f → f.pairs < f.height
     → f.taken ≡ min f.height (f.pairs + f.radius + 1) → (x : ℕ) → x < f.width → (s columns : List ℕ) (v rows : ℕ)
     → s ≡ get_or f.ring.items (f.pairs % (2 * f.radius + 1)) [] → columns ≡ f.columns.items → rows ≡ f.taken - (f.pairs - f.radius)
     → v ≡ (if nat_eq f.radius 0 then 256 * get_or s x 0 + 128 * f.maxval
     else raised_by (get_or s x 0) (sum_between (λ a. get_or columns a 0) (box_from f.radius x) (box_end f.radius (length columns) x))
     (box_count f.radius (length columns) x * rows) f.maxval)
     → v ≡ raised_of page f.radius x f.pairs
-row_raised page f room holds due ready x within s columns v rows is same count value =
-    let wide : length columns ≡ page.width = ap length same ∙ room.columns ∙ sym holds.width in
+row_raised page f laid holds due ready x within s columns v rows is same count value =
+    let wide : length columns ≡ page.width = ap length same ∙ laid.room.columns ∙ sym holds.width in
     let sample : get_or s x 0 ≡ page.sample x f.pairs
     = ap (λ l. get_or l x 0) is ∙ holds.held f.pairs (omega arith) (omega (arith, ready)) x within in
     let column : (a : ℕ) → box_from f.radius x ≤ a → a < box_end f.radius (length columns) x → get_or columns a 0 ≡ column_sum page f.radius f.pairs a
@@ -105,7 +202,7 @@ row_raised page f room holds due ready x within s columns v rows is same count v
     let inside : a < f.width = omega (arith, wide, holds.width, r) in
     let low : first_held f ≡ box_from f.radius f.pairs = omega (arith, due) in
     let end : f.taken ≡ box_end f.radius page.height f.pairs = omega (arith, ready, holds.height) in
-    ap (λ l. get_or l a 0) same ∙ holds.sums a inside ∙ ap (λ k. sum_between (page.sample a) k f.taken) low
+    ap (λ l. get_or l a 0) same ∙ sums_are page f laid holds a inside ∙ ap (λ k. sum_between (page.sample a) k f.taken) low
     ∙ ap (λ k. sum_between (page.sample a) (box_from f.radius f.pairs) k) end in
     let sum : sum_between (λ a. get_or columns a 0) (box_from f.radius x) (box_end f.radius (length columns) x) ≡ box_sum page f.radius x f.pairs
     = sum-same (λ a. get_or columns a 0) (column_sum page f.radius f.pairs) (box_from f.radius x) (box_end f.radius (length columns) x) column
@@ -116,33 +213,37 @@ row_raised page f room holds due ready x within s columns v rows is same count v
     value ∙ four (raised_with f.radius) sample sum area (sym holds.maxval)
 
 -- a column's sum, and the sample of it that goes
-pub first_goes : (page : Gray) (f : Filter) → HasRoom f → HoldsRows page f → f.pairs < f.height → f.radius ≤ f.pairs
-    → f.taken ≡ min f.height (f.pairs + f.radius + 1) → (x : ℕ) → x < f.width → (s : List ℕ)
-    → s ≡ get_or f.ring.items ((f.pairs - f.radius) % (2 * f.radius + 1)) []
-    → get_or f.columns.items x 0 ≡ get_or s x 0 + sum_between (page.sample x) (min (f.pairs + 1) f.height - f.radius) f.taken
-first_goes page f room holds due from ready x within s is =
-    let sample : get_or s x 0 ≡ page.sample x (f.pairs - f.radius)
-    = ap (λ l. get_or l x 0) is ∙ holds.held (f.pairs - f.radius) (omega arith) (omega (arith, ready)) x within in
+pub first_goes : (f : Inside) → IsLaidOut f → f.pairs < f.height → f.radius ≤ f.pairs → f.taken ≡ min f.height (f.pairs + f.radius + 1) → (x : ℕ) → x < f.width → (s : List ℕ)
+    → s ≡ held_row f (f.pairs - f.radius)
+    → get_or f.columns.items x 0 ≡ get_or s x 0 + sum_between (λ j. get_or (held_row f j) x 0) (min (f.pairs + 1) f.height - f.radius) f.taken
+first_goes f laid due from ready x within s is =
+    let sample : ℕ → ℕ = λ j. get_or (held_row f j) x 0 in
     let low : first_held f ≡ f.pairs - f.radius = omega (arith, due) in
     let next : min (f.pairs + 1) f.height - f.radius ≡ suc (f.pairs - f.radius) = omega (arith, due, from) in
-    let first : sum_between (page.sample x) (f.pairs - f.radius) f.taken ≡ page.sample x (f.pairs - f.radius) + sum_between (page.sample x) (suc (f.pairs - f.radius)) f.taken
-    = sum-first (page.sample x) (f.pairs - f.radius) f.taken (omega (arith, ready, due)) in
-    holds.sums x within ∙ ap (λ k. sum_between (page.sample x) k f.taken) low ∙ first ∙ ap (λ k. k + sum_between (page.sample x) (suc (f.pairs - f.radius)) f.taken) (sym sample)
-    ∙ ap (λ k. get_or s x 0 + sum_between (page.sample x) k f.taken) (sym next)
+    let first : sum_between sample (f.pairs - f.radius) f.taken ≡ sample (f.pairs - f.radius) + sum_between sample (suc (f.pairs - f.radius)) f.taken
+    = sum-first sample (f.pairs - f.radius) f.taken (omega (arith, ready, due)) in
+    laid.sums x within ∙ ap (λ k. sum_between sample k f.taken) low ∙ first ∙ ap (λ (r : List ℕ). get_or r x 0 + sum_between sample (suc (f.pairs - f.radius)) f.taken) (sym is)
+    ∙ ap (λ k. get_or s x 0 + sum_between sample k f.taken) (sym next)
 
 -- reliefs that were kept
-pub carried : (page : Gray) (f g : Filter) (xs ys : List ℕ) (y z : ℕ) → SameSetup f g → ys ≡ xs → z ≡ y
-    → AreRaised page f xs y → AreRaised page g ys z
-carried page f g xs ys y z setup same at raised = λ x within.
-    let here : raised_of page f.radius x y ≡ raised_of page g.radius x z
-    = ap (λ r. raised_of page r x y) (sym setup.radius) ∙ ap (λ k. raised_of page g.radius x k) (sym at) in
-    ap (λ l. get_or l x 0) same ∙ raised x (omega (arith, within, setup.width)) ∙ here
+pub carried : (page : Gray) (f g : Filtering) (xs ys : List ℕ) (y z : ℕ) → SameSetup f g → ys ≡ xs → z ≡ y → AreRaised page f xs y → AreRaised page g ys z
+carried page f g xs ys y z same items row raised x within =
+    ap (λ (l : List ℕ). get_or l x 0) items ∙ raised x (omega (arith, within, same.width)) ∙ ap (λ k. raised_of page f.radius x k) (sym row) ∙ ap (λ r. raised_of page r x z) (sym same.radius)
 
--- set up alike twice
-pub same_twice : (f g h : Filter) → SameSetup f g → SameSetup g h → SameSetup f h
+-- it went on twice
+pub same_twice : (f g h : Filtering) → SameSetup f g → SameSetup g h → SameSetup f h
 same_twice f g h a b = record {
   width = b.width ∙ a.width;
   height = b.height ∙ a.height;
   maxval = b.maxval ∙ a.maxval;
   radius = b.radius ∙ a.radius;
+  times = b.times ∙ a.times;
+  level = b.level ∙ a.level;
+}
+
+pub gone_on : (rows steps more again : ℕ) (f g h : Filtering) → HasGone rows steps f g → HasGone more again g h → HasGone (rows + more) (steps + again) f h
+gone_on rows steps more again f g h a b = record {
+  setup = same_twice f g h a.setup b.setup;
+  taken = omega (arith, a.taken, b.taken);
+  pairs = omega (arith, a.pairs, b.pairs);
 }

@@ -2,3 +2,4 @@
 pub mod CentrePlace
 pub mod Enlarged
 pub mod Packing
+pub mod Layout

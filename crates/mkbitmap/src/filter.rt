@@ -6,7 +6,8 @@ ghost use Rattle.mkbitmap.specs.Enlarged.{after_of, is_black, dark_limit};
 ghost use Rattle.mkbitmap.specs.Packing.{padded};
 ghost use Rattle.mkbitmap.specs.declared.limits.TheConstants.{GREATEST_LEVEL, GREATEST_RADIUS, GREATEST_TIMES};
 ghost use Rattle.bit_image.specs.PbmText.{row_text};
-ghost use Rattle.mkbitmap.specs.Follows.{IsAlong, HasRoom, HoldsRows, AreRaised, Follows, IsRow, SameSetup, first_held};
+ghost use Rattle.mkbitmap.specs.Filtering.{HasGone, Filtering};
+ghost use Rattle.mkbitmap.specs.Follows.{HoldsRows, AreRaised, Follows, IsRow};
 
 use crate::enlarge::{CentrePlace, mix_row, pack_row};
 use crate::relief::raise_row;
@@ -17,7 +18,7 @@ use std::marker::Model;
 
 /// A row of samples, none brighter than white.
 #[derive(Debug, Drop)]
-pub struct Slot {
+struct Slot {
     samples: Vec<u16>,
 }
 
@@ -80,73 +81,118 @@ pub fn limit(maxval: u16, times: u32, level: u32) -> u64
 /// What is held of a page while its rows come one after another.
 #[derive(Debug, Drop)]
 pub struct Filter {
-    pub width: usize,
-    pub height: u32,
-    pub maxval: u16,
-    pub radius: usize,
+    width: usize,
+    height: u32,
+    maxval: u16,
+    radius: usize,
+    times: u32,
+    level: u32,
+    // The greatest mixture, raised, of a black pixel.
+    limit: u64,
     // Row y of the page stands in slot y modulo their number.
-    pub ring: Vec<Slot>,
+    ring: Vec<Slot>,
     // The sum of each column's samples over the rows that are held.
-    pub columns: Vec<u32>,
+    columns: Vec<u32>,
     // The reliefs of two rows, raised.
-    pub upper: Vec<u32>,
-    pub lower: Vec<u32>,
-    pub taken: u32,
-    pub pairs: u32,
+    upper: Vec<u32>,
+    lower: Vec<u32>,
+    // Room for their mixture, and a row of the larger page.
+    mixed: Vec<u32>,
+    packed: Vec<u8>,
+    taken: u32,
+    pairs: u32,
+}
+
+impl Model for Filter {
+    ghost use Rattle.mkbitmap.specs.Filtering.{Filtering};
+
+    ghost Value = { Filtering };
+
+    ghost use Rattle.mkbitmap.specs.Inner.Layout.{filtering_of, IsLaidOut};
+
+    ghost view = { filtering_of };
+
+    ghost invariant = { IsLaidOut };
 }
 
 impl Filter {
-    /// A filter before the first row of a page with these sides.
+    /// A filter before the first row of a page with these sides, which is made so many times larger and is
+    /// black up to this level.
     pub fn new(
         alloc: Global,
         width: usize,
         height: u32,
         maxval: u16,
         radius: usize,
+        times: u32,
+        level: u32,
     ) -> Result<Filter, NoMemory>
         requires some_columns { 1 ≤ width }
         requires some_rows { 1 ≤ height }
-        requires most_columns { width ≤ LONGEST_SIDE }
-        requires most_rows { height ≤ LONGEST_SIDE }
         requires radius { radius ≤ GREATEST_RADIUS }
-        ensures room { IfOk result HasRoom }
+        requires some_times { 1 ≤ times }
+        requires most_times { times ≤ GREATEST_TIMES }
+        requires level { level ≤ GREATEST_LEVEL }
+        requires most_columns { times * width ≤ LONGEST_SIDE }
+        requires most_rows { times * height ≤ LONGEST_SIDE }
         ensures follows { IfOk result (λ f. (page : Gray) → page.width ≡ width
             → page.height ≡ height → page.maxval ≡ maxval
             → ((x y : ℕ) → page.sample x y ≤ maxval) → Follows page f) }
-        ensures setup { IfOk result (λ f. (f.width ≡ width) × (f.height ≡ height)
-            × (f.maxval ≡ maxval) × (f.radius ≡ radius)) }
+        ensures sides { IfOk result (λ f. (f.width ≡ width) × (f.height ≡ height)
+            × (f.maxval ≡ maxval)) }
+        ensures setup { IfOk result (λ f. (f.radius ≡ radius) × (f.times ≡ times)
+            × (f.level ≡ level)) }
         ensures start { IfOk result (λ f. (f.taken ≡ 0) × (f.pairs ≡ 0)) }
     {
         let ring = blank_slots(alloc, 2 * radius + 1, width)?;
         let columns = vec![in alloc; 0u32; width]?;
         let upper = vec![in alloc; 0u32; width]?;
         let lower = vec![in alloc; 0u32; width]?;
+        let mixed = vec![in alloc; 0u32; width + 2]?;
+        let packed = vec![in alloc; 0u8; (times as usize * width + 7) / 8]?;
         Ok(Filter {
             width,
             height,
             maxval,
             radius,
+            times,
+            level,
+            limit: limit(maxval, times, level),
             ring,
             columns,
             upper,
             lower,
+            mixed,
+            packed,
             taken: 0,
             pairs: 0,
         })
     }
 
+    /// How many rows the larger page has.
+    pub fn rows(&self) -> u32
+        ensures { result ≡ self.now.times * self.now.height }
+    {
+        self.times * self.height
+    }
+
+    /// Whether another row is to be taken before it goes on by a row of the page.
+    pub fn wants_row(&self) -> bool
+        ensures { result ≡ nat_lt self.now.taken
+            (min self.now.height (self.now.pairs + self.now.radius + 1)) }
+    {
+        let end = self.pairs as usize + self.radius + 1;
+        (self.taken as usize) < end.min(self.height as usize)
+    }
+
     /// Takes the next row.
     pub fn take(&mut self, row: &[u16])
-        requires along { IsAlong self.old }
         requires whole { length row.now ≡ self.old.width }
-        requires due { self.old.taken < self.old.height }
-        requires room { self.old.taken < first_held self.old + (2 * self.old.radius + 1) }
-        ensures room { HasRoom self.new }
-        ensures taken { (page : Gray) → Follows page self.old → IsRow page self.old.taken row.now
+        requires wanted { self.old.taken
+            < min self.old.height (self.old.pairs + self.old.radius + 1) }
+        ensures follows { (page : Gray) → Follows page self.old → IsRow page self.old.taken row.now
             → Follows page self.new }
-        ensures setup { SameSetup self.old self.new }
-        ensures one { self.new.taken ≡ self.old.taken + 1 }
-        ensures pairs { self.new.pairs ≡ self.old.pairs }
+        ensures goes { HasGone 1 0 self.old self.new }
     {
         let slot = self.taken as usize % self.ring.len();
         self.ring[slot].keep(&mut self.columns, row, self.maxval);
@@ -155,16 +201,13 @@ impl Filter {
 
     /// Makes the reliefs of the next row, raised, in the place of the lower ones.
     fn raise(&mut self)
-        requires along { IsAlong self.old }
         requires due { self.old.pairs < self.old.height }
         requires ready { self.old.taken
             ≡ min self.old.height (self.old.pairs + self.old.radius + 1) }
-        ensures room { HasRoom self.new }
         ensures lower { (page : Gray) → HoldsRows page self.old
-            → HoldsRows page self.new × AreRaised page self.new self.new.lower.items self.old.pairs }
+            → HoldsRows page self.new × AreRaised page self.new self.new.lower self.old.pairs }
         ensures upper { self.new.upper ≡ self.old.upper }
-        ensures setup { SameSetup self.old self.new }
-        ensures counts { (self.new.taken ≡ self.old.taken) × (self.new.pairs ≡ self.old.pairs) }
+        ensures goes { HasGone 0 0 self.old self.new }
     {
         let y = self.pairs as usize;
         let slot = y % self.ring.len();
@@ -181,17 +224,13 @@ impl Filter {
 
     /// Lets the first row go that the next boxes don't have.
     fn let_go(&mut self)
-        requires along { IsAlong self.old }
         requires due { self.old.pairs < self.old.height }
         requires ready { self.old.taken
             ≡ min self.old.height (self.old.pairs + self.old.radius + 1) }
-        ensures room { HasRoom self.new }
         ensures holds { (page : Gray) → HoldsRows page self.old → HoldsRows page self.new }
         ensures upper { self.new.upper ≡ self.old.upper }
         ensures lower { self.new.lower ≡ self.old.lower }
-        ensures setup { SameSetup self.old self.new }
-        ensures taken { self.new.taken ≡ self.old.taken }
-        ensures pairs { self.new.pairs ≡ self.old.pairs + 1 }
+        ensures goes { HasGone 0 1 self.old self.new }
     {
         let y = self.pairs as usize;
         if y < self.radius {
@@ -205,28 +244,22 @@ impl Filter {
 
     /// Puts the lower reliefs in the place of the upper ones, too.
     fn copy_down(&mut self)
-        requires room { HasRoom self.old }
-        ensures room { HasRoom self.new }
         ensures holds { (page : Gray) → HoldsRows page self.old → HoldsRows page self.new }
-        ensures upper { self.new.upper.items ≡ self.old.lower.items }
+        ensures upper { self.new.upper ≡ self.old.lower }
         ensures lower { self.new.lower ≡ self.old.lower }
-        ensures setup { SameSetup self.old self.new }
-        ensures counts { (self.new.taken ≡ self.old.taken) × (self.new.pairs ≡ self.old.pairs) }
+        ensures goes { HasGone 0 0 self.old self.new }
     {
         self.upper.copy_from_slice(&self.lower);
     }
 
     /// Makes the reliefs of the first row.
     fn begin(&mut self)
-        requires along { IsAlong self.old }
         requires due { self.old.pairs ≡ 0 }
+        requires some { 1 ≤ self.old.height }
         requires ready { self.old.taken
             ≡ min self.old.height (self.old.pairs + self.old.radius + 1) }
-        ensures room { HasRoom self.new }
         ensures follows { (page : Gray) → Follows page self.old → Follows page self.new }
-        ensures setup { SameSetup self.old self.new }
-        ensures taken { self.new.taken ≡ self.old.taken }
-        ensures pairs { self.new.pairs ≡ self.old.pairs + 1 }
+        ensures goes { HasGone 0 1 self.old self.new }
     {
         self.raise();
         self.copy_down();
@@ -235,16 +268,12 @@ impl Filter {
 
     /// Makes the reliefs of a row behind the first one.
     fn go_on(&mut self)
-        requires along { IsAlong self.old }
         requires some { 1 ≤ self.old.pairs }
         requires due { self.old.pairs < self.old.height }
         requires ready { self.old.taken
             ≡ min self.old.height (self.old.pairs + self.old.radius + 1) }
-        ensures room { HasRoom self.new }
         ensures follows { (page : Gray) → Follows page self.old → Follows page self.new }
-        ensures setup { SameSetup self.old self.new }
-        ensures taken { self.new.taken ≡ self.old.taken }
-        ensures pairs { self.new.pairs ≡ self.old.pairs + 1 }
+        ensures goes { HasGone 0 1 self.old self.new }
     {
         self.copy_down();
         self.raise();
@@ -253,49 +282,21 @@ impl Filter {
 
     /// Has the reliefs of the last row twice.
     fn finish(&mut self)
-        requires room { HasRoom self.old }
         requires due { self.old.pairs ≡ self.old.height }
-        ensures room { HasRoom self.new }
         ensures follows { (page : Gray) → Follows page self.old → Follows page self.new }
-        ensures setup { SameSetup self.old self.new }
-        ensures taken { self.new.taken ≡ self.old.taken }
-        ensures pairs { self.new.pairs ≡ self.old.pairs + 1 }
+        ensures goes { HasGone 0 1 self.old self.new }
     {
-        self.copy_down();
+        self.upper.copy_from_slice(&self.lower);
         self.pairs += 1;
-    }
-
-    /// Whether another row is to be taken before it goes on by a row of the page.
-    pub fn wants_row(&self) -> bool
-        requires { HasRoom self.now }
-        ensures { result ≡ nat_lt self.now.taken
-            (min self.now.height (self.now.pairs + self.now.radius + 1)) }
-    {
-        let end = self.pairs as usize + self.radius + 1;
-        (self.taken as usize) < end.min(self.height as usize)
-    }
-
-    /// Whether the reliefs are those that a row of the larger page lies between.
-    pub fn is_ready(&self, y: u32, times: u32) -> bool
-        requires least { 1 ≤ times }
-        requires most { times ≤ GREATEST_TIMES }
-        requires row { y ≤ LONGEST_SIDE }
-        ensures { result ≡ nat_eq self.now.pairs (after_of times y + 1) }
-    {
-        self.pairs == CentrePlace::of(times, y).after + 1
     }
 
     /// Goes on by a row of the page: the lower reliefs become the upper ones.
     pub fn step(&mut self)
-        requires along { IsAlong self.old }
         requires due { self.old.pairs ≤ self.old.height }
         requires ready { self.old.taken
             ≡ min self.old.height (self.old.pairs + self.old.radius + 1) }
-        ensures room { HasRoom self.new }
         ensures follows { (page : Gray) → Follows page self.old → Follows page self.new }
-        ensures setup { SameSetup self.old self.new }
-        ensures taken { self.new.taken ≡ self.old.taken }
-        ensures pairs { self.new.pairs ≡ self.old.pairs + 1 }
+        ensures goes { HasGone 0 1 self.old self.new }
     {
         if self.pairs == 0 {
             self.begin();
@@ -306,27 +307,46 @@ impl Filter {
         }
     }
 
-    /// A row of the larger page, packed, with room for its mixed columns.
-    pub fn enlarged(&self, y: u32, times: u32, limit: u64, mixed: &mut [u32], row: &mut [u8])
-        requires filter { HasRoom self.now }
-        requires along { IsAlong self.now }
-        requires least { 1 ≤ times }
-        requires most { times ≤ GREATEST_TIMES }
-        requires end { times * self.now.width ≤ LONGEST_SIDE }
-        requires column { y ≤ LONGEST_SIDE }
-        requires some { 1 ≤ self.now.pairs }
-        requires ready { self.now.pairs ≡ after_of times y + 1 }
-        requires follows { (page : Gray) × Follows page self.now }
-        requires columns { length mixed.old ≡ self.now.width + 2 }
-        requires room { length row.old ≡ (times * self.now.width + 7) / 8 }
-        ensures same_room { length mixed.new ≡ length mixed.old }
-        ensures row { (page : Gray) (level : ℕ) → Follows page self.now
-            → limit ≡ dark_limit self.now.maxval times level
-            → row.new ≡ row_text (times * self.now.width) (padded (times * self.now.width)
-            (λ X. is_black page self.now.radius times level X y)) }
+    /// Whether the reliefs are those that a row of the larger page lies between.
+    pub fn is_ready(&self, y: u32) -> bool
+        requires { y < self.now.times * self.now.height }
+        ensures { result ≡ nat_eq self.now.pairs (after_of self.now.times y + 1) }
     {
-        let place = CentrePlace::of(times, y);
-        mix_row(&self.upper, &self.lower, place.part, 2 * times, mixed);
-        pack_row(mixed, times, limit, times * self.width as u32, row);
+        self.pairs == CentrePlace::of(self.times, y).after + 1
+    }
+
+    /// Makes a row of the larger page.
+    pub fn enlarge(&mut self, y: u32)
+        requires row { y < self.old.times * self.old.height }
+        requires ready { self.old.pairs ≡ after_of self.old.times y + 1 }
+        ensures row { (page : Gray) → Follows page self.old
+            → self.new.packed ≡ row_text (self.old.times * self.old.width)
+            (padded (self.old.times * self.old.width)
+            (λ X. is_black page self.old.radius self.old.times self.old.level X y)) }
+        ensures follows { (page : Gray) → Follows page self.old → Follows page self.new }
+        ensures goes { HasGone 0 0 self.old self.new }
+    {
+        let place = CentrePlace::of(self.times, y);
+        mix_row(
+            &self.upper,
+            &self.lower,
+            place.part,
+            2 * self.times,
+            &mut self.mixed,
+        );
+        pack_row(
+            &self.mixed,
+            self.times,
+            self.limit,
+            self.times * self.width as u32,
+            &mut self.packed,
+        );
+    }
+
+    /// The row of the larger page that was made last, packed.
+    pub fn row(&self) -> &[u8]
+        ensures { result.now ≡ self.now.packed }
+    {
+        &self.packed
     }
 }

@@ -15,3 +15,7 @@ pub mod Edges
 pub mod Between
 pub mod Unjoined
 pub mod Chords
+pub mod Written
+pub mod Means
+pub mod AlmostOnPage
+mod Examples

@@ -1,10 +1,12 @@
 //! What follows from the definitions alone.
-ghost use Rattle.std.specs.Prelude.{◌≡◌, false, ℕ, ◌+◌, ◌-◌, ◌*◌, ◌<◌, ◌≤◌, ◌+ℤ◌, List, length, slice_index, slice_index_or, slice_range};
+ghost use Rattle.std.specs.Prelude.{◌≡◌, ◌⊎◌, true, false, ℕ, ◌+◌, ◌-◌, ◌*◌, ◌<◌, ◌≤◌, ◌+ℤ◌, All, List, length, slice_index, slice_index_or, slice_range};
 ghost use Rattle.pt_core.specs.ClosedWalk.{IsClosedWalk, point_at, origin};
 ghost use Rattle.pt_core.specs.declared.point.Point.{Point};
 ghost use Rattle.pt_core.specs.declared.piece.Piece.TheVariants.{Corner, Curve};
 ghost use Rattle.pt_core.specs.declared.piece.Piece.{Piece};
 ghost use Rattle.pt_core.specs.declared.settings.Settings.{Settings};
+ghost use Rattle.pt_core.specs.declared.trace.Trace.{Trace};
+ghost use Rattle.bit_image.specs.Page.{Page, IsPage};
 ghost use Rattle.straight_paths.specs.Straight.{IsPossible, IsNear, vector_of};
 ghost use Rattle.corner_smooth.specs.Corner.{control_of, middle_of, piece_of, pieces_of};
 ghost use Rattle.vertex_adjust.specs.Vertex.{AreVertices, segment_end_of};
@@ -14,10 +16,12 @@ ghost use Rattle.curve_join.specs.Cubic.{touching_of};
 ghost use Rattle.curve_join.specs.Join.{MayJoin, cubic_at};
 ghost use Rattle.curve_join.specs.Outline.{Outline, is_curve, piece_at, vertex};
 ghost use Rattle.curve_join.specs.Vector.{way_of};
-ghost use Rattle.page_trace.specs.Trace.{IsOutlineOf};
-ghost use Rattle.dxf_geojson.specs.Chords.{curve_point};
+ghost use Rattle.page_trace.specs.Trace.{IsOutlineOf, IsTrace};
+ghost use Rattle.dxf_geojson.specs.Chords.{chord_points, curve_point};
 ghost use Rattle.outline_distance.specs.Curves.{BendsBy, curve_place};
+ghost use Rattle.outline_distance.specs.Pages.{IsAlmostOnPage, OfPoints};
 ghost use Rattle.outline_distance.specs.Polygons.{IsAnyPolygon};
+ghost use Rattle.outline_distance.specs.Written.{as_written};
 ghost use Rattle.outline_distance.specs.Distance.{DividesBy, IsCloseTo, LinePassesBy, PassesBy, divided, eightfold_middle, multiple, point_place};
 
 /// Each vertex is at most half a pixel from its point of the path.
@@ -153,4 +157,66 @@ pub fn chords_pass_by_curves()
 pub fn chord_points_are_rounded()
     ensures { (start first second end : Point) (k : ℕ)
         → IsCloseTo 512 (multiple 512 (curve_point start first second end k)) (curve_place (8 - k) k start first second end) }
+{}
+
+/// A place as a text has it is off by at most half a unit.
+pub fn places_are_rounded()
+    ensures { (unit : ℕ) (p : Point) → IsCloseTo 512 (as_written unit p) (multiple unit p) }
+{}
+
+/// As a text has them, vertices are at most half a pixel and half a unit from their points of the path. Joints are at
+/// most one and a half pixels and half a unit from a point. Each point of the path is so close to one of the lines
+/// between a vertex and a joint, and each place of these lines to a place of an edge that the side stands for.
+pub fn written_outlines_are_close()
+    ensures vertices { (points : List Point) (at : List ℕ) (vertices : List Point) (unit k : ℕ)
+        → AreVertices points at vertices → k < length at
+        → IsCloseTo (unit * 512 + 512) (as_written unit (point_at vertices k)) (multiple unit (point_place (point_at points (slice_index at k)))) }
+    ensures joints { (points : List Point) (at : List ℕ) (vertices : List Point) (unit k : ℕ)
+        → IsClosedWalk points → IsAnyPolygon points at → AreVertices points at vertices → k < length at
+        → (i : ℕ) × (slice_index at k ≤ i) × (i ≤ segment_end_of points at k)
+        × IsCloseTo (unit * 1536 + 512) (as_written unit (middle_of (point_at vertices k) (point_at vertices (k + 1)))) (multiple unit (point_place (point_at points i))) }
+    ensures points { (points : List Point) (at : List ℕ) (vertices : List Point) (unit i : ℕ)
+        → IsClosedWalk points → IsAnyPolygon points at → AreVertices points at vertices → i < length points
+        → (k : ℕ) × (k < length vertices) × (let joint = middle_of (point_at vertices k) (point_at vertices (k + 1)) in
+        (PassesBy (unit * 1536 + 512) (as_written unit (point_at vertices k)) (as_written unit joint) (multiple unit (point_place (point_at points i)))
+        ⊎ PassesBy (unit * 1536 + 512) (as_written unit joint) (as_written unit (point_at vertices (k + 1))) (multiple unit (point_place (point_at points i))))) }
+    ensures to_joints { (points : List Point) (at : List ℕ) (vertices : List Point) (unit k before after : ℕ)
+        → IsClosedWalk points → IsAnyPolygon points at → AreVertices points at vertices → k < length at → 1 ≤ before + after
+        → (i : ℕ) × (slice_index at k ≤ i) × (i < segment_end_of points at k) × (here : ℕ) × (there : ℕ) × (here + there ≡ 2 * (before + after))
+        × IsCloseTo (2 * (before + after) * (unit * 1536 + 512))
+        (multiple 2 (divided before after (as_written unit (point_at vertices k)) (as_written unit (middle_of (point_at vertices k) (point_at vertices (k + 1))))))
+        (multiple unit (divided here there (point_place (point_at points i)) (point_place (point_at points (i + 1))))) }
+    ensures from_joints { (points : List Point) (at : List ℕ) (vertices : List Point) (unit k before after : ℕ)
+        → IsClosedWalk points → IsAnyPolygon points at → AreVertices points at vertices → k < length at → 1 ≤ before + after
+        → (i : ℕ) × (slice_index at k ≤ i) × (i < segment_end_of points at k) × (here : ℕ) × (there : ℕ) × (here + there ≡ 2 * (before + after))
+        × IsCloseTo (2 * (before + after) * (unit * 1536 + 512))
+        (multiple 2 (divided before after (as_written unit (middle_of (point_at vertices k) (point_at vertices (k + 1)))) (as_written unit (point_at vertices (k + 1)))))
+        (multiple unit (divided here there (point_place (point_at points i)) (point_place (point_at points (i + 1))))) }
+{}
+
+/// Where curves aren't joined (`-n`), or there are none (`-a 0`), each vertex, control and joint of a page's outlines
+/// is on the page but for half a pixel, and as a text has it but for half a unit more.
+pub fn unjoined_outlines_are_almost_on_pages()
+    ensures traced { (page : Page) (settings : Settings) (trace : Trace)
+        → IsPage page → IsTrace page settings trace → (settings.long_curve ≡ true) ⊎ (settings.alphamax ≡ 0)
+        → All (All (OfPoints (IsAlmostOnPage 512 page.width page.height))) trace.outlines }
+    ensures written { (page : Page) (settings : Settings) (trace : Trace) (unit : ℕ)
+        → IsPage page → IsTrace page settings trace → (settings.long_curve ≡ true) ⊎ (settings.alphamax ≡ 0)
+        → All (All (OfPoints (λ p. IsAlmostOnPage (unit * 512 + 512) (unit * page.width) (unit * page.height) (as_written unit p)))) trace.outlines }
+{}
+
+/// Each place of a line is on a page as nearly as its two ends are, and each place of a curve as nearly as its four
+/// points. So are the points that are written for an outline in DXF and GeoJSON.
+pub fn pieces_keep_to_their_points()
+    ensures lines { (most width height before after : ℕ) (from to : Point)
+        → IsAlmostOnPage most width height from → IsAlmostOnPage most width height to
+        → IsAlmostOnPage ((before + after) * most) ((before + after) * width) ((before + after) * height) (divided before after from to) }
+    ensures curves { (most width height before after : ℕ) (start first second end : Point)
+        → IsAlmostOnPage most width height start → IsAlmostOnPage most width height first
+        → IsAlmostOnPage most width height second → IsAlmostOnPage most width height end
+        → let n = (before + after) * (before + after) * (before + after) in
+        IsAlmostOnPage (n * most) (n * width) (n * height) (curve_place before after start first second end) }
+    ensures chords { (most width height : ℕ) (pieces : List Piece)
+        → All (OfPoints (IsAlmostOnPage most width height)) pieces
+        → All (IsAlmostOnPage most width height) (chord_points pieces) }
 {}

@@ -20,6 +20,7 @@ pub mod Corners
 pub mod Prefix
 pub mod Above
 pub mod PathOn
+pub mod Counted
 pub mod Rows
 pub mod Sides
 pub mod Area

@@ -1,13 +1,14 @@
 //! What the definitions come to.
-ghost use Rattle.std.specs.Prelude.{◌≡◌, ℕ, ◌≤ℤ◌, pos, false, List, All, count_by};
+ghost use Rattle.std.specs.Prelude.{◌≡◌, ℕ, ◌≤◌, ◌≤ℤ◌, pos, false, List, All, count_by};
 ghost use Rattle.pt_core.specs.ClosedWalk.{point_at, IsClosedWalk};
 ghost use Rattle.pt_core.specs.declared.path.Path.{Path};
 ghost use Rattle.pt_core.specs.declared.point.Point.{Point};
 ghost use Rattle.pt_core.specs.declared.policy.Policy.{Policy};
+ghost use Rattle.bit_image.specs.Image.{Fits};
 ghost use Rattle.bit_image.specs.Page.{Page, IsPage, image_of};
 ghost use Rattle.path_decompose.specs.Bounds.{IsCornerOf};
 ghost use Rattle.path_decompose.specs.Decomposition.{IsDecomposition};
-ghost use Rattle.path_decompose.specs.Inside.{lines_of, is_odd};
+ghost use Rattle.path_decompose.specs.Inside.{lines_of, is_odd, inside, black_count};
 ghost use Rattle.path_decompose.specs.GridEdges.{is_in_row};
 ghost use Rattle.path_decompose.specs.AllPaths.{IsEvenOdd, IsEdgesOnce};
 
@@ -31,7 +32,8 @@ pub fn pages_have_decompositions()
 {}
 
 /// The paths of a page are closed walks over its corners, each starts above row 0's lower sides, and
-/// together they come to the page and use each of its edges once.
+/// together they come to the page and use each of its edges once. A pixel inside a path is on the page; so
+/// a path's area is the number of all pixels inside it, however far beyond the page they are counted.
 pub fn decompositions_come_to_the_page()
     ensures closed { (page : Page) (policy : Policy) (paths : List Path) → IsPage page
         → IsDecomposition page policy paths → All (λ path. IsClosedWalk path.points) paths }
@@ -41,6 +43,12 @@ pub fn decompositions_come_to_the_page()
     ensures starts { (page : Page) (policy : Policy) (paths : List Path) → IsPage page
         → IsDecomposition page policy paths
         → All (λ path. pos 1 ≤ℤ (point_at path.points 0).y) paths }
+    ensures insides { (page : Page) (policy : Policy) (paths : List Path) → IsPage page
+        → IsDecomposition page policy paths
+        → All (λ path. Fits (inside path.points) page.width page.height) paths }
+    ensures areas { (page : Page) (policy : Policy) (paths : List Path) (width height : ℕ) → IsPage page
+        → IsDecomposition page policy paths → page.width ≤ width → page.height ≤ height
+        → All (λ path. path.area ≡ black_count (inside path.points) width height) paths }
     ensures even_odd { (page : Page) (policy : Policy) (paths : List Path)
         → IsDecomposition page policy paths → IsEvenOdd (image_of page) paths }
     ensures edges_once { (page : Page) (policy : Policy) (paths : List Path)

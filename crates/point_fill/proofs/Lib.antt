@@ -1,7 +1,6 @@
 pub mod Numbers
 pub mod Spelling
 pub mod Traced
-pub mod Shown
 pub mod Placing
 pub mod Looping
 pub mod Marking

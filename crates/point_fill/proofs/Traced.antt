@@ -123,7 +123,7 @@ few_from page policy b (path ∷ paths) width height most fits d bound =
     let some : 1 ≤ place = omega (arith, at.0) in
     omega arith
 
-few_paths : (page : Page) (policy : Policy) (paths : List Path) → IsPage page → IsDecomposition page policy paths → length paths ≤ page.width * page.height
+pub few_paths : (page : Page) (policy : Policy) (paths : List Path) → IsPage page → IsDecomposition page policy paths → length paths ≤ page.width * page.height
 few_paths page policy paths is_page d =
     let fits = Fits-page page is_page in
     few_from page policy (image_of page) paths page.width page.height (page.width * page.height) fits d

@@ -4,7 +4,7 @@ use Rattle.pt_core.specs.Counts.{Rose}
 use Rattle.pt_core.specs.Files.{Contents}
 use Rattle.pt_core.specs.declared.settings.Settings.{Settings}
 use Rattle.pt_core.specs.Needs.{CanWrite}
-use Rattle.run_output.specs.Made.{Past, no_past}
+use Rattle.run_output.specs.Made.{no_past}
 use Rattle.run_output.specs.Messages.{not_opened, out_of_memory}
 use Rattle.run_output.specs.Parts.{Part}
 use Rattle.run_output.specs.Names.{dash}
@@ -24,7 +24,7 @@ use Rattle.file_documents.specs.Manner.{HasTexts, Manner}
 use Rattle.file_documents.specs.Outcome.{IsOutcome, LastEndsNear}
 use Rattle.file_documents.proofs.Closing.{AreWhole-front, alone_end, carried_closed, items_end, nothing_ends}
 use Rattle.file_documents.proofs.Exists.{items_found}
-use Rattle.file_documents.proofs.Joining.{items_behind}
+use Rattle.file_documents.proofs.OneEnd.{missing_items}
 use Rattle.potrace_main.proofs.Found.{demo_found}
 use Rattle.potrace_main.specs.Run.{AreItemsOf, BindsApart, EndsMissing, EndsRefused, FailureCount, IsComplete, IsMissing, IsOutcomeOf, manner_under, names_of}
 use Rattle.potrace_main.specs.Inner.Run.{IsRun, OutputsMove}
@@ -68,14 +68,6 @@ one_last (item ∷ before) (other ∷ others) message name e =
 
 no_both : (items : List Item) → EndsRefused items → EndsMissing items → ⊥
 no_both items (before, message, is) (others, name, are) = one_last before others message name (sym is ∙ are)
-
--- the items of files in front of one that isn't there
-missing_items : (contents : Option Contents) (manner : Manner) (front back : List (List ℕ)) (name : List ℕ) (before : List Item) → IsAbsent contents name → GoesOn before
-    → AreItems contents manner Nothing front no_past before → AreItems contents manner Nothing (front ++ name ∷ back) no_past (before ++ Missing name ∷ [])
-missing_items contents manner front back name before absent goes are =
-    items_behind contents manner Nothing Nothing (name ∷ back) (Missing name ∷ []) on front no_past before goes are where
-      on : (past : Past) (items : List Item) → GoesOn items → Nothing past items → AreItems contents manner Nothing (name ∷ back) past (items ++ Missing name ∷ [])
-      on past items goes_on none = inl (absent, ap (λ l. l ++ Missing name ∷ []) none)
 
 -- what there was to write, and the status where no device failed
 abbrev pub Completes : Option Contents → Manner → List (List ℕ) → Status → ℕ → ℕ → ℕ → ℕ → Type 0

@@ -3,3 +3,4 @@ pub mod Found
 pub mod Levels
 pub mod Lines
 pub mod OneText
+pub mod Sameness

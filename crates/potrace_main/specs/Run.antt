@@ -49,6 +49,13 @@ IsOutcomeOf asks.Version s source source_now old new = HasEnded s (Doc dash vers
 IsOutcomeOf (asks.Demo pages workers settings) s source source_now old new = (text : List ℕ) × IsDemoText pages settings text × HasEnded s (Doc dash text ∷ []) old new
 IsOutcomeOf (asks.Files names output workers settings) s source source_now old new = IsOutcome s (manner_under settings output) names source source_now old new
 
+-- the same is asked for, to be traced by so many workers
+abbrev pub with_workers : ℕ → Ask → Ask
+with_workers n asks.Help = asks.Help
+with_workers n asks.Version = asks.Version
+with_workers n (asks.Demo pages workers settings) = asks.Demo pages n settings
+with_workers n (asks.Files names output workers settings) = asks.Files names output n settings
+
 -- the files that a run may open
 abbrev pub names_of : Ask → List (List ℕ)
 names_of asks.Help = []

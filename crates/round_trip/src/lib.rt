@@ -1,4 +1,5 @@
-//! A page comes back from its points document: what the tracer writes, `point_fill` fills.
+//! What the tracer writes, the small programs read: `point_fill` fills a page's points document, and the page comes back;
+//! and `outline_check` finds its certificates right.
 #![tactic(auto)]
 
 pub mod laws;

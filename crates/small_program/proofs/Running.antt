@@ -1,10 +1,10 @@
 -- How a run ends.
-use Rattle.std.proofs.Common.{◌≡◌, ℕ, ◌<◌, ◌≤◌, ◌⊎◌, inl, inr, List, length, refl, sym, ◌∙◌, ap, subst, arith, codes}
+use Rattle.std.proofs.Common.{◌≡◌, ℕ, ◌+◌, ◌<◌, ◌≤◌, ◌⊎◌, inl, inr, List, length, refl, sym, ◌∙◌, ap, subst, arith, codes}
 use Rattle.pt_core.specs.Counts.{Rose, next_count}
 use Rattle.pt_core.specs.Files.{Lacks}
 use Rattle.run_output.specs.Names.{dash}
 use Rattle.run_output.specs.Told.{Sinks, Source, Told}
-use Rattle.small_program.specs.Input.{HasInput, TellsInput}
+use Rattle.small_program.specs.Input.{HasInput, HasTaken, TellsInput}
 use Rattle.small_program.specs.ProgramRun.{HasDone, IsProgramRun, OnlySays, TakesInput, Writes}
 use Rattle.small_program.specs.Inner.ProgramRun.{PutsReply}
 use Rattle.small_program.specs.Reply.{IsReply}
@@ -20,6 +20,7 @@ use Rattle.small_program.proofs.Taking.{is_not_missing, is_there, one_input}
 pub record IsInputStopped (stop : InputStop) (source source_now : Source) : Type 0 where
   pub opened : source_now.openings ≡ next_count source.openings
   pub too_long : stop ≡ stops.TooLong → (bytes : List ℕ) × HasInput source.files bytes × (MOST_BYTES < length bytes)
+  pub bound : stop ≡ stops.TooLong → (taken : List ℕ) × HasTaken source.files source_now.files taken × (length taken ≡ MOST_BYTES + 1)
   pub unread : stop ≡ stops.Unread → (Lacks source.files dash × (source_now.faults ≡ source.faults)) ⊎ Rose source.faults source_now.faults
   pub missing : Lacks source.files dash → stop ≡ stops.Unread
   pub steady : (stop ≡ stops.Unread) ⊎ (source_now.faults ≡ source.faults)
@@ -54,7 +55,7 @@ run_stopped makes program words stops.TooLong source source_now old new none sto
     let (bytes, has, long) = stopped.too_long refl in
     let steady : source_now.faults ≡ source.faults = still stopped.steady in
     record {
-      outcome = (bytes, codes "text too long", record { opened = stopped.opened; steady = steady; has = has }, inr (long, refl, refl), says);
+      outcome = (bytes, codes "text too long", record { opened = stopped.opened; steady = steady; has = has }, λ _. stopped.bound refl, inr (long, refl, refl), says);
       bad_words = λ is. absurd (let never : ending.Refused ≡ ending.BadWords = is in cc);
       refused = λ some. absurd (omega arith);
       missing = λ _ lacks. absurd (is_not_missing source.files bytes has lacks);
@@ -131,7 +132,7 @@ run_replied makes program words bytes text well end source source_now old new no
 }
 run_replied makes program words bytes text well end source source_now old new none replied (inr (refused, is, says)) = record {
   outcome = subst (λ (e : Ending). HasDone makes program e source source_now old new) (sym is)
-      (bytes, text, replied.takes, inl (replied.few, subst (λ (e : Ending). makes bytes e text) refused replied.made), says);
+      (bytes, text, replied.takes, λ long. absurd (omega (arith, replied.few)), inl (replied.few, subst (λ (e : Ending). makes bytes e text) refused replied.made), says);
   bad_words = λ bad. absurd (let never : ending.Refused ≡ ending.BadWords = sym is ∙ bad in cc);
   refused = λ some. absurd (omega arith);
   missing = λ _ lacks. absurd (is_not_missing source.files bytes replied.takes.has lacks);

@@ -1,5 +1,5 @@
 -- What a run of a program has done.
-use Rattle.std.specs.Prelude.{◌≡◌, ℕ, ◌<◌, ◌⊎◌, List, codes, false}
+use Rattle.std.specs.Prelude.{◌≡◌, ℕ, ◌+◌, ◌^◌, ◌<◌, ◌⊎◌, List, length, codes, false}
 use Rattle.pt_core.specs.Counts.{Rose, next_count}
 use Rattle.pt_core.specs.Documents.{IsCutOff, with_whole}
 use Rattle.pt_core.specs.Failures.{after_err}
@@ -7,7 +7,7 @@ use Rattle.pt_core.specs.Files.{Lacks}
 use Rattle.run_output.specs.Messages.{file_line, program_line}
 use Rattle.run_output.specs.Names.{dash}
 use Rattle.run_output.specs.Told.{IsMessage, Sinks, Source}
-use Rattle.small_program.specs.Input.{HasInput, TellsInput}
+use Rattle.small_program.specs.Input.{HasInput, HasTaken, TellsInput}
 use Rattle.small_program.specs.Reply.{IsReply}
 use Rattle.small_program.specs.declared.ending.Ending.{Ending}
 use Rattle.small_program.specs.declared.ending.Ending.TheVariants as ending
@@ -17,6 +17,11 @@ pub record TakesInput (bytes : List ℕ) (source source_now : Source) : Type 0 w
   pub opened : source_now.openings ≡ next_count source.openings
   pub steady : source_now.faults ≡ source.faults
   pub has : HasInput source.files bytes
+
+-- where there are more than 2^30 bytes, no more than one more was taken of them
+abbrev pub StopsInTime : List ℕ → Source → Source → Type 0
+StopsInTime bytes source source_now =
+    2 ^ 30 < length bytes → (taken : List ℕ) × HasTaken source.files source_now.files taken × (length taken ≡ 2 ^ 30 + 1)
 
 -- standard input was opened once, and that or a read of it failed, or it is told that there is none
 pub record FailsInput (source source_now : Source) : Type 0 where
@@ -66,7 +71,7 @@ HasDone makes program ending.Wrong source source_now old new =
 HasDone makes program ending.BadWords source source_now old new =
     (source_now ≡ source) × OnlySays (program_line program (codes "bad arguments")) old new
 HasDone makes program ending.Refused source source_now old new =
-    (bytes : List ℕ) × (why : List ℕ) × TakesInput bytes source source_now
+    (bytes : List ℕ) × (why : List ℕ) × TakesInput bytes source source_now × StopsInTime bytes source source_now
     × IsReply makes bytes ending.Refused why × OnlySays (file_line program dash why) old new
 HasDone makes program ending.Unread source source_now old new =
     FailsInput source source_now × OnlySays (file_line program dash (codes "read fault")) old new

@@ -1,5 +1,5 @@
 -- What a run holds and has done, between rows of the result.
-use Rattle.std.specs.Prelude.{◌≡◌, ℕ, ◌+◌, ◌*◌, ◌/◌, ◌<◌, ◌≤◌, true, false, List, [], ◌++◌, length, min, Option}
+use Rattle.std.specs.Prelude.{◌≡◌, ℕ, ◌+◌, ◌<◌, ◌≤◌, true, false, List, [], ◌++◌, length, min, Option}
 use Rattle.pt_core.specs.Files.{Files}
 use Rattle.pt_core.specs.declared.inputs.Inputs.{Ghosts}
 use Rattle.pt_core.specs.declared.limits.TheConstants.{LONGEST_SIDE}
@@ -10,13 +10,11 @@ use Rattle.bitmap_input.specs.Reading.Cause.{Says, Device, Memory}
 use Rattle.bitmap_input.specs.declared.gray_reader.GrayHead.{GrayHead}
 use Rattle.mk_run.specs.PageHeader.{PageHeader}
 use Rattle.mkbitmap.specs.Box.{Gray}
-use Rattle.mkbitmap.specs.Follows.{Follows, HasRoom}
-use Rattle.mkbitmap.specs.declared.filter.Filter.{Filter}
-use Rattle.mkbitmap.specs.declared.limits.TheConstants.{GREATEST_LEVEL, GREATEST_TIMES}
+use Rattle.mkbitmap.specs.Filtering.{Filtering}
+use Rattle.mkbitmap.specs.Follows.{Follows}
 use Rattle.filter_words.specs.declared.setup.Setup.{Setup}
 use Rattle.mk_run.specs.Rows.{LeavesRows, cut_row}
-use Rattle.mk_run.specs.declared.rooms.Rooms.{Rooms}
-use Rattle.mk_run.specs.FilterWork.{HasFirstRows}
+use Rattle.mk_run.specs.FilterRun.{HasFirstRows}
 
 -- the header that a reader has read
 abbrev pub header_of : GraySource → PageHeader
@@ -41,20 +39,19 @@ pub record GivesRows (old : GraySource) (before : Option Files) (rows : List (Li
   pub given : new.given ≡ old.given + length rows
 
 -- a reader and a filter that are at work on one page, with this setup
-pub record FitsWork (setup : Setup) (reader : GraySource) (f : Filter) : Type 0 where
-  pub room : HasRoom f
+pub record FitsWork (setup : Setup) (reader : GraySource) (f : Filtering) : Type 0 where
   pub width : f.width ≡ reader.head.width
   pub height : f.height ≡ reader.head.height
   pub maxval : f.maxval ≡ reader.head.maxval
   pub radius : f.radius ≡ setup.radius
+  pub times : f.times ≡ setup.times
+  pub level : f.level ≡ setup.level
+  pub some_rows : 1 ≤ f.height
+  pub most_white : f.maxval ≤ 65535
   pub some_times : 1 ≤ setup.times
-  pub most_times : setup.times ≤ GREATEST_TIMES
-  pub most_level : setup.level ≤ GREATEST_LEVEL
-  pub most_columns : setup.times * f.width ≤ LONGEST_SIDE
-  pub most_rows : setup.times * f.height ≤ LONGEST_SIDE
 
 -- both have gone along these rows of the page, and the filter took no more than its boxes need
-pub record IsAtWork (setup : Setup) (reader : GraySource) (f : Filter) (rows : List (List ℕ)) : Type 0 where
+pub record IsAtWork (setup : Setup) (reader : GraySource) (f : Filtering) (rows : List (List ℕ)) : Type 0 where
   pub fits : FitsWork setup reader f
   pub taken : f.taken ≡ length rows
   pub given : reader.given ≡ length rows
@@ -64,7 +61,7 @@ pub record IsAtWork (setup : Setup) (reader : GraySource) (f : Filter) (rows : L
   pub follows : (page : Gray) → HasFirstRows (header_of reader) rows page → Follows page f
 
 -- both went along these rows more
-abbrev pub GoesAlong : Setup → GraySource → Filter → List (List ℕ) → GraySource → Filter → Type 0
+abbrev pub GoesAlong : Setup → GraySource → Filtering → List (List ℕ) → GraySource → Filtering → Type 0
 GoesAlong setup old f next new g = (rows : List (List ℕ)) → IsAtWork setup old f rows → IsAtWork setup new g (rows ++ next)
 
 -- a head as the reader gives it
@@ -76,12 +73,6 @@ pub record IsGrayHead (head : GrayHead) : Type 0 where
   pub some_white : 1 ≤ head.maxval
   pub most_white : head.maxval ≤ 65535
 
--- rooms for a row of the page, for its mixed columns and for a row of the result
-pub record HasRooms (setup : Setup) (width : ℕ) (rooms : Rooms) : Type 0 where
-  pub row : length rooms.row.items ≡ width
-  pub mixed : length rooms.mixed.items ≡ width + 2
-  pub packed : length rooms.packed.items ≡ (setup.times * width + 7) / 8
-
 -- the next row isn't there, by this cause
 abbrev pub StopsRow : Cause → GraySource → Option Files → GraySource → Option Files → Type 0
 StopsRow (Says (Refused kind)) old before new now = Refuses (cut_row (header_of old)) kind old before new now
@@ -90,7 +81,8 @@ StopsRow (Says Trailing) old before new now = ⊥
 StopsRow Device old before new now = FailsToRead (cut_row (header_of old)) old before new now
 StopsRow Memory old before new now = ⊥
 
--- behind some rows, no more than this one, the next one isn't there
+-- behind some rows, no more than this one, the next one isn't there; and no more bytes are held there than a reader has
+-- room for
 pub record StopsBehind (why : Cause) (last : ℕ) (old : GraySource) (before : Option Files) (new : GraySource) (now : Option Files) : Type 0 where
   pub rows : List (List ℕ)
   pub mid : GraySource
@@ -99,3 +91,4 @@ pub record StopsBehind (why : Cause) (last : ℕ) (old : GraySource) (before : O
   pub stops : StopsRow why mid at new now
   pub few : mid.given < mid.head.height
   pub early : mid.given ≤ last
+  pub within : length mid.bytes ≤ 65536

@@ -9,6 +9,7 @@ use Rattle.bitmap_input.specs.Reading.{Cause}
 use Rattle.bitmap_input.specs.Reading.Cause.{Says, Device, Memory}
 use Rattle.pt_core.specs.Files.{Files}
 use Rattle.mk_run.specs.PageHeader.{page_header}
+use Rattle.mk_run.specs.Rows.{ReachesNear}
 use Rattle.run_output.specs.Told.{Source}
 use Rattle.small_program.specs.Input.{HasTaken}
 use Rattle.mk_run.specs.Inner.FilterWork.{header_of}
@@ -22,11 +23,12 @@ StopsHead Device new before now = FailsToRead gray_header gray_at_start before n
 StopsHead Memory new before now = ⊥
 
 -- standard input was opened once, no read failed, and at the front of what was taken of it stands the header that the
--- reader has, whatever comes behind
+-- reader has, whatever comes behind; and no more was taken than the header needs, but for a last block
 pub record StandsBehindHead (source : Source) (reader : GraySource) (source_now : Source) : Type 0 where
   pub opened : source_now.openings ≡ next_count source.openings
   pub steady : source_now.faults ≡ source.faults
   pub taken : List ℕ
   pub has : HasTaken source.files source_now.files taken
+  pub near : ReachesNear page_header taken
   pub head : (tail : List ℕ) → (reader.ended ≡ true → tail ≡ [])
       → (e : Bool) × (e ≡ true → reader.ended ≡ true) × (page_header (taken ++ tail) ≡ Takes e (header_of reader) (reader.bytes ++ tail))

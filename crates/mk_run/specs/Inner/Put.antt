@@ -14,12 +14,11 @@ use Rattle.run_output.specs.Names.{dash}
 use Rattle.run_output.specs.Told.{Told}
 use Rattle.filter_words.specs.declared.setup.Setup.{Setup}
 use Rattle.mk_run.specs.Result.{result_row, result_text}
-use Rattle.mkbitmap.specs.declared.filter.Filter.{Filter}
+use Rattle.mkbitmap.specs.Filtering.{Filtering}
 use Rattle.mk_run.specs.Inner.FilterWork.{GivesRows, IsAtWork, StopsBehind, header_of}
-use Rattle.mk_run.specs.FilterWork.{HasFirstRows}
+use Rattle.mk_run.specs.FilterRun.{HasFirstRows, rows_above, need_of, PutsFront, IsCutAt}
 use Rattle.mk_run.specs.declared.fault.Break.{Break}
 use Rattle.mk_run.specs.declared.fault.Break.TheVariants as breaks
-use Rattle.mk_run.specs.Put.{rows_above, need_of, PutsFront, IsCutAt}
 
 -- the open document has all rows above row Y more, whatever page begins with these rows
 abbrev pub PutsRows : Setup → PageHeader → List (List ℕ) → ℕ → Option Documents → Option Documents → Type 0
@@ -37,19 +36,19 @@ pub record BreaksDown (old new : Told) : Type 0 where
   pub failed : new.failures ≡ after_err old.failures
 
 -- a row of the result was written, whatever page begins with these rows and the next ones
-abbrev pub PutsRow : Setup → ℕ → GraySource → Filter → List (List ℕ) → Option Documents → Option Documents → Type 0
+abbrev pub PutsRow : Setup → ℕ → GraySource → Filtering → List (List ℕ) → Option Documents → Option Documents → Type 0
 PutsRow setup Y reader f next old new =
     (rows : List (List ℕ)) → IsAtWork setup reader f rows → (page : Gray) → HasFirstRows (header_of reader) (rows ++ next) page
     → new ≡ with_bytes old (result_row setup page Y)
 
 -- a front of it was written
-abbrev pub CutsRow : Setup → ℕ → GraySource → Filter → List (List ℕ) → Option Documents → Option Documents → Type 0
+abbrev pub CutsRow : Setup → ℕ → GraySource → Filtering → List (List ℕ) → Option Documents → Option Documents → Type 0
 CutsRow setup Y reader f next old new =
     (rows : List (List ℕ)) → IsAtWork setup reader f rows → (page : Gray) → HasFirstRows (header_of reader) (rows ++ next) page
     → (n : ℕ) × (n ≤ length (result_row setup page Y)) × (new ≡ with_bytes old (take n (result_row setup page Y)))
 
 -- writing row Y broke off, before its first byte or within it
-abbrev pub BreaksRow : Break → Setup → ℕ → GraySource → Filter → Option Files → ℕ → Told → GraySource → Option Files → ℕ → Told → Type 0
+abbrev pub BreaksRow : Break → Setup → ℕ → GraySource → Filtering → Option Files → ℕ → Told → GraySource → Option Files → ℕ → Told → Type 0
 BreaksRow (breaks.Input fault) setup Y old f before faults outs new now faults_now outs_now =
     StopsBehind (cause_of_fault fault) (need old.head.height setup.radius setup.times Y) old before new now
     × CountsBy (cause_of_fault fault) faults faults_now × (outs_now ≡ outs)

@@ -9,6 +9,11 @@ const UNEVEN: &[u8] = b"P2 9 5 255\n\
 10 30 50 70 90 110 130 150 170 40 60 80 100 120 140 160 180 200\n\
 40 60 80 100 120 140 160 180 200\n";
 
+/// 64 bright pixels, and a dark one.
+const ONE_DARK: &[u8] = b"P2 65 1 1 \
+1 1 1 1 1 1 1 1 1 1 1 1 1 1 1 1 1 1 1 1 1 1 1 1 1 1 1 1 1 1 1 1 \
+1 1 1 1 1 1 1 1 1 1 1 1 1 1 1 1 1 1 1 1 1 1 1 1 1 1 1 1 1 1 1 1 0\n";
+
 /// Words, pages, and what is to come of them. The results are those of a short program in another language that follows
 /// the definition.
 const FILTERED: &[(&str, &[u8], &[u8])] = &[
@@ -30,6 +35,18 @@ const FILTERED: &[(&str, &[u8], &[u8])] = &[
         UNEVEN,
         b"P4\n18 10\n\xf8\x00\x00\xf8\x00\x00\xf8\x00\x00\xfe\x00\x00\xff\xc0\x00\
 \xff\xc0\x00\xfe\x00\x00\xf8\x00\x00\xf8\x00\x00\xf8\x00\x00",
+    ),
+    // The greatest box: the first pixel is bright beside the dark one, which is 64 pixels away.
+    (
+        "--box 64 --times 1 --level 0.5",
+        ONE_DARK,
+        b"P4\n65 1\n\x00\x00\x00\x00\x00\x00\x00\x00\x80",
+    ),
+    // The most pixels for one.
+    (
+        "--box 0 --times 8",
+        b"P5 1 1 1\n\x00",
+        b"P4\n8 8\n\xff\xff\xff\xff\xff\xff\xff\xff",
     ),
     // Two bytes a sample, three pixels for one.
     (

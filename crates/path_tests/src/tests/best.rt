@@ -5,35 +5,9 @@ ghost use Rattle.std.specs.Prelude.{◌≤◌, ◌<◌, length};
 use page_samples::is_possible;
 use pt_core::Point;
 
-/// The vertices of the best polygon, a bit for each, and its penalty.
-pub(super) fn best(points: &[Point]) -> (u32, u64)
-    requires { length points.now ≤ 24 }
-{
-    let costs = segments(points);
-    let size = points.len();
-    let mut vertices = 0u32;
-    let mut cost = 0;
-    // Each polygon has point 0.
-    for list in 0..1u32 << size {
-        let fewer = list.count_ones() < vertices.count_ones();
-        if list % 2 == 1 && (vertices == 0 || fewer || list.count_ones() == vertices.count_ones()) {
-            if let Some(total) = total(&costs, size, list) {
-                if vertices == 0
-                    || fewer
-                    || total < cost
-                    || total == cost && is_lower(list, vertices)
-                {
-                    vertices = list;
-                    cost = total;
-                }
-            }
-        }
-    }
-    (vertices, cost)
-}
-
-/// The vertices of the best polygon that may begin at any point, a bit for each, and its penalty.
-pub(super) fn best_round(points: &[Point]) -> (u32, u64)
+/// The vertices of the best polygon, a bit for each, and its penalty: of those through the path's first point, or of
+/// those that begin at any point.
+pub(super) fn best(points: &[Point], through_first: bool) -> (u32, u64)
     requires { length points.now ≤ 24 }
 {
     let costs = segments(points);
@@ -41,14 +15,11 @@ pub(super) fn best_round(points: &[Point]) -> (u32, u64)
     let mut vertices = 0u32;
     let mut cost = 0;
     for list in 1..1u32 << size {
-        let fewer = list.count_ones() < vertices.count_ones();
-        if vertices == 0 || fewer || list.count_ones() == vertices.count_ones() {
-            if let Some(total) = total_round(&costs, size, list) {
-                if vertices == 0
-                    || fewer
-                    || total < cost
-                    || total == cost && is_lower(list, vertices)
-                {
+        let fewer = vertices == 0 || list.count_ones() < vertices.count_ones();
+        let as_few = fewer || list.count_ones() == vertices.count_ones();
+        if as_few && (list % 2 == 1 || !through_first) {
+            if let Some(total) = total(&costs, size, list) {
+                if fewer || total < cost || total == cost && is_lower(list, vertices) {
                     vertices = list;
                     cost = total;
                 }
@@ -66,23 +37,9 @@ fn is_lower(list: u32, other: u32) -> bool {
     list & first != 0
 }
 
-/// The penalty of a polygon's segments together, where each of them is possible.
+/// The penalty of a polygon's segments together, where each of them is possible. The last one leads from the last vertex
+/// to the first one again.
 fn total(costs: &[[Option<u64>; 49]; 25], size: usize, list: u32) -> Option<u64>
-    requires { size ≤ 24 }
-{
-    let mut total = 0u64;
-    let mut from = 0usize;
-    for to in 1..size + 1 {
-        if from < 25 && (to == size || list >> to & 1 == 1) {
-            total = total.wrapping_add(costs[from][to]?);
-            from = to;
-        }
-    }
-    Some(total)
-}
-
-/// The same of a polygon that begins at any point: its last segment leads from the last vertex to the first one again.
-fn total_round(costs: &[[Option<u64>; 49]; 25], size: usize, list: u32) -> Option<u64>
     requires { size ≤ 24 }
 {
     let first = list.trailing_zeros() as usize;

@@ -1,10 +1,8 @@
-//! Cyclic polygons beside a search over all lists of vertices, and beside the best polygons from each starting point.
+//! Cyclic polygons beside the best polygons from each starting point.
 
-use crate::tests::best::best_round;
-use crate::tests::polygons::bits_of;
 use bit_image::Bitmap;
 use cyclic_optimal::cyclic_polygon;
-use page_samples::{Shape, drawn, noise, numbered, shaped};
+use page_samples::{Shape, drawn, noise, shaped};
 use path_decompose::decompose;
 use polygon_optimal::polygon;
 use pt_base::is_closed_walk;
@@ -49,33 +47,6 @@ fn polygons_of(alloc: Global, points: &[Point]) -> Result<(Vec<u32>, u128, usize
         found.cost,
         through.at.as_slice().len(),
     ))
-}
-
-#[test]
-fn best_of_all_rounds(rt: HostRuntime) -> Result<(), Fail> {
-    let mut found = 0u32;
-    for number in 0..512 {
-        let page = numbered(rt.alloc(), number)?;
-        for policy in [Policy::Left, Policy::Right] {
-            for path in decompose(rt.alloc(), &page, policy)? {
-                let best = is_best_round(rt.alloc(), path.points.as_slice())?;
-                assert!(rt; best, "page {number}");
-                found = found.wrapping_add(1);
-            }
-        }
-    }
-    assert_eq!(rt; found, 1570);
-    Ok(())
-}
-
-/// Whether the cyclic polygon of a path is the best one of all lists of vertices.
-fn is_best_round(alloc: Global, points: &[Point]) -> Result<bool, Fail> {
-    if 24 < points.len() || !is_closed_walk(points) {
-        return Ok(false);
-    }
-    let polygon = cyclic_polygon(alloc, points)?;
-    let (vertices, cost) = best_round(points);
-    Ok(bits_of(polygon.at.as_slice()) == vertices && polygon.cost == u128::from(cost))
 }
 
 /// A shape, the page's side, and how many paths there are. Discs have no corner, so that their windows are wide.

@@ -22,42 +22,30 @@ fn longest_stairs(alloc: Global) -> Result<Vec<Point>, Fail>
     Ok(points)
 }
 
-/// A point, and how many steps the longest segment from there has.
-const REACHES: [(u32, u32); 3] = [(0, 1), (1, 65534), (2, 65533)];
+/// A point, how many steps the longest segment from there has; where a segment from there ends, and whether it is
+/// possible.
+const SEGMENTS: [(u32, u32, u32, bool); 4] = [
+    (0, 1, 65534, false),
+    (1, 65534, 65535, true),
+    (1, 65534, 65536, false),
+    (2, 65533, 65535, true),
+];
 
 #[test]
-fn farthest_along_stairs(rt: HostRuntime) -> Result<(), Fail> {
-    for (i, far) in REACHES {
-        let found = farthest(rt.alloc(), i)?;
-        assert_eq!(rt; found, far, "from {i}");
+fn segments_along_stairs(rt: HostRuntime) -> Result<(), Fail> {
+    for (i, far, j, possible) in SEGMENTS {
+        let found = segment(rt.alloc(), i, j)?;
+        assert_eq!(rt; found, (far, possible), "{i} to {j}");
     }
     Ok(())
 }
 
-fn farthest(alloc: Global, i: u32) -> Result<u32, Fail> {
-    let points = longest_stairs(alloc)?;
-    if points.len() <= i as usize {
-        return Err(Fail::from("no such point"));
-    }
-    Ok(Reach::of(alloc, &points)?.far(i))
-}
-
-/// A segment, and whether it is possible.
-const SEGMENTS: [(u32, u32, bool); 3] = [(1, 65535, true), (1, 65536, false), (0, 65534, false)];
-
-#[test]
-fn possible_along_stairs(rt: HostRuntime) -> Result<(), Fail> {
-    for (i, j, wanted) in SEGMENTS {
-        let found = possible(rt.alloc(), i, j)?;
-        assert_eq!(rt; found, wanted, "{i} to {j}");
-    }
-    Ok(())
-}
-
-fn possible(alloc: Global, i: u32, j: u32) -> Result<bool, Fail> {
+/// How many steps the longest segment from a point has, and whether this one is possible.
+fn segment(alloc: Global, i: u32, j: u32) -> Result<(u32, bool), Fail> {
     let points = longest_stairs(alloc)?;
     if points.len() <= i as usize || j <= i {
         return Err(Fail::from("no such segment"));
     }
-    Ok(Reach::of(alloc, &points)?.possible(i, j))
+    let reach = Reach::of(alloc, &points)?;
+    Ok((reach.far(i), reach.possible(i, j)))
 }

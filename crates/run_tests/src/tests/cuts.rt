@@ -93,7 +93,16 @@ const GAP_TOO_LONG: &str = "potrace: -: page 1: gap too long\n";
 const SIDE_TOO_LARGE: &str = "potrace: -: page 1: side too large\n";
 
 const LONG: &[Long] = &[
-    // A white row.
+    // White rows.
+    (
+        b"P4 16384 1\n",
+        0,
+        2048,
+        b"",
+        &[("-", "points 16384 1 0\n")],
+        0,
+        "",
+    ),
     (
         b"P4 32767 1\n",
         0,
@@ -113,7 +122,7 @@ const LONG: &[Long] = &[
 ];
 
 #[test]
-fn long_headers_and_a_white_row(rt: HostRuntime) -> Result<(), Fail> {
+fn long_headers_and_white_rows(rt: HostRuntime) -> Result<(), Fail> {
     for (front, byte, times, back, documents, status, said) in LONG {
         let mut input = Vec::from_slice(rt.alloc(), front)?;
         input.extend_from_slice(&vec![in rt.alloc(); *byte; *times]?)?;
@@ -173,6 +182,15 @@ const PICTURES: &[Case] = &[
 \0\0\0\0\xff\xff\xff\0",
         status: 2,
         said: TRUNCATED,
+        ..PLAIN
+    },
+    // Nothing stands behind the header, by which runs of pixels of 8 bits would be coded.
+    Case {
+        words: LEFT,
+        input: b"BM>\0\0\0\0\0\0\06\0\0\0\
+(\0\0\0\x01\0\0\0\xfe\xff\xff\xff\x01\0\x08\0\x01\0\0\0\x08\0\0\0\0\0\0\0\0\0\0\0\0\0\0\0\0\0\0\0",
+        status: 2,
+        said: "potrace: -: page 1: unsupported BMP kind\n",
         ..PLAIN
     },
     // A pixel has 8 bits, which tell 256 colours, and 257 colours are used.

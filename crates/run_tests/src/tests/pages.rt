@@ -86,6 +86,13 @@ const DOT_SVG: &str = square_svg!(
 
 const EMPTY_SVG: &str = square_svg!(1, "");
 
+const WHITE_SVG: &str = square_svg!(4, "");
+
+const SHARP_EPS: &str =
+    "%!PS-Adobe-3.0 EPSF-3.0\n%%BoundingBox: 0 0 8 8\n%%EndComments\ngsave\n1 10 div dup scale\n\
+40 80 moveto\n-40 0 rlineto\n0 -40 rlineto\n0 -40 rlineto\n40 0 rlineto\n40 0 rlineto\n0 40 rlineto\n0 40 rlineto\n\
+-40 0 rlineto\nclosepath\neofill\ngrestore\n%%EOF\n";
+
 const TWELVE_SVG: &str = square_svg!(
     4,
     "<path fill-rule=\"evenodd\" d=\"M8 32 l-12 -12 l12 -12 l12 -12 l12 12 l12 12 l-12 12 l-12 12 l-12 -12 z\"/>\n"
@@ -193,6 +200,7 @@ pub const PAGES: &[Page] = &[
         b"P1 2 1 01",
         &[("-", LEFT_ALONE)],
     ),
+    ("-i -b points -t 0", b"P1 1 1 0\n", &[("-", PIXEL)]),
     // Polygons.
     (
         "-b polygons -z left -t 0",
@@ -269,11 +277,13 @@ pub const PAGES: &[Page] = &[
         SQUARE,
         &[("-", ROUND_SVG)],
     ),
+    ("-s -a 1.000001", SQUARE, &[("-", ROUND_SVG)]),
     (
         "-b svg -z minority -t 2 -n --flat",
         SQUARE,
         &[("-", SHARP_SVG)],
     ),
+    ("", SQUARE, &[("-", SHARP_EPS)]),
     (
         "-b svg -z minority -t 0 -n --flat",
         b"P1 1 1 1\n",
@@ -289,6 +299,7 @@ pub const PAGES: &[Page] = &[
         b"P1 1 1 1\n",
         &[("-", EMPTY_SVG)],
     ),
+    ("-s", b"P1 4 4 0000 0000 0000 0000\n", &[("-", WHITE_SVG)]),
     // In a rectangle no two curves may be joined.
     (
         "-b svg -z minority -t 0 --flat",

@@ -19,7 +19,7 @@ filter_page-requires-clause-going_on g c = c.in-Ok-read_head.ensures.gives.going
 pub returns-in-Err : goal.returns-in-Err
 returns-in-Err g c =
     run_unopened c.args.setup (source_of g.I.Inputs c.args.inputs.now) (source_of g.I.Inputs c.open.new.self) _ _ c.open.ensures.one_more
-    (not_opened c.in-Err.field-0 _ _ _ (λ e. c.in-Err.ensures.absent.0 (ap Err e)) (λ e. c.in-Err.ensures.absent_steady (ap Err e)) (λ e. c.in-Err.ensures.cause (ap Err e)))
+    c.in-Err.ensures.none_opened (not_opened c.in-Err.field-0 _ _ _ (λ e. c.in-Err.ensures.absent.0 (ap Err e)) (λ e. c.in-Err.ensures.absent_steady (ap Err e)) (λ e. c.in-Err.ensures.cause (ap Err e)))
     (record { same = refl; same_open = refl; says = record { said = c.say_of_file.ensures.said; given_up = c.say_of_file.ensures.given_up; never_falls = c.say_of_file.ensures.never_falls } })
 
 -- memory ran out
@@ -42,7 +42,7 @@ pub returns-in-Err-read_head : goal.returns-in-Err-read_head
 returns-in-Err-read_head g c =
     rw c.say_fault.ensures.ending
     (run_at_head c.args.setup (source_of g.I.Inputs c.args.inputs.now) (source_of g.I.Inputs c.read_head.new.inputs) _ _ (cause_of_fault c.in-Err-read_head.fault) c.read_head.new.reader
-    (g.I.Inputs.files c.open.new.self) (c.read_head.ensures.same_openings ∙ c.open.ensures.one_more)
+    (g.I.Inputs.files c.open.new.self) (c.read_head.ensures.same_openings ∙ c.open.ensures.one_more) c.read_head.ensures.reading.opened
     (nothing_taken _ _ c.in-Ok.ensures.file (λ lacks. let never = c.in-Ok.ensures.absent.1 lacks in cc))
     (subst (λ (n : ℕ). CountsBy (cause_of_fault c.in-Err-read_head.fault) n (g.I.Inputs.faults c.read_head.new.inputs)) c.in-Ok.ensures.steady c.in-Err-read_head.ensures.counts)
     c.in-Err-read_head.ensures.stops c.read_head.ensures.reading.at_end (record { same = refl; same_open = refl; says = c.say_fault.ensures.says }))

@@ -2,7 +2,7 @@ use Rattle.std.proofs.Common.{◌≡◌, ◌*◌, ◌≤◌, Err, refl, ap, sym,
 use Rattle.bitmap_input.specs.declared.gray_reader.GrayHead.{GrayHead}
 use Rattle.run_output.specs.Told.{source_of}
 use Rattle.mk_run.specs.declared.fault.Break.TheVariants as breaks
-use Rattle.mk_run.specs.Result.{pbm_head}
+use Rattle.bit_image.specs.PbmText.{pbm_head}
 use Rattle.mk_run.specs.Rows.{fits_result}
 use Rattle.mk_run.proofs.Cutting.{cut_few}
 use Rattle.mk_run.proofs.Heading.{run_at_row, run_out_of_memory, run_too_large, there_behind_head}
@@ -35,7 +35,7 @@ returns-in-Ok-put g c = λ source stands.
     let (rows, gives, all, documents) = c.in-Ok-put.ensures.puts in
     run_done source (source_of g.I.Inputs c.args.inputs.now) c.args.reader stands c.args.setup (source_of g.I.Inputs c.put_page-put.new.inputs) _ _
     (ap (λ (h : GrayHead). fits_result c.args.setup h.width h.height) c.requires.read ∙ sym c.if-not-fits.ensures) c.put_page-put.ensures.same_openings c.put_page-put.new.reader rows gives
-    c.put_page-put.ensures.reading.at_end all c.in-Ok-put.ensures.steady
+    c.put_page-put.ensures.reading.at_end c.put_page-put.ensures.reading.within all c.in-Ok-put.ensures.steady
     (record { documents = documents; closed = c.in-Ok-put.ensures.closed; steady = c.in-Ok-put.ensures.went.steady; went = c.in-Ok-put.ensures.went.went; silent = refl })
 
 -- a row of the page isn't there
@@ -46,7 +46,7 @@ returns-in-Err-Input g c = λ source stands.
     let open_still = rw is at c.put_page-put.ensures.open in
     rw c.say_fault.ensures.ending
     (run_at_row source (source_of g.I.Inputs c.args.inputs.now) c.args.reader stands c.requires.reading.at_end c.args.setup (source_of g.I.Inputs c.put_page-put.new.inputs) _ _ _ c.put_page-put.new.reader last
-    (ap (λ (h : GrayHead). fits_result c.args.setup h.width h.height) c.requires.read ∙ sym c.if-not-fits.ensures) c.put_page-put.ensures.same_openings stop c.put_page-put.ensures.reading.at_end counts
+    (ap (λ (h : GrayHead). fits_result c.args.setup h.width h.height) c.requires.read ∙ sym c.if-not-fits.ensures) c.put_page-put.ensures.same_openings c.put_page-put.ensures.reading.opened stop c.put_page-put.ensures.reading.at_end counts
     (record { documents = documents; still_open = open_still; steady = well.steady; went = well.went; says = c.say_fault.ensures.says }))
 
 -- the document couldn't be written

@@ -38,7 +38,7 @@ returns-in-Err-write_whole-clause-breaks g c =
 pub returns-in-Err-put_rows-clause-breaks : goal.returns-in-Err-put_rows-clause-breaks
 returns-in-Err-put_rows-clause-breaks g c =
     let start = c.requires.at_work.fits in
-    page_breaks c.in-Err-put_rows.why c.args.setup c.args.reader.now _ _ _ _ _ _ (told_of g.O.Sink c.write_whole.new.sink) _ start.some_times (omega (arith, start.room.some_rows, start.height))
+    page_breaks c.in-Err-put_rows.why c.args.setup c.args.reader.now _ _ _ _ _ _ (told_of g.O.Sink c.write_whole.new.sink) _ start.some_times (omega (arith, start.some_rows, start.height))
     (record { steady = c.in-Ok-write_whole.ensures.steady ∙ c.in-Ok.ensures.steady; went = c.in-Ok-write_whole.ensures.went ∙ ap (λ f. f.count) c.in-Ok.ensures.went })
     (head_put _ _ _ dash c.args.head.now _ c.in-Ok.ensures.opened c.in-Ok-write_whole.ensures.appended c.requires.head) c.requires.at_work.given c.in-Err-put_rows.ensures.breaks
 
@@ -50,7 +50,7 @@ returns-in-Ok-end-clause-puts g c =
       rows,
       gives,
       all,
-      page_put c.args.setup (header_of c.args.reader.now) rows _ _ _ _ start.some_times (omega (arith, start.room.some_rows, start.height)) all
+      page_put c.args.setup (header_of c.args.reader.now) rows _ _ _ _ start.some_times (omega (arith, start.some_rows, start.height)) all
           (head_put _ _ _ dash c.args.head.now _ c.in-Ok.ensures.opened c.in-Ok-write_whole.ensures.appended c.requires.head) puts c.in-Ok-end.ensures.ended,
     )
 
@@ -66,7 +66,7 @@ returns-in-Err-end-clause-breaks g c =
       rows,
       gives,
       c.in-Ok-put_rows.ensures.steady,
-      inr (page_cut c.args.setup (header_of c.args.reader.now) rows _ _ _ _ start.some_times (omega (arith, start.room.some_rows, start.height)) all
+      inr (page_cut c.args.setup (header_of c.args.reader.now) rows _ _ _ _ start.some_times (omega (arith, start.some_rows, start.height)) all
           (head_put _ _ _ dash c.args.head.now _ c.in-Ok.ensures.opened c.in-Ok-write_whole.ensures.appended c.requires.head) puts c.in-Err-end.ensures.nothing),
       down_on _ _ _ well (record { rose = c.in-Err-end.ensures.cause; failed = c.in-Err-end.ensures.failed }),
     )

@@ -1,10 +1,10 @@
 use Rattle.std.proofs.Common.{◌≡◌, ℕ, ◌+◌, ◌-◌, ◌≤◌, true, List, length}
 use Rattle.mkbitmap.specs.Enlarged.{after_of}
-use Rattle.mkbitmap.specs.Follows.{SameSetup}
+use Rattle.mkbitmap.specs.Filtering.{SameSetup}
 use Rattle.run_output.specs.Told.{told_of}
 use Rattle.mk_run.specs.Inner.Put.{GoesWell, PutsRows}
-use Rattle.mk_run.specs.Put.{need_of}
-use Rattle.mk_run.specs.Inner.FilterWork.{GivesRows, HasRooms, IsAtWork, header_of, MayRead}
+use Rattle.mk_run.specs.FilterRun.{need_of}
+use Rattle.mk_run.specs.Inner.FilterWork.{GivesRows, IsAtWork, header_of, MayRead}
 use Rattle.mk_run.proofs.put.put_rows.Given as goal
 
 -- the rows above this one are written
@@ -16,7 +16,8 @@ invariant-loop-y g l =
     record {
       reading : MayRead inputs l.reader l.inputs;
       ready : outs.is_ready l.outs ≡ true;
-      rooms : HasRooms l.setup l.filter.width l.rooms;
+      width : length l.row ≡ l.reader.head.width;
+      same_room : length l.row ≡ length entry.row;
       steady : inputs.faults l.inputs ≡ inputs.faults entry.inputs;
       openings : inputs.openings l.inputs ≡ inputs.openings entry.inputs;
       went : GoesWell (told_of outs entry.outs) (told_of outs l.outs);

@@ -1,6 +1,6 @@
 use Rattle.std.proofs.Common.{◌≡◌, ℕ, ◌+◌, ◌-◌, ◌≤◌, List, length}
 use Rattle.mkbitmap.specs.Enlarged.{after_of, need}
-use Rattle.mkbitmap.specs.Follows.{SameSetup}
+use Rattle.mkbitmap.specs.Filtering.{SameSetup}
 use Rattle.mk_run.specs.Inner.FilterWork.{GivesRows, GoesAlong, MayRead}
 use Rattle.mk_run.proofs.rows.make_ready.Given as goal
 
@@ -16,6 +16,7 @@ invariant-rows g l =
       steady : inputs.faults l.inputs ≡ inputs.faults entry.inputs;
       openings : inputs.openings l.inputs ≡ inputs.openings entry.inputs;
       setup : SameSetup entry.filter l.filter;
+      times : l.filter.times ≡ l.setup.times;
       behind : l.filter.pairs ≤ after_of l.setup.times l.y + 1;
       ahead : l.filter.taken ≤ need l.filter.height l.filter.radius l.setup.times l.y + 1;
       next : List (List ℕ);

@@ -10,6 +10,7 @@ returns-in-Err g c =
     (record {
       opened = c.read_all.ensures.one_opening;
       too_long = λ is. c.in-Err.ensures.too_long (cc);
+      bound = λ is. c.in-Err.ensures.bound (cc);
       unread = λ is. c.in-Err.ensures.unread (cc);
       missing = λ lacks. let missing = c.in-Err.ensures.missing lacks in cc;
       steady = c.in-Err.ensures.steady_stop;

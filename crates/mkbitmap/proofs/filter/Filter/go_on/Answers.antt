@@ -1,4 +1,4 @@
-use Rattle.std.proofs.Common.{◌≡◌, ◌+◌, ◌-◌, arith, ap, ◌∙◌}
+use Rattle.std.proofs.Common.{◌≡◌, ◌+◌, ◌-◌, arith, ◌∙◌}
 use Rattle.mkbitmap.specs.Enlarged.{before_within}
 use Rattle.mkbitmap.proofs.Following.{carried, same_twice}
 use Rattle.mkbitmap.proofs.filter.Filter.go_on.Goals as goal
@@ -9,31 +9,14 @@ returns-clause-follows c = λ page follows.
     let f1 = c.copy_down.new.self in
     let f2 = c.raise.new.self in
     let f3 = c.let_go.new.self in
-    let h1 = c.copy_down.ensures.holds page follows.holds in
-    let h2 = c.raise.ensures.lower page h1 in
-    let h3 = c.let_go.ensures.holds page h2.0 in
-    let s3 = same_twice f f1 f3 c.copy_down.ensures.setup (same_twice f1 f2 f3 c.raise.ensures.setup c.let_go.ensures.setup) in
-    let up = ap (λ v. v.items) c.let_go.ensures.upper ∙ ap (λ v. v.items) c.raise.ensures.upper ∙ c.copy_down.ensures.upper in
-    let low = ap (λ v. v.items) c.let_go.ensures.lower in
-    let pairs : f3.pairs ≡ f.pairs + 1 = omega (arith, c.let_go.ensures.pairs, c.raise.ensures.counts.1, c.copy_down.ensures.counts.1) in
-    let y_up : before_within f3.height (f3.pairs - 1) ≡ before_within f.height f.pairs = omega (arith, pairs, s3.height) in
-    let y_low : before_within f3.height f3.pairs ≡ f1.pairs = omega (arith, pairs, s3.height, c.copy_down.ensures.counts.1, c.requires.due) in
+    let (h2, raised) = c.raise.ensures.lower page (c.copy_down.ensures.holds page follows.holds) in
+    let same = same_twice f f1 f3 c.copy_down.ensures.goes.setup (same_twice f1 f2 f3 c.raise.ensures.goes.setup c.let_go.ensures.goes.setup) in
+    let pairs : f3.pairs ≡ f.pairs + 1 = omega (arith, c.let_go.ensures.goes.pairs, c.raise.ensures.goes.pairs, c.copy_down.ensures.goes.pairs) in
+    let y_up : before_within f3.height (f3.pairs - 1) ≡ before_within f.height f.pairs = omega (arith, pairs, same.height) in
+    let y_low : before_within f3.height f3.pairs ≡ f1.pairs = omega (arith, pairs, same.height, c.copy_down.ensures.goes.pairs, c.requires.due) in
     record {
-      holds = h3;
-      upper = λ _. carried page f f3 f.lower.items f3.upper.items (before_within f.height f.pairs) (before_within f3.height (f3.pairs - 1)) s3 up y_up (follows.lower c.requires.some);
-      lower = λ _. carried page f2 f3 f2.lower.items f3.lower.items f1.pairs (before_within f3.height f3.pairs) c.let_go.ensures.setup low y_low h2.1;
+      holds = c.let_go.ensures.holds page h2;
+      upper = λ _. carried page f f3 f.lower f3.upper (before_within f.height f.pairs) (before_within f3.height (f3.pairs - 1)) same
+          (c.let_go.ensures.upper ∙ c.raise.ensures.upper ∙ c.copy_down.ensures.upper) y_up (follows.lower c.requires.some);
+      lower = λ _. carried page f2 f3 f2.lower f3.lower f1.pairs (before_within f3.height f3.pairs) c.let_go.ensures.goes.setup c.let_go.ensures.lower y_low raised;
     }
-
-pub raise-requires-clause-along : goal.raise-requires-clause-along
-raise-requires-clause-along c = record {
-  room = c.copy_down.ensures.room;
-  page = c.requires.along.page;
-  holds = c.copy_down.ensures.holds c.requires.along.page c.requires.along.holds;
-}
-
-pub let_go-requires-clause-along : goal.let_go-requires-clause-along
-let_go-requires-clause-along c = record {
-  room = c.raise.ensures.room;
-  page = c.requires.along.page;
-  holds = (c.raise.ensures.lower c.requires.along.page (c.copy_down.ensures.holds c.requires.along.page c.requires.along.holds)).0;
-}

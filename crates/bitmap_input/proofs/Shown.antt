@@ -10,7 +10,6 @@ use Rattle.std.proofs.lemmas.Str.Parse.{IsNumeralModel, numerals_by_fold}
 use Rattle.std.proofs.lemmas.List.{append-nil, length-append, get_or-map, get_or-take}
 use Rattle.std.proofs.lemmas.List.Elements.{All-head, All-tail, All-nil, All-cons}
 use Rattle.std.proofs.lemmas.List.FromFn.{get_or-map-range_with_len, length-map-range_with_len, length-range_with_len}
-use Rattle.pt_base.specs.Whole.{IsDigit}
 use Rattle.pt_core.specs.declared.limits.TheConstants.{LONGEST_SIDE}
 use Rattle.bit_image.specs.Page.{Page, IsPage, image_of}
 use Rattle.bit_image.proofs.Pages.{page_of-image_of, page_of-same}
@@ -78,6 +77,9 @@ unpacked_at row (suc n) a u below =
     place (suc (suc (suc (suc (suc (suc (suc (suc v)))))))) less rest = rest v (omega arith) ∙ ap row (omega arith)
 
 -- ---- numbers
+
+abbrev IsDigit : ℕ → Type 0
+IsDigit b = (48 ≤ b) × (b ≤ 57)
 
 is_digit-true : (b : ℕ) → IsDigit b → is_digit b ≡ true
 is_digit-true b d = grind (arith, nat_tests)

@@ -1,0 +1,16 @@
+use Rattle.std.proofs.Common.{codes, refl}
+use Rattle.check_run.proofs.Rechecking.{found_right}
+use Rattle.round_trip.proofs.Certifying.{right_page}
+use Rattle.round_trip.proofs.laws.certificates_of_pages_are_right.Goals as goal
+
+pub returns : goal.returns
+returns c = record {
+  right = right_page;
+  found = λ page settings text is_page proofs first document.
+      let found = right_page page settings text is_page proofs first document in (
+        found.0,
+        found.1,
+        λ ending source source_now old now ran tells few.
+            found_right (codes "outline_check") text _ 0 ending source source_now old now ran refl tells few found.2,
+      );
+}
