@@ -8,7 +8,7 @@
 # of the manual pages, which have to be well-formed, the examples and what stands literally. They run one after another, in
 # a copy of this clone in which what is built here stands, in a folder with the pages that they name; the documents that
 # come have to be read by a parser. What isn't run is named below, with the reason. The batch queue, and the host that ssh
-# reaches, are played by the shell.
+# reaches, are played by the shell. And `examples/redraw` has to change nothing.
 #
 # It needs what ./build needs where a program isn't built yet, python3, git and Debian's packages mandoc, man-db,
 # imagemagick, poppler-utils, ghostscript, pstoedit, gdal-bin, parallel and rsync. It is no part of the gate.
@@ -28,14 +28,13 @@ rt ci: it is the gate, and takes an hour
 .ci/run: it is the gate
 rt ci CRATE: a part of the gate
 rt must-fail CRATE: a part of the gate
+bench/try_wrong_bodies CRATE: it proves the crate again for each wrong body
 rt try --test: it wants the folder of a crate that is at work
 rt check: it wants the folder of a crate that is at work
 rt plant: it wants the folder of a crate that is at work
 rt tidy: it wants the folder of a crate that is at work
 rt doc: it says where the kit's guides are
-rt version: it says the kit's name alone
 packaging/make FOLDER: bench/check/package.sh tries it
-./build potrace: bench/check/build.sh tries what it does; of all crates it takes minutes
 ./build ring: bench/check/library.sh tries it
 ./launch ring: bench/check/library.sh tries it
 END
@@ -65,6 +64,11 @@ for manual in docs/*.1; do
   man --warnings -E UTF-8 -l "$manual" >/dev/null 2>>"$work/said"
   [ ! -s "$work/said" ] || { cat "$work/said" >&2; fail "$manual isn't well-formed"; }
 done
+
+# The pages and pictures of the examples are what makes them again.
+examples/redraw
+git diff --exit-code --stat || fail "examples/redraw changes something"
+echo "examples/redraw: changes nothing"
 
 # The pages that the documents name.
 bench/pages.py scan 400 300 >scan.pbm
@@ -134,7 +138,7 @@ import xml.etree.ElementTree
 WORK, *DOCUMENTS = sys.argv[1:]
 PROGRAMS = ("potrace mkbitmap point_fill outline_check ./potrace ./mkbitmap ./point_fill ./outline_check ./install ./build ./launch rt .ci/run packaging/make "
             "convert pdftoppm pdfimages ps2pdf epstopdf gs ogr2ogr pstoedit parallel find awk examples/many/over_hosts").split()
-NOT = {}
+NOT, MET = {}, set()
 with open(f"{WORK}/not", encoding="utf-8") as file:
     for line in file:
         command, _, why = line.strip().rpartition(": ")
@@ -169,7 +173,8 @@ def of_manual(text):
 
 
 def lines_of(command):
-    """A block of lines that each stand alone, as commands of their own."""
+    """A block of lines that each stand alone, as commands of their own, without comments behind them."""
+    command = re.sub("  +# .*$", "", command, flags=re.M)
     lines = command.split("\n")
     alone = not any(line.endswith(("\\", "|", "do")) or line.startswith(" ") for line in lines) and command.count("'") % 2 == 0
     return lines if alone and len(lines) > 1 else [command]
@@ -177,8 +182,8 @@ def lines_of(command):
 
 def run(document, command, output):
     """Runs it, and says whether that was done."""
-    command = re.sub("  +# .*$", "", command)
     if command in NOT:
+        MET.add(command)
         print(f"{document}: not run: {command} ({NOT[command]})")
         return False
     before = status_of_clone()
@@ -226,6 +231,8 @@ def main():
         found = of_manual(text) if document.endswith(".1") else of_markdown(text)
         ran = sum(run(document, line, output) for command, output in found for line in lines_of(command))
         print(f"{document}: {ran} commands run")
+    if NOT.keys() - MET:
+        sys.exit(f"examples: in no document: {', '.join(sorted(NOT.keys() - MET))}")
     made = sorted({*os.listdir(".")} - before)
     for name in made:
         if name.endswith((".svg", ".json", ".dxf", ".pdf", ".gpkg", ".gcode", ".hpgl", ".ps", ".eps")) and not shapes_of(name):

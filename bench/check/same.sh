@@ -5,7 +5,8 @@
 #
 # Each CLONE is a clone of the same sources in which the programs stand, by `./build` or by a whole `rt ci`, which leave
 # them at the same place. With none, or with one, this clone's sources are copied to a folder of another length and built
-# there, which takes as long as a first build. The sha256 of each program is printed, and has to be one.
+# there, which takes as long as a first build. The sha256 of each program is printed, and has to be one. Beside it stands
+# that of what each clone's programs are made of, its list of crates with their sources, definitions and proofs.
 #
 # It needs sha256sum, and git and what ./build needs where it builds. It is no part of the gate.
 set -euo pipefail
@@ -22,8 +23,19 @@ if [ $# -lt 2 ]; then
   "$copy/build"
   clones+=("$copy")
 fi
+# sources_of CLONE: a checksum of what its programs are made of.
+sources_of() {
+  (cd "$1" && find crates.txt crates/*/{src,specs,proofs} -type f -print0 | LC_ALL=C sort -z | xargs -0 sha256sum | sha256sum)
+}
+
+sums=$(for clone in "${clones[@]}"; do sources_of "$clone"; done | sort -u)
+sed 's/ *-$/  what they are made of/' <<<"$sums"
+[ "$(wc -l <<<"$sums")" -eq 1 ] || echo "same: they are made of different sources" >&2
 differ=0
 while IFS=': ' read -r name crate; do
+  for clone in "${clones[@]}"; do
+    [ -s "$clone/crates/$crate/out/$crate" ] || { echo "same: $clone has no program $name" >&2; exit 1; }
+  done
   sums=$(for clone in "${clones[@]}"; do sha256sum <"$clone/crates/$crate/out/$crate"; done | sort -u)
   [ "$(wc -l <<<"$sums")" -eq 1 ] || differ=1
   sed "s/ *-$/  $name/" <<<"$sums"

@@ -83,7 +83,7 @@ def told(what, found, wanted, most):
     """Each number is no farther from the wanted one than it may be."""
     if len(found) != len(wanted) or any(abs(a - b) > most for a, b in zip(found, wanted)):
         sys.exit(f"sizes: {what}: {found}, and not {wanted}")
-    print(f"{what}: {' '.join(f'{it:g}' for it in found)}, to {most:g}")
+    print(f"{what}: {' '.join(f'{it:.7g}' for it in found)}, to {most:g}")
 
 
 def numbers(pattern, text):
