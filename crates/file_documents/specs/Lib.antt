@@ -2,4 +2,5 @@ pub mod Manner
 pub mod FileItems
 pub mod Outcome
 pub mod OnePass
+pub mod LastBatch
 pub mod Inner
