@@ -1,17 +1,17 @@
 -- Memory ran out behind whole batches.
-use Rattle.std.proofs.Common.{◌≡◌, ◌≤◌, ◌<◌, ℕ, ◌+◌, ◌*◌, List, [], ◌∷◌, ◌++◌, Result, Ok, Err, IfErr, refl, sym, ◌∙◌, ap, subst, append_assoc, arith}
+use Rattle.std.proofs.Common.{◌≡◌, ◌≤◌, ◌<◌, ℕ, ◌+◌, List, [], ◌∷◌, ◌++◌, Result, Ok, Err, IfErr, refl, sym, ◌∙◌, ap, subst, append_assoc, arith}
 use Rattle.std.proofs.lemmas.List.{append-nil}
 use Rattle.run_output.specs.Messages.{out_of_memory}
 use Rattle.run_output.specs.declared.status.Status.{Status}
 use Rattle.run_output.specs.declared.status.Status.TheVariants as status
-use Rattle.page_batches.specs.Held.{AreHeld, Held}
+use Rattle.page_batches.specs.Held.{Held}
 use Rattle.page_batches.specs.Inner.Held.{Holds, pages_held}
 use Rattle.page_batches.specs.Inner.ItemsDone.{IsIdle}
 use Rattle.page_batches.specs.Items.{Item, page_count}
 use Rattle.page_batches.specs.ItemsDone.{AreCarriedOut, HasEnded, IsOutOfMemory}
 use Rattle.run_output.specs.Told.{Sinks}
 use Rattle.page_batches.proofs.Carrying.{carried_on}
-use Rattle.page_batches.proofs.Holding.{all_held, page_count-append, page_count-held, split_on}
+use Rattle.page_batches.proofs.Holding.{page_count-append, page_count-held, split_on}
 use Rattle.file_documents.specs.Manner.{Manner}
 use Rattle.file_documents.specs.Inner.Progress.{EndsHeld, RunsOutIn}
 

@@ -1,5 +1,5 @@
 -- How far a run has read where memory ran out.
-use Rattle.std.proofs.Common.{◌≡◌, ◌≤◌, ◌<◌, ℕ, ◌+◌, ◌*◌, false, min, List, [], ◌∷◌, ◌++◌, length, Option, None, Some, IfSome, inl, inr, refl, sym, ◌∙◌, ap, subst, append_assoc, length-append, add-mul, zero-mul, arith}
+use Rattle.std.proofs.Common.{◌≡◌, ◌≤◌, ◌<◌, ℕ, ◌+◌, ◌*◌, false, min, List, [], ◌∷◌, ◌++◌, length, Option, None, Some, IfSome, inl, inr, refl, sym, ◌∙◌, ap, append_assoc, length-append, add-mul, zero-mul, arith}
 use Rattle.std.proofs.lemmas.List.{append-nil}
 use Rattle.pt_core.specs.Counts.{last_count, next_count}
 use Rattle.pt_core.specs.Files.{Contents, Files, Lacks, unread, with_file}
@@ -17,7 +17,7 @@ use Rattle.page_batches.proofs.Holding.{all_held, holds_goes_on, page_count-appe
 use Rattle.file_documents.specs.FileItems.{AreItems, Nothing, Rest, told_contents}
 use Rattle.file_documents.specs.LastBatch.{LosesBatch, ReadsAtMost}
 use Rattle.file_documents.specs.Manner.{HasTexts, Manner, base_by}
-use Rattle.file_documents.specs.Outcome.{LeavesBehind, OpensUpTo, ReadsNear, opened_name}
+use Rattle.file_documents.specs.Outcome.{LeavesBehind, ReadsNear, opened_name}
 use Rattle.file_documents.specs.Inner.Progress.{AreConverted, ConvertsFile, Converts, EndsWith, Halts, LosesWithin, RunsOutIn, text_items}
 use Rattle.file_documents.specs.declared.pages.PagesEnd.{PagesEnd}
 use Rattle.file_documents.proofs.Ending.{at_first, near_of}
