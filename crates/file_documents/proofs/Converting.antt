@@ -20,6 +20,7 @@ use Rattle.run_output.specs.declared.status.Status.TheVariants as status
 use Rattle.page_batches.specs.Held.{AreHeld, Held}
 use Rattle.page_batches.specs.Inner.Held.{Holds, pages_held}
 use Rattle.page_batches.specs.Items.{Item}
+use Rattle.page_batches.specs.Inner.ItemsDone.{IsIdle}
 use Rattle.page_batches.specs.ItemsDone.{HasEnded}
 use Rattle.run_output.specs.Told.{Sinks}
 use Rattle.page_batches.proofs.Holding.{all_held, ended_behind, holds_on, pages_in-page}
@@ -27,9 +28,10 @@ use Rattle.file_documents.specs.FileItems.{page_item}
 use Rattle.file_documents.specs.Manner.{Manner}
 use Rattle.file_documents.specs.Outcome.{BeginsSettled, LeavesBehind, ReadsNear, is_later}
 use Rattle.file_documents.specs.Inner.Outcome.{BeginsWith}
-use Rattle.file_documents.specs.Inner.Progress.{AreConverted, EndsBy, Halts, HasUnread, IsInBatch, ReadsPage, Settles, TakesNeeded, Converts, ahead, text_items}
+use Rattle.file_documents.specs.Inner.Progress.{AreConverted, EndsBy, Halts, HasUnread, IsInBatch, ReadsPage, RunsOutIn, Settles, TakesNeeded, Converts, ahead, text_items}
 use Rattle.file_documents.specs.declared.pages.PagesEnd.{PagesEnd}
 use Rattle.file_documents.specs.declared.pages.PagesEnd.TheVariants as why
+use Rattle.file_documents.proofs.LastBatch.{batch_out}
 use Rattle.file_documents.proofs.OnePass.{batch_halts}
 use Rattle.file_documents.proofs.Paging.{AreConverted-more, BeginsSettled-more, BeginsWith-more, LeavesBehind-more}
 use Rattle.file_documents.proofs.Reading.{first_taken, unread-with_read}
@@ -241,8 +243,8 @@ no_less (first ∷ raws) raw = λ e. cc
 pub halted : (s : Status) (size : ℕ) (manner : Manner) (base : List ℕ) (past : Past) (start : Option Files) (old new : Reader) (before after : Option Files) (held mid_held : List Held) (a b c : Sinks) (k : ℕ) (page : Pixels) (text : List ℕ)
     → IsConverted size manner base past (unread start) old before held mid_held a b k → ReadsPage manner old before page new after → manner.belongs page text
     → ((left : List Item) → AreHeld manner.binding manner.belongs mid_held left → HasEnded s (left ++ page_item manner base past k text ∷ []) b c)
-    → k + past.pages < most_pages → (s ≡ status.Unwritten → pages_held mid_held + 1 ≡ size) → Halts s size manner base past start after held a c
-halted s size manner base past start old new before after held mid_held a b c k page text t p is_text ended few full =
+    → k + past.pages < most_pages → (s ≡ status.Unwritten → pages_held mid_held + 1 ≡ size) → pages_held mid_held < size → IsIdle s b c → Halts s size manner base past start after held a c
+halted s size manner base past start old new before after held mid_held a b c k page text t p is_text ended few full waits idle =
     let doc = page_item manner base past k text in
     let later = later_is old t.raws k t.counted t.count in
     let begins = begins_more (unread start) (ahead old before) (ahead new after) t.raws p.raw p.used (reader_is_later old) later t.begins p.told in
@@ -258,6 +260,9 @@ halted s size manner base past start old new before after held mid_held a b c k 
           (batch_halts size manner (first ++ text_items manner base past 0 t.texts) (page_part manner.binding (page_name manner.binding base past.made k) k text) mid_held a b c
           (pages_in-page manner.binding (page_name manner.binding base past.made k) k text) (t.holds first are)
           (λ left held. subst (λ v. HasEnded v (left ++ doc ∷ []) b c) is (ended left held)) (full is));
+      in_memory = λ is first are. subst (λ l. RunsOutIn size l a c) (items_more manner base past first t.texts text k (t.count ∙ converted_length manner t.raws t.texts t.converted))
+          (batch_out size manner (first ++ text_items manner base past 0 t.texts) (doc ∷ []) mid_held a b c (t.holds first are) (idle is)
+          (let one = pages_in-page manner.binding (page_name manner.binding base past.made k) k text in omega (arith, one, waits)));
       ended = λ first are. subst (λ l. HasEnded s l a c) (items_more manner base past first t.texts text k (t.count ∙ converted_length manner t.raws t.texts t.converted))
           (ended_behind s manner.binding size manner.belongs (first ++ text_items manner base past 0 t.texts) (doc ∷ []) mid_held a b c (t.holds first are) ended);
     }

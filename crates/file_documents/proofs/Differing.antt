@@ -14,6 +14,12 @@ done_not_unwritten e = cc
 pub out_not_unwritten : status.OutOfMemory ≡ status.Unwritten → ⊥
 out_not_unwritten e = cc
 
+pub unread_not_out : status.Unread ≡ status.OutOfMemory → ⊥
+unread_not_out e = cc
+
+pub done_not_out : status.Done ≡ status.OutOfMemory → ⊥
+done_not_out e = cc
+
 pub refused_not_done : status.Refused ≡ status.Done → ⊥
 refused_not_done e = cc
 

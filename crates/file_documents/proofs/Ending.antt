@@ -104,7 +104,7 @@ left_of (Some files) start (Some now) name taken opened there contents named tol
     }
 
 -- the same of how near it is read
-near_of : (told start now : Option Files) (name : List ℕ) (raws : List Raw) → start ≡ with_file told name → (Lacks told name → ⊥)
+pub near_of : (told start now : Option Files) (name : List ℕ) (raws : List Raw) → start ≡ with_file told name → (Lacks told name → ⊥)
     → told_contents now ≡ told_contents start → opened_name now ≡ opened_name start
     → IfSome (unread start) (λ bytes. (left : List ℕ) × (unread now ≡ Some left) × ReadsNear bytes raws left)
     → (rest : List ℕ) × IfSome now (λ files. files.opened ≡ Some (record { name = name; rest = rest })) × ReadsFileNear (told_contents told) name raws rest

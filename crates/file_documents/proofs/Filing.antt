@@ -163,6 +163,11 @@ pub halts_unwritten : (s : Status) (size : ℕ) (manner : Manner) (base : List �
     → Halts s size manner base past start now held a b → Halts status.Unwritten size manner base past start now held a b
 halts_unwritten s size manner base past start now held a b is t = subst (λ (v : Status). Halts v size manner base past start now held a b) is t
 
+-- or where memory ran out
+pub halts_out : (s : Status) (size : ℕ) (manner : Manner) (base : List ℕ) (past : Past) (start now : Option Files) (held : List Held) (a b : Sinks) → s ≡ status.OutOfMemory
+    → Halts s size manner base past start now held a b → Halts status.OutOfMemory size manner base past start now held a b
+halts_out s size manner base past start now held a b is t = subst (λ (v : Status). Halts v size manner base past start now held a b) is t
+
 -- the same where the reading halted
 pub record IsBehind (contents : Option Contents) (name : List ℕ) (raws : List Raw) : Type 0 where
   pub rest : Option (List ℕ)
@@ -269,19 +274,22 @@ module _ (contents : Option Contents) (manner : Manner) (name : List ℕ) (past 
     pages_of (why.Fault fault.NoMemory) t done = absurd (let no : status.OutOfMemory ≡ status.Done = done in cc)
     pages_of (why.Fault f) t done = absurd (let no : status.Refused ≡ status.Done = done in cc)
 
-    -- the run goes on behind the file
-    pub file_goes_on : (end : PagesEnd) → ConvertedTo end → (held_now : List Held) (c : Sinks)
+    -- the run goes on behind the file, whose items are those of its pages and of its end
+    pub file_goes_on : (end : PagesEnd) (t : ConvertedTo end) (held_now : List Held) (c : Sinks)
         → ((left : List Item) → AreHeld manner.binding manner.belongs held_mid left
         → Holds manner.binding size manner.belongs (left ++ items_at_end manner name base past end k) held_now b c) → status_of end ≡ status.Done
-        → ConvertsFile size contents manner name past behind_file held held_now a c
+        → (file : ConvertsFile size contents manner name past behind_file held held_now a c)
+        × (file.items ≡ text_items manner base past 0 t.texts ++ items_at_end manner name base past end k)
     file_goes_on end t held_now c behind done =
-        let last = items_at_end manner name base past end k in
-        record {
-          items = text_items manner base past 0 t.texts ++ last;
-          are = inr (items_of end t done);
-          holds = λ first are. subst (λ l. Holds manner.binding size manner.belongs l held_now a c) (append_assoc first (text_items manner base past 0 t.texts) last)
-              (holds_on manner.binding size manner.belongs (first ++ text_items manner base past 0 t.texts) last held_mid held_now a b c (t.holds first are) behind);
-        }
+        let last = items_at_end manner name base past end k in (
+          record {
+            items = text_items manner base past 0 t.texts ++ last;
+            are = inr (items_of end t done);
+            holds = λ first are. subst (λ l. Holds manner.binding size manner.belongs l held_now a c) (append_assoc first (text_items manner base past 0 t.texts) last)
+                (holds_on manner.binding size manner.belongs (first ++ text_items manner base past 0 t.texts) last held_mid held_now a b c (t.holds first are) behind);
+          },
+          refl,
+        )
 
     -- its pages, and a refusal
     abbrev AreRefused : List (List ℕ) → List (List ℕ) → List ℕ → Type 0

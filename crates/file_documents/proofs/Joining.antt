@@ -87,7 +87,7 @@ items_join contents manner F back mid after follow front past before goes are =
           let Q : List Item → Type 0 = λ l. AreItems contents manner F back mid (l ++ after) in
           subst P (sym same) (subst Q (sym none) follow)
 
-opened_on : (n k l m o : ℕ) → m ≡ min (l + n) last_count → o ≡ min (m + (k + 1)) last_count → o ≡ min (l + (n + k + 1)) last_count
+pub opened_on : (n k l m o : ℕ) → m ≡ min (l + n) last_count → o ≡ min (m + (k + 1)) last_count → o ≡ min (l + (n + k + 1)) last_count
 opened_on n k l m o e f = omega (arith, e, f)
 
 opened_behind : (n k l m o : ℕ) → m ≡ min (l + n) last_count → o ≡ min (m + k) last_count → o ≡ min (l + (n + k)) last_count

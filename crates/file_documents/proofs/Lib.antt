@@ -7,6 +7,8 @@ pub mod Filing
 pub mod Finishing
 pub mod OnePass
 pub mod Joining
+pub mod LastBatch
+pub mod Losing
 pub mod Keeping
 pub mod OneItems
 pub mod Paging

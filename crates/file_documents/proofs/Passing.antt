@@ -58,7 +58,7 @@ pass_unopened size some manner can name past held source source_now a c few caus
 ]
 
 -- the run goes on after pages
-pages_go_on : (manner : Manner) (base : List ℕ) (past : Past) (pages : ℕ) (texts : List (List ℕ)) → GoesOn (text_items manner base past pages texts)
+pub pages_go_on : (manner : Manner) (base : List ℕ) (past : Past) (pages : ℕ) (texts : List (List ℕ)) → GoesOn (text_items manner base past pages texts)
 pages_go_on manner base past pages [] = tt
 pages_go_on manner base past pages (text ∷ texts) = pages_go_on manner base past (suc pages) texts
 

@@ -1,9 +1,10 @@
 -- Files converted one after another.
-use Rattle.std.proofs.Common.{◌≡◌, ◌<◌, ℕ, ◌+◌, false, min, List, [], ◌∷◌, ◌++◌, length, take, drop, get_or, Option, IfSome, inr, refl, sym, ◌∙◌, ap, subst, append-nil, arith}
+use Rattle.std.proofs.Common.{◌≡◌, ◌<◌, ℕ, ◌+◌, false, min, List, [], ◌∷◌, ◌++◌, length, take, drop, get_or, Option, IfSome, inl, inr, refl, sym, ◌∙◌, ap, subst, append-nil, arith}
 use Rattle.std.proofs.lemmas.List.{length-take-le, take-append-drop, take_more}
 use Rattle.pt_core.specs.Counts.{last_count, next_count}
 use Rattle.pt_core.specs.Files.{Contents}
 use Rattle.run_output.specs.Made.{Past, no_past}
+use Rattle.run_output.specs.Messages.{out_of_memory}
 use Rattle.run_output.specs.Inner.Parts.{is_begun}
 use Rattle.run_output.specs.declared.part.Binding.{Binding}
 use Rattle.run_output.specs.declared.part.Binding.TheVariants.{Apart, Together}
@@ -19,11 +20,14 @@ use Rattle.page_batches.proofs.Carrying.{carried_on, ended_on}
 use Rattle.page_batches.proofs.Holding.{all_held, holds_goes_on, holds_on}
 use Rattle.file_documents.specs.FileItems.{AreItems, Nothing}
 use Rattle.file_documents.specs.Manner.{Manner}
+use Rattle.file_documents.specs.LastBatch.{LosesBatch}
 use Rattle.file_documents.specs.OnePass.{IsOnePass}
 use Rattle.file_documents.specs.Outcome.{EndsNear, IsOutcomeBehind, LastEndsNear, OpensFirst, opened_name}
-use Rattle.file_documents.specs.Inner.Progress.{EndsWith, ConvertsFile}
+use Rattle.file_documents.specs.Inner.Progress.{EndsWith, ConvertsFile, LosesWithin}
 use Rattle.file_documents.proofs.Ending.{outcome_of_halt}
 use Rattle.file_documents.proofs.Joining.{items_join, near_on, one_pass_on, outcome_on}
+use Rattle.file_documents.proofs.LastBatch.{batch_held}
+use Rattle.file_documents.proofs.Losing.{lose_on}
 use Rattle.file_documents.proofs.OnePass.{part_halts, pass_of_part}
 
 -- these are the items of these files; the first are carried out, and the others are held
@@ -158,3 +162,32 @@ pub passes_after : (size : ℕ) → 0 < size → (contents : Option Contents) (m
 passes_after size some contents manner names past held source now a b c all few unwritten =
     pass_of_part size some [] contents manner names no_past source now a c all.items [] all.items (all_items size contents manner names past held a b all)
     (part_halts size manner all.items held a b c all.holds unwritten few) (sym (append-nil all.items)) refl
+
+-- and how far, where memory ran out in the i-th file
+pub loses_in : (size : ℕ) (contents : Option Contents) (manner : Manner) (names : List (List ℕ)) (i : ℕ) (name : List ℕ) (past : Past) (held : List Held) (source then now : Source) (a b c : Sinks)
+    → i < length names → name ≡ get_or names i name → AreDone size contents manner (take i names) past held a b → then.openings ≡ min (source.openings + i) last_count
+    → ((back : List (List ℕ)) (first : List Item) → AreHeld manner.binding manner.belongs held first → LosesWithin size first contents manner (name ∷ back) past then now b c)
+    → LosesBatch size contents manner names source now a c
+loses_in size contents manner names i name past held source then now a b c within is front openings loses =
+    let short : length (take i names) ≡ i = length-take-le i names (omega (arith, within)) in
+    let all = lose_on size contents manner (take i names) (name ∷ drop (i + 1) names) no_past past [] front.items held source then now a b c front.are front.holds
+    (rw short openings) (loses (drop (i + 1) names)) in
+    let here = subst (λ ns. LosesWithin size [] contents manner ns no_past source now a c) (sym (around names i name within is)) all in
+    record { items = here.items; are = here.are; out = here.out; batches = here.batches; whole = here.whole; no_farther = inr (inl here.reads) }
+
+-- all files are read, and memory ran out before what is held then was carried out
+pub loses_after : (size : ℕ) (contents : Option Contents) (manner : Manner) (names : List (List ℕ)) (past : Past) (held : List Held) (source now : Source) (a b c : Sinks)
+    → AreDone size contents manner names past held a b → pages_held held < size → AreCarriedOut [] (out_of_memory ∷ []) b c → LastEndsNear contents names now
+    → LosesBatch size contents manner names source now a c
+loses_after size contents manner names past held source now a b c all few idle near =
+    let p = batch_held size manner all.items held a b c all.holds idle few in
+    let most = p.most in
+    let whole = p.whole in
+    record {
+      items = all.items;
+      are = all_items size contents manner names past held a b all;
+      out = p.out;
+      batches = p.batches;
+      whole = whole;
+      no_farther = inr (inr (omega (arith, most, whole), near));
+    }

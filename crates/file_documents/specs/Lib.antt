@@ -3,4 +3,5 @@ pub mod FileItems
 pub mod Outcome
 pub mod Alike
 pub mod OnePass
+pub mod LastBatch
 pub mod Inner

@@ -1,12 +1,12 @@
 //! A whole file: opened, its pages read and held by batches, and how it ended said.
-ghost use Rattle.std.specs.Prelude.{◌≡◌, ◌*◌, ◌⊎◌, ◌++◌, List, OnOk, option_map};
+ghost use Rattle.std.specs.Prelude.{◌≡◌, ◌*◌, ◌⊎◌, ◌++◌, List, IfErr, OnOk, option_map};
 ghost use Rattle.run_output.specs.Names.{next_name};
 ghost use Rattle.run_output.specs.declared.status.Status.{Status};
 ghost use Rattle.page_batches.specs.Inner.Desks.{Keeps, sinks_at};
 ghost use Rattle.page_batches.specs.Held.{AreHeld};
 ghost use Rattle.page_batches.specs.Inner.Held.{end_held, end_notes};
 ghost use Rattle.page_batches.specs.Items.{Item, end_items};
-ghost use Rattle.page_batches.specs.Inner.ItemsDone.{IsHalt, ended_with};
+ghost use Rattle.page_batches.specs.Inner.ItemsDone.{IsHalt, IsIdle, ended_with};
 ghost use Rattle.file_documents.specs.Manner.{HasTexts};
 ghost use Rattle.run_output.specs.Told.{source_of};
 ghost use Rattle.file_documents.specs.Inner.Progress.{AsksFor, CanHold, EndsFile, EndsHeld, EndsWithPages, GoesOnAfter, status_of};
@@ -98,6 +98,7 @@ fn end_unopened<R: Threads + Sync, J: PageJob + Sync, G: Gate + Sync, O: Outputs
         → EndsUnopened name.now result first
         (sinks_at O.Sink E.Sink desk.old) (sinks_at O.Sink E.Sink desk.new) }
     ensures status { (result ≡ Status.Unread) ⊎ IsHalt result }
+    ensures idle { IsIdle result (sinks_at O.Sink E.Sink desk.old) (sinks_at O.Sink E.Sink desk.new) }
     ensures keeps { Keeps O.Sink E.Sink desk.old desk.new }
 {
     match batch.carry_out(&task.plan, desk) {
@@ -128,6 +129,8 @@ fn finish<R: Threads + Sync, J: PageJob + Sync, G: Gate + Sync, O: Outputs, E: S
         base.now made.now converted.end converted.pages first batch.new
         (sinks_at O.Sink E.Sink desk.old) (sinks_at O.Sink E.Sink desk.new) }
     ensures because { GoesOnAfter result converted.end }
+    ensures idle { IfErr result (λ status. IsIdle status
+        (sinks_at O.Sink E.Sink desk.old) (sinks_at O.Sink E.Sink desk.new)) }
     ensures going { OnOk result (CanHold O.Sink E.Sink task.now.plan.binding (2 * task.now.plan.workers) 0
         desk.new batch.new) }
     ensures keeps { Keeps O.Sink E.Sink desk.old desk.new }

@@ -9,7 +9,7 @@ ghost use Rattle.page_batches.specs.Held.{AreHeld};
 ghost use Rattle.page_batches.specs.Inner.Held.{EndsHolding, pages_held};
 ghost use Rattle.page_batches.specs.Items.{Item};
 ghost use Rattle.page_batches.specs.Items.Item.{Write};
-ghost use Rattle.page_batches.specs.Inner.ItemsDone.{IsHalt};
+ghost use Rattle.page_batches.specs.Inner.ItemsDone.{IsHalt, IsIdle};
 ghost use Rattle.file_documents.specs.Manner.{HasTexts};
 ghost use Rattle.run_output.specs.Told.{source_of};
 ghost use Rattle.file_documents.specs.Inner.Progress.{Answered, CanHold, CanRead, EndsPages, EndsReading, FaultsBy, IsAtStart, OpensNoFile, TakesBytes};
@@ -118,6 +118,8 @@ fn hold_page<R: Threads + Sync, J: PageJob + Sync, G: Gate + Sync, O: Outputs, E
         (sinks_at O.Sink E.Sink desk.old) (sinks_at O.Sink E.Sink desk.new) }
     ensures halts { IfErr result (λ status. IsHalt status
         × (status ≡ Status.Unwritten → pages_held batch.old + 1 ≡ 2 * task.now.plan.workers)) }
+    ensures idle { IfErr result (λ status. IsIdle status
+        (sinks_at O.Sink E.Sink desk.old) (sinks_at O.Sink E.Sink desk.new)) }
     ensures going { OnOk result (CanHold O.Sink E.Sink task.now.plan.binding (2 * task.now.plan.workers) (suc before)
         desk.new batch.new) }
     ensures keeps { Keeps O.Sink E.Sink desk.old desk.new }

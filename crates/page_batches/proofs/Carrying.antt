@@ -209,3 +209,7 @@ ended_more status.Refused (inl is) items more a b e = absurd (let no : status.Re
 ended_more status.Refused (inr is) items more a b e = absurd (let no : status.Refused ≡ status.OutOfMemory = is in cc)
 ended_more status.BadWords which items more a b e = absurd e
 ended_more status.Unread which items more a b e = absurd e
+
+-- a document that couldn't be written is no want of memory
+pub unwritten_not_out : status.Unwritten ≡ status.OutOfMemory → ⊥
+unwritten_not_out e = cc

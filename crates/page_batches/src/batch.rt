@@ -10,7 +10,7 @@ ghost use Rattle.page_batches.specs.Inner.Held.{AreInTurn, EndsHolding, HoldsMor
 ghost use Rattle.page_batches.specs.Held.Held.{End, Message, Page};
 ghost use Rattle.page_batches.specs.Items.{Item};
 ghost use Rattle.page_batches.specs.Items.Item.{Write};
-ghost use Rattle.page_batches.specs.Inner.ItemsDone.{EndsWriting, IsHalt, ended_with};
+ghost use Rattle.page_batches.specs.Inner.ItemsDone.{EndsWriting, IsHalt, IsIdle, ended_with};
 ghost use Rattle.page_batches.specs.ItemsDone.{HasEnded};
 
 use crate::desk::Desk;
@@ -177,6 +177,8 @@ impl Batch {
         ensures halts { IfErr result IsHalt }
         ensures full { IfErr result (λ status. status ≡ Status.Unwritten
             → pages_held self.old + 1 ≡ 2 * plan.now.workers) }
+        ensures idle { IfErr result (λ status. IsIdle status
+            (sinks_at O.Sink E.Sink desk.old) (sinks_at O.Sink E.Sink desk.new)) }
         ensures waits { OnOk result (Waits plan.now.binding (2 * plan.now.workers) (suc before)
             (O.is_ready desk.new.outs.now) self.new) }
         ensures keeps { Keeps O.Sink E.Sink desk.old desk.new }
@@ -205,6 +207,8 @@ impl Batch {
         // Whichever items are those of what was held, they are carried out, as far as the status says.
         ensures ended { (items : List Item) → AreHeld plan.now.binding (J.belongs plan.now.job.now) self.old items
             → HasEnded (ended_with result) items (sinks_at O.Sink E.Sink desk.old) (sinks_at O.Sink E.Sink desk.new) }
+        ensures idle { IfErr result (λ status. IsIdle status
+            (sinks_at O.Sink E.Sink desk.old) (sinks_at O.Sink E.Sink desk.new)) }
         ensures left { LeavesBatch result plan.now.binding (O.is_ready desk.old.outs.now) (O.is_ready desk.new.outs.now)
             self.old self.new }
         ensures keeps { Keeps O.Sink E.Sink desk.old desk.new }

@@ -24,9 +24,10 @@ use Rattle.file_documents.specs.Manner.{HasTexts, Manner}
 use Rattle.file_documents.specs.Outcome.{IsOutcome, LastEndsNear}
 use Rattle.file_documents.proofs.Closing.{AreWhole-front, alone_end, carried_closed, items_end, nothing_ends}
 use Rattle.file_documents.proofs.Exists.{items_found}
+use Rattle.file_documents.proofs.Losing.{lose_none}
 use Rattle.file_documents.proofs.OneEnd.{missing_items}
 use Rattle.potrace_main.proofs.Found.{demo_found}
-use Rattle.potrace_main.specs.Run.{AreItemsOf, BindsApart, EndsMissing, EndsRefused, FailureCount, IsComplete, IsMissing, IsOutcomeOf, manner_under, names_of}
+use Rattle.potrace_main.specs.Run.{AreItemsOf, BindsApart, EndsMissing, EndsRefused, FailureCount, IsComplete, IsMissing, IsOutcomeOf, LosesBatchOf, manner_under, names_of}
 use Rattle.potrace_main.specs.Inner.Run.{IsRun, OutputsMove}
 use Rattle.potrace_main.specs.Usage.{help_text, version_text}
 
@@ -203,6 +204,14 @@ out_at_once law (asks.Demo pages workers settings) source a b can done =
 out_at_once law (asks.Files names output workers settings) source a b can done =
     let items = items_found (told_contents source.files) (manner_under settings output) (law settings can.0.document output) names no_past in
     (items.0, items.1, record { before = []; after = items.0; split = refl; done = done })
+
+-- and no file was opened
+pub lost_at_once : HaveDocuments → (ask : Ask) (source : Source) (a b : Sinks) → CanBeDone ask → AreCarriedOut [] (out_of_memory ∷ []) a b → LosesBatchOf ask source source a b
+lost_at_once law asks.Help source a b can done = tt
+lost_at_once law asks.Version source a b can done = tt
+lost_at_once law (asks.Demo pages workers settings) source a b can done = tt
+lost_at_once law (asks.Files names output workers settings) source a b can done =
+    lose_none (2 * workers) (told_contents source.files) (manner_under settings output) (law settings can.0.document output) names source source a b refl refl done
 
 -- How the outputs moved, by the outcome.
 

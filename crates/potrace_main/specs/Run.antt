@@ -19,6 +19,7 @@ use Rattle.page_batches.specs.ItemsDone.{AreCarriedOut, HasEnded}
 use Rattle.run_output.specs.Told.{Sinks, Source}
 use Rattle.file_documents.specs.FileItems.{AreItems, IsAbsent, Nothing, told_contents}
 use Rattle.file_documents.specs.Manner.{Manner, manner_by}
+use Rattle.file_documents.specs.LastBatch.{LosesBatch}
 use Rattle.file_documents.specs.OnePass.{IsOnePass}
 use Rattle.file_documents.specs.Outcome.{IsOutcome}
 use Rattle.page_trace.specs.Document.{IsDocument}
@@ -109,3 +110,12 @@ IsOnePassOf asks.Version source source_now old new = Unit {0}
 IsOnePassOf (asks.Demo pages workers settings) source source_now old new = Unit {0}
 IsOnePassOf (asks.Files names output workers settings) source source_now old new =
     IsOnePass (2 * workers) [] (told_contents source.files) (manner_under settings output) names no_past source source_now old new
+
+-- where memory ran out over files, whole batches are carried out, and at most one batch more was read: it has twice as many
+-- pages as there are workers
+abbrev pub LosesBatchOf : Ask → Source → Source → Sinks → Sinks → Type 0
+LosesBatchOf asks.Help source source_now old new = Unit {0}
+LosesBatchOf asks.Version source source_now old new = Unit {0}
+LosesBatchOf (asks.Demo pages workers settings) source source_now old new = Unit {0}
+LosesBatchOf (asks.Files names output workers settings) source source_now old new =
+    LosesBatch (2 * workers) (told_contents source.files) (manner_under settings output) names source source_now old new

@@ -13,7 +13,7 @@ ghost use Rattle.page_batches.specs.ItemsDone.{HasEnded};
 ghost use Rattle.run_output.specs.Told.{sinks_of, source_of};
 ghost use Rattle.file_documents.specs.FileItems.{IsAbsent, told_contents};
 ghost use Rattle.file_documents.specs.Outcome.{LastEndsNear, OpensFirst, InputCount};
-ghost use Rattle.potrace_main.specs.Run.{AreItemsOf, BindsApart, FailureCount, IsCodeOf, IsComplete, IsMissing, IsOnePassOf, IsOutcomeOf, RefusesWords, names_of};
+ghost use Rattle.potrace_main.specs.Run.{AreItemsOf, BindsApart, FailureCount, IsCodeOf, IsComplete, IsMissing, IsOnePassOf, IsOutcomeOf, LosesBatchOf, RefusesWords, names_of};
 ghost use Rattle.potrace_main.specs.Inner.Run.{IsRun, IsRunBy};
 
 use crate::demo::demo_text;
@@ -84,6 +84,12 @@ pub fn run<R: Threads + Sync, I: Inputs, O: Outputs, E: Sink, G: Gate + Sync>(
     // Where a document couldn't be written, no more was read than its batch.
     ensures one_pass { (ask : Ask) → IsAsked (map string_bytes words.now) ask
         → result ≡ code_of Status.Unwritten → IsOnePassOf ask
+        (source_of I.Inputs inputs.old) (source_of I.Inputs inputs.new)
+        (sinks_of O.Sink E.Sink outs.old errs.old) (sinks_of O.Sink E.Sink outs.new errs.new) }
+
+    // Where memory ran out over files, whole batches are carried out, and at most one batch more was read.
+    ensures one_batch { (ask : Ask) → IsAsked (map string_bytes words.now) ask
+        → result ≡ code_of Status.OutOfMemory → LosesBatchOf ask
         (source_of I.Inputs inputs.old) (source_of I.Inputs inputs.new)
         (sinks_of O.Sink E.Sink outs.old errs.old) (sinks_of O.Sink E.Sink outs.new errs.new) }
 

@@ -23,15 +23,16 @@ use Rattle.run_output.specs.declared.status.Status.TheVariants as status
 use Rattle.page_batches.specs.Items.{Item, end_items, page_count}
 use Rattle.page_batches.specs.Held.{AreHeld, Held}
 use Rattle.page_batches.specs.Inner.Held.{Holds, Waits}
-use Rattle.page_batches.specs.ItemsDone.{AreCarriedOut, HasEnded, IsUnwritten}
+use Rattle.page_batches.specs.ItemsDone.{AreCarriedOut, HasEnded, IsOutOfMemory, IsUnwritten}
 use Rattle.page_batches.specs.Inner.ItemsDone.{IsHalt}
 use Rattle.run_output.specs.Told.{Sinks, Source}
 use Rattle.page_batches.specs.declared.desk.Desk.{Desk}
-use Rattle.file_documents.specs.FileItems.{AreItems, Rest, page_item, told_contents, too_many}
+use Rattle.file_documents.specs.FileItems.{AreItems, Nothing, Rest, page_item, told_contents, too_many}
 use Rattle.file_documents.specs.Manner.{Manner, shown_by}
 use Rattle.file_documents.specs.Inner.Outcome.{BeginsWith}
 use Rattle.file_documents.specs.Outcome.{EndsNear, IsOutcomeBehind, LeavesBehind, ReadsNear, StopsReading, is_later, opened_name}
 use Rattle.file_documents.specs.OnePass.{IsOnePass}
+use Rattle.file_documents.specs.LastBatch.{ReadsAtMost}
 use Rattle.file_documents.specs.declared.pages.PagesEnd.{PagesEnd}
 use Rattle.file_documents.specs.declared.pages.PagesEnd.TheVariants as why
 use Rattle.file_documents.specs.declared.pages.Converted.{Converted}
@@ -188,6 +189,22 @@ pub record IsInBatch (size : ℕ) (items : List Item) (old new : Sinks) : Type 0
   pub within : page_count unwritten.before < page_count items
   pub full : page_count items ≡ batches * size + size
 
+-- memory ran out behind whole batches, and the items hold one batch more at most
+pub record RunsOutIn (size : ℕ) (items : List Item) (old new : Sinks) : Type 0 where
+  pub out : IsOutOfMemory items old new
+  pub batches : ℕ
+  pub whole : page_count out.before ≡ batches * size
+  pub most : page_count items ≤ batches * size + size
+
+-- memory ran out in a file, behind these first items: whole batches are carried out, and at most one batch more was read
+pub record LosesWithin (size : ℕ) (first : List Item) (contents : Option Contents) (manner : Manner) (names : List (List ℕ)) (past : Past) (source source_now : Source) (old new : Sinks) : Type 0 where
+  pub items : List Item
+  pub are : AreItems contents manner Nothing names past items
+  pub out : IsOutOfMemory (first ++ items) old new
+  pub batches : ℕ
+  pub whole : page_count out.before ≡ batches * size
+  pub reads : ReadsAtMost (page_count out.before + size) first contents manner names past source source_now
+
 -- some pages were read, after what was made before; what was held before and these pages were carried out as far as the
 -- status says. Where a part couldn't be written it is one of a batch that ends with them, and at most 65,536 bytes
 -- behind them were taken.
@@ -200,6 +217,7 @@ pub record Halts (s : Status) (size : ℕ) (manner : Manner) (base : List ℕ) (
   pub ended : (first : List Item) → AreHeld manner.binding manner.belongs held first → HasEnded s (first ++ text_items manner base past 0 texts) old new
   pub some : raws ≢ []
   pub in_batch : s ≡ status.Unwritten → (first : List Item) → AreHeld manner.binding manner.belongs held first → IsInBatch size (first ++ text_items manner base past 0 texts) old new
+  pub in_memory : s ≡ status.OutOfMemory → (first : List Item) → AreHeld manner.binding manner.belongs held first → RunsOutIn size (first ++ text_items manner base past 0 texts) old new
   pub near : IfSome (unread before) (λ all. (behind : List ℕ) × (rest : List ℕ) × LeavesBehind false all raws behind × (unread now ≡ Some rest) × (length behind ≤ length rest + 65536))
 
 -- the reading of pages ended: with the file's pages, or within a batch that couldn't be carried out
@@ -271,7 +289,8 @@ GoesOnAfter (Err s) end = EndsBecause end s
 
 -- a file was converted: its items are carried out or held, its documents are counted, and it is read no farther than decides
 -- how its pages end; or the run ends there, whatever files come behind it and whichever items are those of what was held;
--- and where a document couldn't be written no more was read than its batch
+-- and where a document couldn't be written no more was read than its batch; and where memory ran out, no more than one
+-- batch behind what is carried out
 abbrev pub EndsFile : Result Unit Status → ℕ → Manner → List ℕ → Past → Past → List Held → List Held → Source → Source → Sinks → Sinks → Type 0
 EndsFile (Ok done) size manner name past past_now held held_now source source_now old new =
     ConvertsFile size (told_contents source.files) manner name past past_now held held_now old new × EndsNear (told_contents source.files) name source_now
@@ -279,3 +298,4 @@ EndsFile (Err s) size manner name past past_now held held_now source source_now 
     (names : List (List ℕ)) (first : List Item) → AreHeld manner.binding manner.belongs held first
     → IsOutcomeBehind s first (told_contents source.files) manner (name ∷ names) past source source_now old new
     × (s ≡ status.Unwritten → IsOnePass size first (told_contents source.files) manner (name ∷ names) past source source_now old new)
+    × (s ≡ status.OutOfMemory → LosesWithin size first (told_contents source.files) manner (name ∷ names) past source source_now old new)

@@ -1,10 +1,11 @@
 -- How calls end that carry out items.
 use Rattle.std.specs.Prelude.{◌≡◌, ℕ, ◌⊎◌, List, [], ◌∷◌, Result, Ok, Err}
+use Rattle.run_output.specs.Messages.{out_of_memory}
 use Rattle.run_output.specs.Parts.{end_part}
 use Rattle.run_output.specs.Told.{Sinks}
 use Rattle.run_output.specs.declared.status.Status.{Status}
 use Rattle.run_output.specs.declared.status.Status.TheVariants as status
-use Rattle.page_batches.specs.Items.{Item, notes}
+use Rattle.page_batches.specs.Items.{Item}
 use Rattle.page_batches.specs.Items.Item.{Write}
 use Rattle.page_batches.specs.ItemsDone.{AreCarriedOut, IsUnwritten}
 
@@ -27,3 +28,7 @@ ended_with (Err s) = s
 -- the run ends within items: a part isn't written, or memory runs out
 abbrev pub IsHalt : Status → Type 0
 IsHalt s = (s ≡ status.Unwritten) ⊎ (s ≡ status.OutOfMemory)
+
+-- where memory ran out nothing was carried out: that was said
+abbrev pub IsIdle : Status → Sinks → Sinks → Type 0
+IsIdle s old new = s ≡ status.OutOfMemory → AreCarriedOut [] (out_of_memory ∷ []) old new

@@ -9,7 +9,7 @@ use Rattle.command_asks.specs.Asked.{IsAsked}
 use Rattle.command_asks.specs.declared.ask.Ask.{Ask}
 use Rattle.run_output.specs.Told.{Sinks, Source, source_of}
 use Rattle.file_documents.specs.Outcome.{OpensFirst, InputCount}
-use Rattle.potrace_main.specs.Run.{IsOutcomeOf, names_of, RefusesWords, BindsApart, IsOnePassOf}
+use Rattle.potrace_main.specs.Run.{IsOutcomeOf, names_of, RefusesWords, BindsApart, IsOnePassOf, LosesBatchOf}
 
 -- how the outputs moved: where a document couldn't be written their count of faults rose, and one call failed, the last
 -- one; else no call failed, and the count stayed; and no document is open where this is so
@@ -24,6 +24,7 @@ pub record IsRun (ask : Ask) (s : Status) (source source_now : Source) (old new 
   pub opened : OpensFirst (names_of ask) source source_now
   pub input : InputCount s source.faults source_now.faults
   pub one_pass : s ≡ status.Unwritten → IsOnePassOf ask source source_now old new
+  pub one_batch : s ≡ status.OutOfMemory → LosesBatchOf ask source source_now old new
 
 -- all that a run does of these words: what they ask for; or they ask for nothing, and that is said. And each count of
 -- faults moved as the status says

@@ -1,6 +1,8 @@
 use Rattle.std.proofs.Common.{◌∙◌, ◌∷◌, ◌*◌, ℕ, List, Err, ap, refl, subst}
 use Rattle.pt_core.specs.Files.{Lacks}
 use Rattle.page_batches.specs.Inner.Desks.{sinks_at}
+use Rattle.run_output.specs.Messages.{out_of_memory}
+use Rattle.page_batches.proofs.Carrying.{only_said}
 use Rattle.page_batches.proofs.Counts.{same_count, some_room}
 use Rattle.page_batches.proofs.Desks.{keeps_on}
 use Rattle.file_documents.specs.FileItems.{told_contents}
@@ -11,8 +13,9 @@ use Rattle.file_documents.specs.Inner.Tasks.{manner_of}
 use Rattle.file_documents.proofs.Counting.{faults_from, input_by, rose_by}
 use Rattle.file_documents.proofs.Differing.{ok_not_err, out_not_unwritten}
 use Rattle.file_documents.proofs.Ending.{ends_at_once, ends_behind, file_ends, file_halted, file_near, input_count, input_of_halt, input_unopened, unopened_by, unopened_ends}
-use Rattle.file_documents.proofs.Filing.{file_goes_on, halts_named, halts_unwritten, has_bytes, converted_named}
+use Rattle.file_documents.proofs.Filing.{file_goes_on, halts_named, halts_out, halts_unwritten, has_bytes, converted_named}
 use Rattle.file_documents.proofs.Finishing.{end_named}
+use Rattle.file_documents.proofs.Losing.{lose_at_start, lose_behind, lose_ended, lose_halted, lose_unopened}
 use Rattle.file_documents.proofs.Passing.{pass_ended, pass_halted, pass_unopened}
 use Rattle.file_documents.proofs.Reading.{contents_through, contents_unopened, name-with_file, no_name}
 use Rattle.file_documents.proofs.file.convert_file.Goals as goal
@@ -30,6 +33,8 @@ returns-in-Err-clause-converted g c = λ names first are.
           c.end_unopened.result c.end_unopened.ensures.ends names first are,
       λ is. pass_unopened (2 * c.args.task.now.plan.workers) (some_room c.args.task.now.plan.workers c.args.task.now.plan.some_worker) manner c.requires.texts c.args.name.now c.args.made.now c.args.batch.now old now before after
           c.requires.going.waits.few cause c.end_unopened.result c.end_unopened.ensures.ends is names first are,
+      λ is. lose_unopened (2 * c.args.task.now.plan.workers) manner c.requires.texts c.args.name.now c.args.made.now c.args.batch.now old now before after
+          c.requires.going.waits.few c.in-Err.ensures.one_more c.in-Err.ensures.none_opened (c.end_unopened.ensures.idle is) names first are,
     )
 
 pub returns-in-Err-clause-asked : goal.returns-in-Err-clause-asked
@@ -49,6 +54,11 @@ returns-in_default-clause-converted g c = λ names first are. (
       (record { outs = refl; opened = refl })
       (record { said = c.say_out_of_memory.ensures.said; given_up = c.say_out_of_memory.ensures.given_up; never_falls = c.say_out_of_memory.ensures.never_falls }) first,
   λ is. absurd (out_not_unwritten is),
+  λ is. lose_at_start (2 * c.args.task.now.plan.workers) (manner_of g.J.PageJob c.args.task.now) c.requires.texts c.args.name.now c.args.made.now (g.I.Inputs.files c.open.new.self)
+      (source_of g.I.Inputs c.args.inputs.now) (source_of g.I.Inputs c.open.new.self) c.in-Ok.ensures.file (λ lacking. ok_not_err _ _ (c.in-Ok.ensures.absent.1 lacking)) c.in-Ok.ensures.one_more refl refl
+      c.args.batch.now _ _ refl c.requires.going.waits.few
+      (only_said out_of_memory _ _ (record { outs = refl; opened = refl })
+      (record { said = c.say_out_of_memory.ensures.said; given_up = c.say_out_of_memory.ensures.given_up; never_falls = c.say_out_of_memory.ensures.never_falls })) names first are,
 )
 
 pub returns-in_default-clause-asked : goal.returns-in_default-clause-asked
@@ -76,6 +86,9 @@ returns-in-Err-convert_pages-clause-converted g c = λ names first are.
       λ is. pass_halted (2 * c.args.task.now.plan.workers) (some_room c.args.task.now.plan.workers c.args.task.now.plan.some_worker) manner c.requires.texts c.args.name.now c.args.made.now start old now
           c.in-Ok.ensures.file there (c.convert_pages.ensures.stays.openings ∙ c.in-Ok.ensures.one_more) c.convert_pages.ensures.stays.contents c.convert_pages.ensures.stays.name
           c.args.batch.now before mid (halts_unwritten c.in-Err-convert_pages.status size manner base c.args.made.now start now.files c.args.batch.now before mid is halts) names first are,
+      λ is. lose_halted size manner c.requires.texts c.args.name.now c.args.made.now start old now
+          c.in-Ok.ensures.file there (c.convert_pages.ensures.stays.openings ∙ c.in-Ok.ensures.one_more) c.convert_pages.ensures.stays.contents c.convert_pages.ensures.stays.name
+          c.args.batch.now before mid (halts_out c.in-Err-convert_pages.status size manner base c.args.made.now start now.files c.args.batch.now before mid is halts) names first are,
     )
 
 pub returns-in-Err-convert_pages-clause-asked : goal.returns-in-Err-convert_pages-clause-asked
@@ -111,6 +124,10 @@ returns-in-Err-finish-clause-converted g c = λ names first are.
           c.in-Ok.ensures.file there (c.convert_pages.ensures.stays.openings ∙ c.in-Ok.ensures.one_more) c.convert_pages.ensures.stays.contents c.convert_pages.ensures.stays.name
           c.in-Ok-convert_pages.converted.pages c.args.batch.now c.convert_pages.new.batch before mid after end rose converted c.in-Ok-convert_pages.ensures.going.waits.few
           (rw is at c.in-Err-finish.ensures.ended) (c.in-Err-finish.ensures.because.unwritten is) names first are,
+      λ is. lose_ended size manner c.requires.texts c.args.name.now c.args.made.now start old now
+          c.in-Ok.ensures.file there (c.convert_pages.ensures.stays.openings ∙ c.in-Ok.ensures.one_more) c.convert_pages.ensures.stays.contents c.convert_pages.ensures.stays.name
+          c.in-Ok-convert_pages.converted.pages c.args.batch.now c.convert_pages.new.batch before mid end converted after c.in-Ok-convert_pages.ensures.going.waits.few
+          (c.in-Err-finish.ensures.idle is) names first are,
     )
 
 pub returns-in-Err-finish-clause-asked : goal.returns-in-Err-finish-clause-asked
@@ -147,7 +164,7 @@ returns-in-Ok-add-clause-converted g c =
           c.args.batch.now c.convert_pages.new.batch before mid (has_bytes told start c.args.name.now c.in-Ok.ensures.file there) c.in-Ok-convert_pages.converted.end converted c.finish.new.batch after
           (end_named size manner c.args.name.now c.deref-2.result.now base c.args.made.now c.in-Ok-convert_pages.converted.end c.in-Ok-convert_pages.converted.pages c.convert_pages.new.batch c.finish.new.batch
           mid after (c.deref-2.ensures ∙ c.in-Ok-base_name.ensures) (λ left are. c.in-Ok-finish.ensures.ended left are))
-          c.in-Ok-finish.ensures.because),
+          c.in-Ok-finish.ensures.because).0,
       file_near size manner c.requires.texts c.args.name.now c.args.made.now start c.in-Ok-convert_pages.converted.pages c.args.batch.now c.convert_pages.new.batch (source_of g.I.Inputs c.args.inputs.now) (source_of g.I.Inputs c.convert_pages.new.inputs) before mid after
           c.in-Ok.ensures.file there (c.convert_pages.ensures.stays.openings ∙ c.in-Ok.ensures.one_more) c.convert_pages.ensures.stays.contents c.convert_pages.ensures.stays.name
           c.in-Ok-convert_pages.converted.end converted c.in-Ok-finish.ensures.because,
@@ -182,17 +199,24 @@ returns-in-Err-add-clause-converted g c = λ names first are.
     let size : ℕ = 2 * c.args.task.now.plan.workers in
     let base : List ℕ = base_by manner c.args.name.now in
     let now = g.I.Inputs.files c.convert_pages.new.inputs in
-    let converted = converted_named size manner c.deref.result.now base c.args.made.now start now c.args.batch.now c.convert_pages.new.batch before mid c.in-Ok-convert_pages.converted.pages c.in-Ok-convert_pages.converted.end (c.deref.ensures ∙ c.in-Ok-base_name.ensures) c.in-Ok-convert_pages.ensures.converted in (
+    let converted = converted_named size manner c.deref.result.now base c.args.made.now start now c.args.batch.now c.convert_pages.new.batch before mid c.in-Ok-convert_pages.converted.pages c.in-Ok-convert_pages.converted.end (c.deref.ensures ∙ c.in-Ok-base_name.ensures) c.in-Ok-convert_pages.ensures.converted in
+    let (file, same) = file_goes_on (told_contents told) manner c.args.name.now c.args.made.now size start now c.in-Ok-convert_pages.converted.pages
+    c.args.batch.now c.convert_pages.new.batch before mid (has_bytes told start c.args.name.now c.in-Ok.ensures.file there) c.in-Ok-convert_pages.converted.end converted c.finish.new.batch after
+    (end_named size manner c.args.name.now c.deref-2.result.now base c.args.made.now c.in-Ok-convert_pages.converted.end c.in-Ok-convert_pages.converted.pages c.convert_pages.new.batch c.finish.new.batch
+    mid after (c.deref-2.ensures ∙ c.in-Ok-base_name.ensures) (λ left are. c.in-Ok-finish.ensures.ended left are))
+    c.in-Ok-finish.ensures.because in (
       ends_behind size (told_contents told) manner c.requires.texts c.args.name.now c.args.made.now _ c.args.batch.now c.finish.new.batch before after _
-          (file_goes_on (told_contents told) manner c.args.name.now c.args.made.now size start now c.in-Ok-convert_pages.converted.pages
-          c.args.batch.now c.convert_pages.new.batch before mid (has_bytes told start c.args.name.now c.in-Ok.ensures.file there) c.in-Ok-convert_pages.converted.end converted c.finish.new.batch after
-          (end_named size manner c.args.name.now c.deref-2.result.now base c.args.made.now c.in-Ok-convert_pages.converted.end c.in-Ok-convert_pages.converted.pages c.convert_pages.new.batch c.finish.new.batch
-          mid after (c.deref-2.ensures ∙ c.in-Ok-base_name.ensures) (λ left are. c.in-Ok-finish.ensures.ended left are))
-          c.in-Ok-finish.ensures.because)
+          file
           (record { outs = refl; opened = refl })
           (record { said = c.say_out_of_memory-in-Err-add.ensures.said; given_up = c.say_out_of_memory-in-Err-add.ensures.given_up; never_falls = c.say_out_of_memory-in-Err-add.ensures.never_falls })
           names first are,
       λ is. absurd (out_not_unwritten is),
+      λ is. lose_behind size manner c.requires.texts c.args.name.now c.args.made.now start (source_of g.I.Inputs c.args.inputs.now) (source_of g.I.Inputs c.convert_pages.new.inputs)
+          c.in-Ok.ensures.file there (c.convert_pages.ensures.stays.openings ∙ c.in-Ok.ensures.one_more) c.convert_pages.ensures.stays.contents c.convert_pages.ensures.stays.name
+          c.in-Ok-convert_pages.converted.pages c.args.batch.now c.convert_pages.new.batch before mid c.in-Ok-convert_pages.converted.end converted _ c.finish.new.batch after _ file _ same
+          c.in-Ok-finish.ensures.going.waits.few
+          (only_said out_of_memory _ _ (record { outs = refl; opened = refl })
+          (record { said = c.say_out_of_memory-in-Err-add.ensures.said; given_up = c.say_out_of_memory-in-Err-add.ensures.given_up; never_falls = c.say_out_of_memory-in-Err-add.ensures.never_falls })) names first are,
     )
 
 pub returns-in-Err-add-clause-asked : goal.returns-in-Err-add-clause-asked

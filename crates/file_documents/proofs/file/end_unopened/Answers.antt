@@ -1,4 +1,5 @@
 use Rattle.std.proofs.Common.{inl, inr, refl}
+use Rattle.file_documents.proofs.Differing.{unread_not_out}
 use Rattle.file_documents.proofs.Ending.{halts_in, unopened_said}
 use Rattle.file_documents.proofs.file.end_unopened.Goals as goal
 
@@ -18,6 +19,13 @@ returns-in-Err-clause-status g c = inr (halts_in c.in-Err.status _ _ _ _ _ c.in-
 
 pub returns-in-Ok-clause-status : goal.returns-in-Ok-clause-status
 returns-in-Ok-clause-status g c = inl refl
+
+-- then nothing is, where memory ran out
+pub returns-in-Err-clause-idle : goal.returns-in-Err-clause-idle
+returns-in-Err-clause-idle g c = c.in-Err.ensures.idle
+
+pub returns-in-Ok-clause-idle : goal.returns-in-Ok-clause-idle
+returns-in-Ok-clause-idle g c = λ is. absurd (unread_not_out is)
 
 -- the desk is the same
 pub returns-in-Ok-clause-keeps : goal.returns-in-Ok-clause-keeps

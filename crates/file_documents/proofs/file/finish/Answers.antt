@@ -2,13 +2,15 @@ use Rattle.std.proofs.Common.{◌≡◌, ◌⊎◌, ◌*◌, inl, inr, refl, rul
 use Rattle.run_output.specs.declared.status.Status.TheVariants as status
 use Rattle.page_batches.specs.Inner.Desks.{sinks_at}
 use Rattle.page_batches.proofs.Counts.{same_count}
-use Rattle.page_batches.proofs.Carrying.{memory_out}
+use Rattle.run_output.specs.Messages.{out_of_memory}
+use Rattle.page_batches.proofs.Carrying.{memory_out, only_said}
 use Rattle.file_documents.specs.Inner.Progress.{status_of}
 use Rattle.file_documents.specs.Inner.Tasks.{manner_of}
 use Rattle.file_documents.specs.declared.pages.PagesEnd.TheVariants as why
 use Rattle.file_documents.proofs.Differing.{out_not_unwritten, refused_not_done, refused_not_out}
 use Rattle.file_documents.proofs.Ending.{end_said, halts_in, not_done, not_out}
 use Rattle.file_documents.proofs.Finishing.{end_held_or_out, goes_on_or_out}
+use Rattle.file_documents.proofs.LastBatch.{idle_held}
 use Rattle.file_documents.proofs.file.finish.Goals as goal
 use Rattle.file_documents.proofs.file.finish.Goals.{in-Fault, in-TooMany}
 
@@ -74,6 +76,28 @@ returns-in-Ok-clause-because g c = elim c.match-converted.branch [
 -- or it isn't
 pub returns-in-Err-clause-ended : goal.returns-in-Err-clause-ended
 returns-in-Err-clause-ended g c = λ first are. inr (halts_in c.in-Err.status _ _ _ _ _ c.in-Err.ensures.left, c.in-Err.ensures.ended first are)
+
+-- where memory ran out, nothing is carried out
+pub returns-in-End-clause-idle : goal.returns-in-End-clause-idle
+returns-in-End-clause-idle g c = idle_held c.hold_end.result _ _ _ _ _ _ _ c.hold_end.ensures.held
+
+pub returns-in-Trailing-clause-idle : goal.returns-in-Trailing-clause-idle
+returns-in-Trailing-clause-idle g c = idle_held c.hold_end-in-Trailing.result _ _ _ _ _ _ _ c.hold_end-in-Trailing.ensures.held
+
+pub returns-in-Fault-NoMemory-clause-idle : goal.returns-in-Fault-NoMemory-clause-idle
+returns-in-Fault-NoMemory-clause-idle g c = λ is. only_said out_of_memory _ _ (record { outs = refl; opened = refl })
+    (record { said = c.say_out_of_memory.ensures.said; given_up = c.say_out_of_memory.ensures.given_up; never_falls = c.say_out_of_memory.ensures.never_falls })
+
+pub returns-in-Ok-clause-idle : goal.returns-in-Ok-clause-idle
+returns-in-Ok-clause-idle g c = λ is. absurd (elim c.match-converted.branch [
+  | in-TooMany w ↦ refused_not_out (rw w.status-is at is)
+  | in-Fault w ↦
+      let which : (status_of (why.Fault w.in-Fault.fault) ≡ status.Refused) ⊎ (status_of (why.Fault w.in-Fault.fault) ≡ status.Unread) = search rules in
+      not_out w.in-Fault.fault which (rw (w.status-is, w.status_of.ensures) at is)
+])
+
+pub returns-in-Err-clause-idle : goal.returns-in-Err-clause-idle
+returns-in-Err-clause-idle g c = c.in-Err.ensures.idle
 
 -- whether a further file can be read, and the desk, which is the same
 pub hold_end-requires-clause-going : goal.hold_end-requires-clause-going

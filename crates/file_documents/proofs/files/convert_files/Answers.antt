@@ -2,15 +2,18 @@ use Rattle.std.proofs.Common.{◌≡◌, ◌∙◌, ◌*◌, [], length, inl, re
 use Rattle.std.proofs.lemmas.List.{take_all}
 use Rattle.run_output.specs.Made.{no_past}
 use Rattle.page_batches.specs.Inner.Desks.{sinks_at}
+use Rattle.run_output.specs.Messages.{out_of_memory}
+use Rattle.page_batches.proofs.Carrying.{only_said}
 use Rattle.page_batches.proofs.Counts.{same_count, some_room}
 use Rattle.page_batches.proofs.Desks.{keeps_on}
 use Rattle.file_documents.specs.FileItems.{told_contents}
 use Rattle.run_output.specs.Told.{source_of}
 use Rattle.file_documents.specs.Inner.Tasks.{manner_of}
 use Rattle.file_documents.proofs.Counting.{input_from}
-use Rattle.file_documents.proofs.Differing.{done_not_unwritten, out_not_unwritten}
+use Rattle.file_documents.proofs.Differing.{done_not_out, done_not_unwritten, out_not_unwritten}
 use Rattle.file_documents.proofs.Ending.{ends_at_once, halts_in, input_of_halt}
-use Rattle.file_documents.proofs.Running.{all_done, ends_after, ends_in, none_begun, none_done, one_done, one_near, openings_more, opens_to, passes_after, passes_in}
+use Rattle.file_documents.proofs.Losing.{lose_none}
+use Rattle.file_documents.proofs.Running.{all_done, ends_after, ends_in, loses_after, loses_in, none_begun, none_done, one_done, one_near, openings_more, opens_to, passes_after, passes_in}
 use Rattle.file_documents.proofs.files.convert_files.Goals as goal
 
 -- no file is done yet
@@ -53,6 +56,10 @@ returns-in_default g c = record {
       (record { said = c.say_out_of_memory.ensures.said; given_up = c.say_out_of_memory.ensures.given_up; never_falls = c.say_out_of_memory.ensures.never_falls }) [];
   opened = inl (refl, refl);
   one_pass = λ is. absurd (out_not_unwritten is);
+  one_batch = λ is. lose_none (2 * c.args.task.now.plan.workers) (told_contents (g.I.Inputs.files c.args.inputs.now)) (manner_of g.J.PageJob c.args.task.now) c.requires.texts c.args.names.now
+      (source_of g.I.Inputs c.args.inputs.now) (source_of g.I.Inputs c.args.inputs.now) _ _ refl refl
+      (only_said out_of_memory _ _ (record { outs = refl; opened = refl })
+      (record { said = c.say_out_of_memory.ensures.said; given_up = c.say_out_of_memory.ensures.given_up; never_falls = c.say_out_of_memory.ensures.never_falls }));
   input = tt;
   keeps = record { outs = refl; errs = refl; ready = c.say_out_of_memory.ensures.stays_ready; never_falls = same_count (g.O.Sink.faults c.args.desk.now.outs.now) };
 }
@@ -72,6 +79,10 @@ returns-in-Err g c =
           passes_in (2 * c.args.task.now.plan.workers) (some_room c.args.task.now.plan.workers c.args.task.now.plan.some_worker) (told_contents (g.I.Inputs.files c.args.inputs.now)) (manner_of g.J.PageJob c.args.task.now) c.args.names.now c.loop-name.name-index c.name-item.result c.loop-name.made c.loop-name.batch (source_of g.I.Inputs c.args.inputs.now) (source_of g.I.Inputs c.loop-name.inputs) (source_of g.I.Inputs c.convert_file-converted.new.inputs)
           (sinks_at g.O.Sink g.E.Sink c.args.desk.now) (sinks_at g.O.Sink g.E.Sink c.loop-name.desk) (sinks_at g.O.Sink g.E.Sink c.convert_file-converted.new.desk)
           c.loop-name-test.true c.name-item.is c.loop-name.invariant.done c.loop-name.invariant.openings c.loop-name.invariant.input (λ back first are. (ends back first are).1 is);
+      one_batch = λ is.
+          loses_in (2 * c.args.task.now.plan.workers) (told_contents (g.I.Inputs.files c.args.inputs.now)) (manner_of g.J.PageJob c.args.task.now) c.args.names.now c.loop-name.name-index c.name-item.result c.loop-name.made c.loop-name.batch (source_of g.I.Inputs c.args.inputs.now) (source_of g.I.Inputs c.loop-name.inputs) (source_of g.I.Inputs c.convert_file-converted.new.inputs)
+          (sinks_at g.O.Sink g.E.Sink c.args.desk.now) (sinks_at g.O.Sink g.E.Sink c.loop-name.desk) (sinks_at g.O.Sink g.E.Sink c.convert_file-converted.new.desk)
+          c.loop-name-test.true c.name-item.is c.loop-name.invariant.done c.loop-name.invariant.openings (λ back first are. (ends back first are).2 is);
       input = input_from c.in-Err.status (g.I.Inputs.faults c.args.inputs.now) (g.I.Inputs.faults c.loop-name.inputs) (g.I.Inputs.faults c.convert_file-converted.new.inputs) c.loop-name.invariant.input c.in-Err.ensures.input;
       keeps = keeps_on g.O.Sink g.E.Sink c.args.desk.now c.loop-name.desk c.convert_file-converted.new.desk c.loop-name.invariant.keeps c.convert_file-converted.ensures.keeps;
     }
@@ -86,6 +97,7 @@ returns-in-Ok-carry_out g c =
           (rw (take_all c.loop-name.name-index c.args.names.now c.loop-name-test.false) at c.loop-name.invariant.near);
       opened = c.loop-name.invariant.opened;
       one_pass = λ is. absurd (done_not_unwritten is);
+      one_batch = λ is. absurd (done_not_out is);
       input = c.loop-name.invariant.input;
       keeps = keeps_on g.O.Sink g.E.Sink c.args.desk.now c.loop-name.desk c.carry_out.new.desk c.loop-name.invariant.keeps c.carry_out.ensures.keeps;
     }
@@ -102,6 +114,10 @@ returns g c =
       one_pass = λ is.
           passes_after (2 * c.args.task.now.plan.workers) (some_room c.args.task.now.plan.workers c.args.task.now.plan.some_worker) (told_contents (g.I.Inputs.files c.args.inputs.now)) (manner_of g.J.PageJob c.args.task.now) c.args.names.now c.loop-name.made c.loop-name.batch (source_of g.I.Inputs c.args.inputs.now) (source_of g.I.Inputs c.loop-name.inputs)
           (sinks_at g.O.Sink g.E.Sink c.args.desk.now) (sinks_at g.O.Sink g.E.Sink c.loop-name.desk) (sinks_at g.O.Sink g.E.Sink c.carry_out.new.desk) done c.loop-name.invariant.going.waits.few (rw is at c.in-Err-carry_out.ensures.ended);
+      one_batch = λ is.
+          loses_after (2 * c.args.task.now.plan.workers) (told_contents (g.I.Inputs.files c.args.inputs.now)) (manner_of g.J.PageJob c.args.task.now) c.args.names.now c.loop-name.made c.loop-name.batch (source_of g.I.Inputs c.args.inputs.now) (source_of g.I.Inputs c.loop-name.inputs)
+          (sinks_at g.O.Sink g.E.Sink c.args.desk.now) (sinks_at g.O.Sink g.E.Sink c.loop-name.desk) (sinks_at g.O.Sink g.E.Sink c.carry_out.new.desk) done c.loop-name.invariant.going.waits.few (c.in-Err-carry_out.ensures.idle is)
+          (rw (take_all c.loop-name.name-index c.args.names.now c.loop-name-test.false) at c.loop-name.invariant.near);
       input = input_of_halt c.in-Err-carry_out.status which (g.I.Inputs.faults c.args.inputs.now) (g.I.Inputs.faults c.loop-name.inputs);
       keeps = keeps_on g.O.Sink g.E.Sink c.args.desk.now c.loop-name.desk c.carry_out.new.desk c.loop-name.invariant.keeps c.carry_out.ensures.keeps;
     }

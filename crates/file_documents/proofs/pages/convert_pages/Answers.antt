@@ -51,7 +51,8 @@ returns-in-Err-hold_page-clause-converted g c =
       c.in-Err-hold_page.ensures.halts.0,
       halted c.in-Err-hold_page.status (2 * c.args.task.now.plan.workers) (manner_of g.J.PageJob c.args.task.now) c.args.base.now c.args.made.now (g.I.Inputs.files c.args.inputs.now) c.loop-pages.reader c.read_next.new.reader (g.I.Inputs.files c.loop-pages.inputs) (g.I.Inputs.files c.read_next.new.inputs)
           c.args.batch.now c.loop-pages.batch (sinks_at g.O.Sink g.E.Sink c.args.desk.now) (sinks_at g.O.Sink g.E.Sink c.loop-pages.desk) (sinks_at g.O.Sink g.E.Sink c.hold_page.new.desk) c.loop-pages.pages c.in-Ok.page document.0 c.loop-pages.invariant.converted c.in-Ok.ensures.answer.0 document.1
-          (λ left are. rw named (ended_by c.in-Err-hold_page.status c.args.task.now.plan.binding (2 * c.args.task.now.plan.workers) _ _ c.hold_page.new.batch (sinks_at g.O.Sink g.E.Sink c.loop-pages.desk) (sinks_at g.O.Sink g.E.Sink c.hold_page.new.desk) (c.in-Err-hold_page.ensures.held left are document.0 document.1))) (omega arith) c.in-Err-hold_page.ensures.halts.1,
+          (λ left are. rw named (ended_by c.in-Err-hold_page.status c.args.task.now.plan.binding (2 * c.args.task.now.plan.workers) _ _ c.hold_page.new.batch (sinks_at g.O.Sink g.E.Sink c.loop-pages.desk) (sinks_at g.O.Sink g.E.Sink c.hold_page.new.desk) (c.in-Err-hold_page.ensures.held left are document.0 document.1))) (omega arith) c.in-Err-hold_page.ensures.halts.1
+          c.loop-pages.invariant.going.waits.few c.in-Err-hold_page.ensures.idle,
     )
 
 pub returns-in-Err-hold_page-clause-stays : goal.returns-in-Err-hold_page-clause-stays

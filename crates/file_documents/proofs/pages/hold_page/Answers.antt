@@ -1,5 +1,6 @@
 use Rattle.std.proofs.Common.{inr, refl}
-use Rattle.page_batches.proofs.Carrying.{memory_out}
+use Rattle.run_output.specs.Messages.{out_of_memory}
+use Rattle.page_batches.proofs.Carrying.{memory_out, only_said}
 use Rattle.page_batches.proofs.Counts.{same_count}
 use Rattle.file_documents.proofs.Differing.{out_not_unwritten}
 use Rattle.file_documents.proofs.pages.hold_page.Goals as goal
@@ -8,6 +9,13 @@ use Rattle.file_documents.proofs.pages.hold_page.Goals as goal
 pub returns-in_default-clause-held : goal.returns-in_default-clause-held
 returns-in_default-clause-held g c = λ items are text is. memory_out _ _ _ (record { outs = refl; opened = refl })
     (record { said = c.say_out_of_memory.ensures.said; given_up = c.say_out_of_memory.ensures.given_up; never_falls = c.say_out_of_memory.ensures.never_falls })
+
+pub returns-in_default-clause-idle : goal.returns-in_default-clause-idle
+returns-in_default-clause-idle g c = λ is. only_said out_of_memory _ _ (record { outs = refl; opened = refl })
+    (record { said = c.say_out_of_memory.ensures.said; given_up = c.say_out_of_memory.ensures.given_up; never_falls = c.say_out_of_memory.ensures.never_falls })
+
+pub returns-clause-idle : goal.returns-clause-idle
+returns-clause-idle g c = c.hold_page.ensures.idle
 
 -- the page is held
 pub returns-clause-held : goal.returns-clause-held

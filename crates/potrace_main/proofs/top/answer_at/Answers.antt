@@ -7,7 +7,7 @@ use Rattle.command_asks.proofs.OneAsk.{one_ask}
 use Rattle.command_asks.proofs.Possible.{possible}
 use Rattle.page_batches.proofs.Carrying.{only_said}
 use Rattle.page_batches.proofs.Counts.{same_count}
-use Rattle.potrace_main.proofs.Completing.{asked_moves, never_refuses, out_at_once}
+use Rattle.potrace_main.proofs.Completing.{asked_moves, lost_at_once, never_refuses, out_at_once}
 use Rattle.potrace_main.proofs.top.answer_at.Goals as goal
 
 -- what the words ask for is done
@@ -39,6 +39,8 @@ returns-in-Err-NoMemory-clause-answered g c = record {
     opened = inl (refl, refl);
     input = tt;
     one_pass = λ e. absurd (let no : status.OutOfMemory ≡ status.Unwritten = e in cc);
+    one_batch = λ e. lost_at_once (λ settings can output page is. c.pages_have_documents.ensures page settings is can) ask _ _ _ (possible (map string_bytes c.args.words.now) ask asked)
+        (only_said out_of_memory _ _ (record { outs = refl; opened = refl }) (record { said = c.say_out_of_memory.ensures.said; given_up = c.say_out_of_memory.ensures.given_up; never_falls = c.say_out_of_memory.ensures.never_falls }));
   };
   bad_words = λ e. absurd (let no : status.OutOfMemory ≡ status.BadWords = e in cc);
   refused = λ none. (refl, only_said out_of_memory _ _ (record { outs = refl; opened = refl }) (record { said = c.say_out_of_memory.ensures.said; given_up = c.say_out_of_memory.ensures.given_up; never_falls = c.say_out_of_memory.ensures.never_falls }));

@@ -7,6 +7,7 @@ returns-in-Files-clause-ran g c = rw c.in-Files.is (record {
   opened = rw c.as_slice.ensures at c.convert_files.ensures.opened;
   input = c.convert_files.ensures.input;
   one_pass = λ is. rw (c.text_of-output.ensures, c.as_slice.ensures, c.from_micro.ensures, c.new-job.ensures, c.of.ensures, c.backend_suffix.ensures) at c.convert_files.ensures.one_pass is;
+  one_batch = λ is. rw (c.text_of-output.ensures, c.as_slice.ensures, c.from_micro.ensures, c.new-job.ensures, c.of.ensures, c.backend_suffix.ensures) at c.convert_files.ensures.one_batch is;
 })
 
 -- the desk is the same

@@ -31,6 +31,9 @@ returns-clause-near g c = λ ask asked is. run_near ask c.answer.result _ _ _ _ 
 pub returns-clause-one_pass : goal.returns-clause-one_pass
 returns-clause-one_pass g c = λ ask asked is. (c.answer.ensures.ran ask asked).one_pass (code_one c.answer.result _ (sym c.code.ensures ∙ is))
 
+pub returns-clause-one_batch : goal.returns-clause-one_batch
+returns-clause-one_batch g c = λ ask asked is. (c.answer.ensures.ran ask asked).one_batch (code_one c.answer.result _ (sym c.code.ensures ∙ is))
+
 pub returns-clause-unread : goal.returns-clause-unread
 returns-clause-unread g c = λ ask asked is.
     run_unread ask c.answer.result _ _ _ _ (c.answer.ensures.ran ask asked) (code_one c.answer.result _ (sym c.code.ensures ∙ is))

@@ -2,7 +2,8 @@ use Rattle.std.proofs.Common.{◌∙◌, length, ap, refl, arith}
 use Rattle.std.proofs.lemmas.Slice.Zip.{AllZip-long}
 use Rattle.page_batches.specs.Inner.Held.{is_open_held}
 use Rattle.page_batches.proofs.Batching.{items_are_held, open_by, pages_held-held_by, turn_by}
-use Rattle.page_batches.proofs.Carrying.{memory_out}
+use Rattle.run_output.specs.Messages.{out_of_memory}
+use Rattle.page_batches.proofs.Carrying.{memory_out, only_said, unwritten_not_out}
 use Rattle.page_batches.proofs.batch.Batch.carry_out.Goals as goal
 
 -- the pages that are held are those of the batch
@@ -15,6 +16,10 @@ trace_all-requires-clause-pages g c κs within =
 -- no page is traced
 pub returns-in_default-clause-ended : goal.returns-in_default-clause-ended
 returns-in_default-clause-ended g c = λ items held. memory_out _ _ _ (record { outs = refl; opened = refl })
+    (record { said = c.say_out_of_memory.ensures.said; given_up = c.say_out_of_memory.ensures.given_up; never_falls = c.say_out_of_memory.ensures.never_falls })
+
+pub returns-in_default-clause-idle : goal.returns-in_default-clause-idle
+returns-in_default-clause-idle g c = λ is. only_said out_of_memory _ _ (record { outs = refl; opened = refl })
     (record { said = c.say_out_of_memory.ensures.said; given_up = c.say_out_of_memory.ensures.given_up; never_falls = c.say_out_of_memory.ensures.never_falls })
 
 -- there is a text for each page
@@ -55,6 +60,12 @@ returns-clause-ended g c = λ items held.
     c.in-Ok.texts.items (rw (c.as_slice-pages.ensures.value) at c.in-Ok.ensures.texts) c.self.invariant in
     let same = c.held_items_are_one.ensures c.args.plan.now.binding _ items _ (rw (← c.self.view_is) at held) are in
     rw same (rw (c.deref.ensures.value, c.deref-2.ensures.value) at c.in-Err.ensures.written)
+
+pub returns-in-Ok-written-clause-idle : goal.returns-in-Ok-written-clause-idle
+returns-in-Ok-written-clause-idle g c = tt
+
+pub returns-clause-idle : goal.returns-clause-idle
+returns-clause-idle g c = λ is. absurd (unwritten_not_out is)
 
 -- the desk is the same
 pub returns-in-Ok-written-clause-keeps : goal.returns-in-Ok-written-clause-keeps

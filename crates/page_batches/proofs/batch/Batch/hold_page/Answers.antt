@@ -1,6 +1,7 @@
 use Rattle.std.proofs.Common.{◌∙◌, refl}
 use Rattle.std.proofs.lemmas.Result.{IfErr-weaker}
-use Rattle.page_batches.proofs.Carrying.{memory_out}
+use Rattle.run_output.specs.Messages.{out_of_memory}
+use Rattle.page_batches.proofs.Carrying.{memory_out, only_said}
 use Rattle.page_batches.proofs.Counts.{few_pages, same_count, some_room}
 use Rattle.page_batches.proofs.Holding.{all_held, filled, halts_by, held_or_ended, page_count-held, page_held, waits_on}
 use Rattle.page_batches.proofs.Waiting.{turn_page}
@@ -9,6 +10,10 @@ use Rattle.page_batches.proofs.batch.Batch.hold_page.Goals as goal
 -- no memory for the page
 pub returns-in_default-clause-held : goal.returns-in_default-clause-held
 returns-in_default-clause-held g c = λ first are text is. memory_out _ _ _ (record { outs = refl; opened = refl })
+    (record { said = c.say_out_of_memory.ensures.said; given_up = c.say_out_of_memory.ensures.given_up; never_falls = c.say_out_of_memory.ensures.never_falls })
+
+pub returns-in_default-clause-idle : goal.returns-in_default-clause-idle
+returns-in_default-clause-idle g c = λ is. only_said out_of_memory _ _ (record { outs = refl; opened = refl })
     (record { said = c.say_out_of_memory.ensures.said; given_up = c.say_out_of_memory.ensures.given_up; never_falls = c.say_out_of_memory.ensures.never_falls })
 
 -- the page is held
@@ -51,6 +56,12 @@ returns-clause-full g c =
     let is = c.in-Ok.ensures in
     let full = filled _ _ _ _ _ _ _ is c.count.ensures c.if-count-plan.false c.requires.waits.few in
     IfErr-weaker c.carry_out.result _ _ (λ status _ halted. full.1) (halts_by _ _ _ _ _ _ c.carry_out.ensures.left)
+
+pub returns-then-count-plan-clause-idle : goal.returns-then-count-plan-clause-idle
+returns-then-count-plan-clause-idle g c = tt
+
+pub returns-clause-idle : goal.returns-clause-idle
+returns-clause-idle g c = c.carry_out.ensures.idle
 
 pub returns-clause-waits : goal.returns-clause-waits
 returns-clause-waits g c =
