@@ -1,5 +1,5 @@
 -- What the outcome of a run says where no device failed, and of the causes of its status.
-use Rattle.std.proofs.Common.{◌≡◌, ◌≢◌, ◌<◌, ◌⊎◌, ℕ, zero, suc, false, List, [], ◌∷◌, ◌++◌, Option, None, Some, inl, inr, refl, sym, ◌∙◌, ap, subst, arith}
+use Rattle.std.proofs.Common.{◌≡◌, ◌≢◌, ◌*◌, ◌<◌, ◌⊎◌, ℕ, zero, suc, false, List, [], ◌∷◌, ◌++◌, Option, None, Some, inl, inr, refl, sym, ◌∙◌, ap, subst, arith}
 use Rattle.pt_core.specs.Counts.{Rose}
 use Rattle.pt_core.specs.Files.{Contents}
 use Rattle.pt_core.specs.declared.settings.Settings.{Settings}
