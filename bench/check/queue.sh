@@ -70,14 +70,16 @@ runuser -u munge -- /usr/sbin/munged
 slurmctld
 slurmd
 
-# Waits until a command is true, for a minute at most.
+# Waits until a command is true, for four minutes at most: Slurm looks for room when a task ends, and every half minute.
 wait_for() {
   local tries
-  for tries in $(seq 300); do
+  for tries in $(seq 1200); do
     if "$@"; then return; fi
     sleep 0.2
   done
   echo "queue: waited too long for: $*" >&2
+  sinfo -h >&2
+  squeue -h | head -n 20 >&2
   exit 1
 }
 is_idle() { [ "$(timeout 5 sinfo -h -o %T 2>/dev/null)" = idle ] && [ -z "$(timeout 5 squeue -h)" ]; }
@@ -133,7 +135,7 @@ cp "$1/system" "$1/system-2" root
 cp "$2" root/usr/bin/potrace
 exec chroot root bash /system
 INSIDE
-timeout -k 5 300 unshare -m -p -f --kill-child bash -eu "$work/start" "$work" "$program"
+timeout -k 5 900 unshare -m -p -f --kill-child bash -eu "$work/start" "$work" "$program"
 
 mkdir "$work/one"
 cp -r "$work/pages" "$work/one/scans"
