@@ -9,6 +9,7 @@ usage: pages.py KIND [NUMBER ..]
     logo SIZE                       a star in a ring between two leaves
     engraving SIZE                  lines that swell and shrink
     photo SIZE                      a ball before a ground, dithered by error diffusion
+    screen SIZE                     the same ball, printed by round dots ten pixels apart, in rows at 45 degrees
     board FIELD                     a board of 1024 by 1024 pixels, with fields of FIELD pixels
     stairs [SIDE]                   what lies under a line: SIDE pixels wide, a quarter of it high
     spiral, squares [SIDE [WALL]]   one path, or a nest of rings, between walls of WALL pixels, eight unless it is said
@@ -278,6 +279,18 @@ def photo(size):
     return size, size, diffused(size, size, lambda x, y: shade(2 * x / size - 1, 2 * y / size - 1))
 
 
+def dot(x, y):
+    """How dark it has to be that a screen's pixel is black: least in the middle of a dot, and most between dots."""
+    return 0.5 - 0.25 * (math.cos(math.tau * (x + y) / 14.14) + math.cos(math.tau * (x - y) / 14.14))
+
+
+def screen(size):
+    def row(y):
+        return bytearray(dot(x, y) < shade(2 * x / size - 1, 2 * y / size - 1) for x in range(size))
+
+    return size, size, map(row, range(size))
+
+
 def dither(width, height):
     light = diffused(width, height, lambda x, y: 0.5 + 0.25 * math.sin(x / 97) + 0.25 * math.sin(y / 131))
     return width, height, (row.translate(bytes.maketrans(b"\0\1", b"\1\0")) for row in light)
@@ -385,9 +398,8 @@ def tiles(page, width, height):
 
 
 KINDS = {
-    "scan": scan, "map": land, "text": text, "logo": logo, "engraving": engraving, "photo": photo, "board": board,
-    "stairs": stairs, "spiral": spiral, "squares": squares, "comb": comb,
-    "white": white, "checkerboard": checkerboard, "dither": dither, "bar": bar, "disc": disc, "dust": dust, "tiles": tiles,
+    "scan": scan, "map": land, "text": text, "logo": logo, "engraving": engraving, "photo": photo, "screen": screen,
+    "board": board, "stairs": stairs, "spiral": spiral, "squares": squares, "comb": comb, "white": white, "checkerboard": checkerboard, "dither": dither, "bar": bar, "disc": disc, "dust": dust, "tiles": tiles,
 }
 
 
