@@ -1,10 +1,10 @@
 //! A page as a drawing of AutoCAD's interchange format.
-ghost use Rattle.std.specs.Prelude.{◌≡◌, ◌++◌, flat_map, IfOk, OnOk};
+ghost use Rattle.std.specs.Prelude.{◌≡◌, ◌≤◌, ◌++◌, drop, flat_map, IfOk, OnOk};
 ghost use Rattle.dxf_geojson.specs.DxfText.{all_but_last, dxf_text, polyline_text, vertex_text};
 
 use crate::chords::gather_chords;
-use crate::fixed::put_pixels;
-use pt_core::{NoMemory, Piece, Point, Sequence, Trace};
+use crate::fixed::write_pixels;
+use pt_core::{NoMemory, Piece, Point, Sequence, Trace, write_text};
 use std::alloc::Global;
 
 /// The document of a page's trace: a closed polyline for each path, in their order.
@@ -55,22 +55,34 @@ fn put_vertices(out: &mut Vec<u8>, points: &[Point]) -> Result<(), NoMemory>
     ensures { OnOk result (out.new.items ≡ out.old.items
         ++ flat_map vertex_text (all_but_last points.now)) }
 {
+    let mut text = [0u8; 80];
     if let Some((_last, vertices)) = points.split_last() {
         for vertex in vertices {
-            put_vertex(out, *vertex)?;
+            put_vertex(out, &mut text, *vertex)?;
         }
     }
     Ok(())
 }
 
-/// Appends a vertex.
-fn put_vertex(out: &mut Vec<u8>, at: Point) -> Result<(), NoMemory>
+/// Appends a vertex; `text` is room for one.
+#[inline(always)]
+fn put_vertex(out: &mut Vec<u8>, text: &mut [u8; 80], at: Point) -> Result<(), NoMemory>
     ensures { OnOk result (out.new.items ≡ out.old.items ++ vertex_text at) }
 {
-    out.extend_from_slice(b"0\nVERTEX\n8\n0\n10\n")?;
-    put_pixels(out, at.x)?;
-    out.extend_from_slice(b"\n20\n")?;
-    put_pixels(out, at.y)?;
-    out.extend_from_slice(b"\n")?;
+    let start = write_vertex(at, text);
+    out.extend_from_slice(&text[start..])?;
     Ok(())
+}
+
+/// Writes a vertex at the end of the buffer.
+#[inline(always)]
+fn write_vertex(at: Point, text: &mut [u8; 80]) -> usize
+    ensures before { result ≤ 80 }
+    ensures written { drop result text.new ≡ vertex_text at }
+{
+    let start = write_text(b"\n", text, 80);
+    let start = write_pixels(at.y, text, start);
+    let start = write_text(b"\n20\n", text, start);
+    let start = write_pixels(at.x, text, start);
+    write_text(b"0\nVERTEX\n8\n0\n10\n", text, start)
 }

@@ -1,12 +1,12 @@
 //! A page as a collection of GeoJSON's features.
-ghost use Rattle.std.specs.Prelude.{◌≡◌, ◌++◌, codes, flat_map, IfOk, OnOk};
+ghost use Rattle.std.specs.Prelude.{◌≡◌, ◌≤◌, ◌++◌, codes, drop, flat_map, IfOk, OnOk};
 ghost use Rattle.std.specs.List.{join_by};
 ghost use Rattle.pt_core.specs.Outlines.{outline_at};
 ghost use Rattle.dxf_geojson.specs.GeoJsonText.{feature_text, features_text, geojson_text, hole_text, position_text, ring_text};
 
 use crate::chords::gather_chords;
-use crate::fixed::put_pixels;
-use pt_core::{Group, NoMemory, Piece, Point, Sequence, Trace, pieces_at};
+use crate::fixed::write_pixels;
+use pt_core::{Group, NoMemory, Piece, Point, Sequence, Trace, pieces_at, write_text};
 use std::alloc::Global;
 
 /// The document of a page's trace: a polygon for each shape, whose first ring is its outline, and whose other
@@ -126,24 +126,45 @@ fn put_positions(out: &mut Vec<u8>, points: &[Point]) -> Result<(), NoMemory>
     ensures { OnOk result (out.new.items ≡ out.old.items
         ++ join_by position_text (codes ",") points.now) }
 {
+    let mut text = [0u8; 64];
     if let Some((first, more)) = points.split_first() {
-        put_position(out, *first)?;
+        put_position(out, &mut text, *first)?;
         for point in more {
-            out.extend_from_slice(b",")?;
-            put_position(out, *point)?;
+            put_next_position(out, &mut text, *point)?;
         }
     }
     Ok(())
 }
 
-/// Appends a position.
-fn put_position(out: &mut Vec<u8>, at: Point) -> Result<(), NoMemory>
+/// Appends a position; `text` is room for one and a comma.
+fn put_position(out: &mut Vec<u8>, text: &mut [u8; 64], at: Point) -> Result<(), NoMemory>
     ensures { OnOk result (out.new.items ≡ out.old.items ++ position_text at) }
 {
-    out.extend_from_slice(b"[")?;
-    put_pixels(out, at.x)?;
-    out.extend_from_slice(b",")?;
-    put_pixels(out, at.y)?;
-    out.extend_from_slice(b"]")?;
+    let start = write_position(at, text);
+    out.extend_from_slice(&text[start..])?;
     Ok(())
+}
+
+/// Appends a comma and a position.
+fn put_next_position(out: &mut Vec<u8>, text: &mut [u8; 64], at: Point) -> Result<(), NoMemory>
+    ensures { OnOk result (out.new.items ≡ out.old.items ++ (codes "," ++ position_text at)) }
+{
+    let start = write_position(at, text);
+    let start = write_text(b",", text, start);
+    out.extend_from_slice(&text[start..])?;
+    Ok(())
+}
+
+/// Writes a position at the end of the buffer.
+#[inline(always)]
+fn write_position(at: Point, text: &mut [u8; 64]) -> usize
+    ensures start { 1 ≤ result }
+    ensures before { result ≤ 64 }
+    ensures written { drop result text.new ≡ position_text at }
+{
+    let start = write_text(b"]", text, 64);
+    let start = write_pixels(at.y, text, start);
+    let start = write_text(b",", text, start);
+    let start = write_pixels(at.x, text, start);
+    write_text(b"[", text, start)
 }

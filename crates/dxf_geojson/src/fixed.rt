@@ -1,12 +1,17 @@
 //! Coordinates in pixels.
-ghost use Rattle.std.specs.Prelude.{◌≡◌, ◌++◌, OnOk};
+ghost use Rattle.std.specs.Prelude.{◌≡◌, ◌+◌, ◌≤◌, ◌++◌, length, drop};
 ghost use Rattle.dxf_geojson.specs.DxfText.{pixels_text};
 
-use pt_core::{NoMemory, put_fixed, round_unit};
+use pt_core::{round_unit, write_fixed};
 
-/// Appends a coordinate in pixels, rounded to thousandths.
-pub(crate) fn put_pixels(out: &mut Vec<u8>, c: i32) -> Result<(), NoMemory>
-    ensures { OnOk result (out.new.items ≡ out.old.items ++ pixels_text c) }
+/// Writes a coordinate in pixels, rounded to thousandths, so that it ends at `end` of the buffer.
+#[inline(always)]
+pub(crate) fn write_pixels(c: i32, text: &mut [u8], end: usize) -> usize
+    requires room { 25 ≤ end }
+    requires within { end ≤ length text.old }
+    ensures start { end ≤ result + 25 }
+    ensures before { result ≤ end }
+    ensures written { drop result text.new ≡ pixels_text c ++ drop end text.old }
 {
-    put_fixed(out, round_unit(i64::from(c), 1000))
+    write_fixed(round_unit(i64::from(c), 1000), text, end)
 }

@@ -1,7 +1,7 @@
 //! What a format writes around the numbers of its strokes.
-ghost use Rattle.std.specs.Prelude.{◌≡◌, ◌++◌, ℕ, List, OnOk};
+ghost use Rattle.std.specs.Prelude.{◌≡◌, ◌+◌, ◌≤◌, ◌++◌, ℕ, List, OnOk, length, drop};
 
-use pt_core::NoMemory;
+use pt_core::{NoMemory, write_text};
 
 /// Where a format writes something that is no number.
 #[derive(Clone, Copy, Debug)]
@@ -35,9 +35,10 @@ pub trait Pen {
     /// What stands at each mark.
     ghost mark_text: { Mark → List ℕ };
 
-    /// What the format writes at a mark.
+    /// What the format writes at a mark, 32 bytes at most.
     fn text_at(mark: Mark) -> &'static [u8]
-        ensures { result.now ≡ mark_text mark };
+        ensures value { result.now ≡ mark_text mark }
+        ensures short { length (mark_text mark) ≤ 32 };
 }
 
 /// Appends what the format writes at a mark.
@@ -47,4 +48,16 @@ pub(crate) fn put_mark<P: Pen>(out: &mut Vec<u8>, mark: Mark) -> Result<(), NoMe
 {
     out.extend_from_slice(P::text_at(mark))?;
     Ok(())
+}
+
+/// Writes what the format writes at a mark, so that it ends at `end` of the buffer.
+#[inline(always)]
+pub(crate) fn write_mark<P: Pen>(mark: Mark, text: &mut [u8], end: usize) -> usize
+    requires room { 32 ≤ end }
+    requires within { end ≤ length text.old }
+    ensures start { end ≤ result + 32 }
+    ensures before { result ≤ end }
+    ensures written { drop result text.new ≡ P.mark_text mark ++ drop end text.old }
+{
+    write_text(P::text_at(mark), text, end)
 }

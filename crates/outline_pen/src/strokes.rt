@@ -1,9 +1,9 @@
 //! The strokes of an outline.
-ghost use Rattle.std.specs.Prelude.{◌≡◌, ◌≤◌, ◌++◌, OnOk};
+ghost use Rattle.std.specs.Prelude.{◌≡◌, ◌+◌, ◌≤◌, ◌++◌, length, drop, OnOk};
 ghost use Rattle.outline_pen.specs.Shapes.{curve_text, line_text, outline_text, piece_text, pieces_text, start_text};
 
-use crate::pen::{Mark, Pen, put_mark};
-use pt_core::{NoMemory, Piece, Point, end_of, put_place, put_step, start_of};
+use crate::pen::{Mark, Pen, put_mark, write_mark};
+use pt_core::{NoMemory, Piece, Point, end_of, put_place, start_of, write_step, write_text};
 
 /// Appends a closed subpath.
 pub(crate) fn put_outline<P: Pen>(
@@ -47,17 +47,19 @@ fn put_pieces<P: Pen>(
     ensures { OnOk result (out.new.items ≡ out.old.items
         ++ pieces_text P.mark_text unit start pieces.now) }
 {
+    let mut text = [0u8; 256];
     let mut from = start;
     for piece in pieces {
-        put_piece::<P>(out, unit, from, *piece)?;
+        put_piece::<P>(out, &mut text, unit, from, *piece)?;
         from = end_of(*piece);
     }
     Ok(())
 }
 
-/// Appends a piece that begins at `from`.
+/// Appends a piece that begins at `from`; `text` is room for the text of one.
 fn put_piece<P: Pen>(
     out: &mut Vec<u8>,
+    text: &mut [u8; 256],
     unit: u32,
     from: Point,
     piece: Piece,
@@ -66,53 +68,70 @@ fn put_piece<P: Pen>(
     requires most { unit ≤ 1000 }
     ensures { OnOk result (out.new.items ≡ out.old.items ++ piece_text P.mark_text unit from piece) }
 {
+    let start = write_piece::<P>(unit, from, piece, text);
+    out.extend_from_slice(&text[start..])?;
+    Ok(())
+}
+
+/// Writes a piece that begins at `from`, at the end of the buffer.
+#[inline(always)]
+fn write_piece<P: Pen>(unit: u32, from: Point, piece: Piece, text: &mut [u8; 256]) -> usize
+    requires some { 1 ≤ unit }
+    requires most { unit ≤ 1000 }
+    ensures before { result ≤ 256 }
+    ensures written { drop result text.new ≡ piece_text P.mark_text unit from piece }
+{
     match piece {
         Piece::Corner { at, end } => {
-            put_line::<P>(out, unit, from, at)?;
-            put_line::<P>(out, unit, at, end)?;
+            let start = write_line::<P>(unit, at, end, text, 256);
+            write_line::<P>(unit, from, at, text, start)
         }
         Piece::Curve {
             first,
             second,
             end,
             ..
-        } => put_curve::<P>(out, unit, from, first, second, end)?,
+        } => write_curve::<P>(unit, from, first, second, end, text),
     }
-    Ok(())
 }
 
-/// Appends a line from one point to another.
-fn put_line<P: Pen>(out: &mut Vec<u8>, unit: u32, from: Point, to: Point) -> Result<(), NoMemory>
+/// Writes a line from one point to another so that it ends at `end` of the buffer.
+#[inline(always)]
+fn write_line<P: Pen>(unit: u32, from: Point, to: Point, text: &mut [u8], end: usize) -> usize
     requires some { 1 ≤ unit }
     requires most { unit ≤ 1000 }
-    ensures { OnOk result (out.new.items ≡ out.old.items ++ line_text P.mark_text unit from to) }
+    requires room { 107 ≤ end }
+    requires within { end ≤ length text.old }
+    ensures start { end ≤ result + 107 }
+    ensures before { result ≤ end }
+    ensures written { drop result text.new ≡ line_text P.mark_text unit from to ++ drop end text.old }
 {
-    put_mark::<P>(out, Mark::Line)?;
-    put_step(out, unit, from, to)?;
-    put_mark::<P>(out, Mark::Lined)?;
-    Ok(())
+    let start = write_mark::<P>(Mark::Lined, text, end);
+    let start = write_step(unit, from, to, text, start);
+    write_mark::<P>(Mark::Line, text, start)
 }
 
-/// Appends a curve that begins at `from`.
-fn put_curve<P: Pen>(
-    out: &mut Vec<u8>,
+/// Writes a curve that begins at `from`, at the end of the buffer.
+#[inline(always)]
+fn write_curve<P: Pen>(
     unit: u32,
     from: Point,
     first: Point,
     second: Point,
     end: Point,
-) -> Result<(), NoMemory>
+    text: &mut [u8; 256],
+) -> usize
     requires some { 1 ≤ unit }
     requires most { unit ≤ 1000 }
-    ensures { OnOk result (out.new.items ≡ out.old.items
-        ++ curve_text P.mark_text unit from first second end) }
+    ensures before { result ≤ 256 }
+    ensures written { drop result text.new
+        ≡ curve_text P.mark_text unit from first second end }
 {
-    put_mark::<P>(out, Mark::Curve)?;
-    put_step(out, unit, from, first)?;
-    out.extend_from_slice(b" ")?;
-    put_step(out, unit, from, second)?;
-    out.extend_from_slice(b" ")?;
-    put_step(out, unit, from, end)?;
-    put_mark::<P>(out, Mark::Curved)?;
-    Ok(())
+    let start = write_mark::<P>(Mark::Curved, text, 256);
+    let start = write_step(unit, from, end, text, start);
+    let start = write_text(b" ", text, start);
+    let start = write_step(unit, from, second, text, start);
+    let start = write_text(b" ", text, start);
+    let start = write_step(unit, from, first, text, start);
+    write_mark::<P>(Mark::Curve, text, start)
 }

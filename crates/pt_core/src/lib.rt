@@ -20,6 +20,7 @@ pub mod settings;
 pub mod sink;
 pub mod trace;
 pub mod unit_text;
+pub mod written;
 
 pub use backend::backend_of;
 pub use digits::{put_fixed, put_number};
@@ -39,4 +40,5 @@ pub use sequence::Sequence;
 pub use settings::{Backend, Settings};
 pub use sink::{Outputs, Sink};
 pub use trace::{Group, Trace};
-pub use unit_text::{put_place, put_step};
+pub use unit_text::{put_place, write_step};
+pub use written::{write_fixed, write_text};

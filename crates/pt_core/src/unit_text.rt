@@ -1,12 +1,12 @@
 //! Places in texts, in units of which a pixel has so many.
-ghost use Rattle.std.specs.Prelude.{◌≡◌, ◌≤◌, ◌++◌, ◌-ℤ◌, ◌^◌, unsigned_abs, OnOk, OnErr};
+ghost use Rattle.std.specs.Prelude.{◌≡◌, ◌+◌, ◌≤◌, ◌++◌, ◌-ℤ◌, ◌^◌, length, drop, unsigned_abs, OnOk, OnErr};
 ghost use Rattle.pt_core.specs.Floor.{rounded};
 ghost use Rattle.pt_core.specs.UnitText.{place_text, step_text};
 
-use crate::digits::put_pair;
 use crate::fault::NoMemory;
 use crate::floor::round_unit;
 use crate::point::Point;
+use crate::written::write_pair;
 
 /// Appends a point's coordinates in units, or nothing.
 pub fn put_place(out: &mut Vec<u8>, unit: u32, at: Point) -> Result<(), NoMemory>
@@ -15,24 +15,45 @@ pub fn put_place(out: &mut Vec<u8>, unit: u32, at: Point) -> Result<(), NoMemory
     ensures appended { OnOk result (out.new.items ≡ out.old.items ++ place_text unit at) }
     ensures nothing { OnErr result (out.new.items ≡ out.old.items) }
 {
-    put_pair(out, in_units(at.x, unit), in_units(at.y, unit))
+    let mut text = [0u8; 48];
+    let start = write_place(unit, at, &mut text, 48);
+    out.extend_from_slice(&text[start..])?;
+    Ok(())
 }
 
-/// Appends how far `to` lies from `from` in units, after both are rounded, or nothing.
-pub fn put_step(out: &mut Vec<u8>, unit: u32, from: Point, to: Point) -> Result<(), NoMemory>
+/// Writes a point's coordinates in units so that they end at `end` of the buffer.
+fn write_place(unit: u32, at: Point, text: &mut [u8], end: usize) -> usize
     requires some { 1 ≤ unit }
     requires most { unit ≤ 1000 }
-    ensures appended { OnOk result (out.new.items ≡ out.old.items ++ step_text unit from to) }
-    ensures nothing { OnErr result (out.new.items ≡ out.old.items) }
+    requires room { 43 ≤ end }
+    requires within { end ≤ length text.old }
+    ensures before { result ≤ end }
+    ensures written { drop result text.new ≡ place_text unit at ++ drop end text.old }
 {
-    put_pair(
-        out,
+    write_pair(in_units(at.x, unit), in_units(at.y, unit), text, end)
+}
+
+/// Writes how far `to` lies from `from` in units, after both are rounded, so that it ends at `end` of the buffer.
+#[inline(always)]
+pub fn write_step(unit: u32, from: Point, to: Point, text: &mut [u8], end: usize) -> usize
+    requires some { 1 ≤ unit }
+    requires most { unit ≤ 1000 }
+    requires room { 43 ≤ end }
+    requires within { end ≤ length text.old }
+    ensures start { end ≤ result + 43 }
+    ensures before { result ≤ end }
+    ensures written { drop result text.new ≡ step_text unit from to ++ drop end text.old }
+{
+    write_pair(
         difference(from.x, to.x, unit),
         difference(from.y, to.y, unit),
+        text,
+        end,
     )
 }
 
 /// How far one coordinate lies from another in units, after both are rounded.
+#[inline(always)]
 fn difference(from: i32, to: i32, unit: u32) -> i64
     requires some { 1 ≤ unit }
     requires most { unit ≤ 1000 }
@@ -43,6 +64,7 @@ fn difference(from: i32, to: i32, unit: u32) -> i64
 }
 
 /// A coordinate in units.
+#[inline(always)]
 fn in_units(c: i32, unit: u32) -> i64
     requires some { 1 ≤ unit }
     requires most { unit ≤ 1000 }

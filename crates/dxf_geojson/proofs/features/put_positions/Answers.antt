@@ -1,10 +1,10 @@
 use Rattle.std.proofs.Common.{◌++◌, codes}
 use Rattle.pt_core.specs.declared.point.Point.{Point}
-use Rattle.pt_core.proofs.Appending.{one_more_read, two}
+use Rattle.pt_core.proofs.Appending.{one_more_read}
 use Rattle.dxf_geojson.specs.GeoJsonText.{position_text}
 use Rattle.dxf_geojson.proofs.features.put_positions.Goals as goal
 
 pub loop-point-preserved : goal.loop-point-preserved
 loop-point-preserved c =
-    one_more_read (λ (p : Point). codes "," ++ position_text p) c.in-Some.more.now c.loop-point.point-index c.loop-point.out.items c.put_position-in-loop-point.new.out.items _ _
-    c.loop-point-test.true (two _ _ _ _ _ c.in_ok-extend_from_slice.ensures.items c.in_ok-put_position-2.ensures) c.loop-point.invariant
+    one_more_read (λ (p : Point). codes "," ++ position_text p) c.in-Some.more.now c.loop-point.point-index c.loop-point.out.items c.put_next_position.new.out.items _ _
+    c.loop-point-test.true c.in_ok-put_next_position.ensures c.loop-point.invariant
