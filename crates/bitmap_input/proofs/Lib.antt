@@ -22,6 +22,7 @@ pub mod BmpReading
 pub mod BmpPixels
 pub mod BmpBits
 pub mod Placing
+pub mod Packing
 pub mod Rows
 pub mod Graying
 pub mod Showing

@@ -1,15 +1,12 @@
 -- A row of a page is known by its pixels: eight of them in a byte, or 64 in a word.
-use Rattle.std.proofs.Common.{◌≡◌, ◌≢◌, refl, ℕ, zero, suc, ◌+◌, ◌-◌, ◌*◌, ◌/◌, ◌%◌, ◌≤◌, ◌<◌, inl, inr, Bool, true, false, not, ◌&&◌, ◌||◌, ◌^◌, List, [], ◌∷◌, length, take, map, get_or, arith, ap, sym, ◌∙◌, subst}
+use Rattle.std.proofs.Common.{◌≡◌, ◌≢◌, refl, ℕ, zero, suc, ◌+◌, ◌-◌, ◌*◌, ◌/◌, ◌%◌, ◌≤◌, ◌<◌, inl, inr, Bool, true, false, not, ◌&&◌, List, [], ◌∷◌, length, take, map, get_or, arith, ap, sym, ◌∙◌, subst}
 use Rattle.std.specs.Prelude.{nat_eq, nat_lt, min}
-use Rattle.std.specs.Int.RustNames.{bit_or}
-use mir.Val.{bool_byte}
 use Rattle.std.proofs.Math.Path.{fun_ext}
 use Rattle.std.proofs.lemmas.List.{get_or-map, get_or-take, length-map, length-take-le, map-id}
 use Rattle.std.proofs.lemmas.Bool.{eq-eqb, ne_eqb, lt-ltb, le-ltb, cases_eq, cases_lt, false_from_ne_true}
 use Rattle.bit_image.specs.Image.{Image, Fits, differ, within, is_between}
 use Rattle.bit_image.specs.Words.{is_one, bit_in}
-use Rattle.bit_image.proofs.Bits.{within-inside, within-right, differ-false, differ-true, and_true, is_one-zero, is_one-mask}
-use Rattle.bit_image.proofs.Turned.{is_one-or, is_one-shl, is_one-shl_below}
+use Rattle.bit_image.proofs.Bits.{within-inside, within-right, differ-false, differ-true}
 use Rattle.bitmap_input.specs.Raw.{unpacked}
 use Rattle.bitmap_input.specs.Inner.Raster.{with_row}
 use Rattle.bitmap_input.proofs.Placing.{with_pixels-at, with_pixels-other, length-unpacked}
@@ -88,54 +85,7 @@ row_flipped b c d y w pixels len is flipped =
 pub white_past : (b : Image) (w h : ℕ) → Fits b w h → (u v : ℕ) → w ≤ u → b u v ≡ false
 white_past b w h fits u v past = false_from_ne_true (b u v) (λ e. let at = (fits u v e).0 in omega arith)
 
--- Pixels that are put into a word one after another.
-
-or_false : (b : Bool) → b || false ≡ b
-or_false true = refl
-or_false false = refl
-
-bit_of_one : (black : Bool) (i k : ℕ) → i ≤ k → is_one (bool_byte black) (k - i) ≡ nat_eq i k && black
-bit_of_one false i k h = is_one-zero (k - i) ∙ sym (and_none (nat_eq i k))
-bit_of_one true i k h = elim (cases_eq i k) [
-  | inl e ↦ is_one-mask 0 1 (k - i) ∙ within-inside 0 1 (k - i) (omega arith) (omega arith) ∙ sym (and_true (nat_eq i k) ∙ eq-eqb i k e)
-  | inr e ↦ is_one-mask 0 1 (k - i) ∙ within-right 0 1 (k - i) (omega arith) ∙ sym (and_true (nat_eq i k) ∙ ne_eqb i k e)
-]
-
-one_shifted : (black : Bool) (i k : ℕ) → k < 64 → is_one (bool_byte black * 2 ^ i % 2 ^ 64) k ≡ nat_eq i k && black
-one_shifted black i k g = elim (cases_lt k i) [
-  | inl h ↦ is_one-shl_below (bool_byte black) i k g h ∙ sym (ap (λ t. t && black) (ne_eqb i k (λ e. omega arith)))
-  | inr h ↦ is_one-shl (bool_byte black) i k g h ∙ bit_of_one black i k h
-]
-
--- the word with one pixel more
-pub pixel_set : (word i k : ℕ) (black : Bool) → k < 64 →
-    is_one (bit_or word (bool_byte black * 2 ^ i % 2 ^ 64)) k ≡ is_one word k || (nat_eq i k && black)
-pixel_set word i k black g =
-    is_one-or word (bool_byte black * 2 ^ i % 2 ^ 64) k ∙ ap (λ t. is_one word k || t) (one_shifted black i k g)
-
--- the first pixels of a word are these
-abbrev pub HasFirst : (ℕ → Bool) → ℕ → ℕ → Type 0
-HasFirst f word n = (k : ℕ) → k < 64 → is_one word k ≡ nat_lt k n && f k
-
-pub none_first : (f : ℕ → Bool) → HasFirst f 0 0
-none_first f = λ k _. is_one-zero k ∙ sym (ap (λ t. t && f k) (le-ltb k 0 (omega arith)))
-
--- and one more
-pub one_more : (f : ℕ → Bool) (word word2 n : ℕ) → HasFirst f word n →
-    ((k : ℕ) → k < 64 → is_one word2 k ≡ (is_one word k || (nat_eq n k && f n))) → HasFirst f word2 (n + 1)
-one_more f word word2 n first set = λ k h. elim (cases_lt k n) [
-  | inl less ↦
-      set k h ∙ ap (λ t. t || (nat_eq n k && f n)) (first k h ∙ ap (λ t. t && f k) (lt-ltb k n less)) ∙
-      ap (λ t. f k || (t && f n)) (ne_eqb n k (λ e. omega arith)) ∙ or_false (f k) ∙ sym (ap (λ t. t && f k) (lt-ltb k (n + 1) (omega arith)))
-  | inr more ↦ elim (cases_eq n k) [
-    | inl e ↦
-        set k h ∙ ap (λ t. t || (nat_eq n k && f n)) (first k h ∙ ap (λ t. t && f k) (le-ltb k n more)) ∙
-        ap (λ t. t && f n) (eq-eqb n k e) ∙ ap f e ∙ sym (ap (λ t. t && f k) (lt-ltb k (n + 1) (omega arith)))
-    | inr e ↦
-        set k h ∙ ap (λ t. t || (nat_eq n k && f n)) (first k h ∙ ap (λ t. t && f k) (le-ltb k n more)) ∙
-        ap (λ t. t && f n) (ne_eqb n k e) ∙ sym (ap (λ t. t && f k) (le-ltb k (n + 1) (omega arith)))
-  ]
-]
+-- Words of a row.
 
 -- a row whose words are put one after another, up to one of them
 pub record WordsPlaced (f : ℕ → Bool) (w y : ℕ) (b c : Image) (at : ℕ) : Type 0 where

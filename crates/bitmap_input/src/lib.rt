@@ -19,6 +19,7 @@ mod bmp;
 mod body;
 mod buffer;
 mod channels;
+mod dark;
 mod extent;
 pub mod fault;
 pub mod gray_reader;

@@ -1,6 +1,6 @@
 //! Rasters of samples: for each pixel one of gray, or three of red, green and blue, as numbers or as a
 //! byte or two.
-ghost use Rattle.std.specs.Prelude.{◌≡◌, ℕ, ◌+◌, ◌*◌, ◌<◌, ◌≤◌, true, length, map, nat_le, get_or};
+ghost use Rattle.std.specs.Prelude.{◌≡◌, ℕ, ◌+◌, ◌*◌, ◌<◌, ◌≤◌, true, false, length, map, nat_le, get_or};
 ghost use Rattle.bit_image.specs.Words.{is_one};
 ghost use Rattle.bit_image.specs.Page.{Page, SameSides, image_of};
 ghost use Rattle.bitmap_input.specs.Inner.Reading.{Reads, Leaves};
@@ -13,11 +13,12 @@ ghost use Rattle.bitmap_input.specs.declared.channels.Channels.TheVariants as ch
 
 use crate::buffer::Buffer;
 use crate::channels::Channels;
+use crate::dark::{color_word, gray_word};
 use crate::header::GREATEST_MAXVAL;
 use crate::number::{Section, read_number_behind_gap};
 use crate::raw::read_block;
 use crate::stop::Stop;
-use crate::words::with_pixel;
+use crate::words::{inverted, word_of};
 use bit_image::Bitmap;
 use pt_core::{Inputs, LONGEST_SIDE};
 use threshold_map::Level;
@@ -45,8 +46,7 @@ impl Shading {
 
 /// The brightness of the brightest pixel that is black, as the sum of its samples.
 //
-// It is found once for a page. The colours of a BMP have no such limit: the product with the level is the same for
-// each pixel, and the three loads of a colour cost more than it does.
+// It is found once for a page; that of a BMP's colours once for 64 of them.
 pub(crate) fn brightest_black(level: &Level, channels: Channels, maxval: u32) -> u32
     requires some { 1 ≤ maxval }
     requires most { maxval ≤ GREATEST_MAXVAL }
@@ -167,6 +167,35 @@ fn brightness_at(row: &[u8], channels: Channels, wide: bool, x: usize) -> u32
     }
 }
 
+/// The word of 64 pixels of a row whose samples have a byte each, from one column on.
+fn full_word(row: &[u8], from: usize, shading: &Shading) -> u64
+    requires narrow { is_wide shading.now.maxval ≡ false }
+    requires within { samples_in shading.now.channels * (from + 64) ≤ length row.now }
+    ensures { (k : ℕ) → k < 64 → is_one result k ≡ black_in_bytes shading.now row.now (from + k) }
+{
+    match shading.channels {
+        Channels::Gray => inverted(gray_word(row, from, shading.limit), shading.invert),
+        Channels::Color => { inverted(color_word(row, 3 * from, 3, shading.limit), shading.invert) }
+    }
+}
+
+/// The word of so many pixels of a row, from one column on, pixel by pixel.
+fn word_by_pixels(row: &[u8], from: usize, count: usize, shading: &Shading) -> u64
+    requires few { count ≤ 64 }
+    requires column { from ≤ LONGEST_SIDE }
+    requires within { samples_in shading.now.channels * (from + count)
+        ≤ length (samples (is_wide shading.now.maxval) row.now) }
+    ensures { (k : ℕ) → k < count → is_one result k ≡ black_in_bytes shading.now row.now (from + k) }
+{
+    let wide = is_wide(shading.maxval);
+    let mut pixels = [false; 64];
+    for i in 0..count {
+        let brightness = brightness_at(row, shading.channels, wide, from + i);
+        pixels[i] = shading.black(brightness);
+    }
+    word_of(&pixels)
+}
+
 /// The word of so many pixels of a row, from one column on.
 fn word(row: &[u8], from: usize, count: usize, shading: &Shading) -> u64
     requires few { count ≤ 64 }
@@ -175,13 +204,11 @@ fn word(row: &[u8], from: usize, count: usize, shading: &Shading) -> u64
         ≤ length (samples (is_wide shading.now.maxval) row.now) }
     ensures { (k : ℕ) → k < count → is_one result k ≡ black_in_bytes shading.now row.now (from + k) }
 {
-    let wide = is_wide(shading.maxval);
-    let mut word = 0;
-    for i in 0..count {
-        let brightness = brightness_at(row, shading.channels, wide, from + i);
-        word = with_pixel(word, i, shading.black(brightness));
+    if count < 64 || is_wide(shading.maxval) {
+        word_by_pixels(row, from, count, shading)
+    } else {
+        full_word(row, from, shading)
     }
-    word
 }
 
 /// Puts a row of samples into row y, word by word.

@@ -1,12 +1,48 @@
 //! Words of 64 pixels, the least significant bit the leftmost one.
-ghost use Rattle.std.specs.Prelude.{◌≡◌, ℕ, ◌<◌, ◌&&◌, ◌||◌, nat_eq};
+ghost use Rattle.std.specs.Prelude.{◌≡◌, ℕ, ◌+◌, ◌<◌, ◌≤◌, ◌&&◌, false, nat_lt, length, get_or};
+ghost use Rattle.bit_image.specs.Image.{differ};
 ghost use Rattle.bit_image.specs.Words.{is_one};
 
-/// The word with pixel i made black, or left as it is.
+/// A product with this has the lowest bits of eight bytes side by side in its highest byte.
+const GATHER: u64 = 0x0102040810204080;
+
+/// The byte of eight pixels from a place on.
 #[inline(always)]
-pub(crate) fn with_pixel(word: u64, i: usize, black: bool) -> u64
-    requires { i < 64 }
-    ensures { (k : ℕ) → k < 64 → is_one result k ≡ (is_one word k || (nat_eq i k && black)) }
+fn byte_at(pixels: &[bool], at: usize) -> u64
+    requires { at + 8 ≤ length pixels.now }
+    ensures { (k : ℕ) → is_one result k ≡ (nat_lt k 8 && get_or pixels.now (at + k) false) }
 {
-    word | (black as u64) << i
+    let eight = [
+        pixels[at] as u8,
+        pixels[at + 1] as u8,
+        pixels[at + 2] as u8,
+        pixels[at + 3] as u8,
+        pixels[at + 4] as u8,
+        pixels[at + 5] as u8,
+        pixels[at + 6] as u8,
+        pixels[at + 7] as u8,
+    ];
+    u64::from_le_bytes(eight).wrapping_mul(GATHER) >> 56
+}
+
+/// The word of 64 pixels.
+//
+// It stands alone: where it is inlined, the compiler turns its products into longer ones of vectors.
+#[inline(never)]
+pub(crate) fn word_of(pixels: &[bool]) -> u64
+    requires { length pixels.now ≡ 64 }
+    ensures { (k : ℕ) → k < 64 → is_one result k ≡ get_or pixels.now k false }
+{
+    let mut word = 0;
+    for j in 0..8usize {
+        word |= byte_at(pixels, 8 * j) << (8 * j);
+    }
+    word
+}
+
+/// The word with its pixels inverted or not.
+pub(crate) fn inverted(word: u64, invert: bool) -> u64
+    ensures { (k : ℕ) → k < 64 → is_one result k ≡ differ invert (is_one word k) }
+{
+    if invert { word ^ u64::MAX } else { word }
 }

@@ -23,6 +23,10 @@ abbrev pub IsCappedBrightness : (c : Channels) → ℕ → PixelSamples c → Ty
 IsCappedBrightness Gray x v = x ≡ min v cap
 IsCappedBrightness Color x (r, g, b) = x ≡ min r cap + min g cap + min b cap
 
+-- the sum of three bytes from a place on
+abbrev pub bytes_sum : List ℕ → ℕ → ℕ
+bytes_sum bytes at = get_or bytes at 0 + get_or bytes (at + 1) 0 + get_or bytes (at + 2) 0
+
 -- whether a pixel of this brightness is black
 abbrev pub is_black_at : Shading → ℕ → Bool
 is_black_at s v = differ s.invert (nat_le v s.limit)

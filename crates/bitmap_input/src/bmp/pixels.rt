@@ -14,9 +14,10 @@ ghost use Rattle.bitmap_input.specs.Inner.Raster.{with_row, with_placed};
 use crate::bmp::fields::Depth;
 use crate::bmp::header::Header;
 use crate::buffer::Buffer;
+use crate::dark::color_word;
 use crate::raw::{place_row as place_bits, read_block};
 use crate::stop::Stop;
-use crate::words::with_pixel;
+use crate::words::{inverted, word_of};
 use bit_image::Bitmap;
 use pt_core::{Inputs, LONGEST_SIDE};
 use threshold_map::Level;
@@ -80,6 +81,58 @@ fn shade(depth: Depth, tone: &Tone, table: &[bool], row: &[u8], x: usize) -> boo
     }
 }
 
+/// The word of so many pixels of a row, from one column on, pixel by pixel.
+fn word_by_pixels(
+    depth: Depth,
+    tone: &Tone,
+    table: &[bool],
+    row: &[u8],
+    from: usize,
+    count: usize,
+) -> u64
+    requires table { length table.now ≡ 256 }
+    requires few { count ≤ 64 }
+    requires column { from ≤ LONGEST_SIDE }
+    requires within { (from + count) * bits_in depth ≤ 8 * length row.now }
+    ensures { (k : ℕ) → k < count → is_one result k
+        ≡ shade_in depth tone.now.level tone.now.invert table.now row.now (from + k) }
+{
+    let mut pixels = [false; 64];
+    for i in 0..count {
+        pixels[i] = shade(depth, tone, table, row, from + i);
+    }
+    word_of(&pixels)
+}
+
+/// The word of 64 colours, each so many bytes behind the last one, from a place on.
+#[inline(always)]
+fn colors_word(tone: &Tone, row: &[u8], from: usize, step: usize) -> u64
+    requires within { from + step * 64 ≤ length row.now }
+    requires least { 3 ≤ step }
+    ensures { (k : ℕ) → k < 64 → is_one result k
+        ≡ black tone.now.level tone.now.invert (color_at row.now (from + step * k)) }
+{
+    let dark = color_word(row, from, step, tone.level.color_limit(255));
+    inverted(dark, tone.invert)
+}
+
+/// The word of 64 pixels of a row, from one column on.
+fn full_word(depth: Depth, tone: &Tone, table: &[bool], row: &[u8], from: usize) -> u64
+    requires table { length table.now ≡ 256 }
+    requires column { from ≤ LONGEST_SIDE }
+    requires within { (from + 64) * bits_in depth ≤ 8 * length row.now }
+    ensures { (k : ℕ) → k < 64 → is_one result k
+        ≡ shade_in depth tone.now.level tone.now.invert table.now row.now (from + k) }
+{
+    match depth {
+        Depth::TwentyFour => colors_word(tone, row, 3 * from, 3),
+        Depth::ThirtyTwo => colors_word(tone, row, 4 * from, 4),
+        Depth::One | Depth::Four | Depth::Eight => {
+            word_by_pixels(depth, tone, table, row, from, 64)
+        }
+    }
+}
+
 /// The word of so many pixels of a row, from one column on.
 fn word(depth: Depth, tone: &Tone, table: &[bool], row: &[u8], from: usize, count: usize) -> u64
     requires table { length table.now ≡ 256 }
@@ -89,11 +142,11 @@ fn word(depth: Depth, tone: &Tone, table: &[bool], row: &[u8], from: usize, coun
     ensures { (k : ℕ) → k < count → is_one result k
         ≡ shade_in depth tone.now.level tone.now.invert table.now row.now (from + k) }
 {
-    let mut word = 0;
-    for i in 0..count {
-        word = with_pixel(word, i, shade(depth, tone, table, row, from + i));
+    if count < 64 {
+        word_by_pixels(depth, tone, table, row, from, count)
+    } else {
+        full_word(depth, tone, table, row, from)
     }
-    word
 }
 
 /// Puts a row of bytes into row y, word by word.

@@ -1,16 +1,9 @@
-use Rattle.std.proofs.Common.{◌+◌, ◌&&◌, ◌∙◌, ap, arith}
-use Rattle.std.proofs.lemmas.Bool.{lt-ltb}
+use Rattle.std.proofs.Common.{◌+◌, ◌∙◌, false, ap, arith, rules}
 use Rattle.bitmap_input.specs.Samples.{samples}
 use Rattle.bitmap_input.specs.Inner.Shading.{brightness_at, is_black_at, black_in_bytes}
 use Rattle.bitmap_input.proofs.Graying.{fewer_samples}
-use Rattle.bitmap_input.proofs.Rows.{none_first, one_more}
-use Rattle.bitmap_input.proofs.samples.word.Goals as goal
-
-pub loop-i-init : goal.loop-i-init
-loop-i-init c = record {
-  first = none_first _;
-  wide = c.is_wide-wide.ensures;
-}
+use Rattle.bitmap_input.proofs.Packing.{filled_more}
+use Rattle.bitmap_input.proofs.samples.word_by_pixels.Goals as goal
 
 pub brightness_at-brightness-requires : goal.brightness_at-brightness-requires
 brightness_at-brightness-requires c =
@@ -21,12 +14,11 @@ loop-i-preserved c =
     let bright = c.brightness_at-brightness.ensures ∙ ap (λ wide. brightness_at c.args.shading.now.channels (samples wide c.args.row.now) (c.args.from + c.loop-i.i)) c.loop-i.invariant.wide in
     let pixel = c.black.ensures ∙ ap (is_black_at c.args.shading.now) bright in
     record {
-      first = one_more (λ k. black_in_bytes c.args.shading.now c.args.row.now (c.args.from + k)) c.loop-i.word c.with_pixel-word.result c.loop-i.i
-          c.loop-i.invariant.first (rw pixel at c.with_pixel-word.ensures);
+      pixels = filled_more false c.loop-i.pixels c.loop-i.i c.black.result (λ k. black_in_bytes c.args.shading.now c.args.row.now (c.args.from + k))
+          (omega (arith, c.loop-i.invariant.room)) c.loop-i.invariant.pixels pixel;
+      room = search rules;
       wide = c.loop-i.invariant.wide;
     }
 
 pub returns : goal.returns
-returns c = λ k h.
-    c.loop-i.invariant.first k (omega arith) ∙
-    ap (λ t. t && black_in_bytes c.args.shading.now c.args.row.now (c.args.from + k)) (lt-ltb k c.loop-i.i (omega arith))
+returns c = λ k h. c.word_of.ensures k (omega arith) ∙ c.loop-i.invariant.pixels k (omega arith)
