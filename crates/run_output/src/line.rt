@@ -1,11 +1,10 @@
 //! The lines that a program writes to standard error.
 //!
 //! Where a write fails, the rest of its line is given up: that call was the last one.
-ghost use Rattle.std.specs.Prelude.{◌≡◌, ◌≤◌, ◌∷◌, [], true, codes, map};
+ghost use Rattle.std.specs.Prelude.{◌≡◌, ◌∷◌, [], true, codes, map};
 ghost use Rattle.std.specs.List.{concat};
-ghost use Rattle.pt_core.specs.Documents.{IsSaid};
-ghost use Rattle.pt_core.specs.Failures.{StopsAtFailure};
 ghost use Rattle.run_output.specs.Messages.{file_line, file_page_line, program_line};
+ghost use Rattle.run_output.specs.Inner.Told.{IsMessageTo};
 
 use crate::pieces::write_pieces;
 use itoa::Buffer;
@@ -14,10 +13,7 @@ use pt_core::Sink;
 /// Says something as a program.
 pub fn say_line<E: Sink>(errs: &mut E, program: &str, text: &str)
     requires { E.is_ready errs.old ≡ true }
-    ensures said { IsSaid (E.documents errs.old) (E.documents errs.new) (E.faults errs.old)
-        (E.faults errs.new) (program_line program.now text.now) }
-    ensures given_up { StopsAtFailure (E.failures errs.old) (E.failures errs.new) }
-    ensures never_falls { E.faults errs.old ≤ E.faults errs.new }
+    ensures says { IsMessageTo (program_line program.now text.now) E.Sink errs.old errs.new }
     ensures stays_ready { E.is_ready errs.new ≡ true }
 {
     say(errs, &[program.as_bytes(), b": ", text.as_bytes(), b"\n"])
@@ -26,10 +22,7 @@ pub fn say_line<E: Sink>(errs: &mut E, program: &str, text: &str)
 /// Says something of a file as a program.
 pub fn say_of_file<E: Sink>(errs: &mut E, program: &str, name: &str, text: &str)
     requires { E.is_ready errs.old ≡ true }
-    ensures said { IsSaid (E.documents errs.old) (E.documents errs.new) (E.faults errs.old)
-        (E.faults errs.new) (file_line program.now name.now text.now) }
-    ensures given_up { StopsAtFailure (E.failures errs.old) (E.failures errs.new) }
-    ensures never_falls { E.faults errs.old ≤ E.faults errs.new }
+    ensures says { IsMessageTo (file_line program.now name.now text.now) E.Sink errs.old errs.new }
     ensures stays_ready { E.is_ready errs.new ≡ true }
 {
     say(
@@ -48,10 +41,7 @@ pub fn say_of_file<E: Sink>(errs: &mut E, program: &str, name: &str, text: &str)
 /// Says something of a page of a file, counted from 1, as a program.
 pub fn say_of_file_page<E: Sink>(errs: &mut E, program: &str, name: &str, page: u64, text: &str)
     requires { E.is_ready errs.old ≡ true }
-    ensures said { IsSaid (E.documents errs.old) (E.documents errs.new) (E.faults errs.old)
-        (E.faults errs.new) (file_page_line program.now name.now page text.now) }
-    ensures given_up { StopsAtFailure (E.failures errs.old) (E.failures errs.new) }
-    ensures never_falls { E.faults errs.old ≤ E.faults errs.new }
+    ensures says { IsMessageTo (file_page_line program.now name.now page text.now) E.Sink errs.old errs.new }
     ensures stays_ready { E.is_ready errs.new ≡ true }
 {
     let mut digits = Buffer::new();
@@ -61,11 +51,8 @@ pub fn say_of_file_page<E: Sink>(errs: &mut E, program: &str, name: &str, page: 
 /// The same of a page whose number is written so.
 fn say_of_numbered<E: Sink>(errs: &mut E, program: &str, name: &str, page: &str, text: &str)
     requires { E.is_ready errs.old ≡ true }
-    ensures said { IsSaid (E.documents errs.old) (E.documents errs.new) (E.faults errs.old)
-        (E.faults errs.new) (concat (program.now ∷ codes ": " ∷ name.now ∷ codes ": page "
-        ∷ page.now ∷ codes ": " ∷ text.now ∷ codes "\n" ∷ [])) }
-    ensures given_up { StopsAtFailure (E.failures errs.old) (E.failures errs.new) }
-    ensures never_falls { E.faults errs.old ≤ E.faults errs.new }
+    ensures says { IsMessageTo (concat (program.now ∷ codes ": " ∷ name.now ∷ codes ": page "
+        ∷ page.now ∷ codes ": " ∷ text.now ∷ codes "\n" ∷ [])) E.Sink errs.old errs.new }
     ensures stays_ready { E.is_ready errs.new ≡ true }
 {
     say(
@@ -86,10 +73,7 @@ fn say_of_numbered<E: Sink>(errs: &mut E, program: &str, name: &str, page: &str,
 /// Writes the pieces of a line one after another, and gives up the rest where a write fails.
 pub(crate) fn say<E: Sink>(errs: &mut E, pieces: &[&[u8]])
     requires { E.is_ready errs.old ≡ true }
-    ensures said { IsSaid (E.documents errs.old) (E.documents errs.new) (E.faults errs.old)
-        (E.faults errs.new) (concat (map (λ piece. piece.now) pieces.now)) }
-    ensures given_up { StopsAtFailure (E.failures errs.old) (E.failures errs.new) }
-    ensures never_falls { E.faults errs.old ≤ E.faults errs.new }
+    ensures says { IsMessageTo (concat (map (λ piece. piece.now) pieces.now)) E.Sink errs.old errs.new }
     ensures stays_ready { E.is_ready errs.new ≡ true }
 {
     match write_pieces(errs, pieces) {

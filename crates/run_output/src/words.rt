@@ -1,7 +1,8 @@
 //! The words that a program was started with.
 ghost use Rattle.std.specs.Prelude.{◌≡◌, ◌⊎◌, true, codes, IfErr, OnOk};
 ghost use Rattle.run_output.specs.Messages.{program_line};
-ghost use Rattle.run_output.specs.Told.{IsMessage, told_of};
+ghost use Rattle.run_output.specs.Told.{told_of};
+ghost use Rattle.run_output.specs.Inner.Told.{IsMessageTo};
 ghost use Rattle.run_output.specs.declared.status.Status.TheVariants.{BadWords, OutOfMemory};
 
 use crate::line::say_line;
@@ -21,10 +22,10 @@ pub fn words_of<R: Env + Alloc<A = Global>, E: Sink>(
 ) -> Result<Vec<String>, Status>
     requires { E.is_ready errs.old ≡ true }
     ensures silent { OnOk result (told_of E.Sink errs.new ≡ told_of E.Sink errs.old) }
-    ensures says { IfErr result (λ status. ((status ≡ BadWords) × IsMessage
-        (program_line program.now refusal.now) (told_of E.Sink errs.old) (told_of E.Sink errs.new))
-        ⊎ ((status ≡ OutOfMemory) × IsMessage
-        (program_line program.now (codes "out of memory")) (told_of E.Sink errs.old) (told_of E.Sink errs.new))) }
+    ensures says { IfErr result (λ status.
+        ((status ≡ BadWords) × IsMessageTo (program_line program.now refusal.now) E.Sink errs.old errs.new)
+        ⊎ ((status ≡ OutOfMemory)
+        × IsMessageTo (program_line program.now (codes "out of memory")) E.Sink errs.old errs.new)) }
     ensures stays_ready { E.is_ready errs.new ≡ true }
 {
     let args = match env::args(rt) {

@@ -1,6 +1,7 @@
 //! All that a program does.
 ghost use Rattle.std.specs.Prelude.{◌≡◌, ℕ, false, length, true};
-ghost use Rattle.run_output.specs.Told.{IsMessage, sinks_of, source_of, told_of};
+ghost use Rattle.run_output.specs.Told.{sinks_of, source_of};
+ghost use Rattle.run_output.specs.Inner.Told.{IsMessageTo};
 ghost use Rattle.small_program.specs.ProgramRun.{IsProgramRun, PutsText};
 ghost use Rattle.small_program.specs.Inner.ProgramRun.{PutsReply};
 ghost use Rattle.small_program.specs.Inner.Reply.{reply_ending, reply_text, stop_ending, stop_line};
@@ -55,8 +56,7 @@ pub fn run<I: Inputs, O: Outputs, E: Sink, T: Replies>(
 fn say_stop<E: Sink>(program: &str, stop: InputStop, errs: &mut E) -> Ending
     requires { E.is_ready errs.old ≡ true }
     ensures ending { result ≡ stop_ending stop }
-    ensures says { IsMessage (stop_line program.now stop) (told_of E.Sink errs.old)
-        (told_of E.Sink errs.new) }
+    ensures says { IsMessageTo (stop_line program.now stop) E.Sink errs.old errs.new }
 {
     match stop {
         InputStop::Unread => {

@@ -52,13 +52,13 @@ pub returns-in_default-clause-converted : goal.returns-in_default-clause-convert
 returns-in_default-clause-converted g c = λ names first are. (
   ends_at_once (told_contents (g.I.Inputs.files c.args.inputs.now)) (manner_of g.J.PageJob c.args.task.now) c.requires.texts (c.args.name.now ∷ names) c.args.made.now _ _
       (record { outs = refl; opened = refl })
-      (record { said = c.say_out_of_memory.ensures.said; given_up = c.say_out_of_memory.ensures.given_up; never_falls = c.say_out_of_memory.ensures.never_falls }) first,
+      c.say_out_of_memory.ensures.says first,
   λ is. absurd (out_not_unwritten is),
   λ is. lose_at_start (2 * c.args.task.now.plan.workers) (manner_of g.J.PageJob c.args.task.now) c.requires.texts c.args.name.now c.args.made.now (g.I.Inputs.files c.open.new.self)
       (source_of g.I.Inputs c.args.inputs.now) (source_of g.I.Inputs c.open.new.self) c.in-Ok.ensures.file (λ lacking. ok_not_err _ _ (c.in-Ok.ensures.absent.1 lacking)) c.in-Ok.ensures.one_more refl refl
       c.args.batch.now _ _ refl c.requires.going.waits.few
       (only_said out_of_memory _ _ (record { outs = refl; opened = refl })
-      (record { said = c.say_out_of_memory.ensures.said; given_up = c.say_out_of_memory.ensures.given_up; never_falls = c.say_out_of_memory.ensures.never_falls })) names first are,
+      c.say_out_of_memory.ensures.says) names first are,
 )
 
 pub returns-in_default-clause-asked : goal.returns-in_default-clause-asked
@@ -208,7 +208,7 @@ returns-in-Err-add-clause-converted g c = λ names first are.
       ends_behind size (told_contents told) manner c.requires.texts c.args.name.now c.args.made.now _ c.args.batch.now c.finish.new.batch before after _
           file
           (record { outs = refl; opened = refl })
-          (record { said = c.say_out_of_memory-in-Err-add.ensures.said; given_up = c.say_out_of_memory-in-Err-add.ensures.given_up; never_falls = c.say_out_of_memory-in-Err-add.ensures.never_falls })
+          c.say_out_of_memory-in-Err-add.ensures.says
           names first are,
       λ is. absurd (out_not_unwritten is),
       λ is. lose_behind size manner c.requires.texts c.args.name.now c.args.made.now start (source_of g.I.Inputs c.args.inputs.now) (source_of g.I.Inputs c.convert_pages.new.inputs)
@@ -216,7 +216,7 @@ returns-in-Err-add-clause-converted g c = λ names first are.
           c.in-Ok-convert_pages.converted.pages c.args.batch.now c.convert_pages.new.batch before mid c.in-Ok-convert_pages.converted.end converted _ c.finish.new.batch after _ file _ same
           c.in-Ok-finish.ensures.going.waits.few
           (only_said out_of_memory _ _ (record { outs = refl; opened = refl })
-          (record { said = c.say_out_of_memory-in-Err-add.ensures.said; given_up = c.say_out_of_memory-in-Err-add.ensures.given_up; never_falls = c.say_out_of_memory-in-Err-add.ensures.never_falls })) names first are,
+          c.say_out_of_memory-in-Err-add.ensures.says) names first are,
     )
 
 pub returns-in-Err-add-clause-asked : goal.returns-in-Err-add-clause-asked

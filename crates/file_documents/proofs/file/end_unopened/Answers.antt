@@ -7,7 +7,7 @@ use Rattle.file_documents.proofs.file.end_unopened.Goals as goal
 pub returns-in-Ok-clause-ends : goal.returns-in-Ok-clause-ends
 returns-in-Ok-clause-ends g c = λ first are.
     unopened_said c.args.name.now first _ _ _ (c.in-Ok.ensures.ended first are) (record { outs = refl; opened = refl })
-    (record { said = c.say_not_opened.ensures.said; given_up = c.say_not_opened.ensures.given_up; never_falls = c.say_not_opened.ensures.never_falls })
+    c.say_not_opened.ensures.says
 
 -- or it isn't
 pub returns-in-Err-clause-ends : goal.returns-in-Err-clause-ends

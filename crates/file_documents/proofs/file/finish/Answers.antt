@@ -40,14 +40,14 @@ returns-in-Fault-NoMemory-clause-ended g c = λ first are.
     inr (
       inr refl,
       memory_out first _ _ (record { outs = refl; opened = refl })
-          (record { said = c.say_out_of_memory.ensures.said; given_up = c.say_out_of_memory.ensures.given_up; never_falls = c.say_out_of_memory.ensures.never_falls }),
+          c.say_out_of_memory.ensures.says,
     )
 
 -- all that was held is carried out, and the end is said
 pub returns-in-Ok-clause-ended : goal.returns-in-Ok-clause-ended
 returns-in-Ok-clause-ended g c = λ first are.
     end_said c.args.name.now c.args.converted.end c.args.converted.pages _ _ first (sinks_at g.O.Sink g.E.Sink c.args.desk.now) (sinks_at g.O.Sink g.E.Sink c.carry_out.new.desk) _ (c.in-Ok.ensures.ended first are) (record { outs = refl; opened = refl })
-    (record { said = c.say_of_page.ensures.said; given_up = c.say_of_page.ensures.given_up; never_falls = c.say_of_page.ensures.never_falls })
+    c.say_of_page.ensures.says
     (elim c.match-converted.branch [
       | in-TooMany w ↦ record {
         is = rw (w.status-is, w.in-TooMany.is) refl;
@@ -86,7 +86,7 @@ returns-in-Trailing-clause-idle g c = idle_held c.hold_end-in-Trailing.result _ 
 
 pub returns-in-Fault-NoMemory-clause-idle : goal.returns-in-Fault-NoMemory-clause-idle
 returns-in-Fault-NoMemory-clause-idle g c = λ is. only_said out_of_memory _ _ (record { outs = refl; opened = refl })
-    (record { said = c.say_out_of_memory.ensures.said; given_up = c.say_out_of_memory.ensures.given_up; never_falls = c.say_out_of_memory.ensures.never_falls })
+    c.say_out_of_memory.ensures.says
 
 pub returns-in-Ok-clause-idle : goal.returns-in-Ok-clause-idle
 returns-in-Ok-clause-idle g c = λ is. absurd (elim c.match-converted.branch [

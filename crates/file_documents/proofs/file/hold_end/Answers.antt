@@ -27,7 +27,7 @@ pub returns-in-Err-clause-held : goal.returns-in-Err-clause-held
 returns-in-Err-clause-held g c = (
   refl,
   λ items. memory_out items _ _ (record { outs = refl; opened = refl })
-      (record { said = c.say_out_of_memory.ensures.said; given_up = c.say_out_of_memory.ensures.given_up; never_falls = c.say_out_of_memory.ensures.never_falls }),
+      c.say_out_of_memory.ensures.says,
 )
 
 pub returns-in-Err-clause-going : goal.returns-in-Err-clause-going

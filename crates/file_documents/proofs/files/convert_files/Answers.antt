@@ -53,13 +53,13 @@ loop-name-preserved g c =
 pub returns-in_default : goal.returns-in_default
 returns-in_default g c = record {
   outcome = ends_at_once (told_contents (g.I.Inputs.files c.args.inputs.now)) (manner_of g.J.PageJob c.args.task.now) c.requires.texts c.args.names.now no_past _ _ (record { outs = refl; opened = refl })
-      (record { said = c.say_out_of_memory.ensures.said; given_up = c.say_out_of_memory.ensures.given_up; never_falls = c.say_out_of_memory.ensures.never_falls }) [];
+      c.say_out_of_memory.ensures.says [];
   opened = inl (refl, refl);
   one_pass = λ is. absurd (out_not_unwritten is);
   one_batch = λ is. lose_none (2 * c.args.task.now.plan.workers) (told_contents (g.I.Inputs.files c.args.inputs.now)) (manner_of g.J.PageJob c.args.task.now) c.requires.texts c.args.names.now
       (source_of g.I.Inputs c.args.inputs.now) (source_of g.I.Inputs c.args.inputs.now) _ _ refl refl
       (only_said out_of_memory _ _ (record { outs = refl; opened = refl })
-      (record { said = c.say_out_of_memory.ensures.said; given_up = c.say_out_of_memory.ensures.given_up; never_falls = c.say_out_of_memory.ensures.never_falls }));
+      c.say_out_of_memory.ensures.says);
   input = tt;
   keeps = record { outs = refl; errs = refl; ready = c.say_out_of_memory.ensures.stays_ready; never_falls = same_count (g.O.Sink.faults c.args.desk.now.outs.now) };
 }

@@ -8,11 +8,11 @@ use Rattle.file_documents.proofs.pages.hold_page.Goals as goal
 -- no memory for the name
 pub returns-in_default-clause-held : goal.returns-in_default-clause-held
 returns-in_default-clause-held g c = λ items are text is. memory_out _ _ _ (record { outs = refl; opened = refl })
-    (record { said = c.say_out_of_memory.ensures.said; given_up = c.say_out_of_memory.ensures.given_up; never_falls = c.say_out_of_memory.ensures.never_falls })
+    c.say_out_of_memory.ensures.says
 
 pub returns-in_default-clause-idle : goal.returns-in_default-clause-idle
 returns-in_default-clause-idle g c = λ is. only_said out_of_memory _ _ (record { outs = refl; opened = refl })
-    (record { said = c.say_out_of_memory.ensures.said; given_up = c.say_out_of_memory.ensures.given_up; never_falls = c.say_out_of_memory.ensures.never_falls })
+    c.say_out_of_memory.ensures.says
 
 pub returns-clause-idle : goal.returns-clause-idle
 returns-clause-idle g c = c.hold_page.ensures.idle

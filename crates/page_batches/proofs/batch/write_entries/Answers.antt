@@ -74,11 +74,7 @@ loop-entry-preserved g c = elim c.match-entry.branch [
       rw (w.desk-is, w.done-is) (record {
         written = end_written b c.args.entries.now c.args.texts.now c.loop-entry.entry-index c.loop-entry.done _ _ _ _ _ from refl refl c.loop-entry.invariant.written
             (said_with _ _ _ _ _ _ (rw (w.deref-in-EndTrailing.ensures) at w.in_ok-write_end-in-EndTrailing.ensures.written) (record { outs = refl; opened = refl })
-            (record {
-              said = rw (w.deref-in-EndTrailing-2.ensures, w.from.ensures) at w.say_trailing.ensures.said;
-              given_up = w.say_trailing.ensures.given_up;
-              never_falls = w.say_trailing.ensures.never_falls;
-            }));
+            (rw (w.deref-in-EndTrailing-2.ensures, w.from.ensures) at w.say_trailing.ensures.says));
         turn = subst (λ o. AreInOrder b o (drop (c.loop-entry.entry-index + 1) c.args.entries.now)) (sym w.in_ok-write_end-in-EndTrailing.ensures.written.opened) turn.1;
         keeps = record { outs = more.outs ∙ before.outs; errs = more.errs ∙ before.errs; ready = w.say_trailing.ensures.stays_ready; never_falls = never_falls_on _ _ _ before.never_falls more.never_falls };
       })
@@ -90,11 +86,7 @@ loop-entry-preserved g c = elim c.match-entry.branch [
       rw (w.desk-is, w.done-is) (record {
         written = message_written b c.args.entries.now c.args.texts.now c.loop-entry.entry-index c.loop-entry.done _ _ _ w.in-Trailing.name w.in-Trailing.pages
             from c.loop-entry.invariant.written (record { outs = refl; opened = refl })
-            (record {
-              said = rw (w.deref-in-Trailing.ensures, w.from-in-Trailing.ensures) at w.say_trailing-in-Trailing.ensures.said;
-              given_up = w.say_trailing-in-Trailing.ensures.given_up;
-              never_falls = w.say_trailing-in-Trailing.ensures.never_falls;
-            });
+            (rw (w.deref-in-Trailing.ensures, w.from-in-Trailing.ensures) at w.say_trailing-in-Trailing.ensures.says);
         turn = turn;
         keeps = record { outs = before.outs; errs = before.errs; ready = w.say_trailing-in-Trailing.ensures.stays_ready; never_falls = before.never_falls };
       })

@@ -25,7 +25,7 @@ pub returns-in-Err-Bad-clause-answered : goal.returns-in-Err-Bad-clause-answered
 returns-in-Err-Bad-clause-answered g c = record {
   ran = λ ask asked. absurd (c.in-Err-Bad.ensures.bad (ap Err c.in-Err-Bad.field-0-is) ask asked);
   bad_words = λ is. c.in-Err-Bad.ensures.bad (ap Err c.in-Err-Bad.field-0-is);
-  refused = λ none. (refl, only_said bad_words _ _ (record { outs = refl; opened = refl }) (record { said = c.say_bad_words.ensures.said; given_up = c.say_bad_words.ensures.given_up; never_falls = c.say_bad_words.ensures.never_falls }));
+  refused = λ none. (refl, only_said bad_words _ _ (record { outs = refl; opened = refl }) c.say_bad_words.ensures.says);
   input = refl;
   output = (refl, (λ all. c.requires.closed), refl);
 }
@@ -35,15 +35,15 @@ pub returns-in-Err-NoMemory-clause-answered : goal.returns-in-Err-NoMemory-claus
 returns-in-Err-NoMemory-clause-answered g c = record {
   ran = λ ask asked. record {
     outcome = out_at_once (λ settings can output page is. c.pages_have_documents.ensures page settings is can) ask _ _ _ (possible (map string_bytes c.args.words.now) ask asked)
-        (only_said out_of_memory _ _ (record { outs = refl; opened = refl }) (record { said = c.say_out_of_memory.ensures.said; given_up = c.say_out_of_memory.ensures.given_up; never_falls = c.say_out_of_memory.ensures.never_falls }));
+        (only_said out_of_memory _ _ (record { outs = refl; opened = refl }) c.say_out_of_memory.ensures.says);
     opened = inl (refl, refl);
     input = tt;
     one_pass = λ e. absurd (let no : status.OutOfMemory ≡ status.Unwritten = e in cc);
     one_batch = λ e. lost_at_once (λ settings can output page is. c.pages_have_documents.ensures page settings is can) ask _ _ _ (possible (map string_bytes c.args.words.now) ask asked)
-        (only_said out_of_memory _ _ (record { outs = refl; opened = refl }) (record { said = c.say_out_of_memory.ensures.said; given_up = c.say_out_of_memory.ensures.given_up; never_falls = c.say_out_of_memory.ensures.never_falls }));
+        (only_said out_of_memory _ _ (record { outs = refl; opened = refl }) c.say_out_of_memory.ensures.says);
   };
   bad_words = λ e. absurd (let no : status.OutOfMemory ≡ status.BadWords = e in cc);
-  refused = λ none. (refl, only_said out_of_memory _ _ (record { outs = refl; opened = refl }) (record { said = c.say_out_of_memory.ensures.said; given_up = c.say_out_of_memory.ensures.given_up; never_falls = c.say_out_of_memory.ensures.never_falls }));
+  refused = λ none. (refl, only_said out_of_memory _ _ (record { outs = refl; opened = refl }) c.say_out_of_memory.ensures.says);
   input = tt;
   output = (refl, (λ all. c.requires.closed), refl);
 }

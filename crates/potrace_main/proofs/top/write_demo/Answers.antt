@@ -10,7 +10,7 @@ use Rattle.potrace_main.proofs.top.write_demo.Goals as goal
 pub returns-in-Err-clause-ended : goal.returns-in-Err-clause-ended
 returns-in-Err-clause-ended g c =
     let (text, is) = demo_found c.args.pages c.args.settings c.requires.possible.0.document in
-    (text, is, memory_out (Doc dash text ∷ []) _ _ (record { outs = refl; opened = refl }) (record { said = c.say_out_of_memory.ensures.said; given_up = c.say_out_of_memory.ensures.given_up; never_falls = c.say_out_of_memory.ensures.never_falls }))
+    (text, is, memory_out (Doc dash text ∷ []) _ _ (record { outs = refl; opened = refl }) c.say_out_of_memory.ensures.says)
 
 -- the desk is the same
 pub returns-in-Ok-clause-keeps : goal.returns-in-Ok-clause-keeps

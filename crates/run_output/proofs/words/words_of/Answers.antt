@@ -4,21 +4,17 @@ use Rattle.run_output.proofs.words.words_of.Goals as goal
 -- memory ran out
 pub returns-in-Err-clause-says : goal.returns-in-Err-clause-says
 returns-in-Err-clause-says g c =
-    inr (refl, record { said = c.say_line.ensures.said; given_up = c.say_line.ensures.given_up; never_falls = c.say_line.ensures.never_falls })
+    inr (refl, c.say_line.ensures.says)
 
 -- a word is none that can be read
 pub returns-in-Err-2-clause-says : goal.returns-in-Err-2-clause-says
 returns-in-Err-2-clause-says g c =
-    inl (refl, record { said = c.say_line-in-Err-2.ensures.said; given_up = c.say_line-in-Err-2.ensures.given_up; never_falls = c.say_line-in-Err-2.ensures.never_falls })
+    inl (refl, c.say_line-in-Err-2.ensures.says)
 
 -- memory ran out
 pub returns-in-Err-behind_name-clause-says : goal.returns-in-Err-behind_name-clause-says
 returns-in-Err-behind_name-clause-says g c =
     inr (
       refl,
-      record {
-        said = c.say_line-in-Err-behind_name.ensures.said;
-        given_up = c.say_line-in-Err-behind_name.ensures.given_up;
-        never_falls = c.say_line-in-Err-behind_name.ensures.never_falls;
-      },
+      c.say_line-in-Err-behind_name.ensures.says,
     )

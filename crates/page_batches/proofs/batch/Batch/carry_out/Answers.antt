@@ -16,11 +16,11 @@ trace_all-requires-clause-pages g c κs within =
 -- no page is traced
 pub returns-in_default-clause-ended : goal.returns-in_default-clause-ended
 returns-in_default-clause-ended g c = λ items held. memory_out _ _ _ (record { outs = refl; opened = refl })
-    (record { said = c.say_out_of_memory.ensures.said; given_up = c.say_out_of_memory.ensures.given_up; never_falls = c.say_out_of_memory.ensures.never_falls })
+    c.say_out_of_memory.ensures.says
 
 pub returns-in_default-clause-idle : goal.returns-in_default-clause-idle
 returns-in_default-clause-idle g c = λ is. only_said out_of_memory _ _ (record { outs = refl; opened = refl })
-    (record { said = c.say_out_of_memory.ensures.said; given_up = c.say_out_of_memory.ensures.given_up; never_falls = c.say_out_of_memory.ensures.never_falls })
+    c.say_out_of_memory.ensures.says
 
 -- there is a text for each page
 pub write_entries-written-requires-clause-texts : goal.write_entries-written-requires-clause-texts

@@ -10,11 +10,11 @@ use Rattle.page_batches.proofs.batch.Batch.hold_page.Goals as goal
 -- no memory for the page
 pub returns-in_default-clause-held : goal.returns-in_default-clause-held
 returns-in_default-clause-held g c = λ first are text is. memory_out _ _ _ (record { outs = refl; opened = refl })
-    (record { said = c.say_out_of_memory.ensures.said; given_up = c.say_out_of_memory.ensures.given_up; never_falls = c.say_out_of_memory.ensures.never_falls })
+    c.say_out_of_memory.ensures.says
 
 pub returns-in_default-clause-idle : goal.returns-in_default-clause-idle
 returns-in_default-clause-idle g c = λ is. only_said out_of_memory _ _ (record { outs = refl; opened = refl })
-    (record { said = c.say_out_of_memory.ensures.said; given_up = c.say_out_of_memory.ensures.given_up; never_falls = c.say_out_of_memory.ensures.never_falls })
+    c.say_out_of_memory.ensures.says
 
 -- the page is held
 pub returns-then-count-plan-clause-held : goal.returns-then-count-plan-clause-held

@@ -14,7 +14,7 @@ returns-in-Err-clause-written g c = λ notes. record {
   cut_off = c.in-Err.ensures.cut_off;
   rose = c.in-Err.ensures.cause;
   failed = c.in-Err.ensures.failed;
-  messages = one_said _ _ _ (record { said = c.say_not_written.ensures.said; given_up = c.say_not_written.ensures.given_up; never_falls = c.say_not_written.ensures.never_falls });
+  messages = one_said _ _ _ c.say_not_written.ensures.says;
 }
 
 -- the desk is the same

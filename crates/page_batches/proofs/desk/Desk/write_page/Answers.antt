@@ -16,7 +16,7 @@ returns-in-Err-clause-written g c = record {
   rose = c.in-Err.ensures.cause;
   failed = c.in-Err.ensures.failed;
   messages = rw (name_of_page c.args.binding c.args.name.now c.args.before c.args.text.now)
-      (one_said _ _ _ (record { said = c.say_not_written.ensures.said; given_up = c.say_not_written.ensures.given_up; never_falls = c.say_not_written.ensures.never_falls }));
+      (one_said _ _ _ c.say_not_written.ensures.says);
 }
 
 -- the desk is the same
