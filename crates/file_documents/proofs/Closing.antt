@@ -37,7 +37,7 @@ closed_behind is_open (Missing name ∷ items) all closed = closed_behind is_ope
 -- whole documents were written: the outputs' count of faults stayed, and no document is open
 pub carried_closed : (items : List Item) (last : List (List ℕ)) (a b : Sinks) → AreCarriedOut items last a b → AreWhole items → a.is_open ≡ false
     → (b.outs.faults ≡ a.outs.faults) × (b.is_open ≡ false)
-carried_closed items last a b done all closed = (done.steady, done.opened ∙ closed_behind a.is_open items all closed)
+carried_closed items last a b done all closed = (done.went.steady, done.opened ∙ closed_behind a.is_open items all closed)
 
 -- what follows writes whole documents
 abbrev pub WritesWhole : Rest → Type 0

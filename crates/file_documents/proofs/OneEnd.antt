@@ -93,7 +93,7 @@ items_end_so status.BadWords items old now ended written memory = absurd ended
 items_end_so status.Refused items old now r written memory =
     subst (λ (l : List Item). IsEndOf l status.Refused old now) (sym r.split) (end_behind r.before (Refuse r.message ∷ []) old now refl r.done)
 items_end_so status.Unread items old now ended written memory = absurd ended
-items_end_so status.Unwritten items old now u written memory = absurd (written u.rose)
+items_end_so status.Unwritten items old now u written memory = absurd (written u.broke.rose)
 items_end_so status.OutOfMemory items old now o written memory = absurd (memory refl)
 
 -- messages that were said whole
@@ -137,7 +137,7 @@ files_end_so status.Done manner names source source_now old now (items, are, don
 files_end_so status.BadWords manner names source source_now old now (items, are, ended) read written memory = absurd ended
 files_end_so status.Refused manner names source source_now old now r read written memory =
     (r.before ++ Refuse r.message ∷ [], r.all, end_behind r.before (Refuse r.message ∷ []) old now refl r.done)
-files_end_so status.Unwritten manner names source source_now old now (items, are, u) read written memory = absurd (written u.rose)
+files_end_so status.Unwritten manner names source source_now old now (items, are, u) read written memory = absurd (written u.broke.rose)
 files_end_so status.OutOfMemory manner names source source_now old now o read written memory = absurd (memory refl)
 files_end_so status.Unread manner names source source_now old now (inr u) read written memory = absurd (read u.rose)
 files_end_so status.Unread manner names source source_now old now (inl u) read written memory = by_cause u.cause where

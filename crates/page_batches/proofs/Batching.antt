@@ -153,8 +153,7 @@ item_cut b entries texts i n m x y z item w next cut =
       split = ap (λ l. l ++ rest) cut.split ∙ append_assoc cut.before (Write cut.part ∷ cut.after) rest;
       goes_on = cut.goes_on;
       cut_off = cut.cut_off;
-      rose = cut.rose;
-      failed = cut.failed;
+      broke = cut.broke;
       messages = cut.messages;
     } in
     subst (λ l. IsUnwritten l x z) (sym (w.split ∙ ap (λ l. w.before ++ l) next)) (ended_on status.Unwritten w.before (item ∷ rest) x y z w.carried more)
@@ -179,7 +178,7 @@ pub said_with : (name : List ℕ) (pages : ℕ) (message : List ℕ) (x y z : Si
     → IsSaying y z → IsMessage message y.errs z.errs → AreCarriedOut (Write (end_part name pages (message ∷ [])) ∷ []) [] x z
 said_with name pages message x y z done same said =
     let both = carried_on (Write (end_part name pages []) ∷ []) (Note message ∷ []) [] x y z done (note_said message y z same said) in
-    record { goes_on = both.goes_on; documents = both.documents; steady = both.steady; went = both.went; opened = both.opened; messages = both.messages }
+    record { goes_on = both.goes_on; documents = both.documents; went = both.went; opened = both.opened; messages = both.messages }
 
 -- the message at this place is said
 pub message_written : (b : Binding) (entries : List Given) (texts : List (Vec ℕ Global)) (i n : ℕ) (x y z : Sinks) (name : _) (count : ℕ)

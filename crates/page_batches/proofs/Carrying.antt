@@ -1,9 +1,7 @@
 -- Items carried out one after another.
-use Rattle.std.proofs.Common.{◌≡◌, not, Bool, true, ℕ, List, [], ◌∷◌, ◌++◌, Option, Result, Ok, Err, IsErr, inl, inr, refl, sym, ◌∙◌, ap, subst, append_assoc}
+use Rattle.std.proofs.Common.{◌≡◌, not, Bool, ℕ, List, [], ◌∷◌, ◌++◌, Option, Result, Ok, Err, IsErr, inl, inr, refl, sym, ◌∙◌, ap, subst, append_assoc}
 use Rattle.std.proofs.lemmas.List.{append-nil}
-use Rattle.pt_core.specs.Counts.{Rose, next_count}
 use Rattle.pt_core.specs.Documents.{Documents}
-use Rattle.pt_core.specs.Failures.{Failures}
 use Rattle.run_output.specs.Messages.{not_written, out_of_memory}
 use Rattle.run_output.specs.Parts.{IsCutIn, with_part}
 use Rattle.run_output.specs.declared.status.Status.{Status}
@@ -13,6 +11,7 @@ use Rattle.page_batches.specs.Items.Item.{Missing, Note, Refuse, Write}
 use Rattle.page_batches.specs.ItemsDone.{AreCarriedOut, AreSaid, HasEnded, IsUnwritten}
 use Rattle.page_batches.specs.Inner.ItemsDone.{EndsWriting, IsHalt}
 use Rattle.run_output.specs.Told.{IsMessage, Sinks, Told}
+use Rattle.run_output.proofs.Calls.{broke_on, went_on}
 
 pub GoesOn-append : (items more : List Item) → GoesOn items → GoesOn more → GoesOn (items ++ more)
 GoesOn-append [] more h k = k
@@ -66,15 +65,10 @@ pub carried_on : (items more : List Item) (last : List (List ℕ)) (a b c : Sink
 carried_on items more last a b c done next = record {
   goes_on = GoesOn-append items more done.goes_on next.goes_on;
   documents = next.documents ∙ documents_on items more a b done;
-  steady = next.steady ∙ done.steady;
-  went = next.went ∙ done.went;
+  went = went_on a.outs b.outs c.outs done.went next.went;
   opened = next.opened ∙ ap (λ o. is_open_behind o more) done.opened ∙ sym (is_open_behind-append a.is_open items more);
   messages = said_behind items more last a b c done next.messages;
 }
-
--- what calls answered of which one failed, the last one, behind so many others that did
-abbrev failed_after : ℕ → Failures
-failed_after n = record { count = next_count n; is_last = true }
 
 -- items, and then others of which a document couldn't be written
 pub unwritten_on : (items more : List Item) (a b c : Sinks) → AreCarriedOut items [] a b → (u : IsUnwritten more b c)
@@ -87,8 +81,7 @@ unwritten_on items more a b c done next = (
     split = ap (λ l. items ++ l) next.split ∙ sym (append_assoc items next.before (Write next.part ∷ next.after));
     goes_on = GoesOn-append items next.before done.goes_on next.goes_on;
     cut_off = subst (λ o. IsCutIn next.part o c.outs.documents) (documents_on items next.before a b done) next.cut_off;
-    rose = subst (λ n. Rose n c.outs.faults) done.steady next.rose;
-    failed = next.failed ∙ ap failed_after done.went;
+    broke = broke_on a.outs b.outs c.outs done.went next.broke;
     messages = said_behind items next.before (not_written next.part.name ∷ []) a b c done next.messages;
   },
   refl,
@@ -104,8 +97,7 @@ unwritten_as items others a b same u = (
     split = same ∙ u.split;
     goes_on = u.goes_on;
     cut_off = u.cut_off;
-    rose = u.rose;
-    failed = u.failed;
+    broke = u.broke;
     messages = u.messages;
   },
   refl,
@@ -121,8 +113,7 @@ unwritten_more items more a b u = (
     split = ap (λ l. l ++ more) u.split ∙ append_assoc u.before (Write u.part ∷ u.after) more;
     goes_on = u.goes_on;
     cut_off = u.cut_off;
-    rose = u.rose;
-    failed = u.failed;
+    broke = u.broke;
     messages = u.messages;
   },
   refl,
@@ -158,7 +149,7 @@ one_said message old new said = (new, said, refl)
 
 -- nothing was done
 pub nothing_done : (a : Sinks) → AreCarriedOut [] [] a a
-nothing_done a = record { goes_on = tt; documents = refl; steady = refl; went = refl; opened = refl; messages = refl }
+nothing_done a = record { goes_on = tt; documents = refl; went = record { steady = refl; went = refl }; opened = refl; messages = refl }
 
 -- only the messages differ
 pub record IsSaying (a b : Sinks) : Type 0 where
@@ -170,8 +161,7 @@ pub only_said : (message : List ℕ) (a b : Sinks) → IsSaying a b → IsMessag
 only_said message a b same said = record {
   goes_on = tt;
   documents = ap (λ t. t.documents) same.outs;
-  steady = ap (λ t. t.faults) same.outs;
-  went = ap (λ t. t.failures.count) same.outs;
+  went = record { steady = ap (λ t. t.faults) same.outs; went = ap (λ t. t.failures.count) same.outs };
   opened = same.opened;
   messages = one_said message a.errs b.errs said;
 }
@@ -180,7 +170,7 @@ only_said message a b same said = record {
 pub note_said : (message : List ℕ) (a b : Sinks) → IsSaying a b → IsMessage message a.errs b.errs → AreCarriedOut (Note message ∷ []) [] a b
 note_said message a b same said =
     let done = only_said message a b same said in
-    record { goes_on = tt; documents = done.documents; steady = done.steady; went = done.went; opened = done.opened; messages = done.messages }
+    record { goes_on = tt; documents = done.documents; went = done.went; opened = done.opened; messages = done.messages }
 
 -- the run goes on after what is read, and so after the last of it
 pub GoesOn-behind : (items more : List Item) → GoesOn (items ++ more) → GoesOn more

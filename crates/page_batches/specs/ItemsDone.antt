@@ -1,10 +1,8 @@
 -- What a run has done, against the items that it was to do.
 use Rattle.std.specs.Prelude.{◌≡◌, ℕ, ◌≤◌, List, [], ◌∷◌, ◌++◌, length, take}
-use Rattle.pt_core.specs.Counts.{Rose}
-use Rattle.pt_core.specs.Failures.{after_err}
 use Rattle.run_output.specs.Messages.{not_written, out_of_memory}
 use Rattle.run_output.specs.Parts.{IsCutIn, Part}
-use Rattle.run_output.specs.Told.{IsMessage, Sinks, Told}
+use Rattle.run_output.specs.Told.{AllWent, BrokeOff, IsMessage, Sinks, Told}
 use Rattle.run_output.specs.declared.status.Status.{Status}
 use Rattle.run_output.specs.declared.status.Status.TheVariants as status
 use Rattle.page_batches.specs.Items.{GoesOn, Item, is_open_behind, notes, with_items}
@@ -27,8 +25,7 @@ AreFronts (text ∷ texts) [] = ⊥
 pub record AreCarriedOut (items : List Item) (last : List (List ℕ)) (old new : Sinks) : Type 0 where
   pub goes_on : GoesOn items
   pub documents : new.outs.documents ≡ with_items old.outs.documents items
-  pub steady : new.outs.faults ≡ old.outs.faults
-  pub went : new.outs.failures.count ≡ old.outs.failures.count
+  pub went : AllWent old.outs new.outs
   pub opened : new.is_open ≡ is_open_behind old.is_open items
   pub messages : AreSaid old.errs new.errs (notes items ++ last)
 
@@ -48,8 +45,7 @@ pub record IsUnwritten (items : List Item) (old new : Sinks) : Type 0 where
   pub split : items ≡ before ++ Write part ∷ after
   pub goes_on : GoesOn before
   pub cut_off : IsCutIn part (with_items old.outs.documents before) new.outs.documents
-  pub rose : Rose old.outs.faults new.outs.faults
-  pub failed : new.outs.failures ≡ after_err old.outs.failures
+  pub broke : BrokeOff old.outs new.outs
   pub messages : AreSaid old.errs new.errs (notes before ++ not_written part.name ∷ [])
 
 -- some first items are carried out, and then memory ran out

@@ -18,7 +18,7 @@ use Rattle.command_asks.specs.declared.ask.Ask.TheVariants as asks
 use Rattle.page_batches.specs.Items.{Doc, GoesOn, Item}
 use Rattle.page_batches.specs.Items.Item.{Missing, Note, Refuse, Write}
 use Rattle.page_batches.specs.ItemsDone.{AreCarriedOut, HasEnded}
-use Rattle.run_output.specs.Told.{Sinks, Source}
+use Rattle.run_output.specs.Told.{AllWent, Sinks, Source}
 use Rattle.file_documents.specs.FileItems.{AreItems, AreWhole, IsAbsent, Nothing, told_contents}
 use Rattle.file_documents.specs.Manner.{HasTexts, Manner}
 use Rattle.file_documents.specs.Outcome.{IsOutcome, LastEndsNear}
@@ -85,7 +85,7 @@ files_complete status.Refused manner can names source now a b r =
     let items : List Item = r.before ++ Refuse r.message ∷ [] in
     let refusal : EndsRefused items = (r.before, r.message, refl) in
     (items, r.all, λ _ _. record { all = λ goes. absurd (never_refused items goes refusal); refusal = λ _. inl refl; missing = λ m. absurd (no_both items refusal m) })
-files_complete status.Unwritten manner can names source now a b (items, are, u) = (items, are, λ _ no_write. absurd (no_write u.rose))
+files_complete status.Unwritten manner can names source now a b (items, are, u) = (items, are, λ _ no_write. absurd (no_write u.broke.rose))
 files_complete status.OutOfMemory manner can names source now a b (items, are, o) =
     (items, are, λ _ _. record { all = λ _. inr refl; refusal = λ _. inr refl; missing = λ _. inr refl })
 files_complete status.Unread manner can names source now a b (inr u) =
@@ -119,7 +119,7 @@ text_complete status.BadWords text a b ended no_write = absurd ended
 text_complete status.Refused text a b r no_write =
     let goes : GoesOn (Doc dash text ∷ []) = tt in absurd (never_refused (Doc dash text ∷ []) goes (r.before, r.message, r.split))
 text_complete status.Unread text a b ended no_write = absurd ended
-text_complete status.Unwritten text a b u no_write = absurd (no_write u.rose)
+text_complete status.Unwritten text a b u no_write = absurd (no_write u.broke.rose)
 text_complete status.OutOfMemory text a b o no_write = record { all = λ _. inr refl; refusal = λ _. inr refl; missing = λ _. inr refl }
 
 pub run_complete : HaveDocuments → (ask : Ask) (s : Status) (source now : Source) (a b : Sinks) → CanBeDone ask → IsRun ask s source now a b
@@ -216,8 +216,8 @@ lost_at_once law (asks.Files names output workers settings) source a b can done 
 -- How the outputs moved, by the outcome.
 
 carried_moves : (P : Type 0) (items : List Item) (last : List (List ℕ)) (a b : Sinks) → (P → AreWhole items) → a.is_open ≡ false → AreCarriedOut items last a b
-    → (b.outs.faults ≡ a.outs.faults) × (P → b.is_open ≡ false) × (b.outs.failures.count ≡ a.outs.failures.count)
-carried_moves P items last a b all closed done = (done.steady, (λ p. (carried_closed items last a b done (all p) closed).1), done.went)
+    → AllWent a.outs b.outs × (P → b.is_open ≡ false)
+carried_moves P items last a b all closed done = (done.went, λ p. (carried_closed items last a b done (all p) closed).1)
 
 ended_moves : (P : Type 0) (s : Status) (items : List Item) (a b : Sinks) → (P → AreWhole items) → a.is_open ≡ false → HasEnded s items a b → OutputsMove P s a b
 ended_moves P status.Done items a b all closed done = carried_moves P items [] a b all closed done
@@ -225,7 +225,7 @@ ended_moves P status.BadWords items a b all closed ended = absurd ended
 ended_moves P status.Refused items a b all closed r =
     carried_moves P r.before (r.message ∷ []) a b (λ p. AreWhole-front r.before (Refuse r.message ∷ []) (subst AreWhole r.split (all p))) closed r.done
 ended_moves P status.Unread items a b all closed ended = absurd ended
-ended_moves P status.Unwritten items a b all closed u = (u.rose, u.failed)
+ended_moves P status.Unwritten items a b all closed u = u.broke
 ended_moves P status.OutOfMemory items a b all closed o =
     carried_moves P o.before (out_of_memory ∷ []) a b (λ p. AreWhole-front o.before o.after (subst AreWhole o.split (all p))) closed o.done
 
@@ -248,7 +248,7 @@ files_move s manner names source now a b closed outcome = by_status s outcome wh
   by_status status.Unread (inr u) =
       carried_moves (manner.binding ≡ Apart) u.before _ a b
       (λ apart. items_end told manner apart _ (alone_end manner apart u.name u.raws) u.front no_past u.before u.items) closed u.done
-  by_status status.Unwritten (items, are, u) = (u.rose, u.failed)
+  by_status status.Unwritten (items, are, u) = u.broke
   by_status status.OutOfMemory (items, are, o) = ended_moves (manner.binding ≡ Apart) status.OutOfMemory items a b (whole items are) closed o
 
 run_moves : (ask : Ask) (s : Status) (source now : Source) (a b : Sinks) → a.is_open ≡ false → IsOutcomeOf ask s source now a b → OutputsMove (BindsApart ask) s a b
@@ -260,11 +260,11 @@ run_moves (asks.Files names output workers settings) s source now a b closed out
 -- the same where this is known of it
 moves_where : (P Q : Type 0) (s : Status) (a b : Sinks) → (Q → P) → OutputsMove P s a b → OutputsMove Q s a b
 moves_where P Q status.Unwritten a b known moves = moves
-moves_where P Q status.Done a b known moves = (moves.0, (λ q. moves.1 (known q)), moves.2)
-moves_where P Q status.BadWords a b known moves = (moves.0, (λ q. moves.1 (known q)), moves.2)
-moves_where P Q status.Refused a b known moves = (moves.0, (λ q. moves.1 (known q)), moves.2)
-moves_where P Q status.Unread a b known moves = (moves.0, (λ q. moves.1 (known q)), moves.2)
-moves_where P Q status.OutOfMemory a b known moves = (moves.0, (λ q. moves.1 (known q)), moves.2)
+moves_where P Q status.Done a b known moves = (moves.0, λ q. moves.1 (known q))
+moves_where P Q status.BadWords a b known moves = (moves.0, λ q. moves.1 (known q))
+moves_where P Q status.Refused a b known moves = (moves.0, λ q. moves.1 (known q))
+moves_where P Q status.Unread a b known moves = (moves.0, λ q. moves.1 (known q))
+moves_where P Q status.OutOfMemory a b known moves = (moves.0, λ q. moves.1 (known q))
 
 pub asked_moves : (Asks : Ask → Type 0) (ask : Ask) → Asks ask → (s : Status) (source now : Source) (a b : Sinks) → a.is_open ≡ false → IsOutcomeOf ask s source now a b
     → OutputsMove ((other : Ask) → Asks other → BindsApart other) s a b
@@ -295,15 +295,15 @@ code_one s t e = sym (with_code-code_of s) ∙ ap with_code e ∙ with_code-code
 
 -- the outputs' count rises only at that status, and where this is so no document stays open at another
 pub rose_by : (P : Type 0) (s : Status) (a b : Sinks) → OutputsMove P s a b → s ≡ status.Unwritten → Rose a.outs.faults b.outs.faults
-rose_by P s a b moves is = (subst (λ t. OutputsMove P t a b) is moves).0
+rose_by P s a b moves is = (subst (λ t. OutputsMove P t a b) is moves).rose
 
 pub unwritten_by : (P : Type 0) (s : Status) (a b : Sinks) → OutputsMove P s a b → a.outs.faults < b.outs.faults → s ≡ status.Unwritten
 unwritten_by P status.Unwritten a b moves less = refl
-unwritten_by P status.Done a b moves less = absurd (omega (arith, moves.0, less))
-unwritten_by P status.BadWords a b moves less = absurd (omega (arith, moves.0, less))
-unwritten_by P status.Refused a b moves less = absurd (omega (arith, moves.0, less))
-unwritten_by P status.Unread a b moves less = absurd (omega (arith, moves.0, less))
-unwritten_by P status.OutOfMemory a b moves less = absurd (omega (arith, moves.0, less))
+unwritten_by P status.Done a b moves less = absurd (omega (arith, moves.0.steady, less))
+unwritten_by P status.BadWords a b moves less = absurd (omega (arith, moves.0.steady, less))
+unwritten_by P status.Refused a b moves less = absurd (omega (arith, moves.0.steady, less))
+unwritten_by P status.Unread a b moves less = absurd (omega (arith, moves.0.steady, less))
+unwritten_by P status.OutOfMemory a b moves less = absurd (omega (arith, moves.0.steady, less))
 
 pub closed_else : (P : Type 0) (s : Status) (a b : Sinks) → OutputsMove P s a b → P → s ≢ status.Unwritten → b.is_open ≡ false
 closed_else P status.Unwritten a b moves so other = absurd (other refl)
@@ -315,12 +315,12 @@ closed_else P status.OutOfMemory a b moves so other = moves.1 so
 
 -- what the calls of the outputs answered
 pub failed_by : (P : Type 0) (s : Status) (a b : Sinks) → OutputsMove P s a b → FailureCount s a.outs.failures b.outs.failures
-failed_by P status.Unwritten a b moves = moves.1
-failed_by P status.Done a b moves = moves.2
-failed_by P status.BadWords a b moves = moves.2
-failed_by P status.Refused a b moves = moves.2
-failed_by P status.Unread a b moves = moves.2
-failed_by P status.OutOfMemory a b moves = moves.2
+failed_by P status.Unwritten a b moves = moves.failed
+failed_by P status.Done a b moves = moves.0.went
+failed_by P status.BadWords a b moves = moves.0.went
+failed_by P status.Refused a b moves = moves.0.went
+failed_by P status.Unread a b moves = moves.0.went
+failed_by P status.OutOfMemory a b moves = moves.0.went
 
 -- what is asked for isn't refused
 pub never_refuses : (ask : Ask) (source now : Source) (a b : Sinks) → IsRun ask status.BadWords source now a b → ⊥

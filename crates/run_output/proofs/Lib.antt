@@ -1,3 +1,4 @@
+pub mod Calls
 pub mod Cutting
 pub mod NameExamples
 pub mod Naming

@@ -1,7 +1,8 @@
 -- What surrounds a run, as far as it is told: where its bytes come from, where its documents go, and what it says.
-use Rattle.std.specs.Prelude.{ℕ, ◌≤◌, Bool, List, Option}
+use Rattle.std.specs.Prelude.{◌≡◌, ℕ, ◌≤◌, Bool, List, Option}
+use Rattle.pt_core.specs.Counts.{Rose}
 use Rattle.pt_core.specs.Documents.{Documents, IsSaid}
-use Rattle.pt_core.specs.Failures.{Failures, StopsAtFailure}
+use Rattle.pt_core.specs.Failures.{Failures, StopsAtFailure, after_err}
 use Rattle.pt_core.specs.Files.{Files}
 use Rattle.pt_core.specs.declared.inputs.Inputs.{Ghosts as InputGhosts}
 use Rattle.pt_core.specs.declared.sink.Sink.{Ghosts as SinkGhosts}
@@ -43,6 +44,16 @@ pub record Sinks : Type 0 where
 abbrev pub sinks_of : {A B : Type 0} → SinkGhosts A → SinkGhosts B → A → B → Sinks
 sinks_of of_outs of_errs outs errs =
     record { outs = told_of of_outs outs; is_open = of_outs.is_ready outs; errs = told_of of_errs errs }
+
+-- no call of a sink failed
+pub record AllWent (old new : Told) : Type 0 where
+  pub steady : new.faults ≡ old.faults
+  pub went : new.failures.count ≡ old.failures.count
+
+-- one call of a sink failed, and it was the last
+pub record BrokeOff (old new : Told) : Type 0 where
+  pub rose : Rose old.faults new.faults
+  pub failed : new.failures ≡ after_err old.failures
 
 -- a message was said: it is whole, or the count of faults rose and a front of it stands there; and no call failed, or
 -- one did and it was the last, so that the rest of the message was given up

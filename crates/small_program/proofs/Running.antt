@@ -120,14 +120,14 @@ run_replied makes program words bytes text well end source source_now old new no
   refused = λ some. absurd (omega arith);
   missing = λ _ lacks. absurd (is_not_missing source.files bytes replied.takes.has lacks);
   complete = λ _ others more other tells reply still_in still_out. inl (is ∙ one_reply makes bytes text well source source_now replied others more other tells reply);
-  unwritten = λ less. absurd (let e : new.outs.faults ≡ old.outs.faults = writes.steady in omega arith);
+  unwritten = λ less. absurd (let e : new.outs.faults ≡ old.outs.faults = writes.went.steady in omega arith);
 }
 run_replied makes program words bytes text well end source source_now old new none replied (inl (writable, inr (is, cuts))) = record {
   outcome = subst (λ (e : Ending). HasDone makes program e source source_now old new) (sym is) (bytes, well, text, replied.takes, inl (replied.few, replied.made), writable, cuts);
   bad_words = λ bad. absurd (let never : ending.Unwritten ≡ ending.BadWords = sym is ∙ bad in cc);
   refused = λ some. absurd (omega arith);
   missing = λ _ lacks. absurd (is_not_missing source.files bytes replied.takes.has lacks);
-  complete = λ _ others more other tells reply still_in still_out. absurd (still_out cuts.rose);
+  complete = λ _ others more other tells reply still_in still_out. absurd (still_out cuts.broke.rose);
   unwritten = λ less. is;
 }
 run_replied makes program words bytes text well end source source_now old new none replied (inr (refused, is, says)) = record {

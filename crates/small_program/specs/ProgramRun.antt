@@ -2,11 +2,10 @@
 use Rattle.std.specs.Prelude.{◌≡◌, ℕ, ◌+◌, ◌^◌, ◌<◌, ◌⊎◌, List, length, codes, false}
 use Rattle.pt_core.specs.Counts.{Rose, next_count}
 use Rattle.pt_core.specs.Documents.{IsCutOff, with_whole}
-use Rattle.pt_core.specs.Failures.{after_err}
 use Rattle.pt_core.specs.Files.{Lacks}
 use Rattle.run_output.specs.Messages.{file_line, program_line}
 use Rattle.run_output.specs.Names.{dash}
-use Rattle.run_output.specs.Told.{IsMessage, Sinks, Source}
+use Rattle.run_output.specs.Told.{AllWent, BrokeOff, IsMessage, Sinks, Source}
 use Rattle.small_program.specs.Input.{HasInput, HasTaken, TellsInput}
 use Rattle.small_program.specs.Reply.{IsReply}
 use Rattle.small_program.specs.declared.ending.Ending.{Ending}
@@ -43,16 +42,14 @@ pub record OnlySays (message : List ℕ) (old new : Sinks) : Type 0 where
 pub record Writes (text : List ℕ) (old new : Sinks) : Type 0 where
   pub documents : new.outs.documents ≡ with_whole old.outs.documents dash text
   pub closed : new.is_open ≡ false
-  pub steady : new.outs.faults ≡ old.outs.faults
-  pub went : new.outs.failures.count ≡ old.outs.failures.count
+  pub went : AllWent old.outs new.outs
   pub silent : new.errs ≡ old.errs
 
 -- the document `-` of this text is cut off, by the one call of the outputs that failed, which was the last one; and
 -- that is said
 pub record CutsOff (program text : List ℕ) (old new : Sinks) : Type 0 where
   pub cut_off : IsCutOff old.outs.documents new.outs.documents dash text
-  pub rose : Rose old.outs.faults new.outs.faults
-  pub failed : new.outs.failures ≡ after_err old.outs.failures
+  pub broke : BrokeOff old.outs new.outs
   pub says : IsMessage (file_line program dash (codes "write fault")) old.errs new.errs
 
 -- a text was to be written, after which the run ends well: it ends so, or the document is cut off

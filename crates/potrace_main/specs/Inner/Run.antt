@@ -1,22 +1,19 @@
 -- All that a run does, in one record for the calls below the top call.
 use Rattle.std.specs.Prelude.{◌≡◌, ℕ, false, List}
-use Rattle.pt_core.specs.Counts.{Rose}
-use Rattle.pt_core.specs.Failures.{after_err}
 use Rattle.pt_core.specs.declared.inputs.Inputs.{Ghosts as InputGhosts}
 use Rattle.run_output.specs.declared.status.Status.{Status}
 use Rattle.run_output.specs.declared.status.Status.TheVariants as status
 use Rattle.command_asks.specs.Asked.{IsAsked}
 use Rattle.command_asks.specs.declared.ask.Ask.{Ask}
-use Rattle.run_output.specs.Told.{Sinks, Source, source_of}
+use Rattle.run_output.specs.Told.{AllWent, BrokeOff, Sinks, Source, source_of}
 use Rattle.file_documents.specs.Outcome.{OpensFirst, InputCount}
 use Rattle.potrace_main.specs.Run.{IsOutcomeOf, names_of, RefusesWords, BindsApart, IsOnePassOf, LosesBatchOf}
 
--- how the outputs moved: where a document couldn't be written their count of faults rose, and one call failed, the last
--- one; else no call failed, and the count stayed; and no document is open where this is so
+-- how the outputs moved: where a document couldn't be written one call failed, the last one; else none failed, and no
+-- document is open where this is so
 abbrev pub OutputsMove : Type 0 → Status → Sinks → Sinks → Type 0
-OutputsMove Closes status.Unwritten old new = Rose old.outs.faults new.outs.faults × (new.outs.failures ≡ after_err old.outs.failures)
-OutputsMove Closes s old new =
-    (new.outs.faults ≡ old.outs.faults) × (Closes → new.is_open ≡ false) × (new.outs.failures.count ≡ old.outs.failures.count)
+OutputsMove Closes status.Unwritten old new = BrokeOff old.outs new.outs
+OutputsMove Closes s old new = AllWent old.outs new.outs × (Closes → new.is_open ≡ false)
 
 -- all that a run does that is asked for this
 pub record IsRun (ask : Ask) (s : Status) (source source_now : Source) (old new : Sinks) : Type 0 where

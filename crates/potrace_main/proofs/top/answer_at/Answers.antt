@@ -27,7 +27,7 @@ returns-in-Err-Bad-clause-answered g c = record {
   bad_words = λ is. c.in-Err-Bad.ensures.bad (ap Err c.in-Err-Bad.field-0-is);
   refused = λ none. (refl, only_said bad_words _ _ (record { outs = refl; opened = refl }) c.say_bad_words.ensures.says);
   input = refl;
-  output = (refl, (λ all. c.requires.closed), refl);
+  output = (record { steady = refl; went = refl }, λ all. c.requires.closed);
 }
 
 -- memory ran out while they were read: nothing was written
@@ -45,7 +45,7 @@ returns-in-Err-NoMemory-clause-answered g c = record {
   bad_words = λ e. absurd (let no : status.OutOfMemory ≡ status.BadWords = e in cc);
   refused = λ none. (refl, only_said out_of_memory _ _ (record { outs = refl; opened = refl }) c.say_out_of_memory.ensures.says);
   input = tt;
-  output = (refl, (λ all. c.requires.closed), refl);
+  output = (record { steady = refl; went = refl }, λ all. c.requires.closed);
 }
 
 -- the desk is the same
