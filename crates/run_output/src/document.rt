@@ -1,8 +1,7 @@
 //! Writing a whole document.
 ghost use Rattle.std.specs.Prelude.{◌≡◌, ◌≤◌, false, OnOk, OnErr};
-ghost use Rattle.pt_core.specs.Counts.{Rose};
 ghost use Rattle.pt_core.specs.Documents.{IsCutOff, with_whole};
-ghost use Rattle.pt_core.specs.Failures.{after_err};
+ghost use Rattle.run_output.specs.Inner.Told.{CallsEnd};
 
 use crate::part::write_part;
 use pt_core::{Outputs, SinkFault};
@@ -14,15 +13,10 @@ pub fn write_document<O: Outputs>(outs: &mut O, name: &str, text: &[u8]) -> Resu
     requires { O.is_ready outs.old ≡ false }
     ensures whole { OnOk result (O.documents outs.new
         ≡ with_whole (O.documents outs.old) name.now text.now) }
-    ensures steady { OnOk result (O.faults outs.new ≡ O.faults outs.old) }
     ensures closed { OnOk result (O.is_ready outs.new ≡ false) }
-    ensures went { OnOk result ((O.failures outs.new).count ≡ (O.failures outs.old).count) }
-
-    // One call failed, and none came after it.
-    ensures failed { OnErr result (O.failures outs.new ≡ after_err (O.failures outs.old)) }
+    ensures calls { CallsEnd result O.Sink outs.old outs.new }
     ensures cut_off { OnErr result
         (IsCutOff (O.documents outs.old) (O.documents outs.new) name.now text.now) }
-    ensures cause { OnErr result (Rose (O.faults outs.old) (O.faults outs.new)) }
     ensures never_falls { O.faults outs.old ≤ O.faults outs.new }
 {
     match write_part(outs, name, true, &[text], true) {

@@ -3,11 +3,10 @@
 //! A part begins its document or goes on with the open one, and ends it or leaves it open. Writing one takes no
 //! memory: its pieces are written one after another.
 ghost use Rattle.std.specs.Prelude.{◌≡◌, ◌≤◌, suc, [], true, false, not, map, OnOk, OnErr};
-ghost use Rattle.pt_core.specs.Counts.{Rose};
-ghost use Rattle.pt_core.specs.Failures.{after_err};
 ghost use Rattle.run_output.specs.Made.{documents_before, documents_in};
 ghost use Rattle.run_output.specs.Parts.{IsCutIn, begun, binding_of, end_part, ended, is_first_page, page_part, part_in_pieces, prolog_before, with_part};
 ghost use Rattle.run_output.specs.Inner.Parts.{is_begun};
+ghost use Rattle.run_output.specs.Inner.Told.{CallsEnd};
 ghost use Rattle.run_output.specs.declared.part.Binding.{Binding};
 
 use crate::pieces::write_pieces;
@@ -80,15 +79,10 @@ pub(crate) fn write_part<O: Outputs>(
     ensures written { OnOk result (O.documents outs.new ≡ with_part (O.documents outs.old)
         (part_in_pieces name.now begins (map (λ piece. piece.now) pieces.now) ends)) }
     ensures turned { OnOk result (O.is_ready outs.new ≡ not ends) }
-    ensures steady { OnOk result (O.faults outs.new ≡ O.faults outs.old) }
-    ensures went { OnOk result ((O.failures outs.new).count ≡ (O.failures outs.old).count) }
-
-    // One call failed, and none came after it.
-    ensures failed { OnErr result (O.failures outs.new ≡ after_err (O.failures outs.old)) }
+    ensures calls { CallsEnd result O.Sink outs.old outs.new }
     ensures cut_off { OnErr result (IsCutIn
         (part_in_pieces name.now begins (map (λ piece. piece.now) pieces.now) ends)
         (O.documents outs.old) (O.documents outs.new)) }
-    ensures cause { OnErr result (Rose (O.faults outs.old) (O.faults outs.new)) }
     ensures never_falls { O.faults outs.old ≤ O.faults outs.new }
 {
     let Ok(()) = begin_where(outs, begins, name) else {
@@ -108,11 +102,8 @@ fn begin_where<O: Outputs>(outs: &mut O, begins: bool, name: &str) -> Result<(),
     requires turn { O.is_ready outs.old ≡ not begins }
     ensures begun { OnOk result (O.documents outs.new ≡ begun begins (O.documents outs.old) name.now) }
     ensures ready { OnOk result (O.is_ready outs.new ≡ true) }
-    ensures steady { OnOk result (O.faults outs.new ≡ O.faults outs.old) }
-    ensures went { OnOk result ((O.failures outs.new).count ≡ (O.failures outs.old).count) }
-    ensures failed { OnErr result (O.failures outs.new ≡ after_err (O.failures outs.old)) }
+    ensures calls { CallsEnd result O.Sink outs.old outs.new }
     ensures nothing { OnErr result (O.documents outs.new ≡ O.documents outs.old) }
-    ensures cause { OnErr result (Rose (O.faults outs.old) (O.faults outs.new)) }
     ensures never_falls { O.faults outs.old ≤ O.faults outs.new }
 {
     if !begins {
@@ -129,11 +120,8 @@ fn end_where<O: Outputs>(outs: &mut O, ends: bool) -> Result<(), SinkFault>
     requires { O.is_ready outs.old ≡ true }
     ensures ended { OnOk result (O.documents outs.new ≡ ended ends (O.documents outs.old)) }
     ensures turned { OnOk result (O.is_ready outs.new ≡ not ends) }
-    ensures steady { OnOk result (O.faults outs.new ≡ O.faults outs.old) }
-    ensures went { OnOk result ((O.failures outs.new).count ≡ (O.failures outs.old).count) }
-    ensures failed { OnErr result (O.failures outs.new ≡ after_err (O.failures outs.old)) }
+    ensures calls { CallsEnd result O.Sink outs.old outs.new }
     ensures nothing { OnErr result (O.documents outs.new ≡ O.documents outs.old) }
-    ensures cause { OnErr result (Rose (O.faults outs.old) (O.faults outs.new)) }
     ensures never_falls { O.faults outs.old ≤ O.faults outs.new }
 {
     if !ends {
@@ -157,12 +145,9 @@ pub fn write_page_part<O: Outputs>(
     ensures written { OnOk result (O.documents outs.new
         ≡ with_part (O.documents outs.old) (page_part binding name.now before text.now)) }
     ensures turned { OnOk result (O.is_ready outs.new ≡ is_begun binding (suc before)) }
-    ensures steady { OnOk result (O.faults outs.new ≡ O.faults outs.old) }
-    ensures went { OnOk result ((O.failures outs.new).count ≡ (O.failures outs.old).count) }
-    ensures failed { OnErr result (O.failures outs.new ≡ after_err (O.failures outs.old)) }
+    ensures calls { CallsEnd result O.Sink outs.old outs.new }
     ensures cut_off { OnErr result (IsCutIn (page_part binding name.now before text.now)
         (O.documents outs.old) (O.documents outs.new)) }
-    ensures cause { OnErr result (Rose (O.faults outs.old) (O.faults outs.new)) }
     ensures never_falls { O.faults outs.old ≤ O.faults outs.new }
 {
     match binding {
@@ -189,12 +174,9 @@ fn write_page_together<O: Outputs>(
     ensures written { OnOk result (O.documents outs.new
         ≡ with_part (O.documents outs.old) (page_part Binding.Together name.now before text.now)) }
     ensures turned { OnOk result (O.is_ready outs.new ≡ true) }
-    ensures steady { OnOk result (O.faults outs.new ≡ O.faults outs.old) }
-    ensures went { OnOk result ((O.failures outs.new).count ≡ (O.failures outs.old).count) }
-    ensures failed { OnErr result (O.failures outs.new ≡ after_err (O.failures outs.old)) }
+    ensures calls { CallsEnd result O.Sink outs.old outs.new }
     ensures cut_off { OnErr result (IsCutIn (page_part Binding.Together name.now before text.now)
         (O.documents outs.old) (O.documents outs.new)) }
-    ensures cause { OnErr result (Rose (O.faults outs.old) (O.faults outs.new)) }
     ensures never_falls { O.faults outs.old ≤ O.faults outs.new }
 {
     let mut digits = Buffer::new();
@@ -212,12 +194,9 @@ pub fn write_end_part<O: Outputs>(outs: &mut O, name: &str, pages: u32) -> Resul
     ensures written { OnOk result (O.documents outs.new
         ≡ with_part (O.documents outs.old) (end_part name.now pages [])) }
     ensures turned { OnOk result (O.is_ready outs.new ≡ false) }
-    ensures steady { OnOk result (O.faults outs.new ≡ O.faults outs.old) }
-    ensures went { OnOk result ((O.failures outs.new).count ≡ (O.failures outs.old).count) }
-    ensures failed { OnErr result (O.failures outs.new ≡ after_err (O.failures outs.old)) }
+    ensures calls { CallsEnd result O.Sink outs.old outs.new }
     ensures cut_off { OnErr result (IsCutIn (end_part name.now pages [])
         (O.documents outs.old) (O.documents outs.new)) }
-    ensures cause { OnErr result (Rose (O.faults outs.old) (O.faults outs.new)) }
     ensures never_falls { O.faults outs.old ≤ O.faults outs.new }
 {
     let mut digits = Buffer::new();

@@ -1,9 +1,8 @@
 //! Writing pieces one after another.
 ghost use Rattle.std.specs.Prelude.{◌≡◌, ◌≤◌, ℕ, true, length, map, take, OnOk, OnErr};
 ghost use Rattle.std.specs.List.{concat};
-ghost use Rattle.pt_core.specs.Counts.{Rose};
 ghost use Rattle.pt_core.specs.Documents.{with_bytes};
-ghost use Rattle.pt_core.specs.Failures.{after_err};
+ghost use Rattle.run_output.specs.Inner.Told.{CallsEnd};
 
 use pt_base::write_whole;
 use pt_core::{Sink, SinkFault};
@@ -15,15 +14,10 @@ pub(crate) fn write_pieces<S: Sink>(sink: &mut S, pieces: &[&[u8]]) -> Result<()
     requires { S.is_ready sink.old ≡ true }
     ensures appended { OnOk result (S.documents sink.new
         ≡ with_bytes (S.documents sink.old) (concat (map (λ piece. piece.now) pieces.now))) }
-    ensures steady { OnOk result (S.faults sink.new ≡ S.faults sink.old) }
-    ensures went { OnOk result ((S.failures sink.new).count ≡ (S.failures sink.old).count) }
-
-    // One call failed, and none came after it.
-    ensures failed { OnErr result (S.failures sink.new ≡ after_err (S.failures sink.old)) }
+    ensures calls { CallsEnd result S.Sink sink.old sink.new }
     ensures prefix { OnErr result ((n : ℕ) × (n ≤ length (concat (map (λ piece. piece.now) pieces.now)))
         × (S.documents sink.new ≡ with_bytes (S.documents sink.old)
         (take n (concat (map (λ piece. piece.now) pieces.now))))) }
-    ensures cause { OnErr result (Rose (S.faults sink.old) (S.faults sink.new)) }
     ensures never_falls { S.faults sink.old ≤ S.faults sink.new }
     ensures stays_ready { S.is_ready sink.new ≡ true }
 {

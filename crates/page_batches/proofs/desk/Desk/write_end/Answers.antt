@@ -12,7 +12,7 @@ returns-in-Err-clause-written g c = λ notes. record {
   split = refl;
   goes_on = tt;
   cut_off = c.in-Err.ensures.cut_off;
-  broke = record { rose = c.in-Err.ensures.cause; failed = c.in-Err.ensures.failed };
+  broke = c.in-Err.ensures.calls;
   messages = one_said _ _ _ c.say_not_written.ensures.says;
 }
 

@@ -13,7 +13,7 @@ returns-in-Err-clause-written g c = record {
   split = refl;
   goes_on = tt;
   cut_off = c.in-Err.ensures.cut_off;
-  broke = record { rose = c.in-Err.ensures.cause; failed = c.in-Err.ensures.failed };
+  broke = c.in-Err.ensures.calls;
   messages = rw (name_of_page c.args.binding c.args.name.now c.args.before c.args.text.now)
       (one_said _ _ _ c.say_not_written.ensures.says);
 }
