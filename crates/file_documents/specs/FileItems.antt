@@ -13,7 +13,7 @@ use Rattle.run_output.specs.Names.{next_name}
 use Rattle.run_output.specs.Parts.{page_part, whole}
 use Rattle.run_output.specs.declared.part.Binding.{Binding}
 use Rattle.page_batches.specs.Items.{Item, end_items}
-use Rattle.page_batches.specs.Items.Item.{Missing, Note, Refuse, Write}
+use Rattle.page_batches.specs.Items.Item.{Missing, Refuse, Write}
 use Rattle.file_documents.specs.Manner.{Manner, base_by, shown_by}
 
 -- the pages of the run are more than it accepts
@@ -88,6 +88,4 @@ AreItems contents manner Follow (name ∷ names) past items =
 abbrev pub AreWhole : List Item → Type 0
 AreWhole [] = Unit {0}
 AreWhole (Write part ∷ items) = (part ≡ whole part.name part.bytes) × AreWhole items
-AreWhole (Note message ∷ items) = AreWhole items
-AreWhole (Refuse message ∷ items) = AreWhole items
-AreWhole (Missing name ∷ items) = AreWhole items
+AreWhole (item ∷ items) = AreWhole items

@@ -40,38 +40,30 @@ pages_in false false = 1
 abbrev pub page_count : List Item → ℕ
 page_count [] = 0
 page_count (Write part ∷ items) = pages_in part.begins part.ends + page_count items
-page_count (Note message ∷ items) = page_count items
-page_count (Refuse message ∷ items) = page_count items
-page_count (Missing name ∷ items) = page_count items
+page_count (item ∷ items) = page_count items
 
 -- the run goes on after each of the items
 abbrev pub GoesOn : List Item → Type 0
 GoesOn [] = Unit {0}
-GoesOn (Write part ∷ items) = GoesOn items
-GoesOn (Note message ∷ items) = GoesOn items
 GoesOn (Refuse message ∷ items) = ⊥
 GoesOn (Missing name ∷ items) = ⊥
+GoesOn (item ∷ items) = GoesOn items
 
 -- the parts of the items are written, in order
 abbrev pub with_items : Option Documents → List Item → Option Documents
 with_items told [] = told
 with_items told (Write part ∷ items) = with_items (with_part told part) items
-with_items told (Note message ∷ items) = with_items told items
-with_items told (Refuse message ∷ items) = with_items told items
-with_items told (Missing name ∷ items) = with_items told items
+with_items told (item ∷ items) = with_items told items
 
 -- whether a document is open behind the items
 abbrev pub is_open_behind : Bool → List Item → Bool
 is_open_behind is_open [] = is_open
 is_open_behind is_open (Write part ∷ items) = is_open_behind (not part.ends) items
-is_open_behind is_open (Note message ∷ items) = is_open_behind is_open items
-is_open_behind is_open (Refuse message ∷ items) = is_open_behind is_open items
-is_open_behind is_open (Missing name ∷ items) = is_open_behind is_open items
+is_open_behind is_open (item ∷ items) = is_open_behind is_open items
 
 -- the messages of the items after which the run goes on, in order
 abbrev pub notes : List Item → List (List ℕ)
 notes [] = []
 notes (Write part ∷ items) = part.notes ++ notes items
 notes (Note message ∷ items) = message ∷ notes items
-notes (Refuse message ∷ items) = notes items
-notes (Missing name ∷ items) = notes items
+notes (item ∷ items) = notes items

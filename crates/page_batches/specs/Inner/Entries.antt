@@ -17,9 +17,7 @@ use Rattle.page_batches.specs.declared.batch.Pending.TheVariants as entry
 abbrev pub pages_among : List Given → ℕ
 pages_among [] = 0
 pages_among (entry.Page name before ∷ entries) = suc (pages_among entries)
-pages_among (entry.End name pages ∷ entries) = pages_among entries
-pages_among (entry.EndTrailing name file pages ∷ entries) = pages_among entries
-pages_among (entry.Trailing name pages ∷ entries) = pages_among entries
+pages_among (other ∷ entries) = pages_among entries
 
 -- what these entries hold, where these are the pages that they speak of, in order
 abbrev pub held_by : List Given → List Pixels → List Held

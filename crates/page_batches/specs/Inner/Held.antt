@@ -34,8 +34,7 @@ HoldsMore (Err failed) more old new = new ≡ old
 abbrev pub pages_held : List Held → ℕ
 pages_held [] = 0
 pages_held (Page name before page ∷ held) = suc (pages_held held)
-pages_held (End name pages notes ∷ held) = pages_held held
-pages_held (Message message ∷ held) = pages_held held
+pages_held (other ∷ held) = pages_held held
 
 -- what is held begins a document exactly where none is open, and ends one where one is
 abbrev pub AreInTurn : Binding → Bool → List Held → Type 0
