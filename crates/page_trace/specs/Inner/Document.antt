@@ -1,14 +1,10 @@
 -- Which backends draw a whole trace.
 use Rattle.pt_core.specs.declared.settings.Backend.{Backend}
-use Rattle.pt_core.specs.declared.settings.Backend.TheVariants.{Eps, Ps, Svg, Dxf, GeoJson, Points, Polygons, Proofs}
+use Rattle.pt_core.specs.declared.settings.Backend.TheVariants.{Points, Polygons, Proofs}
 
 -- the backend draws a whole trace; the others list what a part of one has
 abbrev pub IsDrawn : Backend → Type 0
 IsDrawn Points = ⊥
 IsDrawn Polygons = ⊥
 IsDrawn Proofs = ⊥
-IsDrawn Svg = Unit {0}
-IsDrawn Eps = Unit {0}
-IsDrawn Ps = Unit {0}
-IsDrawn Dxf = Unit {0}
-IsDrawn GeoJson = Unit {0}
+IsDrawn backend = Unit {0}
