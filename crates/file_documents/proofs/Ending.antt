@@ -26,7 +26,8 @@ use Rattle.page_batches.proofs.Carrying.{GoesOn-behind, IsSaying, carried_on, en
 use Rattle.page_batches.proofs.Holding.{ended_behind, halts_by, holds_goes_on}
 use Rattle.file_documents.specs.FileItems.{AreItems, IsAbsent, Nothing, told_contents}
 use Rattle.file_documents.specs.Manner.{HasTexts, Manner, base_by}
-use Rattle.file_documents.specs.Outcome.{EndsNear, HoldsBytes, IsOutcomeBehind, IsUnopened, IsUnread, OpensUpTo, ReadsFileNear, ReadsNear, opened_name, InputCount}
+use Rattle.file_documents.specs.Order.{AreAllItems, Order, order_by, order_of}
+use Rattle.file_documents.specs.Outcome.{EndsNear, HoldsBytes, IsOpenedAt, IsOutcomeBehind, IsUnopened, IsUnread, OpensUpTo, ReadsFileNear, ReadsNear, opened_name, InputCount}
 use Rattle.file_documents.specs.Inner.Progress.{EndsWithFile, Halts, Converts, ConvertsFile, end_message, status_of, text_items}
 use Rattle.file_documents.specs.Inner.Unopened.{EndsUnopened}
 use Rattle.file_documents.specs.declared.pages.PagesEnd.{PagesEnd}
@@ -47,7 +48,7 @@ at_first name names openings openings_now one = record { back = names; listed = 
 file_unopened : (manner : Manner) (name : List ℕ) (past : Past) (source source_now : Source) (a c : Sinks)
     → source_now.openings ≡ next_count source.openings → source_now.is_opened ≡ false → IsAbsent (told_contents source.files) name ⊎ Rose source.faults source_now.faults
     → (names : List (List ℕ)) (first : List Item) → AreCarriedOut first (not_opened name ∷ []) a c
-    → IsUnopened first (told_contents source.files) manner (name ∷ names) past source source_now a c
+    → IsUnopened first (order_of manner (name ∷ names) source) past source source_now a c
 file_unopened manner name past source source_now a c one closed cause names first done = record {
   name = name;
   front = [];
@@ -83,7 +84,7 @@ name-opened files name bytes is = ap (λ o. option_map (λ (f : Opened). f.name)
 -- what is left of the opened file, where that is told
 record HasLeft (told now : Option Files) (name taken : List ℕ) : Type 0 where
   rest : List ℕ
-  opened : IfSome now (λ files. files.opened ≡ Some (record { name = name; rest = rest }))
+  opened : IsOpenedAt name rest now
   bytes : HoldsBytes (told_contents told) name taken rest
 
 left_of : (told start now : Option Files) (name taken : List ℕ) → start ≡ with_file told name → (Lacks told name → ⊥)
@@ -107,7 +108,7 @@ left_of (Some files) start (Some now) name taken opened there contents named tol
 pub near_of : (told start now : Option Files) (name : List ℕ) (raws : List Raw) → start ≡ with_file told name → (Lacks told name → ⊥)
     → told_contents now ≡ told_contents start → opened_name now ≡ opened_name start
     → IfSome (unread start) (λ bytes. (left : List ℕ) × (unread now ≡ Some left) × ReadsNear bytes raws left)
-    → (rest : List ℕ) × IfSome now (λ files. files.opened ≡ Some (record { name = name; rest = rest })) × ReadsFileNear (told_contents told) name raws rest
+    → (rest : List ℕ) × IsOpenedAt name rest now × ReadsFileNear (told_contents told) name raws rest
 near_of None start None name raws opened there contents named near = ([], tt, tt)
 near_of None start (Some files) name raws opened there contents named near =
     absurd (let e : Some files.contents ≡ None = contents ∙ ap told_contents opened in cc)
@@ -124,25 +125,27 @@ pub file_unread : (size : ℕ) (manner : Manner) (name : List ℕ) (past : Past)
     → told_contents source_now.files ≡ told_contents start → opened_name source_now.files ≡ opened_name start → Rose source.faults source_now.faults
     → (t : Converts size manner (base_by manner name) past start source_now.files held held_mid a b k (why.Fault fault.ReadFault)) → (names : List (List ℕ)) (first : List Item)
     → AreCarriedOut (first ++ text_items manner (base_by manner name) past 0 t.texts) (end_message name (why.Fault fault.ReadFault) k ∷ []) a c
-    → IsUnread first (told_contents source.files) manner (name ∷ names) past source source_now a c
+    → IsUnread first (order_of manner (name ∷ names) source) past source source_now a c
 file_unread size manner name past start k held held_mid source source_now a b c opened there one contents named rose t names first done =
     let base = base_by manner name in
     let u = t.unread refl in
     let left = left_of source.files start source_now.files name u.taken opened there contents named u.told in
     let few : length t.raws + past.pages ≤ most_pages = omega (arith, t.count, t.few) in
     record {
-      name = name;
-      front = [];
+      place = record {
+        name = name;
+        front = [];
+        raws = t.raws;
+        rest = left.rest;
+        before = text_items manner base past 0 t.texts;
+        reached = at_first name names source.openings source_now.openings one;
+        opened = left.opened;
+        items = pages_alone manner name base past t.raws t.texts t.converted few;
+      };
       taken = u.taken;
-      rest = left.rest;
-      raws = t.raws;
-      before = text_items manner base past 0 t.texts;
-      reached = at_first name names source.openings source_now.openings one;
-      opened = left.opened;
       bytes = left.bytes;
       rose = rose;
       stops = u.stops;
-      items = pages_alone manner name base past t.raws t.texts t.converted few;
       done = subst (λ (n : ℕ). AreCarriedOut (first ++ text_items manner base past 0 t.texts) (page_line name (n + 1) (cause_text Device) ∷ []) a c) t.count done;
     }
 
@@ -158,34 +161,33 @@ unopened_by told name before now opening.Absent absent device = inl (lacks_absen
 unopened_by told name before now opening.Device absent device = inr (device refl)
 
 -- where the run ends within items, and there are items of the files behind them
-pub outcome_of_halt : (s : Status) → IsHalt s → (first : List Item) (contents : Option Contents) (manner : Manner) (names : List (List ℕ)) (past : Past) (source source_now : Source) (a b : Sinks)
-    → (items : List Item) × AreItems contents manner Nothing names past items × HasEnded s (first ++ items) a b
-    → IsOutcomeBehind s first contents manner names past source source_now a b
-outcome_of_halt status.Done (inl is) first contents manner names past source source_now a b h = absurd (let no : status.Done ≡ status.Unwritten = is in cc)
-outcome_of_halt status.Done (inr is) first contents manner names past source source_now a b h = absurd (let no : status.Done ≡ status.OutOfMemory = is in cc)
-outcome_of_halt status.BadWords which first contents manner names past source source_now a b h = h
-outcome_of_halt status.Refused (inl is) first contents manner names past source source_now a b h = absurd (let no : status.Refused ≡ status.Unwritten = is in cc)
-outcome_of_halt status.Refused (inr is) first contents manner names past source source_now a b h = absurd (let no : status.Refused ≡ status.OutOfMemory = is in cc)
-outcome_of_halt status.Unwritten which first contents manner names past source source_now a b h = h
-outcome_of_halt status.OutOfMemory which first contents manner names past source source_now a b h = h
-outcome_of_halt status.Unread (inl is) first contents manner names past source source_now a b h = absurd (let no : status.Unread ≡ status.Unwritten = is in cc)
-outcome_of_halt status.Unread (inr is) first contents manner names past source source_now a b h = absurd (let no : status.Unread ≡ status.OutOfMemory = is in cc)
+pub outcome_of_halt : (s : Status) → IsHalt s → (first : List Item) (order : Order) (past : Past) (source source_now : Source) (a b : Sinks)
+    → (items : List Item) × AreAllItems order past items × HasEnded s (first ++ items) a b → IsOutcomeBehind s first order past source source_now a b
+outcome_of_halt status.Done (inl is) first order past source source_now a b h = absurd (let no : status.Done ≡ status.Unwritten = is in cc)
+outcome_of_halt status.Done (inr is) first order past source source_now a b h = absurd (let no : status.Done ≡ status.OutOfMemory = is in cc)
+outcome_of_halt status.BadWords which first order past source source_now a b h = h
+outcome_of_halt status.Refused (inl is) first order past source source_now a b h = absurd (let no : status.Refused ≡ status.Unwritten = is in cc)
+outcome_of_halt status.Refused (inr is) first order past source source_now a b h = absurd (let no : status.Refused ≡ status.OutOfMemory = is in cc)
+outcome_of_halt status.Unwritten which first order past source source_now a b h = h
+outcome_of_halt status.OutOfMemory which first order past source source_now a b h = h
+outcome_of_halt status.Unread (inl is) first order past source source_now a b h = absurd (let no : status.Unread ≡ status.Unwritten = is in cc)
+outcome_of_halt status.Unread (inr is) first order past source source_now a b h = absurd (let no : status.Unread ≡ status.OutOfMemory = is in cc)
 
 -- the run ends within the first items
 pub ends_before : (s : Status) → IsHalt s → (contents : Option Contents) (manner : Manner) → HasTexts manner → (names : List (List ℕ)) (past : Past) (source source_now : Source) (a b : Sinks) (first : List Item)
-    → HasEnded s first a b → IsOutcomeBehind s first contents manner names past source source_now a b
+    → HasEnded s first a b → IsOutcomeBehind s first (order_by contents manner names) past source source_now a b
 ends_before s which contents manner can names past source source_now a b first ended =
     let items = items_found contents manner can names past in
-    outcome_of_halt s which first contents manner names past source source_now a b (items.0, items.1, ended_more s which first items.0 a b ended)
+    outcome_of_halt s which first (order_by contents manner names) past source source_now a b (items.0, items.1, ended_more s which first items.0 a b ended)
 
 -- the run ends where the file can't be opened
 pub unopened_ends : (manner : Manner) → HasTexts manner → (name : List ℕ) (past : Past) (held : List Held) (source source_now : Source) (a c : Sinks)
     → source_now.openings ≡ next_count source.openings → source_now.is_opened ≡ false → IsAbsent (told_contents source.files) name ⊎ Rose source.faults source_now.faults
     → (s : Status) → ((first : List Item) → AreHeld manner.binding manner.belongs held first → EndsUnopened name s first a c)
-    → (names : List (List ℕ)) (first : List Item) → AreHeld manner.binding manner.belongs held first → IsOutcomeBehind s first (told_contents source.files) manner (name ∷ names) past source source_now a c
+    → (names : List (List ℕ)) (first : List Item) → AreHeld manner.binding manner.belongs held first → IsOutcomeBehind s first (order_of manner (name ∷ names) source) past source source_now a c
 unopened_ends manner can name past held source source_now a c one closed cause s ends names first are = elim (ends first are) [
   | inl (is, done) ↦
-      subst (λ (v : Status). IsOutcomeBehind v first (told_contents source.files) manner (name ∷ names) past source source_now a c) (sym is)
+      subst (λ (v : Status). IsOutcomeBehind v first (order_of manner (name ∷ names) source) past source source_now a c) (sym is)
       (inl (file_unopened manner name past source source_now a c one closed cause names first done))
   | inr (which, ended) ↦ ends_before s which (told_contents source.files) manner can (name ∷ names) past source source_now a c first ended
 ]
@@ -265,7 +267,7 @@ module _ (size : ℕ) (manner : Manner) (can : HasTexts manner) (name : List ℕ
   ConvertedTo end = Converts size manner base past start source_now.files held held_mid a b k end
 
   abbrev Ends : Status → List Item → List (List ℕ) → Type 0
-  Ends s first names = IsOutcomeBehind s first (told_contents source.files) manner (name ∷ names) past source source_now a c
+  Ends s first names = IsOutcomeBehind s first (order_of manner (name ∷ names) source) past source source_now a c
 
   has : HasBytes (told_contents source.files) name (unread start)
   has = has_bytes source.files start name opened there
@@ -285,16 +287,18 @@ module _ (size : ℕ) (manner : Manner) (can : HasTexts manner) (name : List ℕ
       let (rest, here, near) = near_of source.files start source_now.files name t.raws opened there contents named t.near in
       let few : length t.raws + past.pages ≤ most_pages = omega (arith, t.count, t.few) in
       record {
-        name = name;
-        front = [];
-        raws = t.raws;
-        rest = rest;
-        before = text_items manner base past 0 t.texts;
+        place = record {
+          name = name;
+          front = [];
+          raws = t.raws;
+          rest = rest;
+          before = text_items manner base past 0 t.texts;
+          reached = at_first name names source.openings source_now.openings one;
+          opened = here;
+          items = pages_alone manner name base past t.raws t.texts t.converted few;
+        };
         message = end_message name end k;
-        reached = at_first name names source.openings source_now.openings one;
-        opened = here;
         near = near;
-        items = pages_alone manner name base past t.raws t.texts t.converted few;
         all = all;
         done = done;
       }
@@ -316,7 +320,7 @@ module _ (size : ℕ) (manner : Manner) (can : HasTexts manner) (name : List ℕ
   ends_within : (s : Status) → IsHalt s → (r : HasRead (told_contents source.files) manner name past) (names : List (List ℕ)) (first : List Item)
       → HasEnded s (first ++ text_items manner base past 0 r.texts) a c → Ends s first names
   ends_within s which r names first ended =
-      outcome_of_halt s which first (told_contents source.files) manner (name ∷ names) past source source_now a c
+      outcome_of_halt s which first (order_of manner (name ∷ names) source) past source source_now a c
       (file_halts (told_contents source.files) manner name past can s which first names a c r ended)
 
   pub file_ends : (s : Status) (end : PagesEnd) → (end ≡ why.Fault fault.ReadFault → Rose source.faults source_now.faults) → ConvertedTo end
@@ -337,9 +341,9 @@ module _ (size : ℕ) (manner : Manner) (can : HasTexts manner) (name : List ℕ
 -- the run ends within the pages of the file
 pub file_halted : (size : ℕ) (manner : Manner) → HasTexts manner → (name : List ℕ) (past : Past) (start : Option Files) (held : List Held) (source source_now : Source) (a b : Sinks) (s : Status)
     → start ≡ with_file source.files name → (Lacks source.files name → ⊥) → IsHalt s → Halts s size manner (base_by manner name) past start source_now.files held a b
-    → (names : List (List ℕ)) (first : List Item) → AreHeld manner.binding manner.belongs held first → IsOutcomeBehind s first (told_contents source.files) manner (name ∷ names) past source source_now a b
+    → (names : List (List ℕ)) (first : List Item) → AreHeld manner.binding manner.belongs held first → IsOutcomeBehind s first (order_of manner (name ∷ names) source) past source source_now a b
 file_halted size manner can name past start held source source_now a b s opened there which t names first are =
     let has = has_bytes source.files start name opened there in
     let r = read_by_halting size (told_contents source.files) s manner name (base_by manner name) past start source_now.files held a b has t in
-    outcome_of_halt s which first (told_contents source.files) manner (name ∷ names) past source source_now a b
+    outcome_of_halt s which first (order_of manner (name ∷ names) source) past source source_now a b
     (file_halts (told_contents source.files) manner name past can s which first names a b r (t.ended first are))

@@ -23,8 +23,9 @@ use Rattle.page_batches.proofs.Carrying.{GoesOn-append, GoesOn-behind, carried_o
 use Rattle.page_batches.proofs.Holding.{holds_goes_on, page_count-append}
 use Rattle.file_documents.specs.FileItems.{AreEndItems, AreItems, ArePageItems, FileEnds, IsAbsent, Nothing, Rest}
 use Rattle.file_documents.specs.Manner.{Manner, base_by}
-use Rattle.file_documents.specs.OnePass.{IfReadsTo, IsOnePass, batch_end}
-use Rattle.file_documents.specs.Outcome.{IsOutcomeBehind, LastEndsNear, OpensUpTo}
+use Rattle.file_documents.specs.OnePass.{IfReadsTo, IsOnePassBehind, batch_end}
+use Rattle.file_documents.specs.Order.{order_by}
+use Rattle.file_documents.specs.Outcome.{IsOutcomeBehind, LastEndsNear, OpensUpTo, StandsIn}
 use Rattle.file_documents.specs.Inner.Progress.{EndsWith}
 use Rattle.file_documents.proofs.OnePass.{batch_end_behind}
 
@@ -100,12 +101,36 @@ near_on contents [] name back now near = near
 near_on contents (first ∷ []) name back now near = near
 near_on contents (first ∷ next ∷ front) name back now near = near_on contents (next ∷ front) name back now near
 
+-- what was reached among the files behind is reached among all
+pub reached_on : (front back : List (List ℕ)) (start then now : ℕ) → then ≡ min (start + length front) last_count
+    → (name : List ℕ) (more : List (List ℕ)) → OpensUpTo back name more then now → OpensUpTo (front ++ back) name (front ++ more) start now
+reached_on front back start then now openings name more r = record {
+  back = r.back;
+  listed = ap (λ l. front ++ l) r.listed ∙ sym (append_assoc front more (name ∷ r.back));
+  grew = rw (length-append front more) (opened_on (length front) (length more) start then now openings r.grew);
+}
+
+-- where a run stands among the files behind, it stands among all
+abbrev stands_on : (contents : Option Contents) (manner : Manner) (front back : List (List ℕ)) (past mid : Past) (before : List Item) (start then now : Source)
+    → AreItems contents manner (EndsWith mid) front past before → GoesOn before → then.openings ≡ min (start.openings + length front) last_count
+    → StandsIn (order_by contents manner back) mid then now → StandsIn (order_by contents manner (front ++ back)) past start now
+stands_on contents manner front back past mid before start then now are goes openings p = record {
+  name = p.name;
+  front = front ++ p.front;
+  raws = p.raws;
+  rest = p.rest;
+  before = before ++ p.before;
+  reached = reached_on front back start.openings then.openings now.openings openings p.name p.front p.reached;
+  opened = p.opened;
+  items = items_join contents manner _ p.front mid p.before p.items front past before goes are;
+}
+
 -- the outcome of files, behind what is held, is that of the files in front of them and theirs
 pub outcome_on : (s : Status) (size : ℕ) (contents : Option Contents) (manner : Manner) (front back : List (List ℕ)) (past mid : Past) (first before : List Item) (held : List Held)
     (start then now : Source) (a b c : Sinks) → AreItems contents manner (EndsWith mid) front past before → Holds manner.binding size manner.belongs (first ++ before) held a b
     → then.openings ≡ min (start.openings + length front) last_count → then.faults ≡ start.faults → (LastEndsNear contents back now → LastEndsNear contents (front ++ back) now)
-    → ((left : List Item) → AreHeld manner.binding manner.belongs held left → IsOutcomeBehind s left contents manner back mid then now b c)
-    → IsOutcomeBehind s first contents manner (front ++ back) past start now a c
+    → ((left : List Item) → AreHeld manner.binding manner.belongs held left → IsOutcomeBehind s left (order_by contents manner back) mid then now b c)
+    → IsOutcomeBehind s first (order_by contents manner (front ++ back)) past start now a c
 outcome_on s size contents manner front back past mid first before held start then now a b c are h openings faults last behind = by_status s (behind h.left h.are_held) where
   goes : GoesOn before
   goes = GoesOn-behind first before (holds_goes_on manner.binding size manner.belongs (first ++ before) held a b h)
@@ -125,32 +150,18 @@ outcome_on s size contents manner front back past mid first before held start th
   carried : (after : List Item) (last : List (List ℕ)) → AreCarriedOut (h.left ++ after) last b c → AreCarriedOut (first ++ (before ++ after)) last a c
   carried after last done = subst (λ l. AreCarriedOut l last a c) (read_more after) (carried_on h.done (h.left ++ after) last a b c h.carried done)
 
-  reached : (name : List ℕ) (more : List (List ℕ)) → OpensUpTo back name more then.openings now.openings → OpensUpTo (front ++ back) name (front ++ more) start.openings now.openings
-  reached name more r = record {
-    back = r.back;
-    listed = ap (λ l. front ++ l) r.listed ∙ sym (append_assoc front more (name ∷ r.back));
-    grew = rw (length-append front more) (opened_on (length front) (length more) start.openings then.openings now.openings openings r.grew);
-  }
-
-  by_status : (s : Status) → IsOutcomeBehind s h.left contents manner back mid then now b c → IsOutcomeBehind s first contents manner (front ++ back) past start now a c
+  by_status : (s : Status) → IsOutcomeBehind s h.left (order_by contents manner back) mid then now b c → IsOutcomeBehind s first (order_by contents manner (front ++ back)) past start now a c
   by_status status.Done (items, follow, end, opens, near) =
       let joins = ended status.Done (items, follow, end) in
       (joins.0, joins.1, joins.2, rw (length-append front back) (opened_behind (length front) (length back) start.openings then.openings now.openings openings opens), last near)
   by_status status.BadWords o = ended status.BadWords o
   by_status status.Refused u = record {
-    name = u.name;
-    front = front ++ u.front;
-    raws = u.raws;
-    rest = u.rest;
-    before = before ++ u.before;
+    place = stands_on contents manner front back past mid before start then now are goes openings u.place;
     message = u.message;
-    reached = reached u.name u.front u.reached;
-    opened = u.opened;
     near = u.near;
-    items = joined _ u.before u.front u.items;
-    all = subst (λ l. AreItems contents manner Nothing (front ++ back) past l) (sym (append_assoc before u.before (Refuse u.message ∷ [])))
-        (joined Nothing (u.before ++ Refuse u.message ∷ []) back u.all);
-    done = carried u.before (u.message ∷ []) u.done;
+    all = subst (λ l. AreItems contents manner Nothing (front ++ back) past l) (sym (append_assoc before u.place.before (Refuse u.message ∷ [])))
+        (joined Nothing (u.place.before ++ Refuse u.message ∷ []) back u.all);
+    done = carried u.place.before (u.message ∷ []) u.done;
   }
   by_status status.Unwritten o = ended status.Unwritten o
   by_status status.OutOfMemory o = ended status.OutOfMemory o
@@ -158,34 +169,27 @@ outcome_on s size contents manner front back past mid first before held start th
     name = u.name;
     front = front ++ u.front;
     before = before ++ u.before;
-    reached = reached u.name u.front u.reached;
+    reached = reached_on front back start.openings then.openings now.openings openings u.name u.front u.reached;
     closed = u.closed;
     cause = subst (λ n. IsAbsent contents u.name ⊎ Rose n now.faults) faults u.cause;
     items = joined Nothing u.before u.front u.items;
     done = carried u.before (not_opened u.name ∷ []) u.done;
   })
   by_status status.Unread (inr u) = inr (record {
-    name = u.name;
-    front = front ++ u.front;
+    place = stands_on contents manner front back past mid before start then now are goes openings u.place;
     taken = u.taken;
-    rest = u.rest;
-    raws = u.raws;
-    before = before ++ u.before;
-    reached = reached u.name u.front u.reached;
-    opened = u.opened;
     bytes = u.bytes;
     rose = subst (λ n. Rose n now.faults) faults u.rose;
     stops = u.stops;
-    items = joined _ u.before u.front u.items;
-    done = carried u.before (page_line u.name (length u.raws + 1) (cause_text Device) ∷ []) u.done;
+    done = carried u.place.before (page_line u.place.name (length u.place.raws + 1) (cause_text Device) ∷ []) u.done;
   })
 
 -- the same of how far a run has read
 pub one_pass_on : (size : ℕ) → 0 < size → (contents : Option Contents) (manner : Manner) (front back : List (List ℕ)) (past mid : Past) (first before : List Item) (held : List Held)
     (start then now : Source) (a b c : Sinks) → AreItems contents manner (EndsWith mid) front past before → Holds manner.binding size manner.belongs (first ++ before) held a b
     → then.openings ≡ min (start.openings + length front) last_count → then.faults ≡ start.faults
-    → ((left : List Item) → AreHeld manner.binding manner.belongs held left → IsOnePass size left contents manner back mid then now b c)
-    → IsOnePass size first contents manner (front ++ back) past start now a c
+    → ((left : List Item) → AreHeld manner.binding manner.belongs held left → IsOnePassBehind size left (order_by contents manner back) mid then now b c)
+    → IsOnePassBehind size first (order_by contents manner (front ++ back)) past start now a c
 one_pass_on size some contents manner front back past mid first before held start then now a b c are h openings faults behind =
     let o = behind h.left h.are_held in
     let (v, e) = unwritten_on h.done (h.left ++ o.items) a b c h.carried o.unwritten in
@@ -198,7 +202,7 @@ one_pass_on size some contents manner front back past mid first before held star
       items = before ++ o.items;
       are = joined Nothing o.items back o.are;
       unwritten = w;
-      no_farther = λ steady enough. subst (λ n. IfReadsTo n first contents manner (front ++ back) past start now) (sym end)
+      no_farther = λ steady enough. subst (λ n. IfReadsTo n first (order_by contents manner (front ++ back)) past start now) (sym end)
           (farther contents (batch_end size k) are (o.no_farther (λ rose. steady (subst (λ n. Rose n now.faults) faults rose)) (omega (arith, enough, end, all))));
     } where
       goes : GoesOn before
@@ -214,28 +218,17 @@ one_pass_on size some contents manner front back past mid first before held star
       counted : (after : List Item) → page_count (first ++ (before ++ after)) ≡ h.batches * size + page_count (h.left ++ after)
       counted after = ap page_count (sym (read_more after)) ∙ page_count-append h.done (h.left ++ after) ∙ ap (λ n. n + page_count (h.left ++ after)) h.whole
 
-      farther : (o : Option Contents) (n : ℕ) → AreItems o manner (EndsWith mid) front past before → IfReadsTo n h.left o manner back mid then now
-          → IfReadsTo (h.batches * size + n) first o manner (front ++ back) past start now
+      farther : (o : Option Contents) (n : ℕ) → AreItems o manner (EndsWith mid) front past before → IfReadsTo n h.left (order_by o manner back) mid then now
+          → IfReadsTo (h.batches * size + n) first (order_by o manner (front ++ back)) past start now
       farther None n are reads = tt
       farther (Some told) n are u = record {
-        name = u.name;
-        front = front ++ u.front;
+        place = stands_on (Some told) manner front back past mid before start then now are goes openings u.place;
         bytes = u.bytes;
-        raws = u.raws;
         behind = u.behind;
-        rest = u.rest;
-        before = before ++ u.before;
-        reached = record {
-          back = u.reached.back;
-          listed = ap (λ l. front ++ l) u.reached.listed ∙ sym (append_assoc front u.front (u.name ∷ u.reached.back));
-          grew = rw (length-append front u.front) (opened_on (length front) (length u.front) start.openings then.openings now.openings openings u.reached.grew);
-        };
         held = u.held;
         some = u.some;
         begins = u.begins;
-        opened = u.opened;
         near = u.near;
-        items = items_join (Some told) manner _ u.front mid u.before u.items front past before goes are;
-        goes_on = GoesOn-append before u.before goes u.goes_on;
-        count = counted u.before ∙ ap (λ n. h.batches * size + n) u.count;
+        goes_on = GoesOn-append before u.place.before goes u.goes_on;
+        count = counted u.place.before ∙ ap (λ n. h.batches * size + n) u.count;
       }

@@ -1,5 +1,5 @@
 -- How far a run has read where memory ran out.
-use Rattle.std.proofs.Common.{◌≡◌, ◌≤◌, ◌<◌, ℕ, ◌+◌, ◌*◌, false, min, List, [], ◌∷◌, ◌++◌, length, Option, None, Some, IfSome, inl, inr, refl, sym, ◌∙◌, ap, append_assoc, length-append, add-mul, zero-mul, arith}
+use Rattle.std.proofs.Common.{◌≡◌, ◌≤◌, ◌<◌, ℕ, ◌+◌, ◌*◌, false, min, List, [], ◌∷◌, ◌++◌, length, Option, None, Some, IfSome, inl, inr, refl, sym, ◌∙◌, ap, append_assoc, add-mul, zero-mul, arith}
 use Rattle.std.proofs.lemmas.List.{append-nil}
 use Rattle.pt_core.specs.Counts.{last_count, next_count}
 use Rattle.pt_core.specs.Files.{Contents, Files, Lacks, unread, with_file}
@@ -17,28 +17,29 @@ use Rattle.page_batches.proofs.Holding.{all_held, holds_goes_on, page_count-appe
 use Rattle.file_documents.specs.FileItems.{AreItems, Nothing, Rest, told_contents}
 use Rattle.file_documents.specs.LastBatch.{LosesBatch, ReadsAtMost}
 use Rattle.file_documents.specs.Manner.{HasTexts, Manner, base_by}
+use Rattle.file_documents.specs.Order.{AreAllItems, Order, order_by, order_of}
 use Rattle.file_documents.specs.Outcome.{LeavesBehind, ReadsNear, opened_name}
 use Rattle.file_documents.specs.Inner.Progress.{AreConverted, ConvertsFile, Converts, EndsWith, Halts, LosesWithin, RunsOutIn, text_items}
 use Rattle.file_documents.specs.declared.pages.PagesEnd.{PagesEnd}
 use Rattle.file_documents.proofs.Ending.{at_first, near_of}
 use Rattle.file_documents.proofs.Exists.{items_found}
 use Rattle.file_documents.proofs.Filing.{HasBytes, has_bytes, items_after, pages_alone, read_by_converting, read_by_halting}
-use Rattle.file_documents.proofs.Joining.{items_join, opened_on}
+use Rattle.file_documents.proofs.Joining.{items_join, reached_on}
 use Rattle.file_documents.proofs.LastBatch.{batch_held, out_as, out_more, out_on}
 use Rattle.file_documents.proofs.Passing.{pages_go_on}
 
 -- fewer pages were read, and so at most these
-reads_fewer : (n m : ℕ) (first : List Item) (contents : Option Contents) (manner : Manner) (names : List (List ℕ)) (past : Past) (source source_now : Source) → n ≤ m
-    → ReadsAtMost n first contents manner names past source source_now → ReadsAtMost m first contents manner names past source source_now
-reads_fewer n m first contents manner names past source source_now less r =
+reads_fewer : (n m : ℕ) (first : List Item) (order : Order) (past : Past) (source source_now : Source) → n ≤ m
+    → ReadsAtMost n first order past source source_now → ReadsAtMost m first order past source source_now
+reads_fewer n m first order past source source_now less r =
     let few = r.few in
     record { name = r.name; front = r.front; raws = r.raws; before = r.before; reached = r.reached; read = r.read; items = r.items; goes_on = r.goes_on; few = omega (arith, few, less) }
 
 -- memory ran out within what was read
-lose_of : (size n : ℕ) (first : List Item) (contents : Option Contents) (manner : Manner) (names : List (List ℕ)) (past : Past) (source source_now : Source) (a c : Sinks)
-    → (read after items : List Item) → AreItems contents manner Nothing names past items → RunsOutIn size read a c → first ++ items ≡ read ++ after
-    → n ≤ page_count read → ReadsAtMost n first contents manner names past source source_now → LosesWithin size first contents manner names past source source_now a c
-lose_of size n first contents manner names past source source_now a c read after items are p split less reads =
+lose_of : (size n : ℕ) (first : List Item) (order : Order) (past : Past) (source source_now : Source) (a c : Sinks)
+    → (read after items : List Item) → AreAllItems order past items → RunsOutIn size read a c → first ++ items ≡ read ++ after
+    → n ≤ page_count read → ReadsAtMost n first order past source source_now → LosesWithin size first order past source source_now a c
+lose_of size n first order past source source_now a c read after items are p split less reads =
     let (v, e) = out_more read after a c p.out in
     let (w, d) = out_as (first ++ items) (read ++ after) a c split v in
     let before : page_count w.before ≡ page_count p.out.before = ap page_count (d ∙ e) in
@@ -48,19 +49,19 @@ lose_of size n first contents manner names past source source_now a c read after
       out = w;
       batches = p.batches;
       whole = before ∙ p.whole;
-      reads = reads_fewer n (page_count w.before + size) first contents manner names past source source_now (let most = p.most in let whole = p.whole in omega (arith, before, most, whole, less)) reads;
+      reads = reads_fewer n (page_count w.before + size) first order past source source_now (let most = p.most in let whole = p.whole in omega (arith, before, most, whole, less)) reads;
     }
 
 -- the file can't be opened
 pub lose_unopened : (size : ℕ) (manner : Manner) → HasTexts manner → (name : List ℕ) (past : Past) (held : List Held) (source source_now : Source) (a c : Sinks)
     → pages_held held < size → source_now.openings ≡ next_count source.openings → source_now.is_opened ≡ false → AreCarriedOut [] (out_of_memory ∷ []) a c
     → (names : List (List ℕ)) (first : List Item) → AreHeld manner.binding manner.belongs held first
-    → LosesWithin size first (told_contents source.files) manner (name ∷ names) past source source_now a c
+    → LosesWithin size first (order_of manner (name ∷ names) source) past source source_now a c
 lose_unopened size manner can name past held source source_now a c few one closed idle names first are =
     let told = told_contents source.files in
     let items = items_found told manner can (name ∷ names) past in
     let none = ap page_count (append-nil first) in
-    lose_of size (page_count (first ++ [])) first told manner (name ∷ names) past source source_now a c first items.0 items.0 items.1
+    lose_of size (page_count (first ++ [])) first (order_of manner (name ∷ names) source) past source source_now a c first items.0 items.0 items.1
     (batch_held size manner first held a a c (all_held manner.binding size manner.belongs held first a are) idle few) refl (omega (arith, none))
     (record { name = name; front = []; raws = []; before = []; reached = at_first name names source.openings source_now.openings one; read = inl (refl, closed); items = refl; goes_on = tt; few = omega arith })
 
@@ -78,12 +79,12 @@ module _ (size : ℕ) (manner : Manner) (can : HasTexts manner) (name : List ℕ
   has = has_bytes source.files start name opened there
 
   abbrev Loses : List Item → List (List ℕ) → Sinks → Sinks → Type 0
-  Loses first names a c = LosesWithin size first told manner (name ∷ names) past source source_now a c
+  Loses first names a c = LosesWithin size first (order_of manner (name ∷ names) source) past source source_now a c
 
   -- these pages of it were read
   reads : (names : List (List ℕ)) (first : List Item) (raws : List Raw) (texts : List (List ℕ)) → AreConverted manner raws texts → length raws + past.pages ≤ most_pages
       → IfSome (unread start) (λ bytes. (left : List ℕ) × (unread source_now.files ≡ Some left) × ReadsNear bytes raws left)
-      → ReadsAtMost (page_count (first ++ text_items manner base past 0 texts)) first told manner (name ∷ names) past source source_now
+      → ReadsAtMost (page_count (first ++ text_items manner base past 0 texts)) first (order_of manner (name ∷ names) source) past source source_now
   reads names first raws texts converted few near =
       let (rest, here, close) = near_of source.files start source_now.files name raws opened there contents named near in
       record {
@@ -105,7 +106,7 @@ module _ (size : ℕ) (manner : Manner) (can : HasTexts manner) (name : List ℕ
       let (rest, here, close) = near_of source.files start source_now.files name [] opened there contents named (all_left (unread start) (ap unread same)) in
       let items = items_found told manner can (name ∷ names) past in
       let none = ap page_count (append-nil first) in
-      lose_of size (page_count (first ++ [])) first told manner (name ∷ names) past source source_now a c first items.0 items.0 items.1
+      lose_of size (page_count (first ++ [])) first (order_of manner (name ∷ names) source) past source source_now a c first items.0 items.0 items.1
       (batch_held size manner first held a a c (all_held manner.binding size manner.belongs held first a are) idle few) refl (omega (arith, none))
       (record {
         name = name;
@@ -129,7 +130,7 @@ module _ (size : ℕ) (manner : Manner) (can : HasTexts manner) (name : List ℕ
       let r = read_by_halting size told status.OutOfMemory manner name base past start source_now.files held a c has t in
       let (after, items) = items_after told manner name past can names r in
       let texts = text_items manner base past 0 t.texts in
-      lose_of size (page_count (first ++ texts)) first told manner (name ∷ names) past source source_now a c (first ++ texts) after (texts ++ after) items
+      lose_of size (page_count (first ++ texts)) first (order_of manner (name ∷ names) source) past source source_now a c (first ++ texts) after (texts ++ after) items
       (t.in_memory refl first are) (sym (append_assoc first texts after)) (omega arith)
       (reads names first t.raws t.texts t.converted t.few (near_by (unread start) t.near)) where
         near_by : (o : Option (List ℕ))
@@ -149,7 +150,7 @@ module _ (size : ℕ) (manner : Manner) (can : HasTexts manner) (name : List ℕ
         let r = read_by_converting size told manner name base past start source_now.files held held_mid a b k end has t in
         let (after, items) = items_after told manner name past can names r in
         let texts = text_items manner base past 0 t.texts in
-        lose_of size (page_count (first ++ texts)) first told manner (name ∷ names) past source source_now a c (first ++ texts) after (texts ++ after) items
+        lose_of size (page_count (first ++ texts)) first (order_of manner (name ∷ names) source) past source source_now a c (first ++ texts) after (texts ++ after) items
         (batch_held size manner (first ++ texts) held_mid a b c (t.holds first are) idle few) (sym (append_assoc first texts after)) (omega arith)
         (reads names first t.raws t.texts t.converted few_read t.near)
 
@@ -166,13 +167,13 @@ module _ (size : ℕ) (manner : Manner) (can : HasTexts manner) (name : List ℕ
         let less = page_count-append first texts in
         let all = ap (λ l. page_count (first ++ l)) same ∙ page_count-append first (texts ++ last) in
         let both = page_count-append texts last in
-        lose_of size (page_count (first ++ texts)) first told manner (name ∷ names) past source source_now a d (first ++ file.items) more.0 (file.items ++ more.0) items
+        lose_of size (page_count (first ++ texts)) first (order_of manner (name ∷ names) source) past source source_now a d (first ++ file.items) more.0 (file.items ++ more.0) items
         (batch_held size manner (first ++ file.items) held_now a c d h idle few) (sym (append_assoc first file.items more.0)) (omega (arith, less, all, both))
         (reads names first t.raws t.texts t.converted few_read t.near)
 
 -- memory ran out before a file was opened
 pub lose_none : (size : ℕ) (contents : Option Contents) (manner : Manner) → HasTexts manner → (names : List (List ℕ)) (source source_now : Source) (a c : Sinks)
-    → source_now.openings ≡ source.openings → source_now.files ≡ source.files → AreCarriedOut [] (out_of_memory ∷ []) a c → LosesBatch size contents manner names source source_now a c
+    → source_now.openings ≡ source.openings → source_now.files ≡ source.files → AreCarriedOut [] (out_of_memory ∷ []) a c → LosesBatch size (order_by contents manner names) source source_now a c
 lose_none size contents manner can names source source_now a c openings files idle =
     let items = items_found contents manner can names no_past in
     record { items = items.0; are = items.1; out = record { before = []; after = items.0; split = refl; done = idle }; batches = 0; whole = sym (zero-mul size); no_farther = inl (openings, files) }
@@ -181,8 +182,8 @@ lose_none size contents manner can names source source_now a c openings files id
 pub lose_on : (size : ℕ) (contents : Option Contents) (manner : Manner) (front back : List (List ℕ)) (past mid : Past) (first before : List Item) (held : List Held)
     (start then now : Source) (a b c : Sinks) → AreItems contents manner (EndsWith mid) front past before → Holds manner.binding size manner.belongs (first ++ before) held a b
     → then.openings ≡ min (start.openings + length front) last_count
-    → ((left : List Item) → AreHeld manner.binding manner.belongs held left → LosesWithin size left contents manner back mid then now b c)
-    → LosesWithin size first contents manner (front ++ back) past start now a c
+    → ((left : List Item) → AreHeld manner.binding manner.belongs held left → LosesWithin size left (order_by contents manner back) mid then now b c)
+    → LosesWithin size first (order_by contents manner (front ++ back)) past start now a c
 lose_on size contents manner front back past mid first before held start then now a b c are h openings behind =
     let o = behind h.left h.are_held in
     let (v, e) = out_on h.done (h.left ++ o.items) a b c h.carried o.out in
@@ -202,11 +203,7 @@ lose_on size contents manner front back past mid first before held start then no
         front = front ++ u.front;
         raws = u.raws;
         before = before ++ u.before;
-        reached = record {
-          back = u.reached.back;
-          listed = ap (λ l. front ++ l) u.reached.listed ∙ sym (append_assoc front u.front (u.name ∷ u.reached.back));
-          grew = rw (length-append front u.front) (opened_on (length front) (length u.front) start.openings then.openings now.openings openings u.reached.grew);
-        };
+        reached = reached_on front back start.openings then.openings now.openings openings u.name u.front u.reached;
         read = u.read;
         items = joined _ u.before u.front u.items;
         goes_on = GoesOn-append before u.before goes u.goes_on;

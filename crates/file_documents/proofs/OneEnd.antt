@@ -136,7 +136,7 @@ files_end_so status.Done manner names source source_now old now (items, are, don
     (items, are, items_end_so status.Done items old now done written memory)
 files_end_so status.BadWords manner names source source_now old now (items, are, ended) read written memory = absurd ended
 files_end_so status.Refused manner names source source_now old now r read written memory =
-    (r.before ++ Refuse r.message ∷ [], r.all, end_behind r.before (Refuse r.message ∷ []) old now refl r.done)
+    (r.place.before ++ Refuse r.message ∷ [], r.all, end_behind r.place.before (Refuse r.message ∷ []) old now refl r.done)
 files_end_so status.Unwritten manner names source source_now old now (items, are, u) read written memory = absurd (written u.broke.rose)
 files_end_so status.OutOfMemory manner names source source_now old now o read written memory = absurd (memory refl)
 files_end_so status.Unread manner names source source_now old now (inr u) read written memory = absurd (read u.rose)

@@ -1,8 +1,7 @@
 -- How far a run has read where a document couldn't be written.
-use Rattle.std.proofs.Common.{◌≡◌, ◌≤◌, ◌<◌, ℕ, ◌+◌, ◌*◌, ◌/◌, ◌%◌, List, [], ◌∷◌, ◌++◌, Option, ◌∙◌, ap, subst, add-mul, div-add-mod', div-mul-le_self, mod-lt, mul-le-mul_right, arith}
+use Rattle.std.proofs.Common.{◌≡◌, ◌≤◌, ◌<◌, ℕ, ◌+◌, ◌*◌, ◌/◌, ◌%◌, List, [], ◌∷◌, ◌++◌, ◌∙◌, ap, subst, add-mul, div-add-mod', div-mul-le_self, mod-lt, mul-le-mul_right, arith}
 use Rattle.std.proofs.lemmas.Nat.{div_below, le-div}
 use Rattle.pt_core.specs.Counts.{Rose}
-use Rattle.pt_core.specs.Files.{Contents}
 use Rattle.page_batches.specs.Held.{AreHeld, Held}
 use Rattle.page_batches.specs.Inner.Held.{Holds, pages_held}
 use Rattle.run_output.specs.Made.{Past}
@@ -13,9 +12,9 @@ use Rattle.page_batches.specs.ItemsDone.{IsUnwritten}
 use Rattle.run_output.specs.Told.{Sinks, Source}
 use Rattle.page_batches.proofs.Carrying.{unwritten_as, unwritten_more, unwritten_on}
 use Rattle.page_batches.proofs.Holding.{page_count-append, page_count-held, split_on}
-use Rattle.file_documents.specs.FileItems.{AreItems, Nothing}
 use Rattle.file_documents.specs.Manner.{Manner}
-use Rattle.file_documents.specs.OnePass.{IfReadsTo, IsOnePass, batch_end}
+use Rattle.file_documents.specs.OnePass.{IfReadsTo, IsOnePassBehind, batch_end}
+use Rattle.file_documents.specs.Order.{AreAllItems, Order}
 use Rattle.file_documents.specs.Inner.Progress.{IsInBatch, IsInPart}
 
 -- the items in front of one are among those in front of the last one
@@ -90,12 +89,12 @@ part_halts size manner read held a b c h behind few =
     let held_is = page_count-held manner.binding manner.belongs held h.left h.are_held in
     record { unwritten = w; batches = h.batches; behind = omega (arith, before, h.whole); most = omega (arith, all, held_is, h.whole, few) }
 
-module _ (size : ℕ) (some : 0 < size) (first : List Item) (contents : Option Contents) (manner : Manner) (names : List (List ℕ)) (past : Past) (source source_now : Source) (a c : Sinks) where
+module _ (size : ℕ) (some : 0 < size) (first : List Item) (order : Order) (past : Past) (source source_now : Source) (a c : Sinks) where
   abbrev Passes : Type 0
-  Passes = IsOnePass size first contents manner names past source source_now a c
+  Passes = IsOnePassBehind size first order past source source_now a c
 
   -- the run ended within items that fill no batch, and no document is behind them
-  pub pass_of_part : (read last items : List Item) → AreItems contents manner Nothing names past items → IsInPart size read a c
+  pub pass_of_part : (read last items : List Item) → AreAllItems order past items → IsInPart size read a c
       → first ++ items ≡ read ++ last → page_count last ≡ 0 → Passes
   pass_of_part read last items are p split none =
       let (v, e) = unwritten_more read last a c p.unwritten in
@@ -106,7 +105,7 @@ module _ (size : ℕ) (some : 0 < size) (first : List Item) (contents : Option C
       record { items = items; are = are; unwritten = w; no_farther = λ steady enough. absurd (omega (arith, enough, least, all, none, p.most)) }
 
   -- an input failed
-  pub pass_of_rise : (read more items : List Item) → AreItems contents manner Nothing names past items → IsUnwritten read a c
+  pub pass_of_rise : (read more items : List Item) → AreAllItems order past items → IsUnwritten read a c
       → first ++ items ≡ read ++ more → Rose source.faults source_now.faults → Passes
   pass_of_rise read more items are u split rose =
       let (v, e) = unwritten_more read more a c u in
@@ -114,8 +113,8 @@ module _ (size : ℕ) (some : 0 < size) (first : List Item) (contents : Option C
       record { items = items; are = are; unwritten = w; no_farther = λ steady enough. absurd (steady rose) }
 
   -- the run ended with a whole batch
-  pub pass_of_batch : (read more items : List Item) → AreItems contents manner Nothing names past items → (p : IsInBatch size read a c)
-      → first ++ items ≡ read ++ more → IfReadsTo (page_count read) first contents manner names past source source_now → Passes
+  pub pass_of_batch : (read more items : List Item) → AreAllItems order past items → (p : IsInBatch size read a c)
+      → first ++ items ≡ read ++ more → IfReadsTo (page_count read) first order past source source_now → Passes
   pass_of_batch read more items are p split reads =
       let (v, e) = unwritten_more read more a c p.unwritten in
       let (w, d) = unwritten_as (first ++ items) (read ++ more) a c split v in
@@ -126,5 +125,5 @@ module _ (size : ℕ) (some : 0 < size) (first : List Item) (contents : Option C
         items = items;
         are = are;
         unwritten = w;
-        no_farther = λ steady enough. subst (λ n. IfReadsTo n first contents manner names past source source_now) same reads;
+        no_farther = λ steady enough. subst (λ n. IfReadsTo n first order past source source_now) same reads;
       }

@@ -15,8 +15,9 @@ use Rattle.run_output.specs.Told.{Sinks, Source}
 use Rattle.page_batches.proofs.Holding.{page_count-held}
 use Rattle.file_documents.specs.FileItems.{IsAbsent, told_contents}
 use Rattle.file_documents.specs.Manner.{HasTexts, Manner, base_by}
-use Rattle.file_documents.specs.OnePass.{IfReadsTo, IsOnePass}
-use Rattle.file_documents.specs.Outcome.{LeavesBehind, opened_name}
+use Rattle.file_documents.specs.OnePass.{IfReadsTo, IsOnePassBehind}
+use Rattle.file_documents.specs.Order.{order_by, order_of}
+use Rattle.file_documents.specs.Outcome.{IsOpenedAt, LeavesBehind, opened_name}
 use Rattle.file_documents.specs.Inner.Progress.{EndsWithFile, Halts, IsInPart, Converts, end_message, status_of, text_items}
 use Rattle.file_documents.specs.Inner.Unopened.{EndsUnopened}
 use Rattle.file_documents.specs.declared.pages.PagesEnd.{PagesEnd}
@@ -36,21 +37,21 @@ held_part size manner held first a c few are u =
 -- the file can't be opened, and a document of what was held couldn't be written
 pass_held : (size : ℕ) → 0 < size → (manner : Manner) → HasTexts manner → (name : List ℕ) (past : Past) (held : List Held) (source source_now : Source) (a c : Sinks)
     → pages_held held < size → IsAbsent (told_contents source.files) name ⊎ Rose source.faults source_now.faults → (names : List (List ℕ)) (first : List Item) → AreHeld manner.binding manner.belongs held first → IsUnwritten first a c
-    → IsOnePass size first (told_contents source.files) manner (name ∷ names) past source source_now a c
+    → IsOnePassBehind size first (order_of manner (name ∷ names) source) past source source_now a c
 pass_held size some manner can name past held source source_now a c few cause names first are u = by_cause cause where
   by_cause : IsAbsent (told_contents source.files) name ⊎ Rose source.faults source_now.faults
-      → IsOnePass size first (told_contents source.files) manner (name ∷ names) past source source_now a c
+      → IsOnePassBehind size first (order_of manner (name ∷ names) source) past source source_now a c
   by_cause (inl absent) =
-      pass_of_part size some first (told_contents source.files) manner (name ∷ names) past source source_now a c first (Missing name ∷ []) (Missing name ∷ [])
+      pass_of_part size some first (order_of manner (name ∷ names) source) past source source_now a c first (Missing name ∷ []) (Missing name ∷ [])
       (inl (absent, refl)) (held_part size manner held first a c few are u) refl refl
   by_cause (inr rose) =
       let more = items_found (told_contents source.files) manner can (name ∷ names) past in
-      pass_of_rise size some first (told_contents source.files) manner (name ∷ names) past source source_now a c first more.0 more.0 more.1 u refl rose
+      pass_of_rise size some first (order_of manner (name ∷ names) source) past source source_now a c first more.0 more.0 more.1 u refl rose
 
 pub pass_unopened : (size : ℕ) → 0 < size → (manner : Manner) → HasTexts manner → (name : List ℕ) (past : Past) (held : List Held) (source source_now : Source) (a c : Sinks)
     → pages_held held < size → IsAbsent (told_contents source.files) name ⊎ Rose source.faults source_now.faults
     → (s : Status) → ((first : List Item) → AreHeld manner.binding manner.belongs held first → EndsUnopened name s first a c) → s ≡ status.Unwritten → (names : List (List ℕ)) (first : List Item) → AreHeld manner.binding manner.belongs held first
-    → IsOnePass size first (told_contents source.files) manner (name ∷ names) past source source_now a c
+    → IsOnePassBehind size first (order_of manner (name ∷ names) source) past source source_now a c
 pass_unopened size some manner can name past held source source_now a c few cause s ends unwritten names first are = elim (ends first are) [
   | inl (is, done) ↦ absurd (let no : status.Unread ≡ status.Unwritten = sym is ∙ unwritten in cc)
   | inr (which, ended) ↦
@@ -73,7 +74,7 @@ module _ (size : ℕ) (some : 0 < size) (manner : Manner) (can : HasTexts manner
   has = has_bytes source.files start name opened there
 
   abbrev Passes : List Item → List (List ℕ) → Sinks → Sinks → Type 0
-  Passes first names a c = IsOnePass size first (told_contents source.files) manner (name ∷ names) past source source_now a c
+  Passes first names a c = IsOnePassBehind size first (order_of manner (name ∷ names) source) past source source_now a c
 
   -- the run ends with the pages of the file, and a document of what is held then couldn't be written
   pub pass_ended : (k : ℕ) (held held_mid : List Held) (a b c : Sinks) (end : PagesEnd) → (end ≡ why.Fault fault.ReadFault → Rose source.faults source_now.faults)
@@ -100,7 +101,7 @@ module _ (size : ℕ) (some : 0 < size) (manner : Manner) (can : HasTexts manner
     by_end why.TooMany rose t ends which =
         let part = part_halts size manner (first ++ text_items manner base past 0 t.texts) held_mid a b c (t.holds first are) (u why.TooMany ends which) few in
         let last : List Item = Refuse (end_message name why.TooMany k) ∷ [] in
-        pass_of_part size some first told manner (name ∷ names) past source source_now a c (first ++ text_items manner base past 0 t.texts) last (text_items manner base past 0 t.texts ++ last)
+        pass_of_part size some first (order_of manner (name ∷ names) source) past source source_now a c (first ++ text_items manner base past 0 t.texts) last (text_items manner base past 0 t.texts ++ last)
         (full_items told manner name past size start source_now.files k held held_mid a b has names t) part (split t.texts last) refl
     by_end why.End rose t ends (inl is) = absurd (let no : status.Done ≡ status.Refused = is in cc)
     by_end why.End rose t ends (inr is) = absurd (let no : status.Done ≡ status.Unread = is in cc)
@@ -111,12 +112,12 @@ module _ (size : ℕ) (some : 0 < size) (manner : Manner) (can : HasTexts manner
     by_end (why.Fault fault.ReadFault) rose t ends which =
         let part = part_halts size manner (first ++ text_items manner base past 0 t.texts) held_mid a b c (t.holds first are) (u (why.Fault fault.ReadFault) ends which) few in
         let (after, items) = items_after told manner name past can names (read_by_converting size told manner name base past start source_now.files held held_mid a b k (why.Fault fault.ReadFault) has t) in
-        pass_of_rise size some first told manner (name ∷ names) past source source_now a c (first ++ text_items manner base past 0 t.texts) after (text_items manner base past 0 t.texts ++ after)
+        pass_of_rise size some first (order_of manner (name ∷ names) source) past source source_now a c (first ++ text_items manner base past 0 t.texts) after (text_items manner base past 0 t.texts ++ after)
         items part.unwritten (split t.texts after) (rose refl)
     by_end (why.Fault f) rose t ends which =
         let part = part_halts size manner (first ++ text_items manner base past 0 t.texts) held_mid a b c (t.holds first are) (u (why.Fault f) ends which) few in
         let last : List Item = Refuse (end_message name (why.Fault f) k) ∷ [] in
-        pass_of_part size some first told manner (name ∷ names) past source source_now a c (first ++ text_items manner base past 0 t.texts) last (text_items manner base past 0 t.texts ++ last)
+        pass_of_part size some first (order_of manner (name ∷ names) source) past source source_now a c (first ++ text_items manner base past 0 t.texts) last (text_items manner base past 0 t.texts ++ last)
         (refused_items told manner name past size start source_now.files k held held_mid a b has f refl names t) part (split t.texts last) refl
 
   -- a document of the batch that the last page of the file fills couldn't be written
@@ -125,34 +126,36 @@ module _ (size : ℕ) (some : 0 < size) (manner : Manner) (can : HasTexts manner
   pass_halted held a c t names first are =
       let r = read_by_halting size (told_contents source.files) status.Unwritten manner name base past start source_now.files held a c has t in
       let (after, items) = items_after (told_contents source.files) manner name past can names r in
-      pass_of_batch size some first (told_contents source.files) manner (name ∷ names) past source source_now a c (first ++ text_items manner base past 0 t.texts) after (text_items manner base past 0 t.texts ++ after)
+      pass_of_batch size some first (order_of manner (name ∷ names) source) past source source_now a c (first ++ text_items manner base past 0 t.texts) after (text_items manner base past 0 t.texts ++ after)
       items (t.in_batch refl first are) (sym (append_assoc first (text_items manner base past 0 t.texts) after)) (reads source.files opened there) where
-        opened_at : (now : Option Files) (rest : List ℕ) → unread now ≡ Some rest → opened_name now ≡ Some name → IfSome now (λ files. files.opened ≡ Some (record { name = name; rest = rest }))
+        opened_at : (now : Option Files) (rest : List ℕ) → unread now ≡ Some rest → opened_name now ≡ Some name → IsOpenedAt name rest now
         opened_at None rest e f = tt
         opened_at (Some files) rest e f = opened_as files.opened name rest e f
 
         reads : (told : Option Files) → start ≡ with_file told name → (Lacks told name → ⊥)
-            → IfReadsTo (page_count (first ++ text_items manner base past 0 t.texts)) first (told_contents told) manner (name ∷ names) past source source_now
+            → IfReadsTo (page_count (first ++ text_items manner base past 0 t.texts)) first (order_by (told_contents told) manner (name ∷ names)) past source source_now
         reads None opened there = tt
         reads (Some files) opened there =
             let (bytes, held_is, is) = has_bytes (Some files) start name opened there in
             let (behind, rest, begins, unread_is, near) = subst (λ (o : Option (List ℕ)).
             IfSome o (λ all. (behind : List ℕ) × (rest : List ℕ) × LeavesBehind false all t.raws behind × (unread source_now.files ≡ Some rest) × (length behind ≤ length rest + 65536))) is t.near in
             record {
-              name = name;
-              front = [];
+              place = record {
+                name = name;
+                front = [];
+                raws = t.raws;
+                rest = rest;
+                before = text_items manner base past 0 t.texts;
+                reached = at_first name names source.openings source_now.openings one;
+                opened = opened_at source_now.files rest unread_is (named ∙ ap opened_name opened ∙ name-opened files name bytes held_is);
+                items = pages_alone manner name base past t.raws t.texts t.converted t.few;
+              };
               bytes = bytes;
-              raws = t.raws;
               behind = behind;
-              rest = rest;
-              before = text_items manner base past 0 t.texts;
-              reached = at_first name names source.openings source_now.openings one;
               held = held_is;
               some = t.some;
               begins = begins;
-              opened = opened_at source_now.files rest unread_is (named ∙ ap opened_name opened ∙ name-opened files name bytes held_is);
               near = near;
-              items = pages_alone manner name base past t.raws t.texts t.converted t.few;
               goes_on = pages_go_on manner base past 0 t.texts;
               count = refl;
             }

@@ -21,7 +21,8 @@ use Rattle.page_batches.proofs.Holding.{all_held, holds_goes_on, holds_on}
 use Rattle.file_documents.specs.FileItems.{AreItems, Nothing}
 use Rattle.file_documents.specs.Manner.{Manner}
 use Rattle.file_documents.specs.LastBatch.{LosesBatch}
-use Rattle.file_documents.specs.OnePass.{IsOnePass}
+use Rattle.file_documents.specs.OnePass.{IsOnePassBehind}
+use Rattle.file_documents.specs.Order.{order_by}
 use Rattle.file_documents.specs.Outcome.{EndsNear, IsOutcomeBehind, LastEndsNear, OpensFirst, opened_name}
 use Rattle.file_documents.specs.Inner.Progress.{EndsWith, ConvertsFile, LosesWithin}
 use Rattle.file_documents.proofs.Ending.{outcome_of_halt}
@@ -80,7 +81,7 @@ all_items size contents manner names past held a b all =
 -- all files are read, and what is held then is carried out
 pub all_done : (size : ℕ) (contents : Option Contents) (manner : Manner) (names : List (List ℕ)) (past : Past) (held : List Held) (source now : Source) (a b c : Sinks) → AreDone size contents manner names past held a b
     → ((items : List Item) → AreHeld manner.binding manner.belongs held items → AreCarriedOut items [] b c) → now.openings ≡ min (source.openings + length names) last_count
-    → LastEndsNear contents names now → IsOutcomeBehind status.Done [] contents manner names no_past source now a c
+    → LastEndsNear contents names now → IsOutcomeBehind status.Done [] (order_by contents manner names) no_past source now a c
 all_done size contents manner names past held source now a b c all carried opens near =
     let h = all.holds in (
       all.items,
@@ -93,10 +94,10 @@ all_done size contents manner names past held source now a b c all carried opens
 -- or as far as the status says
 pub ends_after : (s : Status) → IsHalt s → (size : ℕ) (contents : Option Contents) (manner : Manner) (names : List (List ℕ)) (past : Past) (held : List Held) (source now : Source) (a b c : Sinks)
     → AreDone size contents manner names past held a b → ((items : List Item) → AreHeld manner.binding manner.belongs held items → HasEnded s items b c)
-    → IsOutcomeBehind s [] contents manner names no_past source now a c
+    → IsOutcomeBehind s [] (order_by contents manner names) no_past source now a c
 ends_after s which size contents manner names past held source now a b c all ended =
     let h = all.holds in
-    outcome_of_halt s which [] contents manner names no_past source now a c
+    outcome_of_halt s which [] (order_by contents manner names) no_past source now a c
     (all.items, all_items size contents manner names past held a b all, subst (λ l. HasEnded s l a c) (sym h.split) (ended_on s h.done h.left a b c h.carried (ended h.left h.are_held)))
 
 -- a list around its i-th item
@@ -135,50 +136,50 @@ opens_to names i name source then now within is openings one named =
 pub ends_in : (s : Status) (size : ℕ) (contents : Option Contents) (manner : Manner) (names : List (List ℕ)) (i : ℕ) (name : List ℕ) (past : Past) (held : List Held) (source then now : Source) (a b c : Sinks)
     → i < length names → name ≡ get_or names i name → AreDone size contents manner (take i names) past held a b
     → then.openings ≡ min (source.openings + i) last_count → then.faults ≡ source.faults
-    → ((back : List (List ℕ)) (first : List Item) → AreHeld manner.binding manner.belongs held first → IsOutcomeBehind s first contents manner (name ∷ back) past then now b c)
-    → IsOutcomeBehind s [] contents manner names no_past source now a c
+    → ((back : List (List ℕ)) (first : List Item) → AreHeld manner.binding manner.belongs held first → IsOutcomeBehind s first (order_by contents manner (name ∷ back)) past then now b c)
+    → IsOutcomeBehind s [] (order_by contents manner names) no_past source now a c
 ends_in s size contents manner names i name past held source then now a b c within is front openings faults ends =
     let short : length (take i names) ≡ i = length-take-le i names (omega (arith, within)) in
     let all = outcome_on s size contents manner (take i names) (name ∷ drop (i + 1) names) no_past past [] front.items held source then now a b c front.are front.holds
     (rw short openings) faults (near_on contents (take i names) name (drop (i + 1) names) now) (ends (drop (i + 1) names)) in
-    subst (λ ns. IsOutcomeBehind s [] contents manner ns no_past source now a c) (sym (around names i name within is)) all
+    subst (λ ns. IsOutcomeBehind s [] (order_by contents manner ns) no_past source now a c) (sym (around names i name within is)) all
 
 -- and how far it has read
 pub passes_in : (size : ℕ) → 0 < size → (contents : Option Contents) (manner : Manner) (names : List (List ℕ)) (i : ℕ) (name : List ℕ) (past : Past) (held : List Held) (source then now : Source) (a b c : Sinks)
     → i < length names → name ≡ get_or names i name → AreDone size contents manner (take i names) past held a b
     → then.openings ≡ min (source.openings + i) last_count → then.faults ≡ source.faults
-    → ((back : List (List ℕ)) (first : List Item) → AreHeld manner.binding manner.belongs held first → IsOnePass size first contents manner (name ∷ back) past then now b c)
-    → IsOnePass size [] contents manner names no_past source now a c
+    → ((back : List (List ℕ)) (first : List Item) → AreHeld manner.binding manner.belongs held first → IsOnePassBehind size first (order_by contents manner (name ∷ back)) past then now b c)
+    → IsOnePassBehind size [] (order_by contents manner names) no_past source now a c
 passes_in size some contents manner names i name past held source then now a b c within is front openings faults passes =
     let short : length (take i names) ≡ i = length-take-le i names (omega (arith, within)) in
     let all = one_pass_on size some contents manner (take i names) (name ∷ drop (i + 1) names) no_past past [] front.items held source then now a b c front.are front.holds
     (rw short openings) faults (passes (drop (i + 1) names)) in
-    subst (λ ns. IsOnePass size [] contents manner ns no_past source now a c) (sym (around names i name within is)) all
+    subst (λ ns. IsOnePassBehind size [] (order_by contents manner ns) no_past source now a c) (sym (around names i name within is)) all
 
 -- all files are read, and a document of what is held then couldn't be written
 pub passes_after : (size : ℕ) → 0 < size → (contents : Option Contents) (manner : Manner) (names : List (List ℕ)) (past : Past) (held : List Held) (source now : Source) (a b c : Sinks)
     → AreDone size contents manner names past held a b → pages_held held < size → ((items : List Item) → AreHeld manner.binding manner.belongs held items → IsUnwritten items b c)
-    → IsOnePass size [] contents manner names no_past source now a c
+    → IsOnePassBehind size [] (order_by contents manner names) no_past source now a c
 passes_after size some contents manner names past held source now a b c all few unwritten =
-    pass_of_part size some [] contents manner names no_past source now a c all.items [] all.items (all_items size contents manner names past held a b all)
+    pass_of_part size some [] (order_by contents manner names) no_past source now a c all.items [] all.items (all_items size contents manner names past held a b all)
     (part_halts size manner all.items held a b c all.holds unwritten few) (sym (append-nil all.items)) refl
 
 -- and how far, where memory ran out in the i-th file
 pub loses_in : (size : ℕ) (contents : Option Contents) (manner : Manner) (names : List (List ℕ)) (i : ℕ) (name : List ℕ) (past : Past) (held : List Held) (source then now : Source) (a b c : Sinks)
     → i < length names → name ≡ get_or names i name → AreDone size contents manner (take i names) past held a b → then.openings ≡ min (source.openings + i) last_count
-    → ((back : List (List ℕ)) (first : List Item) → AreHeld manner.binding manner.belongs held first → LosesWithin size first contents manner (name ∷ back) past then now b c)
-    → LosesBatch size contents manner names source now a c
+    → ((back : List (List ℕ)) (first : List Item) → AreHeld manner.binding manner.belongs held first → LosesWithin size first (order_by contents manner (name ∷ back)) past then now b c)
+    → LosesBatch size (order_by contents manner names) source now a c
 loses_in size contents manner names i name past held source then now a b c within is front openings loses =
     let short : length (take i names) ≡ i = length-take-le i names (omega (arith, within)) in
     let all = lose_on size contents manner (take i names) (name ∷ drop (i + 1) names) no_past past [] front.items held source then now a b c front.are front.holds
     (rw short openings) (loses (drop (i + 1) names)) in
-    let here = subst (λ ns. LosesWithin size [] contents manner ns no_past source now a c) (sym (around names i name within is)) all in
+    let here = subst (λ ns. LosesWithin size [] (order_by contents manner ns) no_past source now a c) (sym (around names i name within is)) all in
     record { items = here.items; are = here.are; out = here.out; batches = here.batches; whole = here.whole; no_farther = inr (inl here.reads) }
 
 -- all files are read, and memory ran out before what is held then was carried out
 pub loses_after : (size : ℕ) (contents : Option Contents) (manner : Manner) (names : List (List ℕ)) (past : Past) (held : List Held) (source now : Source) (a b c : Sinks)
     → AreDone size contents manner names past held a b → pages_held held < size → AreCarriedOut [] (out_of_memory ∷ []) b c → LastEndsNear contents names now
-    → LosesBatch size contents manner names source now a c
+    → LosesBatch size (order_by contents manner names) source now a c
 loses_after size contents manner names past held source now a b c all few idle near =
     let p = batch_held size manner all.items held a b c all.holds idle few in
     let most = p.most in

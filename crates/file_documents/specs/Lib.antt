@@ -1,5 +1,6 @@
 pub mod Manner
 pub mod FileItems
+pub mod Order
 pub mod Outcome
 pub mod Alike
 pub mod OnePass

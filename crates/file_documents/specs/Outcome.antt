@@ -18,8 +18,9 @@ use Rattle.page_batches.specs.Items.{Item}
 use Rattle.page_batches.specs.Items.Item.{Refuse}
 use Rattle.page_batches.specs.ItemsDone.{AreCarriedOut, HasEnded}
 use Rattle.run_output.specs.Told.{Sinks, Source}
-use Rattle.file_documents.specs.FileItems.{AreItems, ArePageItems, HoldsPages, IsAbsent, Nothing, PagesAlone, told_contents}
+use Rattle.file_documents.specs.FileItems.{AreItems, ArePageItems, HoldsPages, IsAbsent, Nothing, PagesAlone}
 use Rattle.file_documents.specs.Manner.{Manner, base_by}
+use Rattle.file_documents.specs.Order.{AreAllItems, Order, order_of}
 
 -- the file of this name is listed, and there were as many openings as there are files up to it. Which names these
 -- had isn't said
@@ -43,15 +44,32 @@ OpensFirst names source source_now =
 
 -- a file can't be opened: it isn't there, or a device failed. The first items, and all items of the files in
 -- front of it, are carried out, and its message is the last one.
-pub record IsUnopened (first : List Item) (contents : Option Contents) (manner : Manner) (names : List (List ℕ)) (past : Past) (source source_now : Source) (old new : Sinks) : Type 0 where
+pub record IsUnopened (first : List Item) (order : Order) (past : Past) (source source_now : Source) (old new : Sinks) : Type 0 where
   pub name : List ℕ
   pub front : List (List ℕ)
   pub before : List Item
-  pub reached : OpensUpTo names name front source.openings source_now.openings
+  pub reached : OpensUpTo order.names name front source.openings source_now.openings
   pub closed : source_now.is_opened ≡ false
-  pub cause : IsAbsent contents name ⊎ Rose source.faults source_now.faults
-  pub items : AreItems contents manner Nothing front past before
+  pub cause : IsAbsent order.contents name ⊎ Rose source.faults source_now.faults
+  pub items : AreItems order.contents order.manner Nothing front past before
   pub done : AreCarriedOut (first ++ before) (not_opened name ∷ []) old new
+
+-- the file of this name is the opened one, where that is told, and these bytes of it are unread
+abbrev pub IsOpenedAt : List ℕ → List ℕ → Option Files → Type 0
+IsOpenedAt name rest told = IfSome told (λ files. files.opened ≡ Some (record { name = name; rest = rest }))
+
+-- the run stands in a file of the order: these pages of it were read, and `before` are the items of the files in front of
+-- it and the parts that are its pages
+pub record StandsIn (order : Order) (past : Past) (source source_now : Source) : Type 0 where
+  pub name : List ℕ
+  pub front : List (List ℕ)
+  pub raws : List Raw
+  pub rest : List ℕ
+  pub before : List Item
+  pub reached : OpensUpTo order.names name front source.openings source_now.openings
+  pub opened : IsOpenedAt name rest source_now.files
+  pub items : AreItems order.contents order.manner
+      (λ past items. ArePageItems order.manner name (base_by order.manner name) PagesAlone raws 0 past items) front past before
 
 -- the first pages of the bytes are these, and `behind` is what follows those that they take: of it the last page may
 -- claim some
@@ -85,23 +103,15 @@ abbrev pub HoldsBytes : Option Contents → List ℕ → List ℕ → List ℕ �
 HoldsBytes None name taken rest = Unit {0}
 HoldsBytes (Some contents) name taken rest = get contents name ≡ Some (taken ++ rest)
 
--- a read failed: the first items, all items of the files in front of the opened one, and the parts that are its
--- pages that had been taken whole, are carried out, and the message of the page behind them is the last one
-pub record IsUnread (first : List Item) (contents : Option Contents) (manner : Manner) (names : List (List ℕ)) (past : Past) (source source_now : Source) (old new : Sinks) : Type 0 where
-  pub name : List ℕ
-  pub front : List (List ℕ)
+-- a read failed: the first items, and those up to where the run stands, are carried out, of the file as many pages as had
+-- been taken whole, and the message of the page behind them is the last one
+pub record IsUnread (first : List Item) (order : Order) (past : Past) (source source_now : Source) (old new : Sinks) : Type 0 where
+  pub place : StandsIn order past source source_now
   pub taken : List ℕ
-  pub rest : List ℕ
-  pub raws : List Raw
-  pub before : List Item
-  pub reached : OpensUpTo names name front source.openings source_now.openings
-  pub opened : IfSome source_now.files (λ files. files.opened ≡ Some (record { name = name; rest = rest }))
-  pub bytes : HoldsBytes contents name taken rest
+  pub bytes : HoldsBytes order.contents place.name taken place.rest
   pub rose : Rose source.faults source_now.faults
-  pub stops : StopsReading taken raws
-  pub items : AreItems contents manner
-      (λ past items. ArePageItems manner name (base_by manner name) PagesAlone raws 0 past items) front past before
-  pub done : AreCarriedOut (first ++ before) (page_line name (length raws + 1) (cause_text Device) ∷ []) old new
+  pub stops : StopsReading taken place.raws
+  pub done : AreCarriedOut (first ++ place.before) (page_line place.name (length place.raws + 1) (cause_text Device) ∷ []) old new
 
 -- the bytes begin with these pages, and as many as `rest` has are unread. At most 65,536 were taken behind those that the
 -- pages take; or behind some first bytes, by whose end it isn't settled yet what follows the pages
@@ -115,23 +125,14 @@ abbrev pub ReadsFileNear : Option Contents → List ℕ → List Raw → List �
 ReadsFileNear None name raws rest = Unit {0}
 ReadsFileNear (Some contents) name raws rest = (bytes : List ℕ) × (get contents name ≡ Some bytes) × ReadsNear bytes raws rest
 
--- a page is refused: the first items, all items of the files in front of the opened one, and the parts that are its pages
--- in front of that page are carried out, and its message is the last one. No other file was opened, and this one is
--- read no farther than that decides, but for 65,536 bytes.
-pub record IsStopped (first : List Item) (contents : Option Contents) (manner : Manner) (names : List (List ℕ)) (past : Past) (source source_now : Source) (old new : Sinks) : Type 0 where
-  pub name : List ℕ
-  pub front : List (List ℕ)
-  pub raws : List Raw
-  pub rest : List ℕ
-  pub before : List Item
+-- a page is refused: the first items, and those up to where the run stands, are carried out, and its message is the last
+-- one. No other file was opened, and this one is read no farther than that decides, but for 65,536 bytes.
+pub record IsStopped (first : List Item) (order : Order) (past : Past) (source source_now : Source) (old new : Sinks) : Type 0 where
+  pub place : StandsIn order past source source_now
   pub message : List ℕ
-  pub reached : OpensUpTo names name front source.openings source_now.openings
-  pub opened : IfSome source_now.files (λ files. files.opened ≡ Some (record { name = name; rest = rest }))
-  pub near : ReadsFileNear contents name raws rest
-  pub items : AreItems contents manner
-      (λ past items. ArePageItems manner name (base_by manner name) PagesAlone raws 0 past items) front past before
-  pub all : AreItems contents manner Nothing names past (before ++ Refuse message ∷ [])
-  pub done : AreCarriedOut (first ++ before) (message ∷ []) old new
+  pub near : ReadsFileNear order.contents place.name place.raws place.rest
+  pub all : AreAllItems order past (place.before ++ Refuse message ∷ [])
+  pub done : AreCarriedOut (first ++ place.before) (message ∷ []) old new
 
 -- the file of this name has these pages, and it is the opened one, where that is told: it is read no farther than decides
 -- how its pages end, but for 65,536 bytes
@@ -140,7 +141,7 @@ pub record EndsNear (contents : Option Contents) (name : List ℕ) (source_now :
   pub ending : FileEnd
   pub rest : List ℕ
   pub pages : HoldsPages contents name raws ending
-  pub opened : IfSome source_now.files (λ files. files.opened ≡ Some (record { name = name; rest = rest }))
+  pub opened : IsOpenedAt name rest source_now.files
   pub near : ReadsFileNear contents name raws rest
 
 -- the same of the last of these files, where there is one
@@ -149,21 +150,20 @@ LastEndsNear contents [] source_now = Unit {0}
 LastEndsNear contents (name ∷ []) source_now = EndsNear contents name source_now
 LastEndsNear contents (name ∷ next ∷ names) source_now = LastEndsNear contents (next ∷ names) source_now
 
--- what was done of these first items and those of the files of these names, after what was made before
-abbrev pub IsOutcomeBehind : Status → List Item → Option Contents → Manner → List (List ℕ) → Past → Source → Source → Sinks → Sinks → Type 0
-IsOutcomeBehind status.Unread first contents manner names past source source_now old new =
-    IsUnopened first contents manner names past source source_now old new ⊎ IsUnread first contents manner names past source source_now old new
-IsOutcomeBehind status.Done first contents manner names past source source_now old new =
-    (items : List Item) × AreItems contents manner Nothing names past items × HasEnded status.Done (first ++ items) old new
-    × (source_now.openings ≡ min (source.openings + length names) last_count) × LastEndsNear contents names source_now
-IsOutcomeBehind status.Refused first contents manner names past source source_now old new =
-    IsStopped first contents manner names past source source_now old new
-IsOutcomeBehind s first contents manner names past source source_now old new =
-    (items : List Item) × AreItems contents manner Nothing names past items × HasEnded s (first ++ items) old new
+-- what was done of these first items and those of the files of an order, after what was made before
+abbrev pub IsOutcomeBehind : Status → List Item → Order → Past → Source → Source → Sinks → Sinks → Type 0
+IsOutcomeBehind status.Unread first order past source source_now old new =
+    IsUnopened first order past source source_now old new ⊎ IsUnread first order past source source_now old new
+IsOutcomeBehind status.Refused first order past source source_now old new = IsStopped first order past source source_now old new
+IsOutcomeBehind status.Done first order past source source_now old new =
+    (items : List Item) × AreAllItems order past items × HasEnded status.Done (first ++ items) old new
+    × (source_now.openings ≡ min (source.openings + length order.names) last_count) × LastEndsNear order.contents order.names source_now
+IsOutcomeBehind s first order past source source_now old new =
+    (items : List Item) × AreAllItems order past items × HasEnded s (first ++ items) old new
 
 -- what was done of the items of the files of these names
 abbrev pub IsOutcome : Status → Manner → List (List ℕ) → Source → Source → Sinks → Sinks → Type 0
-IsOutcome s manner names source source_now old new = IsOutcomeBehind s [] (told_contents source.files) manner names no_past source source_now old new
+IsOutcome s manner names source source_now old new = IsOutcomeBehind s [] (order_of manner names source) no_past source source_now old new
 
 -- how the inputs' count of faults moved: it stayed, but where a read failed (and then perhaps a document of a
 -- page in front of it couldn't be written) or memory ran out

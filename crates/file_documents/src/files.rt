@@ -1,12 +1,11 @@
 //! The files of a run, one after another.
-ghost use Rattle.std.specs.Prelude.{◌≡◌, ◌*◌, [], false, true};
-ghost use Rattle.run_output.specs.Made.{no_past};
+ghost use Rattle.std.specs.Prelude.{◌≡◌, ◌*◌, false, true};
 ghost use Rattle.run_output.specs.declared.status.Status.{Status};
 ghost use Rattle.page_batches.specs.Inner.Desks.{Keeps, sinks_at};
-ghost use Rattle.file_documents.specs.FileItems.{told_contents};
 ghost use Rattle.file_documents.specs.Manner.{HasTexts};
 ghost use Rattle.file_documents.specs.LastBatch.{LosesBatch};
 ghost use Rattle.file_documents.specs.OnePass.{IsOnePass};
+ghost use Rattle.file_documents.specs.Order.{order_of};
 ghost use Rattle.file_documents.specs.Outcome.{IsOutcome, OpensFirst, InputCount};
 ghost use Rattle.run_output.specs.Told.{source_of};
 ghost use Rattle.file_documents.specs.Inner.Tasks.{manner_of};
@@ -39,12 +38,12 @@ pub fn convert_files<
         (sinks_at O.Sink E.Sink desk.old) (sinks_at O.Sink E.Sink desk.new) }
     ensures opened { OpensFirst names.now
         (source_of I.Inputs inputs.old) (source_of I.Inputs inputs.new) }
-    ensures one_pass { result ≡ Status.Unwritten → IsOnePass (2 * task.now.plan.workers) []
-        (told_contents (I.files inputs.old)) (manner_of J.PageJob task.now) names.now no_past
+    ensures one_pass { result ≡ Status.Unwritten → IsOnePass (2 * task.now.plan.workers)
+        (manner_of J.PageJob task.now) names.now
         (source_of I.Inputs inputs.old) (source_of I.Inputs inputs.new)
         (sinks_at O.Sink E.Sink desk.old) (sinks_at O.Sink E.Sink desk.new) }
     ensures one_batch { result ≡ Status.OutOfMemory → LosesBatch (2 * task.now.plan.workers)
-        (told_contents (I.files inputs.old)) (manner_of J.PageJob task.now) names.now
+        (order_of (manner_of J.PageJob task.now) names.now (source_of I.Inputs inputs.old))
         (source_of I.Inputs inputs.old) (source_of I.Inputs inputs.new)
         (sinks_at O.Sink E.Sink desk.old) (sinks_at O.Sink E.Sink desk.new) }
     ensures input { InputCount result (I.faults inputs.old) (I.faults inputs.new) }

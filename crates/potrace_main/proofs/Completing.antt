@@ -82,8 +82,8 @@ files_complete status.Done manner can names source now a b (items, are, done, op
     (items, are, λ _ _. record { all = λ _. inl refl; refusal = λ r. absurd (never_refused items done.goes_on r); missing = λ m. absurd (never_missing items done.goes_on m) })
 files_complete status.BadWords manner can names source now a b (items, are, ended) = absurd ended
 files_complete status.Refused manner can names source now a b r =
-    let items : List Item = r.before ++ Refuse r.message ∷ [] in
-    let refusal : EndsRefused items = (r.before, r.message, refl) in
+    let items : List Item = r.place.before ++ Refuse r.message ∷ [] in
+    let refusal : EndsRefused items = (r.place.before, r.message, refl) in
     (items, r.all, λ _ _. record { all = λ goes. absurd (never_refused items goes refusal); refusal = λ _. inl refl; missing = λ m. absurd (no_both items refusal m) })
 files_complete status.Unwritten manner can names source now a b (items, are, u) = (items, are, λ _ no_write. absurd (no_write u.broke.rose))
 files_complete status.OutOfMemory manner can names source now a b (items, are, o) =
@@ -181,7 +181,7 @@ first_absent status.Done manner name names source now a b absent (items, are, do
     absurd (subst GoesOn (only_missing (told_contents source.files) manner name names items absent are) done.goes_on)
 first_absent status.BadWords manner name names source now a b absent (items, are, ended) = absurd ended
 first_absent status.Refused manner name names source now a b absent r =
-    absurd (not_stop name r.before r.message (sym (only_missing (told_contents source.files) manner name names (r.before ++ Refuse r.message ∷ []) absent r.all)))
+    absurd (not_stop name r.place.before r.message (sym (only_missing (told_contents source.files) manner name names (r.place.before ++ Refuse r.message ∷ []) absent r.all)))
 first_absent status.Unread manner name names source now a b absent u = inl refl
 first_absent status.Unwritten manner name names source now a b absent (items, are, u) =
     absurd (not_document name u.before u.part u.after (sym (only_missing (told_contents source.files) manner name names items absent are) ∙ u.split))
@@ -242,12 +242,12 @@ files_move s manner names source now a b closed outcome = by_status s outcome wh
   by_status status.Done (items, are, done, opens, near) = carried_moves (manner.binding ≡ Apart) items [] a b (whole items are) closed done
   by_status status.BadWords (items, are, ended) = absurd ended
   by_status status.Refused r =
-      carried_moves (manner.binding ≡ Apart) r.before (r.message ∷ []) a b (λ apart. AreWhole-front r.before (Refuse r.message ∷ []) (whole (r.before ++ Refuse r.message ∷ []) r.all apart)) closed r.done
+      carried_moves (manner.binding ≡ Apart) r.place.before (r.message ∷ []) a b (λ apart. AreWhole-front r.place.before (Refuse r.message ∷ []) (whole (r.place.before ++ Refuse r.message ∷ []) r.all apart)) closed r.done
   by_status status.Unread (inl u) =
       carried_moves (manner.binding ≡ Apart) u.before (not_opened u.name ∷ []) a b (λ apart. items_end told manner apart Nothing nothing_ends u.front no_past u.before u.items) closed u.done
   by_status status.Unread (inr u) =
-      carried_moves (manner.binding ≡ Apart) u.before _ a b
-      (λ apart. items_end told manner apart _ (alone_end manner apart u.name u.raws) u.front no_past u.before u.items) closed u.done
+      carried_moves (manner.binding ≡ Apart) u.place.before _ a b
+      (λ apart. items_end told manner apart _ (alone_end manner apart u.place.name u.place.raws) u.place.front no_past u.place.before u.place.items) closed u.done
   by_status status.Unwritten (items, are, u) = u.broke
   by_status status.OutOfMemory (items, are, o) = ended_moves (manner.binding ≡ Apart) status.OutOfMemory items a b (whole items are) closed o
 

@@ -17,10 +17,11 @@ use Rattle.page_batches.specs.Items.{Doc, GoesOn, Item}
 use Rattle.page_batches.specs.Items.Item.{Missing, Refuse}
 use Rattle.page_batches.specs.ItemsDone.{AreCarriedOut, HasEnded}
 use Rattle.run_output.specs.Told.{Sinks, Source}
-use Rattle.file_documents.specs.FileItems.{AreItems, IsAbsent, Nothing, told_contents}
+use Rattle.file_documents.specs.FileItems.{AreItems, IsAbsent, Nothing}
 use Rattle.file_documents.specs.Manner.{Manner, manner_by}
 use Rattle.file_documents.specs.LastBatch.{LosesBatch}
 use Rattle.file_documents.specs.OnePass.{IsOnePass}
+use Rattle.file_documents.specs.Order.{order_of}
 use Rattle.file_documents.specs.Outcome.{IsOutcome}
 use Rattle.page_trace.specs.Document.{IsDocument}
 use Rattle.potrace_main.specs.Demo.{IsDemoText}
@@ -109,7 +110,7 @@ IsOnePassOf asks.Help source source_now old new = Unit {0}
 IsOnePassOf asks.Version source source_now old new = Unit {0}
 IsOnePassOf (asks.Demo pages workers settings) source source_now old new = Unit {0}
 IsOnePassOf (asks.Files names output workers settings) source source_now old new =
-    IsOnePass (2 * workers) [] (told_contents source.files) (manner_under settings output) names no_past source source_now old new
+    IsOnePass (2 * workers) (manner_under settings output) names source source_now old new
 
 -- where memory ran out over files, whole batches are carried out, and at most one batch more was read: it has twice as many
 -- pages as there are workers
@@ -118,4 +119,4 @@ LosesBatchOf asks.Help source source_now old new = Unit {0}
 LosesBatchOf asks.Version source source_now old new = Unit {0}
 LosesBatchOf (asks.Demo pages workers settings) source source_now old new = Unit {0}
 LosesBatchOf (asks.Files names output workers settings) source source_now old new =
-    LosesBatch (2 * workers) (told_contents source.files) (manner_under settings output) names source source_now old new
+    LosesBatch (2 * workers) (order_of (manner_under settings output) names source) source source_now old new

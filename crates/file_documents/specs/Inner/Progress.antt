@@ -27,11 +27,12 @@ use Rattle.page_batches.specs.ItemsDone.{AreCarriedOut, HasEnded, IsOutOfMemory,
 use Rattle.page_batches.specs.Inner.ItemsDone.{IsHalt}
 use Rattle.run_output.specs.Told.{Sinks, Source}
 use Rattle.page_batches.specs.declared.desk.Desk.{Desk}
-use Rattle.file_documents.specs.FileItems.{AreItems, Nothing, Rest, page_item, told_contents, too_many}
+use Rattle.file_documents.specs.FileItems.{AreItems, Rest, page_item, told_contents, too_many}
 use Rattle.file_documents.specs.Manner.{Manner, shown_by}
+use Rattle.file_documents.specs.Order.{AreAllItems, Order, order_of}
 use Rattle.file_documents.specs.Inner.Outcome.{BeginsWith}
 use Rattle.file_documents.specs.Outcome.{EndsNear, IsOutcomeBehind, LeavesBehind, ReadsNear, StopsReading, is_later, opened_name}
-use Rattle.file_documents.specs.OnePass.{IsOnePass}
+use Rattle.file_documents.specs.OnePass.{IsOnePassBehind}
 use Rattle.file_documents.specs.LastBatch.{ReadsAtMost}
 use Rattle.file_documents.specs.declared.pages.PagesEnd.{PagesEnd}
 use Rattle.file_documents.specs.declared.pages.PagesEnd.TheVariants as why
@@ -197,13 +198,13 @@ pub record RunsOutIn (size : ℕ) (items : List Item) (old new : Sinks) : Type 0
   pub most : page_count items ≤ batches * size + size
 
 -- memory ran out in a file, behind these first items: whole batches are carried out, and at most one batch more was read
-pub record LosesWithin (size : ℕ) (first : List Item) (contents : Option Contents) (manner : Manner) (names : List (List ℕ)) (past : Past) (source source_now : Source) (old new : Sinks) : Type 0 where
+pub record LosesWithin (size : ℕ) (first : List Item) (order : Order) (past : Past) (source source_now : Source) (old new : Sinks) : Type 0 where
   pub items : List Item
-  pub are : AreItems contents manner Nothing names past items
+  pub are : AreAllItems order past items
   pub out : IsOutOfMemory (first ++ items) old new
   pub batches : ℕ
   pub whole : page_count out.before ≡ batches * size
-  pub reads : ReadsAtMost (page_count out.before + size) first contents manner names past source source_now
+  pub reads : ReadsAtMost (page_count out.before + size) first order past source source_now
 
 -- some pages were read, after what was made before; what was held before and these pages were carried out as far as the
 -- status says. Where a part couldn't be written it is one of a batch that ends with them, and at most 65,536 bytes
@@ -296,6 +297,6 @@ EndsFile (Ok done) size manner name past past_now held held_now source source_no
     ConvertsFile size (told_contents source.files) manner name past past_now held held_now old new × EndsNear (told_contents source.files) name source_now
 EndsFile (Err s) size manner name past past_now held held_now source source_now old new =
     (names : List (List ℕ)) (first : List Item) → AreHeld manner.binding manner.belongs held first
-    → IsOutcomeBehind s first (told_contents source.files) manner (name ∷ names) past source source_now old new
-    × (s ≡ status.Unwritten → IsOnePass size first (told_contents source.files) manner (name ∷ names) past source source_now old new)
-    × (s ≡ status.OutOfMemory → LosesWithin size first (told_contents source.files) manner (name ∷ names) past source source_now old new)
+    → IsOutcomeBehind s first (order_of manner (name ∷ names) source) past source source_now old new
+    × (s ≡ status.Unwritten → IsOnePassBehind size first (order_of manner (name ∷ names) source) past source source_now old new)
+    × (s ≡ status.OutOfMemory → LosesWithin size first (order_of manner (name ∷ names) source) past source source_now old new)
