@@ -21,7 +21,7 @@ use Rattle.page_batches.specs.ItemsDone.{AreCarriedOut, HasEnded}
 use Rattle.run_output.specs.Told.{AllWent, Sinks, Source}
 use Rattle.file_documents.specs.FileItems.{AreItems, AreWhole, IsAbsent, Nothing, told_contents}
 use Rattle.file_documents.specs.Manner.{HasTexts, Manner}
-use Rattle.file_documents.specs.Outcome.{IsOutcome, LastEndsNear}
+use Rattle.file_documents.specs.Outcome.{InputCount, IsOutcome, LastEndsNear}
 use Rattle.file_documents.proofs.Closing.{AreWhole-front, alone_end, carried_closed, items_end, nothing_ends}
 use Rattle.file_documents.proofs.Exists.{items_found}
 use Rattle.file_documents.proofs.Losing.{lose_none}
@@ -110,24 +110,37 @@ files_complete status.Unread manner can names source now a b (inl u) = by_cause 
       )
 
 -- one text is written, or not
-text_complete : (s : Status) (text : List ℕ) (a b : Sinks) → HasEnded s (Doc dash text ∷ []) a b
-    → (Rose a.outs.faults b.outs.faults → ⊥) → IsComplete s (Doc dash text ∷ [])
-text_complete status.Done text a b done no_write =
-    let goes : GoesOn (Doc dash text ∷ []) = tt in
-    record { all = λ _. inl refl; refusal = λ r. absurd (never_refused (Doc dash text ∷ []) goes r); missing = λ m. absurd (never_missing (Doc dash text ∷ []) goes m) }
-text_complete status.BadWords text a b ended no_write = absurd ended
-text_complete status.Refused text a b r no_write =
-    let goes : GoesOn (Doc dash text ∷ []) = tt in absurd (never_refused (Doc dash text ∷ []) goes (r.before, r.message, r.split))
-text_complete status.Unread text a b ended no_write = absurd ended
-text_complete status.Unwritten text a b u no_write = absurd (no_write u.broke.rose)
-text_complete status.OutOfMemory text a b o no_write = record { all = λ _. inr refl; refusal = λ _. inr refl; missing = λ _. inr refl }
+text_complete : (s : Status) (text : List ℕ) (items : List Item) (a b : Sinks) → items ≡ Doc dash text ∷ [] → HasEnded s items a b
+    → (Rose a.outs.faults b.outs.faults → ⊥) → IsComplete s items
+text_complete s text items a b is ended no_write =
+    subst (IsComplete s) (sym is) (by_status s (subst (λ l. HasEnded s l a b) is ended)) where
+      one : List Item
+      one = Doc dash text ∷ []
+
+      by_status : (s : Status) → HasEnded s one a b → IsComplete s one
+      by_status status.Done done =
+          record { all = λ _. inl refl; refusal = λ r. absurd (never_refused one tt r); missing = λ m. absurd (never_missing one tt m) }
+      by_status status.Refused r = absurd (never_refused one tt (r.before, r.message, r.split))
+      by_status status.Unwritten u = absurd (no_write u.broke.rose)
+      by_status status.OutOfMemory o = record { all = λ _. inr refl; refusal = λ _. inr refl; missing = λ _. inr refl }
+      by_status other ended = absurd ended
+
+-- no input is read for it
+pub input_of_text : (s : Status) (items : List Item) (a b : Sinks) (n : ℕ) → HasEnded s items a b → InputCount s n n
+input_of_text status.Done items a b n ended = refl
+input_of_text status.Refused items a b n ended = refl
+input_of_text status.Unwritten items a b n ended = tt
+input_of_text status.OutOfMemory items a b n ended = tt
+input_of_text s items a b n ended = absurd ended
 
 pub run_complete : HaveDocuments → (ask : Ask) (s : Status) (source now : Source) (a b : Sinks) → CanBeDone ask → IsRun ask s source now a b
     → (items : List Item) × AreItemsOf ask (told_contents source.files) items × ((Rose source.faults now.faults → ⊥) → (Rose a.outs.faults b.outs.faults → ⊥) → IsComplete s items)
-run_complete law asks.Help s source now a b can ran = (_, refl, λ _ no_write. text_complete s help_text a b ran.outcome no_write)
-run_complete law asks.Version s source now a b can ran = (_, refl, λ _ no_write. text_complete s version_text a b ran.outcome no_write)
+run_complete law asks.Help s source now a b can ran =
+    let (items, is, ended) = ran.outcome in (items, is, λ _ no_write. text_complete s help_text items a b is ended no_write)
+run_complete law asks.Version s source now a b can ran =
+    let (items, is, ended) = ran.outcome in (items, is, λ _ no_write. text_complete s version_text items a b is ended no_write)
 run_complete law (asks.Demo pages workers settings) s source now a b can ran =
-    let (text, is, ended) = ran.outcome in (_, (text, is, refl), λ _ no_write. text_complete s text a b ended no_write)
+    let (items, are, ended) = ran.outcome in (items, are, λ _ no_write. text_complete s are.0 items a b are.2 ended no_write)
 run_complete law (asks.Files names output workers settings) s source now a b can ran =
     files_complete s (manner_under settings output) (law settings can.0.document output) names source now a b ran.outcome
 
@@ -142,20 +155,16 @@ unread_cause manner names source now a b (inl u) = by_cause u.cause where
 
 pub run_unread : (ask : Ask) (s : Status) (source now : Source) (a b : Sinks) → IsRun ask s source now a b → s ≡ status.Unread
     → Rose source.faults now.faults ⊎ IsMissing (names_of ask) (told_contents source.files)
-run_unread asks.Help s source now a b ran is = absurd (subst (λ t. HasEnded t (Doc dash help_text ∷ []) a b) is ran.outcome)
-run_unread asks.Version s source now a b ran is = absurd (subst (λ t. HasEnded t (Doc dash version_text ∷ []) a b) is ran.outcome)
-run_unread (asks.Demo pages workers settings) s source now a b ran is =
-    let (text, demo, ended) = ran.outcome in absurd (subst (λ t. HasEnded t (Doc dash text ∷ []) a b) is ended)
 run_unread (asks.Files names output workers settings) s source now a b ran is =
     unread_cause (manner_under settings output) names source now a b (subst (λ t. IsOutcome t (manner_under settings output) names source now a b) is ran.outcome)
+run_unread ask s source now a b ran is =
+    let (items, are, ended) = ran.outcome in absurd (subst (λ t. HasEnded t items a b) is ended)
 
 -- where all is done, how far the last file is read
 pub run_near : (ask : Ask) (s : Status) (source now : Source) (a b : Sinks) → IsRun ask s source now a b → s ≡ status.Done → LastEndsNear (told_contents source.files) (names_of ask) now
-run_near asks.Help s source now a b ran is = tt
-run_near asks.Version s source now a b ran is = tt
-run_near (asks.Demo pages workers settings) s source now a b ran is = tt
 run_near (asks.Files names output workers settings) s source now a b ran is =
     let (items, are, done, opens, near) = subst (λ t. IsOutcome t (manner_under settings output) names source now a b) is ran.outcome in near
+run_near ask s source now a b ran is = tt
 
 -- where the first file isn't there
 only_missing : (contents : Option Contents) (manner : Manner) (name : List ℕ) (names : List (List ℕ)) (items : List Item) → IsAbsent contents name
@@ -189,29 +198,25 @@ first_absent status.OutOfMemory manner name names source now a b absent o = inr 
 
 pub run_absent : (ask : Ask) (s : Status) (name : List ℕ) (names : List (List ℕ)) (source now : Source) (a b : Sinks) → IsRun ask s source now a b → names_of ask ≡ name ∷ names
     → IsAbsent (told_contents source.files) name → (s ≡ status.Unread) ⊎ (s ≡ status.OutOfMemory)
-run_absent asks.Help s name names source now a b ran is absent = absurd (let e : [] ≡ name ∷ names = is in cc)
-run_absent asks.Version s name names source now a b ran is absent = absurd (let e : [] ≡ name ∷ names = is in cc)
-run_absent (asks.Demo pages workers settings) s name names source now a b ran is absent = absurd (let e : [] ≡ name ∷ names = is in cc)
 run_absent (asks.Files listed output workers settings) s name names source now a b ran is absent =
     first_absent s (manner_under settings output) name names source now a b absent (subst (λ ns. IsOutcome s (manner_under settings output) ns source now a b) is ran.outcome)
+run_absent ask s name names source now a b ran is absent = absurd (let e : [] ≡ name ∷ names = is in cc)
 
 -- memory ran out while the words were read
 pub out_at_once : HaveDocuments → (ask : Ask) (source : Source) (a b : Sinks) → CanBeDone ask → AreCarriedOut [] (out_of_memory ∷ []) a b → IsOutcomeOf ask status.OutOfMemory source source a b
-out_at_once law asks.Help source a b can done = record { before = []; after = Doc dash help_text ∷ []; split = refl; done = done }
-out_at_once law asks.Version source a b can done = record { before = []; after = Doc dash version_text ∷ []; split = refl; done = done }
+out_at_once law asks.Help source a b can done = (Doc dash help_text ∷ [], refl, record { before = []; after = Doc dash help_text ∷ []; split = refl; done = done })
+out_at_once law asks.Version source a b can done = (Doc dash version_text ∷ [], refl, record { before = []; after = Doc dash version_text ∷ []; split = refl; done = done })
 out_at_once law (asks.Demo pages workers settings) source a b can done =
-    let (text, is) = demo_found pages settings can.0.document in (text, is, record { before = []; after = Doc dash text ∷ []; split = refl; done = done })
+    let (text, is) = demo_found pages settings can.0.document in (Doc dash text ∷ [], (text, is, refl), record { before = []; after = Doc dash text ∷ []; split = refl; done = done })
 out_at_once law (asks.Files names output workers settings) source a b can done =
     let items = items_found (told_contents source.files) (manner_under settings output) (law settings can.0.document output) names no_past in
     (items.0, items.1, record { before = []; after = items.0; split = refl; done = done })
 
 -- and no file was opened
 pub lost_at_once : HaveDocuments → (ask : Ask) (source : Source) (a b : Sinks) → CanBeDone ask → AreCarriedOut [] (out_of_memory ∷ []) a b → LosesBatchOf ask source source a b
-lost_at_once law asks.Help source a b can done = tt
-lost_at_once law asks.Version source a b can done = tt
-lost_at_once law (asks.Demo pages workers settings) source a b can done = tt
 lost_at_once law (asks.Files names output workers settings) source a b can done =
     lose_none (2 * workers) (told_contents source.files) (manner_under settings output) (law settings can.0.document output) names source source a b refl refl done
+lost_at_once law ask source a b can done = tt
 
 -- How the outputs moved, by the outcome.
 
@@ -251,10 +256,14 @@ files_move s manner names source now a b closed outcome = by_status s outcome wh
   by_status status.Unwritten (items, are, u) = u.broke
   by_status status.OutOfMemory (items, are, o) = ended_moves (manner.binding ≡ Apart) status.OutOfMemory items a b (whole items are) closed o
 
+-- a text is a whole document
+text_moves : (s : Status) (text : List ℕ) (items : List Item) (a b : Sinks) → items ≡ Doc dash text ∷ [] → a.is_open ≡ false → HasEnded s items a b → OutputsMove (Unit {0}) s a b
+text_moves s text items a b is closed ended = ended_moves (Unit {0}) s items a b (λ p. subst AreWhole (sym is) (refl, tt)) closed ended
+
 run_moves : (ask : Ask) (s : Status) (source now : Source) (a b : Sinks) → a.is_open ≡ false → IsOutcomeOf ask s source now a b → OutputsMove (BindsApart ask) s a b
-run_moves asks.Help s source now a b closed ended = ended_moves (Unit {0}) s (Doc dash help_text ∷ []) a b (λ p. (refl, tt)) closed ended
-run_moves asks.Version s source now a b closed ended = ended_moves (Unit {0}) s (Doc dash version_text ∷ []) a b (λ p. (refl, tt)) closed ended
-run_moves (asks.Demo pages workers settings) s source now a b closed (text, is, ended) = ended_moves (Unit {0}) s (Doc dash text ∷ []) a b (λ p. (refl, tt)) closed ended
+run_moves asks.Help s source now a b closed (items, is, ended) = text_moves s help_text items a b is closed ended
+run_moves asks.Version s source now a b closed (items, is, ended) = text_moves s version_text items a b is closed ended
+run_moves (asks.Demo pages workers settings) s source now a b closed (items, (text, demo, is), ended) = text_moves s text items a b is closed ended
 run_moves (asks.Files names output workers settings) s source now a b closed outcome = files_move s (manner_under settings output) names source now a b closed outcome
 
 -- the same where this is known of it
@@ -324,7 +333,5 @@ failed_by P status.OutOfMemory a b moves = moves.0.went
 
 -- what is asked for isn't refused
 pub never_refuses : (ask : Ask) (source now : Source) (a b : Sinks) → IsRun ask status.BadWords source now a b → ⊥
-never_refuses asks.Help source now a b ran = ran.outcome
-never_refuses asks.Version source now a b ran = ran.outcome
-never_refuses (asks.Demo pages workers settings) source now a b ran = ran.outcome.2
 never_refuses (asks.Files names output workers settings) source now a b ran = ran.outcome.2
+never_refuses ask source now a b ran = ran.outcome.2

@@ -17,7 +17,7 @@ use Rattle.page_batches.specs.Items.{Doc, GoesOn, Item}
 use Rattle.page_batches.specs.Items.Item.{Missing, Refuse}
 use Rattle.page_batches.specs.ItemsDone.{AreCarriedOut, HasEnded}
 use Rattle.run_output.specs.Told.{Sinks, Source}
-use Rattle.file_documents.specs.FileItems.{AreItems, IsAbsent, Nothing}
+use Rattle.file_documents.specs.FileItems.{AreItems, IsAbsent, Nothing, told_contents}
 use Rattle.file_documents.specs.Manner.{Manner, manner_by}
 use Rattle.file_documents.specs.LastBatch.{LosesBatch}
 use Rattle.file_documents.specs.OnePass.{IsOnePass}
@@ -44,12 +44,11 @@ AreItemsOf asks.Version contents items = items ≡ Doc dash version_text ∷ []
 AreItemsOf (asks.Demo pages workers settings) contents items = (text : List ℕ) × IsDemoText pages settings text × (items ≡ Doc dash text ∷ [])
 AreItemsOf (asks.Files names output workers settings) contents items = AreItems contents (manner_under settings output) Nothing names no_past items
 
--- what a run has done that was asked for this
+-- what a run has done that was asked for this: of files, what follows from how far it read; else its items are carried out
+-- as far as the status says
 abbrev pub IsOutcomeOf : Ask → Status → Source → Source → Sinks → Sinks → Type 0
-IsOutcomeOf asks.Help s source source_now old new = HasEnded s (Doc dash help_text ∷ []) old new
-IsOutcomeOf asks.Version s source source_now old new = HasEnded s (Doc dash version_text ∷ []) old new
-IsOutcomeOf (asks.Demo pages workers settings) s source source_now old new = (text : List ℕ) × IsDemoText pages settings text × HasEnded s (Doc dash text ∷ []) old new
 IsOutcomeOf (asks.Files names output workers settings) s source source_now old new = IsOutcome s (manner_under settings output) names source source_now old new
+IsOutcomeOf ask s source source_now old new = (items : List Item) × AreItemsOf ask (told_contents source.files) items × HasEnded s items old new
 
 -- the same is asked for, to be traced by so many workers
 abbrev pub with_workers : ℕ → Ask → Ask
@@ -60,10 +59,8 @@ with_workers n (asks.Files names output workers settings) = asks.Files names out
 
 -- the files that a run may open
 abbrev pub names_of : Ask → List (List ℕ)
-names_of asks.Help = []
-names_of asks.Version = []
-names_of (asks.Demo pages workers settings) = []
 names_of (asks.Files names output workers settings) = names
+names_of ask = []
 
 -- one of these files isn't there
 abbrev pub IsMissing : List (List ℕ) → Option Contents → Type 0
@@ -83,10 +80,8 @@ FailureCount s old new = new.count ≡ old.count
 
 -- each page has a document of its own
 abbrev pub BindsApart : Ask → Type 0
-BindsApart asks.Help = Unit {0}
-BindsApart asks.Version = Unit {0}
-BindsApart (asks.Demo pages workers settings) = Unit {0}
 BindsApart (asks.Files names output workers settings) = binding_of settings.backend ≡ Apart
+BindsApart ask = Unit {0}
 
 -- the last of the items is a refusal
 abbrev pub EndsRefused : List Item → Type 0
@@ -106,17 +101,13 @@ pub record IsComplete (s : Status) (items : List Item) : Type 0 where
 -- where a document of files couldn't be written, no more was read than the batch of that document: twice as many
 -- pages as there are workers
 abbrev pub IsOnePassOf : Ask → Source → Source → Sinks → Sinks → Type 0
-IsOnePassOf asks.Help source source_now old new = Unit {0}
-IsOnePassOf asks.Version source source_now old new = Unit {0}
-IsOnePassOf (asks.Demo pages workers settings) source source_now old new = Unit {0}
 IsOnePassOf (asks.Files names output workers settings) source source_now old new =
     IsOnePass (2 * workers) (manner_under settings output) names source source_now old new
+IsOnePassOf ask source source_now old new = Unit {0}
 
 -- where memory ran out over files, whole batches are carried out, and at most one batch more was read: it has twice as many
 -- pages as there are workers
 abbrev pub LosesBatchOf : Ask → Source → Source → Sinks → Sinks → Type 0
-LosesBatchOf asks.Help source source_now old new = Unit {0}
-LosesBatchOf asks.Version source source_now old new = Unit {0}
-LosesBatchOf (asks.Demo pages workers settings) source source_now old new = Unit {0}
 LosesBatchOf (asks.Files names output workers settings) source source_now old new =
     LosesBatch (2 * workers) (order_of (manner_under settings output) names source) source source_now old new
+LosesBatchOf ask source source_now old new = Unit {0}
