@@ -1,5 +1,5 @@
 //! The segments from one point of a path.
-ghost use Rattle.std.specs.Prelude.{◌≡◌, ℕ, ◌+◌, ◌-◌, ◌*◌, ◌/◌, ◌<◌, ◌≤◌, ◌^◌, pos, unsigned_abs, length, IfSome, IfNone};
+ghost use Rattle.std.specs.Prelude.{◌≡◌, ℕ, ◌+◌, ◌-◌, ◌*◌, ◌/◌, ◌<◌, ◌≤◌, ◌^◌, pos, unsigned_abs, length, IfSome, IfNone, IsTrue, ◌↔◌};
 ghost use Rattle.pt_core.specs.ClosedWalk.{point_at};
 ghost use Rattle.pt_core.specs.OnPage.{IsOnPage};
 ghost use Rattle.pt_core.specs.Root.{IsRoot};
@@ -9,6 +9,7 @@ ghost use Rattle.prefix_moments.specs.Inner.Table.{prefix_of};
 use crate::moments::{Moments, between};
 use crate::prefix::Prefix;
 use crate::raw::{crossed, wrapped_spread};
+use crate::roots::Roots;
 use pt_core::{MOST_STEPS, Point, isqrt};
 
 /// The segments from one point of a path, for whoever asks for many of them: what these have in common is looked up
@@ -70,6 +71,33 @@ impl<'a> Start<'a> {
         root_below(self.total(to), u64::from(to - self.from + 1), limit)
     }
 
+    /// The same penalty as `penalty` gives, by the roots that were taken before.
+    pub fn penalty_by(&self, to: u32, roots: &mut Roots) -> u64
+        requires onwards { self.now.from < to }
+        requires steps { to - self.now.from ≤ MOST_STEPS }
+        requires lap { to - self.now.from ≤ length self.now.moments.now }
+        requires small { unsigned_abs (spread_of self.now.moments.now self.now.from to) < 2 ^ 48 }
+        ensures { IsPenalty self.now.moments.now self.now.from to result }
+    {
+        roots.root(self.total(to), to - self.from + 1)
+    }
+
+    /// The same penalty as `penalty_below` gives, by the roots that were taken before.
+    #[inline(always)]
+    pub fn penalty_below_by(&self, to: u32, limit: u64, roots: &mut Roots) -> Option<u64>
+        requires onwards { self.now.from < to }
+        requires steps { to - self.now.from ≤ MOST_STEPS }
+        requires lap { to - self.now.from ≤ length self.now.moments.now }
+        requires small { unsigned_abs (spread_of self.now.moments.now self.now.from to) < 2 ^ 48 }
+        requires limit { limit ≤ 2 ^ 24 }
+        ensures some { IfSome result (λ penalty. IsPenalty self.now.moments.now self.now.from to penalty) }
+        ensures below { IfSome result (λ penalty. penalty < limit) }
+        ensures none { IfNone result ((penalty : ℕ)
+            → IsPenalty self.now.moments.now self.now.from to penalty → limit ≤ penalty) }
+    {
+        roots.root_below(self.total(to), to - self.from + 1, limit)
+    }
+
     /// The sum of the squared cross products of the points up to point number `to`.
     #[inline(always)]
     fn total(&self, to: u32) -> u64
@@ -106,11 +134,23 @@ pub(crate) fn root_below(total: u64, count: u64, limit: u64) -> Option<u64>
     ensures below { IfSome result (λ root. root < limit) }
     ensures none { IfNone result ((root : ℕ) → IsRoot (65536 * total / count) root → limit ≤ root) }
 {
-    let most = 65536 * total;
-    if square(limit) * count <= most {
+    if is_reached(total, count, limit) {
         return None;
     }
-    Some(isqrt(u128::from(most / count)))
+    Some(isqrt(u128::from(65536 * total / count)))
+}
+
+/// Whether that root reaches a limit: by squares, without a division.
+#[inline(always)]
+pub(crate) fn is_reached(total: u64, count: u64, limit: u64) -> bool
+    requires total { total < 2 ^ 48 }
+    requires few { count ≤ MOST_STEPS + 1 }
+    requires limit { limit ≤ 2 ^ 24 }
+    ensures { IsTrue result ↔ (limit * limit * count ≤ 65536 * total) }
+{
+    let most = 65536 * total;
+    let squares = square(limit) * count;
+    squares <= most
 }
 
 /// A limit's square.
