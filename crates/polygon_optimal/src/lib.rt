@@ -39,9 +39,11 @@
 #![tactic(auto)]
 
 pub mod laws;
+pub mod memo;
 pub mod optimal;
 mod search;
 pub mod segments;
 
-pub use optimal::{polygon, polygon_with_moments};
+pub use memo::PolygonMemo;
+pub use optimal::{polygon, polygon_by, polygon_with_moments};
 pub use segments::lasts;

@@ -5,9 +5,10 @@ ghost use Rattle.pt_core.specs.OnPage.{AreOnPage};
 ghost use Rattle.polygon_optimal.specs.Inner.Lasts.{HasLasts};
 ghost use Rattle.polygon_optimal.specs.Polygon.{IsBestPolygon, total_penalty};
 
+use crate::memo::PolygonMemo;
 use crate::search::least_by_windows;
 use crate::segments::{Segments, lasts};
-use prefix_moments::Moments;
+use prefix_moments::{Moments, Roots};
 use pt_core::{NoMemory, Point, Polygon};
 use std::alloc::Global;
 use straight_paths::Memo;
@@ -24,9 +25,6 @@ pub fn polygon(alloc: Global, points: &[Point]) -> Result<Polygon, NoMemory>
 }
 
 /// The same polygon, and the walk's sums, of which it was found, by what was found of other walks.
-//
-// How far segments reach is measured before the points are summed up: the one takes 36 bytes a point, which are given
-// back, the other 32, which stay. In the other order a spiral of walls took a fifth more memory.
 pub fn polygon_with_moments(
     alloc: Global,
     points: &[Point],
@@ -38,14 +36,53 @@ pub fn polygon_with_moments(
     ensures cost { IfOk result (λ both. both.0.cost ≡ total_penalty points.now both.0.at) }
     ensures moments { IfOk result (λ both. both.1 ≡ points.now) }
 {
+    measured(alloc, points, memo, &mut Roots::none(alloc))
+}
+
+/// The same, also by the roots that were taken for other walks.
+pub fn polygon_by(
+    alloc: Global,
+    points: &[Point],
+    memo: &mut PolygonMemo,
+) -> Result<(Polygon, Moments), NoMemory>
+    requires closed { IsClosedWalk points.now }
+    requires on_page { AreOnPage points.now }
+    ensures best { IfOk result (λ both. IsBestPolygon points.now both.0.at) }
+    ensures cost { IfOk result (λ both. both.0.cost ≡ total_penalty points.now both.0.at) }
+    ensures moments { IfOk result (λ both. both.1 ≡ points.now) }
+{
+    measured(alloc, points, &mut memo.reach, &mut memo.roots)
+}
+
+/// The same, by what was found of how far segments reach, and by roots.
+//
+// How far segments reach is measured before the points are summed up: the one takes 36 bytes a point, which are given
+// back, the other 32, which stay. In the other order a spiral of walls took a fifth more memory.
+fn measured(
+    alloc: Global,
+    points: &[Point],
+    memo: &mut Memo,
+    roots: &mut Roots,
+) -> Result<(Polygon, Moments), NoMemory>
+    requires closed { IsClosedWalk points.now }
+    requires on_page { AreOnPage points.now }
+    ensures best { IfOk result (λ both. IsBestPolygon points.now both.0.at) }
+    ensures cost { IfOk result (λ both. both.0.cost ≡ total_penalty points.now both.0.at) }
+    ensures moments { IfOk result (λ both. both.1 ≡ points.now) }
+{
     let lasts = lasts(alloc, points, memo)?;
     let moments = Moments::of(alloc, points)?;
-    let polygon = polygon_of(alloc, &moments, lasts)?;
+    let polygon = polygon_of(alloc, &moments, lasts, roots)?;
     Ok((polygon, moments))
 }
 
 /// The best polygon of a walk that is summed up, where its longest segments lead to these points.
-fn polygon_of(alloc: Global, moments: &Moments, lasts: Vec<u32>) -> Result<Polygon, NoMemory>
+fn polygon_of(
+    alloc: Global,
+    moments: &Moments,
+    lasts: Vec<u32>,
+    roots: &mut Roots,
+) -> Result<Polygon, NoMemory>
     requires closed { IsClosedWalk moments.now }
     requires on_page { AreOnPage moments.now }
     requires lasts { HasLasts moments.now lasts.items }
@@ -53,7 +90,7 @@ fn polygon_of(alloc: Global, moments: &Moments, lasts: Vec<u32>) -> Result<Polyg
     ensures cost { IfOk result (λ polygon. polygon.cost ≡ total_penalty moments.now polygon.at) }
 {
     let segments = Segments::of(moments, lasts);
-    let walk = least_by_windows(alloc, &segments)?;
+    let walk = least_by_windows(alloc, &segments, roots)?;
     Ok(Polygon {
         at: walk.at,
         cost: walk.cost,

@@ -19,7 +19,7 @@ ghost use Rattle.polygon_optimal.specs.Inner.Search.{AreFalling, AreFarthest, Ha
 
 use crate::segments::Segments;
 use least_walk::Walk;
-use prefix_moments::{Growing, Start};
+use prefix_moments::{Growing, Roots, Start};
 use pt_core::{NoMemory, Sequence};
 use std::alloc::Global;
 
@@ -29,7 +29,7 @@ const SLOTS: usize = 1 << 16;
 
 /// A window of at least so many points is gone through by one segment that grows from point to point. A narrower one
 /// costs less where each of its segments is looked up by itself.
-const WIDE: u32 = 16;
+const WIDE: u32 = 8;
 
 /// A segment to go on by.
 //
@@ -51,7 +51,11 @@ struct Onward {
 // 3. `costs` and `nexts`, from the end down and for these points alone: the cheapest segment to the next
 //    window, and of several the shortest. Only the costs that a segment can reach are kept.
 // 4. The walk goes from 0 on by `nexts`.
-pub(crate) fn least_by_windows(alloc: Global, segments: &Segments) -> Result<Walk, NoMemory>
+pub(crate) fn least_by_windows(
+    alloc: Global,
+    segments: &Segments,
+    roots: &mut Roots,
+) -> Result<Walk, NoMemory>
     ensures least { IfOk result (λ walk. IsLeast (length segments.now.moments.now)
         (IsUpToLast segments.now.lasts.items) (penalty_of segments.now.moments.now)
         (walk_from walk.at (length segments.now.moments.now))) }
@@ -68,7 +72,7 @@ pub(crate) fn least_by_windows(alloc: Global, segments: &Segments) -> Result<Wal
     let mut nexts = vec![in alloc; 0u32; places]?;
     fill_counts(segments, &mut counts);
     let farthest = farthest(alloc, segments, &counts)?;
-    fill_costs(segments, &counts, &farthest, &mut costs, &mut nexts);
+    fill_costs(segments, &counts, &farthest, &mut costs, &mut nexts, roots);
     walk_along(alloc, segments, &counts, costs[0], &nexts)
 }
 
@@ -168,6 +172,7 @@ fn fill_costs(
     farthest: &[u32],
     costs: &mut [u64],
     nexts: &mut [u32],
+    roots: &mut Roots,
 )
     requires count_places { length counts.now ≡ length segments.now.moments.now + 1 }
     requires slots { HasSlots (length segments.now.moments.now) costs.old }
@@ -189,7 +194,7 @@ fn fill_costs(
     for from in (0..size).rev() {
         begin = begin_from(counts, from, begin);
         if from as u32 <= farthest[(counts[0] - counts[from]) as usize] {
-            let onward = cheapest_from(segments, from as u32, begin, nexts[from + 1], costs);
+            let onward = cheapest_from(segments, from as u32, begin, nexts[from + 1], costs, roots);
             costs[slot(from)] = onward.cost;
             nexts[from] = onward.next;
         }
@@ -219,7 +224,14 @@ fn begin_from(counts: &[u32], from: usize, later: u32) -> u32
 //
 // The segment to where the best one from the next point leads is mostly the best here too, or nearly. So it
 // comes first, and hardly any of the others is better: they are refused without a root.
-fn cheapest_from(segments: &Segments, from: u32, begin: u32, guess: u32, costs: &[u64]) -> Onward
+fn cheapest_from(
+    segments: &Segments,
+    from: u32,
+    begin: u32,
+    guess: u32,
+    costs: &[u64],
+    roots: &mut Roots,
+) -> Onward
     requires from { from < length segments.now.moments.now }
     requires onwards { from < begin }
     requires some { begin ≤ slice_index segments.now.lasts.items from }
@@ -233,14 +245,14 @@ fn cheapest_from(segments: &Segments, from: u32, begin: u32, guess: u32, costs: 
     let last = segments.lasts[from as usize];
     let to = guess.max(begin).min(last);
     let start = Start::at(segments.moments, from);
-    let cost = start.penalty(to) + costs[slot(to as usize)];
+    let cost = start.penalty_by(to, roots) + costs[slot(to as usize)];
     let tried = Onward { cost, next: to };
     // A nearer one that costs as much is better.
     let bound = Onward {
         cost: cost + 1,
         next: to,
     };
-    let nearer = cheaper_in(segments, &start, begin, to, costs, bound);
+    let nearer = cheaper_in(segments, &start, begin, to, costs, bound, roots);
     cheaper_in(
         segments,
         &start,
@@ -248,6 +260,7 @@ fn cheapest_from(segments: &Segments, from: u32, begin: u32, guess: u32, costs: 
         last + 1,
         costs,
         lower(nearer, tried),
+        roots,
     )
 }
 
@@ -273,6 +286,7 @@ fn cheaper_in(
     end: u32,
     costs: &[u64],
     best: Onward,
+    roots: &mut Roots,
 ) -> Onward
     requires start { start.now.moments.now ≡ segments.now.moments.now }
     requires onwards { start.now.from < begin }
@@ -284,7 +298,7 @@ fn cheaper_in(
         begin end best result }
 {
     if end - begin < WIDE {
-        cheaper_in_few(segments, start, begin, end, costs, best)
+        cheaper_in_few(segments, start, begin, end, costs, best, roots)
     } else {
         cheaper_in_many(segments, start, begin, end, costs, best)
     }
@@ -299,6 +313,7 @@ fn cheaper_in_few(
     end: u32,
     costs: &[u64],
     best: Onward,
+    roots: &mut Roots,
 ) -> Onward
     requires start { start.now.moments.now ≡ segments.now.moments.now }
     requires onwards { start.now.from < begin }
@@ -311,7 +326,14 @@ fn cheaper_in_few(
 {
     let mut cheapest = best;
     for to in begin..end {
-        cheapest = cheaper(segments, start, to, costs[slot(to as usize)], cheapest);
+        cheapest = cheaper(
+            segments,
+            start,
+            to,
+            costs[slot(to as usize)],
+            cheapest,
+            roots,
+        );
     }
     cheapest
 }
@@ -372,7 +394,14 @@ fn cheaper_by(segments: &Segments, segment: &Growing, rest: u64, best: Onward) -
 //
 // Where the rest alone isn't cheaper, the segment isn't looked at.
 #[inline(always)]
-fn cheaper(segments: &Segments, start: &Start, to: u32, rest: u64, best: Onward) -> Onward
+fn cheaper(
+    segments: &Segments,
+    start: &Start,
+    to: u32,
+    rest: u64,
+    best: Onward,
+    roots: &mut Roots,
+) -> Onward
     requires start { start.now.moments.now ≡ segments.now.moments.now }
     requires onwards { start.now.from < to }
     requires reached { to ≤ slice_index segments.now.lasts.items start.now.from }
@@ -384,7 +413,7 @@ fn cheaper(segments: &Segments, start: &Start, to: u32, rest: u64, best: Onward)
         return best;
     }
     let limit = (best.cost - rest).min(1 << 24);
-    match start.penalty_below(to, limit) {
+    match start.penalty_below_by(to, limit, roots) {
         Some(penalty) => Onward {
             cost: penalty + rest,
             next: to,

@@ -28,11 +28,11 @@ returns c =
     let to = c.min-to.result in
     let costs = c.args.costs.now in
     let cost_by : ℕ → ℕ = λ k. penalty_of points from k + slice_index costs (slot_of k) in
-    let cost : ℕ = c.penalty.result + get_or costs c.slot.result 0 in
+    let cost : ℕ = c.penalty_by.result + get_or costs c.slot.result 0 in
     let there : from < length s.lasts.items = omega (arith, s.places) in
     let last = last_of s.lasts.items from c.index-last.result.now there c.index-last.ensures in
     let here : get_or costs c.slot.result 0 ≡ slice_index costs (slot_of to) = ap (λ n. get_or costs n 0) c.slot.ensures in
-    let penalty = penalty_from points _ from _ to c.penalty.result c.at-start.ensures.moments c.at-start.ensures.from c.penalty.ensures in
+    let penalty = penalty_from points _ from _ to c.penalty_by.result c.at-start.ensures.moments c.at-start.ensures.from c.penalty_by.ensures in
     let is : cost ≡ cost_by to = omega (arith, here, penalty) in
     let onwards : c.args.begin ≤ to = omega (arith, c.max.ensures, c.min-to.ensures, last) in
     let room : to < c.index-last.result.now + 1 = omega (arith, c.min-to.ensures) in
@@ -84,8 +84,8 @@ pub cheaper_in-requires-clause-slots : goal.cheaper_in-requires-clause-slots
 cheaper_in-requires-clause-slots c = c.requires.slots
 
 -- the segment that is tried first goes no farther than the longest one
-pub penalty-requires : goal.penalty-requires
-penalty-requires c =
+pub penalty_by-requires : goal.penalty_by-requires
+penalty_by-requires c =
     let s = c.args.segments.now in
     let from = c.args.from in
     let to = c.min-to.result in
@@ -112,7 +112,7 @@ overflow_add-cost c =
     let last = last_of s.lasts.items from c.index-last.result.now (omega (arith, s.places)) c.index-last.ensures in
     let onwards : c.args.begin ≤ to = omega (arith, c.max.ensures, c.min-to.ensures, last, c.requires.some) in
     let reached : to ≤ slice_index s.lasts.items from = omega (arith, c.min-to.ensures, last) in
-    let penalty = penalty_from s.moments.now _ from _ to c.penalty.result c.at-start.ensures.moments c.at-start.ensures.from c.penalty.ensures in
+    let penalty = penalty_from s.moments.now _ from _ to c.penalty_by.result c.at-start.ensures.moments c.at-start.ensures.from c.penalty_by.ensures in
     let rest = subst (λ n. get_or c.args.costs.now n 0 < 2 ^ 56) (sym c.slot.ensures) (c.requires.small to onwards reached) in
     omega (arith, penalty, rest, s.cheap from to c.requires.from (omega (arith, onwards, c.requires.onwards), reached))
 
@@ -124,6 +124,6 @@ overflow_add-bound c =
     let last = last_of s.lasts.items from c.index-last.result.now (omega (arith, s.places)) c.index-last.ensures in
     let onwards : c.args.begin ≤ to = omega (arith, c.max.ensures, c.min-to.ensures, last, c.requires.some) in
     let reached : to ≤ slice_index s.lasts.items from = omega (arith, c.min-to.ensures, last) in
-    let penalty = penalty_from s.moments.now _ from _ to c.penalty.result c.at-start.ensures.moments c.at-start.ensures.from c.penalty.ensures in
+    let penalty = penalty_from s.moments.now _ from _ to c.penalty_by.result c.at-start.ensures.moments c.at-start.ensures.from c.penalty_by.ensures in
     let rest = subst (λ n. get_or c.args.costs.now n 0 < 2 ^ 56) (sym c.slot.ensures) (c.requires.small to onwards reached) in
     omega (arith, penalty, rest, s.cheap from to c.requires.from (omega (arith, onwards, c.requires.onwards), reached))

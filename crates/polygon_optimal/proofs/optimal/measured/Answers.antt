@@ -4,7 +4,7 @@ use Rattle.pt_core.specs.OnPage.{AreOnPage}
 use Rattle.pt_core.specs.declared.point.Point.{Point}
 use Rattle.polygon_optimal.specs.Inner.Lasts.{HasLasts}
 use Rattle.polygon_optimal.specs.Polygon.{IsBestPolygon, total_penalty}
-use Rattle.polygon_optimal.proofs.optimal.polygon_with_moments.Goals as goal
+use Rattle.polygon_optimal.proofs.optimal.measured.Goals as goal
 
 -- the sums are those of the points
 pub polygon_of-requires-clause-closed : goal.polygon_of-requires-clause-closed

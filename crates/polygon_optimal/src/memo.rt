@@ -1,0 +1,38 @@
+//! What was found of other walks.
+use prefix_moments::Roots;
+use pt_core::NoMemory;
+use std::alloc::Global;
+use straight_paths::Memo;
+
+/// What was found of the polygons of other walks: how many of the next few steps are straight, and roots.
+#[derive(Drop)]
+pub struct PolygonMemo {
+    pub(crate) reach: Memo,
+    pub(crate) roots: Roots,
+}
+
+impl PolygonMemo {
+    /// Nothing was found yet.
+    pub fn new(alloc: Global) -> Result<PolygonMemo, NoMemory> {
+        let reach = Memo::new(alloc)?;
+        let roots = Roots::new(alloc)?;
+        Ok(PolygonMemo { reach, roots })
+    }
+
+    /// It keeps roots, and nothing of the steps.
+    pub fn of_roots(alloc: Global) -> Result<PolygonMemo, NoMemory> {
+        let roots = Roots::new(alloc)?;
+        Ok(PolygonMemo {
+            reach: Memo::none(alloc),
+            roots,
+        })
+    }
+
+    /// It keeps nothing, as serves where the polygon of a short walk is looked for alone.
+    pub fn none(alloc: Global) -> PolygonMemo {
+        PolygonMemo {
+            reach: Memo::none(alloc),
+            roots: Roots::none(alloc),
+        }
+    }
+}
