@@ -25,6 +25,33 @@ module _ (points : List Point) where
     some = λ below. absurd (omega arith);
   }
 
+  -- before the front's first point, and before the next one
+  pub nowhere : (front : Front) (i begin : ℕ) → IsFrontOf points front → ((j : ℕ) → i < j → j < begin → j < front.low)
+      → (j : ℕ) (r : List ℕ) → j < begin → IsPossible points i j → WalksOn front.end (IsPossible points) j r → length r ≡ front.left → ⊥
+  nowhere front i begin is first j r below possible goes counted = is.below j r (first j possible.rises below) goes counted
+
+  -- a first segment that was tried before all others
+  pub via_tried : (end count i to begin rest lower : ℕ)
+      → ((j : ℕ) (r : List ℕ) → j < begin → IsPossible points i j → WalksOn end (IsPossible points) j r → length r ≡ count → ⊥)
+      → IsPossible points i to → IsLeastBy points end count to rest
+      → (worth_of points i to + rest < NONE → lower ≡ worth_of points i to + rest)
+      → (NONE ≤ worth_of points i to + rest → lower ≡ NONE)
+      → IsLeastVia points end count i begin lower
+  via_tried end count i to begin rest lower before possible by taken kept = record {
+    bound = λ j r below possible goes counted. absurd (before j r below possible goes counted);
+    some = λ below. elim (cases_lt (worth_of points i to + rest) NONE) [
+      | inl cheaper ↦
+          let is = taken cheaper in
+          let (r, goes, counted, costs) = by.some (omega arith) in (
+            to ∷ r,
+            (possible.rises, possible, goes),
+            omega arith,
+            omega (arith, total_cost-cons (worth_of points) i to r),
+          )
+      | inr dear ↦ absurd (omega (arith, kept dear))
+    ];
+  }
+
   -- one more first segment
   pub via_more : (end count i to least rest lower : ℕ) → IsPossible points i to → IsLeastBy points end count to rest
       → (worth_of points i to + rest < least → lower ≡ worth_of points i to + rest)

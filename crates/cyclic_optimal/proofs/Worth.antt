@@ -1,6 +1,6 @@
 -- What segments count, and where the longest ones lead, also past the path's end.
-use Rattle.std.proofs.Common.{◌≡◌, ℕ, ◌+◌, ◌-◌, ◌*◌, ◌/◌, ◌%◌, ◌^◌, ◌<◌, ◌≤◌, List, [], ◌∷◌, ◌++◌, length, true, false, refl, ap, sym, ◌∙◌, subst, inl, inr, arith}
-use Rattle.std.specs.Prelude.{min, nat_lt}
+use Rattle.std.proofs.Common.{◌≡◌, ℕ, ◌+◌, ◌-◌, ◌*◌, ◌/◌, ◌%◌, ◌^◌, ◌<◌, ◌≤◌, List, Option, None, Some, [], ◌∷◌, ◌++◌, length, true, false, refl, ap, sym, ◌∙◌, subst, inl, inr, arith}
+use Rattle.std.specs.Prelude.{IfNone, IfSome, min, nat_lt}
 use Rattle.std.proofs.Math.Nat.{div-add-mod, mod-lt}
 use Rattle.std.specs.List.{All}
 use Rattle.std.proofs.lemmas.Bool.{lt-ltb, le-ltb, cases_lt}
@@ -13,15 +13,24 @@ use Rattle.least_walk.specs.Inner.Suffix.{WalksOn}
 use Rattle.least_walk.proofs.Going.{goes_below, total_cost-cons}
 use Rattle.prefix_moments.specs.Sums.{IsPenalty}
 use Rattle.polygon_optimal.specs.Polygon.{penalty_of}
-use Rattle.polygon_optimal.specs.Inner.OnePenalty.{penalty_is, penalty_is_one, penalty_most}
-use Rattle.cyclic_optimal.specs.Inner.Fronts.{IsLongest, past, worth_of}
+use Rattle.polygon_optimal.specs.Inner.OnePenalty.{penalty_is, penalty_most}
+use Rattle.cyclic_optimal.specs.Inner.Fronts.{IsInLap, IsLongest, past, worth_of}
 use Rattle.cyclic_optimal.proofs.Rounds.{may_lap, may_back, pen_lap}
 
+-- what follows from what holds of a number that is there, and where there is none
+pub where_some : {A : Type 0} (P Q : A → Type 0) (option : Option A) → ((a : A) → P a → Q a) → IfSome option P → IfSome option Q
+where_some P Q None so is = tt
+where_some P Q (Some a) so is = so a is
+
+pub where_none : {A P Q : Type 0} (option : Option A) → (P → Q) → IfNone option P → IfNone option Q
+where_none None so is = so is
+where_none (Some a) so is = tt
+
 module _ (points : List Point) where
-  past_in : (i j : ℕ) → i < length points → past (length points) i j ≡ j - length points
+  pub past_in : (i j : ℕ) → i < length points → past (length points) i j ≡ j - length points
   past_in i j low = let test : nat_lt i (length points) ≡ true = lt-ltb i (length points) low in rw test refl
 
-  past_on : (i j : ℕ) → length points ≤ i → past (length points) i j ≡ 0
+  pub past_on : (i j : ℕ) → length points ≤ i → past (length points) i j ≡ 0
   past_on i j high = let test : nat_lt i (length points) ≡ false = le-ltb i (length points) high in rw test refl
 
   worth_is : (i j : ℕ) → worth_of points i j ≡ penalty_of points i j * 2 ^ 32 + past (length points) i j
@@ -34,18 +43,36 @@ module _ (points : List Point) where
   pub worth_on : (i j : ℕ) → length points ≤ i → worth_of points i j ≡ penalty_of points i j * 2 ^ 32
   worth_on i j high = omega (arith, worth_is i j, past_on i j high)
 
-  pub worth_found : (i j p : ℕ) → i < length points → IsPenalty points i j p → p * 2 ^ 32 + (j - length points) ≡ worth_of points i j
-  worth_found i j p low is = omega (arith, worth_in i j low, penalty_is_one points i j p is)
+  -- a segment, and the same one in the first lap
+  module _ (i j from to : ℕ) (lap : IsInLap (length points) i from) (long : to + i ≡ j + from) where
+    pub possible_in : IsPossible points i j → IsPossible points from to
+    possible_in possible = elim (cases_lt i (length points)) [
+      | inl low ↦
+          let a : i ≡ from = sym (lap.in_first low) in
+          let b : j ≡ to = omega arith in
+          let P : ℕ → Type 0 = λ m. IsPossible points m j in
+          subst (IsPossible points from) b (subst P a possible)
+      | inr high ↦
+          let a : i ≡ from + length points = sym (lap.in_second high) in
+          let b : j ≡ to + length points = omega arith in
+          let P : ℕ → Type 0 = λ m. IsPossible points m j in
+          may_back points from to (subst (IsPossible points (from + length points)) b (subst P a possible))
+    ]
 
-  pub worth_found_on : (i j p : ℕ) → length points ≤ i → i < j → IsPenalty points (i - length points) (j - length points) p
-      → p * 2 ^ 32 ≡ worth_of points i j
-  worth_found_on i j p high rises is =
-      let a : i - length points + length points ≡ i = omega arith in
-      let b : j - length points + length points ≡ j = omega arith in
-      let moved = pen_lap points (i - length points) (j - length points) in
-      let same : penalty_of points i j ≡ penalty_of points (i - length points) (j - length points)
-      = sym (ap (λ m. penalty_of points m j) a) ∙ sym (ap (λ m. penalty_of points (i - length points + length points) m) b) ∙ moved in
-      omega (arith, worth_on i j high, penalty_is_one points (i - length points) (j - length points) p is)
+    penalty_in : penalty_of points i j ≡ penalty_of points from to
+    penalty_in = elim (cases_lt i (length points)) [
+      | inl low ↦
+          let a : i ≡ from = sym (lap.in_first low) in
+          let b : j ≡ to = omega arith in
+          ap (λ m. penalty_of points m j) a ∙ ap (penalty_of points from) b
+      | inr high ↦
+          let a : i ≡ from + length points = sym (lap.in_second high) in
+          let b : j ≡ to + length points = omega arith in
+          ap (λ m. penalty_of points m j) a ∙ ap (penalty_of points (from + length points)) b ∙ pen_lap points from to
+    ]
+
+    pub worth_in_lap : worth_of points i j ≡ penalty_of points from to * 2 ^ 32 + past (length points) i j
+    worth_in_lap = omega (arith, worth_is i j, penalty_in)
 
   pub worth_most : AreOnPage points → (i j : ℕ) → j < 2 ^ 33 → worth_of points i j < 2 ^ 89
   worth_most on_page i j small =
@@ -55,18 +82,12 @@ module _ (points : List Point) where
       ]
 
   -- a penalty that reaches a limit's upper digits
-  pub dear : AreOnPage points → (i j limit most : ℕ) → most ≡ min (limit / 2 ^ 32) (2 ^ 56 - 1) + 1
+  pub dear : (i j limit most : ℕ) → penalty_of points i j < 2 ^ 24 → most ≡ min (limit / 2 ^ 32) (2 ^ 24 - 1) + 1
       → ((p : ℕ) → IsPenalty points i j p → most ≤ p) → limit ≤ penalty_of points i j * 2 ^ 32
-  dear on_page i j limit most is reached =
+  dear i j limit most cheap is reached =
       let whole = div-add-mod limit (2 ^ 32) in
       let part : limit % 2 ^ 32 < 2 ^ 32 = mod-lt limit (omega arith) in
-      omega (arith, reached (penalty_of points i j) (penalty_is points i j), penalty_most points on_page i j)
-
-  pub worth_not_below_on : (i j limit : ℕ) → length points ≤ i → i < j
-      → limit ≤ penalty_of points (i - length points) (j - length points) * 2 ^ 32 → limit ≤ worth_of points i j
-  worth_not_below_on i j limit high rises reached =
-      let q : ℕ = penalty_of points (i - length points) (j - length points) in
-      omega (arith, worth_found_on i j q high rises (penalty_is points (i - length points) (j - length points)))
+      omega (arith, reached (penalty_of points i j) (penalty_is points i j), cheap)
 
   pub last_in : (i d : ℕ) → IsFarthest points i d → IsLongest points i (i + d)
   last_in i d farthest = record {

@@ -1,4 +1,3 @@
 -- What inner contracts alone speak of: no promise rests on it.
-pub mod Fans
 pub mod First
 pub mod Fronts

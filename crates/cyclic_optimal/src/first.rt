@@ -11,7 +11,6 @@ ghost use Rattle.least_walk.specs.Inner.Suffix.{IsFewestFrom};
 ghost use Rattle.cyclic_optimal.specs.Inner.First.{IsFirstVertex};
 ghost use Rattle.cyclic_optimal.specs.Inner.Fronts.{IsBestAmong, IsBestFrom};
 
-use crate::fans::all_fans;
 use crate::fronts::{best_by, tops};
 use crate::leaps::{all_leaps, nexts};
 use crate::sides::WalkSegments;
@@ -34,14 +33,15 @@ pub(crate) struct Best {
 /// The first vertex of the least cyclic polygon.
 //
 // A path without any corner has wide windows alone. There it is worth while to look for one with few points at which
-// a polygon of fewest segments can begin, and to write down the penalties that all searches from there ask for.
+// a polygon of fewest segments can begin.
 //
 // The window after the first point could hold thousands of points on a long straight side. The narrowest holds two or
 // three behind each corner. On a disc with a radius of 2,000 pixels it holds 32, of which polygons of fewest segments
 // begin at 29; the sparsest has 15 such points. Where so many longest segments lead tells which points these are, by
 // two passes over the points for each binary digit of the number of segments. Tried and left: halving the window by
 // lower bounds, which saved nothing; and lower bounds by two passes over the whole window, which leave fewer searches
-// but look at more pairs themselves. The price: reaches and sums are made twice, and fans take up to 32 megabytes.
+// but look at more pairs themselves; and to write down the penalties that all searches from there ask for, which took
+// longer than to find the few that count. The price: reaches and sums are made twice.
 pub(crate) fn first_vertex(
     alloc: Global,
     points: &[Point],
@@ -59,7 +59,8 @@ pub(crate) fn first_vertex(
         return first_after(alloc, &sides, narrow);
     }
     let nexts = nexts_round(alloc, &sides, narrow)?;
-    first_by_sparsest(alloc, sides, &nexts, narrow)
+    let sparse = sparsest(alloc, &sides, &nexts, narrow)?;
+    first_after(alloc, &sides, sparse)
 }
 
 /// For each point, the nearest one from which the polygon's other segments can lead round to it, where this point has
@@ -72,24 +73,6 @@ fn nexts_round(alloc: Global, sides: &WalkSegments, narrow: usize) -> Result<Vec
 {
     let count = fewest_among(alloc, sides, narrow + 1, sides.last(narrow) + 1)?;
     nexts(alloc, &all_leaps(alloc, sides, count.saturating_sub(1))?)
-}
-
-/// The first vertex of the least cyclic polygon, by the sparsest window, where this point has the narrowest.
-fn first_by_sparsest(
-    alloc: Global,
-    sides: WalkSegments,
-    nexts: &[usize],
-    narrow: usize,
-) -> Result<u32, NoMemory>
-    requires places { length nexts.now ≡ length sides.moments.now }
-    requires point { narrow < length sides.moments.now }
-    requires within { (j : ℕ) → IsPossible sides.moments.now narrow j → j < length sides.moments.now }
-    ensures first { IfOk result (IsFirstVertex sides.entry.moments.now) }
-    ensures point { IfOk result (λ first. first < length sides.entry.moments.now) }
-{
-    let sparse = sparsest(alloc, &sides, nexts, narrow)?;
-    let fans = all_fans(alloc, &sides, nexts)?;
-    first_after(alloc, &sides.with_fans(fans), sparse)
 }
 
 /// The first vertex of the least cyclic polygon, by the window after this point.

@@ -8,17 +8,28 @@
 ghost use Rattle.std.specs.Prelude.{◌≡◌, ℕ, ◌+◌, ◌-◌, ◌*◌, ◌<◌, ◌≤◌, ◌^◌, length, IfOk, IfSome};
 ghost use Rattle.straight_paths.specs.Straight.{IsPossible};
 ghost use Rattle.least_walk.specs.Inner.Suffix.{IsFewestFrom};
-ghost use Rattle.cyclic_optimal.specs.Inner.Fans.{IsFanOf, first_lap};
-ghost use Rattle.cyclic_optimal.specs.Inner.Fronts.{AreTops, IsBestFrom, IsFrontOf, IsLeastBy, worth_of};
+ghost use Rattle.cyclic_optimal.specs.Inner.Fronts.{AreTops, IsBestFrom, IsFrontOf, IsInLap, IsLeastBy, IsLeastVia, worth_of};
 
-use crate::fans::Fan;
 use crate::first::Best;
 use crate::sides::WalkSegments;
+use prefix_moments::Growing;
 use pt_core::NoMemory;
 use std::alloc::Global;
 
 /// What no way counts.
 const NONE: u128 = u128::MAX;
+
+/// To so many points at most the segments from another one are tried in their order; among more, a guess comes first.
+const FEW: usize = 3;
+
+/// A segment to go on by.
+#[derive(Clone, Copy)]
+struct Onward {
+    /// What the least way by it counts, or `NONE`.
+    least: u128,
+    /// Where it leads: a guess for the next point, of which nothing is proved.
+    next: usize,
+}
 
 /// Points in a row, and what the least way of so many segments from each of them to the end counts.
 #[derive(Drop)]
@@ -112,8 +123,11 @@ fn earlier(
 {
     let low = lowest(sides, top, later.low);
     let mut least = Vec::with_capacity(alloc, top + 1 - low)?;
+    let mut guess = later.low;
     for i in low..top + 1 {
-        least.push(cheapest(sides, i, later))?;
+        let onward = cheapest(sides, i, later, guess);
+        guess = onward.next;
+        least.push(onward.least)?;
     }
     Ok(Front {
         end: later.end,
@@ -136,8 +150,8 @@ fn lowest(sides: &WalkSegments, top: usize, goal: usize) -> usize
     low
 }
 
-/// What the least way from this point counts, by a segment to the next front.
-fn cheapest(sides: &WalkSegments, i: usize, later: &Front) -> u128
+/// The segment by which the least way from this point goes on to the next front.
+fn cheapest(sides: &WalkSegments, i: usize, later: &Front, guess: usize) -> Onward
     requires point { i < 2 * length sides.now.moments.now }
     requires end { later.now.end < 2 ^ 33 }
     requires left { later.now.left < 2 ^ 31 }
@@ -145,42 +159,121 @@ fn cheapest(sides: &WalkSegments, i: usize, later: &Front) -> u128
     requires front { IsFrontOf sides.now.moments.now later.now }
     requires reached { (j : ℕ) → IsPossible sides.now.moments.now i j → j ≤ later.now.end
         → j < later.now.low + length later.now.least.items }
-    ensures { IsLeastBy sides.now.moments.now later.now.end (later.now.left + 1) i result }
+    ensures { IsLeastBy sides.now.moments.now later.now.end (later.now.left + 1) i result.least }
 {
     let begin = later.low.max(i + 1);
     let beyond = (sides.last(i) + 1).min(later.low + later.least.len());
-    let fan = sides.fan(i);
-    let mut cheapest = NONE;
-    for j in begin..beyond {
-        cheapest = lower(sides, fan, i, j, later.least[j - later.low], cheapest);
+    if beyond <= begin {
+        return Onward {
+            least: NONE,
+            next: guess,
+        };
+    }
+    let tried = tried(sides, i, later, begin, beyond, guess);
+    cheaper_in(sides, i, later, begin, beyond, tried)
+}
+
+/// The segment to about this point, from `begin` to before `beyond`; or none, where there are few of them.
+//
+// The segment to where the best one from the point before leads is mostly the best here too, or nearly. So hardly any
+// of the others is better, and they are refused without a root.
+fn tried(
+    sides: &WalkSegments,
+    i: usize,
+    later: &Front,
+    begin: usize,
+    beyond: usize,
+    guess: usize,
+) -> Onward
+    requires point { i < 2 * length sides.now.moments.now }
+    requires end { later.now.end < 2 ^ 33 }
+    requires left { later.now.left < 2 ^ 31 }
+    requires front { IsFrontOf sides.now.moments.now later.now }
+    requires low { later.now.low ≤ begin }
+    requires onwards { i < begin }
+    requires some { begin < beyond }
+    requires high { beyond ≤ later.now.low + length later.now.least.items }
+    requires possible { (j : ℕ) → i < j → j < beyond → IsPossible sides.now.moments.now i j }
+    requires first { (j : ℕ) → i < j → j < begin → j < later.now.low }
+    ensures least { IsLeastVia sides.now.moments.now later.now.end later.now.left i begin result.least }
+    ensures most { result.least ≤ NONE }
+{
+    let to = guess.max(begin).min(beyond - 1);
+    let none = Onward {
+        least: NONE,
+        next: to,
+    };
+    if beyond - begin <= FEW {
+        return none;
+    }
+    let segment = sides.segment(i, to);
+    lower(sides, &segment, i, to, later.least[to - later.low], none)
+}
+
+/// The cheapest of the segments to the points from `begin` to before `beyond`; or `best`, where none is cheaper.
+fn cheaper_in(
+    sides: &WalkSegments,
+    i: usize,
+    later: &Front,
+    begin: usize,
+    beyond: usize,
+    best: Onward,
+) -> Onward
+    requires point { i < 2 * length sides.now.moments.now }
+    requires end { later.now.end < 2 ^ 33 }
+    requires left { later.now.left < 2 ^ 31 }
+    requires front { IsFrontOf sides.now.moments.now later.now }
+    requires low { later.now.low ≤ begin }
+    requires onwards { i < begin }
+    requires some { begin < beyond }
+    requires high { beyond ≤ later.now.low + length later.now.least.items }
+    requires possible { (j : ℕ) → i < j → j < beyond → IsPossible sides.now.moments.now i j }
+    requires least { IsLeastVia sides.now.moments.now later.now.end later.now.left i begin best.least }
+    requires most { best.least ≤ NONE }
+    ensures { IsLeastVia sides.now.moments.now later.now.end later.now.left i beyond result.least }
+{
+    let mut segment = sides.segment(i, begin);
+    let first = later.least[begin - later.low];
+    let mut cheapest = lower(sides, &segment, i, begin, first, best);
+    for j in begin + 1..beyond {
+        segment = segment.longer();
+        cheapest = lower(sides, &segment, i, j, later.least[j - later.low], cheapest);
     }
     cheapest
 }
 
-/// What the way by the segment from point `i` to point `j` counts, where the rest counts so much; or `best`, where
-/// that is no more.
+/// The segment from point `i` to point `j`, where the rest counts so much; or `best`, where it is no cheaper.
+#[inline(always)]
 fn lower(
     sides: &WalkSegments,
-    fan: Option<&Fan>,
+    segment: &Growing,
     i: usize,
     j: usize,
     rest: u128,
-    best: u128,
-) -> u128
+    best: Onward,
+) -> Onward
     requires point { i < 2 * length sides.now.moments.now }
     requires possible { IsPossible sides.now.moments.now i j }
-    requires fan { IfSome fan (λ fan. IsFanOf sides.now.moments.now
-        (first_lap (length sides.now.moments.now) i) fan.now) }
-    requires most { rest < best → rest ≤ 2 ^ 120 }
-    ensures lower { worth_of sides.now.moments.now i j + rest < best
-        → result ≡ worth_of sides.now.moments.now i j + rest }
-    ensures same { best ≤ worth_of sides.now.moments.now i j + rest → result ≡ best }
+    requires moments { segment.now.moments.now ≡ sides.now.moments.now }
+    requires from { IsInLap (length sides.now.moments.now) i segment.now.from }
+    requires to { segment.now.to + i ≡ j + segment.now.from }
+    requires most { rest < best.least → rest ≤ 2 ^ 120 }
+    ensures lower { worth_of sides.now.moments.now i j + rest < best.least
+        → result.least ≡ worth_of sides.now.moments.now i j + rest }
+    ensures same { best.least ≤ worth_of sides.now.moments.now i j + rest → result.least ≡ best.least }
 {
-    if best <= rest {
+    if best.least <= rest {
         return best;
     }
-    let Some(worth) = sides.worth_below(fan, i, j, best - rest) else {
+    let Some(worth) = sides.worth_below(segment, i, j, best.least - rest) else {
         return best;
     };
-    best.min(worth + rest)
+    if worth + rest < best.least {
+        Onward {
+            least: worth + rest,
+            next: j,
+        }
+    } else {
+        best
+    }
 }

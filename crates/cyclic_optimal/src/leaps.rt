@@ -1,7 +1,6 @@
 //! Where longest segments lead, many of them in a row.
 //!
-//! These numbers choose a window and say which penalties are worth to be written down. So they decide the time alone,
-//! and nothing is proved of them but how many they are.
+//! These numbers choose a window. So they decide the time alone, and nothing is proved of them but how many they are.
 ghost use Rattle.std.specs.Prelude.{◌≡◌, ◌+◌, ◌<◌, ◌≤◌, ◌^◌, length, IfOk};
 
 use crate::sides::WalkSegments;

@@ -3,13 +3,11 @@ ghost use Rattle.std.specs.Prelude.{◌≡◌, ℕ, ◌+◌, ◌*◌, ◌<◌, �
 ghost use Rattle.pt_core.specs.ClosedWalk.{IsClosedWalk};
 ghost use Rattle.pt_core.specs.OnPage.{AreOnPage};
 ghost use Rattle.straight_paths.specs.Straight.{IsPossible};
-ghost use Rattle.prefix_moments.specs.Sums.{IsPenalty, spread_of};
+ghost use Rattle.prefix_moments.specs.Sums.{spread_of};
 ghost use Rattle.polygon_optimal.specs.Polygon.{penalty_of};
-ghost use Rattle.cyclic_optimal.specs.Inner.Fans.{HasFans, IsFanOf, first_lap};
-ghost use Rattle.cyclic_optimal.specs.Inner.Fronts.{IsLongest, worth_of};
+ghost use Rattle.cyclic_optimal.specs.Inner.Fronts.{IsInLap, IsLongest, past, worth_of};
 
-use crate::fans::Fan;
-use prefix_moments::Moments;
+use prefix_moments::{Growing, Moments};
 use pt_core::{NoMemory, Point};
 use std::alloc::Global;
 use straight_paths::Reach;
@@ -20,15 +18,13 @@ pub(crate) struct WalkSegments<'a> {
     pub(crate) moments: &'a Moments,
     reach: Reach,
     pub(crate) size: usize,
-    /// Of the first points; of the others nothing is written down.
-    fans: Vec<Fan>,
     ghost some: { 1 ≤ length moments.now },
     ghost few: { length moments.now ≤ 2 ^ 31 },
     ghost on_page: { AreOnPage moments.now },
     ghost one_path: { reach ≡ moments.now },
     ghost points: { size ≡ length moments.now },
     ghost small: { (i j : ℕ) → IsPossible moments.now i j → unsigned_abs (spread_of moments.now i j) < 2 ^ 48 },
-    ghost written: { HasFans moments.now fans.items },
+    ghost cheap: { (i j : ℕ) → IsPossible moments.now i j → penalty_of moments.now i j < 2 ^ 24 },
 }
 
 impl<'a> WalkSegments<'a> {
@@ -48,21 +44,7 @@ impl<'a> WalkSegments<'a> {
             moments,
             reach,
             size: points.len(),
-            fans: Vec::new(alloc),
         })
-    }
-
-    /// The same, with penalties written down.
-    pub(crate) fn with_fans(self, fans: Vec<Fan>) -> WalkSegments<'a>
-        requires { HasFans self.moments.now fans.items }
-        ensures { result.moments.now ≡ self.entry.moments.now }
-    {
-        WalkSegments {
-            moments: self.moments,
-            reach: self.reach,
-            size: self.size,
-            fans,
-        }
     }
 
     /// Where the longest segment from point `i` leads, in the first lap or in the second.
@@ -77,67 +59,68 @@ impl<'a> WalkSegments<'a> {
         }
     }
 
-    /// The fan of point `i`, in the first lap or in the second, where it has one.
-    pub(crate) fn fan(&self, i: usize) -> Option<&Fan>
-        requires { i < 2 * length self.now.moments.now }
-        ensures { IfSome result (λ fan. IsFanOf self.now.moments.now
-            (first_lap (length self.now.moments.now) i) fan.now) }
+    /// The segment from point `i`, in the first lap or in the second, to point `j`.
+    pub(crate) fn segment(&self, i: usize, j: usize) -> Growing<'a>
+        requires start { i < 2 * length self.now.moments.now }
+        requires possible { IsPossible self.now.moments.now i j }
+        ensures moments { result.moments.now ≡ self.now.moments.now }
+        ensures from { IsInLap (length self.now.moments.now) i result.from }
+        ensures to { result.to + i ≡ j + result.from }
     {
         if i < self.size {
-            self.fans.get(i)
+            Growing::between(self.moments, i as u32, j as u32)
         } else {
-            self.fans.get(i - self.size)
+            let (from, to) = (i - self.size, j - self.size);
+            Growing::between(self.moments, from as u32, to as u32)
         }
     }
 
-    /// What the segment from point `i` to point `j` counts; or nothing, where its penalty alone reaches a limit.
+    /// What this segment counts, which leads from point `i` to point `j`; or nothing, where its penalty alone reaches
+    /// a limit.
+    #[inline(always)]
     pub(crate) fn worth_below(
         &self,
-        fan: Option<&Fan>,
+        segment: &Growing,
         i: usize,
         j: usize,
         limit: u128,
     ) -> Option<u128>
         requires start { i < 2 * length self.now.moments.now }
         requires possible { IsPossible self.now.moments.now i j }
-        requires fan { IfSome fan (λ fan. IsFanOf self.now.moments.now
-            (first_lap (length self.now.moments.now) i) fan.now) }
+        requires moments { segment.now.moments.now ≡ self.now.moments.now }
+        requires from { IsInLap (length self.now.moments.now) i segment.now.from }
+        requires to { segment.now.to + i ≡ j + segment.now.from }
         ensures some { IfSome result (λ worth. worth ≡ worth_of self.now.moments.now i j) }
         ensures most { IfSome result (λ worth. worth < 2 ^ 89) }
         ensures none { IfNone result (limit ≤ worth_of self.now.moments.now i j) }
     {
+        let Some(penalty) = self.penalty_below(segment, limit) else {
+            return None;
+        };
+        Some(u128::from(penalty) * (1 << 32) + self.past_end(i, j) as u128)
+    }
+
+    /// How far past the path's end a segment leads that begins before it.
+    fn past_end(&self, i: usize, j: usize) -> usize
+        ensures { result ≡ past (length self.now.moments.now) i j }
+    {
         if i < self.size {
-            let Some(penalty) = self.penalty_below(fan, i as u32, j as u32, limit) else {
-                return None;
-            };
-            Some(u128::from(penalty) * (1 << 32) + j.saturating_sub(self.size) as u128)
+            j.saturating_sub(self.size)
         } else {
-            let (from, to) = ((i - self.size) as u32, (j - self.size) as u32);
-            let Some(penalty) = self.penalty_below(fan, from, to, limit) else {
-                return None;
-            };
-            Some(u128::from(penalty) * (1 << 32))
+            0
         }
     }
 
-    /// The penalty of the segment from point `i` of the first lap to point `j`; or perhaps nothing, where what it
-    /// counts reaches a limit.
-    //
-    // What isn't written down is compared before it is worked out, so no root is taken of a penalty that is too high.
-    fn penalty_below(&self, fan: Option<&Fan>, i: u32, j: u32, limit: u128) -> Option<u64>
-        requires start { i < length self.now.moments.now }
-        requires possible { IsPossible self.now.moments.now i j }
-        requires fan { IfSome fan (λ fan. IsFanOf self.now.moments.now i fan.now) }
-        ensures some { IfSome result (λ penalty. IsPenalty self.now.moments.now i j penalty) }
-        ensures most { IfSome result (λ penalty. penalty < 2 ^ 56) }
-        ensures none { IfNone result (limit ≤ penalty_of self.now.moments.now i j * 2 ^ 32) }
+    /// A possible segment's penalty; or perhaps nothing, where what it counts reaches a limit.
+    #[inline(always)]
+    fn penalty_below(&self, segment: &Growing, limit: u128) -> Option<u64>
+        requires moments { segment.now.moments.now ≡ self.now.moments.now }
+        requires possible { IsPossible self.now.moments.now segment.now.from segment.now.to }
+        ensures some { IfSome result (λ penalty. penalty ≡ penalty_of self.now.moments.now segment.now.from segment.now.to) }
+        ensures most { IfSome result (λ penalty. penalty < 2 ^ 24) }
+        ensures none { IfNone result (limit ≤ penalty_of self.now.moments.now segment.now.from segment.now.to * 2 ^ 32) }
     {
-        if let Some(fan) = fan {
-            if let Some(penalty) = fan.penalty(j as usize) {
-                return Some(penalty);
-            }
-        }
-        let most = (limit / (1 << 32)).min((1 << 56) - 1) as u64 + 1;
-        self.moments.penalty_below(i, j, most)
+        let most = (limit / (1 << 32)).min((1 << 24) - 1) as u64 + 1;
+        segment.penalty_below(most)
     }
 }

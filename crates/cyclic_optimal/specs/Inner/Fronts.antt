@@ -14,6 +14,11 @@ pub record IsLongest (points : List Point) (i last : ℕ) : Type 0 where
   pub reached : IsPossible points i last
   pub farthest : (j : ℕ) → IsPossible points i j → j ≤ last
 
+-- the number in the first lap of point i, in the first lap or in the second
+pub record IsInLap (size i from : ℕ) : Type 0 where
+  pub in_first : i < size → from ≡ i
+  pub in_second : size ≤ i → from + size ≡ i
+
 -- where the segment from point i to point j leads past the path's end, how far past it
 abbrev pub past : ℕ → ℕ → ℕ → ℕ
 past size i j = cond (nat_lt i size) (j - size) 0

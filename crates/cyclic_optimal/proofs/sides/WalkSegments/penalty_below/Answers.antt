@@ -1,33 +1,36 @@
-use Rattle.std.proofs.Common.{◌≡◌, ◌+◌, sym, subst, arith}
-use Rattle.prefix_moments.specs.Sums.{IsPenalty}
+use Rattle.std.proofs.Common.{◌≡◌, ℕ, ◌+◌, ◌<◌, ◌≤◌, ◌^◌, List, sym, subst, arith}
+use Rattle.std.specs.Prelude.{IfNone, unsigned_abs}
+use Rattle.pt_core.specs.declared.point.Point.{Point}
+use Rattle.prefix_moments.specs.Sums.{IsPenalty, spread_of}
 use Rattle.polygon_optimal.specs.Polygon.{penalty_of}
-use Rattle.polygon_optimal.specs.Inner.OnePenalty.{penalty_is, penalty_most}
-use Rattle.cyclic_optimal.specs.Inner.Fans.{IsFanOf}
-use Rattle.cyclic_optimal.proofs.Fanning.{fan_penalty, some_is, where_none}
-use Rattle.cyclic_optimal.proofs.Worth.{dear}
+use Rattle.polygon_optimal.specs.Inner.OnePenalty.{penalty_is_one}
+use Rattle.cyclic_optimal.proofs.Worth.{dear, where_none, where_some}
 use Rattle.cyclic_optimal.proofs.sides.WalkSegments.penalty_below.Goals as goal
 
--- what is written down is the penalty
-is_penalty : (c : goal.In-Some-penalty) → c.in-Some-penalty.penalty ≡ penalty_of c.args.self.now.moments.now c.args.i c.args.j
-is_penalty c =
+pub returns-clause-some : goal.returns-clause-some
+returns-clause-some c =
     let points = c.args.self.now.moments.now in
-    let is = some_is (λ fan. IsFanOf points c.args.i fan.now) c.args.fan c.in-Some.fan c.in-Some.is c.requires.fan in
-    let (above, below, written) = c.in-Some-penalty.ensures in
-    fan_penalty points c.args.i c.args.j c.in-Some-penalty.penalty c.in-Some.fan.now is above below written
-
-pub returns-in-Some-penalty-clause-some : goal.returns-in-Some-penalty-clause-some
-returns-in-Some-penalty-clause-some c =
-    let points = c.args.self.now.moments.now in
-    subst (IsPenalty points c.args.i c.args.j) (sym (is_penalty c)) (penalty_is points c.args.i c.args.j)
-
-pub returns-in-Some-penalty-clause-most : goal.returns-in-Some-penalty-clause-most
-returns-in-Some-penalty-clause-most c =
-    let s = c.args.self.now in
-    omega (arith, is_penalty c, penalty_most s.moments.now s.on_page c.args.i c.args.j)
+    let segment = c.args.segment.now in
+    let P : ℕ → List Point → Type 0 = λ penalty walk. IsPenalty walk segment.from segment.to penalty in
+    where_some (λ (penalty : ℕ). IsPenalty segment.moments.now segment.from segment.to penalty)
+    (λ (penalty : ℕ). penalty ≡ penalty_of points segment.from segment.to) c.penalty_below.result
+    (λ penalty is. penalty_is_one points segment.from segment.to penalty (subst (P penalty) c.requires.moments is))
+    c.penalty_below.ensures.some
 
 pub returns-clause-none : goal.returns-clause-none
 returns-clause-none c =
     let s = c.args.self.now in
+    let segment = c.args.segment.now in
+    let P : List Point → Type 0 = λ walk. IfNone c.penalty_below.result
+    ((penalty : ℕ) → IsPenalty walk segment.from segment.to penalty → c.min.result + 1 ≤ penalty) in
     where_none c.penalty_below.result
-    (dear s.moments.now s.on_page c.args.i c.args.j c.args.limit (c.min.result + 1) (omega (arith, c.min.ensures)))
-    c.penalty_below.ensures.none
+    (dear s.moments.now segment.from segment.to c.args.limit (c.min.result + 1) (s.cheap segment.from segment.to c.requires.possible)
+    (omega (arith, c.min.ensures)))
+    (subst P c.requires.moments c.penalty_below.ensures.none)
+
+pub penalty_below-requires-clause-small : goal.penalty_below-requires-clause-small
+penalty_below-requires-clause-small c =
+    let s = c.args.self.now in
+    let segment = c.args.segment.now in
+    let P : List Point → Type 0 = λ points. unsigned_abs (spread_of points segment.from segment.to) < 2 ^ 48 in
+    subst P (sym c.requires.moments) (s.small segment.from segment.to c.requires.possible)
