@@ -13,6 +13,7 @@ mod plain;
 mod plain_best;
 mod polygons;
 mod rectangles;
+mod samples;
 mod table;
 mod turns;
 mod walks;

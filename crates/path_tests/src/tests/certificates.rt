@@ -81,6 +81,20 @@ const VERDICTS: &[(&str, &str, Verdict)] = &[
         "at 0\nlabels 0:0\n",
         Verdict::Wrong(1),
     ),
+    // Two paths, of which the second is wrong, and three, of which the second and the third are.
+    (
+        "proofs 1 1 2\n",
+        "path 0,1 0,0 1,0 1,1\nat 0 1 2 3\nlabels 4:0 3:0 2:0 1:0 0:0\n\
+         path 0,1 0,0 1,0 1,1\nat 0 1 2\nlabels 4:0 3:0 2:0 1:0 0:0\n",
+        Verdict::Wrong(2),
+    ),
+    (
+        "proofs 1 1 3\n",
+        "path 0,1 0,0 1,0 1,1\nat 0 1 2 3\nlabels 4:0 3:0 2:0 1:0 0:0\n\
+         path 0,1 0,0 1,0 1,1\nat 0 1 2\nlabels 4:0 3:0 2:0 1:0 0:0\n\
+         path 0,1 0,0 1,0 1,1\nat 0 1 2\nlabels 4:0 3:0 2:0 1:0 0:0\n",
+        Verdict::Wrong(2),
+    ),
     // No text of certificates.
     ("", "", Verdict::BadProofs),
     ("proofs 1 1 0", "", Verdict::BadProofs),
@@ -150,31 +164,34 @@ const VERDICTS: &[(&str, &str, Verdict)] = &[
 
 #[test]
 fn verdicts(rt: HostRuntime) -> Result<(), Fail> {
-    for (front, rest, verdict) in VERDICTS {
-        let text = format!(in rt.alloc(); "{front}{rest}")?;
-        let found = check_proofs(rt.alloc(), text.as_bytes())?;
-        assert_eq!(rt; found, *verdict, "{text}");
+    for (row, (front, rest, verdict)) in VERDICTS.iter().enumerate() {
+        let mut text = Vec::from_slice(rt.alloc(), front.as_bytes())?;
+        text.extend_from_slice(rest.as_bytes())?;
+        let found = check_proofs(rt.alloc(), &text)?;
+        assert_eq!(rt; found, *verdict, "row {row}: {rest}");
     }
     Ok(())
 }
 
 /// The points of `TWO`, and what is left from each of them and at the end, as in `TWO_RIGHT`.
-const TWO_POINTS: [(i32, i32); 6] = [(0, 1), (0, 0), (1, 0), (2, 0), (2, 1), (1, 1)];
+const TWO_POINTS: [Point; 6] = [
+    Point { x: 0, y: 1 },
+    Point { x: 0, y: 0 },
+    Point { x: 1, y: 0 },
+    Point { x: 2, y: 0 },
+    Point { x: 2, y: 1 },
+    Point { x: 1, y: 1 },
+];
 
-const TWO_LABELS: [(u32, u128); 7] = [(3, 294), (3, 0), (2, 147), (2, 0), (1, 0), (1, 0), (0, 0)];
+const TWO_LABELS: &[(u32, u128)] = &[(3, 294), (3, 0), (2, 147), (2, 0), (1, 0), (1, 0), (0, 0)];
 
 #[test]
 fn labels_of_two_pixels(rt: HostRuntime) -> Result<(), Fail> {
-    let mut points = Vec::new(rt.alloc());
-    for (x, y) in TWO_POINTS {
-        points.push(Point { x, y })?;
+    let found = labels_of(rt.alloc(), &TWO_POINTS)?;
+    assert_eq!(rt; found.len(), TWO_LABELS.len());
+    for (i, (label, (count, cost))) in found.iter().zip(TWO_LABELS).enumerate() {
+        assert_eq!(rt; (label.count, label.cost), (*count, *cost), "label {i}");
     }
-    let found = labels_of(rt.alloc(), &points)?;
-    let mut right = Vec::new(rt.alloc());
-    for (count, cost) in TWO_LABELS {
-        right.push(Label { count, cost })?;
-    }
-    assert_eq!(rt; found.as_slice(), right.as_slice());
     Ok(())
 }
 
@@ -184,21 +201,6 @@ fn labels_of(alloc: Global, points: &[Point]) -> Result<Vec<Label>, Fail> {
         return Ok(Vec::new(alloc));
     }
     Ok(labels(alloc, points)?)
-}
-
-/// Two paths, of which the second is wrong, and three, of which the second and the third are.
-#[test]
-fn first_of_several_wrong_paths(rt: HostRuntime) -> Result<(), Fail> {
-    let good = "path 0,1 0,0 1,0 1,1\nat 0 1 2 3\nlabels 4:0 3:0 2:0 1:0 0:0\n";
-    let bad = "path 0,1 0,0 1,0 1,1\nat 0 1 2\nlabels 4:0 3:0 2:0 1:0 0:0\n";
-    let two = format!(in rt.alloc(); "proofs 1 1 2\n{good}{bad}")?;
-    let three = format!(in rt.alloc(); "proofs 1 1 3\n{good}{bad}{bad}")?;
-    let found = (
-        check_proofs(rt.alloc(), two.as_bytes())?,
-        check_proofs(rt.alloc(), three.as_bytes())?,
-    );
-    assert_eq!(rt; found, (Verdict::Wrong(2), Verdict::Wrong(2)));
-    Ok(())
 }
 
 /// The certificate of two pixels in a row: its numbers, each with what stands before it.

@@ -1,8 +1,9 @@
 //! Cyclic polygons beside the best polygons from each starting point.
 
+use crate::tests::samples::{Pages, page_of};
 use bit_image::Bitmap;
 use cyclic_optimal::cyclic_polygon;
-use page_samples::{Shape, drawn, noise, shaped};
+use page_samples::{Shape, drawn};
 use path_decompose::decompose;
 use polygon_optimal::polygon;
 use pt_base::is_closed_walk;
@@ -12,7 +13,7 @@ use std::test::Fail;
 
 /// A page with one path; the vertices of its cyclic polygon and their penalty; and how many segments the best polygon
 /// through its first point has.
-const ROWS: [(&[&str], &[u32], u128, usize); 4] = [
+const ROWS: &[(&[&str], &[u32], u128, usize)] = &[
     // Twelve pixels round a middle. Each penalty is 323.
     (&[".##.", "####", "####", ".##."], &[3, 7, 11, 15], 1292, 5),
     // The lists 0 2 4 and 1 3 5 tie.
@@ -23,74 +24,76 @@ const ROWS: [(&[&str], &[u32], u128, usize); 4] = [
 
 #[test]
 fn worked_paths(rt: HostRuntime) -> Result<(), Fail> {
-    for (rows, at, cost, through) in ROWS {
+    for &(rows, at, cost, through) in ROWS {
         let page = drawn(rt.alloc(), rows)?;
-        for path in decompose(rt.alloc(), &page, Policy::Minority)? {
-            let found = polygons_of(rt.alloc(), path.points.as_slice())?;
-            let same = found.0.as_slice() == at;
-            assert_eq!(rt; (same, found.1, found.2), (true, cost, through), "{rows:?}");
+        for path in &decompose(rt.alloc(), &page, Policy::Minority)? {
+            let found = polygons_of(rt.alloc(), path.points.as_slice(), at)?;
+            assert_eq!(rt; found, (true, cost, through), "{rows:?}");
         }
     }
     Ok(())
 }
 
-/// The vertices of the cyclic polygon and their penalty, and how many segments the best one through the first point
-/// has.
-fn polygons_of(alloc: Global, points: &[Point]) -> Result<(Vec<u32>, u128, usize), Fail> {
+/// Whether these are the vertices of the cyclic polygon; their penalty; and how many segments the best one through the first
+/// point has.
+fn polygons_of(alloc: Global, points: &[Point], at: &[u32]) -> Result<(bool, u128, usize), Fail> {
     if !is_closed_walk(points) {
-        return Ok((Vec::new(alloc), 0, 0));
+        return Ok((false, 0, 0));
     }
     let found = cyclic_polygon(alloc, points)?;
     let through = polygon(alloc, points)?;
     Ok((
-        Vec::from_slice(alloc, found.at.as_slice())?,
+        found.at.as_slice() == at,
         found.cost,
         through.at.as_slice().len(),
     ))
 }
 
-/// A shape, the page's side, and how many paths there are. Discs have no corner, so that their windows are wide.
-const SHAPES: [(Shape, usize, u32); 7] = [
+/// Pages, how many there are, and how many paths each has at least and at most. Discs have no corner, so that their windows
+/// are wide.
+const PAGES: &[(Pages, u32, u32, u32)] = &[
     (
-        Shape::Stairs {
-            rows: 3,
-            columns: 7,
-        },
-        60,
+        Pages::Shaped(
+            Shape::Stairs {
+                rows: 3,
+                columns: 7,
+            },
+            60,
+        ),
+        1,
+        1,
         1,
     ),
     (
-        Shape::Band {
-            rows: 5,
-            columns: 13,
-            high: 90,
-        },
-        80,
+        Pages::Shaped(
+            Shape::Band {
+                rows: 5,
+                columns: 13,
+                high: 90,
+            },
+            80,
+        ),
+        1,
+        1,
         1,
     ),
-    (Shape::Comb { width: 2 }, 26, 1),
-    (Shape::Disc, 20, 1),
-    (Shape::Disc, 45, 1),
-    (Shape::Disc, 100, 1),
-    (Shape::Nest { width: 3 }, 40, 7),
+    (Pages::Shaped(Shape::Comb { width: 2 }, 26), 1, 1, 1),
+    (Pages::Shaped(Shape::Disc, 20), 1, 1, 1),
+    (Pages::Shaped(Shape::Disc, 45), 1, 1, 1),
+    (Pages::Shaped(Shape::Disc, 100), 1, 1, 1),
+    (Pages::Shaped(Shape::Nest { width: 3 }, 40), 1, 7, 7),
+    (Pages::Noise(40, 32), 8, 21, u32::MAX),
 ];
 
 #[test]
 fn least_of_all_starts(rt: HostRuntime) -> Result<(), Fail> {
-    for (shape, side, paths) in SHAPES {
-        let page = shaped(rt.alloc(), side, shape)?;
-        let found = least_paths(rt.alloc(), &page)?;
-        assert_eq!(rt; found, (paths, paths), "{shape:?} on a page of {side}");
-    }
-    Ok(())
-}
-
-#[test]
-fn least_on_pages_of_noise(rt: HostRuntime) -> Result<(), Fail> {
-    for seed in 0..8 {
-        let page = noise(rt.alloc(), 40, 32, seed)?;
-        let found = least_paths(rt.alloc(), &page)?;
-        assert_eq!(rt; (20 < found.0, found.0), (true, found.1), "seed {seed}");
+    for (row, (pages, size, least, most)) in PAGES.iter().enumerate() {
+        for number in 0..*size {
+            let page = page_of(rt.alloc(), *pages, number)?;
+            let (paths, alike) = least_paths(rt.alloc(), &page)?;
+            let within = *least <= paths && paths <= *most;
+            assert_eq!(rt; (within, alike), (true, paths), "row {row}, page {number}");
+        }
     }
     Ok(())
 }
@@ -98,9 +101,9 @@ fn least_on_pages_of_noise(rt: HostRuntime) -> Result<(), Fail> {
 /// How many paths a page has, and of how many the cyclic polygon is the least of all starting points.
 fn least_paths(alloc: Global, page: &Bitmap) -> Result<(u32, u32), Fail> {
     let (mut paths, mut least) = (0u32, 0u32);
-    for path in decompose(alloc, page, Policy::Minority)? {
+    for path in &decompose(alloc, page, Policy::Minority)? {
         paths = paths.wrapping_add(1);
-        least = least.wrapping_add(u32::from(is_least(alloc, &path)?));
+        least = least.wrapping_add(u32::from(is_least(alloc, path)?));
     }
     Ok((paths, least))
 }

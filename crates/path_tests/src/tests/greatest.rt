@@ -1,8 +1,6 @@
-//! Penalties and polygons with the longest segments, that another program worked out.
-ghost use Rattle.std.specs.Prelude.{◌≡◌};
+//! Penalties of the longest segment, that another program worked out.
 
-use page_samples::{round, triangle};
-use polygon_optimal::polygon;
+use page_samples::triangle;
 use prefix_moments::Moments;
 use pt_base::is_closed_walk;
 use pt_core::{MOST_STEPS, Point};
@@ -13,7 +11,7 @@ use std::test::Fail;
 const STEPS: u32 = 65534;
 
 /// A limit, and the penalty of that segment where it is below.
-const LIMITS: [(u64, Option<u64>); 3] = [
+const LIMITS: &[(u64, Option<u64>)] = &[
     (1 << 56, Some(5931415)),
     (5931415, None),
     (5931416, Some(5931415)),
@@ -22,7 +20,7 @@ const LIMITS: [(u64, Option<u64>); 3] = [
 #[test]
 fn penalties_below_limits(rt: HostRuntime) -> Result<(), Fail> {
     let points = triangle(rt.alloc(), 32767)?;
-    for (limit, wanted) in LIMITS {
+    for &(limit, wanted) in LIMITS {
         let found = below(rt.alloc(), &points, limit)?;
         assert_eq!(rt; found, Some(wanted), "below {limit}");
     }
@@ -36,14 +34,4 @@ fn below(alloc: Global, points: &[Point], limit: u64) -> Result<Option<Option<u6
     }
     let moments = Moments::of(alloc, points)?;
     Ok(Some(moments.penalty_below(0, STEPS, limit.min(1 << 56))))
-}
-
-#[test]
-fn the_polygon_of_the_longest_bar(rt: HostRuntime) -> Result<(), Fail> {
-    let points = round(rt.alloc(), 32767, 1)?;
-    assert!(rt; is_closed_walk(&points));
-    let found = polygon(rt.alloc(), &points)?;
-    let vertices = [0, 206, 32769];
-    assert_eq!(rt; (found.at.as_slice(), found.cost), (&vertices[..], 4842942));
-    Ok(())
 }

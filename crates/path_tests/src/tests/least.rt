@@ -6,7 +6,7 @@ use least_walk::least;
 use std::test::Fail;
 
 /// A case, the size, the steps, the least walk, and what it costs.
-const CASES: [(&str, u32, &[Listed], &[u32], u128); 9] = [
+const CASES: &[(&str, u32, &[Listed], &[u32], u128)] = &[
     ("size one", 1, &[], &[0], 0),
     ("size one, at a price", 1, &[(0, 1, 7)], &[0], 7),
     ("size two", 2, &[], &[0, 1], 0),
@@ -50,7 +50,7 @@ const CASES: [(&str, u32, &[Listed], &[u32], u128); 9] = [
 
 #[test]
 fn fewest_then_cheapest_then_lowest(rt: HostRuntime) -> Result<(), Fail> {
-    for (case, size, listed, at, cost) in CASES {
+    for &(case, size, listed, at, cost) in CASES {
         assert!(rt; 1 <= size && size <= 5);
         let walk = least(rt.alloc(), &Table::new(size, listed))?;
         assert_eq!(rt; (walk.at.as_slice(), walk.cost), (at, cost), "{case}");
@@ -59,7 +59,7 @@ fn fewest_then_cheapest_then_lowest(rt: HostRuntime) -> Result<(), Fail> {
 }
 
 /// The size of a chain, and what its steps cost together.
-const CHAINS: [(u32, u128); 3] = [
+const CHAINS: &[(u32, u128)] = &[
     (1, 72_057_594_037_927_935),
     (2, 144_115_188_075_855_870),
     (100_000, 7_205_759_403_792_793_500_000),
@@ -67,7 +67,7 @@ const CHAINS: [(u32, u128); 3] = [
 
 #[test]
 fn a_chain_has_one_walk(rt: HostRuntime) -> Result<(), Fail> {
-    for (size, cost) in CHAINS {
+    for &(size, cost) in CHAINS {
         assert!(rt; 1 <= size && size <= 100_000);
         let walk = least(rt.alloc(), &Chain::new(size))?;
         assert_eq!(rt; (walk.count, walk.cost), (size, cost), "of {size}");

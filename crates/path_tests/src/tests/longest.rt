@@ -1,30 +1,14 @@
 //! The longest segment that a page has room for.
-ghost use Rattle.std.specs.Prelude.{IfOk};
-ghost use Rattle.pt_core.specs.ClosedWalk.{IsClosedWalk};
-ghost use Rattle.pt_core.specs.OnPage.{AreOnPage};
 
 use page_samples::hooked_stairs;
 use pt_base::is_closed_walk;
-use pt_core::Point;
 use std::alloc::Global;
 use std::test::Fail;
 use straight_paths::Reach;
 
-/// Stairs of 65,534 steps, from point 1 to point 65535, and the way back.
-fn longest_stairs(alloc: Global) -> Result<Vec<Point>, Fail>
-    ensures closed { IfOk result (λ points. IsClosedWalk points.items) }
-    ensures on_page { IfOk result (λ points. AreOnPage points.items) }
-{
-    let points = hooked_stairs(alloc, 32767)?;
-    if !is_closed_walk(&points) {
-        return Err(Fail::from("the path isn't closed"));
-    }
-    Ok(points)
-}
-
 /// A point, how many steps the longest segment from there has; where a segment from there ends, and whether it is
 /// possible.
-const SEGMENTS: [(u32, u32, u32, bool); 4] = [
+const SEGMENTS: &[(u32, u32, u32, bool)] = &[
     (0, 1, 65534, false),
     (1, 65534, 65535, true),
     (1, 65534, 65536, false),
@@ -33,17 +17,18 @@ const SEGMENTS: [(u32, u32, u32, bool); 4] = [
 
 #[test]
 fn segments_along_stairs(rt: HostRuntime) -> Result<(), Fail> {
-    for (i, far, j, possible) in SEGMENTS {
+    for &(i, far, j, possible) in SEGMENTS {
         let found = segment(rt.alloc(), i, j)?;
         assert_eq!(rt; found, (far, possible), "{i} to {j}");
     }
     Ok(())
 }
 
-/// How many steps the longest segment from a point has, and whether this one is possible.
+/// How many steps the longest segment from a point has, and whether this one is possible: along stairs of 65,534 steps, from
+/// point 1 to point 65535, and the way back.
 fn segment(alloc: Global, i: u32, j: u32) -> Result<(u32, bool), Fail> {
-    let points = longest_stairs(alloc)?;
-    if points.len() <= i as usize || j <= i {
+    let points = hooked_stairs(alloc, 32767)?;
+    if !is_closed_walk(&points) || points.len() <= i as usize || j <= i {
         return Err(Fail::from("no such segment"));
     }
     let reach = Reach::of(alloc, &points)?;

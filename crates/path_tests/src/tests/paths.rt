@@ -26,7 +26,7 @@ fn is_shown(
 }
 
 /// A page, the policy, the greatest area of a speckle, and the points text of the paths that are kept.
-const PAGES: [(&[&str], Policy, u32, &str); 15] = [
+const PAGES: &[(&[&str], Policy, u32, &str)] = &[
     (&["."], Policy::Left, 0, "points 1 1 0\n"),
     (
         &["#"],
@@ -115,25 +115,27 @@ const PAGES: [(&[&str], Policy, u32, &str); 15] = [
 
 #[test]
 fn paths_of_small_pages(rt: HostRuntime) -> Result<(), Fail> {
-    for (rows, policy, most, text) in PAGES {
+    for &(rows, policy, most, text) in PAGES {
         let same = is_shown(rt.alloc(), rows, policy, most, text)?;
         assert!(rt; same, "{policy:?}: {text}");
     }
     Ok(())
 }
 
+const POLICIES: &[Policy] = &[
+    Policy::Left,
+    Policy::Right,
+    Policy::Black,
+    Policy::White,
+    Policy::Majority,
+    Policy::Minority,
+];
+
 // 63 lines in each of 64 rows and 64 columns lie between two pixels, and 32 black pixels stand at each side.
 #[test]
 fn a_checkerboard_uses_each_edge(rt: HostRuntime) -> Result<(), Fail> {
     let page = checkered(rt.alloc(), 64)?;
-    for policy in [
-        Policy::Left,
-        Policy::Right,
-        Policy::Black,
-        Policy::White,
-        Policy::Majority,
-        Policy::Minority,
-    ] {
+    for &policy in POLICIES {
         let paths = decompose(rt.alloc(), &page, policy)?;
         assert_eq!(rt; edges_of(&paths), 8192, "{policy:?}");
     }
@@ -149,10 +151,12 @@ fn edges_of(paths: &[Path]) -> usize {
     edges
 }
 
-// Widths around the ends of words.
+/// The sides of pages and their seeds, with widths around the ends of words.
+const NOISE: &[(usize, usize, u64)] = &[(1, 5, 1), (63, 6, 2), (64, 6, 3), (65, 6, 4), (130, 9, 5)];
+
 #[test]
 fn paths_are_those_of_the_plain_page(rt: HostRuntime) -> Result<(), Fail> {
-    for (width, height, seed) in [(1, 5, 1), (63, 6, 2), (64, 6, 3), (65, 6, 4), (130, 9, 5)] {
+    for &(width, height, seed) in NOISE {
         let page = noise(rt.alloc(), width, height, seed)?;
         let mut paths = Vec::new(rt.alloc());
         for path in &decompose(rt.alloc(), &page, Policy::Right)? {

@@ -10,13 +10,15 @@ use pt_core::{Point, Policy};
 use std::alloc::Global;
 use std::test::Fail;
 
+const POLICIES: &[Policy] = &[Policy::Left, Policy::Right];
+
 #[test]
 fn best_of_all_lists(rt: HostRuntime) -> Result<(), Fail> {
     let mut found = 0u32;
     for number in 0..512 {
         let page = numbered(rt.alloc(), number)?;
-        for policy in [Policy::Left, Policy::Right] {
-            for path in decompose(rt.alloc(), &page, policy)? {
+        for &policy in POLICIES {
+            for path in &decompose(rt.alloc(), &page, policy)? {
                 let points = path.points.as_slice();
                 let best = (
                     is_best(rt.alloc(), points)?,

@@ -17,7 +17,7 @@ fn corner(x: i32, y: i32) -> Point
 }
 
 /// Where a path comes to a corner, and how it goes on there.
-const TURNS: [(i32, i32, Dir, Policy, Sign, Dir); 13] = [
+const TURNS: &[(i32, i32, Dir, Policy, Sign, Dir)] = &[
     // At a corner where two black pixels meet.
     (1, 1, Dir::East, Policy::Left, Sign::Plus, Dir::North),
     (1, 1, Dir::East, Policy::Right, Sign::Plus, Dir::South),
@@ -45,7 +45,7 @@ const TURNS: [(i32, i32, Dir, Policy, Sign, Dir); 13] = [
 #[test]
 fn turns_on_a_small_page(rt: HostRuntime) -> Result<(), Fail> {
     let page = drawn(rt.alloc(), &["#.", ".#"])?;
-    for (x, y, from, policy, sign, to) in TURNS {
+    for &(x, y, from, policy, sign, to) in TURNS {
         let found = turn(&page, corner(x, y), from, policy, sign);
         assert_eq!(rt; found, to, "at {x}, {y}: {policy:?}, {sign:?}");
     }
@@ -58,7 +58,7 @@ const QUARTERS: [&str; 8] = [
 
 // At the middle of four quarters all rings tie; around a quarter's own middle black has more, at a corner
 // of the page white.
-const MAJORITIES: [(i32, i32, bool); 8] = [
+const MAJORITIES: &[(i32, i32, bool)] = &[
     (4, 4, false),
     (6, 2, true),
     (2, 6, true),
@@ -72,7 +72,7 @@ const MAJORITIES: [(i32, i32, bool); 8] = [
 #[test]
 fn majorities_of_quarters(rt: HostRuntime) -> Result<(), Fail> {
     let page = drawn(rt.alloc(), &QUARTERS)?;
-    for (x, y, black) in MAJORITIES {
+    for &(x, y, black) in MAJORITIES {
         assert_eq!(rt; major(&page, corner(x, y)), black, "at {x}, {y}");
     }
     Ok(())

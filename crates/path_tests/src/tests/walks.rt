@@ -9,7 +9,7 @@ use std::test::Fail;
 use straight_paths::Reach;
 
 /// The steps of a walk, and how many ways they can go.
-const WALKS: [(usize, u32); 5] = [
+const WALKS: &[(usize, u32)] = &[
     (4, 256),
     (6, 4096),
     (8, 65536),
@@ -20,7 +20,7 @@ const WALKS: [(usize, u32); 5] = [
 #[test]
 fn all_walks_of_twelve_steps(rt: HostRuntime) -> Result<(), Fail> {
     let mut found = 0u32;
-    for (size, codes) in WALKS {
+    for &(size, codes) in WALKS {
         for code in 0..codes {
             if let Some(alike) = compared(rt.alloc(), size, code)? {
                 assert!(rt; alike, "{size} steps of {code}");

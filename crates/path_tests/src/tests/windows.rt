@@ -5,7 +5,7 @@ use least_walk::{Window, windows};
 use std::test::Fail;
 
 /// A case, the size, the steps, and each window.
-const CASES: [(&str, u32, &[Listed], &[(u32, u32)]); 5] = [
+const CASES: &[(&str, u32, &[Listed], &[(u32, u32)])] = &[
     ("size one", 1, &[], &[(0, 0), (1, 1)]),
     ("steps of one", 2, &[], &[(0, 0), (1, 1), (2, 2)]),
     (
@@ -31,7 +31,7 @@ const CASES: [(&str, u32, &[Listed], &[(u32, u32)]); 5] = [
 
 #[test]
 fn windows_of_tables(rt: HostRuntime) -> Result<(), Fail> {
-    for (case, size, listed, wanted) in CASES {
+    for &(case, size, listed, wanted) in CASES {
         assert!(rt; 1 <= size && size <= 6);
         let found = windows(rt.alloc(), &Table::new(size, listed))?;
         assert!(rt; are_ends(&found, wanted), "{case}");

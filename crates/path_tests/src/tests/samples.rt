@@ -1,0 +1,29 @@
+//! Pages by rows of a table.
+
+use bit_image::Bitmap;
+use page_samples::pages::NoPage;
+use page_samples::{Shape, checkered, noise, numbered, shaped};
+use std::alloc::Global;
+
+/// What pages are.
+#[derive(Clone, Copy)]
+pub(super) enum Pages {
+    /// Those of 3 by 3 pixels.
+    Small,
+    /// A shape on a page of this side.
+    Shaped(Shape, usize),
+    /// A checkerboard of this side. Its paths are teeth of single pixels, in rings.
+    Checkered(usize),
+    /// Noise on pages so wide and high.
+    Noise(usize, usize),
+}
+
+/// The page of this number; of a shape and of a checkerboard there is one.
+pub(super) fn page_of(alloc: Global, pages: Pages, number: u32) -> Result<Bitmap, NoPage> {
+    match pages {
+        Pages::Small => numbered(alloc, number),
+        Pages::Shaped(shape, side) => shaped(alloc, side, shape),
+        Pages::Checkered(side) => checkered(alloc, side),
+        Pages::Noise(width, height) => noise(alloc, width, height, number.into()),
+    }
+}
