@@ -1,8 +1,7 @@
 //! All pages of a file in one PostScript document: a file's pages are counted, and a document ends with its file alone.
 
-use crate::tests::cases::{Case, PLAIN, check_all};
+use crate::tests::cases::{Case, PLAIN};
 use mem_outside::{InCall, OutCall};
-use std::test::Fail;
 
 /// Two pages of 8 by 8 black pixels, of 15 bytes each.
 const PAGES: &[u8] =
@@ -55,7 +54,7 @@ const FILES: Case<'static> = Case {
     ..PLAIN
 };
 
-const RUNS: &[Case] = &[
+pub const RUNS: &[Case] = &[
     STREAM,
     // A page is cut short: the document is left open behind the one in front of it.
     Case {
@@ -100,7 +99,7 @@ const RUNS: &[Case] = &[
     },
 ];
 
-const FAILING: &[Case] = &[
+pub const FAILING: &[Case] = &[
     // The first page is at hand when the read behind it fails.
     Case {
         most_read: 15,
@@ -143,13 +142,3 @@ const FAILING: &[Case] = &[
         ..STREAM
     },
 ];
-
-#[test]
-fn one_document_for_a_file(rt: HostRuntime) -> Result<(), Fail> {
-    check_all(&rt, rt.alloc(), RUNS)
-}
-
-#[test]
-fn documents_left_open(rt: HostRuntime) -> Result<(), Fail> {
-    check_all(&rt, rt.alloc(), FAILING)
-}
