@@ -1,1 +1,2 @@
+pub mod PagePoints
 pub mod Inner

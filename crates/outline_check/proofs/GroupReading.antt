@@ -1,20 +1,19 @@
--- The three lines of a path with its certificate.
-use Rattle.std.proofs.Common.{◌≡◌, ℕ, ◌<◌, ◌^◌, List, [], ◌∷◌, ◌++◌, refl, ap, sym, ◌∙◌, append_assoc, codes, flat_map}
+-- The lines of a certificates' text: its first, and the three of a path.
+use Rattle.std.proofs.Common.{◌≡◌, ℕ, ◌<◌, ◌^◌, List, ◌∷◌, ◌++◌, length, refl, ap, sym, ◌∙◌, append_assoc, codes, flat_map}
 use Rattle.pt_base.specs.PointsText.{point_text}
 use Rattle.pt_base.specs.PolygonsText.{index_text}
 use Rattle.pt_core.specs.declared.point.Point.{Point}
 use Rattle.outline_check.specs.declared.label.Label.{Label}
 use Rattle.outline_check.specs.Inner.CertifiedPaths.{IsGroup}
-use Rattle.outline_check.specs.Inner.LineTexts.{IsSomeLine}
+use Rattle.list_reader.specs.Inner.LineTexts.{IsSomeLine}
 use Rattle.outline_check.specs.ProofsText.{Certified, certified_text, label_text}
-use Rattle.outline_check.specs.Texts.{IsInPage, IsIndex, IsShortLabel}
-use Rattle.outline_check.proofs.LineReading.{one_some_line}
-use Rattle.outline_check.proofs.PairReading.{points_are_entries, indices_are_entries, labels_are_entries}
-
--- what follows a word
-pub cancel : (word xs ys : List ℕ) → word ++ xs ≡ word ++ ys → xs ≡ ys
-cancel [] xs ys same = same
-cancel (b ∷ word) xs ys same = cancel word xs ys (cc)
+use Rattle.list_reader.specs.PagePoints.{IsInPage, IsIndex}
+use Rattle.list_reader.specs.Inner.SidesLines.{IsSidesLine}
+use Rattle.outline_check.specs.Texts.{IsShortLabel, IsProofs}
+use Rattle.list_reader.proofs.LineReading.{one_some_line}
+use Rattle.list_reader.proofs.PairReading.{points_are_entries, indices_are_entries}
+use Rattle.list_reader.proofs.SidesReading.{cancel}
+use Rattle.outline_check.proofs.LabelReading.{labels_are_entries}
 
 -- what follows the first line, and the second
 abbrev pub labels_bytes : Certified → List ℕ → List ℕ
@@ -110,3 +109,15 @@ module _ (width height : ℕ) (wide : width < 2 ^ 64) (high : height < 2 ^ 64) w
       let G : List ℕ → Certified = λ is. record { points = d.points; at = is; labels = c.labels } in
       let H : List Label → Certified = λ ls. record { points = d.points; at = d.at; labels = ls } in
       (ap F points.0 ∙ ap G indices.0 ∙ ap H labels.0, labels.1)
+
+-- a certificates' text begins with its first line
+pub head_of : (text : List ℕ) (w h : ℕ) (paths : List Certified) → IsProofs text w h paths
+    → IsSidesLine (codes "proofs ") text w h (length paths) (flat_map certified_text paths)
+head_of text w h paths proofs = record {
+  is = proofs.is;
+  some_width = proofs.some_width;
+  wide = proofs.wide;
+  some_height = proofs.some_height;
+  high = proofs.high;
+  few = proofs.few;
+}

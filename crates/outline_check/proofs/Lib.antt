@@ -5,10 +5,8 @@ pub mod Following
 pub mod Best
 pub mod One
 pub mod Exists
-pub mod LineReading
-pub mod PairReading
+pub mod LabelReading
 pub mod GroupReading
-pub mod HeadReading
 pub mod Judging
 pub mod OneReading
 pub mod Printing

@@ -17,7 +17,8 @@ use Rattle.outline_check.specs.Certificate.{AreRightLabels}
 use Rattle.outline_check.specs.Labels.{no_label}
 use Rattle.outline_check.specs.Printed.{AreCertified, IsPrinted}
 use Rattle.outline_check.specs.ProofsText.{Certified, proofs_text}
-use Rattle.outline_check.specs.Texts.{AreInRanges, IsInPage, IsShortLabel}
+use Rattle.list_reader.specs.PagePoints.{IsInPage}
+use Rattle.outline_check.specs.Texts.{AreInRanges, IsShortLabel}
 use Rattle.outline_check.specs.Verdicts.{IsGood, IsVerdict}
 use Rattle.outline_check.proofs.Exists.{certificate_found, labels_found, one_list}
 use Rattle.outline_check.proofs.Short.{short}

@@ -1,9 +1,6 @@
 -- What inner contracts alone speak of: no promise rests on it.
 pub mod CertifiedPaths
-pub mod Heads
 pub mod Known
 pub mod LabelPoints
-pub mod LineEntries
-pub mod LineTexts
 pub mod Printed
 pub mod Verdicts

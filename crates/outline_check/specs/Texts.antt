@@ -1,20 +1,9 @@
 -- Which texts are certificates' texts: those of numbers in their ranges.
-use Rattle.std.specs.Prelude.{◌≡◌, ℕ, ◌<◌, ◌≤◌, ◌^◌, pos, ◌≤ℤ◌, List, All, length}
+use Rattle.std.specs.Prelude.{◌≡◌, ℕ, ◌<◌, ◌≤◌, ◌^◌, List, All, length}
 use Rattle.pt_core.specs.declared.limits.TheConstants.{LONGEST_SIDE}
-use Rattle.pt_core.specs.declared.point.Point.{Point}
+use Rattle.list_reader.specs.PagePoints.{IsInPage, IsIndex}
 use Rattle.outline_check.specs.declared.label.Label.{Label}
 use Rattle.outline_check.specs.ProofsText.{Certified, proofs_text}
-
--- the point is on a page of these sides
-pub record IsInPage (width height : ℕ) (p : Point) : Type 0 where
-  pub left : pos 0 ≤ℤ p.x
-  pub right : p.x ≤ℤ pos width
-  pub bottom : pos 0 ≤ℤ p.y
-  pub top : p.y ≤ℤ pos height
-
--- an index fits 32 bits
-abbrev pub IsIndex : ℕ → Type 0
-IsIndex i = i < 2 ^ 32
 
 -- a label's count fits 32 bits, and its cost 64
 pub record IsShortLabel (l : Label) : Type 0 where

@@ -11,7 +11,8 @@ ghost use Rattle.outline_check.specs.Certificate.{AreRightLabels, IsCertificate}
 ghost use Rattle.outline_check.specs.Labels.{label_at};
 ghost use Rattle.outline_check.specs.Printed.{IsPrinted};
 ghost use Rattle.outline_check.specs.ProofsText.{Certified};
-ghost use Rattle.outline_check.specs.Texts.{IsInPage, IsProofs};
+ghost use Rattle.list_reader.specs.PagePoints.{IsInPage};
+ghost use Rattle.outline_check.specs.Texts.{IsProofs};
 ghost use Rattle.outline_check.specs.Verdicts.{IsVerdict};
 ghost use Rattle.outline_check.specs.declared.verdict.Verdict.{Verdict};
 ghost use Rattle.outline_check.specs.declared.verdict.Verdict.TheVariants.{Right};

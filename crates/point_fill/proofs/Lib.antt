@@ -1,7 +1,5 @@
-pub mod Numbers
 pub mod Spelling
 pub mod Traced
-pub mod Placing
 pub mod Looping
 pub mod Marking
 pub mod Sweeping

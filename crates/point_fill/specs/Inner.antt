@@ -1,3 +1,3 @@
 -- What inner contracts alone speak of: no promise rests on it.
-pub mod PointsReading
+pub mod PathLines
 pub mod Swept

@@ -14,7 +14,7 @@ use Rattle.path_decompose.specs.Decomposition.{kept}
 use Rattle.path_decompose.specs.Inner.Bounds.{IsPathOn}
 use Rattle.path_decompose.proofs.PathOn.{page_paths_on}
 use Rattle.outline_check.specs.Printed.{IsPrinted}
-use Rattle.outline_check.specs.Texts.{IsInPage}
+use Rattle.list_reader.specs.PagePoints.{IsInPage}
 use Rattle.outline_check.specs.Verdicts.{IsVerdict}
 use Rattle.outline_check.specs.declared.verdict.Verdict.TheVariants.{Right}
 use Rattle.outline_check.proofs.Written.{right_text}

@@ -1,9 +1,21 @@
-use Rattle.std.proofs.Common.{◌≡◌, ◌+◌, ℕ, refl, sym, subst}
+use Rattle.std.proofs.Common.{◌≡◌, ℕ, List, drop, sym, subst}
+use Rattle.pt_base.specs.PointsText.{point_text}
+use Rattle.pt_core.specs.declared.point.Point.{Point}
 use Rattle.path_decompose.specs.Bounds.{IsCornerOf}
 use Rattle.bit_image.specs.Page.{Page, SameSides}
-use Rattle.point_fill.specs.Inner.PointsReading.{IsPointAt, IsNoPointAt}
-use Rattle.point_fill.proofs.Looping.{first_read, next_read, loop_read, last_is_corner, no_loop_in, no_loop_without_first, no_loop_without_point, no_loop_by_step, no_loop_of_few, no_loop_open}
+use Rattle.list_reader.specs.Inner.LineEntries.{IsEntry}
+use Rattle.list_reader.specs.PagePoints.{IsInPage}
+use Rattle.list_reader.proofs.Nothing.{if_none}
+use Rattle.point_fill.proofs.Looping.{first_read, next_read, loop_read, last_is_corner, no_loop_without_first, no_loop_without_point, no_loop_by_step, no_loop_of_few, no_loop_open}
+use Rattle.point_fill.proofs.Spelling.{corner_of}
 use Rattle.point_fill.proofs.points.mark_loop.Goals as goal
+
+-- a point of a page of these sides, and none
+abbrev PointAt : List ℕ → Point → List ℕ → ℕ → ℕ → Type 0
+PointAt bytes p rest w h = IsEntry point_text (IsInPage w h) bytes p rest
+
+abbrev NoPoint : List ℕ → ℕ → ℕ → Type 0
+NoPoint bytes w h = (p : Point) (rest : List ℕ) → PointAt bytes p rest w h → ⊥
 
 -- what holds at the sides that were asked for holds at the page's
 at_sides : (P : ℕ → ℕ → Type 0) (w h width height : ℕ) → width ≡ w → height ≡ h → P width height → P w h
@@ -15,58 +27,54 @@ at_same P old now same p = at_sides P now.width now.height old.width old.height 
 
 pub returns-in_err-first-clause-none : goal.returns-in_err-first-clause-none
 returns-in_err-first-clause-none c =
-    no_loop_in _ c.from_residual.result
-    (no_loop_without_first c.args.text.now c.args.at c.args.page.now.width c.args.page.now.height
-    (at_sides (λ w h. IsNoPointAt c.args.text.now c.args.at w h) _ _ c.width-width.result c.height-height.result c.width-width.ensures.value c.height-height.ensures.value c.in_err-first.ensures.none))
+    if_none c.from_residual.result
+    (no_loop_without_first c.args.text.now c.args.at c.args.page.now c.width.ensures.page.most_width c.width.ensures.page.most_height (at_sides (NoPoint (drop c.args.at c.args.text.now)) _ _ c.width.result c.height.result c.width.ensures.value c.height.ensures.value c.in_err-first.ensures.none))
 
 pub points-init : goal.points-init
 points-init c =
-    first_read c.args.text.now c.args.at c.args.page.now c.in_ok-first.first.point c.in_ok-first.first.end
-    (at_sides (λ w h. IsPointAt c.args.text.now c.args.at w h c.in_ok-first.first.point c.in_ok-first.first.end) _ _ c.width-width.result c.height-height.result c.width-width.ensures.value c.height-height.ensures.value c.in_ok-first.ensures.some)
+    first_read c.args.text.now c.args.at c.args.page.now c.width.ensures.page.most_width c.width.ensures.page.most_height c.in_ok-first.first.value c.in_ok-first.first.end
+    (at_sides (PointAt (drop c.args.at c.args.text.now) c.in_ok-first.first.value (drop c.in_ok-first.first.end c.args.text.now)) _ _ c.width.result c.height.result c.width.ensures.value c.height.ensures.value c.in_ok-first.ensures.some)
+    c.in_ok-first.ensures.onwards c.in_ok-first.ensures.within
 
 pub returns-in_err-next-clause-none : goal.returns-in_err-next-clause-none
 returns-in_err-next-clause-none c =
-    no_loop_in _ c.from_residual-in_err-next.result
-    (no_loop_without_point c.args.text.now c.args.at c.args.page.now c.points.page c.in_ok-first.first.point c.points.last.point c.points.last.end c.points.count c.points.invariant
-    c.width-width.ensures.page.most_width c.width-width.ensures.page.most_height
-    (at_sides (λ w h. IsNoPointAt c.args.text.now c.points.last.end w h) _ _ c.width-width.result c.height-height.result c.width-width.ensures.value c.height-height.ensures.value c.in_err-next.ensures.none)
-    c.points-test.ensures)
+    if_none c.from_residual-in_err-next.result
+    (no_loop_without_point c.args.text.now c.args.at c.args.page.now c.width.ensures.page.most_width c.width.ensures.page.most_height c.points.page c.in_ok-first.first.value c.points.last c.points.end c.points.count c.points.invariant
+    (at_sides (NoPoint (drop c.points.end c.args.text.now)) _ _ c.width.result c.height.result c.width.ensures.value c.height.ensures.value c.in_err-next.ensures.none)
+    (λ there. let yes = c.has_byte.ensures.1 there in let no = c.points-test.true in absurd (cc)))
 
 pub mark_step-requires-clause-from : goal.mark_step-requires-clause-from
-mark_step-requires-clause-from c = at_same (λ w h. IsCornerOf w h c.points.last.point) c.args.page.now c.points.page c.points.invariant.sides (last_is_corner c.points.invariant)
+mark_step-requires-clause-from c = at_same (λ w h. IsCornerOf w h c.points.last) c.args.page.now c.points.page c.points.invariant.sides (last_is_corner c.points.invariant)
 
 pub mark_step-requires-clause-to : goal.mark_step-requires-clause-to
 mark_step-requires-clause-to c =
-    at_same (λ w h. IsCornerOf w h c.in_ok-next.next.point) c.args.page.now c.points.page c.points.invariant.sides
-    (at_sides (λ w h. IsPointAt c.args.text.now c.points.last.end w h c.in_ok-next.next.point c.in_ok-next.next.end) _ _ c.width-width.result c.height-height.result c.width-width.ensures.value c.height-height.ensures.value c.in_ok-next.ensures.some).corner
+    at_same (λ w h. IsCornerOf w h c.in_ok-next.next.value) c.args.page.now c.points.page c.points.invariant.sides
+    (corner_of c.args.page.now.width c.args.page.now.height c.in_ok-next.next.value
+    (at_sides (PointAt (drop c.points.end c.args.text.now) c.in_ok-next.next.value (drop c.in_ok-next.next.end c.args.text.now)) _ _ c.width.result c.height.result c.width.ensures.value c.height.ensures.value c.in_ok-next.ensures.some).inside)
 
 pub returns-then-not-mark_step-clause-none : goal.returns-then-not-mark_step-clause-none
 returns-then-not-mark_step-clause-none c =
-    no_loop_by_step c.args.text.now c.args.at c.args.page.now c.points.page c.in_ok-first.first.point c.points.last.point c.in_ok-next.next.point c.points.last.end c.in_ok-next.next.end c.points.count c.points.invariant
-    c.width-width.ensures.page.most_width c.width-width.ensures.page.most_height
-    (at_sides (λ w h. IsPointAt c.args.text.now c.points.last.end w h c.in_ok-next.next.point c.in_ok-next.next.end) _ _ c.width-width.result c.height-height.result c.width-width.ensures.value c.height-height.ensures.value c.in_ok-next.ensures.some)
-    c.if-not-mark_step.ensures.step
+    no_loop_by_step c.args.text.now c.args.at c.args.page.now c.width.ensures.page.most_width c.width.ensures.page.most_height c.points.page c.in_ok-first.first.value c.points.last c.points.end c.points.count c.points.invariant c.in_ok-next.next.value c.in_ok-next.next.end
+    (at_sides (PointAt (drop c.points.end c.args.text.now) c.in_ok-next.next.value (drop c.in_ok-next.next.end c.args.text.now)) _ _ c.width.result c.height.result c.width.ensures.value c.height.ensures.value c.in_ok-next.ensures.some) c.if-not-mark_step.ensures.step
 
 pub points-preserved : goal.points-preserved
 points-preserved c =
-    next_read c.args.text.now c.args.at c.args.page.now c.points.page c.mark_step.new.page c.in_ok-first.first.point c.points.last.point c.in_ok-next.next.point c.points.last.end c.in_ok-next.next.end c.points.count (c.points.count + 1) c.points.invariant
-    (at_sides (λ w h. IsPointAt c.args.text.now c.points.last.end w h c.in_ok-next.next.point c.in_ok-next.next.end) _ _ c.width-width.result c.height-height.result c.width-width.ensures.value c.height-height.ensures.value c.in_ok-next.ensures.some)
-    c.if-not-mark_step.ensures.step c.if-not-mark_step.ensures.sides c.if-not-mark_step.ensures.marked refl
+    next_read c.args.text.now c.args.at c.args.page.now c.width.ensures.page.most_width c.width.ensures.page.most_height c.points.page c.mark_step.new.page c.in_ok-first.first.value c.points.last c.in_ok-next.next.value c.points.end c.in_ok-next.next.end c.points.count c.points.invariant
+    (at_sides (PointAt (drop c.points.end c.args.text.now) c.in_ok-next.next.value (drop c.in_ok-next.next.end c.args.text.now)) _ _ c.width.result c.height.result c.width.ensures.value c.height.ensures.value c.in_ok-next.ensures.some) c.in_ok-next.ensures.onwards c.in_ok-next.ensures.within
+    c.if-not-mark_step.ensures.step c.if-not-mark_step.ensures.sides c.if-not-mark_step.ensures.marked
 
 pub returns-then-not-makes_loop-clause-none : goal.returns-then-not-makes_loop-clause-none
 returns-then-not-makes_loop-clause-none c =
-    no_loop_of_few c.args.text.now c.args.at c.args.page.now c.points.page c.in_ok-first.first.point c.points.last.point c.points.last.end c.points.count c.points.invariant
-    c.width-width.ensures.page.most_width c.width-width.ensures.page.most_height c.points-test.ensures c.if-not-makes_loop.ensures
+    no_loop_of_few c.args.text.now c.args.at c.args.page.now c.width.ensures.page.most_width c.width.ensures.page.most_height c.points.page c.in_ok-first.first.value c.points.last c.points.end c.points.count c.points.invariant (c.has_byte.ensures.0 c.points-test.false) c.if-not-makes_loop.ensures
 
 pub mark_closing-requires-clause-last : goal.mark_closing-requires-clause-last
-mark_closing-requires-clause-last c = at_same (λ w h. IsCornerOf w h c.points.last.point) c.args.page.now c.points.page c.points.invariant.sides (last_is_corner c.points.invariant)
+mark_closing-requires-clause-last c = at_same (λ w h. IsCornerOf w h c.points.last) c.args.page.now c.points.page c.points.invariant.sides (last_is_corner c.points.invariant)
 
 pub returns-then-not-mark_closing-clause-none : goal.returns-then-not-mark_closing-clause-none
 returns-then-not-mark_closing-clause-none c =
-    no_loop_open c.args.text.now c.args.at c.args.page.now c.points.page c.in_ok-first.first.point c.points.last.point c.points.last.end c.points.count c.points.invariant
-    c.width-width.ensures.page.most_width c.width-width.ensures.page.most_height c.points-test.ensures c.if-not-mark_closing.ensures.step
+    no_loop_open c.args.text.now c.args.at c.args.page.now c.width.ensures.page.most_width c.width.ensures.page.most_height c.points.page c.in_ok-first.first.value c.points.last c.points.end c.points.count c.points.invariant (c.has_byte.ensures.0 c.points-test.false) c.if-not-mark_closing.ensures.step
 
 pub returns-clause-some : goal.returns-clause-some
 returns-clause-some c =
-    loop_read c.args.text.now c.args.at c.args.page.now c.points.page _ c.in_ok-first.first.point c.points.last.point c.points.last.end c.points.count c.points.invariant
-    c.points-test.ensures c.if-not-makes_loop.ensures c.if-not-mark_closing.ensures.step c.if-not-mark_closing.ensures.marked
+    loop_read c.args.text.now c.args.at c.args.page.now c.width.ensures.page.most_width c.width.ensures.page.most_height c.points.page _ c.in_ok-first.first.value c.points.last c.points.end c.points.count c.points.invariant
+    (c.has_byte.ensures.0 c.points-test.false) c.if-not-makes_loop.ensures c.if-not-mark_closing.ensures.step c.if-not-mark_closing.ensures.marked

@@ -1,26 +1,11 @@
 -- Lines of a list text: the texts of values one after another, and a line feed.
-use Rattle.std.proofs.Common.{◌≡◌, ℕ, ◌+◌, ◌<◌, ◌≤◌, inl, inr, drop, List, [], ◌∷◌, ◌++◌, length, length-append, get_or, refl, ap, sym, ◌∙◌, subst, append_assoc, flat_map, arith}
+use Rattle.std.proofs.Common.{◌≡◌, ℕ, ◌≤◌, List, [], ◌∷◌, ◌++◌, length, length-append, get_or, refl, ap, sym, ◌∙◌, subst, append_assoc, flat_map, arith}
 use Rattle.std.specs.List.{All}
 use Rattle.std.proofs.lemmas.Grind.{flat_map-append}
-use Rattle.std.proofs.lemmas.List.{append-nil, get_or-drop, get_or_past, drop_more}
-use Rattle.std.proofs.lemmas.Bool.{cases_lt}
+use Rattle.std.proofs.lemmas.List.{append-nil}
 use Rattle.std.proofs.lemmas.List.Elements.{All-nil, All-cons, All-head, All-tail, All-append}
 use Rattle.list_reader.specs.Inner.Numerals.{EndsDigits}
-use Rattle.outline_check.specs.Inner.LineTexts.{AreEntries, IsEntryLine, IsSomeLine}
-
--- the byte at a place of a text
-pub front : (text : List ℕ) (here : ℕ) → get_or (drop here text) 0 0 ≡ get_or text here 0
-front text here = get_or-drop here text 0 0 ∙ ap (λ k. get_or text k 0) (let e : here + 0 ≡ here = omega arith in e)
-
-pub not_byte : (text : List ℕ) (here byte : ℕ) → 0 < byte → ¬ ((here < length text) × (get_or text here 0 ≡ byte)) → ¬ (get_or (drop here text) 0 0 ≡ byte)
-not_byte text here byte some none same =
-    elim (cases_lt here (length text)) [
-      | inl inside ↦ none (inside, sym (front text here) ∙ same)
-      | inr past ↦ let zero_there = get_or_past text here 0 past in omega (arith, front text here)
-    ]
-
-pub is_byte : (text : List ℕ) (here byte : ℕ) → (here < length text) × (get_or text here 0 ≡ byte) → drop here text ≡ byte ∷ drop (here + 1) text
-is_byte text here byte there = drop_more text here 0 there.0 ∙ ap (λ b. b ∷ drop (here + 1) text) there.1
+use Rattle.list_reader.specs.Inner.LineTexts.{AreEntries, IsEntryLine, IsSomeLine}
 
 -- some values of a line were read, and it goes on here
 pub record IsReading (A : Type 0) (text : A → List ℕ) (IsIn : A → Type 0) (bytes : List ℕ) (xs : List A) (here : List ℕ) : Type 0 where
@@ -30,7 +15,7 @@ pub record IsReading (A : Type 0) (text : A → List ℕ) (IsIn : A → Type 0) 
 
 module _ (A : Type 0) (text : A → List ℕ) (IsIn : A → Type 0) (entries : AreEntries A text IsIn) where
   -- neither a space nor a line feed is a digit
-  front_ends : (xs : List A) (rest : List ℕ) → EndsDigits (flat_map text xs ++ 10 ∷ rest)
+  pub front_ends : (xs : List A) (rest : List ℕ) → EndsDigits (flat_map text xs ++ 10 ∷ rest)
   front_ends [] rest digit = omega arith
   front_ends (x ∷ xs) rest digit =
       let (tail, is) = entries.spaced x in
@@ -42,7 +27,7 @@ module _ (A : Type 0) (text : A → List ℕ) (IsIn : A → Type 0) (entries : A
       let (tail, is) = entries.spaced x in
       ap (λ bytes. get_or ((bytes ++ flat_map text xs) ++ 10 ∷ rest) 0 0) is
 
-  first_entry : (x : A) (xs : List A) (rest : List ℕ) → flat_map text (x ∷ xs) ++ 10 ∷ rest ≡ text x ++ (flat_map text xs ++ 10 ∷ rest)
+  pub first_entry : (x : A) (xs : List A) (rest : List ℕ) → flat_map text (x ∷ xs) ++ 10 ∷ rest ≡ text x ++ (flat_map text xs ++ 10 ∷ rest)
   first_entry x xs rest = append_assoc (text x) (flat_map text xs) (10 ∷ rest)
 
   -- a text begins with one line

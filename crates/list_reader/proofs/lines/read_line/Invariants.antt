@@ -1,6 +1,6 @@
 use Rattle.std.proofs.Common.{◌-◌, ◌≤◌, drop, length}
-use Rattle.outline_check.proofs.LineReading.{IsReading}
-use Rattle.outline_check.proofs.lines.read_line.Given as goal
+use Rattle.list_reader.proofs.LineReading.{IsReading}
+use Rattle.list_reader.proofs.lines.read_line.Given as goal
 
 -- the values so far are the first of the line, and it goes on here
 abbrev pub invariant-loop-entry : goal.invariant-loop-entry

@@ -1,13 +1,15 @@
--- The first line of a certificates' text.
-use Rattle.std.proofs.Common.{◌≡◌, ℕ, ◌-◌, ◌^◌, List, ◌++◌, length, refl, sym, ◌∙◌, codes, flat_map, arith}
+-- The first line of a text that tells of a page.
+use Rattle.std.proofs.Common.{◌≡◌, ℕ, ◌-◌, ◌^◌, List, [], ◌∷◌, ◌++◌, refl, sym, ◌∙◌, codes, arith}
 use Rattle.std.specs.Prelude.{decimal}
 use Rattle.pt_core.specs.declared.limits.TheConstants.{LONGEST_SIDE}
 use Rattle.list_reader.specs.Inner.Numerals.{IsNumeral}
 use Rattle.list_reader.proofs.Runs.{one_number}
-use Rattle.outline_check.specs.Inner.Heads.{IsHead}
-use Rattle.outline_check.specs.ProofsText.{Certified, certified_text}
-use Rattle.outline_check.specs.Texts.{IsProofs}
-use Rattle.outline_check.proofs.GroupReading.{cancel}
+use Rattle.list_reader.specs.Inner.SidesLines.{IsSidesLine}
+
+-- what follows a word
+pub cancel : (word xs ys : List ℕ) → word ++ xs ≡ word ++ ys → xs ≡ ys
+cancel [] xs ys same = same
+cancel (b ∷ word) xs ys same = cancel word xs ys (cc)
 
 -- what follows the sides
 abbrev pub behind_height : ℕ → List ℕ → List ℕ
@@ -16,9 +18,9 @@ behind_height p rest = decimal p ++ (codes "\n" ++ rest)
 abbrev pub behind_width : ℕ → ℕ → List ℕ → List ℕ
 behind_width h p rest = decimal h ++ (codes " " ++ behind_height p rest)
 
-module _ (bytes : List ℕ) (w h p : ℕ) (rest : List ℕ) (head : IsHead bytes w h p rest) (a1 : List ℕ) (at_a1 : bytes ≡ codes "proofs " ++ a1) where
+module _ (word bytes : List ℕ) (w h p : ℕ) (rest : List ℕ) (head : IsSidesLine word bytes w h p rest) (a1 : List ℕ) (at_a1 : bytes ≡ word ++ a1) where
   pub first : IsNumeral LONGEST_SIDE a1 w (codes " " ++ behind_width h p rest)
-  first = record { text = cancel (codes "proofs ") a1 (decimal w ++ (codes " " ++ behind_width h p rest)) (sym at_a1 ∙ head.is); few = head.wide; ends = λ d. omega arith }
+  first = record { text = cancel word a1 (decimal w ++ (codes " " ++ behind_width h p rest)) (sym at_a1 ∙ head.is); few = head.wide; ends = λ d. omega arith }
 
   module _ (n1 : ℕ) (b1 : List ℕ) (number1 : IsNumeral LONGEST_SIDE a1 n1 b1) where
     pub after_first : (n1 ≡ w) × (b1 ≡ codes " " ++ behind_width h p rest)
@@ -41,25 +43,14 @@ module _ (bytes : List ℕ) (w h p : ℕ) (rest : List ℕ) (head : IsHead bytes
             after_third = one_number (2 ^ 32 - 1) a3 n3 p b3 (codes "\n" ++ rest) (omega arith) number3 third
 
 -- a text has one first line
-pub one_head : (bytes : List ℕ) (w h p : ℕ) (r : List ℕ) (w' h' p' : ℕ) (s : List ℕ) → IsHead bytes w h p r → IsHead bytes w' h' p' s
+pub one_sides : (word bytes : List ℕ) (w h p : ℕ) (r : List ℕ) (w' h' p' : ℕ) (s : List ℕ) → IsSidesLine word bytes w h p r → IsSidesLine word bytes w' h' p' s
     → (w ≡ w') × (h ≡ h') × (p ≡ p') × (r ≡ s)
-one_head bytes w h p r w' h' p' s a b =
+one_sides word bytes w h p r w' h' p' s a b =
     let a1 = decimal w ++ (codes " " ++ behind_width h p r) in
-    let number1 = first bytes w h p r a a1 a.is in
-    let one = after_first bytes w' h' p' s b a1 a.is w (codes " " ++ behind_width h p r) number1 in
-    let number2 = second bytes w h p r a a1 a.is w (codes " " ++ behind_width h p r) number1 (behind_width h p r) refl in
-    let two = after_second bytes w' h' p' s b a1 a.is w (codes " " ++ behind_width h p r) number1 (behind_width h p r) refl h (codes " " ++ behind_height p r) number2 in
-    let number3 = third bytes w h p r a a1 a.is w (codes " " ++ behind_width h p r) number1 (behind_width h p r) refl h (codes " " ++ behind_height p r) number2 (behind_height p r) refl in
-    let three = after_third bytes w' h' p' s b a1 a.is w (codes " " ++ behind_width h p r) number1 (behind_width h p r) refl h (codes " " ++ behind_height p r) number2 (behind_height p r) refl p (codes "\n" ++ r) number3 in
+    let number1 = first word bytes w h p r a a1 a.is in
+    let one = after_first word bytes w' h' p' s b a1 a.is w (codes " " ++ behind_width h p r) number1 in
+    let number2 = second word bytes w h p r a a1 a.is w (codes " " ++ behind_width h p r) number1 (behind_width h p r) refl in
+    let two = after_second word bytes w' h' p' s b a1 a.is w (codes " " ++ behind_width h p r) number1 (behind_width h p r) refl h (codes " " ++ behind_height p r) number2 in
+    let number3 = third word bytes w h p r a a1 a.is w (codes " " ++ behind_width h p r) number1 (behind_width h p r) refl h (codes " " ++ behind_height p r) number2 (behind_height p r) refl in
+    let three = after_third word bytes w' h' p' s b a1 a.is w (codes " " ++ behind_width h p r) number1 (behind_width h p r) refl h (codes " " ++ behind_height p r) number2 (behind_height p r) refl p (codes "\n" ++ r) number3 in
     (one.0, two.0, three.0, cancel (codes "\n") r s three.1)
-
--- a certificates' text begins with its first line
-pub head_of : (text : List ℕ) (w h : ℕ) (paths : List Certified) → IsProofs text w h paths → IsHead text w h (length paths) (flat_map certified_text paths)
-head_of text w h paths proofs = record {
-  is = proofs.is;
-  some_width = proofs.some_width;
-  wide = proofs.wide;
-  some_height = proofs.some_height;
-  high = proofs.high;
-  few = proofs.few;
-}

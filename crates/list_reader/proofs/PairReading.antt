@@ -1,5 +1,5 @@
--- Two numbers behind a space.
-use Rattle.std.proofs.Common.{◌≡◌, ℕ, ℤ, pos, negsuc, ◌-◌, ◌<◌, ◌^◌, ◌≤ℤ◌, List, ◌∷◌, ◌++◌, refl, ap, sym, ◌∙◌, append_assoc, codes, arith}
+-- Points and indices, and two numbers behind a space.
+use Rattle.std.proofs.Common.{◌≡◌, ℕ, ℤ, pos, negsuc, ◌-◌, ◌<◌, ◌^◌, ◌≤ℤ◌, List, [], ◌∷◌, ◌++◌, refl, ap, sym, ◌∙◌, append_assoc, codes, flat_map, arith}
 use Rattle.std.proofs.lemmas.Int.{ints}
 use Rattle.std.specs.Prelude.{decimal}
 use Rattle.std.specs.Fmt.{signed_decimal}
@@ -7,14 +7,11 @@ use Rattle.pt_base.specs.PointsText.{point_text}
 use Rattle.pt_base.specs.PolygonsText.{index_text}
 use Rattle.pt_base.specs.Whole.{IsDigit}
 use Rattle.pt_core.specs.declared.point.Point.{Point}
-use Rattle.list_reader.specs.Inner.Numerals.{IsNumeral}
+use Rattle.list_reader.specs.Inner.Numerals.{EndsDigits, IsNumeral}
 use Rattle.list_reader.proofs.Runs.{one_number}
-use Rattle.outline_check.specs.declared.label.Label.{Label}
-use Rattle.outline_check.specs.Inner.LineEntries.{IsEntry, IsPair}
-use Rattle.outline_check.specs.ProofsText.{label_text}
-use Rattle.outline_check.specs.Texts.{IsInPage, IsIndex, IsShortLabel}
-use Rattle.outline_check.specs.Inner.LineTexts.{AreEntries}
-use Rattle.outline_check.proofs.Right.{label_same}
+use Rattle.list_reader.specs.Inner.LineEntries.{IsEntry, IsPair}
+use Rattle.list_reader.specs.PagePoints.{IsInPage, IsIndex}
+use Rattle.list_reader.specs.Inner.LineTexts.{AreEntries}
 
 -- what follows the first byte
 pub behind : (b : ℕ) (xs ys : List ℕ) → b ∷ xs ≡ b ∷ ys → xs ≡ ys
@@ -64,9 +61,6 @@ natural (negsuc n) h = absurd (omega (arith, ints))
 point_bytes : (a b : ℕ) (rest : List ℕ) → point_text (record { x = pos a; y = pos b }) ++ rest ≡ 32 ∷ (decimal a ++ 44 ∷ (decimal b ++ rest))
 point_bytes a b rest = simp append_assoc
 
-label_bytes : (l : Label) (rest : List ℕ) → label_text l ++ rest ≡ 32 ∷ (decimal l.count ++ 58 ∷ (decimal l.cost ++ rest))
-label_bytes l rest = simp append_assoc
-
 index_bytes : (i : ℕ) (rest : List ℕ) → index_text i ++ rest ≡ 32 ∷ (decimal i ++ rest)
 index_bytes i rest = simp append_assoc
 
@@ -102,25 +96,6 @@ pair_of_point width height bytes p rest entry =
       },
     )
 
--- so is a label
-pub label_of_pair : (bytes : List ℕ) (l : Label) (rest : List ℕ) → IsPair 58 (2 ^ 32 - 1) (2 ^ 64 - 1) bytes l.count l.cost rest
-    → IsEntry label_text IsShortLabel bytes l rest
-label_of_pair bytes l rest pair =
-    let count = pair.first_few in
-    let cost = pair.second_few in
-    record { is = pair.is ∙ sym (label_bytes l rest); inside = record { count = omega arith; cost = omega arith }; ends = pair.ends }
-
-pub pair_of_label : (bytes : List ℕ) (l : Label) (rest : List ℕ) → IsEntry label_text IsShortLabel bytes l rest
-    → IsPair 58 (2 ^ 32 - 1) (2 ^ 64 - 1) bytes l.count l.cost rest
-pair_of_label bytes l rest entry =
-    let inside = entry.inside in
-    record {
-      is = entry.is ∙ label_bytes l rest;
-      first_few = omega (arith, inside.count);
-      second_few = omega (arith, inside.cost);
-      ends = entry.ends;
-    }
-
 -- an index is a number
 pub index_of_number : (bytes after : List ℕ) (i : ℕ) (rest : List ℕ) → bytes ≡ 32 ∷ after → IsNumeral (2 ^ 32 - 1) after i rest
     → IsEntry index_text IsIndex bytes i rest
@@ -141,8 +116,10 @@ number_of_index bytes after i rest is entry =
 comma_is_no_digit : ¬ IsDigit 44
 comma_is_no_digit d = omega arith
 
-colon_is_no_digit : ¬ IsDigit 58
-colon_is_no_digit d = omega arith
+-- neither a point nor a line feed begins with a digit
+pub points_end : (ps : List Point) (rest : List ℕ) → EndsDigits (flat_map point_text ps ++ 10 ∷ rest)
+points_end [] rest digit = omega arith
+points_end (p ∷ ps) rest digit = omega arith
 
 -- the entries of each kind of line
 pub points_are_entries : (width height : ℕ) → width < 2 ^ 64 → height < 2 ^ 64 → AreEntries Point point_text (IsInPage width height)
@@ -159,16 +136,6 @@ points_are_entries width height w h = record {
   where
     decimal_tail : Point → List ℕ
     decimal_tail p = (signed_decimal p.x ++ codes ",") ++ signed_decimal p.y
-
-pub labels_are_entries : AreEntries Label label_text IsShortLabel
-labels_are_entries = record {
-  spaced = λ l. ((decimal l.count ++ codes ":") ++ decimal l.cost, refl);
-  one = λ l m r s l_in m_in r_ends s_ends same.
-      let first = pair_of_label (label_text l ++ r) l r (record { is = refl; inside = l_in; ends = r_ends }) in
-      let second = pair_of_label (label_text l ++ r) m s (record { is = same; inside = m_in; ends = s_ends }) in
-      let both = one_pair 58 (2 ^ 32 - 1) (2 ^ 64 - 1) colon_is_no_digit (omega arith) (omega arith) (label_text l ++ r) l.count l.cost m.count m.cost r s first second in
-      (label_same l m both.0 both.1, both.2);
-}
 
 pub indices_are_entries : AreEntries ℕ index_text IsIndex
 indices_are_entries = record {

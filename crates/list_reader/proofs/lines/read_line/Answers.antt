@@ -1,7 +1,8 @@
 use Rattle.std.proofs.Common.{◌≡◌, ◌+◌, ◌≤◌, length, drop, arith}
 use Rattle.std.proofs.lemmas.Bool.Decides.{nat_tests}
-use Rattle.outline_check.proofs.LineReading.{front, not_byte, is_byte, reading_more, reading_ends, reading_stops, reading_breaks, reading_empty}
-use Rattle.outline_check.proofs.lines.read_line.Goals as goal
+use Rattle.list_reader.proofs.Bytes.{front, not_byte, is_byte}
+use Rattle.list_reader.proofs.LineReading.{reading_more, reading_ends, reading_stops, reading_breaks, reading_empty}
+use Rattle.list_reader.proofs.lines.read_line.Goals as goal
 
 pub loop-entry-preserved : goal.loop-entry-preserved
 loop-entry-preserved g c =

@@ -1,0 +1,14 @@
+-- What a list of points, or of their indices, may have in it.
+use Rattle.std.specs.Prelude.{ℕ, ◌<◌, ◌^◌, pos, ◌≤ℤ◌}
+use Rattle.pt_core.specs.declared.point.Point.{Point}
+
+-- the point is on a page of these sides
+pub record IsInPage (width height : ℕ) (p : Point) : Type 0 where
+  pub left : pos 0 ≤ℤ p.x
+  pub right : p.x ≤ℤ pos width
+  pub bottom : pos 0 ≤ℤ p.y
+  pub top : p.y ≤ℤ pos height
+
+-- an index fits 32 bits
+abbrev pub IsIndex : ℕ → Type 0
+IsIndex i = i < 2 ^ 32

@@ -1,0 +1,105 @@
+//! The entries that a line may consist of.
+ghost use Rattle.std.specs.Prelude.{◌≡◌, ℕ, ◌<◌, ◌≤◌, ◌^◌, List, IfNone, IfSome, drop, length};
+
+use crate::byte::read_byte;
+use crate::number::read_number;
+use crate::pair::read_pair;
+use pt_core::Point;
+
+/// A value, and where it ends.
+#[derive(Drop)]
+pub struct At<T> {
+    pub value: T,
+    pub end: usize,
+}
+
+/// A kind of entries, of which a line consists.
+pub trait Entries {
+    ghost use Rattle.list_reader.specs.Inner.LineEntries.{IsEntry};
+
+    type Value: Drop;
+
+    /// The text of a value.
+    ghost text_of: { Self.Value → List ℕ };
+
+    /// Which values there are.
+    ghost IsIn: { Self → Self.Value → Type 0 };
+
+    /// What its own bounds keep to.
+    ghost IsBounded: { Self → Type 0 };
+
+    /// A space and a value.
+    fn read(&self, text: &[u8], at: usize) -> Option<At<Self::Value>>
+        requires at { at ≤ length text.now }
+        requires bounded { IsBounded self.now }
+        ensures some { IfSome result (λ e. IsEntry text_of (IsIn self.now)
+            (drop at text.now) e.value (drop e.end text.now)) }
+        ensures onwards { IfSome result (λ e. at < e.end) }
+        ensures within { IfSome result (λ e. e.end ≤ length text.now) }
+        ensures none { IfNone result ((x : Self.Value) (rest : List ℕ)
+            → IsEntry text_of (IsIn self.now) (drop at text.now) x rest → ⊥) };
+}
+
+/// The points of a page of these sides.
+#[derive(Clone, Copy, Debug)]
+pub struct PointsOf {
+    pub width: u32,
+    pub height: u32,
+}
+
+impl Entries for PointsOf {
+    ghost use Rattle.pt_base.specs.PointsText.{point_text};
+    ghost use Rattle.pt_core.specs.declared.limits.TheConstants.{LONGEST_SIDE};
+    ghost use Rattle.list_reader.specs.PagePoints.{IsInPage};
+
+    type Value = Point;
+
+    ghost text_of = { point_text };
+
+    ghost IsIn = { λ page. IsInPage page.width page.height };
+
+    ghost IsBounded = { λ page. (page.width ≤ LONGEST_SIDE) × (page.height ≤ LONGEST_SIDE) };
+
+    fn read(&self, text: &[u8], at: usize) -> Option<At<Point>> {
+        let pair = read_pair(
+            text,
+            at,
+            b',',
+            u64::from(self.width),
+            u64::from(self.height),
+        )?;
+        Some(At {
+            value: Point {
+                x: pair.first as i32,
+                y: pair.second as i32,
+            },
+            end: pair.end,
+        })
+    }
+}
+
+/// Indices of points.
+#[derive(Clone, Copy, Debug)]
+pub struct Indices;
+
+impl Entries for Indices {
+    ghost use Rattle.pt_base.specs.PolygonsText.{index_text};
+    ghost use Rattle.list_reader.specs.PagePoints.{IsIndex};
+
+    type Value = u32;
+
+    ghost text_of = { index_text };
+
+    ghost IsIn = { λ _. IsIndex };
+
+    ghost IsBounded = { λ _. Unit {0} };
+
+    fn read(&self, text: &[u8], at: usize) -> Option<At<u32>> {
+        let spaced = read_byte(text, at, b' ')?;
+        let number = read_number(text, spaced, u64::from(u32::MAX))?;
+        Some(At {
+            value: number.value as u32,
+            end: number.end,
+        })
+    }
+}

@@ -1,0 +1,45 @@
+//! Two numbers behind a space.
+ghost use Rattle.std.specs.Prelude.{◌≡◌, ℕ, ◌<◌, ◌≤◌, List, IfNone, IfSome, drop, length};
+ghost use Rattle.pt_base.specs.Whole.{IsDigit};
+ghost use Rattle.list_reader.specs.Inner.LineEntries.{IsPair};
+
+use crate::byte::read_byte;
+use crate::number::read_number;
+
+/// Two numbers, and where they end.
+#[derive(Clone, Copy, Debug)]
+pub struct Pair {
+    pub first: u64,
+    pub second: u64,
+    pub end: usize,
+}
+
+/// A space, a number, this byte and another number.
+pub fn read_pair(
+    text: &[u8],
+    at: usize,
+    separator: u8,
+    most_first: u64,
+    most_second: u64,
+) -> Option<Pair>
+    requires at { at ≤ length text.now }
+    requires separator { ¬ IsDigit separator }
+    ensures some { IfSome result (λ p. IsPair separator most_first most_second (drop at text.now)
+        p.first p.second (drop p.end text.now)) }
+    ensures onwards { IfSome result (λ p. at < p.end) }
+    ensures within { IfSome result (λ p. p.end ≤ length text.now) }
+    ensures first { IfSome result (λ p. p.first ≤ most_first) }
+    ensures second { IfSome result (λ p. p.second ≤ most_second) }
+    ensures none { IfNone result ((first second : ℕ) (rest : List ℕ)
+        → IsPair separator most_first most_second (drop at text.now) first second rest → ⊥) }
+{
+    let spaced = read_byte(text, at, b' ')?;
+    let first = read_number(text, spaced, most_first)?;
+    let behind = read_byte(text, first.end, separator)?;
+    let second = read_number(text, behind, most_second)?;
+    Some(Pair {
+        first: first.value,
+        second: second.value,
+        end: second.end,
+    })
+}

@@ -1,0 +1,39 @@
+//! The sign and the area of a path.
+ghost use Rattle.std.specs.Prelude.{◌≡◌, ℕ, ◌+◌, ◌<◌, ◌≤◌, List, ◌++◌, IfNone, IfSome, drop, length};
+ghost use Rattle.pt_base.specs.PointsText.{sign_text};
+ghost use Rattle.pt_core.specs.declared.path.Sign.{Sign};
+ghost use Rattle.list_reader.specs.Inner.SignedAreas.{IsSignedArea};
+
+use crate::byte::{has_byte, read_byte};
+use crate::number::read_number;
+
+/// Where a sign ends, if one stands at this place.
+fn read_sign(text: &[u8], at: usize) -> Option<usize>
+    ensures some { IfSome result (λ end. (sign : Sign) × (drop at text.now ≡ sign_text sign ++ drop end text.now)) }
+    ensures end { IfSome result (λ end. end ≡ at + 1) }
+    ensures none { IfNone result ((sign : Sign) (rest : List ℕ)
+        → drop at text.now ≡ sign_text sign ++ rest → ⊥) }
+{
+    if has_byte(text, at, b'+') {
+        return Some(at + 1);
+    }
+    if has_byte(text, at, b'-') {
+        return Some(at + 1);
+    }
+    None
+}
+
+/// Where a sign and an area end, a space between, if they stand at this place.
+pub fn read_signed_area(text: &[u8], at: usize) -> Option<usize>
+    ensures some { IfSome result (λ end. (sign : Sign) × (area : ℕ)
+        × IsSignedArea (drop at text.now) sign area (drop end text.now)) }
+    ensures onwards { IfSome result (λ end. at < end) }
+    ensures within { IfSome result (λ end. end ≤ length text.now) }
+    ensures none { IfNone result ((sign : Sign) (area : ℕ) (rest : List ℕ)
+        → IsSignedArea (drop at text.now) sign area rest → ⊥) }
+{
+    let signed = read_sign(text, at)?;
+    let spaced = read_byte(text, signed, b' ')?;
+    let area = read_number(text, spaced, u64::MAX)?;
+    Some(area.end)
+}
