@@ -10,8 +10,8 @@ use Rattle.small_program.specs.declared.ending.Ending.{Ending}
 use Rattle.small_program.specs.declared.ending.Ending.TheVariants as ending
 use Rattle.small_program.proofs.Taking.{one_input}
 use Rattle.point_fill.specs.Filled.{IsFilled}
-use Rattle.point_fill.specs.FillReply.{IsFillReply, filler}
-use Rattle.point_fill.proofs.Replying.{one_fill_text}
+use Rattle.fill_run.specs.FillReply.{IsFillReply, filler}
+use Rattle.fill_run.specs.Inner.OneFillReply.{one_fill_text}
 use Rattle.fill_run.specs.Round.{GivesBack}
 
 -- the reply to a text that fills the page

@@ -1,1 +1,3 @@
+pub mod FillReply
 pub mod Round
+pub mod Inner

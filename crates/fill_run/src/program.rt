@@ -10,7 +10,7 @@ ghost use Rattle.small_program.specs.Ending.{exit_code};
 ghost use Rattle.small_program.specs.Input.{TellsInput};
 ghost use Rattle.small_program.specs.ProgramRun.{IsProgramRun};
 ghost use Rattle.small_program.specs.declared.ending.Ending.{Ending};
-ghost use Rattle.point_fill.specs.FillReply.{IsFillReply, filler};
+ghost use Rattle.fill_run.specs.FillReply.{IsFillReply, filler};
 ghost use Rattle.fill_run.specs.Round.{GivesBack};
 
 use bit_image::pbm;
@@ -24,8 +24,8 @@ use std::alloc::Global;
 struct FillTask;
 
 impl Replies for FillTask {
-    ghost use Rattle.point_fill.specs.FillReply.{IsFillReply};
-    ghost use Rattle.point_fill.proofs.Replying.{one_fill_ending, one_fill_text};
+    ghost use Rattle.fill_run.specs.FillReply.{IsFillReply};
+    ghost use Rattle.fill_run.specs.Inner.OneFillReply.{one_fill_ending, one_fill_text};
 
     ghost makes = { λ _ text end reply. IsFillReply text end reply };
 

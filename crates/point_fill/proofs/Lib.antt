@@ -5,5 +5,4 @@ pub mod Marking
 pub mod Sweeping
 pub mod Pathing
 pub mod Whole
-pub mod Replying
 mod Examples

@@ -1,4 +1,4 @@
 pub mod PointsFile
 pub mod Filled
-pub mod FillReply
+pub mod FillText
 pub mod Inner

@@ -5,7 +5,7 @@ use Rattle.bit_image.specs.PbmText.{pbm_text}
 use Rattle.small_program.specs.declared.ending.Ending.{Ending}
 use Rattle.point_fill.specs.Filled.{IsFilled}
 use Rattle.point_fill.specs.PointsFile.{IsSomePointsFile}
-use Rattle.point_fill.specs.FillReply.{IsFillReply}
+use Rattle.fill_run.specs.FillReply.{IsFillReply}
 use Rattle.point_fill.proofs.Traced.{one_filled}
 
 -- a text that fills a page tells paths on it

@@ -5,14 +5,9 @@ use Rattle.bit_image.specs.PbmText.{pbm_text}
 use Rattle.small_program.specs.declared.ending.Ending.{Ending}
 use Rattle.small_program.specs.declared.ending.Ending.TheVariants as ending
 use Rattle.point_fill.specs.Filled.{IsFilled}
+use Rattle.point_fill.specs.FillText.{fill_text}
 use Rattle.point_fill.specs.PointsFile.{IsSomePointsFile}
-use Rattle.point_fill.specs.declared.fault.FillFault.{FillFault}
 use Rattle.point_fill.specs.declared.fault.FillFault.TheVariants as fault
-
--- why a text can't be filled, in words
-abbrev pub fill_text : FillFault → List ℕ
-fill_text fault.BadPoints = codes "bad points"
-fill_text fault.NoMemory = codes "out of memory"
 
 -- the reply to a text: the page that it fills, as raw PBM; or, where it tells no paths on a page, that it is refused
 abbrev pub IsFillReply : List ℕ → Ending → List ℕ → Type 0
