@@ -18,4 +18,5 @@ pub mod Chords
 pub mod Written
 pub mod Means
 pub mod AlmostOnPage
+pub mod Certifying
 mod Examples

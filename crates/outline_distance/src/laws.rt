@@ -1,5 +1,5 @@
 //! What follows from the definitions alone.
-ghost use Rattle.std.specs.Prelude.{◌≡◌, ◌⊎◌, true, false, ℕ, ◌+◌, ◌-◌, ◌*◌, ◌<◌, ◌≤◌, ◌+ℤ◌, All, List, length, slice_index, slice_index_or, slice_range};
+ghost use Rattle.std.specs.Prelude.{◌≡◌, ◌⊎◌, true, false, ℕ, ◌+◌, ◌-◌, ◌*◌, ◌<◌, ◌≤◌, ◌+ℤ◌, All, List, length, slice_index, slice_index_or, slice_range, ◌^◌, codes};
 ghost use Rattle.pt_core.specs.ClosedWalk.{IsClosedWalk, point_at, origin};
 ghost use Rattle.pt_core.specs.declared.point.Point.{Point};
 ghost use Rattle.pt_core.specs.declared.piece.Piece.TheVariants.{Corner, Curve};
@@ -16,13 +16,25 @@ ghost use Rattle.curve_join.specs.Cubic.{touching_of};
 ghost use Rattle.curve_join.specs.Join.{MayJoin, cubic_at};
 ghost use Rattle.curve_join.specs.Outline.{Outline, is_curve, piece_at, vertex};
 ghost use Rattle.curve_join.specs.Vector.{way_of};
-ghost use Rattle.page_trace.specs.Trace.{IsOutlineOf, IsTrace};
+ghost use Rattle.page_trace.specs.Trace.{IsOutlineOf, IsTrace, ArePaths};
 ghost use Rattle.dxf_geojson.specs.Chords.{chord_points, curve_point};
 ghost use Rattle.outline_distance.specs.Curves.{BendsBy, curve_place};
 ghost use Rattle.outline_distance.specs.Pages.{IsAlmostOnPage, OfPoints};
 ghost use Rattle.outline_distance.specs.Polygons.{IsAnyPolygon};
 ghost use Rattle.outline_distance.specs.Written.{as_written};
 ghost use Rattle.outline_distance.specs.Distance.{DividesBy, IsCloseTo, LinePassesBy, PassesBy, divided, eightfold_middle, multiple, point_place};
+ghost use Rattle.pt_core.specs.declared.path.Path.{Path};
+ghost use Rattle.pt_core.specs.declared.settings.Backend.{Backend};
+ghost use Rattle.outline_check.specs.Verdicts.{IsVerdict};
+ghost use Rattle.outline_check.specs.declared.verdict.Verdict.TheVariants.{Right};
+ghost use Rattle.run_output.specs.Told.{Sinks, Source};
+ghost use Rattle.small_program.specs.Input.{TellsInput};
+ghost use Rattle.small_program.specs.ProgramRun.{IsProgramRun};
+ghost use Rattle.small_program.specs.declared.ending.Ending.{Ending};
+ghost use Rattle.check_run.specs.Rechecked.{FindsRight};
+ghost use Rattle.check_run.specs.Verdict.{IsCheckReply};
+ghost use Rattle.page_trace.specs.Document.{IsDocument};
+ghost use Rattle.point_fill.specs.Filled.{IsFilled};
 
 /// Each vertex is at most half a pixel from its point of the path.
 pub fn vertices_are_close()
@@ -219,4 +231,26 @@ pub fn pieces_keep_to_their_points()
     ensures chords { (most width height : ℕ) (pieces : List Piece)
         → All (OfPoints (IsAlmostOnPage most width height)) pieces
         → All (IsAlmostOnPage most width height) (chord_points pieces) }
+{}
+
+/// The points document of a page, under any turn policy and with no speckle left out, fills the page.
+pub fn points_documents_fill_their_pages()
+    ensures { (page : Page) (settings : Settings) (text : List ℕ) → IsPage page
+        → settings.backend ≡ Backend.Points → settings.turd ≡ 0
+        → IsDocument page settings text → IsFilled text page }
+{}
+
+/// The certificates of a page are right, as many as the page has paths that are no speckles. And a run of `outline_check`
+/// without words whose input they are finds them right.
+pub fn certificates_of_pages_are_right()
+    ensures right { (page : Page) (settings : Settings) (text : List ℕ) → IsPage page
+        → settings.backend ≡ Backend.Proofs → settings.cyclic ≡ false → IsDocument page settings text
+        → (paths : List Path) × ArePaths page settings paths × IsVerdict text (Right (length paths)) }
+    ensures found { (page : Page) (settings : Settings) (text : List ℕ) → IsPage page
+        → settings.backend ≡ Backend.Proofs → settings.cyclic ≡ false → IsDocument page settings text
+        → (paths : List Path) × ArePaths page settings paths
+        × ((ending : Ending) (source source_now : Source) (old now : Sinks)
+        → IsProgramRun IsCheckReply (codes "outline_check") 0 ending source source_now old now
+        → TellsInput source.files text → length text ≤ 2 ^ 30
+        → FindsRight (length paths) ending source source_now old now) }
 {}

@@ -8,7 +8,7 @@ use Rattle.path_decompose.specs.Decomposition.{kept}
 use Rattle.page_trace.specs.Document.{IsDocumentUnder}
 use Rattle.point_fill.specs.Filled.{IsFilled}
 use Rattle.point_fill.proofs.Traced.{traced}
-use Rattle.round_trip.proofs.laws.points_documents_fill_their_pages.Goals as goal
+use Rattle.outline_distance.proofs.laws.points_documents_fill_their_pages.Goals as goal
 
 -- the document shows all paths of the page
 fills : (page : Page) (settings : Settings) (text : List ℕ) → IsPage page → settings.turd ≡ 0 → IsDocumentUnder backends.Points page settings text → IsFilled text page

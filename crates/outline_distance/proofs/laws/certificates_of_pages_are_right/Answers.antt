@@ -1,7 +1,7 @@
 use Rattle.std.proofs.Common.{codes, refl}
 use Rattle.check_run.proofs.Rechecking.{found_right}
-use Rattle.round_trip.proofs.Certifying.{right_page}
-use Rattle.round_trip.proofs.laws.certificates_of_pages_are_right.Goals as goal
+use Rattle.outline_distance.proofs.Certifying.{right_page}
+use Rattle.outline_distance.proofs.laws.certificates_of_pages_are_right.Goals as goal
 
 pub returns : goal.returns
 returns c = record {
