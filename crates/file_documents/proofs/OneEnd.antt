@@ -7,6 +7,7 @@ use Rattle.pt_core.specs.Documents.{Documents, with_bytes}
 use Rattle.pt_core.specs.Files.{Contents}
 use Rattle.run_output.specs.Made.{Past, no_past}
 use Rattle.run_output.specs.Messages.{not_opened}
+use Rattle.run_output.specs.Parts.{Part}
 use Rattle.run_output.specs.Told.{Sinks, Source, Told}
 use Rattle.run_output.specs.declared.status.Status.{Status}
 use Rattle.run_output.specs.declared.status.Status.TheVariants as status
@@ -51,7 +52,7 @@ pub record IsEndOf (items : List Item) (s : Status) (old now : Sinks) : Type 0 w
   pub ended : s ≡ ending_of items
   pub done : AreCarriedOut (done_of items) (said_last items) old now
 
--- items after which the run goes on are done, and those behind them say how it ends
+-- items after which the run goes on are done
 done_behind : (before after : List Item) → GoesOn before → done_of (before ++ after) ≡ before ++ done_of after
 done_behind [] after goes = refl
 done_behind (Write part ∷ before) after goes = ap (λ (items : List Item). Write part ∷ items) (done_behind before after goes)
@@ -59,19 +60,20 @@ done_behind (Note message ∷ before) after goes = ap (λ (items : List Item). N
 done_behind (Refuse message ∷ before) after goes = absurd goes
 done_behind (Missing name ∷ before) after goes = absurd goes
 
+-- what is worked out of items, and passes over those after which the run goes on, is that of the items behind them
+passed_over : {A : Type 0} (f : List Item → A) → ((part : Part) (items : List Item) → f (Write part ∷ items) ≡ f items)
+    → ((message : List ℕ) (items : List Item) → f (Note message ∷ items) ≡ f items) → (before after : List Item) → GoesOn before → f (before ++ after) ≡ f after
+passed_over f over over' [] after goes = refl
+passed_over f over over' (Write part ∷ before) after goes = over part (before ++ after) ∙ passed_over f over over' before after goes
+passed_over f over over' (Note message ∷ before) after goes = over' message (before ++ after) ∙ passed_over f over over' before after goes
+passed_over f over over' (Refuse message ∷ before) after goes = absurd goes
+passed_over f over over' (Missing name ∷ before) after goes = absurd goes
+
 ending_behind : (before after : List Item) → GoesOn before → ending_of (before ++ after) ≡ ending_of after
-ending_behind [] after goes = refl
-ending_behind (Write part ∷ before) after goes = ending_behind before after goes
-ending_behind (Note message ∷ before) after goes = ending_behind before after goes
-ending_behind (Refuse message ∷ before) after goes = absurd goes
-ending_behind (Missing name ∷ before) after goes = absurd goes
+ending_behind = passed_over ending_of (λ part items. refl) (λ message items. refl)
 
 last_behind : (before after : List Item) → GoesOn before → said_last (before ++ after) ≡ said_last after
-last_behind [] after goes = refl
-last_behind (Write part ∷ before) after goes = last_behind before after goes
-last_behind (Note message ∷ before) after goes = last_behind before after goes
-last_behind (Refuse message ∷ before) after goes = absurd goes
-last_behind (Missing name ∷ before) after goes = absurd goes
+last_behind = passed_over said_last (λ part items. refl) (λ message items. refl)
 
 -- where items are carried out, and with what is behind them the run ends
 end_behind : (before after : List Item) (old now : Sinks) → done_of after ≡ [] → AreCarriedOut before (said_last after) old now → IsEndOf (before ++ after) (ending_of after) old now
