@@ -2,7 +2,10 @@
 use Rattle.std.proofs.Common.{◌≡◌, ℕ, zero, suc, ◌≤◌, true, List, [], ◌∷◌, ◌++◌, map, refl, ap, sym, ◌∙◌, subst, arith, Option, append_assoc, append-nil, length-append, min, get_or}
 use Rattle.std.proofs.lemmas.List.{get_or_append_left}
 use Rattle.pt_core.specs.Files.{Files}
-use Rattle.bitmap_input.specs.GrayReader.{GivesRow, GraySource}
+use Rattle.bitmap_input.specs.GrayReader.{FailsToRead, GivesRow, GraySource, IfKind, Refuses}
+use Rattle.bitmap_input.specs.Reading.{cause_of_fault}
+use Rattle.bitmap_input.specs.declared.fault.InFault.{InFault}
+use Rattle.bitmap_input.specs.declared.fault.InFault.TheVariants as fault
 use Rattle.bitmap_input.specs.GrayRows.{lowered}
 use Rattle.bitmap_input.proofs.GrayHeading.{gray_row_stays}
 use Rattle.bitmap_input.proofs.Telling.{move_on, stand}
@@ -10,7 +13,7 @@ use Rattle.mkbitmap.specs.Box.{Gray}
 use Rattle.mkbitmap.specs.Follows.{IsRow}
 use Rattle.mk_run.specs.PageHeader.{PageHeader}
 use Rattle.mk_run.specs.Rows.{LeavesRows, cut_row}
-use Rattle.mk_run.specs.Inner.FilterWork.{GivesRows, header_of}
+use Rattle.mk_run.specs.Inner.FilterWork.{GivesRows, StopsRow, header_of}
 use Rattle.mk_run.specs.FilterRun.{HasFirstRows}
 use Rattle.mk_run.proofs.Standing.{cut_stays, leaves_on, leaves_weaken}
 
@@ -93,3 +96,19 @@ lowered_row page y row most is = record {
       ∙ (let same : min (get_or row x 0) page.maxval ≡ min (min (get_or row x 0) 65535) page.maxval = omega (arith, most) in same)
       ∙ ap (λ (v : ℕ). min v page.maxval) (sym (get_or-lowered row x));
 }
+
+-- Why the next row isn't there.
+pub stops_row : (why : InFault) (old : GraySource) (before : Option Files) (new : GraySource) (now : Option Files)
+    → IfKind (cause_of_fault why) (λ kind. Refuses (cut_row (header_of old)) kind old before new now) → (why ≡ fault.ReadFault → FailsToRead (cut_row (header_of old)) old before new now)
+    → (why ≡ fault.NoMemory → ⊥) → StopsRow (cause_of_fault why) old before new now
+stops_row fault.UnknownFormat old before new now refuses fails free = refuses
+stops_row fault.BadHeader old before new now refuses fails free = refuses
+stops_row fault.ZeroSide old before new now refuses fails free = refuses
+stops_row fault.TooLarge old before new now refuses fails free = refuses
+stops_row fault.Truncated old before new now refuses fails free = refuses
+stops_row fault.BadRaster old before new now refuses fails free = refuses
+stops_row fault.BmpKind old before new now refuses fails free = refuses
+stops_row fault.BadOffset old before new now refuses fails free = refuses
+stops_row fault.TooLong old before new now refuses fails free = refuses
+stops_row fault.ReadFault old before new now refuses fails free = fails refl
+stops_row fault.NoMemory old before new now refuses fails free = absurd (free refl)

@@ -33,8 +33,8 @@ use Rattle.mk_run.specs.FilterRun.{IsPageRun, LeavesOpen, filter_name, page_says
 use Rattle.mk_run.specs.Inner.FilterRun.{cause_ending}
 use Rattle.mk_run.specs.Result.{result_text}
 use Rattle.mk_run.specs.Rows.{fits_result, head_ending, page_ending}
-use Rattle.mk_run.specs.Inner.FilterWork.{StopsBehind, header_of}
-use Rattle.mk_run.proofs.Running.{not_unwritten, run_refused, run_unread, too_large}
+use Rattle.mk_run.specs.Inner.FilterWork.{StaysOpened, StopsBehind, header_of}
+use Rattle.mk_run.proofs.Running.{RunsPage, not_unwritten, run_refused, run_unread, too_large}
 use Rattle.mk_run.proofs.Standing.{cut_stays, near_by, near_of}
 use Rattle.mk_run.proofs.Taking.{all_of_taken, taken_on}
 
@@ -95,20 +95,19 @@ module _ (setup : Setup) (source now : Source) (old new : Sinks) where
   }
 
   -- the header is refused, or a read failed within it
-  pub run_at_head : (why : Cause) (reader : GraySource) (at : Option Files) → now.openings ≡ next_count source.openings → now.is_opened ≡ true → HasTaken source.files at []
-      → CountsBy why source.faults now.faults → StopsHead why reader at now.files → (reader.ended ≡ true → AtEnd now.files)
-      → OnlySays (page_says (cause_text why)) old new → IsPageRun setup (cause_ending why) source now old new
-  run_at_head (Says (Refused kind)) reader at opened still none counts stops at_end says =
+  pub run_at_head : (why : Cause) (reader : GraySource) (opened : Source) → opened.openings ≡ next_count source.openings → HasTaken source.files opened.files []
+      → StaysOpened reader opened now → CountsBy why source.faults now.faults → StopsHead why reader opened.files now.files → OnlySays (page_says (cause_text why)) old new → IsPageRun setup (cause_ending why) source now old new
+  run_at_head (Says (Refused kind)) reader opened one none stays counts stops says =
       let cut = stops.cut in
-      let taken = taken_on source.files at now.files [] cut.more false reader.ended none cut.moves in
-      let (more, has, empty) = all_of_taken source.files now.files cut.more reader.ended taken at_end in
+      let taken = taken_on source.files opened.files now.files [] cut.more false reader.ended none cut.moves in
+      let (more, has, empty) = all_of_taken source.files now.files cut.more reader.ended taken stays.reading.at_end in
       let bytes = cut.more ++ more in
       let ends : page_header bytes ≡ Stops stops.by_end (Refused kind) =
       head_stops bytes stops.by_end kind (cut_stays gray_header gray_header_stays cut.more more _ reader.ended cut.is cut.settled empty) in
       record {
         outcome = (
           bytes,
-          record { opened = opened; steady = counts; has = has },
+          record { opened = stays.openings ∙ one; steady = counts; has = has },
           inl (
             record { why = kind_text kind; cause = inl (stops.by_end, kind, ends, refl); says = says },
             record { taken = cut.more; has = taken; so = near_by gray_header page_header cut.more head_ends (near_of gray_header [] cut.more (omega arith) cut.needed) },
@@ -118,11 +117,11 @@ module _ (setup : Setup) (source now : Source) (old new : Sinks) where
         complete = λ others tells still_in still_out. inl (sym (ap (page_ending setup) (one_input source.files bytes others has tells) ∙ ap (head_ending setup) ends));
         unwritten = not_unwritten ending.Refused old new (same_outs old new says.same);
       }
-  run_at_head (Says End) reader at opened still none counts stops at_end says = absurd stops
-  run_at_head (Says Trailing) reader at opened still none counts stops at_end says = absurd stops
-  run_at_head Memory reader at opened still none counts stops at_end says = absurd stops
-  run_at_head Device reader at opened still none counts stops at_end says = record {
-    outcome = inr (stops.more, record { opened = opened; still_opened = still; rose = counts.0; has = taken_on source.files at now.files [] stops.more false reader.ended none stops.moves }, inl (head_ends stops.more ∙ stops.by_end, says));
+  run_at_head (Says End) reader opened one none stays counts stops says = absurd stops
+  run_at_head (Says Trailing) reader opened one none stays counts stops says = absurd stops
+  run_at_head Memory reader opened one none stays counts stops says = absurd stops
+  run_at_head Device reader opened one none stays counts stops says = record {
+    outcome = inr (stops.more, record { opened = stays.openings ∙ one; still_opened = stays.reading.opened; rose = counts.0; has = taken_on source.files opened.files now.files [] stops.more false reader.ended none stops.moves }, inl (head_ends stops.more ∙ stops.by_end, says));
     missing = λ lacks. refl;
     complete = λ others tells still_in still_out. absurd (still_in counts.0);
     unwritten = not_unwritten ending.Unread old new (same_outs old new says.same);
@@ -156,29 +155,27 @@ module _ (source mid : Source) (reader : GraySource) (stands : StandsBehindHead 
         unwritten = not_unwritten ending.Refused old new (same_outs old new says.same);
       }
 
-  -- a row isn't there
-  pub run_at_row : (setup : Setup) (now : Source) (old new : Sinks) (why : Cause) (after : GraySource) (last : ℕ) → fits_result setup reader.head.width reader.head.height ≡ true
-      → now.openings ≡ mid.openings → now.is_opened ≡ true → (stop : StopsBehind why last reader mid.files after now.files) → (after.ended ≡ true → AtEnd now.files)
-      → CountsBy why mid.faults now.faults → LeavesOpen (result_text setup (header_of reader) stop.rows) (page_says (cause_text why)) old new
-      → IsPageRun setup (cause_ending why) source now old new
-  run_at_row setup now old new (Says (Refused kind)) after last fits openings still stop ends counts leaves =
-      run_refused source mid reader stands setup now old new fits openings after kind last stop ends counts leaves
-  run_at_row setup now old new (Says End) after last fits openings still stop ends counts leaves = absurd stop.stops
-  run_at_row setup now old new (Says Trailing) after last fits openings still stop ends counts leaves = absurd stop.stops
-  run_at_row setup now old new Memory after last fits openings still stop ends counts leaves = absurd stop.stops
-  run_at_row setup now old new Device after last fits openings still stop ends counts leaves =
-      run_unread source mid reader stands setup now old new fits openings after last still stop (subst (λ (n : ℕ). Rose n now.faults) stands.steady counts.0) leaves
+-- a row isn't there
+pub run_at_row : (setup : Setup) (source now : Source) (p : RunsPage setup source now) (old new : Sinks) (why : Cause) (last : ℕ)
+    → (stop : StopsBehind why last p.reader p.mid.files p.after now.files) → CountsBy why p.mid.faults now.faults
+    → LeavesOpen (result_text setup (header_of p.reader) stop.rows) (page_says (cause_text why)) old new → IsPageRun setup (cause_ending why) source now old new
+run_at_row setup source now p old new (Says (Refused kind)) last stop counts leaves = run_refused setup source now p old new kind last stop counts leaves
+run_at_row setup source now p old new (Says End) last stop counts leaves = absurd stop.stops
+run_at_row setup source now p old new (Says Trailing) last stop counts leaves = absurd stop.stops
+run_at_row setup source now p old new Memory last stop counts leaves = absurd stop.stops
+run_at_row setup source now p old new Device last stop counts leaves =
+    run_unread setup source now p old new last stop (subst (λ (n : ℕ). Rose n now.faults) p.stands.steady counts.0) leaves
 
 -- the header was read
 pub header_stands : (source opened mid : Source) (reader : GraySource) (head : GrayHead) → opened.openings ≡ next_count source.openings → opened.faults ≡ source.faults
-    → HasTaken source.files opened.files [] → mid.openings ≡ opened.openings → mid.faults ≡ opened.faults
+    → HasTaken source.files opened.files [] → StaysOpened reader opened mid → mid.faults ≡ opened.faults
     → GivesHead gray_at_start opened.files head reader mid.files → StandsBehindHead source reader mid
-header_stands source opened mid reader head openings steady none same_openings same_faults gives =
+header_stands source opened mid reader head openings steady none stays same_faults gives =
     let cut = gives.cut in
     let same : header_of reader ≡ record { plain = reader.plain; width = head.width; height = head.height; maxval = head.maxval } =
     ap (λ (h : GrayHead). record { plain = reader.plain; width = h.width; height = h.height; maxval = h.maxval }) gives.head_is in
     record {
-      opened = same_openings ∙ openings;
+      opened = stays.openings ∙ openings;
       steady = same_faults ∙ steady;
       taken = cut.more;
       has = taken_on source.files opened.files mid.files [] cut.more false reader.ended none cut.moves;

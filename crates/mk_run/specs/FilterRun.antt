@@ -2,7 +2,6 @@
 use Rattle.std.specs.Prelude.{◌≡◌, ℕ, ◌<◌, ◌≤◌, ◌⊎◌, Bool, true, false, List, ◌++◌, codes, length, [], get_or, ◌+◌, ◌*◌, take, Option}
 use Rattle.pt_core.specs.Counts.{Rose, next_count}
 use Rattle.pt_core.specs.Documents.{IsCutOff, with_open, Documents, with_bytes}
-use Rattle.pt_core.specs.Failures.{after_err}
 use Rattle.pt_core.specs.Files.{Lacks}
 use Rattle.bitmap_input.specs.Cut.{Kind, is_by_end}
 use Rattle.bitmap_input.specs.Cut.FileEnd.{Refused}
@@ -11,7 +10,7 @@ use Rattle.bitmap_input.specs.FaultText.{kind_text}
 use Rattle.mk_run.specs.PageHeader.{page_header, PageHeader}
 use Rattle.run_output.specs.Messages.{file_line, file_page_line, program_line}
 use Rattle.run_output.specs.Names.{dash}
-use Rattle.run_output.specs.Told.{IsMessage, Sinks, Source}
+use Rattle.run_output.specs.Told.{AllWent, BrokeOff, IsMessage, Sinks, Source}
 use Rattle.small_program.specs.Input.{HasTaken, TellsInput}
 use Rattle.small_program.specs.ProgramRun.{FailsInput, LeavesInput, OnlySays, PutsText, TakesInput, Writes}
 use Rattle.small_program.specs.declared.ending.Ending.{Ending}
@@ -42,8 +41,7 @@ page_says text = file_page_line filter_name dash 1 text
 pub record LeavesOpen (text message : List ℕ) (old new : Sinks) : Type 0 where
   pub documents : new.outs.documents ≡ with_open old.outs.documents dash text
   pub still_open : new.is_open ≡ true
-  pub steady : new.outs.faults ≡ old.outs.faults
-  pub went : new.outs.failures.count ≡ old.outs.failures.count
+  pub went : AllWent old.outs new.outs
   pub says : IsMessage message old.errs new.errs
 
 -- at the front of these bytes stands the header of a page whose result isn't too large, and this follows
@@ -179,8 +177,7 @@ pub record CutsResult (setup : Setup) (source source_now : Source) (old new : Si
   pub cut : IsCutOff old.outs.documents new.outs.documents dash (result_text setup header (rows_behind header rest))
   pub place : IsCutAt setup header read old.outs.documents new.outs.documents
   pub near : ReadsNearRows header taken read
-  pub rose : Rose old.outs.faults new.outs.faults
-  pub failed : new.outs.failures ≡ after_err old.outs.failures
+  pub broke : BrokeOff old.outs new.outs
   pub says : IsMessage (file_line filter_name dash (codes "write fault")) old.errs new.errs
 
 -- what was done of the page on standard input in a run that ends so

@@ -12,8 +12,6 @@ mod fault;
 pub mod laws;
 mod page;
 pub mod program;
-mod put;
-mod rows;
 mod say;
 mod work;
 

@@ -1,6 +1,5 @@
 //! Filtering the page on standard input.
-ghost use Rattle.std.specs.Prelude.{◌≡◌, ◌≤◌, false, true, length, IfErr, IfOk, OnOk};
-ghost use Rattle.bitmap_input.specs.Inner.Reading.{CountsBy};
+ghost use Rattle.std.specs.Prelude.{◌≡◌, ◌≤◌, false, true, IfErr, IfOk};
 ghost use Rattle.bitmap_input.specs.Reading.{cause_of_fault};
 ghost use Rattle.bitmap_input.specs.GrayReader.{GivesHead, gray_at_start};
 ghost use Rattle.run_output.specs.Told.{Source, sinks_of, source_of};
@@ -8,12 +7,11 @@ ghost use Rattle.filter_words.specs.Inner.FilterAsked.{CanFilter};
 ghost use Rattle.mk_run.specs.Inner.Head.{StandsBehindHead, StopsHead};
 ghost use Rattle.mk_run.specs.FilterRun.{IsPageRun};
 ghost use Rattle.mk_run.specs.Rows.{fits_result};
-ghost use Rattle.mk_run.specs.Inner.FilterWork.{IsGrayHead, MayRead};
+ghost use Rattle.mk_run.specs.Inner.FilterWork.{HasReadHead, MayRead, ReadsEnd, StaysOpened};
 ghost use Rattle.mkbitmap.specs.declared.limits.TheConstants.{GREATEST_TIMES};
 ghost use Rattle.pt_core.specs.declared.limits.TheConstants.{LONGEST_SIDE};
 
 use crate::fault::Break;
-use crate::put::put_page;
 use crate::say::{NAME, say_fault, say_not_written, say_out_of_memory};
 use crate::work::Work;
 use bitmap_input::{GrayHead, GrayReader, InFault};
@@ -55,19 +53,19 @@ pub(crate) fn filter_input<I: Inputs, O: Outputs, E: Sink>(
 }
 
 /// Reads the head of the page.
+///
+/// The reader's own call says more of it, and in more clauses, than a run needs.
 fn read_head<I: Inputs>(reader: &mut GrayReader, inputs: &mut I) -> Result<GrayHead, InFault>
     requires opened { I.is_opened inputs.old ≡ true }
     requires first { reader.old ≡ gray_at_start }
     ensures gives { IfOk result (λ head. GivesHead gray_at_start (I.files inputs.old) head
         reader.new (I.files inputs.new)) }
-    ensures head { IfOk result IsGrayHead }
-    ensures steady { OnOk result (I.faults inputs.new ≡ I.faults inputs.old) }
+    ensures read { IfOk result (λ head. HasReadHead head reader.new) }
     ensures stops { IfErr result (λ fault. StopsHead (cause_of_fault fault) reader.new
         (I.files inputs.old) (I.files inputs.new)) }
-    ensures counts { IfErr result (λ fault.
-        CountsBy (cause_of_fault fault) (I.faults inputs.old) (I.faults inputs.new)) }
-    ensures reading { MayRead I.Inputs reader.new inputs.new }
-    ensures same_openings { I.openings inputs.new ≡ I.openings inputs.old }
+    ensures reads { ReadsEnd result (I.faults inputs.old) (I.faults inputs.new) }
+    ensures stays { StaysOpened reader.new
+        (source_of I.Inputs inputs.old) (source_of I.Inputs inputs.new) }
 {
     let head = reader.head(inputs)?;
     Ok(head)
@@ -78,17 +76,14 @@ fn filter_page<I: Inputs, O: Outputs, E: Sink>(
     alloc: Global,
     setup: Setup,
     head: GrayHead,
-    mut reader: GrayReader,
+    reader: GrayReader,
     inputs: &mut I,
     outs: &mut O,
     errs: &mut E,
 ) -> Ending
     requires setup { CanFilter setup }
-    requires head { IsGrayHead head }
-    requires read { reader.head ≡ head }
-    requires none_given { reader.given ≡ 0 }
-    requires going_on { reader.failed ≡ false }
-    requires reading { MayRead I.Inputs reader inputs.old }
+    requires read { HasReadHead head reader }
+    requires reading { MayRead reader (source_of I.Inputs inputs.old) }
     requires closed { O.is_ready outs.old ≡ false }
     requires ready { E.is_ready errs.old ≡ true }
     ensures { (source : Source)
@@ -100,19 +95,10 @@ fn filter_page<I: Inputs, O: Outputs, E: Sink>(
         say_of_file_page(errs, NAME, "-", 1, "result too large");
         return Ending::Refused;
     }
-    let Ok(mut work) = Work::new(alloc, setup, head) else {
+    let Ok(mut work) = Work::new(alloc, setup, head, reader) else {
         return say_out_of_memory(errs);
     };
-    let put = put_page(
-        setup,
-        &work.head,
-        &mut reader,
-        &mut work.filter,
-        &mut work.row,
-        inputs,
-        outs,
-    );
-    match put {
+    match work.put_page(inputs, outs) {
         Ok(()) => Ending::Done,
         Err(Break::Input(fault)) => say_fault(errs, fault),
         Err(Break::Output) => say_not_written(errs),

@@ -4,7 +4,7 @@ ghost use Rattle.bitmap_input.specs.Inner.FaultText.{fault_text};
 ghost use Rattle.bitmap_input.specs.Reading.{cause_of_fault};
 ghost use Rattle.run_output.specs.Messages.{file_line, file_page_line, program_line};
 ghost use Rattle.run_output.specs.Names.{dash};
-ghost use Rattle.run_output.specs.Told.{IsMessage, told_of};
+ghost use Rattle.run_output.specs.Inner.Told.{IsMessageTo};
 ghost use Rattle.mk_run.specs.Inner.FilterRun.{cause_ending};
 ghost use Rattle.mk_run.specs.FilterRun.{filter_name};
 ghost use Rattle.small_program.specs.declared.ending.Ending.TheVariants as ending;
@@ -24,8 +24,8 @@ pub const BAD_WORDS: &str = "bad arguments, see mkbitmap -h";
 pub(crate) fn say_fault<E: Sink>(errs: &mut E, fault: InFault) -> Ending
     requires { E.is_ready errs.old ≡ true }
     ensures ending { result ≡ cause_ending (cause_of_fault fault) }
-    ensures says { IsMessage (file_page_line filter_name dash 1 (fault_text fault))
-        (told_of E.Sink errs.old) (told_of E.Sink errs.new) }
+    ensures says { IsMessageTo (file_page_line filter_name dash 1 (fault_text fault))
+        E.Sink errs.old errs.new }
 {
     say_of_file_page(errs, NAME, "-", 1, fault.text());
     match fault {
@@ -39,8 +39,8 @@ pub(crate) fn say_fault<E: Sink>(errs: &mut E, fault: InFault) -> Ending
 pub(crate) fn say_out_of_memory<E: Sink>(errs: &mut E) -> Ending
     requires { E.is_ready errs.old ≡ true }
     ensures ending { result ≡ ending.OutOfMemory }
-    ensures says { IsMessage (program_line filter_name (codes "out of memory"))
-        (told_of E.Sink errs.old) (told_of E.Sink errs.new) }
+    ensures says { IsMessageTo (program_line filter_name (codes "out of memory"))
+        E.Sink errs.old errs.new }
 {
     say_line(errs, NAME, "out of memory");
     Ending::OutOfMemory
@@ -50,8 +50,8 @@ pub(crate) fn say_out_of_memory<E: Sink>(errs: &mut E) -> Ending
 pub(crate) fn say_not_written<E: Sink>(errs: &mut E) -> Ending
     requires { E.is_ready errs.old ≡ true }
     ensures ending { result ≡ ending.Unwritten }
-    ensures says { IsMessage (file_line filter_name dash (codes "write fault"))
-        (told_of E.Sink errs.old) (told_of E.Sink errs.new) }
+    ensures says { IsMessageTo (file_line filter_name dash (codes "write fault"))
+        E.Sink errs.old errs.new }
 {
     say_of_file(errs, NAME, "-", "write fault");
     Ending::Unwritten

@@ -1,40 +1,46 @@
-//! All that a run needs memory for, made before its document is begun.
-ghost use Rattle.std.specs.Prelude.{◌≡◌, ◌*◌, [], false, length, true, IfOk};
-ghost use Rattle.bit_image.specs.PbmText.{pbm_head};
-ghost use Rattle.bitmap_input.specs.GrayReader.{GraySource};
+//! A page at work: its rows come, and those of the result go.
+ghost use Rattle.std.specs.Prelude.{◌≡◌, false, true, IfErr, IfOk, OnOk};
+ghost use Rattle.bitmap_input.specs.Reading.{cause_of_fault};
+ghost use Rattle.run_output.specs.Told.{source_of};
 ghost use Rattle.filter_words.specs.Inner.FilterAsked.{CanFilter};
 ghost use Rattle.mk_run.specs.Rows.{fits_result};
-ghost use Rattle.mk_run.specs.Inner.FilterWork.{IsAtWork, IsGrayHead};
+ghost use Rattle.mk_run.specs.Inner.FilterWork.{BeginsWork, CanBegin, CanPut, GetsReady, HasReadHead, ReadsEnd, StaysOpened, StopsBefore};
+ghost use Rattle.mk_run.specs.Inner.Put.{BreaksPage, BreaksRow, BreaksRows, LeavesSo, PutsAll, PutsPage, PutsRow, StepEnds, world_of};
 
+use crate::fault::Break;
 use bit_image::put_pbm_head;
-use bitmap_input::GrayHead;
+use bitmap_input::{GrayHead, GrayReader, InFault};
 use filter_words::Setup;
 use mkbitmap::Filter;
-use pt_core::NoMemory;
+use pt_base::write_whole;
+use pt_core::{Inputs, NoMemory, Outputs};
 use std::alloc::Global;
 
-/// All that a run needs memory for, but its reader.
+/// A page at work, with all memory that it needs.
+///
+/// The inputs and the outputs are lent to each step, and not held: so what became of them is seen at once.
 #[derive(Debug, Drop)]
 pub(crate) struct Work {
     /// What the document begins with.
-    pub(crate) head: Vec<u8>,
-    pub(crate) filter: Filter,
+    head: Vec<u8>,
+    reader: GrayReader,
+    filter: Filter,
     /// Room for a row of the page.
-    pub(crate) row: Vec<u16>,
+    row: Vec<u16>,
 }
 
 impl Work {
-    /// Memory for a page with this head.
-    pub(crate) fn new(alloc: Global, setup: Setup, head: GrayHead) -> Result<Work, NoMemory>
+    /// The page whose head this reader has read.
+    pub(crate) fn new(
+        alloc: Global,
+        setup: Setup,
+        head: GrayHead,
+        reader: GrayReader,
+    ) -> Result<Work, NoMemory>
         requires setup { CanFilter setup }
-        requires head { IsGrayHead head }
+        requires read { HasReadHead head reader }
         requires fits { fits_result setup head.width head.height ≡ true }
-        ensures head { IfOk result
-            (λ work. work.head.items ≡ pbm_head (setup.times * head.width) (setup.times * head.height)) }
-        ensures at_work { IfOk result (λ work. (reader : GraySource) → reader.head ≡ head
-            → reader.given ≡ 0 → reader.failed ≡ false → IsAtWork setup reader work.filter []) }
-        ensures none { IfOk result (λ work. work.filter.pairs ≡ 0) }
-        ensures width { IfOk result (λ work. length work.row.items ≡ head.width) }
+        ensures { IfOk result (BeginsWork setup reader) }
     {
         let mut text = Vec::new(alloc);
         put_pbm_head(
@@ -54,8 +60,134 @@ impl Work {
         let row = vec![in alloc; 0u16; head.width as usize]?;
         Ok(Work {
             head: text,
+            reader,
             filter,
             row,
         })
+    }
+
+    /// Writes the document: its head, and all rows of the result.
+    ///
+    /// After a fault nothing more is written: the document is cut off there. Where a row of the page isn't there, the
+    /// document stays open.
+    pub(crate) fn put_page<I: Inputs, O: Outputs>(
+        &mut self,
+        inputs: &mut I,
+        outs: &mut O,
+    ) -> Result<(), Break>
+        requires begins { CanBegin self.old (source_of I.Inputs inputs.old) }
+        requires closed { O.is_ready outs.old ≡ false }
+        ensures puts { OnOk result (PutsPage
+            self.old (world_of I.Inputs O.Sink inputs.old outs.old)
+            self.new (world_of I.Inputs O.Sink inputs.new outs.new)) }
+        ensures calls { StepEnds result
+            (world_of I.Inputs O.Sink inputs.old outs.old)
+            (world_of I.Inputs O.Sink inputs.new outs.new) }
+        ensures breaks { IfErr result (λ why. BreaksPage why
+            self.old (world_of I.Inputs O.Sink inputs.old outs.old)
+            self.new (world_of I.Inputs O.Sink inputs.new outs.new)) }
+        ensures open { LeavesSo result (O.is_ready outs.new) }
+        ensures stays { StaysOpened self.new.reader
+            (source_of I.Inputs inputs.old) (source_of I.Inputs inputs.new) }
+    {
+        match outs.begin("-") {
+            Ok(()) => {}
+            Err(_) => return Err(Break::Output),
+        }
+        match write_whole(outs, &self.head) {
+            Ok(()) => {}
+            Err(_) => return Err(Break::Output),
+        }
+        match self.put_rows(inputs, outs) {
+            Ok(()) => {}
+            Err(why) => return Err(why),
+        }
+        match outs.end() {
+            Ok(()) => Ok(()),
+            Err(_) => Err(Break::Output),
+        }
+    }
+
+    /// Writes all rows of the result.
+    fn put_rows<I: Inputs, O: Outputs>(&mut self, inputs: &mut I, outs: &mut O) -> Result<(), Break>
+        requires begins { CanBegin self.old (source_of I.Inputs inputs.old) }
+        requires ready { O.is_ready outs.old ≡ true }
+        ensures puts { OnOk result (PutsAll
+            self.old (world_of I.Inputs O.Sink inputs.old outs.old)
+            self.new (world_of I.Inputs O.Sink inputs.new outs.new)) }
+        ensures calls { StepEnds result
+            (world_of I.Inputs O.Sink inputs.old outs.old)
+            (world_of I.Inputs O.Sink inputs.new outs.new) }
+        ensures breaks { IfErr result (λ why. BreaksRows why
+            self.old (world_of I.Inputs O.Sink inputs.old outs.old)
+            self.new (world_of I.Inputs O.Sink inputs.new outs.new)) }
+        ensures stays { StaysOpened self.new.reader
+            (source_of I.Inputs inputs.old) (source_of I.Inputs inputs.new) }
+        ensures stays_ready { O.is_ready outs.new ≡ true }
+    {
+        for y in 0..self.filter.rows() {
+            match self.put_row(y, inputs, outs) {
+                Ok(()) => {}
+                Err(why) => return Err(why),
+            }
+        }
+        Ok(())
+    }
+
+    /// Reads rows of the page as far as a row of the result needs them, and writes that one.
+    fn put_row<I: Inputs, O: Outputs>(
+        &mut self,
+        y: u32,
+        inputs: &mut I,
+        outs: &mut O,
+    ) -> Result<(), Break>
+        requires can { CanPut y self.old (source_of I.Inputs inputs.old) }
+        requires ready { O.is_ready outs.old ≡ true }
+        ensures puts { OnOk result (PutsRow y
+            self.old (world_of I.Inputs O.Sink inputs.old outs.old)
+            self.new (world_of I.Inputs O.Sink inputs.new outs.new)) }
+        ensures calls { StepEnds result
+            (world_of I.Inputs O.Sink inputs.old outs.old)
+            (world_of I.Inputs O.Sink inputs.new outs.new) }
+        ensures breaks { IfErr result (λ why. BreaksRow why y
+            self.old (world_of I.Inputs O.Sink inputs.old outs.old)
+            self.new (world_of I.Inputs O.Sink inputs.new outs.new)) }
+        ensures stays { StaysOpened self.new.reader
+            (source_of I.Inputs inputs.old) (source_of I.Inputs inputs.new) }
+        ensures stays_ready { O.is_ready outs.new ≡ true }
+    {
+        match self.make_ready(y, inputs) {
+            Ok(()) => {}
+            Err(fault) => return Err(Break::Input(fault)),
+        }
+        self.filter.enlarge(y);
+        match write_whole(outs, self.filter.row()) {
+            Ok(()) => Ok(()),
+            Err(_) => Err(Break::Output),
+        }
+    }
+
+    /// Reads rows of the page and goes on by them, up to the reliefs that a row of the result lies between.
+    fn make_ready<I: Inputs>(&mut self, y: u32, inputs: &mut I) -> Result<(), InFault>
+        requires { CanPut y self.old (source_of I.Inputs inputs.old) }
+        ensures ready { OnOk result (GetsReady y self.old (I.files inputs.old)
+            self.new (I.files inputs.new)) }
+        ensures stops { IfErr result (λ fault. StopsBefore (cause_of_fault fault) y self.old
+            (I.files inputs.old) self.new.reader (I.files inputs.new)) }
+        ensures reads { ReadsEnd result (I.faults inputs.old) (I.faults inputs.new) }
+        ensures stays { StaysOpened self.new.reader
+            (source_of I.Inputs inputs.old) (source_of I.Inputs inputs.new) }
+    {
+        'rows: while !self.filter.is_ready(y) {
+            if self.filter.wants_row() {
+                match self.reader.row(inputs, &mut self.row) {
+                    Ok(()) => self.filter.take(&self.row),
+                    Err(fault) => return Err(fault),
+                }
+            } else {
+                self.filter.step();
+            }
+        }
+        Ok(())
     }
 }

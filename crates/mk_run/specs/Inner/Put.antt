@@ -1,86 +1,103 @@
--- What of the document a run wrote, row by row, and why it broke off.
-use Rattle.std.specs.Prelude.{◌≡◌, ℕ, ◌*◌, ◌<◌, ◌≤◌, Bool, true, List, ◌++◌, length, take, Option}
-use Rattle.pt_core.specs.Counts.{Rose}
-use Rattle.pt_core.specs.Documents.{Documents, with_bytes, with_open}
-use Rattle.pt_core.specs.Failures.{after_err}
-use Rattle.pt_core.specs.Files.{Files}
-use Rattle.bitmap_input.specs.GrayReader.{GraySource}
+-- What of the document a page at work wrote, row by row, how the calls ended, and why it broke off.
+use Rattle.std.specs.Prelude.{◌≡◌, ℕ, ◌*◌, ◌<◌, ◌≤◌, Bool, true, false, List, ◌++◌, length, take, Option, Result, Ok, Err}
+use Rattle.pt_core.specs.Documents.{Documents, with_bytes, with_open, with_whole}
+use Rattle.pt_core.specs.declared.inputs.Inputs.{Ghosts as InputGhosts}
+use Rattle.pt_core.specs.declared.sink.Sink.{Ghosts as SinkGhosts}
 use Rattle.bitmap_input.specs.Inner.Reading.{CountsBy}
 use Rattle.bitmap_input.specs.Reading.{cause_of_fault}
 use Rattle.mk_run.specs.PageHeader.{PageHeader}
 use Rattle.mkbitmap.specs.Box.{Gray}
-use Rattle.mkbitmap.specs.Enlarged.{need}
 use Rattle.run_output.specs.Names.{dash}
-use Rattle.run_output.specs.Told.{Told}
+use Rattle.run_output.specs.Told.{AllWent, BrokeOff, Source, Told, source_of, told_of}
 use Rattle.filter_words.specs.declared.setup.Setup.{Setup}
 use Rattle.mk_run.specs.Result.{result_row, result_text}
-use Rattle.mkbitmap.specs.Filtering.{Filtering}
-use Rattle.mk_run.specs.Inner.FilterWork.{GivesRows, IsAtWork, StopsBehind, header_of}
+use Rattle.mk_run.specs.Inner.FilterWork.{GivesRows, GetsReady, IsAtWork, StopsBefore, StopsBehind, header_of, setup_of}
 use Rattle.mk_run.specs.FilterRun.{HasFirstRows, rows_above, need_of, PutsFront, IsCutAt}
 use Rattle.mk_run.specs.declared.fault.Break.{Break}
 use Rattle.mk_run.specs.declared.fault.Break.TheVariants as breaks
+use Rattle.mk_run.specs.declared.work.Work.{Work}
+
+-- the inputs that a page comes from, and the outputs that its result is written to
+pub record World : Type 0 where
+  pub source : Source
+  pub outs : Told
+
+-- what inputs and outputs tell
+abbrev pub world_of : {A B : Type 0} → InputGhosts A → SinkGhosts B → A → B → World
+world_of of_inputs of_outs inputs outs = record { source = source_of of_inputs inputs; outs = told_of of_outs outs }
+
+-- how the calls of a step ended: none failed, but for the one that broke it off, which was the last
+abbrev pub StepEnds : {X : Type 0} → Result X Break → World → World → Type 0
+StepEnds (Ok x) before now = (now.source.faults ≡ before.source.faults) × AllWent before.outs now.outs
+StepEnds (Err (breaks.Input fault)) before now =
+    CountsBy (cause_of_fault fault) before.source.faults now.source.faults × AllWent before.outs now.outs
+StepEnds (Err breaks.Output) before now = (now.source.faults ≡ before.source.faults) × BrokeOff before.outs now.outs
+
+-- where a document is whole, none is open; where a row of the page isn't there, it stays open
+abbrev pub LeavesSo : {X : Type 0} → Result X Break → Bool → Type 0
+LeavesSo (Ok x) is_open = is_open ≡ false
+LeavesSo (Err (breaks.Input fault)) is_open = is_open ≡ true
+LeavesSo (Err breaks.Output) is_open = Unit {0}
 
 -- the open document has all rows above row Y more, whatever page begins with these rows
 abbrev pub PutsRows : Setup → PageHeader → List (List ℕ) → ℕ → Option Documents → Option Documents → Type 0
 PutsRows setup header rows Y old new =
     (page : Gray) → HasFirstRows header rows page → new ≡ with_bytes old (rows_above setup page Y)
 
--- no call of a sink failed
-pub record GoesWell (old new : Told) : Type 0 where
-  pub steady : new.faults ≡ old.faults
-  pub went : new.failures.count ≡ old.failures.count
+-- this holds of row Y of the result, whatever page begins with the rows so far and the next ones
+abbrev pub IsSoOfRow : ℕ → Work → List (List ℕ) → (List ℕ → Type 0) → Type 0
+IsSoOfRow Y old next P =
+    (rows : List (List ℕ)) → IsAtWork old rows → (page : Gray) → HasFirstRows (header_of old.reader) (rows ++ next) page
+    → P (result_row (setup_of old.filter) page Y)
 
--- one call of a sink failed, and it was the last
-pub record BreaksDown (old new : Told) : Type 0 where
-  pub rose : Rose old.faults new.faults
-  pub failed : new.failures ≡ after_err old.failures
+-- row Y of the result was put
+pub record PutsRow (Y : ℕ) (old : Work) (before : World) (new : Work) (now : World) : Type 0 where
+  pub ready : GetsReady Y old before.source.files new now.source.files
+  pub put : IsSoOfRow Y old ready.next (λ row. now.outs.documents ≡ with_bytes before.outs.documents row)
 
--- a row of the result was written, whatever page begins with these rows and the next ones
-abbrev pub PutsRow : Setup → ℕ → GraySource → Filtering → List (List ℕ) → Option Documents → Option Documents → Type 0
-PutsRow setup Y reader f next old new =
-    (rows : List (List ℕ)) → IsAtWork setup reader f rows → (page : Gray) → HasFirstRows (header_of reader) (rows ++ next) page
-    → new ≡ with_bytes old (result_row setup page Y)
+-- all rows were put
+pub record PutsAll (old : Work) (before : World) (new : Work) (now : World) : Type 0 where
+  pub rows : List (List ℕ)
+  pub gives : GivesRows old.reader before.source.files rows new.reader now.source.files
+  pub all : length rows ≡ old.reader.head.height
+  pub puts : PutsRows (setup_of old.filter) (header_of old.reader) rows (old.filter.times * old.reader.head.height)
+      before.outs.documents now.outs.documents
 
--- a front of it was written
-abbrev pub CutsRow : Setup → ℕ → GraySource → Filtering → List (List ℕ) → Option Documents → Option Documents → Type 0
-CutsRow setup Y reader f next old new =
-    (rows : List (List ℕ)) → IsAtWork setup reader f rows → (page : Gray) → HasFirstRows (header_of reader) (rows ++ next) page
-    → (n : ℕ) × (n ≤ length (result_row setup page Y)) × (new ≡ with_bytes old (take n (result_row setup page Y)))
+-- the document was put whole
+pub record PutsPage (old : Work) (before : World) (new : Work) (now : World) : Type 0 where
+  pub rows : List (List ℕ)
+  pub gives : GivesRows old.reader before.source.files rows new.reader now.source.files
+  pub all : length rows ≡ old.reader.head.height
+  pub documents : now.outs.documents ≡ with_whole before.outs.documents dash (result_text (setup_of old.filter) (header_of old.reader) rows)
 
--- writing row Y broke off, before its first byte or within it
-abbrev pub BreaksRow : Break → Setup → ℕ → GraySource → Filtering → Option Files → ℕ → Told → GraySource → Option Files → ℕ → Told → Type 0
-BreaksRow (breaks.Input fault) setup Y old f before faults outs new now faults_now outs_now =
-    StopsBehind (cause_of_fault fault) (need old.head.height setup.radius setup.times Y) old before new now
-    × CountsBy (cause_of_fault fault) faults faults_now × (outs_now ≡ outs)
-BreaksRow breaks.Output setup Y old f before faults outs new now faults_now outs_now =
-    (next : List (List ℕ)) × GivesRows old before next new now
-    × (new.given ≡ need_of setup (header_of old) Y) × (faults_now ≡ faults)
-    × CutsRow setup Y old f next outs.documents outs_now.documents × BreaksDown outs outs_now
+-- putting row Y broke off, before its first byte or within it
+abbrev pub BreaksRow : Break → ℕ → Work → World → Work → World → Type 0
+BreaksRow (breaks.Input fault) Y old before new now =
+    StopsBefore (cause_of_fault fault) Y old before.source.files new.reader now.source.files × (now.outs ≡ before.outs)
+BreaksRow breaks.Output Y old before new now =
+    (next : List (List ℕ)) × GivesRows old.reader before.source.files next new.reader now.source.files
+    × (new.reader.given ≡ need_of (setup_of old.filter) (header_of old.reader) Y)
+    × IsSoOfRow Y old next (λ row. (n : ℕ) × (n ≤ length row)
+    × (now.outs.documents ≡ with_bytes before.outs.documents (take n row)))
 
--- writing rows of the result broke off, before or within row Y
-abbrev pub BreaksRows : Break → Setup → GraySource → Option Files → ℕ → Told → GraySource → Option Files → ℕ → Told → Type 0
-BreaksRows (breaks.Input fault) setup old before faults outs new now faults_now outs_now =
-    (Y : ℕ) × (Y < setup.times * old.head.height)
-    × (stop : StopsBehind (cause_of_fault fault) (need old.head.height setup.radius setup.times Y) old before new now)
-    × ((y : ℕ) → y < Y → need_of setup (header_of old) y ≤ length stop.rows)
-    × PutsRows setup (header_of old) stop.rows Y outs.documents outs_now.documents
-    × CountsBy (cause_of_fault fault) faults faults_now × GoesWell outs outs_now
-BreaksRows breaks.Output setup old before faults outs new now faults_now outs_now =
-    (Y : ℕ) × (Y < setup.times * old.head.height) × (rows : List (List ℕ)) × GivesRows old before rows new now
-    × (length rows ≡ need_of setup (header_of old) Y) × (faults_now ≡ faults)
-    × PutsFront setup (header_of old) rows Y outs.documents outs_now.documents × BreaksDown outs outs_now
+-- putting rows of the result broke off, before or within row Y
+abbrev pub BreaksRows : Break → Work → World → Work → World → Type 0
+BreaksRows (breaks.Input fault) old before new now =
+    (Y : ℕ) × (Y < old.filter.times * old.reader.head.height)
+    × (stop : StopsBefore (cause_of_fault fault) Y old before.source.files new.reader now.source.files)
+    × ((y : ℕ) → y < Y → need_of (setup_of old.filter) (header_of old.reader) y ≤ length stop.rows)
+    × PutsRows (setup_of old.filter) (header_of old.reader) stop.rows Y before.outs.documents now.outs.documents
+BreaksRows breaks.Output old before new now =
+    (Y : ℕ) × (Y < old.filter.times * old.reader.head.height)
+    × (rows : List (List ℕ)) × GivesRows old.reader before.source.files rows new.reader now.source.files
+    × (length rows ≡ need_of (setup_of old.filter) (header_of old.reader) Y)
+    × PutsFront (setup_of old.filter) (header_of old.reader) rows Y before.outs.documents now.outs.documents
 
--- writing the document broke off
-abbrev pub BreaksPage : Break → Setup → GraySource → Option Files → ℕ → Told → GraySource → Option Files → ℕ → Told → Type 0
-BreaksPage (breaks.Input fault) setup old before faults outs new now faults_now outs_now =
-    (last : ℕ) × (stop : StopsBehind (cause_of_fault fault) last old before new now)
-    × (outs_now.documents ≡ with_open outs.documents dash (result_text setup (header_of old) stop.rows))
-    × CountsBy (cause_of_fault fault) faults faults_now × GoesWell outs outs_now
-BreaksPage breaks.Output setup old before faults outs new now faults_now outs_now =
-    (rows : List (List ℕ)) × GivesRows old before rows new now × (faults_now ≡ faults)
-    × IsCutAt setup (header_of old) rows outs.documents outs_now.documents × BreaksDown outs outs_now
-
--- where a row of the page isn't there, the document stays open
-abbrev pub StaysOpen : Break → Bool → Type 0
-StaysOpen (breaks.Input fault) is_open = is_open ≡ true
-StaysOpen breaks.Output is_open = Unit {0}
+-- putting the document broke off
+abbrev pub BreaksPage : Break → Work → World → Work → World → Type 0
+BreaksPage (breaks.Input fault) old before new now =
+    (last : ℕ) × (stop : StopsBehind (cause_of_fault fault) last old.reader before.source.files new.reader now.source.files)
+    × (now.outs.documents ≡ with_open before.outs.documents dash (result_text (setup_of old.filter) (header_of old.reader) stop.rows))
+BreaksPage breaks.Output old before new now =
+    (rows : List (List ℕ)) × GivesRows old.reader before.source.files rows new.reader now.source.files
+    × IsCutAt (setup_of old.filter) (header_of old.reader) rows before.outs.documents now.outs.documents

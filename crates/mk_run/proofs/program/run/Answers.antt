@@ -25,7 +25,7 @@ returns-in-Err-Bad g c =
       refl,
       c.in-Err-Bad.ensures.bad (ap Err c.in-Err-Bad.field-0-is),
       refl,
-      record { same = refl; same_open = refl; says = record { said = c.say_line.ensures.said; given_up = c.say_line.ensures.given_up; never_falls = c.say_line.ensures.never_falls } },
+      record { same = refl; same_open = refl; says = c.say_line.ensures.says },
     )))
 
 pub returns-in-Err-NoMemory : goal.returns-in-Err-NoMemory
