@@ -26,7 +26,7 @@ const KEPT: usize = 1024;
 /// The roots that were taken last for penalties, of whichever path.
 //
 // Short segments have few sums, and the same ones come again and again: of a page of text more than nine roots in ten
-// are kept already. To look one up takes a tenth of the instructions of a division and a root.
+// are kept already.
 #[derive(Drop)]
 pub struct Roots {
     /// Each stands at the place of its sum and count. An empty list keeps nothing.
