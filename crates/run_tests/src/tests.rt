@@ -17,7 +17,6 @@ mod pages;
 mod postscript;
 mod refusals;
 mod streams;
-mod tables;
 mod words;
 mod workers;
 mod workers_alone;

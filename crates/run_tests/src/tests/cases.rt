@@ -1,8 +1,7 @@
 //! Runs over files in memory, and what is to come of them.
-ghost use Rattle.std.specs.Prelude.{◌≡◌, true};
+ghost use Rattle.std.specs.Prelude.{◌≡◌, IfOk, string_bytes, true};
 
-use mem_outside::{InCall, MemInputs, MemOutputs, MemSink, OutCall};
-use page_samples::{listed, named, split};
+use mem_outside::{InCall, MemInputs, MemOutputs, MemSink, NamedBytes, OutCall};
 use potrace_main::run;
 use pt_core::{Gate, NoGate, NoMemory, Sink};
 use std::alloc::Global;
@@ -39,9 +38,6 @@ pub struct Case<'a> {
     pub said: &'a str,
 }
 
-/// Where a case stands: what its table is of, and its row there, counted from 0.
-pub type TableRow<'a> = (&'a str, usize);
-
 /// A run over an empty standard input where no call fails, which writes nothing and says nothing.
 pub const PLAIN: Case<'static> = Case {
     words: "",
@@ -59,15 +55,6 @@ pub const PLAIN: Case<'static> = Case {
     cut_off: false,
     said: "",
 };
-
-/// Runs by their words, standard input and documents, which have nothing to say.
-macro_rules! pages {
-    ($(($words:expr, $input:expr, $documents:expr $(,)?)),* $(,)?) => {
-        &[$(Case { words: $words, input: $input, documents: $documents, ..PLAIN }),*]
-    };
-}
-
-pub(crate) use pages;
 
 /// The points and the polygons document of a page of one black pixel, and the points document of one white pixel.
 pub const PIXEL: &str = "points 1 1 1\n+ 1 0,1 0,0 1,0 1,1\n";
@@ -131,44 +118,43 @@ impl<'a> Case<'a> {
         }
     }
 
-    /// Runs with these words in front of its own, and looks at all that came of it; `at` tells the case.
-    pub fn check<R: Threads + Abort + Sync>(
+    /// Runs, and looks at all that came of it.
+    pub fn check<R: Threads + Abort + Sync>(&self, rt: &R, alloc: Global) -> Result<(), Fail> {
+        let done = self.done(rt, alloc, &NoGate)?;
+        self.expect(rt, &done);
+        Ok(())
+    }
+
+    /// Runs by 1, 2, 7 and 64 workers, for whom the same is to come.
+    pub fn check_by_all<R: Threads + Abort + Sync>(
         &self,
         rt: &R,
         alloc: Global,
-        in_front: &str,
-        at: TableRow,
     ) -> Result<(), Fail> {
-        let words = format!(in alloc; "{in_front}{}", self.words)?;
-        let case = Case {
-            words: &words,
-            ..*self
-        };
-        let done = case.done(rt, alloc, &NoGate)?;
-        case.expect(rt, &done, at);
+        for workers in ["1", "2", "7", "64"] {
+            let words = format!(in alloc; "--workers {workers} {}", self.words)?;
+            Case {
+                words: &words,
+                ..*self
+            }
+            .check(rt, alloc)?;
+        }
         Ok(())
     }
 
     /// Looks at all that came of a run.
-    pub fn expect(&self, rt: &impl Abort, done: &Done, at: TableRow) {
-        let (of, row) = at;
-        assert_eq!(rt;
-            done.errs.text(),
-            self.said.as_bytes(),
-            "{of}, row {row}: {}",
-            self.words
-        );
-        self.expect_documents(rt, done.status, &done.outs, at);
+    pub fn expect(&self, rt: &impl Abort, done: &Done) {
+        assert_eq!(rt; done.errs.text(), self.said.as_bytes(), "{}", self.words);
+        self.expect_documents(rt, done.status, &done.outs);
     }
 
     /// Looks at how a run ended, and at its documents.
-    pub fn expect_documents(&self, rt: &impl Abort, status: u8, outs: &MemOutputs, at: TableRow) {
-        let (of, row) = at;
+    pub fn expect_documents(&self, rt: &impl Abort, status: u8, outs: &MemOutputs) {
         let count = self.documents.len();
         assert_eq!(rt;
             (status, outs.count() as usize),
             (self.status, count),
-            "{of}, row {row}: {}",
+            "{}",
             self.words
         );
         for (i, (name, text)) in self.documents.iter().enumerate() {
@@ -176,7 +162,7 @@ impl<'a> Case<'a> {
             assert_eq!(rt;
                 document_at(outs, i),
                 Some((name.as_bytes(), text.as_bytes(), whole)),
-                "{of}, row {row}: {}",
+                "{}",
                 self.words
             );
         }
@@ -191,4 +177,72 @@ pub fn document_at(outs: &MemOutputs, place: usize) -> Option<(&[u8], &[u8], boo
     } else {
         None
     }
+}
+
+/// One call or none.
+fn listed<T: Copy>(alloc: Global, call: Option<T>) -> Result<Vec<T>, NoMemory> {
+    let mut calls = Vec::new(alloc);
+    if let Some(call) = call {
+        calls.push(call)?;
+    }
+    Ok(calls)
+}
+
+/// A file of this name and these bytes.
+pub fn named(alloc: Global, name: &str, bytes: &[u8]) -> Result<NamedBytes, NoMemory>
+    ensures { IfOk result (λ file. string_bytes file.name ≡ name.now) }
+{
+    Ok(NamedBytes {
+        name: String::from_str(alloc, name)?,
+        bytes: Vec::from_slice(alloc, bytes)?,
+    })
+}
+
+/// The words of a line; an empty line has none, and two spaces have an empty word between them.
+pub fn split(alloc: Global, line: &str) -> Result<Vec<String>, NoMemory> {
+    let mut words = Vec::new(alloc);
+    if line.is_empty() {
+        return Ok(words);
+    }
+    for word in line.split(' ') {
+        words.push(String::from_str(alloc, word)?)?;
+    }
+    Ok(words)
+}
+
+/// Runs each case by 1, 2, 7 and 64 workers.
+pub fn check_all<R: Threads + Abort + Sync>(
+    rt: &R,
+    alloc: Global,
+    cases: &[Case],
+) -> Result<(), Fail> {
+    for case in cases {
+        case.check_by_all(rt, alloc)?;
+    }
+    Ok(())
+}
+
+/// Words, standard input, and the documents.
+pub type Page = (
+    &'static str,
+    &'static [u8],
+    &'static [(&'static str, &'static str)],
+);
+
+/// Runs over pages which have nothing to say.
+pub fn check_pages<R: Threads + Abort + Sync>(
+    rt: &R,
+    alloc: Global,
+    pages: &[Page],
+) -> Result<(), Fail> {
+    for (words, input, documents) in pages {
+        Case {
+            words,
+            input,
+            documents,
+            ..PLAIN
+        }
+        .check(rt, alloc)?;
+    }
+    Ok(())
 }

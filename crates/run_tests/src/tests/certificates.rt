@@ -1,11 +1,11 @@
 //! Certificates of pages, and runs of their checker.
 
-use crate::tests::cases::{Case, PLAIN, pages};
+use crate::tests::cases::{Case, PLAIN, Page, check_pages, named, split};
 use crate::tests::pages::PAGES;
 use check_run::check_run;
 use mem_outside::{MemInputs, MemOutputs, MemSink};
 use outline_check::{Verdict, check_proofs};
-use page_samples::{named, numbered, split};
+use page_samples::numbered;
 use page_trace::document;
 use pt_core::{Backend, NoGate, NoMemory, Policy, Settings};
 use std::alloc::Global;
@@ -17,7 +17,7 @@ const PIXEL: &str = "proofs 1 1 1\npath 0,1 0,0 1,0 1,1\nat 0 1 2 3\nlabels 4:0 
 const PAIR: &str = "proofs 2 1 1\npath 0,1 0,0 1,0 2,0 2,1 1,1\nat 0 2 4\n\
 labels 3:294 3:0 2:147 2:0 1:0 1:0 0:0\n";
 
-pub const WRITTEN: &[Case] = pages![
+const WRITTEN: &[Page] = &[
     ("-b proofs -z left -t 0", b"P1 1 1 1\n", &[("-", PIXEL)]),
     ("-b proofs -t 1", b"P1 2 1 11", &[("-", PAIR)]),
     ("-b proofs", b"P1 1 1 0", &[("-", "proofs 1 1 0\n")]),
@@ -27,6 +27,11 @@ pub const WRITTEN: &[Case] = pages![
         &[("-", "proofs 1 1 0\n"), ("-", "proofs 2 1 0\n")],
     ),
 ];
+
+#[test]
+fn certificates_of_pages(rt: HostRuntime) -> Result<(), Fail> {
+    check_pages(&rt, rt.alloc(), WRITTEN)
+}
 
 /// A word, standard input, the status, the document if there is one, and the message.
 const CHECKED: &[(&str, &str, u8, &[&str], &str)] = &[
@@ -99,15 +104,15 @@ fn is_written(outs: &MemOutputs, documents: &[&str]) -> bool {
 /// The certificates of all worked pages are right.
 #[test]
 fn worked_pages_are_right(rt: HostRuntime) -> Result<(), Fail> {
-    for page in PAGES {
+    for (_, input, _) in PAGES {
         let case = Case {
             words: "-b proofs -t 0",
-            input: page.input,
+            input,
             ..PLAIN
         };
         let done = case.done(&rt, rt.alloc(), &NoGate)?;
         let right = all_right(rt.alloc(), &done.outs)?;
-        assert_eq!(rt; (done.status, right), (0, true), "{:?}", page.input);
+        assert_eq!(rt; (done.status, right), (0, true), "{input:?}");
     }
     Ok(())
 }

@@ -1,6 +1,6 @@
 //! Inputs that are cut off after every number of bytes, and pages with hostile headers.
 
-use crate::tests::cases::{Case, PIXEL, PLAIN};
+use crate::tests::cases::{Case, PIXEL, PLAIN, check_all};
 use pt_core::NoGate;
 use std::test::Fail;
 
@@ -70,7 +70,7 @@ fn inputs_cut_after_each_byte(rt: HostRuntime) -> Result<(), Fail> {
                 said,
                 ..PLAIN
             }
-            .check(&rt, rt.alloc(), "", ("inputs cut off", n))?;
+            .check(&rt, rt.alloc())?;
         }
     }
     Ok(())
@@ -123,7 +123,7 @@ const LONG: &[Long] = &[
 
 #[test]
 fn long_headers_and_white_rows(rt: HostRuntime) -> Result<(), Fail> {
-    for (row, (front, byte, times, back, documents, status, said)) in LONG.iter().enumerate() {
+    for (front, byte, times, back, documents, status, said) in LONG {
         let mut input = Vec::from_slice(rt.alloc(), front)?;
         input.extend_from_slice(&vec![in rt.alloc(); *byte; *times]?)?;
         input.extend_from_slice(back)?;
@@ -139,14 +139,13 @@ fn long_headers_and_white_rows(rt: HostRuntime) -> Result<(), Fail> {
             said,
             ..PLAIN
         };
-        let done = case.done(&rt, rt.alloc(), &NoGate)?;
-        wanted.expect(&rt, &done, ("long headers and white rows", row));
+        wanted.expect(&rt, &case.done(&rt, rt.alloc(), &NoGate)?);
     }
     Ok(())
 }
 
 /// The picture with other bytes in some places of its header.
-pub const PICTURES: &[Case] = &[
+const PICTURES: &[Case] = &[
     // The file's size is beyond its end.
     Case {
         words: LEFT,
@@ -205,3 +204,8 @@ pub const PICTURES: &[Case] = &[
         ..PLAIN
     },
 ];
+
+#[test]
+fn pictures_with_hostile_headers(rt: HostRuntime) -> Result<(), Fail> {
+    check_all(&rt, rt.alloc(), PICTURES)
+}

@@ -2,7 +2,8 @@
 //!
 //! A program apart from this one, with plain loops and fractions, worked the documents out.
 
-use crate::tests::cases::{Case, PLAIN, pages};
+use crate::tests::cases::{Page, check_pages};
+use std::test::Fail;
 
 /// Its segment from (2,3) to (2,1) stands for (1,2), which is a whole pixel from the half-line.
 ///
@@ -104,7 +105,7 @@ const LONG_LINE_CORNERS: &str = "{\"type\":\"FeatureCollection\",\"features\":[\
 [5.789,15.750],[6.000,32.000],[3.000,32.000]]]}}\n\
 ]}\n";
 
-pub const FAR: &[Case] = pages![
+const PAGES: &[Page] = &[
     (
         "-b polygons -z black -t 0",
         NOT_STRAIGHT,
@@ -125,3 +126,8 @@ pub const FAR: &[Case] = pages![
     ("-b geojson -n", LONG_LINE, &[("-", LONG_LINE_CURVES)]),
     ("-b geojson -a 0", LONG_LINE, &[("-", LONG_LINE_CORNERS)]),
 ];
+
+#[test]
+fn distances(rt: HostRuntime) -> Result<(), Fail> {
+    check_pages(&rt, rt.alloc(), PAGES)
+}

@@ -1,7 +1,8 @@
 //! Failing devices: what was whole stays, and nothing more is written after.
 
-use crate::tests::cases::{Case, PIXEL, PLAIN};
+use crate::tests::cases::{Case, PIXEL, PLAIN, check_all};
 use mem_outside::{InCall, OutCall};
+use std::test::Fail;
 
 /// A stream of two pages and what is no page, by reads that end with the first page.
 const STREAM: Case<'static> = Case {
@@ -20,7 +21,7 @@ const FILE: Case<'static> = Case {
     ..PLAIN
 };
 
-pub const RUNS: &[Case] = &[
+const RUNS: &[Case] = &[
     // The first page is at hand when the read behind it fails.
     Case {
         unread: Some(InCall::Open(1)),
@@ -116,3 +117,8 @@ pub const RUNS: &[Case] = &[
         ..PLAIN
     },
 ];
+
+#[test]
+fn failing_devices(rt: HostRuntime) -> Result<(), Fail> {
+    check_all(&rt, rt.alloc(), RUNS)
+}

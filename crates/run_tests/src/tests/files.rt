@@ -1,7 +1,8 @@
 //! Several files: the names of their documents, and what ends a run.
 
-use crate::tests::cases::{Case, PIXEL, PLAIN, WHITE};
+use crate::tests::cases::{Case, PIXEL, PLAIN, WHITE, check_all};
 use mem_outside::InCall;
+use std::test::Fail;
 
 const NO_OUTLINE: &str = "<?xml version=\"1.0\" standalone=\"no\"?>\n\
 <svg version=\"1.0\" xmlns=\"http://www.w3.org/2000/svg\" width=\"1pt\" height=\"1pt\" viewBox=\"0 0 10 10\">\n\
@@ -10,53 +11,52 @@ const NO_OUTLINE: &str = "<?xml version=\"1.0\" standalone=\"no\"?>\n\
 
 const TWO_PAGES: &[u8] = b"P1 1 1 1\nP1 1 1 0\n";
 
-/// Names of files, and of their pages' documents.
-pub const NAMES: &[Case] = &[
-    Case {
-        words: "-b points -t 0 -o out.svg scan.pbm",
-        name: "scan.pbm",
-        input: TWO_PAGES,
-        documents: &[("out.svg", PIXEL), ("out-2.svg", WHITE)],
-        ..PLAIN
-    },
-    Case {
-        words: "-b points -t 0 scan.pbm",
-        name: "scan.pbm",
-        input: TWO_PAGES,
-        documents: &[("scan.points", PIXEL), ("scan-2.points", WHITE)],
-        ..PLAIN
-    },
-    Case {
-        words: "-b points -t 0 a.b/c",
-        name: "a.b/c",
-        input: TWO_PAGES,
-        documents: &[("a.b/c.points", PIXEL), ("a.b/c-2.points", WHITE)],
-        ..PLAIN
-    },
-    Case {
-        words: "-b points -t 0 ..",
-        name: "..",
-        input: TWO_PAGES,
-        documents: &[("..points", PIXEL), (".-2.points", WHITE)],
-        ..PLAIN
-    },
-    Case {
-        words: "-b points -t 0 -o .o x",
-        name: "x",
-        input: TWO_PAGES,
-        documents: &[(".o", PIXEL), (".o-2", WHITE)],
-        ..PLAIN
-    },
-    Case {
-        words: "-b points -t 0 -o - x",
-        name: "x",
-        input: TWO_PAGES,
-        documents: &[("-", PIXEL), ("-", WHITE)],
-        ..PLAIN
-    },
+/// The words, with the name of a file at their end, the file's name, and its pages' documents.
+const NAMES: &[(&str, &str, &[(&str, &str)])] = &[
+    (
+        "-b points -t 0 -o out.svg scan.pbm",
+        "scan.pbm",
+        &[("out.svg", PIXEL), ("out-2.svg", WHITE)],
+    ),
+    (
+        "-b points -t 0 scan.pbm",
+        "scan.pbm",
+        &[("scan.points", PIXEL), ("scan-2.points", WHITE)],
+    ),
+    (
+        "-b points -t 0 a.b/c",
+        "a.b/c",
+        &[("a.b/c.points", PIXEL), ("a.b/c-2.points", WHITE)],
+    ),
+    (
+        "-b points -t 0 ..",
+        "..",
+        &[("..points", PIXEL), (".-2.points", WHITE)],
+    ),
+    (
+        "-b points -t 0 -o .o x",
+        "x",
+        &[(".o", PIXEL), (".o-2", WHITE)],
+    ),
+    ("-b points -t 0 -o - x", "x", &[("-", PIXEL), ("-", WHITE)]),
 ];
 
-pub const RUNS: &[Case] = &[
+#[test]
+fn names_of_documents(rt: HostRuntime) -> Result<(), Fail> {
+    for (words, name, documents) in NAMES {
+        Case {
+            words,
+            name,
+            input: TWO_PAGES,
+            documents,
+            ..PLAIN
+        }
+        .check(&rt, rt.alloc())?;
+    }
+    Ok(())
+}
+
+const RUNS: &[Case] = &[
     // Drawings, whose pixel is a speckle.
     Case {
         words: "-s -o out.svg scan.pbm",
@@ -183,3 +183,8 @@ paths 36 segments 229 curves 217 bytes 7287\n",
         ..PLAIN
     },
 ];
+
+#[test]
+fn documents_of_files(rt: HostRuntime) -> Result<(), Fail> {
+    check_all(&rt, rt.alloc(), RUNS)
+}

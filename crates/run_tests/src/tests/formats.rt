@@ -1,6 +1,6 @@
 //! One picture in all formats, and a whole scan.
 
-use crate::tests::cases::{Case, PLAIN, pages};
+use crate::tests::cases::{Case, PLAIN, Page, check_pages};
 use pt_core::NoGate;
 use std::alloc::Global;
 use std::test::Fail;
@@ -12,7 +12,7 @@ const SQUARES_ALONE: &[(&str, &str)] = &[("-", SQUARES)];
 
 const LEFT: &str = "-b points -z left -t 0";
 
-pub const NETPBM: &[Case] = pages![
+const NETPBM: &[Page] = &[
     (LEFT, b"P1 2 2 10 01\n", SQUARES_ALONE),
     (LEFT, b"P4\n2 2\n\x80\x40", SQUARES_ALONE),
     (LEFT, b"P2 2 2 1 0 1 1 0", SQUARES_ALONE),
@@ -39,6 +39,11 @@ pub const NETPBM: &[Case] = pages![
     ),
 ];
 
+#[test]
+fn netpbm(rt: HostRuntime) -> Result<(), Fail> {
+    check_pages(&rt, rt.alloc(), NETPBM)
+}
+
 /// The bits of a pixel, and the upper and the lower row, where black is the first colour.
 const ROWS: &[(u8, &[u8], &[u8])] = &[
     (1, b"\x40\0\0\0", b"\x80\0\0\0"),
@@ -48,33 +53,33 @@ const ROWS: &[(u8, &[u8], &[u8])] = &[
     (32, b"\0\0\0\0\xff\xff\xff\0", b"\xff\xff\xff\0\0\0\0\0"),
 ];
 
-/// The header with its size, and whether the upper row is the first one, which the oldest header can't say.
-const HEADERS: &[(&str, u8, bool)] = &[
-    ("BMP of 12 bytes", 12, false),
-    ("BMP of 40 bytes", 40, false),
-    ("BMP of 40 bytes, top down", 40, true),
-    ("BMP of 52 bytes", 52, false),
-    ("BMP of 52 bytes, top down", 52, true),
-    ("BMP of 56 bytes", 56, false),
-    ("BMP of 56 bytes, top down", 56, true),
-    ("BMP of 108 bytes", 108, false),
-    ("BMP of 108 bytes, top down", 108, true),
-    ("BMP of 124 bytes", 124, false),
-    ("BMP of 124 bytes, top down", 124, true),
+/// The sizes of the header, and whether the upper row is the first one, which the oldest header can't say.
+const HEADERS: &[(u8, bool)] = &[
+    (12, false),
+    (40, false),
+    (40, true),
+    (52, false),
+    (52, true),
+    (56, false),
+    (56, true),
+    (108, false),
+    (108, true),
+    (124, false),
+    (124, true),
 ];
 
 #[test]
 fn bmp(rt: HostRuntime) -> Result<(), Fail> {
-    for &(of, header, top_down) in HEADERS {
-        for (row, (bits, upper, lower)) in ROWS.iter().enumerate() {
-            let input = drawn(rt.alloc(), header, *bits, top_down, upper, lower)?;
+    for (header, top_down) in HEADERS {
+        for (bits, upper, lower) in ROWS {
+            let input = drawn(rt.alloc(), *header, *bits, *top_down, upper, lower)?;
             Case {
                 words: LEFT,
                 input: &input,
                 documents: SQUARES_ALONE,
                 ..PLAIN
             }
-            .check(&rt, rt.alloc(), "", (of, row))?;
+            .check(&rt, rt.alloc())?;
         }
     }
     Ok(())
@@ -173,7 +178,7 @@ const SCANS: &[(&str, &str, &[(&str, &str)])] = &[
 #[test]
 fn a_black_scan(rt: HostRuntime) -> Result<(), Fail> {
     let scan = black_scan(rt.alloc())?;
-    for (row, (words, name, documents)) in SCANS.iter().enumerate() {
+    for (words, name, documents) in SCANS {
         let wanted = Case {
             words,
             documents,
@@ -185,8 +190,7 @@ fn a_black_scan(rt: HostRuntime) -> Result<(), Fail> {
             input: &scan,
             ..PLAIN
         };
-        let done = case.done(&rt, rt.alloc(), &NoGate)?;
-        wanted.expect(&rt, &done, ("a black scan", row));
+        wanted.expect(&rt, &case.done(&rt, rt.alloc(), &NoGate)?);
     }
     Ok(())
 }

@@ -1,8 +1,9 @@
 //! Each call of the outside fails in turn, in a run over two files of two pages, with one byte a read and 16
 //! bytes a write. What is to come is worked out from the files' bytes and the documents' texts.
 
-use crate::tests::cases::{Case, PIXEL, PLAIN, WHITE};
+use crate::tests::cases::{Case, PIXEL, PLAIN, WHITE, check_all};
 use mem_outside::{InCall, OutCall};
+use std::test::Fail;
 
 /// The first file's pages end behind 8 and 17 bytes; that the rest is no page is decided behind 20. The second
 /// one's end behind 9 and 18 bytes; that no page follows is decided by the end, behind 19.
@@ -36,73 +37,59 @@ const B1_FAULT: &str =
 const B2_FAULT: &str =
     "potrace: a.pbm: trailing bytes after page 2\npotrace: b-2.points: write fault\n";
 
-/// The reads of these numbers, each of which fails in a run of its own, with the same whole documents and message.
-macro_rules! reads {
-    ($documents:expr, $said:expr, [$($n:literal),*]) => {
-        &[$(Case {
-            unread: Some(InCall::Read($n)),
-            status: 3,
-            documents: $documents,
-            said: $said,
-            ..BOTH
-        }),*]
-    };
+/// From which read on and up to which, of 20 in each file, one that fails makes the run end so: with these whole
+/// documents and this message.
+const READS: &[(u64, u64, &[(&str, &str)], &str)] = &[
+    (1, 8, &[], "potrace: a.pbm: page 1: read fault\n"),
+    (9, 17, &[A1], "potrace: a.pbm: page 2: read fault\n"),
+    (18, 20, &[A1, A2], "potrace: a.pbm: page 3: read fault\n"),
+    (
+        21,
+        29,
+        &[A1, A2],
+        "potrace: a.pbm: trailing bytes after page 2\npotrace: b.pbm: page 1: read fault\n",
+    ),
+    (
+        30,
+        38,
+        &[A1, A2, B1],
+        "potrace: a.pbm: trailing bytes after page 2\npotrace: b.pbm: page 2: read fault\n",
+    ),
+    (
+        39,
+        40,
+        &[A1, A2, B1, B2],
+        "potrace: a.pbm: trailing bytes after page 2\npotrace: b.pbm: page 3: read fault\n",
+    ),
+];
+
+#[test]
+fn each_read_fails(rt: HostRuntime) -> Result<(), Fail> {
+    for (first, last, documents, said) in READS {
+        for n in *first..=*last {
+            Case {
+                unread: Some(InCall::Read(n)),
+                status: 3,
+                documents,
+                said,
+                ..BOTH
+            }
+            .check_by_all(&rt, rt.alloc())?;
+        }
+    }
+    Ok(())
 }
 
-// Of the 20 reads in each file, those of its pages, and those by which it is decided that no page follows.
-
-pub const A1_READS: &[Case] = reads!(
-    &[],
-    "potrace: a.pbm: page 1: read fault\n",
-    [1, 2, 3, 4, 5, 6, 7, 8]
+/// A call that fails; the documents, of which the last one isn't whole where the call was one that writes or ends it;
+/// and the message.
+type Fault = (
+    OutCall,
+    &'static [(&'static str, &'static str)],
+    bool,
+    &'static str,
 );
 
-pub const A2_READS: &[Case] = reads!(
-    &[A1],
-    "potrace: a.pbm: page 2: read fault\n",
-    [9, 10, 11, 12, 13, 14, 15, 16, 17]
-);
-
-pub const A_END_READS: &[Case] = reads!(
-    &[A1, A2],
-    "potrace: a.pbm: page 3: read fault\n",
-    [18, 19, 20]
-);
-
-pub const B1_READS: &[Case] = reads!(
-    &[A1, A2],
-    "potrace: a.pbm: trailing bytes after page 2\npotrace: b.pbm: page 1: read fault\n",
-    [21, 22, 23, 24, 25, 26, 27, 28, 29]
-);
-
-pub const B2_READS: &[Case] = reads!(
-    &[A1, A2, B1],
-    "potrace: a.pbm: trailing bytes after page 2\npotrace: b.pbm: page 2: read fault\n",
-    [30, 31, 32, 33, 34, 35, 36, 37, 38]
-);
-
-pub const B_END_READS: &[Case] = reads!(
-    &[A1, A2, B1, B2],
-    "potrace: a.pbm: trailing bytes after page 2\npotrace: b.pbm: page 3: read fault\n",
-    [39, 40]
-);
-
-/// Runs by the call that fails; their documents, of which the last one isn't whole where the call was one that writes or
-/// ends it; and their message.
-macro_rules! writes {
-    ($(($call:expr, $documents:expr, $cut_off:expr, $said:expr $(,)?)),* $(,)?) => {
-        &[$(Case {
-            unwritten: Some($call),
-            status: 4,
-            documents: $documents,
-            cut_off: $cut_off,
-            said: $said,
-            ..BOTH
-        }),*]
-    };
-}
-
-pub const WRITES: &[Case] = writes![
+const WRITES: &[Fault] = &[
     (OutCall::Begin(1), &[], false, A1_FAULT),
     (OutCall::Begin(2), &[A1], false, A2_FAULT),
     (OutCall::Begin(3), &[A1, A2], false, B1_FAULT),
@@ -168,6 +155,22 @@ pub const WRITES: &[Case] = writes![
     (OutCall::End(4), &[A1, A2, B1, B2], true, B2_FAULT),
 ];
 
+#[test]
+fn each_beginning_write_and_end_fails(rt: HostRuntime) -> Result<(), Fail> {
+    for (call, documents, cut_off, said) in WRITES {
+        Case {
+            unwritten: Some(*call),
+            status: 4,
+            documents,
+            cut_off: *cut_off,
+            said,
+            ..BOTH
+        }
+        .check_by_all(&rt, rt.alloc())?;
+    }
+    Ok(())
+}
+
 /// A second file that isn't there, and messages that are written in pieces.
 const MISSING: Case<'static> = Case {
     words: "-b points -t 0 a.pbm c.pbm",
@@ -176,7 +179,7 @@ const MISSING: Case<'static> = Case {
     ..BOTH
 };
 
-pub const RUNS: &[Case] = &[
+const RUNS: &[Case] = &[
     // The openings fail.
     Case {
         unread: Some(InCall::Open(1)),
@@ -300,3 +303,8 @@ pub const RUNS: &[Case] = &[
         ..MISSING
     },
 ];
+
+#[test]
+fn openings_room_and_messages(rt: HostRuntime) -> Result<(), Fail> {
+    check_all(&rt, rt.alloc(), RUNS)
+}

@@ -1,7 +1,6 @@
 //! Pages whose paths are as many, or as deep in one another, as such pages can have.
 
 use crate::tests::cases::{Case, PLAIN};
-use crate::tests::tables::{BY_SOME, check_tables};
 use std::alloc::Global;
 use std::test::Fail;
 
@@ -41,7 +40,7 @@ fn a_board_of_single_pixels(rt: HostRuntime) -> Result<(), Fail> {
         documents: &[("-", &text)],
         ..PLAIN
     }
-    .check(&rt, rt.alloc(), "", ("a board", 0))
+    .check(&rt, rt.alloc())
 }
 
 /// A plain page of 255 by 255 pixels: squares around the middle pixel, which is white, black and white in turn.
@@ -72,11 +71,11 @@ fn nest_text(alloc: Global) -> Result<String, Fail> {
 fn a_nest_of_squares(rt: HostRuntime) -> Result<(), Fail> {
     let input = nest(rt.alloc())?;
     let text = nest_text(rt.alloc())?;
-    let case = Case {
+    Case {
         words: "-b polygons -t 0",
         input: &input,
         documents: &[("-", &text)],
         ..PLAIN
-    };
-    check_tables(&rt, rt.alloc(), &[("a nest of squares", &[case])], BY_SOME)
+    }
+    .check_by_all(&rt, rt.alloc())
 }

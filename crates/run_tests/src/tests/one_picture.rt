@@ -1,7 +1,8 @@
 //! One picture in all drawings, with sharp corners alone and a thousand units a pixel: an outline's points are its
 //! corners and the middles of its sides, from the middle before the first corner on, in the same order in all four.
 
-use crate::tests::cases::{Case, PLAIN, pages};
+use crate::tests::cases::{Page, check_pages};
+use std::test::Fail;
 
 // ###
 // #.#
@@ -242,7 +243,7 @@ const DXF: &str = "-b dxf -t 0 -a 0 -n -u 1000";
 const GEOJSON: &str = "-b geojson -t 0 -a 0 -n -u 1000";
 
 /// A ring; a hole in a hole; two shapes in a hole; and a shape at its hole's corner.
-pub const DRAWINGS: &[Case] = pages![
+const PAGES: &[Page] = &[
     (SVG, RING, &[("-", RING_SVG)]),
     (EPS, RING, &[("-", RING_EPS)]),
     (DXF, RING, &[("-", RING_DXF)]),
@@ -260,3 +261,8 @@ pub const DRAWINGS: &[Case] = pages![
     (DXF, CORNER, &[("-", CORNER_DXF)]),
     (GEOJSON, CORNER, &[("-", CORNER_GEOJSON)]),
 ];
+
+#[test]
+fn one_picture_in_all_drawings(rt: HostRuntime) -> Result<(), Fail> {
+    check_pages(&rt, rt.alloc(), PAGES)
+}

@@ -1,6 +1,7 @@
 //! Worked pages.
 
-use crate::tests::cases::{Case, PIXEL, PIXEL_POLYGON, PLAIN, WHITE, pages};
+use crate::tests::cases::{Case, PIXEL, PIXEL_POLYGON, PLAIN, Page, WHITE, check_all, check_pages};
+use std::test::Fail;
 
 const PAIR: &str = "points 2 1 1\n+ 2 0,1 0,0 1,0 2,0 2,1 1,1\n";
 
@@ -97,7 +98,7 @@ const TWELVE_SVG: &str = square_svg!(
     "<path fill-rule=\"evenodd\" d=\"M8 32 l-12 -12 l12 -12 l12 -12 l12 12 l12 12 l-12 12 l-12 12 l-12 -12 z\"/>\n"
 );
 
-pub const PAGES: &[Case] = pages![
+pub const PAGES: &[Page] = &[
     // Speckles.
     (LEFT, b"P1 1 1 1\n", &[("-", PIXEL)]),
     (LEFT, b"P1 1 1 0", &[("-", WHITE)]),
@@ -312,7 +313,12 @@ pub const PAGES: &[Case] = pages![
     ),
 ];
 
-pub const STREAMS: &[Case] = &[
+#[test]
+fn worked_pages(rt: HostRuntime) -> Result<(), Fail> {
+    check_pages(&rt, rt.alloc(), PAGES)
+}
+
+const STREAMS: &[Case] = &[
     Case {
         words: LEFT,
         input: b"P1 1 1 1 P1 2 1 11 P1 1 1 0\n",
@@ -335,3 +341,8 @@ pub const STREAMS: &[Case] = &[
         ..PLAIN
     },
 ];
+
+#[test]
+fn pages_of_a_stream(rt: HostRuntime) -> Result<(), Fail> {
+    check_all(&rt, rt.alloc(), STREAMS)
+}

@@ -1,7 +1,8 @@
 //! All pages of a file in one PostScript document: a file's pages are counted, and a document ends with its file alone.
 
-use crate::tests::cases::{Case, PLAIN};
+use crate::tests::cases::{Case, PLAIN, check_all};
 use mem_outside::{InCall, OutCall};
+use std::test::Fail;
 
 /// Two pages of 8 by 8 black pixels, of 15 bytes each.
 const PAGES: &[u8] =
@@ -54,7 +55,7 @@ const FILES: Case<'static> = Case {
     ..PLAIN
 };
 
-pub const RUNS: &[Case] = &[
+const RUNS: &[Case] = &[
     STREAM,
     // A page is cut short: the document is left open behind the one in front of it.
     Case {
@@ -99,7 +100,7 @@ pub const RUNS: &[Case] = &[
     },
 ];
 
-pub const FAILING: &[Case] = &[
+const FAILING: &[Case] = &[
     // The first page is at hand when the read behind it fails.
     Case {
         most_read: 15,
@@ -142,3 +143,13 @@ pub const FAILING: &[Case] = &[
         ..STREAM
     },
 ];
+
+#[test]
+fn one_document_for_a_file(rt: HostRuntime) -> Result<(), Fail> {
+    check_all(&rt, rt.alloc(), RUNS)
+}
+
+#[test]
+fn documents_left_open(rt: HostRuntime) -> Result<(), Fail> {
+    check_all(&rt, rt.alloc(), FAILING)
+}

@@ -1,19 +1,14 @@
 //! What is refused: pages, and words.
 
 use crate::tests::cases::{Case, PLAIN};
+use std::test::Fail;
 
 const LEFT: &str = "-b points -z left -t 0";
 
 const BAD_WORDS: &str = "potrace: bad arguments, see potrace -h\n";
 
-/// Runs by their words, standard input, status and message.
-macro_rules! refused {
-    ($(($words:expr, $input:expr, $status:expr, $said:expr $(,)?)),* $(,)?) => {
-        &[$(Case { words: $words, input: $input, status: $status, said: $said, ..PLAIN }),*]
-    };
-}
-
-pub const REFUSALS: &[Case] = refused![
+/// Words, standard input, the status and the message.
+const REFUSALS: &[(&str, &[u8], u8, &str)] = &[
     (LEFT, b"", 2, "potrace: -: page 1: unknown format\n"),
     (LEFT, b"P5 1 1 0\n", 2, "potrace: -: page 1: bad header\n"),
     (LEFT, b"P2 1 1 255x", 2, "potrace: -: page 1: bad raster\n"),
@@ -53,3 +48,18 @@ pub const REFUSALS: &[Case] = refused![
     ("-t", b"P1 1 1 1", 1, BAD_WORDS),
     ("- -", b"P1 1 1 1", 1, BAD_WORDS),
 ];
+
+#[test]
+fn refusals(rt: HostRuntime) -> Result<(), Fail> {
+    for (words, input, status, said) in REFUSALS {
+        Case {
+            words,
+            input,
+            status: *status,
+            said,
+            ..PLAIN
+        }
+        .check(&rt, rt.alloc())?;
+    }
+    Ok(())
+}

@@ -155,11 +155,11 @@ const SAYING: &[Case] = &[
 
 #[test]
 fn closed_standard_error_changes_nothing_else(rt: HostRuntime) -> Result<(), Fail> {
-    for (row, case) in SAYING.iter().enumerate() {
-        case.check(&rt, rt.alloc(), "", ("runs that say something", row))?;
+    for case in SAYING {
+        case.check(&rt, rt.alloc())?;
         let mut errs = ErrSink::new(Closed);
         let (status, outs) = case.done_saying(&rt, rt.alloc(), &NoGate, &mut errs)?;
-        case.expect_documents(&rt, status, &outs, ("a closed standard error", row));
+        case.expect_documents(&rt, status, &outs);
     }
     Ok(())
 }

@@ -1,8 +1,8 @@
 //! What words ask for: which of them `clap` takes how, and which values are in their ranges.
 
+use crate::tests::cases::split;
 use command_asks::{Ask, WordFault, settings_of};
 use command_words::Name;
-use page_samples::split;
 use pt_core::{Backend, Policy, Settings};
 use std::alloc::Global;
 use std::test::Fail;
@@ -306,16 +306,11 @@ fn put_values(alloc: Global, text: &mut String, settings: &Settings) -> Result<(
     if settings.policy != DEFAULTS.policy {
         text.push_str(format!(in alloc; "{:?} ", settings.policy)?.as_str())?;
     }
-    for &(name, number, default) in &[
-        ("t", settings.turd, DEFAULTS.turd),
-        ("a", settings.alphamax, DEFAULTS.alphamax),
-        ("O", settings.tolerance, DEFAULTS.tolerance),
-        ("u", settings.unit, DEFAULTS.unit),
-        ("k", settings.level, DEFAULTS.level),
-    ] {
-        put_number(alloc, text, name, number, default)?;
-    }
-    Ok(())
+    put_number(alloc, text, "t", settings.turd, DEFAULTS.turd)?;
+    put_number(alloc, text, "a", settings.alphamax, DEFAULTS.alphamax)?;
+    put_number(alloc, text, "O", settings.tolerance, DEFAULTS.tolerance)?;
+    put_number(alloc, text, "u", settings.unit, DEFAULTS.unit)?;
+    put_number(alloc, text, "k", settings.level, DEFAULTS.level)
 }
 
 /// A number behind its name, where it isn't the default.
@@ -335,7 +330,7 @@ fn put_number(
 
 /// The flags that are set.
 fn put_flags(text: &mut String, settings: &Settings) -> Result<(), Fail> {
-    for &(name, set) in &[
+    for (name, set) in [
         ("n ", settings.long_curve),
         ("i ", settings.invert),
         ("flat ", settings.flat),

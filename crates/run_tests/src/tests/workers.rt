@@ -1,10 +1,10 @@
 //! Runs by several workers: they share the pages as they go, up to the most pages that a run may have.
 
-use crate::tests::cases::{Case, PIXEL, PLAIN, document_at};
-use mem_outside::MemOutputs;
+use crate::tests::cases::{Case, Done, PIXEL, PLAIN, document_at};
 use page_samples::HoldsFirst;
 use pt_core::NoGate;
 use std::alloc::Global;
+use std::process::Abort;
 use std::test::Fail;
 
 const FOUR_PAGES: Case<'static> = Case {
@@ -20,63 +20,56 @@ const FOUR_PAGES: Case<'static> = Case {
 fn a_worker_that_is_done_takes_a_further_page(rt: HostRuntime) -> Result<(), Fail> {
     let gate = HoldsFirst::new();
     let done = FOUR_PAGES.done(&rt, rt.alloc(), &gate)?;
-    FOUR_PAGES.expect(&rt, &done, ("four pages", 0));
+    FOUR_PAGES.expect(&rt, &done);
     assert_eq!(rt; gate.told(), (4, 0x0101_0101, 0));
     Ok(())
 }
 
-/// So many pages.
-fn black_pages(alloc: Global, count: u32) -> Result<Vec<u8>, Fail> {
+/// A page more than a run may have.
+fn too_many_pages(alloc: Global) -> Result<Vec<u8>, Fail> {
     let mut input = Vec::new(alloc);
-    for _ in 0..count {
+    for _ in 0..65_537 {
         input.extend_from_slice(b"P1 1 1 1\n")?;
     }
     Ok(input)
 }
 
-/// The first document that isn't that of a page without a path, if there is one.
-fn first_other(outs: &MemOutputs) -> Option<usize> {
+/// The first 65,536 pages are written.
+fn expect_limit(rt: &impl Abort, words: &str, done: &Done) {
+    let said = b"potrace: -: page 65537: too many pages\n".as_slice();
+    assert_eq!(rt;
+        (done.status, done.outs.count(), done.errs.text()),
+        (2, 65_536, said),
+        "{words}"
+    );
     let page = (b"-".as_slice(), b"points 1 1 0\n".as_slice(), true);
-    for i in 0..outs.count() as usize {
-        if document_at(outs, i) != Some(page) {
-            return Some(i);
-        }
+    for i in 0..65_536 {
+        assert!(rt;
+            document_at(&done.outs, i) == Some(page),
+            "{words}: document {i}"
+        );
     }
-    None
 }
 
-/// Words, the number of pages, the status, how many documents there are, and the message. By 63 workers, whose batches have
-/// 126 pages, 16 pages wait when the limit is met; by 1 and by 64 none does.
-const PAGES: &[(&str, u32, u8, u32, &str)] = &[
-    ("-b points --workers 1", 65_537, 2, 65_536, TOO_MANY),
-    ("-b points --workers 63", 65_537, 2, 65_536, TOO_MANY),
-    ("-b points --workers 64", 65_537, 2, 65_536, TOO_MANY),
-    ("-b points --workers 2", 1_001, 0, 1_001, ""),
-    ("-b points --workers 7", 1_001, 0, 1_001, ""),
+/// Words that ask for some number of workers.
+const WORKERS: [&str; 4] = [
+    "-b points --workers 1",
+    "-b points --workers 2",
+    "-b points --workers 7",
+    "-b points --workers 64",
 ];
-
-const TOO_MANY: &str = "potrace: -: page 65537: too many pages\n";
 
 #[test]
 fn pages_up_to_the_limit_by_any_number_of_workers(rt: HostRuntime) -> Result<(), Fail> {
-    for &(words, pages, status, documents, said) in PAGES {
-        let input = black_pages(rt.alloc(), pages)?;
+    let input = too_many_pages(rt.alloc())?;
+    for words in WORKERS {
         let case = Case {
             words,
             input: &input,
             ..PLAIN
         };
         let done = case.done(&rt, rt.alloc(), &NoGate)?;
-        assert_eq!(rt;
-            (
-                done.status,
-                done.outs.count(),
-                first_other(&done.outs),
-                done.errs.text()
-            ),
-            (status, documents, None, said.as_bytes()),
-            "{words}"
-        );
+        expect_limit(&rt, words, &done);
     }
     Ok(())
 }
