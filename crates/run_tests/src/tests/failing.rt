@@ -113,7 +113,7 @@ const RUNS: &[Case] = &[
         most_written: 4,
         unsaid: Some(3),
         status: 2,
-        said: "potrace:",
+        said: "potrace",
         ..PLAIN
     },
 ];

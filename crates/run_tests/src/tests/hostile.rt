@@ -289,17 +289,27 @@ const RUNS: &[Case] = &[
     },
     Case {
         unsaid: Some(8),
-        said: "potrace: a.pbm: trailing bytes after page 2\npotrace: ",
+        said: "potrace: a.pbm: trailing bytes after page 2\npotrace",
         ..MISSING
     },
     Case {
         unsaid: Some(9),
-        said: "potrace: a.pbm: trailing bytes after page 2\npotrace: c.pbm",
+        said: "potrace: a.pbm: trailing bytes after page 2\npotrace: ",
         ..MISSING
     },
     Case {
         unsaid: Some(10),
-        said: "potrace: a.pbm: trailing bytes after page 2\npotrace: c.pbm: cannot be open",
+        said: "potrace: a.pbm: trailing bytes after page 2\npotrace: c.pbm",
+        ..MISSING
+    },
+    Case {
+        unsaid: Some(11),
+        said: "potrace: a.pbm: trailing bytes after page 2\npotrace: c.pbm: ",
+        ..MISSING
+    },
+    Case {
+        unsaid: Some(12),
+        said: "potrace: a.pbm: trailing bytes after page 2\npotrace: c.pbm: cannot be opened",
         ..MISSING
     },
 ];
