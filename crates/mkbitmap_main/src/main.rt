@@ -1,8 +1,8 @@
 //! The program `mkbitmap`, which makes a gray page sharper and larger, as a bitmap.
-//! All that it does is one call, `mk_run` of `mk_run`.
+//! All that it does is one call, `mk_run` of `mkbitmap_run`.
 #![tactic(auto)]
 
-use mk_run::{BAD_WORDS, NAME, mk_run};
+use mkbitmap_run::{BAD_WORDS, NAME, mk_run};
 use pt_base::{ErrSink, FileInputs, FileOutputs};
 use run_output::words_of;
 use std::process::ExitCode;

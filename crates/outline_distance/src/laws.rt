@@ -31,8 +31,8 @@ ghost use Rattle.run_output.specs.Told.{Sinks, Source};
 ghost use Rattle.small_program.specs.Input.{TellsInput};
 ghost use Rattle.small_program.specs.ProgramRun.{IsProgramRun};
 ghost use Rattle.small_program.specs.declared.ending.Ending.{Ending};
-ghost use Rattle.check_run.specs.Rechecked.{FindsRight};
-ghost use Rattle.check_run.specs.Verdict.{IsCheckReply};
+ghost use Rattle.outline_check_run.specs.Rechecked.{FindsRight};
+ghost use Rattle.outline_check_run.specs.Verdict.{IsCheckReply};
 ghost use Rattle.page_trace.specs.Document.{IsDocument};
 ghost use Rattle.point_fill.specs.Filled.{IsFilled};
 

@@ -1,8 +1,8 @@
 //! The program `outline_check`, which says whether certificates are right.
-//! All that it does is one call, `check_run` of `check_run`.
+//! All that it does is one call, `check_run` of `outline_check_run`.
 #![tactic(auto)]
 
-use check_run::check_run;
+use outline_check_run::check_run;
 use pt_base::{ErrSink, FileInputs, FileOutputs};
 use run_output::words_of;
 use small_program::BAD_WORDS;

@@ -6,8 +6,8 @@ use Rattle.pt_core.specs.declared.settings.Backend.TheVariants as backends
 use Rattle.pt_core.specs.declared.settings.Settings.{Settings}
 use Rattle.pt_core.specs.declared.trace.Trace.{Trace}
 use Rattle.bit_image.specs.Page.{Page, IsPage}
-use Rattle.command_asks.specs.declared.ask.Ask.TheVariants as asks
-use Rattle.command_asks.proofs.Possible.{possible}
+use Rattle.potrace_words.specs.declared.ask.Ask.TheVariants as asks
+use Rattle.potrace_words.proofs.Possible.{possible}
 use Rattle.page_trace.specs.Document.{IsDocument, IsDocumentUnder}
 use Rattle.page_trace.specs.Trace.{IsTrace}
 use Rattle.document_readings.specs.DxfReading.{dxf_polylines}

@@ -1,8 +1,8 @@
 -- Settings that words give.
 use Rattle.std.specs.Prelude.{ℕ, List, Option}
 use Rattle.pt_core.specs.declared.settings.Settings.{Settings}
-use Rattle.command_asks.specs.Asked.{IsAsked}
-use Rattle.command_asks.specs.declared.ask.Ask.TheVariants.{Files}
+use Rattle.potrace_words.specs.Asked.{IsAsked}
+use Rattle.potrace_words.specs.declared.ask.Ask.TheVariants.{Files}
 
 -- the words ask that files be traced under these settings
 pub record AskUnder (words : List (List ℕ)) (settings : Settings) : Type 0 where

@@ -1,8 +1,8 @@
 //! The program `point_fill`, which fills the page that a points text tells.
-//! All that it does is one call, `fill_run` of `fill_run`.
+//! All that it does is one call, `fill_run` of `point_fill_run`.
 #![tactic(auto)]
 
-use fill_run::fill_run;
+use point_fill_run::fill_run;
 use pt_base::{ErrSink, FileInputs, FileOutputs};
 use run_output::words_of;
 use small_program::BAD_WORDS;

@@ -4,8 +4,8 @@ use Rattle.pt_core.specs.Files.{Contents}
 use Rattle.run_output.specs.Names.{dash}
 use Rattle.run_output.specs.Told.{Sinks, Source}
 use Rattle.run_output.specs.declared.status.Status.{Status}
-use Rattle.command_asks.specs.declared.ask.Ask.{Ask}
-use Rattle.command_asks.specs.declared.ask.Ask.TheVariants as asks
+use Rattle.potrace_words.specs.declared.ask.Ask.{Ask}
+use Rattle.potrace_words.specs.declared.ask.Ask.TheVariants as asks
 use Rattle.page_batches.specs.Items.{Doc, Item}
 use Rattle.page_batches.specs.ItemsDone.{HasEnded}
 use Rattle.file_documents.specs.Alike.{EndAlike, IsUndisturbed}

@@ -11,8 +11,8 @@ use Rattle.run_output.specs.Status.{code_of}
 use Rattle.run_output.specs.declared.part.Binding.TheVariants.{Apart}
 use Rattle.run_output.specs.declared.status.Status.{Status}
 use Rattle.run_output.specs.declared.status.Status.TheVariants as status
-use Rattle.command_asks.specs.declared.ask.Ask.{Ask}
-use Rattle.command_asks.specs.declared.ask.Ask.TheVariants as asks
+use Rattle.potrace_words.specs.declared.ask.Ask.{Ask}
+use Rattle.potrace_words.specs.declared.ask.Ask.TheVariants as asks
 use Rattle.page_batches.specs.Items.{Doc, GoesOn, Item}
 use Rattle.page_batches.specs.Items.Item.{Missing, Refuse}
 use Rattle.page_batches.specs.ItemsDone.{AreCarriedOut, HasEnded}

@@ -5,7 +5,7 @@ ghost use Rattle.pt_core.specs.declared.settings.Settings.{Settings};
 ghost use Rattle.pt_core.specs.Needs.{CanWrite};
 ghost use Rattle.run_output.specs.Told.{Sinks, Source};
 ghost use Rattle.run_output.specs.declared.status.Status.{Status};
-ghost use Rattle.command_asks.specs.declared.ask.Ask.{Ask};
+ghost use Rattle.potrace_words.specs.declared.ask.Ask.{Ask};
 ghost use Rattle.file_documents.specs.Alike.{EndAlike, IsUndisturbed};
 ghost use Rattle.potrace_main.specs.Demo.{IsDemoText};
 ghost use Rattle.potrace_main.specs.Run.{IsOutcomeOf, with_workers};

@@ -3,8 +3,8 @@ use Rattle.std.specs.Prelude.{◌≡◌, ℕ, false, List}
 use Rattle.pt_core.specs.declared.inputs.Inputs.{Ghosts as InputGhosts}
 use Rattle.run_output.specs.declared.status.Status.{Status}
 use Rattle.run_output.specs.declared.status.Status.TheVariants as status
-use Rattle.command_asks.specs.Asked.{IsAsked}
-use Rattle.command_asks.specs.declared.ask.Ask.{Ask}
+use Rattle.potrace_words.specs.Asked.{IsAsked}
+use Rattle.potrace_words.specs.declared.ask.Ask.{Ask}
 use Rattle.run_output.specs.Told.{AllWent, BrokeOff, Sinks, Source, source_of}
 use Rattle.file_documents.specs.Outcome.{OpensFirst, InputCount}
 use Rattle.potrace_main.specs.Run.{IsOutcomeOf, names_of, RefusesWords, BindsApart, IsOnePassOf, LosesBatchOf}

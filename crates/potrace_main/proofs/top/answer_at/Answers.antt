@@ -2,9 +2,9 @@ use Rattle.std.proofs.Common.{◌≡◌, Err, ap, inl, map, refl}
 use Rattle.std.specs.Prelude.{string_bytes}
 use Rattle.run_output.specs.Messages.{bad_words, out_of_memory}
 use Rattle.run_output.specs.declared.status.Status.TheVariants as status
-use Rattle.command_asks.specs.Asked.{IsAsked}
-use Rattle.command_asks.proofs.OneAsk.{one_ask}
-use Rattle.command_asks.proofs.Possible.{possible}
+use Rattle.potrace_words.specs.Asked.{IsAsked}
+use Rattle.potrace_words.proofs.OneAsk.{one_ask}
+use Rattle.potrace_words.proofs.Possible.{possible}
 use Rattle.page_batches.proofs.Carrying.{only_said}
 use Rattle.page_batches.proofs.Counts.{same_count}
 use Rattle.potrace_main.proofs.Completing.{asked_moves, lost_at_once, never_refuses, out_at_once}

@@ -1,7 +1,7 @@
 use Rattle.std.proofs.Common.{◌∙◌, ap, inl, inr, map, sym}
 use Rattle.std.specs.Prelude.{string_bytes}
 use Rattle.run_output.specs.Status.{code_of}
-use Rattle.command_asks.proofs.Possible.{possible}
+use Rattle.potrace_words.proofs.Possible.{possible}
 use Rattle.potrace_main.proofs.Completing.{closed_else, code_one, failed_by, rose_by, run_absent, run_complete, run_near, run_unread, unwritten_by}
 use Rattle.potrace_main.proofs.top.run.Goals as goal
 

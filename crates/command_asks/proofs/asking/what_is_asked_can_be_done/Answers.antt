@@ -1,6 +1,0 @@
-use Rattle.command_asks.proofs.Possible.{possible}
-use Rattle.command_asks.proofs.asking.what_is_asked_can_be_done.Goals as goal
-
--- each number is in its range
-pub returns : goal.returns
-returns c = possible

@@ -1,5 +1,0 @@
-use Rattle.command_asks.proofs.numbers.whole_or.Goals as goal
-
--- where there is a value, the default doesn't count
-pub returns-in-Some-clause-refused : goal.returns-in-Some-clause-refused
-returns-in-Some-clause-refused c = rw c.in-Some.is (rw c.in-Some.is at c.whole_of.ensures.refused)

@@ -1,9 +1,0 @@
-use Rattle.std.proofs.Common.{◌≡◌, take}
-use Rattle.std.specs.Prelude.{count_by}
-use Rattle.std.specs.Str.{bytes_eq}
-use Rattle.run_output.specs.Names.{dash}
-use Rattle.command_asks.proofs.words.dashes_in.Given as goal
-
--- the names so far are counted
-abbrev pub invariant-loop-file : goal.invariant-loop-file
-invariant-loop-file l = l.dashes ≡ count_by (λ name. bytes_eq name dash) (take l.file-index l.files)

@@ -1,8 +1,0 @@
-use Rattle.std.proofs.lemmas.Result.{IfOk-weaker}
-use Rattle.command_asks.specs.Asked.{Asks, CanBeDone}
-use Rattle.command_asks.proofs.Possible.{possible_of_parsed}
-use Rattle.command_asks.proofs.words.settings_of.Goals as goal
-
--- whatever is asked for can be done
-pub returns-in-Ok-clause-can_be_done : goal.returns-in-Ok-clause-can_be_done
-returns-in-Ok-clause-can_be_done c = IfOk-weaker c.ask_of.result (Asks c.in-Ok.parsed) CanBeDone (possible_of_parsed c.in-Ok.parsed) c.ask_of.ensures.ok

@@ -1,6 +1,0 @@
-use Rattle.filter_words.proofs.Asking.{one_filter_ask}
-use Rattle.filter_words.proofs.laws.words_ask_for_one_filter.Goals as goal
-
--- what words ask for is a function of them
-pub returns : goal.returns
-returns c = one_filter_ask

@@ -1,0 +1,85 @@
+//! Runs of `point_fill` over standard input in memory, and what is to come of them.
+use mem_outside::{InCall, MemInputs, MemOutputs, MemSink, OutCall};
+use page_samples::{first_of, listed, named};
+use point_fill_run::fill_run;
+use pt_core::NoMemory;
+use std::alloc::Global;
+use std::process::Abort;
+use std::test::Fail;
+
+/// What a run is made of, and what is to come of it.
+#[derive(Clone, Copy)]
+pub struct Case<'a> {
+    /// A word, if there is one.
+    pub word: Option<&'a str>,
+    /// The name of the one file, and its bytes.
+    pub name: &'a str,
+    pub input: &'a [u8],
+    /// How many bytes a read and a write take.
+    pub most: u32,
+    /// The calls that fail; those of a message are counted from 1.
+    pub unread: Option<InCall>,
+    pub unwritten: Option<OutCall>,
+    pub unsaid: Option<u64>,
+    /// How the run is to end.
+    pub status: u8,
+    /// The document that is to be there, and whether it is whole.
+    pub document: Option<(&'a [u8], bool)>,
+    /// The message.
+    pub said: &'a str,
+}
+
+/// A text of two pixels that touch at a corner, and its page.
+pub const DIAGONAL: &[u8] = b"points 2 2 2\n+ 1 0,2 0,1 1,1 1,2\n+ 1 1,1 1,0 2,0 2,1\n";
+
+pub const DIAGONAL_PAGE: &[u8] = b"P4\n2 2\n\x80\x40";
+
+/// A run over that text where no call fails and no document is to come.
+pub const PLAIN: Case<'static> = Case {
+    word: None,
+    name: "-",
+    input: DIAGONAL,
+    most: 4096,
+    unread: None,
+    unwritten: None,
+    unsaid: None,
+    status: 0,
+    document: None,
+    said: "",
+};
+
+impl<'a> Case<'a> {
+    /// Runs, and looks at all that came of it.
+    pub fn check(&self, rt: &impl Abort, alloc: Global) -> Result<(), Fail> {
+        let mut words = Vec::new(alloc);
+        if let Some(word) = self.word {
+            words.push(String::from_str(alloc, word)?)?;
+        }
+        let mut inputs = self.inputs(alloc)?;
+        let most = self.most.max(1);
+        let mut outs = MemOutputs::new(alloc, most, listed(alloc, self.unwritten)?, 2, 100_000)?;
+        let mut errs = MemSink::new(alloc, most, listed(alloc, self.unsaid)?, 1000)?;
+        let status = fill_run(alloc, &words, &mut inputs, &mut outs, &mut errs);
+        assert_eq!(rt;
+            (status, errs.text(), first_of(&outs)),
+            (self.status, self.said.as_bytes(), self.document),
+            "{:?}",
+            self.input
+        );
+        Ok(())
+    }
+
+    fn inputs(&self, alloc: Global) -> Result<MemInputs, NoMemory> {
+        let file = named(alloc, self.name, self.input)?;
+        let unread = listed(alloc, self.unread)?;
+        Ok(MemInputs::new(vec![in alloc; file]?, self.most.max(1), unread))
+    }
+}
+
+/// Runs each case.
+pub fn check_all(rt: &impl Abort, alloc: Global, cases: &[Case]) -> Result<(), Fail> {
+    for case in cases {
+        case.check(rt, alloc)?;
+    }
+    Ok(())
+}
