@@ -7,7 +7,7 @@ use Rattle.straight_paths.specs.Corners.{step_from}
 use Rattle.straight_paths.specs.Inner.Cones.{IsSound}
 use Rattle.straight_paths.specs.Inner.Courses.{HasCourse, IsCourse, cone_of, no_course}
 use Rattle.straight_paths.specs.Straight.{IsStraight}
-use Rattle.straight_paths.specs.Inner.Tables.{IsWordTable, StandsFor, KeepsWords, LeadsToWord, count_at, course_at, digits_at}
+use Rattle.straight_paths.specs.Inner.Tables.{GrowsInto, IsWordTable, StandsFor, KeepsWords, LeadsToWord, count_at, course_at, digits_at}
 use Rattle.straight_paths.specs.Inner.NextSteps.{IsStraightUpTo, TellsFront, TellsNext}
 use Rattle.straight_paths.specs.declared.course.Course.{Course}
 use Rattle.straight_paths.specs.declared.table.Table.{Table}
@@ -29,6 +29,9 @@ keeps_on old mid new a b = record {
   digits = λ node h. b.digits node (omega (arith, a.used)) ∙ a.digits node h;
   courses = λ node h. b.courses node (omega (arith, a.used)) ∙ a.courses node h;
 }
+
+pub grows_on : (old mid new : Table) → GrowsInto old mid → GrowsInto mid new → GrowsInto old new
+grows_on old mid new a b = record { whole = b.whole; keeps = keeps_on old mid new a.keeps b.keeps }
 
 -- what a step leads to in a table it leads to in one that keeps it
 pub leads_kept : (old new : Table) (node digit next : ℕ) → KeepsWords old new → node < old.used → LeadsToWord old node digit next → LeadsToWord new node digit next

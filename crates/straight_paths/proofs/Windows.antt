@@ -1,15 +1,15 @@
 -- What is straight from an index on, as a window of the walk.
-use Rattle.std.proofs.Common.{◌≡◌, ◌⊎◌, ℕ, zero, suc, ◌+◌, ◌-◌, ◌<◌, ◌≤◌, min, IfSome, Option, None, inl, inr, List, length, refl, sym, ◌∙◌, ap, subst, arith}
+use Rattle.std.proofs.Common.{◌≡◌, ◌⊎◌, ℕ, zero, suc, ◌+◌, ◌-◌, ◌<◌, ◌≤◌, min, IfSome, Option, None, inl, inr, List, length, length-set, set, refl, sym, ◌∙◌, ap, subst, arith}
 use Rattle.std.proofs.lemmas.Bool.{cases_lt}
 use Rattle.pt_core.specs.ClosedWalk.{point_at}
 use Rattle.pt_core.specs.declared.point.Point.{Point}
 use Rattle.straight_paths.specs.Inner.Codes.{IsCoded, coded_step}
 use Rattle.straight_paths.specs.Inner.Cones.{IsClear}
 use Rattle.straight_paths.specs.Straight.{IsStraight, path_from, vector_of}
-use Rattle.straight_paths.specs.Inner.Strips.{IsStrip, StaysIn}
-use Rattle.straight_paths.specs.Inner.Sweeps.{IsEnd, IsEnough, IsSeen, IsTold, IsStraightBefore}
-use Rattle.straight_paths.specs.Inner.Tables.{StandsFor, KeepsWords, LeadsToWord, count_at, digits_at}
-use Rattle.straight_paths.specs.Inner.Tails.{IsAhead, IsStraightFor, IsTail, limit_of}
+use Rattle.straight_paths.specs.Inner.Strips.{HoldsPath}
+use Rattle.straight_paths.specs.Inner.Sweeps.{AreStraightFrom, IsEnd, IsEnough, IsSeen, IsTold, IsStraightBefore}
+use Rattle.straight_paths.specs.Inner.Tables.{GrowsInto, IsWordTable, LeadsToWord, StandsFor, count_at, digits_at}
+use Rattle.straight_paths.specs.Inner.Tails.{IsAhead, IsStraightFor, IsTail, last_of, limit_of}
 use Rattle.straight_paths.specs.Inner.NextSteps.{IsStraightUpTo, TellsNext}
 use Rattle.straight_paths.specs.declared.strip.Strip.{Strip}
 use Rattle.straight_paths.specs.declared.sweep.Seen.{Seen}
@@ -17,6 +17,7 @@ use Rattle.straight_paths.specs.declared.table.Table.{Table}
 use Rattle.straight_paths.specs.declared.vector.Vector.{Vector}
 use Rattle.straight_paths.proofs.Cyclic.{first_step, path_lap_on, rest_is}
 use Rattle.straight_paths.proofs.Pieces.{is_clear, none_is_straight, shorter, without_first}
+use Rattle.straight_paths.proofs.Places.{one_more_down}
 
 -- ---- a step earlier
 
@@ -60,37 +61,41 @@ module _ (points : List Point) (last at count digits digit to_count to_digits : 
       let longest = told.0 in
       let inside = window.within in
       let few = longest.within in
-      record { within = omega arith; straight = longest.straight; no_more = no_more }
+      record { in_laps = window.in_laps; within = omega arith; straight = longest.straight; no_more = no_more }
 
   coded_earlier : IsCoded to_count (path_from points at) to_digits
   coded_earlier = told.1
 
 pub told_earlier : (table new : Table) (points : List Point) (last at node digit next : ℕ) (step : Vector)
-    → IsTold table points last (at + 1) node → KeepsWords table new
+    → IsTold table points last (at + 1) node → GrowsInto table new
     → step ≡ vector_of (point_at points at) (point_at points (at + 1)) → step ≡ coded_step digit
     → LeadsToWord new node digit next → IsTold new points last at next
-told_earlier table new points last at node digit next step t keeps is into leads =
-    let c = keeps.counts node t.known in
-    let d = keeps.digits node t.known in
+told_earlier table new points last at node digit next step t grows is into leads =
+    let c = grows.keeps.counts node t.word.known in
+    let d = grows.keeps.digits node t.word.known in
     let w : IsStraightBefore points last (at + 1) (count_at new node) = subst (λ (n : ℕ). IsStraightBefore points last (at + 1) n) (sym c) t.window in
     let f : IsCoded (count_at new node) (path_from points (at + 1)) (digits_at table node) =
     subst (λ (n : ℕ). IsCoded n (path_from points (at + 1)) (digits_at table node)) (sym c) t.coded in
     let g : IsCoded (count_at new node) (path_from points (at + 1)) (digits_at new node) =
     subst (λ (n : ℕ). IsCoded (count_at new node) (path_from points (at + 1)) n) (sym d) f in
     record {
-      known = leads.known;
+      word = record { whole = grows.whole; known = leads.known };
       window = window_earlier points last at (count_at new node) (digits_at new node) digit (count_at new next) (digits_at new next) step w g is into leads.tells;
       coded = coded_earlier points last at (count_at new node) (digits_at new node) digit (count_at new next) (digits_at new next) step w g is into leads.tells;
     }
 
 -- the table that stays as it is
-pub keeps_all : (table : Table) → KeepsWords table table
-keeps_all table = record { used = omega arith; counts = λ node h. refl; digits = λ node h. refl; courses = λ node h. refl }
+pub stays_whole : (table : Table) → IsWordTable table → GrowsInto table table
+stays_whole table whole = record {
+  whole = whole;
+  keeps = record { used = omega arith; counts = λ node h. refl; digits = λ node h. refl; courses = λ node h. refl };
+}
 
 -- ---- ends
 
-pub window_at_last : (points : List Point) (last : ℕ) → IsStraightBefore points last last 0
-window_at_last points last = record {
+pub window_at_last : (points : List Point) (last : ℕ) → last ≤ last_of points → IsStraightBefore points last last 0
+window_at_last points last in_laps = record {
+  in_laps = in_laps;
   within = omega arith;
   straight = none_is_straight (path_from points last);
   no_more = λ c h s. omega arith;
@@ -122,8 +127,10 @@ end_of_seen points last at seen s =
     }
 
 -- as a window, where it is below the limit
-pub window_of_end : (points : List Point) (last at count : ℕ) → IsEnd points last at count → count < limit_of points → IsStraightBefore points last at count
-window_of_end points last at count e below = record {
+pub window_of_end : (points : List Point) (last at count : ℕ) → last ≤ last_of points → IsEnd points last at count → count < limit_of points
+    → IsStraightBefore points last at count
+window_of_end points last at count in_laps e below = record {
+  in_laps = in_laps;
   within = e.within;
   straight = e.straight;
   no_more = λ c h s. elim (cases_lt count c) [
@@ -155,6 +162,22 @@ straight_for_end points last i count enough low e =
                   absurd (fails (subst (λ (n : ℕ). IsStraight (path_from points n) r) there (dropped points k i (k + r) r refl front)))
             ]
           ];
+    }
+
+pub none_yet : (points : List Point) (steps : List ℕ) → length steps ≡ length points → AreStraightFrom points (length points) steps
+none_yet points steps places = record { places = places; in_lap = omega arith; straight = λ k h l. absurd (omega arith) }
+
+-- one more point is told
+pub one_more : (points : List Point) (last index count : ℕ) (steps : List ℕ) → IsEnough points last → AreStraightFrom points (index + 1) steps
+    → IsEnd points last index count → AreStraightFrom points index (set steps index count)
+one_more points last index count steps enough told e =
+    let places = told.places in
+    let in_lap = told.in_lap in
+    record {
+      places = length-set steps index count ∙ told.places;
+      in_lap = omega arith;
+      straight = one_more_down (IsStraightFor points) steps index count (length points) (omega arith) told.straight
+          (straight_for_end points last index count enough (omega arith) e);
     }
 
 pub enough_near : (points : List Point) (near last count : ℕ) → last ≡ length points + near → near ≤ limit_of points
@@ -207,9 +230,9 @@ seen_from_window points last at count end seen w is same looked ahead none =
       };
       within = omega arith;
       looked = omega arith;
+      in_laps = w.in_laps;
       no_more = λ c m h s. let f = w.no_more c h s in omega arith;
-      strip = subst (λ (o : Option Strip). IfSome o IsStrip) (sym none) tt;
-      stays = subst (λ (o : Option Strip). IfSome o (λ strip. StaysIn strip (path_from points at) (seen.tail.end - at))) (sym none) tt;
+      strip = subst (λ (o : Option Strip). IfSome o (λ strip. HoldsPath strip (path_from points at) (seen.tail.end - at))) (sym none) tt;
     }
 
 -- the same from one index earlier
@@ -221,9 +244,9 @@ no_more_earlier points last at looked low later (suc c) m h s =
     let f = later c (omega arith) (omega arith) (later_straight points at c s) in omega arith
 
 pub seen_earlier : (points : List Point) (last at : ℕ) (later seen : Seen) → IsSeen points last (at + 1) later → IsTail points at seen.tail
-    → seen.tail.ahead.last ≡ later.tail.ahead.last → seen.tail.end ≤ later.tail.end → IfSome seen.strip IsStrip
-    → IfSome seen.strip (λ strip. StaysIn strip (path_from points at) (seen.tail.end - at)) → IsSeen points last at seen
-seen_earlier points last at later seen s tail same no_later strip stays =
+    → seen.tail.ahead.last ≡ later.tail.ahead.last → seen.tail.end ≤ later.tail.end
+    → IfSome seen.strip (λ strip. HoldsPath strip (path_from points at) (seen.tail.end - at)) → IsSeen points last at seen
+seen_earlier points last at later seen s tail same no_later strip =
     let a = s.within in
     let b = s.looked in
     let least = s.tail.at_least in
@@ -231,20 +254,20 @@ seen_earlier points last at later seen s tail same no_later strip stays =
       tail = tail;
       within = omega arith;
       looked = omega arith;
+      in_laps = s.in_laps;
       no_more = λ c m h k. let f = no_more_earlier points last at later.tail.ahead.last (omega arith) s.no_more c m h k in omega arith;
       strip = strip;
-      stays = stays;
     }
 
 -- what a strip held, as a word of a table
 pub told_of_seen : (table : Table) (points : List Point) (last index node count digits : ℕ) (seen : Seen) → IsSeen points last index seen
-    → count ≡ seen.tail.end - index → count < limit_of points → IsCoded count (path_from points index) digits → StandsFor table node count digits
+    → count ≡ seen.tail.end - index → count < limit_of points → IsWordTable table → IsCoded count (path_from points index) digits → StandsFor table node count digits
     → IsTold table points last index node
-told_of_seen table points last index node count digits seen s is below coded spelled =
+told_of_seen table points last index node count digits seen s is below whole coded spelled =
     let e : IsEnd points last index count = subst (IsEnd points last index) (sym is) (end_of_seen points last index seen s) in
     let same = spelled.same (path_from points index) coded e.straight in
     record {
-      known = spelled.known;
-      window = subst (IsStraightBefore points last index) (sym same.0) (window_of_end points last index count e below);
+      word = record { whole = whole; known = spelled.known };
+      window = subst (IsStraightBefore points last index) (sym same.0) (window_of_end points last index count s.in_laps e below);
       coded = subst (λ n. IsCoded n (path_from points index) (digits_at table node)) (sym same.0) same.1;
     }

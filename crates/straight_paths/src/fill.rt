@@ -38,7 +38,6 @@ pub(crate) fn straight_of(
 fn fill_straight(track: &Track, steps: &mut [u32], table: &mut Table)
     requires places { length steps.old ≡ length track.now }
     requires table { IsWordTable table.old }
-    ensures places { length steps.new ≡ length steps.old }
     ensures table { IsWordTable table.new }
     ensures straight { AreStraight track.now steps.new }
 {
@@ -65,8 +64,7 @@ fn from_beyond(track: &Track, last: usize, table: &mut Table) -> Sweep
     requires lap { length track.now ≤ last }
     requires last { last ≤ last_of track.now }
     requires table { IsWordTable table.old }
-    ensures table { IsWordTable table.new }
-    ensures sweep { IsSweep table.new track.now last (length track.now) result }
+    ensures { IsSweep table.new track.now last (length track.now) result }
 {
     let mut sweep = Sweep::at_last(track, table, last);
     for index in (track.size()..last).rev() {
@@ -79,9 +77,7 @@ fn from_beyond(track: &Track, last: usize, table: &mut Table) -> Sweep
 fn fill_from(track: &Track, last: usize, start: Sweep, steps: &mut [u32], table: &mut Table)
     requires places { length steps.old ≡ length track.now }
     requires enough { IsEnough track.now last }
-    requires table { IsWordTable table.old }
     requires sweep { IsSweep table.old track.now last (length track.now) start }
-    ensures places { length steps.new ≡ length steps.old }
     ensures table { IsWordTable table.new }
     ensures straight { AreStraight track.now steps.new }
 {
@@ -114,13 +110,9 @@ fn led_on(
     steps: &mut [u32],
     table: &Table,
 ) -> Led
-    requires places { length steps.old ≡ length track.now }
     requires enough { IsEnough track.now last }
-    requires from { from ≤ length track.now }
-    requires table { IsWordTable table.now }
     requires sweep { IsSweep table.now track.now last from sweep }
     requires straight { AreStraightFrom track.now from steps.old }
-    ensures places { length steps.new ≡ length steps.old }
     ensures index { result.index ≤ from }
     ensures sweep { IsSweep table.now track.now last result.index result.sweep }
     ensures straight { AreStraightFrom track.now result.index steps.new }
@@ -150,7 +142,7 @@ struct At {
     node: u32,
 }
 
-/// The same from a word of the table on.
+/// Writes down how many steps are straight, from a word of the table on, as far as the table tells.
 fn told_on(
     track: &Track,
     last: usize,
@@ -159,13 +151,9 @@ fn told_on(
     steps: &mut [u32],
     table: &Table,
 ) -> At
-    requires places { length steps.old ≡ length track.now }
     requires enough { IsEnough track.now last }
-    requires from { from ≤ length track.now }
-    requires table { IsWordTable table.now }
     requires told { IsTold table.now track.now last from node }
     requires straight { AreStraightFrom track.now from steps.old }
-    ensures places { length steps.new ≡ length steps.old }
     ensures index { result.index ≤ from }
     ensures told { IsTold table.now track.now last result.index result.node }
     ensures straight { AreStraightFrom track.now result.index steps.new }
@@ -191,17 +179,14 @@ struct Hold {
     seen: Seen,
 }
 
-/// The same from a strip on, as far as it holds the points.
+/// Writes down how many steps are straight, from a strip on, as far as it holds the points.
 //
 // What is straight is kept beside the loop here, and not in a sweep that is made anew for each point: to move that
 // took longer than all that is asked of a strip.
 fn held_on(track: &Track, last: usize, from: usize, seen: Seen, steps: &mut [u32]) -> Hold
-    requires places { length steps.old ≡ length track.now }
     requires enough { IsEnough track.now last }
-    requires from { from ≤ length track.now }
     requires seen { IsSeen track.now last from seen }
     requires straight { AreStraightFrom track.now from steps.old }
-    ensures places { length steps.new ≡ length steps.old }
     ensures index { result.index ≤ from }
     ensures seen { IsSeen track.now last result.index result.seen }
     ensures straight { AreStraightFrom track.now result.index steps.new }
@@ -219,7 +204,7 @@ fn held_on(track: &Track, last: usize, from: usize, seen: Seen, steps: &mut [u32
     hold
 }
 
-/// The same along a straight run.
+/// Writes down how many steps are straight along a straight run, as far as the strip holds its points.
 //
 // All of a run is one step, so that what its strip asks of a point is a sum or two.
 #[inline(always)]
@@ -231,13 +216,10 @@ fn along(
     seen: Seen,
     steps: &mut [u32],
 ) -> Hold
-    requires places { length steps.old ≡ length track.now }
     requires enough { IsEnough track.now last }
-    requires from { from ≤ length track.now }
     requires run { IsShort 1 run }
     requires seen { IsSeen track.now last from seen }
     requires straight { AreStraightFrom track.now from steps.old }
-    ensures places { length steps.new ≡ length steps.old }
     ensures index { result.index ≤ from }
     ensures seen { IsSeen track.now last result.index result.seen }
     ensures straight { AreStraightFrom track.now result.index steps.new }

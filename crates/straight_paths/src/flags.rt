@@ -28,7 +28,7 @@ impl Flags {
         }
     }
 
-    /// The same after a step more.
+    /// Which directions were taken once a step more is.
     pub(crate) fn with(self, digit: u32) -> Flags
         requires { digit < 4 }
         ensures { (path : ℕ → Point) (count : ℕ) → step_from path count ≡ coded_step digit

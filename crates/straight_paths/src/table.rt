@@ -4,10 +4,9 @@ ghost use Rattle.pt_core.specs.declared.point.Point.{Point};
 ghost use Rattle.straight_paths.specs.Inner.Codes.{IsCoded, beyond, coded_step};
 ghost use Rattle.straight_paths.specs.Inner.Cones.{HoldsWay};
 ghost use Rattle.straight_paths.specs.Corners.{step_from};
-ghost use Rattle.straight_paths.specs.Inner.Courses.{IsCourse, cone_of, no_course, wide_of};
+ghost use Rattle.straight_paths.specs.Inner.Courses.{cone_of, wide_of};
 ghost use Rattle.straight_paths.specs.Straight.{IsStraight};
-ghost use Rattle.straight_paths.specs.Inner.Tables.{IsWordTable, KeepsWords, LeadsToWord, StandsFor, count_at, course_at, digits_at};
-ghost use Rattle.straight_paths.specs.Inner.NextSteps.{TellsFront};
+ghost use Rattle.straight_paths.specs.Inner.Tables.{GrowsInto, HasWordAt, IsCourseOf, IsWordOf, IsWordTable, LeadsFront, LeadsToWord, StandsFor, count_at, course_at, digits_at};
 
 use crate::course::Course;
 use crate::word::{LONGEST, Word};
@@ -65,8 +64,7 @@ impl Table {
 
     /// What a step in front of a word leads to, if that was met; else 0.
     pub(crate) fn told(&self, node: u32, digit: u32) -> u32
-        requires table { IsWordTable self.now }
-        requires node { node < self.now.used }
+        requires word { IsWordOf self.now node }
         requires digit { digit < 4 }
         ensures value { result ≡ slice_index self.now.nexts.items (4 * node + digit) }
     {
@@ -75,8 +73,7 @@ impl Table {
 
     /// The number of steps of a word.
     pub(crate) fn count(&self, node: u32) -> u32
-        requires table { IsWordTable self.now }
-        requires node { node < self.now.used }
+        requires word { IsWordOf self.now node }
         ensures value { result ≡ count_at self.now node }
     {
         self.counts[node as usize]
@@ -84,8 +81,7 @@ impl Table {
 
     /// A word.
     fn word(&self, node: u32) -> Word
-        requires table { IsWordTable self.now }
-        requires node { node < self.now.used }
+        requires word { IsWordOf self.now node }
         ensures count { result.count ≡ count_at self.now node }
         ensures digits { result.digits ≡ digits_at self.now node }
     {
@@ -97,8 +93,7 @@ impl Table {
 
     /// What the steps of a word come to.
     fn course(&self, node: u32) -> Course
-        requires table { IsWordTable self.now }
-        requires node { node < self.now.used }
+        requires word { IsWordOf self.now node }
         ensures { result ≡ course_at self.now node }
     {
         self.courses[node as usize]
@@ -109,11 +104,9 @@ impl Table {
     // 1. It is found for the word without its last step.
     // 2. Where less is straight there, the last step changes nothing. Else its end alone is asked.
     pub(crate) fn next(&mut self, node: u32, digit: u32) -> Option<u32>
-        requires table { IsWordTable self.old }
-        requires node { node < self.old.used }
+        requires word { IsWordOf self.old node }
         requires digit { digit < 4 }
-        ensures table { IsWordTable self.new }
-        ensures keeps { KeepsWords self.old self.new }
+        ensures grows { GrowsInto self.old self.new }
         ensures leads { IfSome result (LeadsToWord self.new node digit) }
     {
         let known = self.told(node, digit);
@@ -130,17 +123,12 @@ impl Table {
         }
     }
 
-    /// The same, by the word `next` to which the step leads in front of the word without its last step.
+    /// What a step in front of a word leads to, by the word `next` to which it leads in front of that without its last step.
     fn by_front(&mut self, node: u32, digit: u32, next: u32, last: u32) -> Option<u32>
-        requires table { IsWordTable self.old }
-        requires node { node < self.old.used }
+        requires word { IsWordOf self.old node }
         requires digit { digit < 4 }
-        requires next { next < self.old.used }
-        requires last { last < 4 }
-        requires front { TellsFront (count_at self.old node) (digits_at self.old node) digit
-            (count_at self.old next) (digits_at self.old next) last }
-        ensures table { IsWordTable self.new }
-        ensures keeps { KeepsWords self.old self.new }
+        requires front { LeadsFront self.old node digit next last }
+        ensures grows { GrowsInto self.old self.new }
         ensures leads { IfSome result (LeadsToWord self.new node digit) }
     {
         if self.count(next) != self.count(node) {
@@ -154,23 +142,18 @@ impl Table {
         self.longer(node, digit, next, last)
     }
 
-    /// The same where all of it is straight: the word is added, if there is room.
+    /// What a step in front of a word leads to where all of it is straight: the word is added, if there is room.
     fn longer(&mut self, node: u32, digit: u32, next: u32, last: u32) -> Option<u32>
-        requires table { IsWordTable self.old }
-        requires node { node < self.old.used }
+        requires word { IsWordOf self.old node }
         requires digit { digit < 4 }
-        requires next { next < self.old.used }
-        requires last { last < 4 }
-        requires front { TellsFront (count_at self.old node) (digits_at self.old node) digit
-            (count_at self.old next) (digits_at self.old next) last }
+        requires front { LeadsFront self.old node digit next last }
         requires same { count_at self.old next ≡ count_at self.old node }
         requires held { HoldsWay (cone_of (course_at self.old next).cone)
             (beyond (wide_of (course_at self.old next).way) last) }
         requires straight { (path : ℕ → Point) → step_from path 0 ≡ coded_step digit
             → IsCoded (count_at self.old node) (λ k. path (suc k)) (digits_at self.old node)
             → IsStraight (λ k. path (suc k)) (count_at self.old node) → IsStraight path (suc (count_at self.old node)) }
-        ensures table { IsWordTable self.new }
-        ensures keeps { KeepsWords self.old self.new }
+        ensures grows { GrowsInto self.old self.new }
         ensures leads { IfSome result (LeadsToWord self.new node digit) }
     {
         let word = self.word(node).with(digit);
@@ -193,10 +176,8 @@ impl Table {
     //
     // Without its first step it is one word, and a step in front of that leads to it.
     pub(crate) fn spelled(&mut self, digits: u64, count: u32) -> Option<u32>
-        requires table { IsWordTable self.old }
-        requires some { 0 < self.old.used }
-        ensures table { IsWordTable self.new }
-        ensures keeps { KeepsWords self.old self.new }
+        requires root { IsWordOf self.old 0 }
+        ensures grows { GrowsInto self.old self.new }
         ensures spelled { IfSome result (λ node. StandsFor self.new node count digits) }
     {
         if count == 0 {
@@ -210,23 +191,17 @@ impl Table {
 
     /// Adds a word, if there is room.
     fn add(&mut self, word: Word, course: Course) -> Option<u32>
-        requires table { IsWordTable self.old }
-        requires some { 0 < self.old.used }
+        requires root { IsWordOf self.old 0 }
         requires short { word.count ≤ 19 }
-        requires front { course.front < self.old.used }
-        requires course { IsCourse word.count word.digits (count_at self.old course.front)
-            (digits_at self.old course.front) course }
-        ensures table { IsWordTable self.new }
-        ensures keeps { KeepsWords self.old self.new }
-        ensures known { IfSome result (λ next. next < self.new.used) }
-        ensures count { IfSome result (λ next. count_at self.new next ≡ word.count) }
-        ensures digits { IfSome result (λ next. digits_at self.new next ≡ word.digits) }
+        requires course { IsCourseOf self.old word course }
+        ensures grows { GrowsInto self.old self.new }
+        ensures added { IfSome result (HasWordAt self.new word) }
     {
         let at = self.used;
         if at >= MOST_WORDS {
             return None;
         }
-        if !put_wide(&mut self.digits, at, word.digits) {
+        if !put(&mut self.digits, at, word.digits) {
             return None;
         }
         if !put(&mut self.counts, at, word.count) {
@@ -235,71 +210,38 @@ impl Table {
         if !put_four(&mut self.nexts, 4 * at) {
             return None;
         }
-        if !put_course(&mut self.courses, at, course) {
+        if !put(&mut self.courses, at, course) {
             return None;
         }
         self.used = at + 1;
         Some(at as u32)
     }
 
-    /// KeepsWords what a step in front of a word leads to.
+    /// Writes down what a step in front of a word leads to.
     fn tell(&mut self, node: u32, digit: u32, next: u32)
-        requires table { IsWordTable self.old }
-        requires node { node < self.old.used }
+        requires word { IsWordOf self.old node }
         requires digit { digit < 4 }
         requires leads { LeadsToWord self.old node digit next }
-        ensures table { IsWordTable self.new }
-        ensures keeps { KeepsWords self.old self.new }
+        ensures grows { GrowsInto self.old self.new }
         ensures leads { LeadsToWord self.new node digit next }
     {
         self.nexts[4 * node as usize + digit as usize] = next;
     }
 }
 
-/// Puts a number at a place of a list, or at its end, if there is room.
-fn put(list: &mut Vec<u32>, at: usize, number: u32) -> bool
+/// Puts an item at a place of a list, or at its end, if there is room.
+fn put<T: Copy>(list: &mut Vec<T>, at: usize, item: T) -> bool
     requires { at ≤ length list.old.items }
-    ensures before { (k : ℕ) → k < at → slice_index list.new.items k ≡ slice_index list.old.items k }
+    ensures before { (k : ℕ) (other : T) → k < at → slice_index_or list.new.items k other ≡ slice_index_or list.old.items k other }
     ensures length { length list.old.items ≤ length list.new.items }
     ensures there { IsTrue result → at < length list.new.items }
-    ensures put { IsTrue result → slice_index list.new.items at ≡ number }
+    ensures put { IsTrue result → (other : T) → slice_index_or list.new.items at other ≡ item }
 {
     if at < list.len() {
-        list[at] = number;
+        list[at] = item;
         return true;
     }
-    list.push(number).is_ok()
-}
-
-/// The same for wide numbers.
-fn put_wide(list: &mut Vec<u64>, at: usize, number: u64) -> bool
-    requires { at ≤ length list.old.items }
-    ensures before { (k : ℕ) → k < at → slice_index list.new.items k ≡ slice_index list.old.items k }
-    ensures length { length list.old.items ≤ length list.new.items }
-    ensures there { IsTrue result → at < length list.new.items }
-    ensures put { IsTrue result → slice_index list.new.items at ≡ number }
-{
-    if at < list.len() {
-        list[at] = number;
-        return true;
-    }
-    list.push(number).is_ok()
-}
-
-/// The same for courses.
-fn put_course(list: &mut Vec<Course>, at: usize, course: Course) -> bool
-    requires { at ≤ length list.old.items }
-    ensures before { (k : ℕ) → k < at
-        → slice_index_or list.new.items k no_course ≡ slice_index_or list.old.items k no_course }
-    ensures length { length list.old.items ≤ length list.new.items }
-    ensures there { IsTrue result → at < length list.new.items }
-    ensures put { IsTrue result → slice_index_or list.new.items at no_course ≡ course }
-{
-    if at < list.len() {
-        list[at] = course;
-        return true;
-    }
-    list.push(course).is_ok()
+    list.push(item).is_ok()
 }
 
 /// Puts four times 0.

@@ -1,9 +1,10 @@
 //! The search for a strip that holds what is straight from a point on: ways are tried, simple ones first.
-ghost use Rattle.std.specs.Prelude.{◌<◌, ◌≤◌, ℕ, length, unsigned_abs, IfSome};
+ghost use Rattle.std.specs.Prelude.{◌≤◌, ℕ, unsigned_abs, IfSome};
 ghost use Rattle.straight_paths.specs.Inner.Cones.{IsShort, IsSound};
 ghost use Rattle.straight_paths.specs.Inner.Slopes.{AreSmallSlopes};
 ghost use Rattle.straight_paths.specs.Straight.{path_from};
-ghost use Rattle.straight_paths.specs.Inner.Strips.{AreUpTo, IsStrip, StaysIn};
+ghost use Rattle.straight_paths.specs.Inner.Tails.{IsSubpath};
+ghost use Rattle.straight_paths.specs.Inner.Strips.{AreUpTo, HoldsPath};
 ghost use Rattle.straight_paths.specs.Inner.Wedges.{IsQuarter};
 
 use crate::cone::Cone;
@@ -45,7 +46,7 @@ impl Ends {
         Ends { right: 0, left: 0 }
     }
 
-    /// The same after more steps, by which the path is so far across the way, where the others are as far as this.
+    /// The ends after more steps, by which the path is so far across the way, where the others are as far as this span.
     fn with(self, span: Span, across: i64, steps: usize) -> Ends
         ensures { (most : ℕ) → steps ≤ most → AreUpTo most self → AreUpTo most result }
     {
@@ -70,9 +71,8 @@ impl Ends {
     // Two of the quarters are turned over for that: left and right change places in them, and so do the signs of both
     // numbers. So each coordinate takes the sign of the other one.
     fn apart(self, track: &Track, first: usize, quarter: Quarter) -> Vector
-        requires first { first < length track.now }
-        requires right { self.right < length track.now }
-        requires left { self.left < length track.now }
+        requires right { IsSubpath track.now first self.right }
+        requires left { IsSubpath track.now first self.left }
         ensures { IsShort 131070 result }
     {
         let right = track.way(first, self.right);
@@ -100,11 +100,9 @@ fn by_sign(sign: i64, number: i64) -> i64
 // is no longer than its numbers say, and on ragged rims it holds two or three points, so that two points of five lie in
 // none.
 pub(crate) fn strip_from(track: &Track, first: usize, steps: usize, cone: Cone) -> Option<Strip>
-    requires first { first < length track.now }
-    requires steps { steps < length track.now }
+    requires subpath { IsSubpath track.now first steps }
     requires cone { IsSound cone }
-    ensures strip { IfSome result IsStrip }
-    ensures stays { IfSome result (λ strip. StaysIn strip (path_from track.now first) steps) }
+    ensures { IfSome result (λ strip. HoldsPath strip (path_from track.now first) steps) }
 {
     let chord = track.way(first, steps);
     if steps < SHORT {
@@ -134,12 +132,10 @@ fn simplest_strip(
     quarter: Quarter,
     slopes: Slopes,
 ) -> Option<Strip>
-    requires first { first < length track.now }
-    requires steps { steps < length track.now }
+    requires subpath { IsSubpath track.now first steps }
     requires quarter { IsQuarter quarter }
     requires slopes { AreSmallSlopes slopes }
-    ensures strip { IfSome result IsStrip }
-    ensures stays { IfSome result (λ strip. StaysIn strip (path_from track.now first) steps) }
+    ensures { IfSome result (λ strip. HoldsPath strip (path_from track.now first) steps) }
 {
     let mut slopes = slopes;
     for _ in 0..MOST_TRIALS {
@@ -156,12 +152,10 @@ fn simplest_strip(
 /// The strip along a way in which the path from this point stays for so many steps, if it does.
 #[inline(always)]
 fn strip_along(track: &Track, first: usize, most: usize, way: Vector) -> StripTrial
-    requires first { first < length track.now }
-    requires most { most < length track.now }
+    requires subpath { IsSubpath track.now first most }
     requires short { IsShort 65535 way }
     ensures ends { AreUpTo most result.ends }
-    ensures strip { IfSome result.strip IsStrip }
-    ensures stays { IfSome result.strip (λ strip. StaysIn strip (path_from track.now first) most) }
+    ensures strip { IfSome result.strip (λ strip. HoldsPath strip (path_from track.now first) most) }
 {
     let quarter = Quarter::of(way);
     let mut extent = Extent::at_start();

@@ -1,8 +1,9 @@
 //! Words: how a path takes its next few steps.
-ghost use Rattle.std.specs.Prelude.{◌≡◌, ◌+◌, ◌*◌, ◌<◌, ◌≤◌, ℕ, suc, length};
+ghost use Rattle.std.specs.Prelude.{◌≡◌, ◌↔◌, ◌+◌, ◌*◌, ◌<◌, ◌≤◌, ℕ, suc, length};
 ghost use Rattle.pt_core.specs.declared.point.Point.{Point};
 ghost use Rattle.straight_paths.specs.Inner.Codes.{GoesByOne, IsCoded, coded_step};
 ghost use Rattle.straight_paths.specs.Corners.{step_from};
+ghost use Rattle.straight_paths.specs.Inner.Tails.{last_of, limit_of};
 ghost use Rattle.straight_paths.specs.Straight.{path_from};
 
 use crate::track::Track;
@@ -25,12 +26,8 @@ impl Word {
         requires digit { digit < 4 }
         requires few { self.count ≤ 19 }
         ensures count { result.count ≡ self.count + 1 }
-        ensures coded { (path : ℕ → Point) → step_from path 0 ≡ coded_step digit
-            → IsCoded self.count (λ k. path (suc k)) self.digits → IsCoded (suc self.count) path result.digits }
-        ensures step { (path : ℕ → Point) → IsCoded (suc self.count) path result.digits
-            → step_from path 0 ≡ coded_step digit }
-        ensures rest { (path : ℕ → Point) → IsCoded (suc self.count) path result.digits
-            → IsCoded self.count (λ k. path (suc k)) self.digits }
+        ensures coded { (path : ℕ → Point) → IsCoded (suc self.count) path result.digits
+            ↔ ((step_from path 0 ≡ coded_step digit) × IsCoded self.count (λ k. path (suc k)) self.digits) }
     {
         Word {
             digits: u64::from(digit) + 4 * (self.digits % (1 << 38)),
@@ -54,9 +51,9 @@ pub(crate) fn direction(step: Vector) -> u32
 
 /// The word of so many steps from an index of two laps on.
 pub(crate) fn word_at(track: &Track, index: usize, count: u32) -> Word
-    requires index { index < 2 * length track.now }
+    requires index { index ≤ last_of track.now }
     requires few { count ≤ 19 }
-    requires within { count < length track.now }
+    requires within { count ≤ limit_of track.now }
     ensures count { result.count ≡ count }
     ensures coded { IsCoded count (path_from track.now index) result.digits }
 {

@@ -27,6 +27,11 @@ pub record IsShort (most : ℕ) (way : Vector) : Type 0 where
   pub x : unsigned_abs way.x ≤ most
   pub y : unsigned_abs way.y ≤ most
 
+-- neither coordinate of either way is greater than this
+pub record AreShort (most : ℕ) (one other : Vector) : Type 0 where
+  pub first : IsShort most one
+  pub second : IsShort most other
+
 -- the borders are short, and `high` lies to the left of `low`
 pub record IsProper (low high : Vector) : Type 0 where
   pub low_short : IsShort 65536 low

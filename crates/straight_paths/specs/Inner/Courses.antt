@@ -1,5 +1,5 @@
 -- What the steps of a word come to.
-use Rattle.std.specs.Prelude.{◌≡◌, ℕ, ◌+◌, ◌<◌, pos, false}
+use Rattle.std.specs.Prelude.{◌≡◌, ℕ, suc, ◌+◌, ◌<◌, pos, false}
 use Rattle.pt_core.specs.declared.point.Point.{Point}
 use Rattle.straight_paths.specs.Inner.Codes.{IsCoded, coded_step}
 use Rattle.straight_paths.specs.Inner.Cones.{HoldsNear, IsSound}
@@ -49,3 +49,11 @@ pub record IsCourse (count digits few front : ℕ) (course : Course) : Type 0 wh
   pub has : (path : ℕ → Point) → IsCoded count path digits → IsStraight path count → HasCourse path count course
   pub ends : (path : ℕ → Point) → 0 < count → IsCoded count path digits → IsStraight path count
       → IsCoded few path front × (step_from path few ≡ coded_step course.last)
+
+-- the new course is that of the old one's steps and one more, and of a word whose front has this number
+pub record HasStepMore (old : Course) (front digit : ℕ) (new : Course) : Type 0 where
+  pub front_is : new.front ≡ front
+  pub last : new.last ≡ digit
+  pub sound : IsSound (cone_of new.cone)
+  pub has : (path : ℕ → Point) (count : ℕ) → step_from path count ≡ coded_step digit
+      → HasCourse path count old → HasCourse path (suc count) new

@@ -59,6 +59,11 @@ pub record StaysIn (strip : Strip) (path : ℕ → Point) (count : ℕ) : Type 0
   pub back_x : (k : ℕ) → k ≤ count → neg_ℤ strip.back.x ≤ℤ right_at strip.quarter path k
   pub back_y : (k : ℕ) → k ≤ count → neg_ℤ strip.back.y ≤ℤ up_at strip.quarter path k
 
+-- a strip in which the path's first `count` steps stay
+pub record HoldsPath (strip : Strip) (path : ℕ → Point) (count : ℕ) : Type 0 where
+  pub is_strip : IsStrip strip
+  pub stays : StaysIn strip path count
+
 -- 0 alone
 abbrev pub no_span : Span
 no_span = record { least = pos 0; greatest = pos 0 }
@@ -79,6 +84,16 @@ pub record IsSmallExtent (extent : Extent) : Type 0 where
   pub across : IsSpan (neg_ℤ (pos (2 ^ 34))) (pos (2 ^ 34)) extent.across
   pub right : IsSpan (negsuc 0) (pos 65536) extent.right
   pub up : IsSpan (negsuc 0) (pos 65536) extent.up
+
+-- the extent takes in what the other one does, and a further place, so far across the way and onward in the quarter, that
+-- isn't more than 1 behind the others
+pub record TakesInPlace (old : Extent) (across : ℤ) (onward : Vector) (new : Extent) : Type 0 where
+  pub small : IsSmallExtent new
+  pub across_in : TakesIn old.across across new.across
+  pub right : TakesIn old.right onward.x new.right
+  pub up : TakesIn old.up onward.y new.up
+  pub on_right : old.right.greatest ≤ℤ (onward.x +ℤ pos 1)
+  pub on_up : old.up.greatest ≤ℤ (onward.y +ℤ pos 1)
 
 -- the first numbers lie in the span
 abbrev pub AreInSpan : Span → (ℕ → ℤ) → ℕ → Type 0

@@ -3,8 +3,8 @@ use Rattle.std.specs.Prelude.{◌≡◌, ◌⊎◌, ℕ, ◌+◌, ◌-◌, ◌<�
 use Rattle.pt_core.specs.declared.point.Point.{Point}
 use Rattle.straight_paths.specs.Inner.Codes.{IsCoded}
 use Rattle.straight_paths.specs.Straight.{IsStraight, path_from}
-use Rattle.straight_paths.specs.Inner.Strips.{IsStrip, StaysIn}
-use Rattle.straight_paths.specs.Inner.Tables.{count_at, digits_at}
+use Rattle.straight_paths.specs.Inner.Strips.{HoldsPath}
+use Rattle.straight_paths.specs.Inner.Tables.{IsWordOf, IsWordTable, count_at, digits_at}
 use Rattle.straight_paths.specs.Inner.Tails.{IsStraightFor, IsTail, limit_of, last_of}
 use Rattle.straight_paths.specs.declared.sweep.Seen.{Seen}
 use Rattle.straight_paths.specs.declared.sweep.Sweep.{Sweep}
@@ -13,6 +13,7 @@ use Rattle.straight_paths.specs.declared.table.Table.{Table}
 
 -- of the steps from an index on, up to a last index, exactly the first `count` are straight
 pub record IsStraightBefore (points : List Point) (last at count : ℕ) : Type 0 where
+  pub in_laps : last ≤ last_of points
   pub within : at + count ≤ last
   pub straight : IsStraight (path_from points at) count
   pub no_more : (c : ℕ) → at + c ≤ last → IsStraight (path_from points at) c → c ≤ count
@@ -26,7 +27,7 @@ pub record IsEnd (points : List Point) (last at count : ℕ) : Type 0 where
 
 -- word number `node` of the table is that of the steps from an index on that are straight
 pub record IsTold (table : Table) (points : List Point) (last at node : ℕ) : Type 0 where
-  pub known : node < table.used
+  pub word : IsWordOf table node
   pub window : IsStraightBefore points last at (count_at table node)
   pub coded : IsCoded (count_at table node) (path_from points at) (digits_at table node)
 
@@ -35,15 +36,20 @@ pub record IsSeen (points : List Point) (last at : ℕ) (seen : Seen) : Type 0 w
   pub tail : IsTail points at seen.tail
   pub within : seen.tail.end ≤ seen.tail.ahead.last
   pub looked : seen.tail.ahead.last ≤ last
+  pub in_laps : last ≤ last_of points
   pub no_more : (c : ℕ) → c ≤ limit_of points → at + c ≤ last → IsStraight (path_from points at) c
       → at + c ≤ seen.tail.ahead.last
-  pub strip : IfSome seen.strip IsStrip
-  pub stays : IfSome seen.strip (λ strip. StaysIn strip (path_from points at) (seen.tail.end - at))
+  pub strip : IfSome seen.strip (λ strip. HoldsPath strip (path_from points at) (seen.tail.end - at))
 
 -- what a sweep has seen is told by a word of the table, or held as a tail and a strip
-abbrev pub IsSweep : Table → List Point → ℕ → ℕ → Sweep → Type 0
-IsSweep table points last at (Told node) = IsTold table points last at node
-IsSweep table points last at (Held seen) = IsSeen points last at seen
+abbrev pub IsToldOrSeen : Table → List Point → ℕ → ℕ → Sweep → Type 0
+IsToldOrSeen table points last at (Told node) = IsTold table points last at node
+IsToldOrSeen table points last at (Held seen) = IsSeen points last at seen
+
+-- a sweep that has come to an index, by a table of words
+pub record IsSweep (table : Table) (points : List Point) (last at : ℕ) (sweep : Sweep) : Type 0 where
+  pub whole : IsWordTable table
+  pub seen : IsToldOrSeen table points last at sweep
 
 -- what stands beyond the last index changes nothing from the first lap on: not all steps of the second lap up to it
 -- are straight, or it is the last one that matters
@@ -52,6 +58,8 @@ pub record IsEnough (points : List Point) (last : ℕ) : Type 0 where
   pub most : last ≤ last_of points
   pub ends : (last ≡ last_of points) ⊎ ¬ IsStraight (path_from points (length points)) (last - length points)
 
--- from the index on it is written down how many steps are straight from each point
-abbrev pub AreStraightFrom : List Point → ℕ → List ℕ → Type 0
-AreStraightFrom points from steps = (i : ℕ) → from ≤ i → i < length points → IsStraightFor points i (slice_index steps i)
+-- the list has a place for each point, and from the index on it tells how many steps are straight from each
+pub record AreStraightFrom (points : List Point) (from : ℕ) (steps : List ℕ) : Type 0 where
+  pub places : length steps ≡ length points
+  pub in_lap : from ≤ length points
+  pub straight : (i : ℕ) → from ≤ i → i < length points → IsStraightFor points i (slice_index steps i)

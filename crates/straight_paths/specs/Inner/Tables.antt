@@ -4,9 +4,10 @@ use Rattle.pt_core.specs.declared.point.Point.{Point}
 use Rattle.straight_paths.specs.Inner.Codes.{IsCoded}
 use Rattle.straight_paths.specs.Inner.Courses.{IsCourse, no_course}
 use Rattle.straight_paths.specs.Straight.{IsStraight}
-use Rattle.straight_paths.specs.Inner.NextSteps.{TellsNext}
+use Rattle.straight_paths.specs.Inner.NextSteps.{TellsFront, TellsNext}
 use Rattle.straight_paths.specs.declared.course.Course.{Course}
 use Rattle.straight_paths.specs.declared.table.Table.{Table}
+use Rattle.straight_paths.specs.declared.word.Word.{Word}
 
 -- the number of steps of word number `node`
 abbrev pub count_at : Table → ℕ → ℕ
@@ -41,12 +42,39 @@ pub record IsWordTable (table : Table) : Type 0 where
   pub course : (node : ℕ) → node < table.used → IsCourse (count_at table node) (digits_at table node)
       (count_at table (course_at table node).front) (digits_at table (course_at table node).front) (course_at table node)
 
+-- `node` is the number of a word of the table
+pub record IsWordOf (table : Table) (node : ℕ) : Type 0 where
+  pub whole : IsWordTable table
+  pub known : node < table.used
+
+-- a step in front of word number `node` without its last step leads to word number `next`, and `last` is that last step
+pub record LeadsFront (table : Table) (node digit next last : ℕ) : Type 0 where
+  pub known : next < table.used
+  pub small : last < 4
+  pub tells : TellsFront (count_at table node) (digits_at table node) digit (count_at table next) (digits_at table next) last
+
+-- the course is that of this word, and its front is in the table
+pub record IsCourseOf (table : Table) (word : Word) (course : Course) : Type 0 where
+  pub known : course.front < table.used
+  pub fits : IsCourse word.count word.digits (count_at table course.front) (digits_at table course.front) course
+
+-- the table has this word under number `node`
+pub record HasWordAt (table : Table) (word : Word) (node : ℕ) : Type 0 where
+  pub known : node < table.used
+  pub count : count_at table node ≡ word.count
+  pub digits : digits_at table node ≡ word.digits
+
 -- the words of the one are in the other, under the same numbers
 pub record KeepsWords (old new : Table) : Type 0 where
   pub used : old.used ≤ new.used
   pub counts : (node : ℕ) → node < old.used → count_at new node ≡ count_at old node
   pub digits : (node : ℕ) → node < old.used → digits_at new node ≡ digits_at old node
   pub courses : (node : ℕ) → node < old.used → course_at new node ≡ course_at old node
+
+-- the one has become the other, with all of its words and maybe more
+pub record GrowsInto (old new : Table) : Type 0 where
+  pub whole : IsWordTable new
+  pub keeps : KeepsWords old new
 
 -- each path whose first steps are straight and have a word's code has that of word number `node`, which is as long
 pub record StandsFor (table : Table) (node count digits : ℕ) : Type 0 where

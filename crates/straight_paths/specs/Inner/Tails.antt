@@ -17,6 +17,11 @@ limit_of points = min (length points - 1) (MOST_STEPS + 2)
 abbrev pub last_of : List Point → ℕ
 last_of points = length points + limit_of points
 
+-- the subpath of so many steps from a point of the first lap is shorter than a lap
+pub record IsSubpath (points : List Point) (first steps : ℕ) : Type 0 where
+  pub in_lap : first < length points
+  pub short_of_lap : steps < length points
+
 -- an index of the two laps, and its place in one lap
 abbrev pub IsAtPlace : List Point → ℕ → ℕ → Type 0
 IsAtPlace points place index = (index ≡ place) ⊎ (index ≡ place + length points)
@@ -59,6 +64,7 @@ pub record IsNext (points : List Point) (last at : ℕ) (step : Vector) (index :
 
 -- each of the four directions is taken next where it is said, as far as a last index can tell
 pub record IsAhead (points : List Point) (at : ℕ) (ahead : Ahead) : Type 0 where
+  pub order : at ≤ ahead.last
   pub within : ahead.last ≤ last_of points
   pub east : IsNext points ahead.last at east ahead.east
   pub north : IsNext points ahead.last at north ahead.north

@@ -1,14 +1,9 @@
-use Rattle.std.proofs.Common.{◌≡◌, ◌≤◌, length}
 use Rattle.straight_paths.specs.Inner.Sweeps.{AreStraightFrom, IsSweep}
-use Rattle.straight_paths.specs.Inner.Tables.{IsWordTable}
 use Rattle.straight_paths.proofs.fill.fill_from.Given as goal
 
 -- the points from the index on are done
 abbrev pub invariant-loop-index : goal.invariant-loop-index
 invariant-loop-index l = record {
-  index : l.index ≤ length l.track;
-  places : length l.steps ≡ length l.track;
-  table : IsWordTable l.table;
   sweep : IsSweep l.table l.track l.last l.index l.sweep;
   straight : AreStraightFrom l.track l.index l.steps;
 }

@@ -1,6 +1,6 @@
 use Rattle.std.proofs.Common.{ℕ, ◌-◌, IfSome, subst, arith}
 use Rattle.pt_core.specs.declared.point.Point.{Point}
-use Rattle.straight_paths.specs.Inner.Strips.{StaysIn}
+use Rattle.straight_paths.specs.Inner.Strips.{HoldsPath}
 use Rattle.straight_paths.proofs.Ends.{clear_at, path_at_place}
 use Rattle.straight_paths.proofs.Windows.{seen_earlier}
 use Rattle.straight_paths.proofs.sweep.Seen.scanned.Goals as goal
@@ -11,9 +11,15 @@ earlier-tail-requires-clause-clear c =
     clear_at c.args.track.now c.place-place.result c.args.index c.args.self.tail.end c.args.most c.clear_steps-scan.result.steps
     c.place-place.ensures.at (omega arith) c.requires.most c.clear_steps-scan.ensures.steps
 
+pub strip_from-requires-clause-subpath : goal.strip_from-requires-clause-subpath
+strip_from-requires-clause-subpath c =
+    let most = c.earlier-tail.ensures.tail.at_most in
+    let within = c.place-place.ensures.within in
+    record { in_lap = within; short_of_lap = omega arith }
+
 pub returns : goal.returns
 returns c =
-    let P : (ℕ → Point) → Type 0 = λ path. IfSome c.strip_from.result (λ strip. StaysIn strip path (c.earlier-tail.result.end - c.args.index)) in
+    let P : (ℕ → Point) → Type 0 = λ path. IfSome c.strip_from.result (λ strip. HoldsPath strip path (c.earlier-tail.result.end - c.args.index)) in
     seen_earlier c.args.track.now c.args.last c.args.index c.args.self (record { tail = c.earlier-tail.result; strip = c.strip_from.result })
-    c.requires.later c.earlier-tail.ensures.tail c.earlier-tail.ensures.same_last c.earlier-tail.ensures.no_later c.strip_from.ensures.strip
-    (subst P (path_at_place c.args.track.now c.place-place.result c.args.index c.place-place.ensures.at) c.strip_from.ensures.stays)
+    c.requires.later c.earlier-tail.ensures.tail c.earlier-tail.ensures.same_last c.earlier-tail.ensures.no_later
+    (subst P (path_at_place c.args.track.now c.place-place.result c.args.index c.place-place.ensures.at) c.strip_from.ensures)

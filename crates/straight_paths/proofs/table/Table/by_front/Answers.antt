@@ -15,9 +15,9 @@ pub tell-requires-clause-leads : goal.tell-requires-clause-leads
 tell-requires-clause-leads c =
     let t = c.args.self.now in
     record {
-      known = c.requires.next;
+      known = c.requires.front.known;
       tells = tells_less (count_at t c.args.node) (digits_at t c.args.node) c.args.digit (count_at t c.args.next) (digits_at t c.args.next) c.args.last
-          c.requires.front (λ e. c.if-count.true (c.count.ensures.value ∙ e ∙ sym c.count-2.ensures.value));
+          c.requires.front.tells (λ e. c.if-count.true (c.count.ensures.value ∙ e ∙ sym c.count-2.ensures.value));
     }
 
 -- the last step isn't straight
@@ -30,9 +30,9 @@ tell-requires-then-not-goes_on-clause-leads c =
     let P : Course → Type 0 = λ course. (path : ℕ → Point) (n : ℕ) → step_from path n ≡ coded_step c.args.last → HasCourse path n course
     → ¬ IsStraight path (suc n) in
     record {
-      known = c.requires.next;
+      known = c.requires.front.known;
       tells = tells_end (count_at t c.args.node) (digits_at t c.args.node) c.args.digit (count_at t c.args.next) (digits_at t c.args.next) c.args.last
-          c.requires.front (count_at t front) (digits_at t front) (course_at t c.args.next) (c.requires.table.course c.args.next c.requires.next) same
+          c.requires.front.tells (count_at t front) (digits_at t front) (course_at t c.args.next) (c.requires.word.whole.course c.args.next c.requires.front.known) same
           (subst P c.course.ensures (c.goes_on.ensures.not_straight off));
     }
 
@@ -46,5 +46,5 @@ longer-requires-clause-straight c =
     let P : Course → Type 0 = λ course. (path : ℕ → Point) (n : ℕ) → step_from path n ≡ coded_step c.args.last → HasCourse path n course
     → IsStraight path n → IsStraight (rest_of path) n → IsStraight path (suc n) in
     whole_straight (count_at t c.args.node) (digits_at t c.args.node) c.args.digit (count_at t c.args.next) (digits_at t c.args.next) c.args.last
-    c.requires.front (count_at t front) (digits_at t front) (course_at t c.args.next) (c.requires.table.course c.args.next c.requires.next) same
+    c.requires.front.tells (count_at t front) (digits_at t front) (course_at t c.args.next) (c.requires.word.whole.course c.args.next c.requires.front.known) same
     (subst P c.course.ensures (c.goes_on.ensures.straight on))
