@@ -1,5 +1,5 @@
 -- What is straight from an index on, as a window of the walk.
-use Rattle.std.proofs.Common.{◌≡◌, ◌⊎◌, ℕ, zero, suc, ◌+◌, ◌-◌, ◌<◌, ◌≤◌, min, IfSome, Option, None, inl, inr, List, length, length-set, set, refl, sym, ◌∙◌, ap, subst, arith}
+use Rattle.std.proofs.Common.{◌≡◌, ◌⊎◌, ℕ, zero, suc, ◌+◌, ◌-◌, ◌<◌, ◌≤◌, min, IfSome, Option, None, inl, inr, List, length, length-set, get_or, set, refl, sym, ◌∙◌, ap, subst, arith}
 use Rattle.std.proofs.lemmas.Bool.{cases_lt}
 use Rattle.pt_core.specs.ClosedWalk.{point_at}
 use Rattle.pt_core.specs.declared.point.Point.{Point}
@@ -7,9 +7,9 @@ use Rattle.straight_paths.specs.Inner.Codes.{IsCoded, coded_step}
 use Rattle.straight_paths.specs.Inner.Cones.{IsClear}
 use Rattle.straight_paths.specs.Straight.{IsStraight, path_from, vector_of}
 use Rattle.straight_paths.specs.Inner.Strips.{HoldsPath}
-use Rattle.straight_paths.specs.Inner.Sweeps.{AreStraightFrom, IsEnd, IsEnough, IsSeen, IsTold, IsStraightBefore}
+use Rattle.straight_paths.specs.Inner.Sweeps.{AreEndsFrom, IsEnd, IsEnough, IsSeen, IsTold, IsStraightBefore}
 use Rattle.straight_paths.specs.Inner.Tables.{GrowsInto, IsWordTable, LeadsToWord, StandsFor, count_at, digits_at}
-use Rattle.straight_paths.specs.Inner.Tails.{IsAhead, IsStraightFor, IsTail, last_of, limit_of}
+use Rattle.straight_paths.specs.Inner.Tails.{AreStraight, IsAhead, IsStraightFor, IsTail, last_of, limit_of}
 use Rattle.straight_paths.specs.Inner.NextSteps.{IsStraightUpTo, TellsNext}
 use Rattle.straight_paths.specs.declared.strip.Strip.{Strip}
 use Rattle.straight_paths.specs.declared.sweep.Seen.{Seen}
@@ -164,20 +164,49 @@ straight_for_end points last i count enough low e =
           ];
     }
 
-pub none_yet : (points : List Point) (steps : List ℕ) → length steps ≡ length points → AreStraightFrom points (length points) steps
-none_yet points steps places = record { places = places; in_lap = omega arith; straight = λ k h l. absurd (omega arith) }
+-- none is told yet
+pub none_yet : (points : List Point) (last lap from : ℕ) (steps : List ℕ) → length steps ≡ length points → lap ≤ from → from ≤ lap + length points
+    → (last ≤ from) ⊎ (lap + length points ≤ from) → AreEndsFrom points last lap from steps
+none_yet points last lap from steps places begun in_lap all = record {
+  places = places;
+  begun = begun;
+  in_lap = in_lap;
+  ends = λ i h l m. elim all [ inl beyond ↦ absurd (omega arith) | inr beyond ↦ absurd (omega arith) ];
+}
 
--- one more point is told
-pub one_more : (points : List Point) (last index count : ℕ) (steps : List ℕ) → IsEnough points last → AreStraightFrom points (index + 1) steps
-    → IsEnd points last index count → AreStraightFrom points index (set steps index count)
-one_more points last index count steps enough told e =
+-- one more index is told
+pub one_more : (points : List Point) (last lap index count : ℕ) (steps : List ℕ) → AreEndsFrom points last lap (index + 1) steps → lap ≤ index
+    → IsEnd points last index count → AreEndsFrom points last lap index (set steps (index - lap) count)
+one_more points last lap index count steps told begun here =
     let places = told.places in
     let in_lap = told.in_lap in
+    let P : ℕ → ℕ → Type 0 = λ k n. k + lap < last → IsEnd points last (k + lap) n in
+    let back : index ≡ index - lap + lap = omega arith in
     record {
-      places = length-set steps index count ∙ told.places;
+      places = length-set steps (index - lap) count ∙ told.places;
+      begun = begun;
       in_lap = omega arith;
-      straight = one_more_down (IsStraightFor points) steps index count (length points) (omega arith) told.straight
-          (straight_for_end points last index count enough (omega arith) e);
+      ends = λ i h l m.
+          let e : i - lap + lap ≡ i = omega arith in
+          subst (λ (n : ℕ). IsEnd points last n (get_or (set steps (index - lap) count) (i - lap) 0)) e
+          (one_more_down P steps (index - lap) count (length points) (omega arith)
+          (λ k a b below.
+          let f : k + lap - lap ≡ k = omega arith in
+          subst (λ (n : ℕ). IsEnd points last (k + lap) (get_or steps n 0)) f (told.ends (k + lap) (omega arith) below (omega arith)))
+          (λ below. subst (λ (n : ℕ). IsEnd points last n count) back here)
+          (i - lap) (omega arith) (omega arith) (omega arith));
+    }
+
+-- all of the first lap is told
+pub all_straight : (points : List Point) (last : ℕ) (steps : List ℕ) → IsEnough points last → AreEndsFrom points last 0 0 steps → AreStraight points steps
+all_straight points last steps enough told =
+    let lap = enough.lap in
+    record {
+      places = told.places;
+      straight = λ i h.
+          let e : i - 0 ≡ i = omega arith in
+          subst (λ (n : ℕ). IsStraightFor points i (get_or steps n 0)) e
+          (straight_for_end points last i (get_or steps (i - 0) 0) enough h (told.ends i (omega arith) (omega arith) (omega arith)));
     }
 
 pub enough_near : (points : List Point) (near last count : ℕ) → last ≡ length points + near → near ≤ limit_of points

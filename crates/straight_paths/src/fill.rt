@@ -2,7 +2,7 @@
 ghost use Rattle.std.specs.Prelude.{◌≡◌, ◌⊎◌, ◌+◌, ◌<◌, ◌≤◌, length, IfOk};
 ghost use Rattle.straight_paths.specs.Inner.Cones.{IsClear, IsShort};
 ghost use Rattle.straight_paths.specs.Straight.{path_from};
-ghost use Rattle.straight_paths.specs.Inner.Sweeps.{AreStraightFrom, IsEnough, IsSeen, IsSweep, IsTold};
+ghost use Rattle.straight_paths.specs.Inner.Sweeps.{AreEndsFrom, IsEnough, IsSeen, IsSweep, IsTold};
 ghost use Rattle.straight_paths.specs.Inner.Tables.{IsWordTable};
 ghost use Rattle.straight_paths.specs.Inner.Tails.{AreStraight, last_of, limit_of};
 
@@ -43,12 +43,12 @@ fn fill_straight(track: &Track, steps: &mut [u32], table: &mut Table)
 {
     let near = near_steps(track);
     let last = track.size() + near;
-    let sweep = from_beyond(track, last, table);
+    let sweep = from_beyond(track, last, steps, table);
     if near == track.limit() || sweep.count(track, track.size(), last, table) < near {
         return fill_from(track, last, sweep, steps, table);
     }
     let last = track.size() + steps_beyond(track);
-    let sweep = from_beyond(track, last, table);
+    let sweep = from_beyond(track, last, steps, table);
     fill_from(track, last, sweep, steps, table);
 }
 
@@ -60,17 +60,18 @@ fn near_steps(track: &Track) -> usize
 }
 
 /// What is straight from the first index of the second lap on, up to a last index.
-fn from_beyond(track: &Track, last: usize, table: &mut Table) -> Sweep
+//
+// What is written down on the way is written anew in the first lap.
+fn from_beyond(track: &Track, last: usize, steps: &mut [u32], table: &mut Table) -> Sweep
+    requires places { length steps.old ≡ length track.now }
     requires lap { length track.now ≤ last }
     requires last { last ≤ last_of track.now }
     requires table { IsWordTable table.old }
-    ensures { IsSweep table.new track.now last (length track.now) result }
+    ensures places { length steps.new ≡ length steps.old }
+    ensures sweep { IsSweep table.new track.now last (length track.now) result }
 {
-    let mut sweep = Sweep::at_last(track, table, last);
-    for index in (track.size()..last).rev() {
-        sweep = sweep.earlier(track, index, last, table);
-    }
-    sweep
+    let sweep = Sweep::at_last(track, table, last);
+    fill_lap(track, last, track.size(), last, sweep, steps, table)
 }
 
 /// Writes down how many steps are straight from each point on, by what is straight from the second lap on.
@@ -81,17 +82,37 @@ fn fill_from(track: &Track, last: usize, start: Sweep, steps: &mut [u32], table:
     ensures table { IsWordTable table.new }
     ensures straight { AreStraight track.now steps.new }
 {
+    fill_lap(track, last, 0, track.size(), start, steps, table);
+}
+
+/// Writes down how many steps are straight from each index of the lap that begins at `lap`, from an index on down, as far
+/// as a last index lets one see. What is straight from the lap's beginning is the answer.
+fn fill_lap(
+    track: &Track,
+    last: usize,
+    lap: usize,
+    from: usize,
+    start: Sweep,
+    steps: &mut [u32],
+    table: &mut Table,
+) -> Sweep
+    requires sweep { IsSweep table.old track.now last from start }
+    requires ends { AreEndsFrom track.now last lap from steps.old }
+    ensures sweep { IsSweep table.new track.now last lap result }
+    ensures ends { AreEndsFrom track.now last lap lap steps.new }
+{
     let mut sweep = start;
-    let mut index = track.size();
-    while index > 0 {
-        let led = led_on(track, last, index, sweep, steps, table);
-        if led.index == 0 {
-            return;
+    let mut index = from;
+    while index > lap {
+        let led = led_on(track, last, lap, index, sweep, steps, table);
+        if led.index == lap {
+            return led.sweep;
         }
         index = led.index - 1;
         sweep = led.sweep.earlier(track, index, last, table);
-        steps[index] = sweep.count(track, index, last, table) as u32;
+        steps[index - lap] = sweep.count(track, index, last, table) as u32;
     }
+    sweep
 }
 
 /// How far what was found before led.
@@ -105,28 +126,28 @@ struct Led {
 fn led_on(
     track: &Track,
     last: usize,
+    lap: usize,
     from: usize,
     sweep: Sweep,
     steps: &mut [u32],
     table: &Table,
 ) -> Led
-    requires enough { IsEnough track.now last }
     requires sweep { IsSweep table.now track.now last from sweep }
-    requires straight { AreStraightFrom track.now from steps.old }
+    requires ends { AreEndsFrom track.now last lap from steps.old }
     ensures index { result.index ≤ from }
     ensures sweep { IsSweep table.now track.now last result.index result.sweep }
-    ensures straight { AreStraightFrom track.now result.index steps.new }
+    ensures ends { AreEndsFrom track.now last lap result.index steps.new }
 {
     match sweep {
         Sweep::Told(node) => {
-            let told = told_on(track, last, from, node, steps, table);
+            let told = told_on(track, last, lap, from, node, steps, table);
             Led {
                 index: told.index,
                 sweep: Sweep::Told(told.node),
             }
         }
         Sweep::Held(seen) => {
-            let held = held_on(track, last, from, seen, steps);
+            let held = held_on(track, last, lap, from, seen, steps);
             Led {
                 index: held.index,
                 sweep: Sweep::Held(held.seen),
@@ -146,27 +167,27 @@ struct At {
 fn told_on(
     track: &Track,
     last: usize,
+    lap: usize,
     from: usize,
     node: u32,
     steps: &mut [u32],
     table: &Table,
 ) -> At
-    requires enough { IsEnough track.now last }
     requires told { IsTold table.now track.now last from node }
-    requires straight { AreStraightFrom track.now from steps.old }
+    requires ends { AreEndsFrom track.now last lap from steps.old }
     ensures index { result.index ≤ from }
     ensures told { IsTold table.now track.now last result.index result.node }
-    ensures straight { AreStraightFrom track.now result.index steps.new }
+    ensures ends { AreEndsFrom track.now last lap result.index steps.new }
 {
     let limit = track.limit() as u32;
     let mut at = At { index: from, node };
-    while at.index > 0 {
+    while at.index > lap {
         let index = at.index - 1;
         let next = table.told(at.node, direction(track.step(index)));
         if next == 0 {
             return at;
         }
-        steps[index] = min(table.count(next), limit);
+        steps[index - lap] = min(table.count(next), limit);
         at = At { index, node: next };
     }
     at
@@ -183,23 +204,29 @@ struct Hold {
 //
 // What is straight is kept beside the loop here, and not in a sweep that is made anew for each point: to move that
 // took longer than all that is asked of a strip.
-fn held_on(track: &Track, last: usize, from: usize, seen: Seen, steps: &mut [u32]) -> Hold
-    requires enough { IsEnough track.now last }
+fn held_on(
+    track: &Track,
+    last: usize,
+    lap: usize,
+    from: usize,
+    seen: Seen,
+    steps: &mut [u32],
+) -> Hold
     requires seen { IsSeen track.now last from seen }
-    requires straight { AreStraightFrom track.now from steps.old }
+    requires ends { AreEndsFrom track.now last lap from steps.old }
     ensures index { result.index ≤ from }
     ensures seen { IsSeen track.now last result.index result.seen }
-    ensures straight { AreStraightFrom track.now result.index steps.new }
+    ensures ends { AreEndsFrom track.now last lap result.index steps.new }
 {
     let mut hold = Hold { index: from, seen };
-    while hold.index > 0 {
+    while hold.index > lap {
         let index = hold.index - 1;
         let step = track.step(index);
         let Some(earlier) = hold.seen.by_strip(track, index, last, step) else {
             return hold;
         };
-        steps[index] = (earlier.tail.end - index) as u32;
-        hold = along(track, last, index, step, earlier, steps);
+        steps[index - lap] = (earlier.tail.end - index) as u32;
+        hold = along(track, last, lap, index, step, earlier, steps);
     }
     hold
 }
@@ -211,21 +238,21 @@ fn held_on(track: &Track, last: usize, from: usize, seen: Seen, steps: &mut [u32
 fn along(
     track: &Track,
     last: usize,
+    lap: usize,
     from: usize,
     run: Vector,
     seen: Seen,
     steps: &mut [u32],
 ) -> Hold
-    requires enough { IsEnough track.now last }
     requires run { IsShort 1 run }
     requires seen { IsSeen track.now last from seen }
-    requires straight { AreStraightFrom track.now from steps.old }
+    requires ends { AreEndsFrom track.now last lap from steps.old }
     ensures index { result.index ≤ from }
     ensures seen { IsSeen track.now last result.index result.seen }
-    ensures straight { AreStraightFrom track.now result.index steps.new }
+    ensures ends { AreEndsFrom track.now last lap result.index steps.new }
 {
     let mut hold = Hold { index: from, seen };
-    while hold.index > 0 {
+    while hold.index > lap {
         let index = hold.index - 1;
         if !track.step(index).is_same(run) {
             return hold;
@@ -233,7 +260,7 @@ fn along(
         let Some(earlier) = hold.seen.by_strip(track, index, last, run) else {
             return hold;
         };
-        steps[index] = (earlier.tail.end - index) as u32;
+        steps[index - lap] = (earlier.tail.end - index) as u32;
         hold = Hold {
             index,
             seen: earlier,

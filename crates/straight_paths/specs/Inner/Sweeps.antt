@@ -5,7 +5,7 @@ use Rattle.straight_paths.specs.Inner.Codes.{IsCoded}
 use Rattle.straight_paths.specs.Straight.{IsStraight, path_from}
 use Rattle.straight_paths.specs.Inner.Strips.{HoldsPath}
 use Rattle.straight_paths.specs.Inner.Tables.{IsWordOf, IsWordTable, count_at, digits_at}
-use Rattle.straight_paths.specs.Inner.Tails.{IsStraightFor, IsTail, limit_of, last_of}
+use Rattle.straight_paths.specs.Inner.Tails.{IsTail, limit_of, last_of}
 use Rattle.straight_paths.specs.declared.sweep.Seen.{Seen}
 use Rattle.straight_paths.specs.declared.sweep.Sweep.{Sweep}
 use Rattle.straight_paths.specs.declared.sweep.Sweep.TheVariants.{Told, Held}
@@ -58,8 +58,10 @@ pub record IsEnough (points : List Point) (last : ℕ) : Type 0 where
   pub most : last ≤ last_of points
   pub ends : (last ≡ last_of points) ⊎ ¬ IsStraight (path_from points (length points)) (last - length points)
 
--- the list has a place for each point, and from the index on it tells how many steps are straight from each
-pub record AreStraightFrom (points : List Point) (from : ℕ) (steps : List ℕ) : Type 0 where
+-- the list has a place for each point, and for each index from here on of the lap that begins at `lap`, before a last index,
+-- it tells how many steps from there are straight, as far as the last index lets one see
+pub record AreEndsFrom (points : List Point) (last lap from : ℕ) (steps : List ℕ) : Type 0 where
   pub places : length steps ≡ length points
-  pub in_lap : from ≤ length points
-  pub straight : (i : ℕ) → from ≤ i → i < length points → IsStraightFor points i (slice_index steps i)
+  pub begun : lap ≤ from
+  pub in_lap : from ≤ lap + length points
+  pub ends : (i : ℕ) → from ≤ i → i < last → i < lap + length points → IsEnd points last i (slice_index steps (i - lap))

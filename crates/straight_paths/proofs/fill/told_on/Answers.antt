@@ -1,5 +1,5 @@
 use Rattle.std.proofs.Common.{◌≡◌, ◌+◌, ◌-◌, min, ℕ, subst, rules, arith}
-use Rattle.straight_paths.specs.Inner.Sweeps.{AreStraightFrom, IsTold}
+use Rattle.straight_paths.specs.Inner.Sweeps.{AreEndsFrom, IsTold}
 use Rattle.straight_paths.specs.Inner.Tables.{LeadsToWord, count_at}
 use Rattle.straight_paths.specs.Inner.Tails.{limit_of}
 use Rattle.straight_paths.proofs.Coding.{goes_by_one}
@@ -30,7 +30,7 @@ loop-at-preserved c =
     record {
       index = omega (arith, inv.index);
       told = told;
-      straight = one_more points c.args.last index c.min.result c.loop-at.steps c.requires.enough
-          (subst (λ (n : ℕ). AreStraightFrom points n c.loop-at.steps) e inv.straight)
+      ends = one_more points c.args.last c.args.lap index c.min.result c.loop-at.steps
+          (subst (λ (n : ℕ). AreEndsFrom points c.args.last c.args.lap n c.loop-at.steps) e inv.ends) (omega arith)
           (end_of_window points c.args.last index (count_at table next) c.min.result told.window is);
     }

@@ -1,11 +1,11 @@
-use Rattle.straight_paths.specs.Inner.Sweeps.{AreStraightFrom, IsSweep}
-use Rattle.straight_paths.proofs.fill.fill_from.Given as goal
+use Rattle.straight_paths.specs.Inner.Sweeps.{AreEndsFrom, IsSweep}
+use Rattle.straight_paths.proofs.fill.fill_lap.Given as goal
 
 -- the points from the index on are done
 abbrev pub invariant-loop-index : goal.invariant-loop-index
 invariant-loop-index l = record {
   sweep : IsSweep l.table l.track l.last l.index l.sweep;
-  straight : AreStraightFrom l.track l.index l.steps;
+  ends : AreEndsFrom l.track l.last l.lap l.index l.steps;
 }
 
 abbrev pub decreases-loop-index : goal.decreases-loop-index
