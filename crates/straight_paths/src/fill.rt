@@ -16,8 +16,8 @@ use pt_core::NoMemory;
 use std::alloc::Global;
 use std::cmp::min;
 
-/// So many steps of the second lap mostly matter.
-const NEAR: usize = 20;
+/// So many steps of the second lap mostly matter. They are fewer than a word may have, so that the table tells of them.
+const NEAR: usize = 16;
 
 /// For each point, how many steps from there on are straight.
 pub(crate) fn straight_of(

@@ -1,5 +1,5 @@
 //! Words: how a path takes its next few steps.
-ghost use Rattle.std.specs.Prelude.{◌≡◌, ◌↔◌, ◌+◌, ◌*◌, ◌<◌, ◌≤◌, ℕ, suc, length};
+ghost use Rattle.std.specs.Prelude.{◌≡◌, ◌↔◌, ◌+◌, ◌*◌, ◌<◌, ◌≤◌, ℕ, suc};
 ghost use Rattle.pt_core.specs.declared.point.Point.{Point};
 ghost use Rattle.straight_paths.specs.Inner.Codes.{GoesByOne, IsCoded, coded_step};
 ghost use Rattle.straight_paths.specs.Corners.{step_from};
