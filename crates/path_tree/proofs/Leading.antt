@@ -1,16 +1,17 @@
 -- Pointers past the starts whose paths have a holder.
-use Rattle.std.proofs.Common.{◌≡◌, ℕ, zero, suc, ◌+◌, ◌-◌, ◌<◌, ◌≤◌, ◌^◌, Bool, true, false, ◌&&◌, nat_lt, Option, None, Some, List, [], ◌∷◌, ◌++◌, length, get_or, set, drop, ap, sym, ◌∙◌, inl, inr, arith, get_or-set_other, get_or-set_same}
+use Rattle.std.proofs.Common.{◌≡◌, ℕ, zero, suc, ◌+◌, ◌-◌, ◌<◌, ◌≤◌, ◌^◌, Bool, true, false, ◌&&◌, nat_lt, Option, None, Some, List, [], ◌∷◌, ◌++◌, length, get_or, set, drop, All, ap, sym, subst, ◌∙◌, inl, inr, arith, get_or-set_other, get_or-set_same}
 use Rattle.std.specs.Prelude.{is_none, is_some}
 use Rattle.std.specs.List.{range_with_len}
 use Rattle.std.specs.List.Sorted.{IsNonDecreasingBy, IsPartitionPoint}
 use Rattle.std.proofs.Math.Seq.{drop-cons}
-use Rattle.std.proofs.lemmas.Bool.{cases_eq, cases_lt, false≢true}
-use Rattle.std.proofs.lemmas.List.{drop_all, length-set}
+use Rattle.std.proofs.lemmas.Bool.{cases_eq, cases_lt, false≢true, lt-ltb, le-ltb, ltb-true}
+use Rattle.std.proofs.lemmas.List.{drop_all, length-set, length-drop, get_or-drop}
 use Rattle.std.proofs.lemmas.List.FromFn.{get_or-range_with_len, length-range_with_len}
+use Rattle.pt_core.proofs.Appending.{any_default}
 use Rattle.path_tree.specs.declared.starts.PathStart.{PathStart}
-use Rattle.path_tree.specs.Inner.Free.{AreFree, AreSkips, LeadPast, has_holder, no_start}
+use Rattle.path_tree.specs.Inner.Free.{AreFree, AreSkips, LeadPast, StandBefore, has_holder, no_start}
 use Rattle.path_tree.specs.Inner.Starts.{is_in_span, marked, marked_one}
-use Rattle.path_tree.proofs.Marking.{and-false, below_low, from_high, marked-past, no_marking, within_both}
+use Rattle.path_tree.proofs.Marking.{all_below, and-false, below_low, from_high, marked-past, no_marking, within_both}
 
 -- a place that points farther on
 pub skips-set : (skips : List ℕ) (at v : ℕ) → AreSkips skips → at < length skips → at ≤ v → v < length skips → AreSkips (set skips at v)
@@ -68,7 +69,7 @@ pub range-more : (n : ℕ) → range_with_len 0 (n + 1) ≡ range_with_len 0 n +
 range-more n = let on : n + 1 ≡ suc n = omega arith in ap (range_with_len 0) on ∙ last 0 n n (omega arith)
 
 -- at first each place points to itself
-module _ (starts : List PathStart) (holders : List (Option ℕ)) (skips : List ℕ) (few : length starts < 2 ^ 32) (all : skips ≡ range_with_len 0 (length starts + 1)) where
+module _ (starts : List PathStart) (holders : List (Option ℕ)) (skips : List ℕ) (few : length starts < 2 ^ 32) (order : IsNonDecreasingBy (λ s. s.place) starts) (known : All (λ s. s.path < length holders) starts) (all : skips ≡ range_with_len 0 (length starts + 1)) where
   len : length skips ≡ length starts + 1
   len = ap length all ∙ length-range_with_len 0 (length starts + 1)
 
@@ -77,6 +78,8 @@ module _ (starts : List PathStart) (holders : List (Option ℕ)) (skips : List �
 
   pub free-all : AreFree starts holders skips
   free-all = record {
+    order = order;
+    known = known;
     are = record {
       onwards = λ i h. (let e = itself i h in omega arith);
       within = λ i h. (let e = itself i h in omega arith);
@@ -100,6 +103,8 @@ free-one starts holders skips at v free short within =
     let len = free.places in
     let here : at < length skips = omega arith in
     record {
+      order = free.order;
+      known = all_below starts (length holders) (length (set holders p (Some v))) (sym (length-set holders p (Some v))) free.known;
       are = skips-set skips at (at + 1) free.are here (omega arith) (omega arith);
       places = length-set skips at (at + 1) ∙ free.places;
       few = free.few;
@@ -116,6 +121,8 @@ free-one starts holders skips at v free short within =
 pub free-found : (starts : List PathStart) (holders : List (Option ℕ)) (old new : List ℕ) → AreFree starts holders old → AreSkips new → length new ≡ length old
     → ((held : ℕ → Bool) → LeadPast held old → LeadPast held new) → AreFree starts holders new
 free-found starts holders old new free are len past = record {
+  order = free.order;
+  known = free.known;
   are = are;
   places = len ∙ free.places;
   few = free.few;
@@ -184,3 +191,40 @@ in-span i low high at next first starts old new parted from short below made ord
     ∙ ap (λ b. marked i (is_in_span low high) (drop (suc at) starts) (marked_one i b s old))
     (sym (within_both low high s.place (parted.1 at no_start from short) below))
     ∙ sym (ap (λ ss. marked i (is_in_span low high) ss old) (drop-cons starts at no_start short))
+
+-- with n starts passed, the search goes on behind them
+pub parted-behind : (starts : List PathStart) (n m place : ℕ) → StandBefore starts n place
+    → IsPartitionPoint (λ s. nat_lt s.place place ≡ true) (λ s. nat_lt s.place place ≡ false) (drop n starts) m
+    → IsPartitionPoint (λ s. nat_lt s.place place ≡ true) (λ s. nat_lt s.place place ≡ false) starts (n + m)
+parted-behind starts n m place before parted = (
+  λ k d least high. elim (cases_lt k n) [
+    | inl passed ↦ lt-ltb _ _ (subst (λ (s : PathStart). s.place < place) (any_default starts k no_start d (omega (arith, before.most))) (before.below k passed))
+    | inr behind ↦
+        let e : n + (k - n) ≡ k = omega arith in
+        let there = parted.0 (k - n) d (omega arith) (omega arith) in
+        subst (λ (s : PathStart). nat_lt s.place place ≡ true) (get_or-drop n starts (k - n) d ∙ ap (λ j. get_or starts j d) e) there
+  ],
+  λ k d low high.
+      let e : n + (k - n) ≡ k = omega arith in
+      let there = parted.1 (k - n) d (omega arith) (omega (arith, length-drop n starts)) in
+      subst (λ (s : PathStart). nat_lt s.place place ≡ false) (get_or-drop n starts (k - n) d ∙ ap (λ j. get_or starts j d) e) there,
+)
+
+-- where the next one doesn't stand before the place, no more do
+pub parted-here : (starts : List PathStart) (n place : ℕ) → IsNonDecreasingBy (λ s. s.place) starts → StandBefore starts n place → (n < length starts → place ≤ (get_or starts n no_start).place)
+    → IsPartitionPoint (λ s. nat_lt s.place place ≡ true) (λ s. nat_lt s.place place ≡ false) starts n
+parted-here starts n place order before next = (
+  λ k d least high. lt-ltb _ _ (subst (λ (s : PathStart). s.place < place) (any_default starts k no_start d (omega (arith, before.most))) (before.below k high)),
+  λ k d low high.
+      let later : (get_or starts n d).place ≤ (get_or starts k d).place = order n k d low high in
+      let first : place ≤ (get_or starts n d).place = subst (λ (s : PathStart). place ≤ s.place) (any_default starts n no_start d (omega arith)) (next (omega arith)) in
+      le-ltb _ _ (omega arith),
+)
+
+-- what the search tells of the starts before the place
+pub before-parted : (starts : List PathStart) (n place : ℕ) → n ≤ length starts → IsPartitionPoint (λ s. nat_lt s.place place ≡ true) (λ s. nat_lt s.place place ≡ false) starts n → StandBefore starts n place
+before-parted starts n place most parted = record { most = most; below = λ k low. ltb-true _ _ (parted.0 k no_start (omega arith) low) }
+
+-- a later place
+pub before-later : (starts : List PathStart) (n place later : ℕ) → place ≤ later → StandBefore starts n place → StandBefore starts n later
+before-later starts n place later order before = record { most = before.most; below = λ k low. (let here = before.below k low in omega arith) }

@@ -1,6 +1,7 @@
 -- Which starts are looked at when their paths want a holder: those whose paths have one already are left out, by the
 -- pointers of a union-find structure (Tarjan, "Efficiency of a good but not linear set union algorithm", 1975).
-use Rattle.std.specs.Prelude.{◌≡◌, ℕ, ◌+◌, ◌<◌, ◌≤◌, ◌^◌, Bool, true, None, Option, is_some, List, length, slice_index_or}
+use Rattle.std.specs.Prelude.{◌≡◌, ℕ, ◌+◌, ◌<◌, ◌≤◌, ◌^◌, Bool, true, None, Option, is_some, All, List, length, slice_index_or}
+use Rattle.std.specs.List.Sorted.{IsNonDecreasingBy}
 use Rattle.path_tree.specs.declared.starts.PathStart.{PathStart}
 
 -- no start, which stands for those that aren't in a list
@@ -20,9 +21,17 @@ pub record AreSkips (skips : List ℕ) : Type 0 where
 abbrev pub LeadPast : (ℕ → Bool) → List ℕ → Type 0
 LeadPast held skips = (i k : ℕ) → i < length skips → i ≤ k → k < slice_index_or skips i 0 → held k ≡ true
 
--- there is a place for each start and one behind them, and they lead past starts alone whose paths have a holder
+-- The starts stand in order, and each one's path in the list of holders. There is a place for each start and one behind them, and
+-- they lead past starts alone whose paths have a holder.
 pub record AreFree (starts : List PathStart) (holders : List (Option ℕ)) (skips : List ℕ) : Type 0 where
+  pub order : IsNonDecreasingBy (λ start. start.place) starts
+  pub known : All (λ start. start.path < length holders) starts
   pub are : AreSkips skips
   pub places : length skips ≡ length starts + 1
   pub few : length starts < 2 ^ 32
   pub past : LeadPast (has_holder starts holders) skips
+
+-- the first n starts stand before a place
+pub record StandBefore (starts : List PathStart) (n place : ℕ) : Type 0 where
+  pub most : n ≤ length starts
+  pub below : (k : ℕ) → k < n → (slice_index_or starts k no_start).place < place
