@@ -19,7 +19,7 @@ use Rattle.path_decompose.specs.declared.trail.Upright.{Upright}
 use Rattle.path_decompose.specs.Inside.{is_crossed, is_odd, inside, black_count}
 use Rattle.path_decompose.specs.GridEdges.{GridEdge, upright, level, is_in_row}
 use Rattle.path_decompose.specs.Inner.GridEdges.{IsLineOn}
-use Rattle.path_decompose.specs.Inner.Trail.{upright_along, upright_of, column_if_up, column_if_down, column_up, column_down}
+use Rattle.path_decompose.specs.Inner.Trail.{AreUprights, IsUprightOn, upright_along, upright_of, column_if_up, column_if_down, column_up, column_down}
 use Rattle.path_decompose.specs.Walk.{first_edge, start_of, IsBoundaryWalk}
 use Rattle.path_decompose.proofs.Area.{circuit_area}
 use Rattle.path_decompose.proofs.Beyond.{all_lines_on}
@@ -51,10 +51,6 @@ odd_by-uprights f g up flat (e ∷ es) = one f g up flat e.x e.y e.heading (upri
     one f g up flat x y East rest = sym (ap (λ t. differ t (odd_by f rest)) (flat x y))
     one f g up flat x y South rest = ap (λ t. differ t (odd_by f rest)) (up x (pred y))
     one f g up flat x y West rest = sym (ap (λ t. differ t (odd_by f rest)) (flat (pred x) y))
-
--- the line lies on a page of this width and height
-abbrev pub IsUprightOn : ℕ → ℕ → Upright → Type 0
-IsUprightOn width height line = (line.x ≤ width) × (line.y < height)
 
 uprights_on : (width height : ℕ) (es : List Edge) → All (λ e. IsLineOn width height (line_of e)) es → All (IsUprightOn width height) (uprights_of es)
 uprights_on width height [] on = All-nil (IsUprightOn width height)
@@ -144,8 +140,7 @@ noted_more f s points new_points lines new_lines up down new_up new_down here af
 -- what is noted down of a whole walk
 pub record IsWholeWalk (b : Image) (policy : Policy) (sign : Sign) (x y width height : ℕ) (points : List Point) (lines : List Upright) (up down : ℕ) : Type 0 where
   pub walk : IsBoundaryWalk b policy sign x y points
-  pub on_page : All (IsUprightOn width height) lines
-  pub even : (v : ℕ) → is_odd (count_by (λ (line : Upright). nat_eq line.y v) lines) ≡ false
+  pub lines_are : AreUprights width height lines
   pub inside_is : (u v : ℕ) → is_odd (count_by (λ (line : Upright). is_from line.x line.y u v) lines) ≡ inside points u v
   pub area : black_count (inside points) width height + down ≡ up
 
@@ -157,11 +152,13 @@ whole_of b policy sign x y width height es points first fits c walk starts =
     λ u v. sym (ap (λ ps. inside ps u v) starts ∙ inside-run b policy sign (first_edge x y) es c.boundary c.closes u v) in
     record {
       walk = walk;
-      on_page = uprights_on width height es (all_lines_on b policy sign (first_edge x y) es c width height fits);
-      even = λ v.
-          is_odd-count (λ (line : Upright). nat_eq line.y v) lines
-          ∙ odd_by-uprights (λ line. nat_eq line.y v) (is_in_row v) (λ a r. refl) (λ a r. refl) es
-          ∙ row_even b policy sign (first_edge x y) es c.boundary c.closes v;
+      lines_are = record {
+        on_page = uprights_on width height es (all_lines_on b policy sign (first_edge x y) es c width height fits);
+        even = λ v.
+            is_odd-count (λ (line : Upright). nat_eq line.y v) lines
+            ∙ odd_by-uprights (λ line. nat_eq line.y v) (is_in_row v) (λ a r. refl) (λ a r. refl) es
+            ∙ row_even b policy sign (first_edge x y) es c.boundary c.closes v;
+      };
       inside_is = λ u v.
           is_odd-count (λ (line : Upright). is_from line.x line.y u v) lines
           ∙ odd_by-uprights (λ line. is_from line.x line.y u v) (is_crossed u v) (λ a r. refl) (λ a r. refl) es

@@ -1,7 +1,6 @@
 //! The paths of a page, one after another.
 ghost use Rattle.std.specs.Prelude.{◌≡◌, ℕ, ◌+◌, ◌*◌, ◌<◌, ◌≤◌, ◌≤ℤ◌, pos, List, [], ◌∷◌, ◌++◌, All, length, OnOk, OnErr, IfOk};
 ghost use Rattle.pt_core.specs.ClosedWalk.{point_at, IsClosedWalk};
-ghost use Rattle.pt_core.specs.declared.limits.TheConstants.{LONGEST_SIDE};
 ghost use Rattle.bit_image.specs.FirstBlack.{IsFirstBlack};
 ghost use Rattle.bit_image.specs.Image.{Fits};
 ghost use Rattle.bit_image.specs.Page.{SameSides, image_of};
@@ -154,11 +153,7 @@ fn next_path(
     trail: &mut Trail,
 ) -> Result<(Sign, u64), NoMemory>
     requires first { IsFirstBlack (image_of rest.old) x y }
-    requires column { x < rest.old.width }
     requires sides { SameSides page.now rest.old }
-    requires width { rest.old.width ≤ LONGEST_SIDE }
-    requires height { rest.old.height ≤ LONGEST_SIDE }
-    requires fits { Fits (image_of rest.old) rest.old.width rest.old.height }
     ensures sides { SameSides rest.old rest.new }
     ensures path { IfOk result (λ told. IsNextPath page.now policy (image_of rest.old)
         (path_of told.0 told.1 trail.new.points.items)) }
@@ -166,6 +161,8 @@ fn next_path(
         → image_of rest.new u v ≡ inverted (image_of rest.old) trail.new.points.items u v) }
     ensures white { OnOk result (IsWhiteThrough (image_of rest.new) rest.new.width x y) }
 {
+    // The width is asked, so that the proof sees where a page's pixels lie.
+    let _ = rest.width();
     let sign = sign_at(page, x, y);
     walk_round(rest, x, y, policy, sign, trail)?;
     invert(rest, &trail.lines, x);

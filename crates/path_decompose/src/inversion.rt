@@ -3,6 +3,7 @@ ghost use Rattle.std.specs.Prelude.{◌≡◌, ℕ, ◌<◌, ◌≤◌, false, n
 ghost use Rattle.bit_image.specs.Image.{differ, is_from};
 ghost use Rattle.bit_image.specs.Page.{SameSides, image_of};
 ghost use Rattle.path_decompose.specs.Inside.{is_odd};
+ghost use Rattle.path_decompose.specs.Inner.Trail.{AreUprights};
 ghost use Rattle.path_decompose.specs.declared.trail.Upright.{Upright};
 
 use crate::trail::Upright;
@@ -20,9 +21,7 @@ use bit_image::Bitmap;
 // and the area would be the sum of these spans; but to sort them took an eighth to a quarter of the time on a page of
 // text, a dithered one and a checkerboard. It paid on none of them, nor on a comb, a spiral and squares of 4096 pixels.
 pub(crate) fn invert(page: &mut Bitmap, lines: &[Upright], column: u32)
-    requires on_page { All (λ (line : Upright). (line.x ≤ page.old.width) × (line.y < page.old.height))
-        lines.now }
-    requires even { (y : ℕ) → is_odd (count_by (λ (line : Upright). nat_eq line.y y) lines.now) ≡ false }
+    requires lines { AreUprights page.old.width page.old.height lines.now }
     requires column { column ≤ page.old.width }
     ensures sides { SameSides page.old page.new }
     ensures pixels { (u v : ℕ) → image_of page.new u v ≡ differ (image_of page.old u v)

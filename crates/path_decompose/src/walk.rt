@@ -1,12 +1,11 @@
 //! The walk along a boundary, once round.
 ghost use Rattle.std.specs.Prelude.{◌≡◌, ◌≢◌, ℕ, ◌+◌, ◌++◌, ◌∷◌, [], false, nat_eq, IfOk, OnOk, All, count_by, MatchBool, ◌^◌, ◌<◌, ◌≤◌};
 ghost use Rattle.bit_image.specs.FirstBlack.{IsFirstBlack};
-ghost use Rattle.bit_image.specs.Image.{Fits, is_from};
+ghost use Rattle.bit_image.specs.Image.{is_from};
 ghost use Rattle.bit_image.specs.Page.{image_of};
-ghost use Rattle.pt_core.specs.declared.limits.TheConstants.{LONGEST_SIDE};
 ghost use Rattle.path_decompose.specs.declared.trail.Upright.{Upright};
 ghost use Rattle.path_decompose.specs.Inside.{is_odd, inside, black_count};
-ghost use Rattle.path_decompose.specs.Inner.Trail.{upright_of, column_up, column_down};
+ghost use Rattle.path_decompose.specs.Inner.Trail.{AreUprights, upright_of, column_up, column_down};
 ghost use Rattle.path_decompose.specs.Walk.{first_edge, start_of, IsBoundaryWalk};
 ghost use Rattle.turn_policies.specs.Boundary.{IsBoundary};
 ghost use Rattle.turn_policies.specs.Turn.{next};
@@ -31,18 +30,12 @@ pub(crate) fn walk_round(
     trail: &mut Trail,
 ) -> Result<(), NoMemory>
     requires first { IsFirstBlack (image_of page.now) x y }
-    requires width { page.now.width ≤ LONGEST_SIDE }
-    requires height { page.now.height ≤ LONGEST_SIDE }
-    requires fits { Fits (image_of page.now) page.now.width page.now.height }
     ensures walk { OnOk result
         (IsBoundaryWalk (image_of page.now) policy sign x y trail.new.points.items) }
 
     // Its upright lines lie on the page, and have what is inside between them.
-    ensures on_page { OnOk result
-        (All (λ (line : Upright). (line.x ≤ page.now.width) × (line.y < page.now.height))
-        trail.new.lines.items) }
-    ensures even { OnOk result ((v : ℕ)
-        → is_odd (count_by (λ (line : Upright). nat_eq line.y v) trail.new.lines.items) ≡ false) }
+    ensures lines { OnOk result
+        (AreUprights page.now.width page.now.height trail.new.lines.items) }
     ensures inside { OnOk result ((u v : ℕ)
         → is_odd (count_by (λ (line : Upright). is_from line.x line.y u v) trail.new.lines.items)
         ≡ inside trail.new.points.items u v) }
@@ -50,6 +43,8 @@ pub(crate) fn walk_round(
         (black_count (inside trail.new.points.items) page.now.width page.now.height + trail.new.down
         ≡ trail.new.up) }
 {
+    // The width is asked, so that the proof sees that a page is small, and its edges are few.
+    let _ = page.width();
     trail.clear();
     let mut here = Edge {
         x,
@@ -74,9 +69,6 @@ fn step(
     trail: &mut Trail,
 ) -> Result<Edge, NoMemory>
     requires boundary { IsBoundary (image_of page.now) edge }
-    requires width { page.now.width ≤ LONGEST_SIDE }
-    requires height { page.now.height ≤ LONGEST_SIDE }
-    requires fits { Fits (image_of page.now) page.now.width page.now.height }
     requires up { trail.old.up < 2 ^ 63 }
     requires down { trail.old.down < 2 ^ 63 }
     ensures value { IfOk result (λ after. after ≡ next (image_of page.now) policy sign edge) }
@@ -88,6 +80,8 @@ fn step(
     ensures up { OnOk result (trail.new.up ≡ trail.old.up + column_up edge) }
     ensures down { OnOk result (trail.new.down ≡ trail.old.down + column_down edge) }
 {
+    // The width is asked, so that the proof sees that an edge lies on the page.
+    let _ = page.width();
     let Edge { x, y, heading } = edge;
     trail.points.push(Point {
         x: x as i32,

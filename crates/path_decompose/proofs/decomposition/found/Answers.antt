@@ -82,22 +82,8 @@ first_black-start-requires c = omega (arith, c.height.ensures.value, c.height.en
 pub next_path-requires-clause-first : goal.next_path-requires-clause-first
 next_path-requires-clause-first c = subst (IsStart (image_of c.paths.rest)) c.in-Some.is c.paths.invariant.start
 
-pub next_path-requires-clause-column : goal.next_path-requires-clause-column
-next_path-requires-clause-column c =
-    let first : IsFirstBlack (image_of c.paths.rest) c.in-Some.x c.in-Some.y = subst (IsStart (image_of c.paths.rest)) c.in-Some.is c.paths.invariant.start in
-    (c.paths.invariant.fits c.in-Some.x c.in-Some.y first.black).0
-
 pub next_path-requires-clause-sides : goal.next_path-requires-clause-sides
 next_path-requires-clause-sides c = c.paths.invariant.sides
-
-pub next_path-requires-clause-width : goal.next_path-requires-clause-width
-next_path-requires-clause-width c = omega (arith, c.paths.invariant.sides.width, ap (λ (p : Page). p.width) c.in_ok-rest.ensures, c.height.ensures.page.most_width)
-
-pub next_path-requires-clause-height : goal.next_path-requires-clause-height
-next_path-requires-clause-height c = omega (arith, c.paths.invariant.sides.height, ap (λ (p : Page). p.height) c.in_ok-rest.ensures, c.height.ensures.page.most_height)
-
-pub next_path-requires-clause-fits : goal.next_path-requires-clause-fits
-next_path-requires-clause-fits c = c.paths.invariant.fits
 
 pub start_after-start-requires-clause-white : goal.start_after-start-requires-clause-white
 start_after-start-requires-clause-white c = c.in_ok-sign.ensures.white

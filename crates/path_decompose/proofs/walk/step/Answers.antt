@@ -3,7 +3,7 @@ use Rattle.std.proofs.Common.{◌≡◌, ◌-◌, ◌+◌, ◌≤◌, suc, pred,
 use Rattle.std.proofs.lemmas.Int.{ints}
 use Rattle.pt_core.specs.declared.limits.TheConstants.{LONGEST_SIDE}
 use Rattle.bit_image.specs.Image.{Fits}
-use Rattle.bit_image.specs.Page.{Page, image_of}
+use Rattle.bit_image.specs.Page.{Page, IsPage, image_of}
 use Rattle.turn_policies.specs.Boundary.{IsBoundary}
 use Rattle.turn_policies.specs.declared.edge.Edge.{Edge}
 use Rattle.turn_policies.specs.declared.heading.Dir.TheVariants.{North, East, South, West}
@@ -13,25 +13,25 @@ use Rattle.path_decompose.proofs.OnPage.{edge_on}
 use Rattle.path_decompose.proofs.walk.step.Goals as goal
 
 -- a corner of the page, the longest of which has short sides
-corner : (page : Page) → page.width ≤ LONGEST_SIDE → page.height ≤ LONGEST_SIDE → Fits (image_of page) page.width page.height → (edge : Edge) → IsBoundary (image_of page) edge
+corner : (page : Page) → IsPage page → Fits (image_of page) page.width page.height → (edge : Edge) → IsBoundary (image_of page) edge
     → (edge.x ≤ LONGEST_SIDE) × (edge.y ≤ LONGEST_SIDE)
-corner page wide high fits edge boundary =
+corner page is fits edge boundary =
     let on = edge_on (image_of page) page.width page.height fits edge boundary in
-    (omega (arith, on.column), omega (arith, on.row))
+    (omega (arith, on.column, is.most_width), omega (arith, on.row, is.most_height))
 
 pub turned_at-requires-clause-y : goal.turned_at-requires-clause-y
 turned_at-requires-clause-y c =
     let page = c.args.page.now in
-    let on = edge_on (image_of page) page.width page.height c.requires.fits c.args.edge c.requires.boundary in
+    let on = edge_on (image_of page) page.width page.height c.width.ensures.fits c.args.edge c.requires.boundary in
     let row : suc c.args.edge.y ≤ page.height = subst (λ d. end_y c.args.edge.y d ≤ page.height) c.in-North.is on.end_row in
-    omega (arith, row, c.requires.height)
+    omega (arith, row, c.width.ensures.page.most_height)
 
 pub turned_at-requires-in-East-clause-x : goal.turned_at-requires-in-East-clause-x
 turned_at-requires-in-East-clause-x c =
     let page = c.args.page.now in
-    let on = edge_on (image_of page) page.width page.height c.requires.fits c.args.edge c.requires.boundary in
+    let on = edge_on (image_of page) page.width page.height c.width.ensures.fits c.args.edge c.requires.boundary in
     let column : suc c.args.edge.x ≤ page.width = subst (λ d. end_x c.args.edge.x d ≤ page.width) c.in-East.is on.end_column in
-    omega (arith, column, c.requires.width)
+    omega (arith, column, c.width.ensures.page.most_width)
 
 pub returns-in_ok-push-in-North-clause-value : goal.returns-in_ok-push-in-North-clause-value
 returns-in_ok-push-in-North-clause-value c =
@@ -75,37 +75,37 @@ returns-in-West-clause-boundary c =
 
 -- a corner of the page is met, and its numbers are small
 pub turned_at-requires-clause-x : goal.turned_at-requires-clause-x
-turned_at-requires-clause-x c = omega (arith, corner c.args.page.now c.requires.width c.requires.height c.requires.fits c.args.edge c.requires.boundary)
+turned_at-requires-clause-x c = omega (arith, corner c.args.page.now c.width.ensures.page c.width.ensures.fits c.args.edge c.requires.boundary)
 
 pub turned_at-requires-in-East-clause-y : goal.turned_at-requires-in-East-clause-y
-turned_at-requires-in-East-clause-y c = omega (arith, corner c.args.page.now c.requires.width c.requires.height c.requires.fits c.args.edge c.requires.boundary)
+turned_at-requires-in-East-clause-y c = omega (arith, corner c.args.page.now c.width.ensures.page c.width.ensures.fits c.args.edge c.requires.boundary)
 
 pub turned_at-requires-in-South-clause-x : goal.turned_at-requires-in-South-clause-x
-turned_at-requires-in-South-clause-x c = omega (arith, corner c.args.page.now c.requires.width c.requires.height c.requires.fits c.args.edge c.requires.boundary)
+turned_at-requires-in-South-clause-x c = omega (arith, corner c.args.page.now c.width.ensures.page c.width.ensures.fits c.args.edge c.requires.boundary)
 
 pub turned_at-requires-in-South-clause-y : goal.turned_at-requires-in-South-clause-y
-turned_at-requires-in-South-clause-y c = omega (arith, corner c.args.page.now c.requires.width c.requires.height c.requires.fits c.args.edge c.requires.boundary)
+turned_at-requires-in-South-clause-y c = omega (arith, corner c.args.page.now c.width.ensures.page c.width.ensures.fits c.args.edge c.requires.boundary)
 
 pub turned_at-requires-in-West-clause-x : goal.turned_at-requires-in-West-clause-x
-turned_at-requires-in-West-clause-x c = omega (arith, corner c.args.page.now c.requires.width c.requires.height c.requires.fits c.args.edge c.requires.boundary)
+turned_at-requires-in-West-clause-x c = omega (arith, corner c.args.page.now c.width.ensures.page c.width.ensures.fits c.args.edge c.requires.boundary)
 
 pub turned_at-requires-in-West-clause-y : goal.turned_at-requires-in-West-clause-y
-turned_at-requires-in-West-clause-y c = omega (arith, corner c.args.page.now c.requires.width c.requires.height c.requires.fits c.args.edge c.requires.boundary)
+turned_at-requires-in-West-clause-y c = omega (arith, corner c.args.page.now c.width.ensures.page c.width.ensures.fits c.args.edge c.requires.boundary)
 
 pub overflow_add-x : goal.overflow_add-x
-overflow_add-x c = omega (arith, corner c.args.page.now c.requires.width c.requires.height c.requires.fits c.args.edge c.requires.boundary)
+overflow_add-x c = omega (arith, corner c.args.page.now c.width.ensures.page c.width.ensures.fits c.args.edge c.requires.boundary)
 
 pub overflow_add-y : goal.overflow_add-y
-overflow_add-y c = omega (arith, corner c.args.page.now c.requires.width c.requires.height c.requires.fits c.args.edge c.requires.boundary)
+overflow_add-y c = omega (arith, corner c.args.page.now c.width.ensures.page c.width.ensures.fits c.args.edge c.requires.boundary)
 
 pub overflow_cast-x : goal.overflow_cast-x
-overflow_cast-x c = omega (arith, ints, corner c.args.page.now c.requires.width c.requires.height c.requires.fits c.args.edge c.requires.boundary)
+overflow_cast-x c = omega (arith, ints, corner c.args.page.now c.width.ensures.page c.width.ensures.fits c.args.edge c.requires.boundary)
 
 pub overflow_cast-y : goal.overflow_cast-y
-overflow_cast-y c = omega (arith, ints, corner c.args.page.now c.requires.width c.requires.height c.requires.fits c.args.edge c.requires.boundary)
+overflow_cast-y c = omega (arith, ints, corner c.args.page.now c.width.ensures.page c.width.ensures.fits c.args.edge c.requires.boundary)
 
 pub overflow_add-trail : goal.overflow_add-trail
-overflow_add-trail c = omega (arith, c.from.ensures, c.requires.up, corner c.args.page.now c.requires.width c.requires.height c.requires.fits c.args.edge c.requires.boundary)
+overflow_add-trail c = omega (arith, c.from.ensures, c.requires.up, corner c.args.page.now c.width.ensures.page c.width.ensures.fits c.args.edge c.requires.boundary)
 
 pub overflow_add-trail-in-South : goal.overflow_add-trail-in-South
-overflow_add-trail-in-South c = omega (arith, c.from-in-South.ensures, c.requires.down, corner c.args.page.now c.requires.width c.requires.height c.requires.fits c.args.edge c.requires.boundary)
+overflow_add-trail-in-South c = omega (arith, c.from-in-South.ensures, c.requires.down, corner c.args.page.now c.width.ensures.page c.width.ensures.fits c.args.edge c.requires.boundary)
