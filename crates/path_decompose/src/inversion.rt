@@ -1,5 +1,5 @@
 //! The inversion of a page inside a path.
-ghost use Rattle.std.specs.Prelude.{◌≡◌, ℕ, ◌<◌, ◌≤◌, false, nat_eq, All, count_by};
+ghost use Rattle.std.specs.Prelude.{◌≡◌, ℕ, ◌≤◌, count_by};
 ghost use Rattle.bit_image.specs.Image.{differ, is_from};
 ghost use Rattle.bit_image.specs.Page.{SameSides, image_of};
 ghost use Rattle.path_decompose.specs.Inside.{is_odd};

@@ -1,5 +1,5 @@
 //! The walk along a boundary, once round.
-ghost use Rattle.std.specs.Prelude.{◌≡◌, ◌≢◌, ℕ, ◌+◌, ◌++◌, ◌∷◌, [], false, nat_eq, IfOk, OnOk, All, count_by, MatchBool, ◌^◌, ◌<◌, ◌≤◌};
+ghost use Rattle.std.specs.Prelude.{◌≡◌, ◌≢◌, ℕ, ◌+◌, ◌++◌, ◌∷◌, [], IfOk, OnOk, count_by, MatchBool, ◌^◌, ◌<◌};
 ghost use Rattle.bit_image.specs.FirstBlack.{IsFirstBlack};
 ghost use Rattle.bit_image.specs.Image.{is_from};
 ghost use Rattle.bit_image.specs.Page.{image_of};

@@ -1,7 +1,7 @@
 //! Between which columns and which rows a path lies.
-ghost use Rattle.std.specs.Prelude.{◌≤◌, All};
+ghost use Rattle.std.specs.Prelude.{All};
 ghost use Rattle.path_decompose.specs.Bounds.{IsCornerOf};
-ghost use Rattle.path_tree.specs.Inner.Candidates.{IsInBounds};
+ghost use Rattle.path_tree.specs.Inner.Candidates.{IsInBounds, IsPageBounds};
 ghost use Rattle.pt_core.specs.declared.point.Point.{Point};
 
 use pt_core::Point;
@@ -20,8 +20,7 @@ impl Bounds {
     pub(crate) fn of(points: &[Point]) -> Bounds
         requires { All (IsCornerOf 32767 32767) points.now }
         ensures within { All (IsInBounds result) points.now }
-        ensures bottom { result.bottom ≤ 32767 }
-        ensures top { result.top ≤ 32767 }
+        ensures rows { IsPageBounds result }
     {
         let mut bounds = Bounds {
             left: 32767,
@@ -38,12 +37,10 @@ impl Bounds {
     /// The bounds with one more point.
     fn with(self, point: Point) -> Bounds
         requires corner { IsCornerOf 32767 32767 point }
-        requires bottom { self.bottom ≤ 32767 }
-        requires top { self.top ≤ 32767 }
+        requires rows { IsPageBounds self }
         ensures point { IsInBounds result point }
         ensures others { (other : Point) → IsInBounds self other → IsInBounds result other }
-        ensures bottom { result.bottom ≤ 32767 }
-        ensures top { result.top ≤ 32767 }
+        ensures rows { IsPageBounds result }
     {
         let x = point.x.unsigned_abs();
         let y = point.y.unsigned_abs();

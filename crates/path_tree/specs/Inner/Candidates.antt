@@ -6,6 +6,11 @@ use Rattle.path_tree.specs.declared.bounds.Bounds.{Bounds}
 use Rattle.path_tree.specs.declared.starts.PathStart.{PathStart}
 use Rattle.path_tree.specs.declared.starts.TheConstants.{ROW}
 
+-- the rows are those of corners of a page
+pub record IsPageBounds (bounds : Bounds) : Type 0 where
+  pub bottom : bounds.bottom ≤ 32767
+  pub top : bounds.top ≤ 32767
+
 -- the point lies between the bounds
 pub record IsInBounds (bounds : Bounds) (p : Point) : Type 0 where
   pub left : bounds.left ≤ nat_abs p.x

@@ -1,12 +1,10 @@
-use Rattle.std.proofs.Common.{◌≤◌}
 use Rattle.std.specs.List.{AllWithin}
-use Rattle.path_tree.specs.Inner.Candidates.{IsInBounds}
+use Rattle.path_tree.specs.Inner.Candidates.{IsInBounds, IsPageBounds}
 use Rattle.path_tree.proofs.bounds.Bounds.of.Given as goal
 
 -- the points so far lie between the bounds
 abbrev pub invariant-loop-point : goal.invariant-loop-point
 invariant-loop-point l = record {
   within : AllWithin (IsInBounds l.bounds) l.points 0 l.point-index;
-  bottom : l.bounds.bottom ≤ 32767;
-  top : l.bounds.top ≤ 32767;
+  rows : IsPageBounds l.bounds;
 }
