@@ -12,11 +12,15 @@ ghost use Rattle.polygon_optimal.specs.Inner.Lasts.{AreRising, IsUpToLast, Leads
 ghost use Rattle.polygon_optimal.specs.Polygon.{penalty_of};
 ghost use Rattle.outline_check.specs.Labels.{IsRight, label_at, label_by};
 ghost use Rattle.outline_check.specs.Inner.Known.{AreRightDownTo, IsWindowBegin};
-ghost use Rattle.outline_check.specs.Inner.LabelPoints.{onward_by};
+ghost use Rattle.outline_check.specs.Inner.LabelPoints.{IsCheapestBefore, onward_by};
 
 use crate::label::Label;
 use crate::segments::CheckedSegments;
-use prefix_moments::Start;
+use prefix_moments::{Growing, Start};
+
+/// A window of more than so many points is gone through by one segment that grows from point to point. A narrower one
+/// costs less where each of its segments is looked up by itself.
+const WIDE: u32 = 8;
 
 /// A label, and the point that it comes from.
 #[derive(Clone, Copy)]
@@ -68,9 +72,86 @@ pub(crate) fn label_from(
     let last = segments.lasts[from as usize];
     let to = guess.max(begin).min(last);
     let start = Start::at(&segments.moments, from);
-    let mut best = by_segment(segments, labels, &start, to);
+    let tried = by_segment(segments, labels, &start, to);
+    cheapest_of(segments, labels, &start, begin, last, tried)
+}
+
+/// The cheapest label by the segments to the points from `begin` to `last`, one of which was tried.
+fn cheapest_of(
+    segments: &CheckedSegments,
+    labels: &[Label],
+    start: &Start,
+    begin: u32,
+    last: u32,
+    tried: Onward,
+) -> Onward
+    requires start { start.now.moments.now ≡ segments.now.moments }
+    requires onwards { start.now.from < begin }
+    requires ordered { begin ≤ last }
+    requires reached { last ≤ slice_index segments.now.lasts.items start.now.from }
+    requires known { AreRightDownTo (length segments.now.moments)
+        (IsUpToLast segments.now.lasts.items) (penalty_of segments.now.moments)
+        (start.now.from + 1) labels.now }
+    requires tried { IsCheapestBefore (penalty_of segments.now.moments) labels.now start.now.from begin last begin tried }
+    ensures { IsCheapestBefore (penalty_of segments.now.moments) labels.now start.now.from begin last (last + 1) result }
+{
+    if last - begin < WIDE {
+        cheapest_of_few(segments, labels, start, begin, last, tried)
+    } else {
+        cheapest_of_many(segments, labels, start, begin, last, tried)
+    }
+}
+
+/// The same, where each segment is looked up by itself.
+fn cheapest_of_few(
+    segments: &CheckedSegments,
+    labels: &[Label],
+    start: &Start,
+    begin: u32,
+    last: u32,
+    tried: Onward,
+) -> Onward
+    requires start { start.now.moments.now ≡ segments.now.moments }
+    requires onwards { start.now.from < begin }
+    requires ordered { begin ≤ last }
+    requires reached { last ≤ slice_index segments.now.lasts.items start.now.from }
+    requires known { AreRightDownTo (length segments.now.moments)
+        (IsUpToLast segments.now.lasts.items) (penalty_of segments.now.moments)
+        (start.now.from + 1) labels.now }
+    requires tried { IsCheapestBefore (penalty_of segments.now.moments) labels.now start.now.from begin last begin tried }
+    ensures { IsCheapestBefore (penalty_of segments.now.moments) labels.now start.now.from begin last (last + 1) result }
+{
+    let mut best = tried;
     for k in begin..last + 1 {
-        best = cheaper(segments, labels, &start, k, best);
+        best = cheaper(segments, labels, start, k, best);
+    }
+    best
+}
+
+/// The same, by one segment that grows from point to point.
+fn cheapest_of_many(
+    segments: &CheckedSegments,
+    labels: &[Label],
+    start: &Start,
+    begin: u32,
+    last: u32,
+    tried: Onward,
+) -> Onward
+    requires start { start.now.moments.now ≡ segments.now.moments }
+    requires onwards { start.now.from < begin }
+    requires ordered { begin ≤ last }
+    requires reached { last ≤ slice_index segments.now.lasts.items start.now.from }
+    requires known { AreRightDownTo (length segments.now.moments)
+        (IsUpToLast segments.now.lasts.items) (penalty_of segments.now.moments)
+        (start.now.from + 1) labels.now }
+    requires tried { IsCheapestBefore (penalty_of segments.now.moments) labels.now start.now.from begin last begin tried }
+    ensures { IsCheapestBefore (penalty_of segments.now.moments) labels.now start.now.from begin last (last + 1) result }
+{
+    let mut segment = Growing::between(&segments.moments, start.from, begin);
+    let mut best = cheaper_by(segments, labels, &segment, tried);
+    while segment.to < last {
+        segment = segment.longer();
+        best = cheaper_by(segments, labels, &segment, best);
     }
     best
 }
@@ -128,6 +209,41 @@ fn cheaper(
                 cost: label.cost + u128::from(penalty),
             },
             next: to,
+        },
+        None => best,
+    }
+}
+
+/// The label by this segment, where it is cheaper than `best`.
+#[inline(always)]
+fn cheaper_by(
+    segments: &CheckedSegments,
+    labels: &[Label],
+    segment: &Growing,
+    best: Onward,
+) -> Onward
+    requires segment { segment.now.moments.now ≡ segments.now.moments }
+    requires reached { segment.now.to ≤ slice_index segments.now.lasts.items segment.now.from }
+    requires known { AreRightDownTo (length segments.now.moments)
+        (IsUpToLast segments.now.lasts.items) (penalty_of segments.now.moments)
+        (segment.now.from + 1) labels.now }
+    ensures cheaper { (label_by (penalty_of segments.now.moments) labels.now segment.now.from segment.now.to).cost < best.label.cost
+        → result ≡ onward_by (penalty_of segments.now.moments) labels.now segment.now.from segment.now.to }
+    ensures same { best.label.cost ≤ (label_by (penalty_of segments.now.moments) labels.now segment.now.from segment.now.to).cost
+        → result ≡ best }
+{
+    let label = labels[segment.to as usize];
+    if best.label.cost <= label.cost {
+        return best;
+    }
+    let limit = (best.label.cost - label.cost).min(1 << 24) as u64;
+    match segment.penalty_below(limit) {
+        Some(penalty) => Onward {
+            label: Label {
+                count: label.count + 1,
+                cost: label.cost + u128::from(penalty),
+            },
+            next: segment.to,
         },
         None => best,
     }
