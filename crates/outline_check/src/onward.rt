@@ -7,7 +7,7 @@
 //! ```text
 //!     from . . . . [begin . . . last]    In the window one segment fewer is left than from here.
 //! ```
-ghost use Rattle.std.specs.Prelude.{◌≡◌, ℕ, ◌+◌, ◌<◌, ◌≤◌, length, slice_index};
+ghost use Rattle.std.specs.Prelude.{◌≡◌, ℕ, ◌+◌, ◌*◌, ◌^◌, ◌<◌, ◌≤◌, length, slice_index};
 ghost use Rattle.polygon_optimal.specs.Inner.Lasts.{AreRising, IsUpToLast, LeadsOn};
 ghost use Rattle.polygon_optimal.specs.Polygon.{penalty_of};
 ghost use Rattle.outline_check.specs.Labels.{IsRight, label_at, label_by};
@@ -27,6 +27,28 @@ const WIDE: u32 = 8;
 pub(crate) struct Onward {
     pub(crate) label: Label,
     pub(crate) next: u32,
+}
+
+/// The window of a point, among whose points a segment from there has to lead to one.
+#[derive(Clone, Copy)]
+struct Window<'a> {
+    segments: &'a CheckedSegments,
+    /// Those of the points after `start` are right.
+    labels: &'a [Label],
+    start: Start<'a>,
+    /// The first point of the window.
+    begin: u32,
+    /// And the last.
+    last: u32,
+    ghost one_walk: { start.moments.now ≡ segments.now.moments },
+    ghost onwards: { start.from < begin },
+    ghost ordered: { begin ≤ last },
+    ghost reached: { last ≤ slice_index segments.now.lasts.items start.from },
+    ghost places: { length labels.now ≡ length segments.now.moments + 1 },
+    ghost few: { (k : ℕ) → start.from < k → k ≤ length segments.now.moments
+        → (label_at labels.now k).count + k ≤ length segments.now.moments },
+    ghost small: { (k : ℕ) → start.from < k → k ≤ length segments.now.moments
+        → (label_at labels.now k).cost ≤ (label_at labels.now k).count * 2 ^ 56 },
 }
 
 /// Where the window of a point begins, by where that of the next point does.
@@ -70,107 +92,85 @@ pub(crate) fn label_from(
         labels.now from result.label }
 {
     let last = segments.lasts[from as usize];
-    let to = guess.max(begin).min(last);
     let start = Start::at(&segments.moments, from);
-    let tried = by_segment(segments, labels, &start, to);
-    cheapest_of(segments, labels, &start, begin, last, tried)
+    let window = Window {
+        segments,
+        labels,
+        start,
+        begin,
+        last,
+    };
+    let to = guess.max(begin).min(last);
+    let tried = by_segment(&window, to);
+    cheapest_of(&window, tried)
 }
 
-/// The cheapest label by the segments to the points from `begin` to `last`, one of which was tried.
-fn cheapest_of(
-    segments: &CheckedSegments,
-    labels: &[Label],
-    start: &Start,
-    begin: u32,
-    last: u32,
-    tried: Onward,
-) -> Onward
-    requires start { start.now.moments.now ≡ segments.now.moments }
-    requires onwards { start.now.from < begin }
-    requires ordered { begin ≤ last }
-    requires reached { last ≤ slice_index segments.now.lasts.items start.now.from }
-    requires known { AreRightDownTo (length segments.now.moments)
-        (IsUpToLast segments.now.lasts.items) (penalty_of segments.now.moments)
-        (start.now.from + 1) labels.now }
-    requires tried { IsCheapestBefore (penalty_of segments.now.moments) labels.now start.now.from begin last begin tried }
-    ensures { IsCheapestBefore (penalty_of segments.now.moments) labels.now start.now.from begin last (last + 1) result }
+/// The cheapest label by the segments into the window, one of which was tried.
+fn cheapest_of(window: &Window, tried: Onward) -> Onward
+    requires { IsCheapestBefore (penalty_of window.now.segments.now.moments) window.now.labels.now
+        window.now.start.from window.now.begin window.now.last window.now.begin tried }
+    ensures { IsCheapestBefore (penalty_of window.now.segments.now.moments) window.now.labels.now
+        window.now.start.from window.now.begin window.now.last (window.now.last + 1) result }
 {
-    if last - begin < WIDE {
-        cheapest_of_few(segments, labels, start, begin, last, tried)
+    if window.last - window.begin < WIDE {
+        cheapest_of_few(window, tried)
     } else {
-        cheapest_of_many(segments, labels, start, begin, last, tried)
+        cheapest_of_many(window, tried)
     }
 }
 
 /// The same, where each segment is looked up by itself.
-fn cheapest_of_few(
-    segments: &CheckedSegments,
-    labels: &[Label],
-    start: &Start,
-    begin: u32,
-    last: u32,
-    tried: Onward,
-) -> Onward
-    requires start { start.now.moments.now ≡ segments.now.moments }
-    requires onwards { start.now.from < begin }
-    requires ordered { begin ≤ last }
-    requires reached { last ≤ slice_index segments.now.lasts.items start.now.from }
-    requires known { AreRightDownTo (length segments.now.moments)
-        (IsUpToLast segments.now.lasts.items) (penalty_of segments.now.moments)
-        (start.now.from + 1) labels.now }
-    requires tried { IsCheapestBefore (penalty_of segments.now.moments) labels.now start.now.from begin last begin tried }
-    ensures { IsCheapestBefore (penalty_of segments.now.moments) labels.now start.now.from begin last (last + 1) result }
+fn cheapest_of_few(window: &Window, tried: Onward) -> Onward
+    requires { IsCheapestBefore (penalty_of window.now.segments.now.moments) window.now.labels.now
+        window.now.start.from window.now.begin window.now.last window.now.begin tried }
+    ensures { IsCheapestBefore (penalty_of window.now.segments.now.moments) window.now.labels.now
+        window.now.start.from window.now.begin window.now.last (window.now.last + 1) result }
 {
     let mut best = tried;
-    for k in begin..last + 1 {
-        best = cheaper(segments, labels, start, k, best);
+    for k in window.begin..window.last + 1 {
+        best = cheaper(window, k, best);
     }
     best
 }
 
 /// The same, by one segment that grows from point to point.
-fn cheapest_of_many(
-    segments: &CheckedSegments,
-    labels: &[Label],
-    start: &Start,
-    begin: u32,
-    last: u32,
-    tried: Onward,
-) -> Onward
-    requires start { start.now.moments.now ≡ segments.now.moments }
-    requires onwards { start.now.from < begin }
-    requires ordered { begin ≤ last }
-    requires reached { last ≤ slice_index segments.now.lasts.items start.now.from }
-    requires known { AreRightDownTo (length segments.now.moments)
-        (IsUpToLast segments.now.lasts.items) (penalty_of segments.now.moments)
-        (start.now.from + 1) labels.now }
-    requires tried { IsCheapestBefore (penalty_of segments.now.moments) labels.now start.now.from begin last begin tried }
-    ensures { IsCheapestBefore (penalty_of segments.now.moments) labels.now start.now.from begin last (last + 1) result }
+fn cheapest_of_many(window: &Window, tried: Onward) -> Onward
+    requires { IsCheapestBefore (penalty_of window.now.segments.now.moments) window.now.labels.now
+        window.now.start.from window.now.begin window.now.last window.now.begin tried }
+    ensures { IsCheapestBefore (penalty_of window.now.segments.now.moments) window.now.labels.now
+        window.now.start.from window.now.begin window.now.last (window.now.last + 1) result }
 {
-    let mut segment = Growing::between(&segments.moments, start.from, begin);
-    let mut best = cheaper_by(segments, labels, &segment, tried);
-    while segment.to < last {
+    let mut segment = Growing::between(&window.segments.moments, window.start.from, window.begin);
+    let mut best = cheaper_by(window, &segment, tried);
+    while segment.to < window.last {
         segment = segment.longer();
-        best = cheaper_by(segments, labels, &segment, best);
+        best = cheaper_by(window, &segment, best);
     }
     best
 }
 
 /// The label by the segment to this point.
-fn by_segment(segments: &CheckedSegments, labels: &[Label], start: &Start, to: u32) -> Onward
-    requires start { start.now.moments.now ≡ segments.now.moments }
-    requires onwards { start.now.from < to }
-    requires reached { to ≤ slice_index segments.now.lasts.items start.now.from }
-    requires known { AreRightDownTo (length segments.now.moments)
-        (IsUpToLast segments.now.lasts.items) (penalty_of segments.now.moments)
-        (start.now.from + 1) labels.now }
-    ensures { result ≡ onward_by (penalty_of segments.now.moments) labels.now start.now.from to }
+fn by_segment(window: &Window, to: u32) -> Onward
+    requires above { window.now.begin ≤ to }
+    requires near { to ≤ window.now.last }
+    ensures { result ≡ onward_by (penalty_of window.now.segments.now.moments) window.now.labels.now window.now.start.from to }
 {
-    let label = labels[to as usize];
+    by_penalty(window, to, window.start.penalty(to))
+}
+
+/// The same, where the segment's penalty is known.
+#[inline(always)]
+fn by_penalty(window: &Window, to: u32, penalty: u64) -> Onward
+    requires above { window.now.begin ≤ to }
+    requires near { to ≤ window.now.last }
+    ensures { (cost : ℕ → ℕ → ℕ) → penalty ≡ cost window.now.start.from to
+        → result ≡ onward_by cost window.now.labels.now window.now.start.from to }
+{
+    let label = window.labels[to as usize];
     Onward {
         label: Label {
             count: label.count + 1,
-            cost: label.cost + u128::from(start.penalty(to)),
+            cost: label.cost + u128::from(penalty),
         },
         next: to,
     }
@@ -179,72 +179,44 @@ fn by_segment(segments: &CheckedSegments, labels: &[Label], start: &Start, to: u
 /// The label by the segment to this point, where it is cheaper than `best`.
 //
 // Where the rest alone isn't cheaper, the segment isn't looked at.
-fn cheaper(
-    segments: &CheckedSegments,
-    labels: &[Label],
-    start: &Start,
-    to: u32,
-    best: Onward,
-) -> Onward
-    requires start { start.now.moments.now ≡ segments.now.moments }
-    requires onwards { start.now.from < to }
-    requires reached { to ≤ slice_index segments.now.lasts.items start.now.from }
-    requires known { AreRightDownTo (length segments.now.moments)
-        (IsUpToLast segments.now.lasts.items) (penalty_of segments.now.moments)
-        (start.now.from + 1) labels.now }
-    ensures cheaper { (label_by (penalty_of segments.now.moments) labels.now start.now.from to).cost < best.label.cost
-        → result ≡ onward_by (penalty_of segments.now.moments) labels.now start.now.from to }
-    ensures same { best.label.cost ≤ (label_by (penalty_of segments.now.moments) labels.now start.now.from to).cost
+fn cheaper(window: &Window, to: u32, best: Onward) -> Onward
+    requires above { window.now.begin ≤ to }
+    requires near { to ≤ window.now.last }
+    ensures cheaper { (label_by (penalty_of window.now.segments.now.moments) window.now.labels.now window.now.start.from to).cost < best.label.cost
+        → result ≡ onward_by (penalty_of window.now.segments.now.moments) window.now.labels.now window.now.start.from to }
+    ensures same { best.label.cost ≤ (label_by (penalty_of window.now.segments.now.moments) window.now.labels.now window.now.start.from to).cost
         → result ≡ best }
 {
-    let label = labels[to as usize];
+    let label = window.labels[to as usize];
     if best.label.cost <= label.cost {
         return best;
     }
     let limit = (best.label.cost - label.cost).min(1 << 24) as u64;
-    match start.penalty_below(to, limit) {
-        Some(penalty) => Onward {
-            label: Label {
-                count: label.count + 1,
-                cost: label.cost + u128::from(penalty),
-            },
-            next: to,
-        },
+    match window.start.penalty_below(to, limit) {
+        Some(penalty) => by_penalty(window, to, penalty),
         None => best,
     }
 }
 
 /// The label by this segment, where it is cheaper than `best`.
 #[inline(always)]
-fn cheaper_by(
-    segments: &CheckedSegments,
-    labels: &[Label],
-    segment: &Growing,
-    best: Onward,
-) -> Onward
-    requires segment { segment.now.moments.now ≡ segments.now.moments }
-    requires reached { segment.now.to ≤ slice_index segments.now.lasts.items segment.now.from }
-    requires known { AreRightDownTo (length segments.now.moments)
-        (IsUpToLast segments.now.lasts.items) (penalty_of segments.now.moments)
-        (segment.now.from + 1) labels.now }
-    ensures cheaper { (label_by (penalty_of segments.now.moments) labels.now segment.now.from segment.now.to).cost < best.label.cost
-        → result ≡ onward_by (penalty_of segments.now.moments) labels.now segment.now.from segment.now.to }
-    ensures same { best.label.cost ≤ (label_by (penalty_of segments.now.moments) labels.now segment.now.from segment.now.to).cost
+fn cheaper_by(window: &Window, segment: &Growing, best: Onward) -> Onward
+    requires segment { segment.now.moments.now ≡ window.now.segments.now.moments }
+    requires from { segment.now.from ≡ window.now.start.from }
+    requires above { window.now.begin ≤ segment.now.to }
+    requires near { segment.now.to ≤ window.now.last }
+    ensures cheaper { (label_by (penalty_of window.now.segments.now.moments) window.now.labels.now window.now.start.from segment.now.to).cost < best.label.cost
+        → result ≡ onward_by (penalty_of window.now.segments.now.moments) window.now.labels.now window.now.start.from segment.now.to }
+    ensures same { best.label.cost ≤ (label_by (penalty_of window.now.segments.now.moments) window.now.labels.now window.now.start.from segment.now.to).cost
         → result ≡ best }
 {
-    let label = labels[segment.to as usize];
+    let label = window.labels[segment.to as usize];
     if best.label.cost <= label.cost {
         return best;
     }
     let limit = (best.label.cost - label.cost).min(1 << 24) as u64;
     match segment.penalty_below(limit) {
-        Some(penalty) => Onward {
-            label: Label {
-                count: label.count + 1,
-                cost: label.cost + u128::from(penalty),
-            },
-            next: segment.to,
-        },
+        Some(penalty) => by_penalty(window, segment.to, penalty),
         None => best,
     }
 }

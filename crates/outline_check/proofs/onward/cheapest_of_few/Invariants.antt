@@ -3,4 +3,4 @@ use Rattle.outline_check.specs.Inner.LabelPoints.{IsCheapestBefore}
 use Rattle.outline_check.proofs.onward.cheapest_of_few.Given as goal
 
 abbrev pub invariant-loop-k : goal.invariant-loop-k
-invariant-loop-k l = IsCheapestBefore (penalty_of l.segments.moments) l.labels l.start.from l.begin l.last l.k l.best
+invariant-loop-k l = IsCheapestBefore (penalty_of l.window.segments.now.moments) l.window.labels.now l.window.start.from l.window.begin l.window.last l.k l.best

@@ -8,28 +8,28 @@ use Rattle.outline_check.proofs.Trying.{tried_more}
 use Rattle.outline_check.proofs.onward.cheapest_of_many.Goals as goal
 
 -- one more segment, whose numbers are known by other names
-tried_by : (cost : ℕ → ℕ → ℕ) (labels : List Label) (from begin last to i j : ℕ) (so_far best : Onward)
-    → begin ≤ to → to ≤ last → i ≡ from → j ≡ to
-    → ((label_by cost labels i j).cost < so_far.label.cost → best ≡ onward_by cost labels i j)
-    → (so_far.label.cost ≤ (label_by cost labels i j).cost → best ≡ so_far)
+tried_by : (cost : ℕ → ℕ → ℕ) (labels : List Label) (from begin last to j : ℕ) (so_far best : Onward)
+    → begin ≤ to → to ≤ last → j ≡ to
+    → ((label_by cost labels from j).cost < so_far.label.cost → best ≡ onward_by cost labels from j)
+    → (so_far.label.cost ≤ (label_by cost labels from j).cost → best ≡ so_far)
     → IsCheapestBefore cost labels from begin last to so_far
     → IsCheapestBefore cost labels from begin last (j + 1) best
-tried_by cost labels from begin last to i j so_far best room near ei ej taken kept is =
+tried_by cost labels from begin last to j so_far best room near ej taken kept is =
     subst (λ n. IsCheapestBefore cost labels from begin last (n + 1) best) (sym ej)
-    (tried_more cost labels from begin last to so_far best room near (rw (ei, ej) at taken) (rw (ei, ej) at kept) is)
+    (tried_more cost labels from begin last to so_far best room near (rw ej at taken) (rw ej at kept) is)
 
 pub loop-segment-init : goal.loop-segment-init
 loop-segment-init c =
-    let begin : ℕ = c.args.begin in
+    let begin : ℕ = c.args.window.now.begin in
     let is = c.between-segment.ensures in
     record {
       moments = is.moments;
       from = is.from;
-      within = omega (arith, is.to, c.requires.ordered);
+      within = omega (arith, is.to, c.args.window.now.ordered);
       above = omega (arith, is.to);
-      tried = tried_by (penalty_of c.args.segments.now.moments) c.args.labels.now c.args.start.now.from begin c.args.last begin
-          c.between-segment.result.from c.between-segment.result.to c.args.tried c.cheaper_by-best.result (omega arith) c.requires.ordered is.from is.to
-          c.cheaper_by-best.ensures.cheaper c.cheaper_by-best.ensures.same c.requires.tried;
+      tried = tried_by (penalty_of c.args.window.now.segments.now.moments) c.args.window.now.labels.now c.args.window.now.start.from begin c.args.window.now.last begin
+          c.between-segment.result.to c.args.tried c.cheaper_by-best.result (omega arith) c.args.window.now.ordered is.to
+          c.cheaper_by-best.ensures.cheaper c.cheaper_by-best.ensures.same c.requires;
     }
 
 pub loop-segment-preserved : goal.loop-segment-preserved
@@ -37,15 +37,15 @@ loop-segment-preserved c =
     let so_far = c.loop-segment.invariant in
     let is = c.longer-segment.ensures in
     let to : ℕ = c.loop-segment.segment.to + 1 in
-    let near : to ≤ c.args.last = omega (arith, c.loop-segment-test.true) in
+    let near : to ≤ c.args.window.now.last = omega (arith, c.loop-segment-test.true) in
     record {
       moments = is.moments ∙ so_far.moments;
       from = is.from ∙ so_far.from;
       within = omega (arith, is.to, near);
       above = omega (arith, is.to, so_far.above);
-      tried = tried_by (penalty_of c.args.segments.now.moments) c.args.labels.now c.args.start.now.from c.args.begin c.args.last to
-          c.longer-segment.result.from c.longer-segment.result.to c.loop-segment.best c.cheaper_by-best-in-loop-segment.result (omega (arith, so_far.above)) near
-          (is.from ∙ so_far.from) is.to c.cheaper_by-best-in-loop-segment.ensures.cheaper c.cheaper_by-best-in-loop-segment.ensures.same so_far.tried;
+      tried = tried_by (penalty_of c.args.window.now.segments.now.moments) c.args.window.now.labels.now c.args.window.now.start.from c.args.window.now.begin c.args.window.now.last to
+          c.longer-segment.result.to c.loop-segment.best c.cheaper_by-best-in-loop-segment.result (omega (arith, so_far.above)) near
+          is.to c.cheaper_by-best-in-loop-segment.ensures.cheaper c.cheaper_by-best-in-loop-segment.ensures.same so_far.tried;
     }
 
 pub returns : goal.returns

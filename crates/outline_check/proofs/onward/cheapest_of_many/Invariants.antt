@@ -5,12 +5,12 @@ use Rattle.outline_check.proofs.onward.cheapest_of_many.Given as goal
 
 abbrev pub invariant-loop-segment : goal.invariant-loop-segment
 invariant-loop-segment l = record {
-  moments : l.segment.moments.now ≡ l.segments.moments;
-  from : l.segment.from ≡ l.start.from;
-  within : l.segment.to ≤ l.last;
-  above : l.begin ≤ l.segment.to;
-  tried : IsCheapestBefore (penalty_of l.segments.moments) l.labels l.start.from l.begin l.last (l.segment.to + 1) l.best;
+  moments : l.segment.moments.now ≡ l.window.segments.now.moments;
+  from : l.segment.from ≡ l.window.start.from;
+  within : l.segment.to ≤ l.window.last;
+  above : l.window.begin ≤ l.segment.to;
+  tried : IsCheapestBefore (penalty_of l.window.segments.now.moments) l.window.labels.now l.window.start.from l.window.begin l.window.last (l.segment.to + 1) l.best;
 }
 
 abbrev pub decreases-loop-segment : goal.decreases-loop-segment
-decreases-loop-segment l = l.last - l.segment.to
+decreases-loop-segment l = l.window.last - l.segment.to
