@@ -15,9 +15,8 @@ use crate::task::Task;
 use bitmap_input::PageReader;
 use page_batches::{Batch, Desk};
 use page_workers::PageJob;
-use potrace_options::Name;
 use pt_core::{Gate, Inputs, Outputs, Sink};
-use run_output::{Made, Status, say_out_of_memory};
+use run_output::{Made, Name, Status, say_out_of_memory};
 use std::thread::Threads;
 
 /// Reads the files in order, each opened once, by batches of twice as many pages as there are workers, and

@@ -4,8 +4,8 @@ ghost use Rattle.clap.specs.Matches.{found_of};
 ghost use Rattle.clap.specs.Walk.{all_of, first_of, rows_of};
 ghost use Rattle.potrace_options.specs.Given.{given_of, is_set};
 
-use crate::name::{Name, Names};
 use clap::ArgMatches;
+use run_output::{Name, Names};
 use std::alloc::{AllocError, Global};
 use std::marker::Model;
 

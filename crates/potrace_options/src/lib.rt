@@ -6,9 +6,7 @@
 
 mod command;
 pub mod given;
-pub mod name;
 pub mod parsed;
 
 pub use given::Given;
-pub use name::{Name, Names};
 pub use parsed::{Parsed, parse};

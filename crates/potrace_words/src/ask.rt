@@ -1,7 +1,7 @@
 //! What the words of the command line ask for.
 
-use potrace_options::{Name, Names};
 use pt_core::Settings;
+use run_output::{Name, Names};
 
 /// What the words ask for.
 #[derive(Debug, Drop)]

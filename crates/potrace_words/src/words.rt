@@ -8,8 +8,9 @@ ghost use Rattle.potrace_words.specs.declared.ask.Ask.{Ask};
 use crate::ask::{Ask, WordFault};
 use crate::numbers::{whole_of, whole_or};
 use crate::settings_given::settings_given;
-use potrace_options::{Given, Name, Names, Parsed, parse};
+use potrace_options::{Given, Parsed, parse};
 use pt_core::Settings;
+use run_output::{Name, Names};
 use std::alloc::{AllocError, Global};
 
 /// The number of workers where no word says one.

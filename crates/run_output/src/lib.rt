@@ -8,6 +8,7 @@ pub mod document;
 pub mod line;
 pub mod made;
 pub mod message;
+pub mod name;
 pub mod names;
 pub mod part;
 mod pieces;
@@ -21,6 +22,7 @@ pub use message::{
     BAD_WORDS, TRACER, say_bad_words, say_not_opened, say_not_written, say_of_page,
     say_out_of_memory, say_trailing,
 };
+pub use name::{Name, Names};
 pub use names::{backend_suffix, base_name, document_name};
 pub use part::{Binding, write_end_part, write_page_part};
 pub use status::Status;

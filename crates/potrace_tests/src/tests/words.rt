@@ -1,9 +1,9 @@
 //! What words ask for: which of them `clap` takes how, and which values are in their ranges.
 
 use crate::tests::cases::split;
-use potrace_options::Name;
 use potrace_words::{Ask, WordFault, settings_of};
 use pt_core::{Backend, Policy, Settings};
+use run_output::Name;
 use std::alloc::Global;
 use std::test::Fail;
 

@@ -1,4 +1,4 @@
-//! Names of files and documents.
+//! The name of a file or of a document, and names in order.
 ghost use Rattle.std.specs.Prelude.{◌≡◌, ◌++◌, ◌∷◌, [], IfOk, OnOk, OnErr};
 
 use std::alloc::{AllocError, Global};
