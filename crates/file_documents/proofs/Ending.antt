@@ -166,6 +166,7 @@ pub outcome_of_halt : (s : Status) → IsHalt s → (first : List Item) (order :
 outcome_of_halt status.Done (inl is) first order past source source_now a b h = absurd (let no : status.Done ≡ status.Unwritten = is in cc)
 outcome_of_halt status.Done (inr is) first order past source source_now a b h = absurd (let no : status.Done ≡ status.OutOfMemory = is in cc)
 outcome_of_halt status.BadWords which first order past source source_now a b h = h
+outcome_of_halt status.Wrong which first order past source source_now a b h = h
 outcome_of_halt status.Refused (inl is) first order past source source_now a b h = absurd (let no : status.Refused ≡ status.Unwritten = is in cc)
 outcome_of_halt status.Refused (inr is) first order past source source_now a b h = absurd (let no : status.Refused ≡ status.OutOfMemory = is in cc)
 outcome_of_halt status.Unwritten which first order past source source_now a b h = h

@@ -155,6 +155,7 @@ outcome_on s size contents manner front back past mid first before held start th
       let joins = ended status.Done (items, follow, end) in
       (joins.0, joins.1, joins.2, rw (length-append front back) (opened_behind (length front) (length back) start.openings then.openings now.openings openings opens), last near)
   by_status status.BadWords o = ended status.BadWords o
+  by_status status.Wrong o = ended status.Wrong o
   by_status status.Refused u = record {
     place = stands_on contents manner front back past mid before start then now are goes openings u.place;
     message = u.message;

@@ -26,7 +26,4 @@ pub ended_by : (s : Status) (b : Binding) (size : ℕ) (belongs : Pixels → Lis
     → EndsHolding (Err s) b size belongs read held x y → HasEnded s read x y
 ended_by status.Unwritten b size belongs read held x y ends = ends
 ended_by status.OutOfMemory b size belongs read held x y ends = ends
-ended_by status.Done b size belongs read held x y ends = absurd ends
-ended_by status.BadWords b size belongs read held x y ends = absurd ends
-ended_by status.Refused b size belongs read held x y ends = absurd ends
-ended_by status.Unread b size belongs read held x y ends = absurd ends
+ended_by s b size belongs read held x y ends = absurd ends

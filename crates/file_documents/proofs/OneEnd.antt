@@ -91,12 +91,11 @@ pub items_end_so : (s : Status) (items : List Item) (old now : Sinks) → HasEnd
     → IsEndOf items s old now
 items_end_so status.Done items old now done written memory =
     subst (λ (l : List Item). IsEndOf l status.Done old now) (append-nil items) (end_behind items [] old now refl done)
-items_end_so status.BadWords items old now ended written memory = absurd ended
 items_end_so status.Refused items old now r written memory =
     subst (λ (l : List Item). IsEndOf l status.Refused old now) (sym r.split) (end_behind r.before (Refuse r.message ∷ []) old now refl r.done)
-items_end_so status.Unread items old now ended written memory = absurd ended
 items_end_so status.Unwritten items old now u written memory = absurd (written u.broke.rose)
 items_end_so status.OutOfMemory items old now o written memory = absurd (memory refl)
+items_end_so s items old now ended written memory = absurd ended
 
 -- messages that were said whole
 said_whole : (old now : Told) (messages : List (List ℕ)) → AreSaid old now messages → (Rose old.faults now.faults → ⊥) → now.documents ≡ with_bytes old.documents (concat messages)
@@ -137,6 +136,7 @@ files_end_so : (s : Status) (manner : Manner) (names : List (List ℕ)) (source 
 files_end_so status.Done manner names source source_now old now (items, are, done, opens, near) read written memory =
     (items, are, items_end_so status.Done items old now done written memory)
 files_end_so status.BadWords manner names source source_now old now (items, are, ended) read written memory = absurd ended
+files_end_so status.Wrong manner names source source_now old now (items, are, ended) read written memory = absurd ended
 files_end_so status.Refused manner names source source_now old now r read written memory =
     (r.place.before ++ Refuse r.message ∷ [], r.all, end_behind r.place.before (Refuse r.message ∷ []) old now refl r.done)
 files_end_so status.Unwritten manner names source source_now old now (items, are, u) read written memory = absurd (written u.broke.rose)

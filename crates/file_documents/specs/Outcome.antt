@@ -166,7 +166,7 @@ abbrev pub IsOutcome : Status → Manner → List (List ℕ) → Source → Sour
 IsOutcome s manner names source source_now old new = IsOutcomeBehind s [] (order_of manner names source) no_past source source_now old new
 
 -- how the inputs' count of faults moved: it stayed, but where a read failed (and then perhaps a document of a
--- page in front of it couldn't be written) or memory ran out
+-- page in front of it couldn't be written) or memory ran out; and no run over files tells that its input is wrong
 abbrev pub InputCount : Status → ℕ → ℕ → Type 0
 InputCount status.Unread before now = Unit {0}
 InputCount status.OutOfMemory before now = Unit {0}
@@ -174,3 +174,4 @@ InputCount status.Done before now = now ≡ before
 InputCount status.BadWords before now = now ≡ before
 InputCount status.Refused before now = now ≡ before
 InputCount status.Unwritten before now = Unit {0}
+InputCount status.Wrong before now = ⊥

@@ -25,7 +25,7 @@ use Rattle.run_output.specs.Names.{dash}
 use Rattle.run_output.specs.Told.{Sinks, Source, Told}
 use Rattle.small_program.specs.Input.{HasTaken, TellsInput}
 use Rattle.small_program.specs.ProgramRun.{OnlySays}
-use Rattle.small_program.specs.declared.ending.Ending.TheVariants as ending
+use Rattle.run_output.specs.declared.status.Status.TheVariants as status
 use Rattle.small_program.proofs.Taking.{is_not_missing, is_there, one_input}
 use Rattle.mkbitmap_words.specs.declared.setup.Setup.{Setup}
 use Rattle.mkbitmap_run.specs.Inner.Head.{StandsBehindHead, StopsHead}
@@ -72,12 +72,12 @@ same_outs old new same = ap (λ (t : Told). t.faults) same
 module _ (setup : Setup) (source now : Source) (old new : Sinks) where
   -- standard input can't be opened
   pub run_unopened : now.openings ≡ next_count source.openings → now.is_opened ≡ false → (Lacks source.files dash × (now.faults ≡ source.faults)) ⊎ Rose source.faults now.faults
-      → OnlySays (file_line filter_name dash (codes "cannot be opened")) old new → IsPageRun setup ending.Unread source now old new
+      → OnlySays (file_line filter_name dash (codes "cannot be opened")) old new → IsPageRun setup status.Unread source now old new
   run_unopened opened none cause says = record {
     outcome = inl (record { fails = record { opened = opened; cause = cause }; closed = none }, says);
     missing = λ lacks. refl;
     complete = λ bytes tells still_in still_out. absurd (no_cause bytes tells still_in cause);
-    unwritten = not_unwritten ending.Unread old new (same_outs old new says.same);
+    unwritten = not_unwritten status.Unread old new (same_outs old new says.same);
   }
     where
       no_cause : (bytes : List ℕ) → TellsInput source.files bytes → (Rose source.faults now.faults → ⊥) → (Lacks source.files dash × (now.faults ≡ source.faults)) ⊎ Rose source.faults now.faults → ⊥
@@ -86,12 +86,12 @@ module _ (setup : Setup) (source now : Source) (old new : Sinks) where
 
   -- memory ran out
   pub run_out_of_memory : now.openings ≡ next_count source.openings → now.faults ≡ source.faults → (Lacks source.files dash → ⊥)
-      → OnlySays (program_line filter_name (codes "out of memory")) old new → IsPageRun setup ending.OutOfMemory source now old new
+      → OnlySays (program_line filter_name (codes "out of memory")) old new → IsPageRun setup status.OutOfMemory source now old new
   run_out_of_memory opened steady there says = record {
     outcome = (record { opened = inr opened; steady = steady }, says);
     missing = λ lacks. absurd (there lacks);
     complete = λ bytes tells still_in still_out. inr refl;
-    unwritten = not_unwritten ending.OutOfMemory old new (same_outs old new says.same);
+    unwritten = not_unwritten status.OutOfMemory old new (same_outs old new says.same);
   }
 
   -- the header is refused, or a read failed within it
@@ -115,7 +115,7 @@ module _ (setup : Setup) (source now : Source) (old new : Sinks) where
         );
         missing = λ lacks. absurd (is_not_missing source.files bytes has lacks);
         complete = λ others tells still_in still_out. inl (sym (ap (page_ending setup) (one_input source.files bytes others has tells) ∙ ap (head_ending setup) ends));
-        unwritten = not_unwritten ending.Refused old new (same_outs old new says.same);
+        unwritten = not_unwritten status.Refused old new (same_outs old new says.same);
       }
   run_at_head (Says End) reader opened one none stays counts stops says = absurd stops
   run_at_head (Says Trailing) reader opened one none stays counts stops says = absurd stops
@@ -124,7 +124,7 @@ module _ (setup : Setup) (source now : Source) (old new : Sinks) where
     outcome = inr (stops.more, record { opened = stays.openings ∙ one; still_opened = stays.reading.opened; rose = counts.0; has = taken_on source.files opened.files now.files [] stops.more false reader.ended none stops.moves }, inl (head_ends stops.more ∙ stops.by_end, says));
     missing = λ lacks. refl;
     complete = λ others tells still_in still_out. absurd (still_in counts.0);
-    unwritten = not_unwritten ending.Unread old new (same_outs old new says.same);
+    unwritten = not_unwritten status.Unread old new (same_outs old new says.same);
   }
 
 module _ (source mid : Source) (reader : GraySource) (stands : StandsBehindHead source reader mid) (at_end : reader.ended ≡ true → AtEnd mid.files) where
@@ -135,7 +135,7 @@ module _ (source mid : Source) (reader : GraySource) (stands : StandsBehindHead 
 
   -- the result is too large
   pub run_too_large : (setup : Setup) (old new : Sinks) → fits_result setup reader.head.width reader.head.height ≡ false
-      → OnlySays (page_says (codes "result too large")) old new → IsPageRun setup ending.Refused source mid old new
+      → OnlySays (page_says (codes "result too large")) old new → IsPageRun setup status.Refused source mid old new
   run_too_large setup old new large says =
       let (more, has, none) = all_of_taken source.files mid.files stands.taken reader.ended stands.has at_end in
       let bytes = stands.taken ++ more in
@@ -152,7 +152,7 @@ module _ (source mid : Source) (reader : GraySource) (stands : StandsBehindHead 
         missing = λ lacks. absurd (is_not_missing source.files bytes has lacks);
         complete = λ others tells still_in still_out.
             inl (sym (ap (page_ending setup) (one_input source.files bytes others has tells) ∙ too_large setup bytes e (header_of reader) (reader.bytes ++ more) head large));
-        unwritten = not_unwritten ending.Refused old new (same_outs old new says.same);
+        unwritten = not_unwritten status.Refused old new (same_outs old new says.same);
       }
 
 -- a row isn't there
@@ -196,7 +196,7 @@ not_opened faults.Absent files n m lacks same rose = inl (lacks refl, same refl)
 not_opened faults.Device files n m lacks same rose = inr (rose refl)
 
 -- what is refused is no read fault
-pub refused_cause : (f : InFault) → (f ≡ fault.ReadFault → ⊥) → (f ≡ fault.NoMemory → ⊥) → ending.Refused ≡ cause_ending (cause_of_fault f)
+pub refused_cause : (f : InFault) → (f ≡ fault.ReadFault → ⊥) → (f ≡ fault.NoMemory → ⊥) → status.Refused ≡ cause_ending (cause_of_fault f)
 refused_cause fault.UnknownFormat a b = refl
 refused_cause fault.BadHeader a b = refl
 refused_cause fault.ZeroSide a b = refl

@@ -15,8 +15,8 @@ use Rattle.run_output.specs.Messages.{file_line}
 use Rattle.run_output.specs.Names.{dash}
 use Rattle.run_output.specs.Told.{BrokeOff, IsMessage, Sinks, Source}
 use Rattle.small_program.specs.ProgramRun.{Writes}
-use Rattle.small_program.specs.declared.ending.Ending.{Ending}
-use Rattle.small_program.specs.declared.ending.Ending.TheVariants as ending
+use Rattle.run_output.specs.declared.status.Status.{Status}
+use Rattle.run_output.specs.declared.status.Status.TheVariants as status
 use Rattle.small_program.proofs.Taking.{is_not_missing, one_input}
 use Rattle.mkbitmap_words.specs.declared.setup.Setup.{Setup}
 use Rattle.mkbitmap_run.specs.Inner.Head.{StandsBehindHead}
@@ -41,22 +41,22 @@ other_numbers a b less = grind (arith, less)
 
 module _ (setup : Setup) (bytes : List ℕ) (e : Bool) (header : PageHeader) (rest : List ℕ) (head : page_header bytes ≡ Takes e header rest) where
   ending_by : (fits whole : Bool) → fits_result setup header.width header.height ≡ fits → nat_eq (length (rows_behind header rest)) header.height ≡ whole
-      → page_ending setup bytes ≡ (if fits && whole then ending.Done else ending.Refused)
+      → page_ending setup bytes ≡ (if fits && whole then status.Done else status.Refused)
   ending_by fits whole a b = ap (head_ending setup) head
-      ∙ ap (λ (t : Bool). if t && nat_eq (length (rows_behind header rest)) header.height then ending.Done else ending.Refused) a
-      ∙ ap (λ (t : Bool). if fits && t then ending.Done else ending.Refused) b
+      ∙ ap (λ (t : Bool). if t && nat_eq (length (rows_behind header rest)) header.height then status.Done else status.Refused) a
+      ∙ ap (λ (t : Bool). if fits && t then status.Done else status.Refused) b
 
-  all_rows : fits_result setup header.width header.height ≡ true → length (rows_behind header rest) ≡ header.height → page_ending setup bytes ≡ ending.Done
+  all_rows : fits_result setup header.width header.height ≡ true → length (rows_behind header rest) ≡ header.height → page_ending setup bytes ≡ status.Done
   all_rows fits all = ending_by true true fits (same_numbers _ _ all)
 
-  few_rows : fits_result setup header.width header.height ≡ true → length (rows_behind header rest) < header.height → page_ending setup bytes ≡ ending.Refused
+  few_rows : fits_result setup header.width header.height ≡ true → length (rows_behind header rest) < header.height → page_ending setup bytes ≡ status.Refused
   few_rows fits few = ending_by true false fits (other_numbers _ _ few)
 
-  pub too_large : fits_result setup header.width header.height ≡ false → page_ending setup bytes ≡ ending.Refused
+  pub too_large : fits_result setup header.width header.height ≡ false → page_ending setup bytes ≡ status.Refused
   too_large large = ending_by false (nat_eq (length (rows_behind header rest)) header.height) large refl
 
 -- the outputs weren't called, or well
-pub not_unwritten : (end : Ending) (old new : Sinks) → new.outs.faults ≡ old.outs.faults → old.outs.faults < new.outs.faults → end ≡ ending.Unwritten
+pub not_unwritten : (end : Status) (old new : Sinks) → new.outs.faults ≡ old.outs.faults → old.outs.faults < new.outs.faults → end ≡ status.Unwritten
 not_unwritten end old new same less = absurd (omega (arith, same, less))
 
 -- the header stands there, and these rows behind it, with what is behind what was taken
@@ -121,7 +121,7 @@ runs_page setup source mid now head reader after work stands begins read fits st
       stays = stays;
     }
 
-pub with_setup : (s t : Setup) (end : Ending) (source now : Source) (old new : Sinks) → s ≡ t → IsPageRun s end source now old new → IsPageRun t end source now old new
+pub with_setup : (s t : Setup) (end : Status) (source now : Source) (old new : Sinks) → s ≡ t → IsPageRun s end source now old new → IsPageRun t end source now old new
 with_setup s t end source now old new same run = subst (λ (u : Setup). IsPageRun u end source now old new) same run
 
 module _ (setup : Setup) (source now : Source) (p : RunsPage setup source now) (old new : Sinks) where
@@ -142,7 +142,7 @@ module _ (setup : Setup) (source now : Source) (p : RunsPage setup source now) (
 
   -- all rows were read, and the document was written
   pub run_done : (rows : List (List ℕ)) → GivesRows reader mid.files rows after now.files → length rows ≡ reader.head.height → now.faults ≡ mid.faults
-      → Writes (result_text setup (header_of reader) rows) old new → IsPageRun setup ending.Done source now old new
+      → Writes (result_text setup (header_of reader) rows) old new → IsPageRun setup status.Done source now old new
   run_done rows gives all steady writes =
       let header = header_of reader in
       let taken = taken_on source.files mid.files now.files stands.taken gives.more reader.ended after.ended stands.has gives.moves in
@@ -171,13 +171,13 @@ module _ (setup : Setup) (source now : Source) (p : RunsPage setup source now) (
         missing = λ lacks. absurd (is_not_missing source.files bytes has lacks);
         complete = λ others tells still_in still_out.
             inl (sym (ap (page_ending setup) (one_input source.files bytes others has tells) ∙ all_rows setup bytes so.by_end header so.rest so.head p.fits whole));
-        unwritten = not_unwritten ending.Done old new writes.went.steady;
+        unwritten = not_unwritten status.Done old new writes.went.steady;
       }
 
   -- the next row is refused
   pub run_refused : (kind : Kind) (last : ℕ) → (stop : StopsBehind (Says (Refused kind)) last reader mid.files after now.files) → now.faults ≡ mid.faults
       → LeavesOpen (result_text setup (header_of reader) stop.rows) (page_says (kind_text kind)) old new
-      → IsPageRun setup ending.Refused source now old new
+      → IsPageRun setup status.Refused source now old new
   run_refused kind last stop steady leaves =
       let header = header_of reader in
       let rows = stop.rows in
@@ -243,12 +243,12 @@ module _ (setup : Setup) (source now : Source) (p : RunsPage setup source now) (
         missing = λ lacks. absurd (is_not_missing source.files bytes has lacks);
         complete = λ others tells still_in still_out.
             inl (sym (ap (page_ending setup) (one_input source.files bytes others has tells) ∙ few_rows setup bytes so.by_end header so.rest head p.fits short));
-        unwritten = not_unwritten ending.Refused old new leaves.went.steady;
+        unwritten = not_unwritten status.Refused old new leaves.went.steady;
       }
 
   -- a read failed within the next row
   pub run_unread : (last : ℕ) → (stop : StopsBehind Device last reader mid.files after now.files) → Rose source.faults now.faults → LeavesOpen (result_text setup (header_of reader) stop.rows) (page_says (codes "read fault")) old new
-      → IsPageRun setup ending.Unread source now old new
+      → IsPageRun setup status.Unread source now old new
   run_unread last stop rose leaves =
       let header = header_of reader in
       let rows = stop.rows in
@@ -288,7 +288,7 @@ module _ (setup : Setup) (source now : Source) (p : RunsPage setup source now) (
         );
         missing = λ lacks. refl;
         complete = λ others tells still_in still_out. absurd (still_in rose);
-        unwritten = not_unwritten ending.Unread old new leaves.went.steady;
+        unwritten = not_unwritten status.Unread old new leaves.went.steady;
       }
     where
       is_false : (b : Bool) → (b ≡ true → ⊥) → b ≡ false
@@ -299,7 +299,7 @@ module _ (setup : Setup) (source now : Source) (p : RunsPage setup source now) (
   pub run_unwritten : (rows : List (List ℕ)) → GivesRows reader mid.files rows after now.files → 1 ≤ setup.times → 1 ≤ reader.head.height → now.faults ≡ mid.faults
       → IsCutAt setup (header_of reader) rows old.outs.documents new.outs.documents → BrokeOff old.outs new.outs
       → IsMessage (file_line filter_name dash (codes "write fault")) old.errs new.errs
-      → IsPageRun setup ending.Unwritten source now old new
+      → IsPageRun setup status.Unwritten source now old new
   run_unwritten rows gives some tall steady cut broke says =
       let header = header_of reader in
       let few : length rows ≤ header.height = cut_few setup header some tall rows old.outs.documents new.outs.documents cut in

@@ -13,8 +13,8 @@ use Rattle.run_output.specs.Names.{dash}
 use Rattle.run_output.specs.Told.{AllWent, BrokeOff, IsMessage, Sinks, Source}
 use Rattle.small_program.specs.Input.{HasTaken, TellsInput}
 use Rattle.small_program.specs.ProgramRun.{FailsInput, LeavesInput, OnlySays, PutsText, TakesInput, Writes}
-use Rattle.small_program.specs.declared.ending.Ending.{Ending}
-use Rattle.small_program.specs.declared.ending.Ending.TheVariants as ending
+use Rattle.run_output.specs.declared.status.Status.{Status}
+use Rattle.run_output.specs.declared.status.Status.TheVariants as status
 use Rattle.mkbitmap_words.specs.FilterAsked.{IsFilterAsked}
 use Rattle.mkbitmap_words.specs.declared.ask.FilterAsk.{FilterAsk}
 use Rattle.mkbitmap_words.specs.declared.ask.FilterAsk.TheVariants.{Help, Page}
@@ -181,43 +181,43 @@ pub record CutsResult (setup : Setup) (source source_now : Source) (old new : Si
   pub says : IsMessage (file_line filter_name dash (codes "write fault")) old.errs new.errs
 
 -- what was done of the page on standard input in a run that ends so
-abbrev pub HasFiltered : Setup → Ending → Source → Source → Sinks → Sinks → Type 0
-HasFiltered setup ending.Done source source_now old new =
+abbrev pub HasFiltered : Setup → Status → Source → Source → Sinks → Sinks → Type 0
+HasFiltered setup status.Done source source_now old new =
     (bytes : List ℕ) × TakesInput bytes source source_now × (whole : WritesResult setup bytes old new)
     × HasTakenSo (λ taken. ReadsNearRows whole.header taken (rows_behind whole.header whole.rest)) source source_now
-HasFiltered setup ending.Wrong source source_now old new = ⊥
-HasFiltered setup ending.BadWords source source_now old new = ⊥
-HasFiltered setup ending.Refused source source_now old new =
+HasFiltered setup status.Wrong source source_now old new = ⊥
+HasFiltered setup status.BadWords source source_now old new = ⊥
+HasFiltered setup status.Refused source source_now old new =
     (bytes : List ℕ) × TakesInput bytes source source_now
     × ((RefusesHead setup bytes old new × HasTakenSo (ReachesNear page_header) source source_now)
     ⊎ ((refuses : RefusesRow setup bytes old new)
     × HasTakenSo (λ taken. ReadsNearNext refuses.header taken (rows_behind refuses.header refuses.rest)) source source_now))
-HasFiltered setup ending.Unread source source_now old new =
+HasFiltered setup status.Unread source source_now old new =
     (CannotOpen source source_now × OnlySays (file_line filter_name dash (codes "cannot be opened")) old new)
     ⊎ ((taken : List ℕ) × StopsTaking taken source source_now
     × (((is_by_end (page_header taken) ≡ true) × OnlySays (page_says (codes "read fault")) old new)
     ⊎ StopsInRow setup taken old new))
-HasFiltered setup ending.Unwritten source source_now old new = CutsResult setup source source_now old new
-HasFiltered setup ending.OutOfMemory source source_now old new =
+HasFiltered setup status.Unwritten source source_now old new = CutsResult setup source source_now old new
+HasFiltered setup status.OutOfMemory source source_now old new =
     LeavesInput source source_now × OnlySays (program_line filter_name (codes "out of memory")) old new
 
 -- all that a run does with the page on standard input
-pub record IsPageRun (setup : Setup) (end : Ending) (source source_now : Source) (old new : Sinks) : Type 0 where
+pub record IsPageRun (setup : Setup) (end : Status) (source source_now : Source) (old new : Sinks) : Type 0 where
   pub outcome : HasFiltered setup end source source_now old new
   -- where standard input is told and isn't there, it is unread; and where it is there and no device failed, the run ends as
   -- its bytes say, or memory ran out
-  pub missing : Lacks source.files dash → end ≡ ending.Unread
+  pub missing : Lacks source.files dash → end ≡ status.Unread
   pub complete : (bytes : List ℕ) → TellsInput source.files bytes → (Rose source.faults source_now.faults → ⊥)
-      → (Rose old.outs.faults new.outs.faults → ⊥) → (end ≡ page_ending setup bytes) ⊎ (end ≡ ending.OutOfMemory)
+      → (Rose old.outs.faults new.outs.faults → ⊥) → (end ≡ page_ending setup bytes) ⊎ (end ≡ status.OutOfMemory)
   -- a fault of the outputs is told
-  pub unwritten : old.outs.faults < new.outs.faults → end ≡ ending.Unwritten
+  pub unwritten : old.outs.faults < new.outs.faults → end ≡ status.Unwritten
 
 -- all that a run does that is given these words: they ask for help, or for a page; or they ask for nothing, or memory ran out
 -- before they were read
-abbrev pub IsFilterRun : List (List ℕ) → Ending → Source → Source → Sinks → Sinks → Type 0
+abbrev pub IsFilterRun : List (List ℕ) → Status → Source → Source → Sinks → Sinks → Type 0
 IsFilterRun words end source source_now old new =
-    (IsFilterAsked words Help × (source_now ≡ source) × PutsText filter_name ending.Done filter_usage end old new)
+    (IsFilterAsked words Help × (source_now ≡ source) × PutsText filter_name status.Done filter_usage end old new)
     ⊎ ((setup : Setup) × IsFilterAsked words (Page setup) × IsPageRun setup end source source_now old new)
-    ⊎ ((end ≡ ending.BadWords) × ((ask : FilterAsk) → IsFilterAsked words ask → ⊥) × (source_now ≡ source)
+    ⊎ ((end ≡ status.BadWords) × ((ask : FilterAsk) → IsFilterAsked words ask → ⊥) × (source_now ≡ source)
     × OnlySays (program_line filter_name (codes "bad arguments, see mkbitmap -h")) old new)
-    ⊎ ((end ≡ ending.OutOfMemory) × (source_now ≡ source) × OnlySays (program_line filter_name (codes "out of memory")) old new)
+    ⊎ ((end ≡ status.OutOfMemory) × (source_now ≡ source) × OnlySays (program_line filter_name (codes "out of memory")) old new)

@@ -6,8 +6,8 @@ use Rattle.bitmap_input.specs.Cut.Cut.{Takes, Stops}
 use Rattle.bitmap_input.specs.GrayRows.{gray_row}
 use Rattle.mkbitmap_run.specs.PageHeader.{page_header}
 use Rattle.mkbitmap_run.specs.PageHeader.{PageHeader}
-use Rattle.small_program.specs.declared.ending.Ending.{Ending}
-use Rattle.small_program.specs.declared.ending.Ending.TheVariants as ending
+use Rattle.run_output.specs.declared.status.Status.{Status}
+use Rattle.run_output.specs.declared.status.Status.TheVariants as status
 use Rattle.mkbitmap_words.specs.declared.setup.Setup.{Setup}
 
 -- the next row of a page with this header
@@ -54,12 +54,12 @@ abbrev pub fits_result : Setup → ℕ → ℕ → Bool
 fits_result setup width height = nat_le (setup.times * width) LONGEST_SIDE && nat_le (setup.times * height) LONGEST_SIDE
 
 -- how a run ends by what the header is: well, where the result isn't too large and all rows stand behind the header
-abbrev pub head_ending : Setup → Cut PageHeader → Ending
-head_ending setup (Stops e why) = ending.Refused
+abbrev pub head_ending : Setup → Cut PageHeader → Status
+head_ending setup (Stops e why) = status.Refused
 head_ending setup (Takes e header rest) =
     if fits_result setup header.width header.height && nat_eq (length (standing (cut_row header) header.height rest)) header.height
-    then ending.Done else ending.Refused
+    then status.Done else status.Refused
 
 -- how a run ends by the bytes of standard input, where no device fails and memory suffices
-abbrev pub page_ending : Setup → List ℕ → Ending
+abbrev pub page_ending : Setup → List ℕ → Status
 page_ending setup bytes = head_ending setup (page_header bytes)

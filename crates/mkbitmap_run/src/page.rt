@@ -17,8 +17,7 @@ use crate::work::Work;
 use bitmap_input::{GrayHead, GrayReader, InFault};
 use mkbitmap_words::Setup;
 use pt_core::{Inputs, LONGEST_SIDE, Outputs, Sink};
-use run_output::{say_of_file, say_of_file_page};
-use small_program::Ending;
+use run_output::{Status, say_of_file, say_of_file_page};
 use std::alloc::Global;
 
 /// Filters the page on standard input, or says why not.
@@ -28,7 +27,7 @@ pub(crate) fn filter_input<I: Inputs, O: Outputs, E: Sink>(
     inputs: &mut I,
     outs: &mut O,
     errs: &mut E,
-) -> Ending
+) -> Status
     requires setup { CanFilter setup }
     requires closed { O.is_ready outs.old ≡ false }
     requires ready { E.is_ready errs.old ≡ true }
@@ -40,7 +39,7 @@ pub(crate) fn filter_input<I: Inputs, O: Outputs, E: Sink>(
         Ok(()) => {}
         Err(_) => {
             say_of_file(errs, NAME, "-", "cannot be opened");
-            return Ending::Unread;
+            return Status::Unread;
         }
     }
     let Ok(mut reader) = GrayReader::new(alloc) else {
@@ -80,7 +79,7 @@ fn filter_page<I: Inputs, O: Outputs, E: Sink>(
     inputs: &mut I,
     outs: &mut O,
     errs: &mut E,
-) -> Ending
+) -> Status
     requires setup { CanFilter setup }
     requires read { HasReadHead head reader }
     requires reading { MayRead reader (source_of I.Inputs inputs.old) }
@@ -93,13 +92,13 @@ fn filter_page<I: Inputs, O: Outputs, E: Sink>(
 {
     if !fits(setup, head) {
         say_of_file_page(errs, NAME, "-", 1, "result too large");
-        return Ending::Refused;
+        return Status::Refused;
     }
     let Ok(mut work) = Work::new(alloc, setup, head, reader) else {
         return say_out_of_memory(errs);
     };
     match work.put_page(inputs, outs) {
-        Ok(()) => Ending::Done,
+        Ok(()) => Status::Done,
         Err(Break::Input(fault)) => say_fault(errs, fault),
         Err(Break::Output) => say_not_written(errs),
     }

@@ -1,18 +1,17 @@
 //! The top call: all that the program does.
 ghost use Rattle.std.specs.Prelude.{◌≡◌, false, true, map, string_bytes};
 ghost use Rattle.run_output.specs.Told.{sinks_of, source_of};
-ghost use Rattle.small_program.specs.Ending.{exit_code};
-ghost use Rattle.small_program.specs.declared.ending.Ending.{Ending};
+ghost use Rattle.run_output.specs.Status.{code_of};
+ghost use Rattle.run_output.specs.declared.status.Status.{Status};
 ghost use Rattle.mkbitmap_run.specs.FilterRun.{IsFilterRun, filter_name, filter_usage};
 ghost use Rattle.small_program.specs.ProgramRun.{PutsText};
-ghost use Rattle.small_program.specs.declared.ending.Ending.TheVariants as ending;
+ghost use Rattle.run_output.specs.declared.status.Status.TheVariants as status;
 
 use crate::page::filter_input;
 use crate::say::{BAD_WORDS, NAME, say_not_written, say_out_of_memory};
 use mkbitmap_words::{AskFault, FilterAsk, filter_ask_of};
 use pt_core::{Inputs, Outputs, Sink};
-use run_output::{say_line, write_document};
-use small_program::Ending;
+use run_output::{Status, say_line, write_document};
 use std::alloc::Global;
 
 /// How the program is used.
@@ -32,7 +31,7 @@ pub fn mk_run<I: Inputs, O: Outputs, E: Sink>(
 ) -> u8
     requires closed { O.is_ready outs.old ≡ false }
     requires ready { E.is_ready errs.old ≡ true }
-    ensures { (end : Ending) × (result ≡ exit_code end)
+    ensures { (end : Status) × (result ≡ code_of end)
         × IsFilterRun (map string_bytes words.now) end
         (source_of I.Inputs inputs.old) (source_of I.Inputs inputs.new)
         (sinks_of O.Sink E.Sink outs.old errs.old) (sinks_of O.Sink E.Sink outs.new errs.new) }
@@ -47,7 +46,7 @@ fn run<I: Inputs, O: Outputs, E: Sink>(
     inputs: &mut I,
     outs: &mut O,
     errs: &mut E,
-) -> Ending
+) -> Status
     requires closed { O.is_ready outs.old ≡ false }
     requires ready { E.is_ready errs.old ≡ true }
     ensures { IsFilterRun (map string_bytes words.now) result
@@ -59,21 +58,21 @@ fn run<I: Inputs, O: Outputs, E: Sink>(
         Ok(FilterAsk::Page(setup)) => filter_input(alloc, setup, inputs, outs, errs),
         Err(AskFault::Bad) => {
             say_line(errs, NAME, BAD_WORDS);
-            Ending::BadWords
+            Status::BadWords
         }
         Err(AskFault::NoMemory) => say_out_of_memory(errs),
     }
 }
 
 /// Writes how the program is used.
-fn put_usage<O: Outputs, E: Sink>(outs: &mut O, errs: &mut E) -> Ending
+fn put_usage<O: Outputs, E: Sink>(outs: &mut O, errs: &mut E) -> Status
     requires closed { O.is_ready outs.old ≡ false }
     requires ready { E.is_ready errs.old ≡ true }
-    ensures { PutsText filter_name ending.Done filter_usage result
+    ensures { PutsText filter_name status.Done filter_usage result
         (sinks_of O.Sink E.Sink outs.old errs.old) (sinks_of O.Sink E.Sink outs.new errs.new) }
 {
     match write_document(outs, "-", USAGE) {
-        Ok(()) => Ending::Done,
+        Ok(()) => Status::Done,
         Err(_) => say_not_written(errs),
     }
 }

@@ -7,12 +7,11 @@ ghost use Rattle.run_output.specs.Names.{dash};
 ghost use Rattle.run_output.specs.Inner.Told.{IsMessageTo};
 ghost use Rattle.mkbitmap_run.specs.Inner.FilterRun.{cause_ending};
 ghost use Rattle.mkbitmap_run.specs.FilterRun.{filter_name};
-ghost use Rattle.small_program.specs.declared.ending.Ending.TheVariants as ending;
+ghost use Rattle.run_output.specs.declared.status.Status.TheVariants as status;
 
 use bitmap_input::InFault;
 use pt_core::Sink;
-use run_output::{say_line, say_of_file, say_of_file_page};
-use small_program::Ending;
+use run_output::{Status, say_line, say_of_file, say_of_file_page};
 
 /// The program's name, as it stands in front of what it says.
 pub const NAME: &str = "mkbitmap";
@@ -21,7 +20,7 @@ pub const NAME: &str = "mkbitmap";
 pub const BAD_WORDS: &str = "bad arguments, see mkbitmap -h";
 
 /// Says why a part of the page isn't there.
-pub(crate) fn say_fault<E: Sink>(errs: &mut E, fault: InFault) -> Ending
+pub(crate) fn say_fault<E: Sink>(errs: &mut E, fault: InFault) -> Status
     requires { E.is_ready errs.old ≡ true }
     ensures ending { result ≡ cause_ending (cause_of_fault fault) }
     ensures says { IsMessageTo (file_page_line filter_name dash 1 (fault_text fault))
@@ -29,30 +28,30 @@ pub(crate) fn say_fault<E: Sink>(errs: &mut E, fault: InFault) -> Ending
 {
     say_of_file_page(errs, NAME, "-", 1, fault.text());
     match fault {
-        InFault::ReadFault => Ending::Unread,
-        InFault::NoMemory => Ending::OutOfMemory,
-        _ => Ending::Refused,
+        InFault::ReadFault => Status::Unread,
+        InFault::NoMemory => Status::OutOfMemory,
+        _ => Status::Refused,
     }
 }
 
 /// Says that memory ran out.
-pub(crate) fn say_out_of_memory<E: Sink>(errs: &mut E) -> Ending
+pub(crate) fn say_out_of_memory<E: Sink>(errs: &mut E) -> Status
     requires { E.is_ready errs.old ≡ true }
-    ensures ending { result ≡ ending.OutOfMemory }
+    ensures ending { result ≡ status.OutOfMemory }
     ensures says { IsMessageTo (program_line filter_name (codes "out of memory"))
         E.Sink errs.old errs.new }
 {
     say_line(errs, NAME, "out of memory");
-    Ending::OutOfMemory
+    Status::OutOfMemory
 }
 
 /// Says that the document couldn't be written.
-pub(crate) fn say_not_written<E: Sink>(errs: &mut E) -> Ending
+pub(crate) fn say_not_written<E: Sink>(errs: &mut E) -> Status
     requires { E.is_ready errs.old ≡ true }
-    ensures ending { result ≡ ending.Unwritten }
+    ensures ending { result ≡ status.Unwritten }
     ensures says { IsMessageTo (file_line filter_name dash (codes "write fault"))
         E.Sink errs.old errs.new }
 {
     say_of_file(errs, NAME, "-", "write fault");
-    Ending::Unwritten
+    Status::Unwritten
 }

@@ -6,8 +6,8 @@ use Rattle.run_output.specs.Told.{Sinks, Source}
 use Rattle.small_program.specs.Input.{TellsInput}
 use Rattle.small_program.specs.ProgramRun.{HasDone, IsProgramRun, Writes}
 use Rattle.small_program.specs.Reply.{IsReply}
-use Rattle.small_program.specs.declared.ending.Ending.{Ending}
-use Rattle.small_program.specs.declared.ending.Ending.TheVariants as ending
+use Rattle.run_output.specs.declared.status.Status.{Status}
+use Rattle.run_output.specs.declared.status.Status.TheVariants as status
 use Rattle.small_program.proofs.Taking.{one_input}
 use Rattle.outline_check_run.specs.Inner.OneReply.{one_line}
 use Rattle.outline_check_run.specs.Rechecked.{FindsRight}
@@ -19,23 +19,23 @@ module _ (program text : List ℕ) (paths : ℕ) where
   line = verdict_line (codes "right ") paths
 
   -- it is the reply
-  right_reply : IsVerdict text (Right paths) → length text ≤ 2 ^ 30 → IsReply IsCheckReply text ending.Done line
+  right_reply : IsVerdict text (Right paths) → length text ≤ 2 ^ 30 → IsReply IsCheckReply text status.Done line
   right_reply right few = inl (omega (arith, few), (paths, right, refl))
 
   -- and the only one
-  reply_is : (said : List ℕ) → IsVerdict text (Right paths) → length text ≤ 2 ^ 30 → IsReply IsCheckReply text ending.Done said → said ≡ line
-  reply_is said right few (inl (short, made)) = one_line text said line ending.Done ending.Done made (paths, right, refl)
+  reply_is : (said : List ℕ) → IsVerdict text (Right paths) → length text ≤ 2 ^ 30 → IsReply IsCheckReply text status.Done said → said ≡ line
+  reply_is said right few (inl (short, made)) = one_line text said line status.Done status.Done made (paths, right, refl)
   reply_is said right few (inr (long, is, why)) = absurd (omega (arith, few, long))
 
-  pub found_right : (words : ℕ) (end : Ending) (source source_now : Source) (old new : Sinks) → IsProgramRun IsCheckReply program words end source source_now old new
+  pub found_right : (words : ℕ) (end : Status) (source source_now : Source) (old new : Sinks) → IsProgramRun IsCheckReply program words end source source_now old new
       → words ≡ 0 → TellsInput source.files text → length text ≤ 2 ^ 30 → IsVerdict text (Right paths) → FindsRight paths end source source_now old new
   found_right words end source source_now old new ran none tells few right = record {
-    done = λ still_in still_out. ran.complete none text line ending.Done tells (right_reply right few) still_in still_out;
-    writes = λ is. written (subst (λ (e : Ending). HasDone IsCheckReply program e source source_now old new) is ran.outcome);
+    done = λ still_in still_out. ran.complete none text line status.Done tells (right_reply right few) still_in still_out;
+    writes = λ is. written (subst (λ (e : Status). HasDone IsCheckReply program e source source_now old new) is ran.outcome);
   }
     where
-      written : HasDone IsCheckReply program ending.Done source source_now old new → Writes line old new
+      written : HasDone IsCheckReply program status.Done source source_now old new → Writes line old new
       written (bytes, said, takes, is_reply, writes) =
           let same : text ≡ bytes = one_input source.files bytes text takes.has tells in
           subst (λ (l : List ℕ). Writes l old new)
-          (reply_is said right few (subst (λ (l : List ℕ). IsReply IsCheckReply l ending.Done said) (sym same) is_reply)) writes
+          (reply_is said right few (subst (λ (l : List ℕ). IsReply IsCheckReply l status.Done said) (sym same) is_reply)) writes

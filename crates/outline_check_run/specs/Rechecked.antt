@@ -3,13 +3,13 @@ use Rattle.std.specs.Prelude.{◌≡◌, ℕ, ◌⊎◌, codes}
 use Rattle.pt_core.specs.Counts.{Rose}
 use Rattle.run_output.specs.Told.{Sinks, Source}
 use Rattle.small_program.specs.ProgramRun.{Writes}
-use Rattle.small_program.specs.declared.ending.Ending.{Ending}
-use Rattle.small_program.specs.declared.ending.Ending.TheVariants as ending
+use Rattle.run_output.specs.declared.status.Status.{Status}
+use Rattle.run_output.specs.declared.status.Status.TheVariants as status
 use Rattle.outline_check_run.specs.Verdict.{verdict_line}
 
 -- a run ended so whose input is the certificates of so many paths, all right: where no device failed, it is done, or
 -- memory ran out; and where it is done, it wrote that so many are right
-pub record FindsRight (paths : ℕ) (end : Ending) (source source_now : Source) (old new : Sinks) : Type 0 where
+pub record FindsRight (paths : ℕ) (end : Status) (source source_now : Source) (old new : Sinks) : Type 0 where
   pub done : (Rose source.faults source_now.faults → ⊥) → (Rose old.outs.faults new.outs.faults → ⊥)
-      → (end ≡ ending.Done) ⊎ (end ≡ ending.OutOfMemory)
-  pub writes : end ≡ ending.Done → Writes (verdict_line (codes "right ") paths) old new
+      → (end ≡ status.Done) ⊎ (end ≡ status.OutOfMemory)
+  pub writes : end ≡ status.Done → Writes (verdict_line (codes "right ") paths) old new

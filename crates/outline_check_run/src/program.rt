@@ -8,11 +8,11 @@ ghost use Rattle.outline_check_run.specs.Rechecked.{FindsRight};
 ghost use Rattle.outline_check_run.specs.Verdict.{IsCheckReply};
 ghost use Rattle.polygon_optimal.specs.Polygon.{IsBestPolygon};
 ghost use Rattle.run_output.specs.Told.{sinks_of, source_of};
-ghost use Rattle.small_program.specs.Ending.{exit_code};
+ghost use Rattle.run_output.specs.Status.{code_of};
 ghost use Rattle.small_program.specs.Input.{TellsInput};
 ghost use Rattle.small_program.specs.ProgramRun.{IsProgramRun};
-ghost use Rattle.small_program.specs.declared.ending.Ending.{Ending};
-ghost use Rattle.small_program.specs.declared.ending.Ending.TheVariants.{Done};
+ghost use Rattle.run_output.specs.declared.status.Status.{Status};
+ghost use Rattle.run_output.specs.declared.status.Status.TheVariants.{Done};
 
 use crate::task::Checking;
 use pt_core::{Inputs, Outputs, Sink};
@@ -30,20 +30,20 @@ pub fn check_run<I: Inputs, O: Outputs, E: Sink>(
 ) -> u8
     requires closed { O.is_ready outs.old ≡ false }
     requires ready { E.is_ready errs.old ≡ true }
-    ensures run { (ending : Ending) × (result ≡ exit_code ending)
+    ensures run { (ending : Status) × (result ≡ code_of ending)
         × IsProgramRun IsCheckReply (codes "outline_check") (length words.now) ending
         (source_of I.Inputs inputs.old) (source_of I.Inputs inputs.new)
         (sinks_of O.Sink E.Sink outs.old errs.old) (sinks_of O.Sink E.Sink outs.new errs.new) }
 
     // Where all are right, each polygon of the text is the best one of its path.
-    ensures best { result ≡ exit_code Done → (text : List ℕ) (width height : ℕ) (paths : List Certified)
+    ensures best { result ≡ code_of Done → (text : List ℕ) (width height : ℕ) (paths : List Certified)
         → TellsInput (I.files inputs.old) text → IsProofs text width height paths
         → All (λ c. IsBestPolygon c.points c.at) paths }
 
     // A text of right certificates is found right.
     ensures finds_right { (text : List ℕ) (paths : ℕ) → IsVerdict text (Right paths) → length words.now ≡ 0
         → TellsInput (I.files inputs.old) text → length text ≤ 2 ^ 30
-        → (ending : Ending) × (result ≡ exit_code ending) × FindsRight paths ending
+        → (ending : Status) × (result ≡ code_of ending) × FindsRight paths ending
         (source_of I.Inputs inputs.old) (source_of I.Inputs inputs.new)
         (sinks_of O.Sink E.Sink outs.old errs.old) (sinks_of O.Sink E.Sink outs.new errs.new) }
 {

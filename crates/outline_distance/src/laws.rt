@@ -30,7 +30,7 @@ ghost use Rattle.outline_check.specs.declared.verdict.Verdict.TheVariants.{Right
 ghost use Rattle.run_output.specs.Told.{Sinks, Source};
 ghost use Rattle.small_program.specs.Input.{TellsInput};
 ghost use Rattle.small_program.specs.ProgramRun.{IsProgramRun};
-ghost use Rattle.small_program.specs.declared.ending.Ending.{Ending};
+ghost use Rattle.run_output.specs.declared.status.Status.{Status};
 ghost use Rattle.outline_check_run.specs.Rechecked.{FindsRight};
 ghost use Rattle.outline_check_run.specs.Verdict.{IsCheckReply};
 ghost use Rattle.page_trace.specs.Document.{IsDocument};
@@ -249,7 +249,7 @@ pub fn certificates_of_pages_are_right()
     ensures found { (page : Page) (settings : Settings) (text : List ℕ) → IsPage page
         → settings.backend ≡ Backend.Proofs → settings.cyclic ≡ false → IsDocument page settings text
         → (paths : List Path) × ArePaths page settings paths
-        × ((ending : Ending) (source source_now : Source) (old now : Sinks)
+        × ((ending : Status) (source source_now : Source) (old now : Sinks)
         → IsProgramRun IsCheckReply (codes "outline_check") 0 ending source source_now old now
         → TellsInput source.files text → length text ≤ 2 ^ 30
         → FindsRight (length paths) ending source source_now old now) }

@@ -135,8 +135,7 @@ ended_on status.OutOfMemory items more a b c done next = record {
   split = ap (λ l. items ++ l) next.split ∙ sym (append_assoc items next.before next.after);
   done = carried_on items next.before (out_of_memory ∷ []) a b c done next.done;
 }
-ended_on status.BadWords items more a b c done next = next
-ended_on status.Unread items more a b c done next = next
+ended_on s items more a b c done next = next
 
 -- so a call ended that was to write these items
 pub cut_off_at : {E : Type 0} (r : Result Unit E) (items : List Item) (a b : Sinks) → IsErr r → IsUnwritten items a b → EndsWriting r items a b
@@ -197,8 +196,7 @@ ended_more status.Done (inl is) items more a b e = absurd (let no : status.Done 
 ended_more status.Done (inr is) items more a b e = absurd (let no : status.Done ≡ status.OutOfMemory = is in cc)
 ended_more status.Refused (inl is) items more a b e = absurd (let no : status.Refused ≡ status.Unwritten = is in cc)
 ended_more status.Refused (inr is) items more a b e = absurd (let no : status.Refused ≡ status.OutOfMemory = is in cc)
-ended_more status.BadWords which items more a b e = absurd e
-ended_more status.Unread which items more a b e = absurd e
+ended_more s which items more a b e = absurd e
 
 -- a document that couldn't be written is no want of memory
 pub unwritten_not_out : status.Unwritten ≡ status.OutOfMemory → ⊥

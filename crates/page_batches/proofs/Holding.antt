@@ -193,20 +193,14 @@ pub held_or_ended : (r : Result Unit Status) (b : Binding) (size : ℕ) (belongs
 held_or_ended (Ok done) b size belongs read is_open is_open_now held held_now x y ended left full = all_carried b size belongs read held_now x y left.0 full ended
 held_or_ended (Err status.Unwritten) b size belongs read is_open is_open_now held held_now x y ended left full = ended
 held_or_ended (Err status.OutOfMemory) b size belongs read is_open is_open_now held held_now x y ended left full = ended
-held_or_ended (Err status.Done) b size belongs read is_open is_open_now held held_now x y ended left full = absurd left
-held_or_ended (Err status.BadWords) b size belongs read is_open is_open_now held held_now x y ended left full = absurd left
-held_or_ended (Err status.Refused) b size belongs read is_open is_open_now held held_now x y ended left full = absurd left
-held_or_ended (Err status.Unread) b size belongs read is_open is_open_now held held_now x y ended left full = absurd left
+held_or_ended (Err s) b size belongs read is_open is_open_now held held_now x y ended left full = absurd left
 
 -- where a batch wasn't carried out, the run ends within it
 pub halts_by : (r : Result Unit Status) (b : Binding) (is_open is_open_now : Bool) (held held_now : List Held) → LeavesBatch r b is_open is_open_now held held_now → IfErr r IsHalt
 halts_by (Ok done) b is_open is_open_now held held_now left = tt
 halts_by (Err status.Unwritten) b is_open is_open_now held held_now left = inl refl
 halts_by (Err status.OutOfMemory) b is_open is_open_now held held_now left = inr refl
-halts_by (Err status.Done) b is_open is_open_now held held_now left = absurd left
-halts_by (Err status.BadWords) b is_open is_open_now held held_now left = absurd left
-halts_by (Err status.Refused) b is_open is_open_now held held_now left = absurd left
-halts_by (Err status.Unread) b is_open is_open_now held held_now left = absurd left
+halts_by (Err s) b is_open is_open_now held held_now left = absurd left
 
 -- one page more fills the batch
 pub filled : (old now : List Held) (name : List ℕ) (before : ℕ) (page : Pixels) (count workers : ℕ) → now ≡ old ++ Page name before page ∷ [] → count ≡ pages_held now → 2 * workers ≤ count → pages_held old < 2 * workers

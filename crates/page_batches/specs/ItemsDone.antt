@@ -61,5 +61,4 @@ HasEnded status.Done items old new = AreCarriedOut items [] old new
 HasEnded status.Refused items old new = IsRefused items old new
 HasEnded status.Unwritten items old new = IsUnwritten items old new
 HasEnded status.OutOfMemory items old new = IsOutOfMemory items old new
-HasEnded status.BadWords items old new = ⊥
-HasEnded status.Unread items old new = ⊥
+HasEnded s items old new = ⊥

@@ -2,18 +2,18 @@
 use Rattle.std.specs.Prelude.{◌≡◌, ℕ, ◌⊎◌, List, codes}
 use Rattle.bit_image.specs.Page.{Page}
 use Rattle.bit_image.specs.PbmText.{pbm_text}
-use Rattle.small_program.specs.declared.ending.Ending.{Ending}
-use Rattle.small_program.specs.declared.ending.Ending.TheVariants as ending
+use Rattle.run_output.specs.declared.status.Status.{Status}
+use Rattle.run_output.specs.declared.status.Status.TheVariants as status
 use Rattle.point_fill.specs.Filled.{IsFilled}
 use Rattle.point_fill.specs.FillText.{fill_text}
 use Rattle.point_fill.specs.PointsFile.{IsSomePointsFile}
 use Rattle.point_fill.specs.declared.fault.FillFault.TheVariants as fault
 
 -- the reply to a text: the page that it fills, as raw PBM; or, where it tells no paths on a page, that it is refused
-abbrev pub IsFillReply : List ℕ → Ending → List ℕ → Type 0
+abbrev pub IsFillReply : List ℕ → Status → List ℕ → Type 0
 IsFillReply text end reply =
-    ((end ≡ ending.Done) × ((page : Page) × IsFilled text page × (reply ≡ pbm_text page)))
-    ⊎ ((end ≡ ending.Refused) × (IsSomePointsFile text → ⊥) × (reply ≡ fill_text fault.BadPoints))
+    ((end ≡ status.Done) × ((page : Page) × IsFilled text page × (reply ≡ pbm_text page)))
+    ⊎ ((end ≡ status.Refused) × (IsSomePointsFile text → ⊥) × (reply ≡ fill_text fault.BadPoints))
 
 -- the program's name
 abbrev pub filler : List ℕ

@@ -5,12 +5,12 @@ use Rattle.bit_image.specs.Page.{Page}
 use Rattle.bit_image.specs.PbmText.{pbm_text}
 use Rattle.run_output.specs.Told.{Sinks, Source}
 use Rattle.small_program.specs.ProgramRun.{Writes}
-use Rattle.small_program.specs.declared.ending.Ending.{Ending}
-use Rattle.small_program.specs.declared.ending.Ending.TheVariants as ending
+use Rattle.run_output.specs.declared.status.Status.{Status}
+use Rattle.run_output.specs.declared.status.Status.TheVariants as status
 
 -- a run ended so whose input is the text of this page: where no device failed, it is done, or memory ran out; and where
 -- it is done, the page came back as the document
-pub record GivesBack (page : Page) (end : Ending) (source source_now : Source) (old new : Sinks) : Type 0 where
+pub record GivesBack (page : Page) (end : Status) (source source_now : Source) (old new : Sinks) : Type 0 where
   pub done : (Rose source.faults source_now.faults → ⊥) → (Rose old.outs.faults new.outs.faults → ⊥)
-      → (end ≡ ending.Done) ⊎ (end ≡ ending.OutOfMemory)
-  pub writes : end ≡ ending.Done → Writes (pbm_text page) old new
+      → (end ≡ status.Done) ⊎ (end ≡ status.OutOfMemory)
+  pub writes : end ≡ status.Done → Writes (pbm_text page) old new

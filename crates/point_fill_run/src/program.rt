@@ -6,10 +6,10 @@ ghost use Rattle.pt_core.specs.declared.policy.Policy.{Policy};
 ghost use Rattle.bit_image.specs.Page.{IsPage, Page};
 ghost use Rattle.path_decompose.specs.Decomposition.{IsDecomposition, kept};
 ghost use Rattle.run_output.specs.Told.{sinks_of, source_of};
-ghost use Rattle.small_program.specs.Ending.{exit_code};
+ghost use Rattle.run_output.specs.Status.{code_of};
 ghost use Rattle.small_program.specs.Input.{TellsInput};
 ghost use Rattle.small_program.specs.ProgramRun.{IsProgramRun};
-ghost use Rattle.small_program.specs.declared.ending.Ending.{Ending};
+ghost use Rattle.run_output.specs.declared.status.Status.{Status};
 ghost use Rattle.point_fill_run.specs.FillReply.{IsFillReply, filler};
 ghost use Rattle.point_fill_run.specs.Round.{GivesBack};
 
@@ -61,7 +61,7 @@ pub fn fill_run<I: Inputs, O: Outputs, E: Sink>(
 ) -> u8
     requires closed { O.is_ready outs.old ≡ false }
     requires ready { E.is_ready errs.old ≡ true }
-    ensures ran { (end : Ending) × (result ≡ exit_code end)
+    ensures ran { (end : Status) × (result ≡ code_of end)
         × IsProgramRun IsFillReply filler (length words.now) end
         (source_of I.Inputs inputs.old) (source_of I.Inputs inputs.new)
         (sinks_of O.Sink E.Sink outs.old errs.old) (sinks_of O.Sink E.Sink outs.new errs.new) }
@@ -71,7 +71,7 @@ pub fn fill_run<I: Inputs, O: Outputs, E: Sink>(
         → IsDecomposition page policy all → length words.now ≡ 0
         → TellsInput (I.files inputs.old) (points_text page.width page.height (kept 0 all))
         → length (points_text page.width page.height (kept 0 all)) ≤ 2 ^ 30
-        → (end : Ending) × (result ≡ exit_code end) × GivesBack page end
+        → (end : Status) × (result ≡ code_of end) × GivesBack page end
         (source_of I.Inputs inputs.old) (source_of I.Inputs inputs.new)
         (sinks_of O.Sink E.Sink outs.old errs.old) (sinks_of O.Sink E.Sink outs.new errs.new) }
 {

@@ -81,6 +81,7 @@ pub files_complete : (s : Status) (manner : Manner) → HasTexts manner → (nam
 files_complete status.Done manner can names source now a b (items, are, done, opens, near) =
     (items, are, λ _ _. record { all = λ _. inl refl; refusal = λ r. absurd (never_refused items done.goes_on r); missing = λ m. absurd (never_missing items done.goes_on m) })
 files_complete status.BadWords manner can names source now a b (items, are, ended) = absurd ended
+files_complete status.Wrong manner can names source now a b (items, are, ended) = absurd ended
 files_complete status.Refused manner can names source now a b r =
     let items : List Item = r.place.before ++ Refuse r.message ∷ [] in
     let refusal : EndsRefused items = (r.place.before, r.message, refl) in
@@ -189,6 +190,7 @@ first_absent : (s : Status) (manner : Manner) (name : List ℕ) (names : List (L
 first_absent status.Done manner name names source now a b absent (items, are, done, opens, near) =
     absurd (subst GoesOn (only_missing (told_contents source.files) manner name names items absent are) done.goes_on)
 first_absent status.BadWords manner name names source now a b absent (items, are, ended) = absurd ended
+first_absent status.Wrong manner name names source now a b absent (items, are, ended) = absurd ended
 first_absent status.Refused manner name names source now a b absent r =
     absurd (not_stop name r.place.before r.message (sym (only_missing (told_contents source.files) manner name names (r.place.before ++ Refuse r.message ∷ []) absent r.all)))
 first_absent status.Unread manner name names source now a b absent u = inl refl
@@ -227,6 +229,7 @@ carried_moves P items last a b all closed done = (done.went, λ p. (carried_clos
 ended_moves : (P : Type 0) (s : Status) (items : List Item) (a b : Sinks) → (P → AreWhole items) → a.is_open ≡ false → HasEnded s items a b → OutputsMove P s a b
 ended_moves P status.Done items a b all closed done = carried_moves P items [] a b all closed done
 ended_moves P status.BadWords items a b all closed ended = absurd ended
+ended_moves P status.Wrong items a b all closed ended = absurd ended
 ended_moves P status.Refused items a b all closed r =
     carried_moves P r.before (r.message ∷ []) a b (λ p. AreWhole-front r.before (Refuse r.message ∷ []) (subst AreWhole r.split (all p))) closed r.done
 ended_moves P status.Unread items a b all closed ended = absurd ended
@@ -246,6 +249,7 @@ files_move s manner names source now a b closed outcome = by_status s outcome wh
   by_status : (s : Status) → IsOutcome s manner names source now a b → OutputsMove (manner.binding ≡ Apart) s a b
   by_status status.Done (items, are, done, opens, near) = carried_moves (manner.binding ≡ Apart) items [] a b (whole items are) closed done
   by_status status.BadWords (items, are, ended) = absurd ended
+  by_status status.Wrong (items, are, ended) = absurd ended
   by_status status.Refused r =
       carried_moves (manner.binding ≡ Apart) r.place.before (r.message ∷ []) a b (λ apart. AreWhole-front r.place.before (Refuse r.message ∷ []) (whole (r.place.before ++ Refuse r.message ∷ []) r.all apart)) closed r.done
   by_status status.Unread (inl u) =
@@ -271,6 +275,7 @@ moves_where : (P Q : Type 0) (s : Status) (a b : Sinks) → (Q → P) → Output
 moves_where P Q status.Unwritten a b known moves = moves
 moves_where P Q status.Done a b known moves = (moves.0, λ q. moves.1 (known q))
 moves_where P Q status.BadWords a b known moves = (moves.0, λ q. moves.1 (known q))
+moves_where P Q status.Wrong a b known moves = moves
 moves_where P Q status.Refused a b known moves = (moves.0, λ q. moves.1 (known q))
 moves_where P Q status.Unread a b known moves = (moves.0, λ q. moves.1 (known q))
 moves_where P Q status.OutOfMemory a b known moves = (moves.0, λ q. moves.1 (known q))
@@ -289,7 +294,8 @@ with_code (suc zero) = status.BadWords
 with_code (suc (suc zero)) = status.Refused
 with_code (suc (suc (suc zero))) = status.Unread
 with_code (suc (suc (suc (suc zero)))) = status.Unwritten
-with_code (suc (suc (suc (suc (suc n))))) = status.OutOfMemory
+with_code (suc (suc (suc (suc (suc zero))))) = status.OutOfMemory
+with_code (suc (suc (suc (suc (suc (suc n)))))) = status.Wrong
 
 with_code-code_of : (s : Status) → with_code (code_of s) ≡ s
 with_code-code_of status.Done = refl
@@ -298,6 +304,7 @@ with_code-code_of status.Refused = refl
 with_code-code_of status.Unread = refl
 with_code-code_of status.Unwritten = refl
 with_code-code_of status.OutOfMemory = refl
+with_code-code_of status.Wrong = refl
 
 pub code_one : (s t : Status) → code_of s ≡ code_of t → s ≡ t
 code_one s t e = sym (with_code-code_of s) ∙ ap with_code e ∙ with_code-code_of t
@@ -310,6 +317,7 @@ pub unwritten_by : (P : Type 0) (s : Status) (a b : Sinks) → OutputsMove P s a
 unwritten_by P status.Unwritten a b moves less = refl
 unwritten_by P status.Done a b moves less = absurd (omega (arith, moves.0.steady, less))
 unwritten_by P status.BadWords a b moves less = absurd (omega (arith, moves.0.steady, less))
+unwritten_by P status.Wrong a b moves less = absurd moves
 unwritten_by P status.Refused a b moves less = absurd (omega (arith, moves.0.steady, less))
 unwritten_by P status.Unread a b moves less = absurd (omega (arith, moves.0.steady, less))
 unwritten_by P status.OutOfMemory a b moves less = absurd (omega (arith, moves.0.steady, less))
@@ -318,6 +326,7 @@ pub closed_else : (P : Type 0) (s : Status) (a b : Sinks) → OutputsMove P s a 
 closed_else P status.Unwritten a b moves so other = absurd (other refl)
 closed_else P status.Done a b moves so other = moves.1 so
 closed_else P status.BadWords a b moves so other = moves.1 so
+closed_else P status.Wrong a b moves so other = absurd moves
 closed_else P status.Refused a b moves so other = moves.1 so
 closed_else P status.Unread a b moves so other = moves.1 so
 closed_else P status.OutOfMemory a b moves so other = moves.1 so
@@ -327,6 +336,7 @@ pub failed_by : (P : Type 0) (s : Status) (a b : Sinks) → OutputsMove P s a b 
 failed_by P status.Unwritten a b moves = moves.failed
 failed_by P status.Done a b moves = moves.0.went
 failed_by P status.BadWords a b moves = moves.0.went
+failed_by P status.Wrong a b moves = absurd moves
 failed_by P status.Refused a b moves = moves.0.went
 failed_by P status.Unread a b moves = moves.0.went
 failed_by P status.OutOfMemory a b moves = moves.0.went

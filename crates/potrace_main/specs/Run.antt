@@ -73,9 +73,10 @@ RefusesWords status.OutOfMemory old new = AreCarriedOut [] (out_of_memory ∷ []
 RefusesWords s old new = ⊥
 
 -- what the calls of the outputs answered: where a document couldn't be written one failed, and it was the last one;
--- else none did
+-- else none did; and no run tells that its input is wrong
 abbrev pub FailureCount : Status → Failures → Failures → Type 0
 FailureCount status.Unwritten old new = new ≡ after_err old
+FailureCount status.Wrong old new = ⊥
 FailureCount s old new = new.count ≡ old.count
 
 -- each page has a document of its own

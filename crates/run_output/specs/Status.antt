@@ -11,3 +11,4 @@ code_of status.Refused = 2
 code_of status.Unread = 3
 code_of status.Unwritten = 4
 code_of status.OutOfMemory = 5
+code_of status.Wrong = 6

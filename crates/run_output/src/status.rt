@@ -17,6 +17,8 @@ pub enum Status {
     Unwritten,
     /// Memory ran out.
     OutOfMemory,
+    /// The document is whole, and tells that the input is wrong.
+    Wrong,
 }
 
 impl Status {
@@ -31,6 +33,7 @@ impl Status {
             Status::Unread => 3,
             Status::Unwritten => 4,
             Status::OutOfMemory => 5,
+            Status::Wrong => 6,
         }
     }
 }

@@ -9,8 +9,8 @@ use Rattle.small_program.specs.ProgramRun.{HasDone, IsProgramRun, OnlySays, Take
 use Rattle.small_program.specs.Inner.ProgramRun.{PutsReply}
 use Rattle.small_program.specs.Reply.{IsReply}
 use Rattle.small_program.specs.Inner.Reply.{stop_ending, stop_line}
-use Rattle.small_program.specs.declared.ending.Ending.{Ending}
-use Rattle.small_program.specs.declared.ending.Ending.TheVariants as ending
+use Rattle.run_output.specs.declared.status.Status.{Status}
+use Rattle.run_output.specs.declared.status.Status.TheVariants as status
 use Rattle.small_program.specs.declared.input.InputStop.{InputStop}
 use Rattle.small_program.specs.declared.input.InputStop.TheVariants as stops
 use Rattle.small_program.specs.declared.input.TheConstants.{MOST_BYTES}
@@ -30,17 +30,17 @@ same_faults : (old new : Sinks) → new.outs ≡ old.outs → old.outs.faults < 
 same_faults old new same less = let e : new.outs.faults ≡ old.outs.faults = ap (λ (t : Told). t.faults) same in omega arith
 
 -- a longer input than a program takes is refused, whatever its task makes of it
-long_is_refused : (makes : List ℕ → Ending → List ℕ → Type 0) (bytes text : List ℕ) (well : Ending) → MOST_BYTES < length bytes → IsReply makes bytes well text → ending.Refused ≡ well
+long_is_refused : (makes : List ℕ → Status → List ℕ → Type 0) (bytes text : List ℕ) (well : Status) → MOST_BYTES < length bytes → IsReply makes bytes well text → status.Refused ≡ well
 long_is_refused makes bytes text well long (inl (few, made)) = absurd (omega arith)
 long_is_refused makes bytes text well long (inr (most, is, why)) = sym is
 
 -- the run ends where standard input does
-pub run_stopped : (makes : List ℕ → Ending → List ℕ → Type 0) (program : List ℕ) (words : ℕ) (stop : InputStop) (source source_now : Source) (old new : Sinks)
+pub run_stopped : (makes : List ℕ → Status → List ℕ → Type 0) (program : List ℕ) (words : ℕ) (stop : InputStop) (source source_now : Source) (old new : Sinks)
     → words ≡ 0 → IsInputStopped stop source source_now → OnlySays (stop_line program stop) old new
     → IsProgramRun makes program words (stop_ending stop) source source_now old new
 run_stopped makes program words stops.Unread source source_now old new none stopped says = record {
   outcome = (record { opened = stopped.opened; cause = stopped.unread refl }, says);
-  bad_words = λ is. absurd (let never : ending.Unread ≡ ending.BadWords = is in cc);
+  bad_words = λ is. absurd (let never : status.Unread ≡ status.BadWords = is in cc);
   refused = λ some. absurd (omega arith);
   missing = λ _ _. refl;
   complete = λ _ bytes text well tells reply still_in still_out. absurd (no_cause bytes tells still_in (stopped.unread refl));
@@ -56,7 +56,7 @@ run_stopped makes program words stops.TooLong source source_now old new none sto
     let steady : source_now.faults ≡ source.faults = still stopped.steady in
     record {
       outcome = (bytes, codes "text too long", record { opened = stopped.opened; steady = steady; has = has }, λ _. stopped.bound refl, inr (long, refl, refl), says);
-      bad_words = λ is. absurd (let never : ending.Refused ≡ ending.BadWords = is in cc);
+      bad_words = λ is. absurd (let never : status.Refused ≡ status.BadWords = is in cc);
       refused = λ some. absurd (omega arith);
       missing = λ _ lacks. absurd (is_not_missing source.files bytes has lacks);
       complete = λ _ others text well tells reply still_in still_out.
@@ -69,7 +69,7 @@ run_stopped makes program words stops.TooLong source source_now old new none sto
     still (inr same) = same
 run_stopped makes program words stops.OutOfMemory source source_now old new none stopped says = record {
   outcome = (record { opened = inr stopped.opened; steady = still stopped.steady }, says);
-  bad_words = λ is. absurd (let never : ending.OutOfMemory ≡ ending.BadWords = is in cc);
+  bad_words = λ is. absurd (let never : status.OutOfMemory ≡ status.BadWords = is in cc);
   refused = λ some. absurd (omega arith);
   missing = λ _ lacks. absurd (let never : stops.OutOfMemory ≡ stops.Unread = stopped.missing lacks in cc);
   complete = λ _ bytes text well tells reply still_in still_out. inr refl;
@@ -81,41 +81,41 @@ run_stopped makes program words stops.OutOfMemory source source_now old new none
     still (inr same) = same
 
 -- what is known where standard input is there whole, and has a reply
-pub record IsReplied (makes : List ℕ → Ending → List ℕ → Type 0) (bytes : List ℕ) (well : Ending) (text : List ℕ) (source source_now : Source) : Type 0 where
+pub record IsReplied (makes : List ℕ → Status → List ℕ → Type 0) (bytes : List ℕ) (well : Status) (text : List ℕ) (source source_now : Source) : Type 0 where
   pub takes : TakesInput bytes source source_now
   pub few : length bytes ≤ MOST_BYTES
   pub made : makes bytes well text
-  pub one : (text' : List ℕ) (other : Ending) → makes bytes other text' → well ≡ other
+  pub one : (text' : List ℕ) (other : Status) → makes bytes other text' → well ≡ other
 
 -- it is the reply
-one_reply : (makes : List ℕ → Ending → List ℕ → Type 0) (bytes text : List ℕ) (well : Ending) (source source_now : Source) → IsReplied makes bytes well text source source_now
-    → (others more : List ℕ) (other : Ending) → TellsInput source.files others → IsReply makes others other more → well ≡ other
+one_reply : (makes : List ℕ → Status → List ℕ → Type 0) (bytes text : List ℕ) (well : Status) (source source_now : Source) → IsReplied makes bytes well text source source_now
+    → (others more : List ℕ) (other : Status) → TellsInput source.files others → IsReply makes others other more → well ≡ other
 one_reply makes bytes text well source source_now replied others more other tells (inl (few, made)) =
     replied.one more other (subst (λ (l : List ℕ). makes l other more) (one_input source.files bytes others replied.takes.has tells) made)
 one_reply makes bytes text well source source_now replied others more other tells (inr (long, is, why)) =
     absurd (let same : others ≡ bytes = one_input source.files bytes others replied.takes.has tells in let e : length others ≡ length bytes = ap length same in omega (arith, replied.few))
 
 -- its document was written
-outcome_written : (makes : List ℕ → Ending → List ℕ → Type 0) (program bytes text : List ℕ) (well : Ending) (source source_now : Source) (old new : Sinks)
-    → (well ≡ ending.Done) ⊎ (well ≡ ending.Wrong) → IsReplied makes bytes well text source source_now → Writes text old new → HasDone makes program well source source_now old new
+outcome_written : (makes : List ℕ → Status → List ℕ → Type 0) (program bytes text : List ℕ) (well : Status) (source source_now : Source) (old new : Sinks)
+    → (well ≡ status.Done) ⊎ (well ≡ status.Wrong) → IsReplied makes bytes well text source source_now → Writes text old new → HasDone makes program well source source_now old new
 outcome_written makes program bytes text well source source_now old new (inl done) replied writes =
-    subst (λ (e : Ending). HasDone makes program e source source_now old new) (sym done)
-    (bytes, text, replied.takes, inl (replied.few, subst (λ (e : Ending). makes bytes e text) done replied.made), writes)
+    subst (λ (e : Status). HasDone makes program e source source_now old new) (sym done)
+    (bytes, text, replied.takes, inl (replied.few, subst (λ (e : Status). makes bytes e text) done replied.made), writes)
 outcome_written makes program bytes text well source source_now old new (inr wrong) replied writes =
-    subst (λ (e : Ending). HasDone makes program e source source_now old new) (sym wrong)
-    (bytes, text, replied.takes, inl (replied.few, subst (λ (e : Ending). makes bytes e text) wrong replied.made), writes)
+    subst (λ (e : Status). HasDone makes program e source source_now old new) (sym wrong)
+    (bytes, text, replied.takes, inl (replied.few, subst (λ (e : Status). makes bytes e text) wrong replied.made), writes)
 
 -- words were none, where it ends so
-not_bad : (well : Ending) → (well ≡ ending.Done) ⊎ (well ≡ ending.Wrong) → well ≡ ending.BadWords → ⊥
-not_bad well (inl done) bad = absurd (let never : ending.Done ≡ ending.BadWords = sym done ∙ bad in cc)
-not_bad well (inr wrong) bad = absurd (let never : ending.Wrong ≡ ending.BadWords = sym wrong ∙ bad in cc)
+not_bad : (well : Status) → (well ≡ status.Done) ⊎ (well ≡ status.Wrong) → well ≡ status.BadWords → ⊥
+not_bad well (inl done) bad = absurd (let never : status.Done ≡ status.BadWords = sym done ∙ bad in cc)
+not_bad well (inr wrong) bad = absurd (let never : status.Wrong ≡ status.BadWords = sym wrong ∙ bad in cc)
 
 -- the run ends with the reply
-pub run_replied : (makes : List ℕ → Ending → List ℕ → Type 0) (program : List ℕ) (words : ℕ) (bytes text : List ℕ) (well end : Ending) (source source_now : Source) (old new : Sinks)
+pub run_replied : (makes : List ℕ → Status → List ℕ → Type 0) (program : List ℕ) (words : ℕ) (bytes text : List ℕ) (well end : Status) (source source_now : Source) (old new : Sinks)
     → words ≡ 0 → IsReplied makes bytes well text source source_now → PutsReply program well text end old new
     → IsProgramRun makes program words end source source_now old new
 run_replied makes program words bytes text well end source source_now old new none replied (inl (writable, inl (is, writes))) = record {
-  outcome = subst (λ (e : Ending). HasDone makes program e source source_now old new) (sym is) (outcome_written makes program bytes text well source source_now old new writable replied writes);
+  outcome = subst (λ (e : Status). HasDone makes program e source source_now old new) (sym is) (outcome_written makes program bytes text well source source_now old new writable replied writes);
   bad_words = λ bad. absurd (not_bad well writable (sym is ∙ bad));
   refused = λ some. absurd (omega arith);
   missing = λ _ lacks. absurd (is_not_missing source.files bytes replied.takes.has lacks);
@@ -123,17 +123,17 @@ run_replied makes program words bytes text well end source source_now old new no
   unwritten = λ less. absurd (let e : new.outs.faults ≡ old.outs.faults = writes.went.steady in omega arith);
 }
 run_replied makes program words bytes text well end source source_now old new none replied (inl (writable, inr (is, cuts))) = record {
-  outcome = subst (λ (e : Ending). HasDone makes program e source source_now old new) (sym is) (bytes, well, text, replied.takes, inl (replied.few, replied.made), writable, cuts);
-  bad_words = λ bad. absurd (let never : ending.Unwritten ≡ ending.BadWords = sym is ∙ bad in cc);
+  outcome = subst (λ (e : Status). HasDone makes program e source source_now old new) (sym is) (bytes, well, text, replied.takes, inl (replied.few, replied.made), writable, cuts);
+  bad_words = λ bad. absurd (let never : status.Unwritten ≡ status.BadWords = sym is ∙ bad in cc);
   refused = λ some. absurd (omega arith);
   missing = λ _ lacks. absurd (is_not_missing source.files bytes replied.takes.has lacks);
   complete = λ _ others more other tells reply still_in still_out. absurd (still_out cuts.broke.rose);
   unwritten = λ less. is;
 }
 run_replied makes program words bytes text well end source source_now old new none replied (inr (refused, is, says)) = record {
-  outcome = subst (λ (e : Ending). HasDone makes program e source source_now old new) (sym is)
-      (bytes, text, replied.takes, λ long. absurd (omega (arith, replied.few)), inl (replied.few, subst (λ (e : Ending). makes bytes e text) refused replied.made), says);
-  bad_words = λ bad. absurd (let never : ending.Refused ≡ ending.BadWords = sym is ∙ bad in cc);
+  outcome = subst (λ (e : Status). HasDone makes program e source source_now old new) (sym is)
+      (bytes, text, replied.takes, λ long. absurd (omega (arith, replied.few)), inl (replied.few, subst (λ (e : Status). makes bytes e text) refused replied.made), says);
+  bad_words = λ bad. absurd (let never : status.Refused ≡ status.BadWords = sym is ∙ bad in cc);
   refused = λ some. absurd (omega arith);
   missing = λ _ lacks. absurd (is_not_missing source.files bytes replied.takes.has lacks);
   complete = λ _ others more other tells reply still_in still_out. inl (is ∙ sym refused ∙ one_reply makes bytes text well source source_now replied others more other tells reply);

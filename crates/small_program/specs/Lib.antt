@@ -1,4 +1,3 @@
-pub mod Ending
 pub mod Reply
 pub mod Input
 pub mod ProgramRun

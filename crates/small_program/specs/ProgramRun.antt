@@ -8,8 +8,8 @@ use Rattle.run_output.specs.Names.{dash}
 use Rattle.run_output.specs.Told.{AllWent, BrokeOff, IsMessage, Sinks, Source}
 use Rattle.small_program.specs.Input.{HasInput, HasTaken, TellsInput}
 use Rattle.small_program.specs.Reply.{IsReply}
-use Rattle.small_program.specs.declared.ending.Ending.{Ending}
-use Rattle.small_program.specs.declared.ending.Ending.TheVariants as ending
+use Rattle.run_output.specs.declared.status.Status.{Status}
+use Rattle.run_output.specs.declared.status.Status.TheVariants as status
 
 -- standard input was opened once, no read failed, and these are its bytes, where they are told
 pub record TakesInput (bytes : List ℕ) (source source_now : Source) : Type 0 where
@@ -53,41 +53,41 @@ pub record CutsOff (program text : List ℕ) (old new : Sinks) : Type 0 where
   pub says : IsMessage (file_line program dash (codes "write fault")) old.errs new.errs
 
 -- a text was to be written, after which the run ends well: it ends so, or the document is cut off
-abbrev pub PutsText : List ℕ → Ending → List ℕ → Ending → Sinks → Sinks → Type 0
+abbrev pub PutsText : List ℕ → Status → List ℕ → Status → Sinks → Sinks → Type 0
 PutsText program well text end old new =
-    ((end ≡ well) × Writes text old new) ⊎ ((end ≡ ending.Unwritten) × CutsOff program text old new)
+    ((end ≡ well) × Writes text old new) ⊎ ((end ≡ status.Unwritten) × CutsOff program text old new)
 
 -- what a run has done that ends so: its reply belongs to the whole input
-abbrev pub HasDone : (List ℕ → Ending → List ℕ → Type 0) → List ℕ → Ending → Source → Source → Sinks → Sinks → Type 0
-HasDone makes program ending.Done source source_now old new =
+abbrev pub HasDone : (List ℕ → Status → List ℕ → Type 0) → List ℕ → Status → Source → Source → Sinks → Sinks → Type 0
+HasDone makes program status.Done source source_now old new =
     (bytes : List ℕ) × (text : List ℕ) × TakesInput bytes source source_now
-    × IsReply makes bytes ending.Done text × Writes text old new
-HasDone makes program ending.Wrong source source_now old new =
+    × IsReply makes bytes status.Done text × Writes text old new
+HasDone makes program status.Wrong source source_now old new =
     (bytes : List ℕ) × (text : List ℕ) × TakesInput bytes source source_now
-    × IsReply makes bytes ending.Wrong text × Writes text old new
-HasDone makes program ending.BadWords source source_now old new =
+    × IsReply makes bytes status.Wrong text × Writes text old new
+HasDone makes program status.BadWords source source_now old new =
     (source_now ≡ source) × OnlySays (program_line program (codes "bad arguments")) old new
-HasDone makes program ending.Refused source source_now old new =
+HasDone makes program status.Refused source source_now old new =
     (bytes : List ℕ) × (why : List ℕ) × TakesInput bytes source source_now × StopsInTime bytes source source_now
-    × IsReply makes bytes ending.Refused why × OnlySays (file_line program dash why) old new
-HasDone makes program ending.Unread source source_now old new =
+    × IsReply makes bytes status.Refused why × OnlySays (file_line program dash why) old new
+HasDone makes program status.Unread source source_now old new =
     FailsInput source source_now × OnlySays (file_line program dash (codes "read fault")) old new
-HasDone makes program ending.Unwritten source source_now old new =
-    (bytes : List ℕ) × (well : Ending) × (text : List ℕ) × TakesInput bytes source source_now
-    × IsReply makes bytes well text × ((well ≡ ending.Done) ⊎ (well ≡ ending.Wrong)) × CutsOff program text old new
-HasDone makes program ending.OutOfMemory source source_now old new =
+HasDone makes program status.Unwritten source source_now old new =
+    (bytes : List ℕ) × (well : Status) × (text : List ℕ) × TakesInput bytes source source_now
+    × IsReply makes bytes well text × ((well ≡ status.Done) ⊎ (well ≡ status.Wrong)) × CutsOff program text old new
+HasDone makes program status.OutOfMemory source source_now old new =
     LeavesInput source source_now × OnlySays (program_line program (codes "out of memory")) old new
 
 -- all that a run does that is given so many words and ends so
-pub record IsProgramRun (makes : List ℕ → Ending → List ℕ → Type 0) (program : List ℕ) (words : ℕ) (end : Ending) (source source_now : Source) (old new : Sinks) : Type 0 where
+pub record IsProgramRun (makes : List ℕ → Status → List ℕ → Type 0) (program : List ℕ) (words : ℕ) (end : Status) (source source_now : Source) (old new : Sinks) : Type 0 where
   pub outcome : HasDone makes program end source source_now old new
   -- words are refused, exactly
-  pub bad_words : end ≡ ending.BadWords → 0 < words
-  pub refused : 0 < words → end ≡ ending.BadWords
+  pub bad_words : end ≡ status.BadWords → 0 < words
+  pub refused : 0 < words → end ≡ status.BadWords
   -- where standard input is told and isn't there, it is unread; and where it is there and no device failed, the run ends
   -- with its reply, or memory ran out
-  pub missing : words ≡ 0 → Lacks source.files dash → end ≡ ending.Unread
-  pub complete : words ≡ 0 → (bytes text : List ℕ) (well : Ending) → TellsInput source.files bytes → IsReply makes bytes well text
-      → (Rose source.faults source_now.faults → ⊥) → (Rose old.outs.faults new.outs.faults → ⊥) → (end ≡ well) ⊎ (end ≡ ending.OutOfMemory)
+  pub missing : words ≡ 0 → Lacks source.files dash → end ≡ status.Unread
+  pub complete : words ≡ 0 → (bytes text : List ℕ) (well : Status) → TellsInput source.files bytes → IsReply makes bytes well text
+      → (Rose source.faults source_now.faults → ⊥) → (Rose old.outs.faults new.outs.faults → ⊥) → (end ≡ well) ⊎ (end ≡ status.OutOfMemory)
   -- a fault of the outputs is told
-  pub unwritten : old.outs.faults < new.outs.faults → end ≡ ending.Unwritten
+  pub unwritten : old.outs.faults < new.outs.faults → end ≡ status.Unwritten

@@ -1,10 +1,10 @@
 -- What a program makes of its whole input.
 use Rattle.std.specs.Prelude.{◌≡◌, ℕ, ◌^◌, ◌<◌, ◌≤◌, ◌⊎◌, List, length, codes}
-use Rattle.small_program.specs.declared.ending.Ending.{Ending}
-use Rattle.small_program.specs.declared.ending.Ending.TheVariants as ending
+use Rattle.run_output.specs.declared.status.Status.{Status}
+use Rattle.run_output.specs.declared.status.Status.TheVariants as status
 
 -- the reply to an input: what the task makes of it, but that one of more than 2^30 bytes is refused
-abbrev pub IsReply : (List ℕ → Ending → List ℕ → Type 0) → List ℕ → Ending → List ℕ → Type 0
+abbrev pub IsReply : (List ℕ → Status → List ℕ → Type 0) → List ℕ → Status → List ℕ → Type 0
 IsReply makes bytes end text =
     ((length bytes ≤ 2 ^ 30) × makes bytes end text)
-    ⊎ ((2 ^ 30 < length bytes) × (end ≡ ending.Refused) × (text ≡ codes "text too long"))
+    ⊎ ((2 ^ 30 < length bytes) × (end ≡ status.Refused) × (text ≡ codes "text too long"))

@@ -5,11 +5,9 @@
 //! once for every such program; a program brings its name and its task.
 #![tactic(auto)]
 
-pub mod ending;
 pub mod input;
 pub mod program;
 pub mod task;
 
-pub use ending::Ending;
 pub use program::{BAD_WORDS, run};
 pub use task::{Replies, Reply};

@@ -6,11 +6,10 @@ ghost use Rattle.small_program.specs.ProgramRun.{IsProgramRun, PutsText};
 ghost use Rattle.small_program.specs.Inner.ProgramRun.{PutsReply};
 ghost use Rattle.small_program.specs.Inner.Reply.{reply_ending, reply_text, stop_ending, stop_line};
 
-use crate::ending::Ending;
 use crate::input::{InputStop, read_all};
 use crate::task::{Replies, Reply};
 use pt_core::{Inputs, Outputs, Sink};
-use run_output::{say_line, say_of_file, write_document};
+use run_output::{Status, say_line, say_of_file, write_document};
 use std::alloc::Global;
 
 /// What the program says where it is given words.
@@ -28,7 +27,7 @@ pub fn run<I: Inputs, O: Outputs, E: Sink, T: Replies>(
     inputs: &mut I,
     outs: &mut O,
     errs: &mut E,
-) -> Ending
+) -> Status
     requires closed { O.is_ready outs.old ≡ false }
     requires ready { E.is_ready errs.old ≡ true }
     ensures { IsProgramRun (T.makes task.now) program.now (length words.now) result
@@ -37,7 +36,7 @@ pub fn run<I: Inputs, O: Outputs, E: Sink, T: Replies>(
 {
     if !words.is_empty() {
         say_line(errs, program, BAD_WORDS);
-        return Ending::BadWords;
+        return Status::BadWords;
     }
     let bytes = match read_all(alloc, inputs) {
         Ok(bytes) => bytes,
@@ -47,13 +46,13 @@ pub fn run<I: Inputs, O: Outputs, E: Sink, T: Replies>(
         Ok(reply) => put_reply(program, reply, outs, errs),
         Err(_) => {
             say_line(errs, program, "out of memory");
-            Ending::OutOfMemory
+            Status::OutOfMemory
         }
     }
 }
 
 /// Says why standard input isn't there whole.
-fn say_stop<E: Sink>(program: &str, stop: InputStop, errs: &mut E) -> Ending
+fn say_stop<E: Sink>(program: &str, stop: InputStop, errs: &mut E) -> Status
     requires { E.is_ready errs.old ≡ true }
     ensures ending { result ≡ stop_ending stop }
     ensures says { IsMessageTo (stop_line program.now stop) E.Sink errs.old errs.new }
@@ -61,32 +60,32 @@ fn say_stop<E: Sink>(program: &str, stop: InputStop, errs: &mut E) -> Ending
     match stop {
         InputStop::Unread => {
             say_of_file(errs, program, "-", "read fault");
-            Ending::Unread
+            Status::Unread
         }
         InputStop::TooLong => {
             say_of_file(errs, program, "-", "text too long");
-            Ending::Refused
+            Status::Refused
         }
         InputStop::OutOfMemory => {
             say_line(errs, program, "out of memory");
-            Ending::OutOfMemory
+            Status::OutOfMemory
         }
     }
 }
 
 /// Writes the document of a reply, or says why there is none.
-fn put_reply<O: Outputs, E: Sink>(program: &str, reply: Reply, outs: &mut O, errs: &mut E) -> Ending
+fn put_reply<O: Outputs, E: Sink>(program: &str, reply: Reply, outs: &mut O, errs: &mut E) -> Status
     requires closed { O.is_ready outs.old ≡ false }
     requires ready { E.is_ready errs.old ≡ true }
     ensures { PutsReply program.now (reply_ending reply) (reply_text reply) result
         (sinks_of O.Sink E.Sink outs.old errs.old) (sinks_of O.Sink E.Sink outs.new errs.new) }
 {
     match reply {
-        Reply::Right(text) => put_text(program, &text, Ending::Done, outs, errs),
-        Reply::Wrong(text) => put_text(program, &text, Ending::Wrong, outs, errs),
+        Reply::Right(text) => put_text(program, &text, Status::Done, outs, errs),
+        Reply::Wrong(text) => put_text(program, &text, Status::Wrong, outs, errs),
         Reply::Refused(why) => {
             say_of_file(errs, program, "-", why);
-            Ending::Refused
+            Status::Refused
         }
     }
 }
@@ -95,10 +94,10 @@ fn put_reply<O: Outputs, E: Sink>(program: &str, reply: Reply, outs: &mut O, err
 fn put_text<O: Outputs, E: Sink>(
     program: &str,
     text: &[u8],
-    well: Ending,
+    well: Status,
     outs: &mut O,
     errs: &mut E,
-) -> Ending
+) -> Status
     requires closed { O.is_ready outs.old ≡ false }
     requires ready { E.is_ready errs.old ≡ true }
     ensures { PutsText program.now well text.now result
@@ -108,7 +107,7 @@ fn put_text<O: Outputs, E: Sink>(
         Ok(()) => well,
         Err(_) => {
             say_of_file(errs, program, "-", "write fault");
-            Ending::Unwritten
+            Status::Unwritten
         }
     }
 }

@@ -2,47 +2,47 @@
 use Rattle.std.proofs.Common.{◌≡◌, ℕ, List, refl, ap, sym, ◌∙◌, subst, codes}
 use Rattle.outline_check.specs.declared.verdict.Verdict.TheVariants.{Right, Wrong, BadProofs}
 use Rattle.outline_check.proofs.OneVerdict.{one_verdict}
-use Rattle.small_program.specs.declared.ending.Ending.{Ending}
-use Rattle.small_program.specs.declared.ending.Ending.TheVariants as ending
+use Rattle.run_output.specs.declared.status.Status.{Status}
+use Rattle.run_output.specs.declared.status.Status.TheVariants as status
 use Rattle.outline_check_run.specs.Verdict.{IsCheckReply, verdict_line}
 
 -- no two endings belong to a text
-pub one_ending : (bytes a b : List ℕ) (this that : Ending) → IsCheckReply bytes this a → IsCheckReply bytes that b → this ≡ that
-one_ending bytes a b ending.Done ending.Done x y = refl
-one_ending bytes a b ending.Done ending.Wrong x y = absurd (let e : Right x.0 ≡ Wrong y.0 = one_verdict bytes (Right x.0) (Wrong y.0) x.1 y.1 in cc)
-one_ending bytes a b ending.Done ending.Refused x y = absurd (let e : Right x.0 ≡ BadProofs = one_verdict bytes (Right x.0) BadProofs x.1 y.0 in cc)
-one_ending bytes a b ending.Wrong ending.Done x y = absurd (let e : Wrong x.0 ≡ Right y.0 = one_verdict bytes (Wrong x.0) (Right y.0) x.1 y.1 in cc)
-one_ending bytes a b ending.Wrong ending.Wrong x y = refl
-one_ending bytes a b ending.Wrong ending.Refused x y = absurd (let e : Wrong x.0 ≡ BadProofs = one_verdict bytes (Wrong x.0) BadProofs x.1 y.0 in cc)
-one_ending bytes a b ending.Refused ending.Done x y = absurd (let e : BadProofs ≡ Right y.0 = one_verdict bytes BadProofs (Right y.0) x.0 y.1 in cc)
-one_ending bytes a b ending.Refused ending.Wrong x y = absurd (let e : BadProofs ≡ Wrong y.0 = one_verdict bytes BadProofs (Wrong y.0) x.0 y.1 in cc)
-one_ending bytes a b ending.Refused ending.Refused x y = refl
-one_ending bytes a b ending.BadWords that x y = absurd x
-one_ending bytes a b ending.Unread that x y = absurd x
-one_ending bytes a b ending.Unwritten that x y = absurd x
-one_ending bytes a b ending.OutOfMemory that x y = absurd x
-one_ending bytes a b this ending.BadWords x y = absurd y
-one_ending bytes a b this ending.Unread x y = absurd y
-one_ending bytes a b this ending.Unwritten x y = absurd y
-one_ending bytes a b this ending.OutOfMemory x y = absurd y
+pub one_ending : (bytes a b : List ℕ) (this that : Status) → IsCheckReply bytes this a → IsCheckReply bytes that b → this ≡ that
+one_ending bytes a b status.Done status.Done x y = refl
+one_ending bytes a b status.Done status.Wrong x y = absurd (let e : Right x.0 ≡ Wrong y.0 = one_verdict bytes (Right x.0) (Wrong y.0) x.1 y.1 in cc)
+one_ending bytes a b status.Done status.Refused x y = absurd (let e : Right x.0 ≡ BadProofs = one_verdict bytes (Right x.0) BadProofs x.1 y.0 in cc)
+one_ending bytes a b status.Wrong status.Done x y = absurd (let e : Wrong x.0 ≡ Right y.0 = one_verdict bytes (Wrong x.0) (Right y.0) x.1 y.1 in cc)
+one_ending bytes a b status.Wrong status.Wrong x y = refl
+one_ending bytes a b status.Wrong status.Refused x y = absurd (let e : Wrong x.0 ≡ BadProofs = one_verdict bytes (Wrong x.0) BadProofs x.1 y.0 in cc)
+one_ending bytes a b status.Refused status.Done x y = absurd (let e : BadProofs ≡ Right y.0 = one_verdict bytes BadProofs (Right y.0) x.0 y.1 in cc)
+one_ending bytes a b status.Refused status.Wrong x y = absurd (let e : BadProofs ≡ Wrong y.0 = one_verdict bytes BadProofs (Wrong y.0) x.0 y.1 in cc)
+one_ending bytes a b status.Refused status.Refused x y = refl
+one_ending bytes a b status.BadWords that x y = absurd x
+one_ending bytes a b status.Unread that x y = absurd x
+one_ending bytes a b status.Unwritten that x y = absurd x
+one_ending bytes a b status.OutOfMemory that x y = absurd x
+one_ending bytes a b this status.BadWords x y = absurd y
+one_ending bytes a b this status.Unread x y = absurd y
+one_ending bytes a b this status.Unwritten x y = absurd y
+one_ending bytes a b this status.OutOfMemory x y = absurd y
 
 -- of one ending there is one line
-one_of_ending : (bytes a b : List ℕ) (this : Ending) → IsCheckReply bytes this a → IsCheckReply bytes this b → a ≡ b
-one_of_ending bytes a b ending.Done x y =
+one_of_ending : (bytes a b : List ℕ) (this : Status) → IsCheckReply bytes this a → IsCheckReply bytes this b → a ≡ b
+one_of_ending bytes a b status.Done x y =
     let e : Right x.0 ≡ Right y.0 = one_verdict bytes (Right x.0) (Right y.0) x.1 y.1 in
     let same : x.0 ≡ y.0 = cc in
     x.2 ∙ ap (verdict_line (codes "right ")) same ∙ sym y.2
-one_of_ending bytes a b ending.Wrong x y =
+one_of_ending bytes a b status.Wrong x y =
     let e : Wrong x.0 ≡ Wrong y.0 = one_verdict bytes (Wrong x.0) (Wrong y.0) x.1 y.1 in
     let same : x.0 ≡ y.0 = cc in
     x.2 ∙ ap (verdict_line (codes "wrong ")) same ∙ sym y.2
-one_of_ending bytes a b ending.Refused x y = x.1 ∙ sym y.1
-one_of_ending bytes a b ending.BadWords x y = absurd x
-one_of_ending bytes a b ending.Unread x y = absurd x
-one_of_ending bytes a b ending.Unwritten x y = absurd x
-one_of_ending bytes a b ending.OutOfMemory x y = absurd x
+one_of_ending bytes a b status.Refused x y = x.1 ∙ sym y.1
+one_of_ending bytes a b status.BadWords x y = absurd x
+one_of_ending bytes a b status.Unread x y = absurd x
+one_of_ending bytes a b status.Unwritten x y = absurd x
+one_of_ending bytes a b status.OutOfMemory x y = absurd x
 
 -- no two lines belong to a text
-pub one_line : (bytes a b : List ℕ) (this that : Ending) → IsCheckReply bytes this a → IsCheckReply bytes that b → a ≡ b
+pub one_line : (bytes a b : List ℕ) (this that : Status) → IsCheckReply bytes this a → IsCheckReply bytes that b → a ≡ b
 one_line bytes a b this that x y =
-    one_of_ending bytes a b that (subst (λ (e : Ending). IsCheckReply bytes e a) (one_ending bytes a b this that x y) x) y
+    one_of_ending bytes a b that (subst (λ (e : Status). IsCheckReply bytes e a) (one_ending bytes a b this that x y) x) y

@@ -73,10 +73,7 @@ abbrev pub EndsHolding : Result Unit Status → Binding → ℕ → (Pixels → 
 EndsHolding (Ok done) b size belongs read held old new = Holds b size belongs read held old new
 EndsHolding (Err status.Unwritten) b size belongs read held old new = HasEnded status.Unwritten read old new
 EndsHolding (Err status.OutOfMemory) b size belongs read held old new = HasEnded status.OutOfMemory read old new
-EndsHolding (Err status.Done) b size belongs read held old new = ⊥
-EndsHolding (Err status.BadWords) b size belongs read held old new = ⊥
-EndsHolding (Err status.Refused) b size belongs read held old new = ⊥
-EndsHolding (Err status.Unread) b size belongs read held old new = ⊥
+EndsHolding (Err s) b size belongs read held old new = ⊥
 
 -- how a call ended that was to carry out what was held, where a document is open, or not: nothing is held, and one is
 -- open as it has to be then; or a part wasn't written, and nothing is held; or memory ran out, and all is as it was
@@ -84,7 +81,4 @@ abbrev pub LeavesBatch : Result Unit Status → Binding → Bool → Bool → Li
 LeavesBatch (Ok done) b is_open is_open_now old new = (new ≡ []) × (is_open_now ≡ is_open_held b is_open old)
 LeavesBatch (Err status.Unwritten) b is_open is_open_now old new = new ≡ []
 LeavesBatch (Err status.OutOfMemory) b is_open is_open_now old new = (new ≡ old) × (is_open_now ≡ is_open)
-LeavesBatch (Err status.Done) b is_open is_open_now old new = ⊥
-LeavesBatch (Err status.BadWords) b is_open is_open_now old new = ⊥
-LeavesBatch (Err status.Refused) b is_open is_open_now old new = ⊥
-LeavesBatch (Err status.Unread) b is_open is_open_now old new = ⊥
+LeavesBatch (Err s) b is_open is_open_now old new = ⊥

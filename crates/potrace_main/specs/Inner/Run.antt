@@ -10,9 +10,10 @@ use Rattle.file_documents.specs.Outcome.{OpensFirst, InputCount}
 use Rattle.potrace_main.specs.Run.{IsOutcomeOf, names_of, RefusesWords, BindsApart, IsOnePassOf, LosesBatchOf}
 
 -- how the outputs moved: where a document couldn't be written one call failed, the last one; else none failed, and no
--- document is open where this is so
+-- document is open where this is so; and no run tells that its input is wrong
 abbrev pub OutputsMove : Type 0 → Status → Sinks → Sinks → Type 0
 OutputsMove Closes status.Unwritten old new = BrokeOff old.outs new.outs
+OutputsMove Closes status.Wrong old new = ⊥
 OutputsMove Closes s old new = AllWent old.outs new.outs × (Closes → new.is_open ≡ false)
 
 -- all that a run does that is asked for this

@@ -1,7 +1,7 @@
 -- How a run ends, and what it says, by a reply or a stop at the input as the program has them.
 use Rattle.std.specs.Prelude.{ℕ, List, codes}
-use Rattle.small_program.specs.declared.ending.Ending.{Ending}
-use Rattle.small_program.specs.declared.ending.Ending.TheVariants as ending
+use Rattle.run_output.specs.declared.status.Status.{Status}
+use Rattle.run_output.specs.declared.status.Status.TheVariants as status
 use Rattle.run_output.specs.Messages.{file_line, program_line}
 use Rattle.run_output.specs.Names.{dash}
 use Rattle.small_program.specs.declared.input.InputStop.{InputStop}
@@ -10,10 +10,10 @@ use Rattle.small_program.specs.declared.task.Reply.{Reply}
 use Rattle.small_program.specs.declared.task.Reply.TheVariants as replies
 
 -- how a run ends with this reply, where its document is written
-abbrev pub reply_ending : Reply → Ending
-reply_ending (replies.Right text) = ending.Done
-reply_ending (replies.Wrong text) = ending.Wrong
-reply_ending (replies.Refused message) = ending.Refused
+abbrev pub reply_ending : Reply → Status
+reply_ending (replies.Right text) = status.Done
+reply_ending (replies.Wrong text) = status.Wrong
+reply_ending (replies.Refused message) = status.Refused
 
 -- the document's text, or why the input is refused
 abbrev pub reply_text : Reply → List ℕ
@@ -22,10 +22,10 @@ reply_text (replies.Wrong text) = text.items
 reply_text (replies.Refused message) = message.now
 
 -- how a run ends that stops so at its input
-abbrev pub stop_ending : InputStop → Ending
-stop_ending stops.Unread = ending.Unread
-stop_ending stops.TooLong = ending.Refused
-stop_ending stops.OutOfMemory = ending.OutOfMemory
+abbrev pub stop_ending : InputStop → Status
+stop_ending stops.Unread = status.Unread
+stop_ending stops.TooLong = status.Refused
+stop_ending stops.OutOfMemory = status.OutOfMemory
 
 -- what a run says that stops so at its input
 abbrev pub stop_line : List ℕ → InputStop → List ℕ
