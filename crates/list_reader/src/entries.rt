@@ -16,6 +16,7 @@ pub struct At<T> {
 /// A kind of entries, of which a line consists.
 pub trait Entries {
     ghost use Rattle.list_reader.specs.Inner.LineEntries.{IsEntry};
+    ghost use Rattle.list_reader.specs.Inner.TextParts.{EndsBehind};
 
     type Value: Drop;
 
@@ -34,8 +35,7 @@ pub trait Entries {
         requires bounded { IsBounded self.now }
         ensures some { IfSome result (λ e. IsEntry text_of (IsIn self.now)
             (drop at text.now) e.value (drop e.end text.now)) }
-        ensures onwards { IfSome result (λ e. at < e.end) }
-        ensures within { IfSome result (λ e. e.end ≤ length text.now) }
+        ensures ends { IfSome result (λ e. EndsBehind at text.now e.end) }
         ensures none { IfNone result ((x : Self.Value) (rest : List ℕ)
             → IsEntry text_of (IsIn self.now) (drop at text.now) x rest → ⊥) };
 }

@@ -1,7 +1,8 @@
 //! Decimal numbers without needless zeros.
 ghost use Rattle.std.specs.Prelude.{◌≡◌, ℕ, ◌*◌, ◌^◌, ◌<◌, ◌≤◌, ◌↔◌, List, All, IfNone, IfSome, IsTrue, decimal, drop, length, slice_index};
 ghost use Rattle.pt_base.specs.Whole.{IsDigit, value_after};
-ghost use Rattle.list_reader.specs.Inner.Numerals.{IsNumeral, IsPlain};
+ghost use Rattle.list_reader.specs.Inner.Numerals.{IsDigitsEnd, IsNumeral, IsPlain, IsPlainValue};
+ghost use Rattle.list_reader.specs.Inner.TextParts.{EndsBehind};
 ghost use Rattle.list_reader.specs.declared.number.TheConstants.{MOST_DIGITS};
 
 /// The most digits of a number below 2^64.
@@ -19,9 +20,7 @@ pub fn read_number(text: &[u8], at: usize, most: u64) -> Option<Number>
     requires { at ≤ length text.now }
     ensures some { IfSome result
         (λ n. IsNumeral most (drop at text.now) n.value (drop n.end text.now)) }
-    ensures onwards { IfSome result (λ n. at < n.end) }
-    ensures within { IfSome result (λ n. n.end ≤ length text.now) }
-    ensures most { IfSome result (λ n. n.value ≤ most) }
+    ensures ends { IfSome result (λ n. EndsBehind at text.now n.end) }
     ensures none { IfNone result ((n : ℕ) (rest : List ℕ) → IsNumeral most (drop at text.now) n rest → ⊥) }
 {
     let end = digits_end(text, at);
@@ -40,10 +39,7 @@ pub fn read_number(text: &[u8], at: usize, most: u64) -> Option<Number>
 /// Where the digits end that stand at this place.
 fn digits_end(text: &[u8], at: usize) -> usize
     requires { at ≤ length text.now }
-    ensures onwards { at ≤ result }
-    ensures within { result ≤ length text.now }
-    ensures digits { (k : ℕ) → at ≤ k → k < result → IsDigit (slice_index text.now k) }
-    ensures stops { ¬ IsDigit (slice_index text.now result) }
+    ensures { IsDigitsEnd text.now at result }
 {
     for k in at..text.len() {
         if !text[k].is_ascii_digit() {
@@ -56,9 +52,7 @@ fn digits_end(text: &[u8], at: usize) -> usize
 /// The value of digits, if there are some, no more than a number below 2^64 has, and no needless zero.
 fn plain_value(digits: &[u8]) -> Option<u128>
     requires { All IsDigit digits.now }
-    ensures some { IfSome result (λ n. 0 < length digits.now) }
-    ensures value { IfSome result (λ n. n ≡ value_after 0 digits.now) }
-    ensures plain { IfSome result (λ n. n < 2 ^ 64 → decimal n ≡ digits.now) }
+    ensures some { IfSome result (λ n. IsPlainValue digits.now n) }
     ensures none { IfNone result ((n : ℕ) → n < 2 ^ 64 → decimal n ≡ digits.now → ⊥) }
 {
     if !is_plain(digits) {

@@ -2,6 +2,7 @@
 ghost use Rattle.std.specs.Prelude.{◌≡◌, ℕ, ◌<◌, ◌≤◌, List, IfNone, IfSome, drop, length};
 ghost use Rattle.pt_base.specs.Whole.{IsDigit};
 ghost use Rattle.list_reader.specs.Inner.LineEntries.{IsPair};
+ghost use Rattle.list_reader.specs.Inner.TextParts.{EndsBehind};
 
 use crate::byte::read_byte;
 use crate::number::read_number;
@@ -26,10 +27,7 @@ pub fn read_pair(
     requires separator { ¬ IsDigit separator }
     ensures some { IfSome result (λ p. IsPair separator most_first most_second (drop at text.now)
         p.first p.second (drop p.end text.now)) }
-    ensures onwards { IfSome result (λ p. at < p.end) }
-    ensures within { IfSome result (λ p. p.end ≤ length text.now) }
-    ensures first { IfSome result (λ p. p.first ≤ most_first) }
-    ensures second { IfSome result (λ p. p.second ≤ most_second) }
+    ensures ends { IfSome result (λ p. EndsBehind at text.now p.end) }
     ensures none { IfNone result ((first second : ℕ) (rest : List ℕ)
         → IsPair separator most_first most_second (drop at text.now) first second rest → ⊥) }
 {

@@ -22,8 +22,6 @@ pub fn read_sides(text: &[u8], word: &[u8]) -> Option<SidesLine>
     ensures some { IfSome result (λ line.
         IsSidesLine word.now text.now line.width line.height line.count (drop line.end text.now)) }
     ensures within { IfSome result (λ line. line.end ≤ length text.now) }
-    ensures width { IfSome result (λ line. line.width ≤ LONGEST_SIDE) }
-    ensures height { IfSome result (λ line. line.height ≤ LONGEST_SIDE) }
     ensures none { IfNone result ((width height count : ℕ) (rest : List ℕ)
         → IsSidesLine word.now text.now width height count rest → ⊥) }
 {

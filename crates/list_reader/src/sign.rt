@@ -3,6 +3,7 @@ ghost use Rattle.std.specs.Prelude.{◌≡◌, ℕ, ◌+◌, ◌<◌, ◌≤◌,
 ghost use Rattle.pt_base.specs.PointsText.{sign_text};
 ghost use Rattle.pt_core.specs.declared.path.Sign.{Sign};
 ghost use Rattle.list_reader.specs.Inner.SignedAreas.{IsSignedArea};
+ghost use Rattle.list_reader.specs.Inner.TextParts.{EndsBehind};
 
 use crate::byte::{has_byte, read_byte};
 use crate::number::read_number;
@@ -27,8 +28,7 @@ fn read_sign(text: &[u8], at: usize) -> Option<usize>
 pub fn read_signed_area(text: &[u8], at: usize) -> Option<usize>
     ensures some { IfSome result (λ end. (sign : Sign) × (area : ℕ)
         × IsSignedArea (drop at text.now) sign area (drop end text.now)) }
-    ensures onwards { IfSome result (λ end. at < end) }
-    ensures within { IfSome result (λ end. end ≤ length text.now) }
+    ensures ends { IfSome result (λ end. EndsBehind at text.now end) }
     ensures none { IfNone result ((sign : Sign) (area : ℕ) (rest : List ℕ)
         → IsSignedArea (drop at text.now) sign area rest → ⊥) }
 {

@@ -8,8 +8,8 @@ pub loop-entry-preserved : goal.loop-entry-preserved
 loop-entry-preserved g c =
     let entry = c.in-Some.ensures.some in
     record {
-      onwards = omega (arith, c.in-Some.ensures.onwards);
-      within = c.in-Some.ensures.within;
+      onwards = omega (arith, c.in-Some.ensures.ends);
+      within = c.in-Some.ensures.ends.1;
       reading = reading_more _ g.E.Entries.text_of (g.E.Entries.IsIn c.args.kind.now) c.requires.entries
           (drop c.args.at c.args.text.now) c.loop-entry.values.items c.push.new.self.items (drop c.loop-entry.here c.args.text.now)
           (drop c.in-Some.entry.end c.args.text.now) c.in-Some.entry.value c.in_ok-push.ensures.items entry.inside entry.is entry.ends

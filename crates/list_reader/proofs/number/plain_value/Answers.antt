@@ -10,9 +10,10 @@ returns-then-not-is_plain-clause-none c = λ n small same.
     absurd (cc)
 
 pub returns-clause-some : goal.returns-clause-some
-returns-clause-some c = (c.is_plain.ensures.0 c.if-not-is_plain.false).0
-
-pub returns-clause-plain : goal.returns-clause-plain
-returns-clause-plain c = λ small.
+returns-clause-some c =
     let plain = c.is_plain.ensures.0 c.if-not-is_plain.false in
-    rw c.value_of.ensures (decimal_of_value c.args.digits.now c.requires plain.0 plain.2 (subst (λ n. n < 2 ^ 64) c.value_of.ensures small))
+    record {
+      some = plain.0;
+      value = c.value_of.ensures;
+      plain = λ small. rw c.value_of.ensures (decimal_of_value c.args.digits.now c.requires plain.0 plain.2 (subst (λ n. n < 2 ^ 64) c.value_of.ensures small));
+    }

@@ -12,7 +12,7 @@ returns-clause-some c =
     let few : c.in-Some.value ≤ c.args.most = omega (arith, c.from.ensures) in
     let small : c.in-Some.value < 2 ^ 64 = omega arith in
     record {
-      text = part_and_rest text at end c.digits_end-end.ensures.onwards ∙ ap (λ ds. ds ++ drop end text) (sym (c.in-Some.ensures.plain small));
+      text = part_and_rest text at end c.digits_end-end.ensures.onwards ∙ ap (λ ds. ds ++ drop end text) (sym (c.in-Some.ensures.some.plain small));
       few = few;
       ends = stops_there text end c.digits_end-end.ensures.stops;
     }
@@ -27,7 +27,7 @@ returns-then-from-value-clause-none c = λ n rest number.
     let same = (digits_are c.args.most (drop at text) part (drop end text) n rest (omega arith) (part_and_rest text at end c.digits_end-end.ensures.onwards)
     digits (stops_there text end c.digits_end-end.ensures.stops) number).0 in
     let few = number.few in
-    omega (arith, c.in-Some.ensures.value, ap (value_after 0) same, value_of_decimal n (omega arith), c.from.ensures)
+    omega (arith, c.in-Some.ensures.some.value, ap (value_after 0) same, value_of_decimal n (omega arith), c.from.ensures)
 
 pub returns-in_default-clause-none : goal.returns-in_default-clause-none
 returns-in_default-clause-none c = λ n rest number.

@@ -34,7 +34,7 @@ pub points-init : goal.points-init
 points-init c =
     first_read c.args.text.now c.args.at c.args.page.now c.width.ensures.page.most_width c.width.ensures.page.most_height c.in_ok-first.first.value c.in_ok-first.first.end
     (at_sides (PointAt (drop c.args.at c.args.text.now) c.in_ok-first.first.value (drop c.in_ok-first.first.end c.args.text.now)) _ _ c.width.result c.height.result c.width.ensures.value c.height.ensures.value c.in_ok-first.ensures.some)
-    c.in_ok-first.ensures.onwards c.in_ok-first.ensures.within
+    c.in_ok-first.ensures.ends.0 c.in_ok-first.ensures.ends.1
 
 pub returns-in_err-next-clause-none : goal.returns-in_err-next-clause-none
 returns-in_err-next-clause-none c =
@@ -60,7 +60,7 @@ returns-then-not-mark_step-clause-none c =
 pub points-preserved : goal.points-preserved
 points-preserved c =
     next_read c.args.text.now c.args.at c.args.page.now c.width.ensures.page.most_width c.width.ensures.page.most_height c.points.page c.mark_step.new.page c.in_ok-first.first.value c.points.last c.in_ok-next.next.value c.points.end c.in_ok-next.next.end c.points.count c.points.invariant
-    (at_sides (PointAt (drop c.points.end c.args.text.now) c.in_ok-next.next.value (drop c.in_ok-next.next.end c.args.text.now)) _ _ c.width.result c.height.result c.width.ensures.value c.height.ensures.value c.in_ok-next.ensures.some) c.in_ok-next.ensures.onwards c.in_ok-next.ensures.within
+    (at_sides (PointAt (drop c.points.end c.args.text.now) c.in_ok-next.next.value (drop c.in_ok-next.next.end c.args.text.now)) _ _ c.width.result c.height.result c.width.ensures.value c.height.ensures.value c.in_ok-next.ensures.some) c.in_ok-next.ensures.ends.0 c.in_ok-next.ensures.ends.1
     c.if-not-mark_step.ensures.step c.if-not-mark_step.ensures.sides c.if-not-mark_step.ensures.marked
 
 pub returns-then-not-makes_loop-clause-none : goal.returns-then-not-makes_loop-clause-none
