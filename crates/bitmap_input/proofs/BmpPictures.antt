@@ -9,7 +9,7 @@ use Rattle.pt_core.specs.Files.{Files}
 use Rattle.bit_image.specs.Image.{Image, IsWhite}
 use Rattle.bit_image.specs.Page.{Page as Pixels, SameSides, image_of, page_of}
 use Rattle.bitmap_input.specs.declared.stop.Stop.{Stop}
-use Rattle.bitmap_input.specs.declared.bmp.header.Header.{Header}
+use Rattle.bitmap_input.specs.declared.bmp.layout.Header.{Header}
 use Rattle.bitmap_input.specs.Cut.{Cut, ◌>>=◌}
 use Rattle.bitmap_input.specs.Cut.Cut.{Takes}
 use Rattle.bitmap_input.specs.PageParts.{repeated}

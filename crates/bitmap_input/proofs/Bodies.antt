@@ -4,7 +4,7 @@ use Rattle.pt_core.specs.Files.{Files}
 use Rattle.bit_image.specs.Image.{IsWhite}
 use Rattle.bit_image.specs.Page.{Page as Pixels, SameSides, image_of, page_of}
 use Rattle.bitmap_input.specs.declared.stop.Stop.{Stop}
-use Rattle.bitmap_input.specs.declared.header.Sides.{Sides}
+use Rattle.bitmap_input.specs.declared.sides.Sides.{Sides}
 use Rattle.bitmap_input.specs.Inner.Header.{IsSides}
 use Rattle.bitmap_input.specs.Cut.{Cut}
 use Rattle.bitmap_input.specs.Cut.Cut.{Takes}

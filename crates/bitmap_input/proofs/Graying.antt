@@ -8,14 +8,14 @@ use Rattle.pt_core.specs.Files.{Files}
 use Rattle.bit_image.specs.Image.{differ}
 use Rattle.bitmap_input.specs.Cut.{Cut}
 use Rattle.bitmap_input.specs.Samples.{PixelSamples, samples_in, samples, grouped}
-use Rattle.bitmap_input.specs.Inner.Shading.{brightness, brightness_at, IsCappedBrightness, is_black_at, black_of, IsInRange}
+use Rattle.bitmap_input.specs.Inner.Shading.{brightness, brightness_at, IsCappedBrightness, is_black_at, black_of}
 use Rattle.bitmap_input.specs.GrayRows.{lowered}
 use Rattle.bitmap_input.specs.Inner.ByteRuns.{cap, IsCapped}
 use Rattle.bitmap_input.specs.Reading.{Buffered}
 use Rattle.bitmap_input.specs.Inner.Reading.{Reads}
 use Rattle.bitmap_input.specs.declared.channels.Channels.{Channels}
 use Rattle.bitmap_input.specs.declared.channels.Channels.TheVariants.{Gray, Color}
-use Rattle.bitmap_input.specs.declared.samples.Shading.{Shading}
+use Rattle.bitmap_input.specs.declared.shading.Shading.{Shading}
 
 -- Two bytes hold a wide sample.
 
@@ -116,10 +116,10 @@ capped_brightness Color limit x (r, g, b) less capped = elim (cases_lt limit (r 
   | inr h ↦ le-leb (r + g + b) limit h ∙ sym (le-leb x limit (omega arith))
 ]
 
-pub capped_black : (s : Shading) → IsInRange s → (x : ℕ) (a : PixelSamples s.channels) → IsCappedBrightness s.channels x a →
+pub capped_black : (s : Shading) (x : ℕ) (a : PixelSamples s.channels) → IsCappedBrightness s.channels x a →
     black_of s a ≡ is_black_at s x
-capped_black s range x a capped =
-    ap (differ s.invert) (capped_brightness s.channels s.limit x a (least_cap s.channels s.limit s.maxval range.most range.limit) capped)
+capped_black s x a capped =
+    ap (differ s.invert) (capped_brightness s.channels s.limit x a (least_cap s.channels s.limit s.maxval s.most s.no_brighter) capped)
 
 -- three numbers that were cut
 pub capped_sum : (x y z r g b : ℕ) → IsCapped x r → IsCapped y g → IsCapped z b → IsCappedBrightness Color (x + y + z) (r, g, b)

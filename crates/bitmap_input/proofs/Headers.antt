@@ -12,7 +12,7 @@ use Rattle.bitmap_input.specs.Inner.ByteRuns.{IsCapped}
 use Rattle.bitmap_input.specs.declared.fault.InFault.TheVariants as fault
 use Rattle.bitmap_input.specs.declared.stop.Stop.{Stop}
 use Rattle.bitmap_input.specs.declared.stop.Stop.TheVariants as stop
-use Rattle.bitmap_input.specs.declared.header.Sides.{Sides}
+use Rattle.bitmap_input.specs.declared.sides.Sides.{Sides}
 use Rattle.bitmap_input.specs.Inner.Header.{IsSides, Checks, ChecksMaxval}
 use Rattle.pt_core.specs.Files.{Files}
 use Rattle.bitmap_input.specs.Reading.{Buffered}

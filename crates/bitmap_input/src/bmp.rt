@@ -1,18 +1,21 @@
 //! BMP pictures.
 ghost use Rattle.std.specs.Prelude.{◌≡◌, ℕ, ◌+◌, ◌-◌, ◌*◌, ◌≤◌, true, length};
-ghost use Rattle.bitmap_input.specs.Inner.Reading.{Reads, Leaves};
+ghost use Rattle.bitmap_input.specs.Inner.Reading.{Reads, ReadsFrom, Leaves};
 ghost use Rattle.bitmap_input.specs.Raw.{Entry, IsShown};
 ghost use Rattle.bitmap_input.specs.Front.Magic.{Picture as picture};
 ghost use Rattle.bitmap_input.specs.Inner.Behind.{IsRead, counted_body};
-ghost use Rattle.bitmap_input.specs.Inner.BmpHead.{IsReadable, IsPaletteTable, bits_in, row_bytes_by, pixels_by, raster_by};
+ghost use Rattle.bitmap_input.specs.Inner.BmpHead.{IsPaletteTable, bits_in, row_bytes_by, pixels_by, raster_by};
 
 mod fields;
 mod head;
 mod header;
+mod info;
+mod layout;
 mod palette;
 mod pixels;
 
-use crate::bmp::header::{Header, read_header};
+use crate::bmp::header::read_header;
+use crate::bmp::layout::Header;
 use crate::bmp::palette::read_palette;
 use crate::bmp::pixels::{Tone, read_rows};
 use crate::buffer::Buffer;
@@ -26,7 +29,6 @@ use threshold_map::Level;
 
 /// The bytes of a row.
 fn row_bytes(header: &Header) -> u32
-    requires { IsReadable header.now }
     ensures value { result ≡ row_bytes_by header.now }
     ensures whole { header.now.width * bits_in header.now.depth ≤ 8 * result }
 {
@@ -40,12 +42,11 @@ fn read_pixels<I: Inputs>(
     inputs: &mut I,
     header: &Header,
     tone: &Tone,
-    table: &[bool],
+    table: &[bool; 256],
 ) -> Result<Bitmap, Stop>
     requires opened { I.is_opened inputs.old ≡ true }
-    requires readable { IsReadable header.now }
-    requires table { length table.now ≡ 256 }
-    ensures reads { (color : ℕ → Entry) → IsPaletteTable tone.now.level tone.now.invert color table.now
+    ensures reads { (color : ℕ → Entry) → IsPaletteTable tone.now.level tone.now.invert color
+        table.now
         → Reads (IsShown tone.now.level tone.now.invert) (pixels_by header.now color) buffer.old
         (I.files inputs.old) result buffer.new (I.files inputs.new) }
     ensures leaves { Leaves I.Inputs result inputs.old inputs.new }
@@ -66,10 +67,8 @@ fn read_raster<I: Inputs>(
     tone: &Tone,
 ) -> Result<Bitmap, Stop>
     requires opened { I.is_opened inputs.old ≡ true }
-    requires readable { IsReadable header.now }
-    ensures reads { Reads (IsShown tone.now.level tone.now.invert) (raster_by header.now) buffer.old
-        (I.files inputs.old) result buffer.new (I.files inputs.new) }
-    ensures leaves { Leaves I.Inputs result inputs.old inputs.new }
+    ensures reads { ReadsFrom I.Inputs (IsShown tone.now.level tone.now.invert) (raster_by
+        header.now) buffer.old inputs.old result buffer.new inputs.new }
 {
     let mut table = [false; 256];
     read_palette(buffer, inputs, header, tone, &mut table)?;
@@ -79,7 +78,6 @@ fn read_raster<I: Inputs>(
 
 /// How many bytes the picture claims behind its last row.
 fn behind(header: &Header) -> u32
-    requires { IsReadable header.now }
     ensures { result ≡ header.now.file_size -
         (header.now.pixel_offset + header.now.height * row_bytes_by header.now) }
 {
@@ -103,9 +101,8 @@ pub(crate) fn read_bmp<I: Inputs>(
     invert: bool,
 ) -> Result<ReadPage, Stop>
     requires { I.is_opened inputs.old ≡ true }
-    ensures reads { Reads (IsRead level.now invert) (counted_body picture) buffer.old
-        (I.files inputs.old) result buffer.new (I.files inputs.new) }
-    ensures leaves { Leaves I.Inputs result inputs.old inputs.new }
+    ensures reads { ReadsFrom I.Inputs (IsRead level.now invert) (counted_body picture) buffer.old
+        inputs.old result buffer.new inputs.new }
 {
     let header = read_header(buffer, inputs)?;
     let tone = Tone {

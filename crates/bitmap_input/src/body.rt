@@ -1,6 +1,6 @@
 //! What follows the magic of a page.
 ghost use Rattle.std.specs.Prelude.{◌≡◌, ℕ, ◌≤◌, true, Bool};
-ghost use Rattle.bitmap_input.specs.Inner.Reading.{Reads, Leaves};
+ghost use Rattle.bitmap_input.specs.Inner.Reading.{Reads, ReadsFrom, Leaves};
 ghost use Rattle.bitmap_input.specs.Front.{body, rows_raster};
 ghost use Rattle.bitmap_input.specs.Front.Magic.{PlainBits as plain_bits, RawBits as raw_bits, PlainSamples as plain_samples, RawSamples as raw_samples};
 ghost use Rattle.bitmap_input.specs.Inner.Behind.{IsRead, counted_body};
@@ -14,9 +14,11 @@ use crate::bmp::read_bmp;
 use crate::buffer::Buffer;
 use crate::channels::Channels;
 use crate::extent::{ReadPage, claiming_none};
-use crate::header::{Format, Sides, read_maxval, read_sides, skip_space};
+use crate::header::{Format, read_maxval, read_sides, skip_space};
 use crate::raster::{Raster, read_page};
-use crate::samples::{Shading, brightest_black, row_bytes};
+use crate::samples::{brightest_black, row_bytes};
+use crate::shading::Shading;
+use crate::sides::Sides;
 use crate::stop::Stop;
 use bit_image::Bitmap;
 use pt_core::{Inputs, LONGEST_SIDE};
@@ -87,9 +89,8 @@ fn read_plain_samples_body<I: Inputs>(
     invert: bool,
 ) -> Result<Bitmap, Stop>
     requires { I.is_opened inputs.old ≡ true }
-    ensures reads { Reads (IsShown level.now invert) (body (plain_samples channels)) buffer.old
-        (I.files inputs.old) result buffer.new (I.files inputs.new) }
-    ensures leaves { Leaves I.Inputs result inputs.old inputs.new }
+    ensures reads { ReadsFrom I.Inputs (IsShown level.now invert) (body (plain_samples channels))
+        buffer.old inputs.old result buffer.new inputs.new }
 {
     let sides = read_sides(buffer, inputs)?;
     let maxval = read_maxval(buffer, inputs)?;
@@ -118,9 +119,8 @@ fn read_raw_samples<I: Inputs>(
     shading: Shading,
 ) -> Result<Bitmap, Stop>
     requires opened { I.is_opened inputs.old ≡ true }
-    requires width { (1 ≤ sides.width) × (sides.width ≤ LONGEST_SIDE) }
-    requires height { (1 ≤ sides.height) × (sides.height ≤ LONGEST_SIDE) }
-    ensures reads { (level : ℕ) (invert : Bool) → IsAtLevel level invert (raw_samples_raster shading)
+    ensures reads { (level : ℕ) (invert : Bool) → IsAtLevel level invert (raw_samples_raster
+        shading)
         → Reads (IsShown level invert) (rows_raster (as_entry shading.channels shading.maxval)
         (raw_samples_row shading.channels shading.maxval sides.width) sides.width sides.height)
         buffer.old (I.files inputs.old) result buffer.new (I.files inputs.new) }
@@ -147,9 +147,8 @@ fn read_raw_samples_body<I: Inputs>(
     invert: bool,
 ) -> Result<Bitmap, Stop>
     requires { I.is_opened inputs.old ≡ true }
-    ensures reads { Reads (IsShown level.now invert) (body (raw_samples channels)) buffer.old
-        (I.files inputs.old) result buffer.new (I.files inputs.new) }
-    ensures leaves { Leaves I.Inputs result inputs.old inputs.new }
+    ensures reads { ReadsFrom I.Inputs (IsShown level.now invert) (body (raw_samples channels))
+        buffer.old inputs.old result buffer.new inputs.new }
 {
     let sides = read_sides(buffer, inputs)?;
     let maxval = read_maxval(buffer, inputs)?;
@@ -173,9 +172,8 @@ pub(crate) fn read_body<I: Inputs>(
     invert: bool,
 ) -> Result<ReadPage, Stop>
     requires { I.is_opened inputs.old ≡ true }
-    ensures reads { Reads (IsRead level.now invert) (counted_body (magic_of format)) buffer.old
-        (I.files inputs.old) result buffer.new (I.files inputs.new) }
-    ensures leaves { Leaves I.Inputs result inputs.old inputs.new }
+    ensures reads { ReadsFrom I.Inputs (IsRead level.now invert) (counted_body (magic_of format))
+        buffer.old inputs.old result buffer.new inputs.new }
 {
     match format {
         Format::PlainBits => claiming_none(read_plain_body(alloc, buffer, inputs, invert)),

@@ -1,8 +1,7 @@
 //! The bytes that were taken from the inputs and not used yet.
-ghost use Rattle.std.specs.Prelude.{◌≡◌, ℕ, ◌≤◌, ◌<◌, true, false, length, take, drop, [], ◌∷◌, ◌++◌, IfOk, OnOk, OnErr};
-ghost use Rattle.pt_core.specs.Counts.{Rose};
-ghost use Rattle.bitmap_input.specs.Reading.{Moves};
-ghost use Rattle.bitmap_input.specs.Inner.Buffer.{IsFirst, Looks, CountsLook};
+ghost use Rattle.std.specs.Prelude.{◌≡◌, ℕ, ◌≤◌, ◌<◌, true, false, length, take, drop, [], ◌∷◌, ◌++◌, IfOk};
+ghost use Rattle.bitmap_input.specs.Inner.Buffer.{IsFirst, Fills, CountsRead, Looks, CountsLook};
+ghost use Rattle.bitmap_input.specs.Inner.Reading.{LeavesCounting};
 
 use pt_core::{DeviceFault, Inputs, NoMemory};
 use std::alloc::Global;
@@ -82,18 +81,8 @@ impl Buffer {
         requires opened { I.is_opened inputs.old ≡ true }
         requires none_left { self.old.bytes ≡ [] }
         requires going_on { self.old.ended ≡ false }
-        ensures moves { OnOk result
-            (Moves false (I.files inputs.old) self.new.ended (I.files inputs.new) self.new.bytes) }
-        ensures some { OnOk result (self.new.ended ≡ false → 0 < length self.new.bytes) }
-        ensures none { OnOk result (self.new.ended ≡ true → self.new.bytes ≡ []) }
-        ensures within { OnOk result (length self.new.bytes ≤ 65536) }
-        ensures same { OnErr result (self.new ≡ self.old) }
-        ensures nothing { OnErr result (I.files inputs.new ≡ I.files inputs.old) }
-        ensures steady { OnOk result (I.faults inputs.new ≡ I.faults inputs.old) }
-        ensures cause { OnErr result (Rose (I.faults inputs.old) (I.faults inputs.new)) }
-        ensures never_falls { I.faults inputs.old ≤ I.faults inputs.new }
-        ensures stays_opened { I.is_opened inputs.new ≡ true }
-        ensures same_openings { I.openings inputs.new ≡ I.openings inputs.old }
+        ensures fills { Fills self.old (I.files inputs.old) result self.new (I.files inputs.new) }
+        ensures leaves { LeavesCounting I.Inputs (CountsRead result) inputs.old inputs.new }
     {
         let n = inputs.read(&mut self.buf)?;
         self.start = 0;
@@ -118,9 +107,7 @@ impl Buffer {
     pub(crate) fn look<I: Inputs>(&mut self, inputs: &mut I) -> Look
         requires { I.is_opened inputs.old ≡ true }
         ensures looks { Looks self.old (I.files inputs.old) result self.new (I.files inputs.new) }
-        ensures counts { CountsLook result (I.faults inputs.old) (I.faults inputs.new) }
-        ensures stays_opened { I.is_opened inputs.new ≡ true }
-        ensures same_openings { I.openings inputs.new ≡ I.openings inputs.old }
+        ensures leaves { LeavesCounting I.Inputs (CountsLook result) inputs.old inputs.new }
     {
         if let Some(byte) = self.first() {
             return Look::Byte(byte);

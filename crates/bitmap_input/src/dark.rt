@@ -9,11 +9,9 @@ use crate::words::word_of;
 
 /// Whether each of 64 bytes from a place on is dark.
 #[inline(never)]
-fn test_grays(row: &[u8], from: usize, limit: u8, dark: &mut [bool])
-    requires within { from + 64 ≤ length row.now }
-    requires room { length dark.old ≡ 64 }
-    ensures room { length dark.new ≡ 64 }
-    ensures dark { (k : ℕ) → k < 64
+fn test_grays(row: &[u8], from: usize, limit: u8, dark: &mut [bool; 64])
+    requires { from + 64 ≤ length row.now }
+    ensures { (k : ℕ) → k < 64
         → get_or dark.new k false ≡ nat_le (get_or row.now (from + k) 0) limit }
 {
     for i in 0..64usize {
@@ -52,10 +50,8 @@ fn eight_sums(row: &[u8], from: usize, step: usize, at: usize) -> [u16; 8]
 
 /// Whether each of eight sums is dark, noted down from a place on.
 #[inline(always)]
-fn test_eight(sums: &[u16], limit: u16, dark: &mut [bool], at: usize)
-    requires eight { length sums.now ≡ 8 }
-    requires room { at + 8 ≤ length dark.old }
-    ensures room { length dark.new ≡ length dark.old }
+fn test_eight(sums: &[u16; 8], limit: u16, dark: &mut [bool; 64], at: usize)
+    requires few { at ≤ 56 }
     ensures before { (k : ℕ) → k < at → get_or dark.new k false ≡ get_or dark.old k false }
     ensures dark { (k : ℕ) → k < 8
         → get_or dark.new (at + k) false ≡ nat_le (get_or sums.now k 0) limit }
@@ -69,12 +65,10 @@ fn test_eight(sums: &[u16], limit: u16, dark: &mut [bool], at: usize)
 //
 // Eight are summed before the first of them is noted down, since the compiler doesn't know that the lists are apart.
 #[inline(always)]
-fn test_colors(row: &[u8], from: usize, step: usize, limit: u16, dark: &mut [bool])
+fn test_colors(row: &[u8], from: usize, step: usize, limit: u16, dark: &mut [bool; 64])
     requires within { from + step * 64 ≤ length row.now }
     requires least { 3 ≤ step }
-    requires room { length dark.old ≡ 64 }
-    ensures room { length dark.new ≡ 64 }
-    ensures dark { (k : ℕ) → k < 64
+    ensures { (k : ℕ) → k < 64
         → get_or dark.new k false ≡ nat_le (bytes_sum row.now (from + step * k)) limit }
 {
     for j in 0..8usize {

@@ -3,7 +3,7 @@ ghost use Rattle.std.specs.Prelude.{◌≡◌, ℕ, ◌+◌, ◌*◌, ◌<◌, �
 ghost use Rattle.pt_core.specs.Counts.{Rose};
 ghost use Rattle.pt_core.specs.Files.{unread};
 ghost use Rattle.bitmap_input.specs.Reading.{AtEnd, cause_of_fault};
-ghost use Rattle.bitmap_input.specs.Inner.Reading.{Reads, Leaves, HasMemory, TakesNone, cause_of};
+ghost use Rattle.bitmap_input.specs.Inner.Reading.{ReadsFrom, HasMemory, TakesNone, cause_of};
 ghost use Rattle.bitmap_input.specs.GrayRows.{gray_header, gray_row, lowered};
 ghost use Rattle.bitmap_input.specs.GrayReader.{gray_at_start, GivesHead, GivesRow, Refuses, FailsToRead, IfRefused, TellsHead, TellsRow, RefusesPart, held_of};
 ghost use Rattle.bitmap_input.specs.Inner.GrayReader.{IsNoFault};
@@ -230,10 +230,8 @@ fn read_samples<I: Inputs>(
     requires opened { I.is_opened inputs.old ≡ true }
     requires line { length line.old ≡ 2 * LONGEST_SIDE }
     requires width { length row.old ≤ LONGEST_SIDE }
-    ensures reads { Reads (λ _ values. row.new ≡ map lowered values)
-        (gray_row plain maxval (length row.old)) buffer.old (I.files inputs.old) result buffer.new
-        (I.files inputs.new) }
-    ensures leaves { Leaves I.Inputs result inputs.old inputs.new }
+    ensures reads { ReadsFrom I.Inputs (λ _ values. row.new ≡ map lowered values) (gray_row plain
+        maxval (length row.old)) buffer.old inputs.old result buffer.new inputs.new }
     ensures free { TakesNone result }
     ensures same_room { length row.new ≡ length row.old }
     ensures same_line { length line.new ≡ length line.old }

@@ -1,6 +1,6 @@
 //! A gray page row by row: its header, and the samples of one row.
 ghost use Rattle.std.specs.Prelude.{◌≡◌, ℕ, ◌+◌, ◌*◌, ◌<◌, ◌≤◌, true, false, length, map, min, IfOk};
-ghost use Rattle.bitmap_input.specs.Inner.Reading.{Reads, Any, Same, Leaves, TakesNone};
+ghost use Rattle.bitmap_input.specs.Inner.Reading.{ReadsFrom, Any, Same, TakesNone};
 ghost use Rattle.bitmap_input.specs.PageParts.{repeated};
 ghost use Rattle.bitmap_input.specs.Samples.{samples_in, samples, plain_sample, sample_bytes, raw_samples_row};
 ghost use Rattle.bitmap_input.specs.declared.channels.Channels.TheVariants as channels;
@@ -57,9 +57,8 @@ fn kind_of(format: Format) -> Result<bool, Stop>
 /// The magic of a gray page: whether it is plain.
 fn read_gray_kind<I: Inputs>(buffer: &mut Buffer, inputs: &mut I) -> Result<bool, Stop>
     requires { I.is_opened inputs.old ≡ true }
-    ensures reads { Reads Same gray_magic buffer.old (I.files inputs.old) result buffer.new
-        (I.files inputs.new) }
-    ensures leaves { Leaves I.Inputs result inputs.old inputs.new }
+    ensures reads { ReadsFrom I.Inputs Same gray_magic buffer.old inputs.old result buffer.new
+        inputs.new }
     ensures free { TakesNone result }
 {
     let format = read_magic(buffer, inputs, false)?;
@@ -69,9 +68,8 @@ fn read_gray_kind<I: Inputs>(buffer: &mut Buffer, inputs: &mut I) -> Result<bool
 /// Goes on behind the byte that ends a raw page's header.
 fn end_header<I: Inputs>(buffer: &mut Buffer, inputs: &mut I, plain: bool) -> Result<(), Stop>
     requires { I.is_opened inputs.old ≡ true }
-    ensures reads { Reads Any (header_end plain) buffer.old (I.files inputs.old) result buffer.new
-        (I.files inputs.new) }
-    ensures leaves { Leaves I.Inputs result inputs.old inputs.new }
+    ensures reads { ReadsFrom I.Inputs Any (header_end plain) buffer.old inputs.old result
+        buffer.new inputs.new }
     ensures free { TakesNone result }
 {
     if plain {
@@ -88,9 +86,8 @@ fn read_behind_kind<I: Inputs>(
     plain: bool,
 ) -> Result<GrayHeader, Stop>
     requires { I.is_opened inputs.old ≡ true }
-    ensures reads { Reads Same (gray_header_behind plain) buffer.old (I.files inputs.old) result
-        buffer.new (I.files inputs.new) }
-    ensures leaves { Leaves I.Inputs result inputs.old inputs.new }
+    ensures reads { ReadsFrom I.Inputs Same (gray_header_behind plain) buffer.old inputs.old result
+        buffer.new inputs.new }
     ensures free { TakesNone result }
     ensures width { IfOk result (λ h. (1 ≤ h.width) × (h.width ≤ LONGEST_SIDE)) }
     ensures height { IfOk result (λ h. (1 ≤ h.height) × (h.height ≤ LONGEST_SIDE)) }
@@ -113,9 +110,8 @@ pub(crate) fn read_gray_header<I: Inputs>(
     inputs: &mut I,
 ) -> Result<GrayHeader, Stop>
     requires { I.is_opened inputs.old ≡ true }
-    ensures reads { Reads Same gray_header buffer.old (I.files inputs.old) result buffer.new
-        (I.files inputs.new) }
-    ensures leaves { Leaves I.Inputs result inputs.old inputs.new }
+    ensures reads { ReadsFrom I.Inputs Same gray_header buffer.old inputs.old result buffer.new
+        inputs.new }
     ensures free { TakesNone result }
     ensures width { IfOk result (λ h. (1 ≤ h.width) × (h.width ≤ LONGEST_SIDE)) }
     ensures height { IfOk result (λ h. (1 ≤ h.height) × (h.height ≤ LONGEST_SIDE)) }
@@ -145,10 +141,10 @@ pub(crate) fn read_raw_gray_row<I: Inputs>(
     row: &mut [u16],
 ) -> Result<(), Stop>
     requires opened { I.is_opened inputs.old ≡ true }
-    requires whole { length line.old ≡ sample_bytes maxval (samples_in channels.Gray * length row.old) }
-    ensures reads { Reads (λ _ values. row.new ≡ values) (raw_samples_row channels.Gray maxval (length row.old)) buffer.old
-        (I.files inputs.old) result buffer.new (I.files inputs.new) }
-    ensures leaves { Leaves I.Inputs result inputs.old inputs.new }
+    requires whole { length line.old ≡ sample_bytes maxval (samples_in channels.Gray * length
+        row.old) }
+    ensures reads { ReadsFrom I.Inputs (λ _ values. row.new ≡ values) (raw_samples_row channels.Gray
+        maxval (length row.old)) buffer.old inputs.old result buffer.new inputs.new }
     ensures free { TakesNone result }
     ensures same_room { length row.new ≡ length row.old }
 {
@@ -164,10 +160,8 @@ pub(crate) fn read_plain_gray_row<I: Inputs>(
     row: &mut [u16],
 ) -> Result<(), Stop>
     requires opened { I.is_opened inputs.old ≡ true }
-    ensures reads { Reads (λ _ values. row.new ≡ map lowered values)
-        (repeated plain_sample (length row.old)) buffer.old
-        (I.files inputs.old) result buffer.new (I.files inputs.new) }
-    ensures leaves { Leaves I.Inputs result inputs.old inputs.new }
+    ensures reads { ReadsFrom I.Inputs (λ _ values. row.new ≡ map lowered values) (repeated
+        plain_sample (length row.old)) buffer.old inputs.old result buffer.new inputs.new }
     ensures free { TakesNone result }
     ensures same_room { length row.new ≡ length row.old }
 {

@@ -1,6 +1,6 @@
 //! The header of a page: its magic, its sides and its sample for white.
 ghost use Rattle.std.specs.Prelude.{◌≡◌, ℕ, ◌≤◌, true, false, IfOk, if◌then◌else◌, option_map};
-ghost use Rattle.bitmap_input.specs.Inner.Reading.{Reads, Any, Same, Leaves, HasMemory, TakesNone, cause_of};
+ghost use Rattle.bitmap_input.specs.Inner.Reading.{ReadsFrom, Any, Same, HasMemory, TakesNone, cause_of};
 ghost use Rattle.bitmap_input.specs.PageParts.{space};
 ghost use Rattle.bitmap_input.specs.Front.{magic, magic_named, magic_behind, sides, maxval};
 ghost use Rattle.bitmap_input.specs.Inner.Header.{magic_of, IsFormat, IsSides, Checks, ChecksMaxval};
@@ -10,6 +10,7 @@ use crate::channels::Channels;
 use crate::fault::InFault;
 use crate::number::{Section, read_number_behind_gap};
 use crate::run::is_space;
+use crate::sides::Sides;
 use crate::stop::Stop;
 use pt_core::{Inputs, LONGEST_SIDE};
 
@@ -29,13 +30,6 @@ pub(crate) enum Format {
     RawSamples(Channels),
     /// `BM`, a BMP picture.
     Picture,
-}
-
-/// The sides of a page in pixels, each from 1 to the longest one.
-#[derive(Clone, Copy)]
-pub(crate) struct Sides {
-    pub(crate) width: u32,
-    pub(crate) height: u32,
 }
 
 /// No known magic stands where one is due.
@@ -77,9 +71,8 @@ fn read_magic_behind<I: Inputs>(
     first: u8,
 ) -> Result<Format, Stop>
     requires { I.is_opened inputs.old ≡ true }
-    ensures reads { Reads IsFormat (magic_behind later first) buffer.old
-        (I.files inputs.old) result buffer.new (I.files inputs.new) }
-    ensures leaves { Leaves I.Inputs result inputs.old inputs.new }
+    ensures reads { ReadsFrom I.Inputs IsFormat (magic_behind later first) buffer.old inputs.old
+        result buffer.new inputs.new }
     ensures free { TakesNone result }
 {
     match buffer.look(inputs) {
@@ -102,9 +95,8 @@ pub(crate) fn read_magic<I: Inputs>(
     later: bool,
 ) -> Result<Format, Stop>
     requires { I.is_opened inputs.old ≡ true }
-    ensures reads { Reads IsFormat (magic later) buffer.old (I.files inputs.old) result buffer.new
-        (I.files inputs.new) }
-    ensures leaves { Leaves I.Inputs result inputs.old inputs.new }
+    ensures reads { ReadsFrom I.Inputs IsFormat (magic later) buffer.old inputs.old result
+        buffer.new inputs.new }
     ensures free { TakesNone result }
 {
     match buffer.look(inputs) {
@@ -126,9 +118,8 @@ pub(crate) fn read_magic<I: Inputs>(
 /// Goes on behind one byte of whitespace.
 pub(crate) fn skip_space<I: Inputs>(buffer: &mut Buffer, inputs: &mut I) -> Result<(), Stop>
     requires { I.is_opened inputs.old ≡ true }
-    ensures reads { Reads Any space buffer.old (I.files inputs.old) result buffer.new
-        (I.files inputs.new) }
-    ensures leaves { Leaves I.Inputs result inputs.old inputs.new }
+    ensures reads { ReadsFrom I.Inputs Any space buffer.old inputs.old result buffer.new
+        inputs.new }
     ensures free { TakesNone result }
 {
     match buffer.look(inputs) {
@@ -149,8 +140,6 @@ pub(crate) fn skip_space<I: Inputs>(buffer: &mut Buffer, inputs: &mut I) -> Resu
 pub(crate) fn check(width: u32, height: u32) -> Result<Sides, Stop>
     ensures checks { Checks width height result }
     ensures free { TakesNone result }
-    ensures width { IfOk result (λ s. (1 ≤ s.width) × (s.width ≤ LONGEST_SIDE)) }
-    ensures height { IfOk result (λ s. (1 ≤ s.height) × (s.height ≤ LONGEST_SIDE)) }
 {
     if width == 0 || height == 0 {
         return Err(Stop::Fault(InFault::ZeroSide));
@@ -164,12 +153,9 @@ pub(crate) fn check(width: u32, height: u32) -> Result<Sides, Stop>
 /// The width and the height, each behind a gap.
 pub(crate) fn read_sides<I: Inputs>(buffer: &mut Buffer, inputs: &mut I) -> Result<Sides, Stop>
     requires { I.is_opened inputs.old ≡ true }
-    ensures reads { Reads IsSides sides buffer.old (I.files inputs.old) result buffer.new
-        (I.files inputs.new) }
-    ensures leaves { Leaves I.Inputs result inputs.old inputs.new }
+    ensures reads { ReadsFrom I.Inputs IsSides sides buffer.old inputs.old result buffer.new
+        inputs.new }
     ensures free { TakesNone result }
-    ensures width { IfOk result (λ s. (1 ≤ s.width) × (s.width ≤ LONGEST_SIDE)) }
-    ensures height { IfOk result (λ s. (1 ≤ s.height) × (s.height ≤ LONGEST_SIDE)) }
 {
     let width = read_number_behind_gap(buffer, inputs, Section::Header)?;
     let height = read_number_behind_gap(buffer, inputs, Section::Header)?;
@@ -191,9 +177,8 @@ fn check_maxval(number: u32) -> Result<u32, Stop>
 /// The sample for white, behind a gap.
 pub(crate) fn read_maxval<I: Inputs>(buffer: &mut Buffer, inputs: &mut I) -> Result<u32, Stop>
     requires { I.is_opened inputs.old ≡ true }
-    ensures reads { Reads Same maxval buffer.old (I.files inputs.old) result buffer.new
-        (I.files inputs.new) }
-    ensures leaves { Leaves I.Inputs result inputs.old inputs.new }
+    ensures reads { ReadsFrom I.Inputs Same maxval buffer.old inputs.old result buffer.new
+        inputs.new }
     ensures free { TakesNone result }
     ensures range { IfOk result (λ maxval. (1 ≤ maxval) × (maxval ≤ GREATEST_MAXVAL)) }
 {

@@ -34,6 +34,8 @@ mod raw;
 pub mod reader;
 mod run;
 mod samples;
+mod shading;
+mod sides;
 mod skip;
 mod stop;
 mod words;

@@ -1,6 +1,6 @@
 //! Decimal numbers of a header and of a plain raster.
 ghost use Rattle.std.specs.Prelude.{◌≡◌, ℕ, ◌≤◌, true, false, suc, List, ◌∷◌};
-ghost use Rattle.bitmap_input.specs.Inner.Reading.{Reads, Any, Leaves, HasMemory, TakesNone};
+ghost use Rattle.bitmap_input.specs.Inner.Reading.{ReadsFrom, Any, HasMemory, TakesNone};
 ghost use Rattle.bitmap_input.specs.Reading.{cause_of_fault};
 ghost use Rattle.bitmap_input.specs.Reading.Cause.{Says};
 ghost use Rattle.bitmap_input.specs.Cut.FileEnd.{Refused};
@@ -51,9 +51,8 @@ fn is_digit(byte: u8) -> bool
 /// The digits that stand at the front, of which there may be none.
 fn read_digits<I: Inputs>(buffer: &mut Buffer, inputs: &mut I) -> Result<u32, Stop>
     requires { I.is_opened inputs.old ≡ true }
-    ensures reads { Reads IsCapped digits buffer.old (I.files inputs.old) result buffer.new
-        (I.files inputs.new) }
-    ensures leaves { Leaves I.Inputs result inputs.old inputs.new }
+    ensures reads { ReadsFrom I.Inputs IsCapped digits buffer.old inputs.old result buffer.new
+        inputs.new }
     ensures free { TakesNone result }
 {
     let mut value = 0;
@@ -82,9 +81,8 @@ fn read_number<I: Inputs>(
     section: Section,
 ) -> Result<u32, Stop>
     requires { I.is_opened inputs.old ≡ true }
-    ensures reads { Reads IsCapped (number (kind_at section)) buffer.old
-        (I.files inputs.old) result buffer.new (I.files inputs.new) }
-    ensures leaves { Leaves I.Inputs result inputs.old inputs.new }
+    ensures reads { ReadsFrom I.Inputs IsCapped (number (kind_at section)) buffer.old inputs.old
+        result buffer.new inputs.new }
     ensures free { TakesNone result }
 {
     match buffer.look(inputs) {
@@ -103,9 +101,8 @@ fn read_number<I: Inputs>(
 /// Goes on behind whitespace and comments, of which there is at least a byte.
 fn skip_gap<I: Inputs>(buffer: &mut Buffer, inputs: &mut I, section: Section) -> Result<(), Stop>
     requires { I.is_opened inputs.old ≡ true }
-    ensures reads { Reads Any (some_gap (kind_at section)) buffer.old
-        (I.files inputs.old) result buffer.new (I.files inputs.new) }
-    ensures leaves { Leaves I.Inputs result inputs.old inputs.new }
+    ensures reads { ReadsFrom I.Inputs Any (some_gap (kind_at section)) buffer.old inputs.old result
+        buffer.new inputs.new }
     ensures free { TakesNone result }
 {
     match buffer.look(inputs) {
@@ -125,9 +122,8 @@ pub(crate) fn read_number_behind_gap<I: Inputs>(
     section: Section,
 ) -> Result<u32, Stop>
     requires { I.is_opened inputs.old ≡ true }
-    ensures reads { Reads IsCapped (number_behind_gap (kind_at section)) buffer.old
-        (I.files inputs.old) result buffer.new (I.files inputs.new) }
-    ensures leaves { Leaves I.Inputs result inputs.old inputs.new }
+    ensures reads { ReadsFrom I.Inputs IsCapped (number_behind_gap (kind_at section)) buffer.old
+        inputs.old result buffer.new inputs.new }
     ensures free { TakesNone result }
 {
     skip_gap(buffer, inputs, section)?;

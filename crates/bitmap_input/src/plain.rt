@@ -2,7 +2,7 @@
 ghost use Rattle.std.specs.Prelude.{◌≡◌, ℕ, ◌<◌, ◌≤◌, true, false, map};
 ghost use Rattle.bit_image.specs.Image.{differ};
 ghost use Rattle.bit_image.specs.Page.{Page, SameSides, image_of};
-ghost use Rattle.bitmap_input.specs.Inner.Reading.{Reads, Same, Leaves};
+ghost use Rattle.bitmap_input.specs.Inner.Reading.{ReadsFrom, Same};
 ghost use Rattle.bitmap_input.specs.PageParts.{pixel, repeated};
 ghost use Rattle.bitmap_input.specs.Front.{plain_pixel};
 ghost use Rattle.bitmap_input.specs.Inner.Raster.{with_row, with_pixels};
@@ -17,9 +17,8 @@ use pt_core::Inputs;
 /// The character of a pixel: whether it is black.
 fn read_pixel<I: Inputs>(buffer: &mut Buffer, inputs: &mut I) -> Result<bool, Stop>
     requires { I.is_opened inputs.old ≡ true }
-    ensures reads { Reads Same pixel buffer.old (I.files inputs.old) result buffer.new
-        (I.files inputs.new) }
-    ensures leaves { Leaves I.Inputs result inputs.old inputs.new }
+    ensures reads { ReadsFrom I.Inputs Same pixel buffer.old inputs.old result buffer.new
+        inputs.new }
 {
     match buffer.look(inputs) {
         Look::Byte(byte) => {
@@ -38,9 +37,8 @@ fn read_pixel<I: Inputs>(buffer: &mut Buffer, inputs: &mut I) -> Result<bool, St
 /// A pixel, with whitespace and comments before it or not.
 fn read_plain_pixel<I: Inputs>(buffer: &mut Buffer, inputs: &mut I) -> Result<bool, Stop>
     requires { I.is_opened inputs.old ≡ true }
-    ensures reads { Reads Same plain_pixel buffer.old (I.files inputs.old) result buffer.new
-        (I.files inputs.new) }
-    ensures leaves { Leaves I.Inputs result inputs.old inputs.new }
+    ensures reads { ReadsFrom I.Inputs Same plain_pixel buffer.old inputs.old result buffer.new
+        inputs.new }
 {
     match buffer.look(inputs) {
         // Most pixels stand right behind one another.
@@ -71,12 +69,10 @@ pub(crate) fn read_plain_row<I: Inputs>(
 ) -> Result<(), Stop>
     requires opened { I.is_opened inputs.old ≡ true }
     requires row { y < page.old.height }
-    ensures reads { Reads (λ _ pixels. image_of page.new
-        ≡ with_row (image_of page.old) y (map (differ invert) pixels))
-        (repeated plain_pixel page.old.width) buffer.old (I.files inputs.old) result buffer.new
-        (I.files inputs.new) }
+    ensures reads { ReadsFrom I.Inputs (λ _ pixels. image_of page.new ≡ with_row (image_of page.old)
+        y (map (differ invert) pixels)) (repeated plain_pixel page.old.width) buffer.old inputs.old
+        result buffer.new inputs.new }
     ensures sides { SameSides page.old page.new }
-    ensures leaves { Leaves I.Inputs result inputs.old inputs.new }
 {
     for x in 0..page.width() {
         let black = read_plain_pixel(buffer, inputs)?;

@@ -1,22 +1,23 @@
 //! Rasters: the rows of a page, as its format stores them.
 ghost use Rattle.std.specs.Prelude.{◌≡◌, ℕ, ◌<◌, ◌≤◌, true, Bool, length, map};
 ghost use Rattle.bit_image.specs.Page.{Page, SameSides, image_of};
-ghost use Rattle.bitmap_input.specs.Inner.Reading.{Reads, Leaves};
+ghost use Rattle.bitmap_input.specs.Inner.Reading.{Reads, ReadsFrom, Leaves};
 ghost use Rattle.bitmap_input.specs.PageParts.{repeated};
 ghost use Rattle.bitmap_input.specs.Front.{rows_raster};
 ghost use Rattle.bitmap_input.specs.Raw.{IsShown};
 ghost use Rattle.bitmap_input.specs.Inner.Raster.{with_row, with_rows};
-ghost use Rattle.bitmap_input.specs.Inner.Stored.{row_stored, pixel_entry, is_black_pixel, line_bytes, IsAtLevel, IsStoredInRange};
+ghost use Rattle.bitmap_input.specs.Inner.Stored.{row_stored, pixel_entry, is_black_pixel, line_bytes, IsAtLevel};
 
 use crate::buffer::Buffer;
 use crate::extent::known;
-use crate::header::Sides;
 use crate::plain::read_plain_row;
 use crate::raw::read_raw_row;
-use crate::samples::{Shading, read_plain_samples_row, read_raw_samples_row};
+use crate::samples::{read_plain_samples_row, read_raw_samples_row};
+use crate::shading::Shading;
+use crate::sides::Sides;
 use crate::stop::Stop;
 use bit_image::Bitmap;
-use pt_core::{Inputs, LONGEST_SIDE};
+use pt_core::Inputs;
 use std::alloc::Global;
 
 /// How the pixels of a page are stored, and which of them are black.
@@ -43,14 +44,11 @@ fn read_row<I: Inputs>(
 ) -> Result<(), Stop>
     requires opened { I.is_opened inputs.old ≡ true }
     requires row { y < page.old.height }
-    requires range { IsStoredInRange raster }
     requires room { length line.old ≡ line_bytes raster page.old.width }
-    ensures reads { Reads (λ _ row. image_of page.new
-        ≡ with_row (image_of page.old) y (map (is_black_pixel raster) row))
-        (row_stored raster page.old.width) buffer.old (I.files inputs.old) result buffer.new
-        (I.files inputs.new) }
+    ensures reads { ReadsFrom I.Inputs (λ _ row. image_of page.new ≡ with_row (image_of page.old) y
+        (map (is_black_pixel raster) row)) (row_stored raster page.old.width) buffer.old inputs.old
+        result buffer.new inputs.new }
     ensures sides { SameSides page.old page.new }
-    ensures leaves { Leaves I.Inputs result inputs.old inputs.new }
 {
     match raster {
         Raster::PlainBits { invert } => read_plain_row(buffer, inputs, page, y, invert),
@@ -73,14 +71,11 @@ fn read_rows<I: Inputs>(
     line: &mut [u8],
 ) -> Result<(), Stop>
     requires opened { I.is_opened inputs.old ≡ true }
-    requires range { IsStoredInRange raster }
     requires room { length line.old ≡ line_bytes raster page.old.width }
-    ensures reads { Reads (λ _ rows. image_of page.new
-        ≡ with_rows (image_of page.old) page.old.height (map (map (is_black_pixel raster)) rows))
-        (repeated (row_stored raster page.old.width) page.old.height) buffer.old
-        (I.files inputs.old) result buffer.new (I.files inputs.new) }
+    ensures reads { ReadsFrom I.Inputs (λ _ rows. image_of page.new ≡ with_rows (image_of page.old)
+        page.old.height (map (map (is_black_pixel raster)) rows)) (repeated (row_stored raster
+        page.old.width) page.old.height) buffer.old inputs.old result buffer.new inputs.new }
     ensures sides { SameSides page.old page.new }
-    ensures leaves { Leaves I.Inputs result inputs.old inputs.new }
 {
     let mut y = page.height();
     while y > 0 {
@@ -100,9 +95,6 @@ pub(crate) fn read_page<I: Inputs>(
     line: &mut [u8],
 ) -> Result<Bitmap, Stop>
     requires opened { I.is_opened inputs.old ≡ true }
-    requires width { (1 ≤ sides.width) × (sides.width ≤ LONGEST_SIDE) }
-    requires height { (1 ≤ sides.height) × (sides.height ≤ LONGEST_SIDE) }
-    requires range { IsStoredInRange raster }
     requires room { length line.old ≡ line_bytes raster sides.width }
     ensures reads { (level : ℕ) (invert : Bool) → IsAtLevel level invert raster
         → Reads (IsShown level invert)

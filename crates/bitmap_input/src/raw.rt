@@ -2,7 +2,7 @@
 ghost use Rattle.std.specs.Prelude.{◌≡◌, ◌<◌, true, length, take, map};
 ghost use Rattle.bit_image.specs.Image.{differ};
 ghost use Rattle.bit_image.specs.Page.{Page, SameSides, image_of};
-ghost use Rattle.bitmap_input.specs.Inner.Reading.{Reads, Leaves, TakesNone};
+ghost use Rattle.bitmap_input.specs.Inner.Reading.{ReadsFrom, TakesNone};
 ghost use Rattle.bitmap_input.specs.PageParts.{block};
 ghost use Rattle.bitmap_input.specs.Front.{raw_row};
 ghost use Rattle.bitmap_input.specs.Raw.{row_bytes, unpacked};
@@ -21,9 +21,8 @@ pub(crate) fn read_block<I: Inputs>(
     row: &mut [u8],
 ) -> Result<(), Stop>
     requires { I.is_opened inputs.old ≡ true }
-    ensures reads { Reads (λ _ bytes. bytes ≡ row.new) (block (length row.old)) buffer.old
-        (I.files inputs.old) result buffer.new (I.files inputs.new) }
-    ensures leaves { Leaves I.Inputs result inputs.old inputs.new }
+    ensures reads { ReadsFrom I.Inputs (λ _ bytes. bytes ≡ row.new) (block (length row.old))
+        buffer.old inputs.old result buffer.new inputs.new }
     ensures free { TakesNone result }
 {
     let mut done = 0;
@@ -67,12 +66,10 @@ pub(crate) fn read_raw_row<I: Inputs>(
     requires opened { I.is_opened inputs.old ≡ true }
     requires row { y < page.old.height }
     requires whole { length line.old ≡ row_bytes page.old.width }
-    ensures reads { Reads (λ _ pixels. image_of page.new
-        ≡ with_row (image_of page.old) y (map (differ invert) pixels))
-        (raw_row page.old.width) buffer.old (I.files inputs.old) result buffer.new
-        (I.files inputs.new) }
+    ensures reads { ReadsFrom I.Inputs (λ _ pixels. image_of page.new ≡ with_row (image_of page.old)
+        y (map (differ invert) pixels)) (raw_row page.old.width) buffer.old inputs.old result
+        buffer.new inputs.new }
     ensures sides { SameSides page.old page.new }
-    ensures leaves { Leaves I.Inputs result inputs.old inputs.new }
 {
     read_block(buffer, inputs, line)?;
     place_row(page, y, line, invert);

@@ -3,7 +3,7 @@ ghost use Rattle.std.specs.Prelude.{◌≡◌, ℕ, ◌<◌, ◌≤◌, ◌⊎�
 ghost use Rattle.pt_core.specs.Counts.{Rose};
 ghost use Rattle.pt_core.specs.Files.{unread};
 ghost use Rattle.bitmap_input.specs.Reading.{AtEnd};
-ghost use Rattle.bitmap_input.specs.Inner.Reading.{Reads, Leaves};
+ghost use Rattle.bitmap_input.specs.Inner.Reading.{ReadsFrom};
 ghost use Rattle.bitmap_input.specs.Raw.{IsShown};
 ghost use Rattle.bitmap_input.specs.Front.{front, page_at};
 ghost use Rattle.bitmap_input.specs.Front.Answer.{Ends};
@@ -61,9 +61,8 @@ fn read_page<I: Inputs>(
     invert: bool,
 ) -> Result<ReadPage, Stop>
     requires { I.is_opened inputs.old ≡ true }
-    ensures reads { Reads (IsRead level.now invert) (counted_page later) buffer.old
-        (I.files inputs.old) result buffer.new (I.files inputs.new) }
-    ensures leaves { Leaves I.Inputs result inputs.old inputs.new }
+    ensures reads { ReadsFrom I.Inputs (IsRead level.now invert) (counted_page later) buffer.old
+        inputs.old result buffer.new inputs.new }
 {
     skip(buffer, inputs, Run::Space)?;
     let format = read_magic(buffer, inputs, later)?;
@@ -81,10 +80,8 @@ fn read_ahead<I: Inputs>(
     invert: bool,
 ) -> Result<ReadPage, Stop>
     requires { I.is_opened inputs.old ≡ true }
-    ensures reads { Reads (IsRead level.now invert)
-        (λ bytes. counted_page later (drop behind bytes)) buffer.old
-        (I.files inputs.old) result buffer.new (I.files inputs.new) }
-    ensures leaves { Leaves I.Inputs result inputs.old inputs.new }
+    ensures reads { ReadsFrom I.Inputs (IsRead level.now invert) (λ bytes. counted_page later (drop
+        behind bytes)) buffer.old inputs.old result buffer.new inputs.new }
 {
     pass_over(buffer, inputs, behind)?;
     read_page(alloc, buffer, inputs, later, level, invert)

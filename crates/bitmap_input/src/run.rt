@@ -1,6 +1,6 @@
 //! Runs of whitespace and of comments.
 ghost use Rattle.std.specs.Prelude.{◌≡◌, ℕ, true, false, suc, List, ◌∷◌, MatchOption, IsTrue, ◌↔◌};
-ghost use Rattle.bitmap_input.specs.Inner.Reading.{Reads, Any, Leaves, TakesNone};
+ghost use Rattle.bitmap_input.specs.Inner.Reading.{ReadsFrom, Any, TakesNone};
 ghost use Rattle.bitmap_input.specs.PageParts.{is_space};
 ghost use Rattle.bitmap_input.specs.Inner.ByteRuns.{run_size, run_part, Continues};
 
@@ -63,9 +63,8 @@ pub(crate) fn behind(run: Run, byte: u8) -> Option<Run>
 /// Goes on behind a run, which may be empty.
 pub(crate) fn skip<I: Inputs>(buffer: &mut Buffer, inputs: &mut I, run: Run) -> Result<(), Stop>
     requires { I.is_opened inputs.old ≡ true }
-    ensures reads { Reads Any (run_part run) buffer.old (I.files inputs.old) result buffer.new
-        (I.files inputs.new) }
-    ensures leaves { Leaves I.Inputs result inputs.old inputs.new }
+    ensures reads { ReadsFrom I.Inputs Any (run_part run) buffer.old inputs.old result buffer.new
+        inputs.new }
     ensures free { TakesNone result }
 {
     let mut run = run;

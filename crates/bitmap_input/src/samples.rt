@@ -3,12 +3,12 @@
 ghost use Rattle.std.specs.Prelude.{◌≡◌, ℕ, ◌+◌, ◌*◌, ◌<◌, ◌≤◌, true, false, length, map, nat_le, get_or};
 ghost use Rattle.bit_image.specs.Words.{is_one};
 ghost use Rattle.bit_image.specs.Page.{Page, SameSides, image_of};
-ghost use Rattle.bitmap_input.specs.Inner.Reading.{Reads, Leaves};
+ghost use Rattle.bitmap_input.specs.Inner.Reading.{ReadsFrom};
 ghost use Rattle.bitmap_input.specs.PageParts.{repeated};
 ghost use Rattle.bitmap_input.specs.Raw.{is_dark};
 ghost use Rattle.bitmap_input.specs.Samples.{PixelSamples, samples_in, as_entry, plain_samples, is_wide, sample_bytes, samples, grouped, raw_samples_row};
 ghost use Rattle.bitmap_input.specs.Inner.Raster.{with_row};
-ghost use Rattle.bitmap_input.specs.Inner.Shading.{brightness, brightness_at, IsCappedBrightness, is_black_at, black_of, black_in_bytes, IsInRange};
+ghost use Rattle.bitmap_input.specs.Inner.Shading.{brightness, brightness_at, IsCappedBrightness, black_of, black_in_bytes};
 ghost use Rattle.bitmap_input.specs.declared.channels.Channels.TheVariants as channels;
 
 use crate::buffer::Buffer;
@@ -17,32 +17,12 @@ use crate::dark::{color_word, gray_word};
 use crate::header::GREATEST_MAXVAL;
 use crate::number::{Section, read_number_behind_gap};
 use crate::raw::read_block;
+use crate::shading::Shading;
 use crate::stop::Stop;
 use crate::words::{inverted, word_of};
 use bit_image::Bitmap;
 use pt_core::{Inputs, LONGEST_SIDE};
 use threshold_map::Level;
-
-/// How the samples of a page become pixels.
-#[derive(Clone, Copy)]
-pub(crate) struct Shading {
-    pub(crate) channels: Channels,
-    /// The sample that is white, from 1 to 65535.
-    pub(crate) maxval: u32,
-    /// The greatest sum of the samples of a pixel that is black, at most that of a white one.
-    pub(crate) limit: u32,
-    pub(crate) invert: bool,
-}
-
-impl Shading {
-    /// Whether a pixel of this brightness is black.
-    #[inline(always)]
-    fn black(&self, brightness: u32) -> bool
-        ensures { result ≡ is_black_at self.now brightness }
-    {
-        (brightness <= self.limit) != self.invert
-    }
-}
 
 /// The brightness of the brightest pixel that is black, as the sum of its samples.
 //
@@ -63,9 +43,8 @@ pub(crate) fn brightest_black(level: &Level, channels: Channels, maxval: u32) ->
 /// The brightness of a pixel of three samples as numbers.
 fn read_plain_color<I: Inputs>(buffer: &mut Buffer, inputs: &mut I) -> Result<u32, Stop>
     requires { I.is_opened inputs.old ≡ true }
-    ensures reads { Reads (IsCappedBrightness channels.Color) (plain_samples channels.Color)
-        buffer.old (I.files inputs.old) result buffer.new (I.files inputs.new) }
-    ensures leaves { Leaves I.Inputs result inputs.old inputs.new }
+    ensures reads { ReadsFrom I.Inputs (IsCappedBrightness channels.Color) (plain_samples
+        channels.Color) buffer.old inputs.old result buffer.new inputs.new }
 {
     let red = read_number_behind_gap(buffer, inputs, Section::Raster)?;
     let green = read_number_behind_gap(buffer, inputs, Section::Raster)?;
@@ -81,9 +60,8 @@ fn read_plain_samples<I: Inputs>(
     channels: Channels,
 ) -> Result<u32, Stop>
     requires { I.is_opened inputs.old ≡ true }
-    ensures reads { Reads (IsCappedBrightness channels) (plain_samples channels) buffer.old
-        (I.files inputs.old) result buffer.new (I.files inputs.new) }
-    ensures leaves { Leaves I.Inputs result inputs.old inputs.new }
+    ensures reads { ReadsFrom I.Inputs (IsCappedBrightness channels) (plain_samples channels)
+        buffer.old inputs.old result buffer.new inputs.new }
 {
     match channels {
         Channels::Gray => read_number_behind_gap(buffer, inputs, Section::Raster),
@@ -101,13 +79,10 @@ pub(crate) fn read_plain_samples_row<I: Inputs>(
 ) -> Result<(), Stop>
     requires opened { I.is_opened inputs.old ≡ true }
     requires row { y < page.old.height }
-    requires range { IsInRange shading.now }
-    ensures reads { Reads (λ _ row. image_of page.new
-        ≡ with_row (image_of page.old) y (map (black_of shading.now) row))
-        (repeated (plain_samples shading.now.channels) page.old.width) buffer.old
-        (I.files inputs.old) result buffer.new (I.files inputs.new) }
+    ensures reads { ReadsFrom I.Inputs (λ _ row. image_of page.new ≡ with_row (image_of page.old) y
+        (map (black_of shading.now) row)) (repeated (plain_samples shading.now.channels)
+        page.old.width) buffer.old inputs.old result buffer.new inputs.new }
     ensures sides { SameSides page.old page.new }
-    ensures leaves { Leaves I.Inputs result inputs.old inputs.new }
 {
     for x in 0..page.width() {
         let brightness = read_plain_samples(buffer, inputs, shading.channels)?;
@@ -185,7 +160,8 @@ fn word_by_pixels(row: &[u8], from: usize, count: usize, shading: &Shading) -> u
     requires column { from ≤ LONGEST_SIDE }
     requires within { samples_in shading.now.channels * (from + count)
         ≤ length (samples (is_wide shading.now.maxval) row.now) }
-    ensures { (k : ℕ) → k < count → is_one result k ≡ black_in_bytes shading.now row.now (from + k) }
+    ensures { (k : ℕ) → k < count → is_one result k ≡ black_in_bytes shading.now row.now (from +
+        k) }
 {
     let wide = is_wide(shading.maxval);
     let mut pixels = [false; 64];
@@ -202,7 +178,8 @@ fn word(row: &[u8], from: usize, count: usize, shading: &Shading) -> u64
     requires column { from ≤ LONGEST_SIDE }
     requires within { samples_in shading.now.channels * (from + count)
         ≤ length (samples (is_wide shading.now.maxval) row.now) }
-    ensures { (k : ℕ) → k < count → is_one result k ≡ black_in_bytes shading.now row.now (from + k) }
+    ensures { (k : ℕ) → k < count → is_one result k ≡ black_in_bytes shading.now row.now (from +
+        k) }
 {
     if count < 64 || is_wide(shading.maxval) {
         word_by_pixels(row, from, count, shading)
@@ -242,12 +219,10 @@ pub(crate) fn read_raw_samples_row<I: Inputs>(
     requires row { y < page.old.height }
     requires whole { length line.old
         ≡ sample_bytes shading.now.maxval (samples_in shading.now.channels * page.old.width) }
-    ensures reads { Reads (λ _ row. image_of page.new
-        ≡ with_row (image_of page.old) y (map (black_of shading.now) row))
-        (raw_samples_row shading.now.channels shading.now.maxval page.old.width) buffer.old
-        (I.files inputs.old) result buffer.new (I.files inputs.new) }
+    ensures reads { ReadsFrom I.Inputs (λ _ row. image_of page.new ≡ with_row (image_of page.old) y
+        (map (black_of shading.now) row)) (raw_samples_row shading.now.channels shading.now.maxval
+        page.old.width) buffer.old inputs.old result buffer.new inputs.new }
     ensures sides { SameSides page.old page.new }
-    ensures leaves { Leaves I.Inputs result inputs.old inputs.new }
 {
     read_block(buffer, inputs, line)?;
     place_row(page, y, line, shading);

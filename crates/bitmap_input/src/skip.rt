@@ -1,6 +1,6 @@
 //! Bytes that are passed over.
 ghost use Rattle.std.specs.Prelude.{◌≡◌, true};
-ghost use Rattle.bitmap_input.specs.Inner.Reading.{Reads, Any, Same, Leaves};
+ghost use Rattle.bitmap_input.specs.Inner.Reading.{ReadsFrom, Any, Same};
 ghost use Rattle.bitmap_input.specs.PageParts.{block};
 ghost use Rattle.bitmap_input.specs.Inner.Skip.{passed_over};
 
@@ -14,9 +14,8 @@ use pt_core::Inputs;
 /// No memory is taken for them.
 pub(crate) fn pass_over<I: Inputs>(buffer: &mut Buffer, inputs: &mut I, n: u32) -> Result<u32, Stop>
     requires { I.is_opened inputs.old ≡ true }
-    ensures reads { Reads Same (passed_over n) buffer.old (I.files inputs.old) result buffer.new
-        (I.files inputs.new) }
-    ensures leaves { Leaves I.Inputs result inputs.old inputs.new }
+    ensures reads { ReadsFrom I.Inputs Same (passed_over n) buffer.old inputs.old result buffer.new
+        inputs.new }
 {
     let mut left = n;
     while left > 0 {
@@ -32,9 +31,8 @@ pub(crate) fn pass_over<I: Inputs>(buffer: &mut Buffer, inputs: &mut I, n: u32) 
 /// Goes on behind n bytes.
 pub(crate) fn skip_block<I: Inputs>(buffer: &mut Buffer, inputs: &mut I, n: u32) -> Result<(), Stop>
     requires { I.is_opened inputs.old ≡ true }
-    ensures reads { Reads Any (block n) buffer.old (I.files inputs.old) result buffer.new
-        (I.files inputs.new) }
-    ensures leaves { Leaves I.Inputs result inputs.old inputs.new }
+    ensures reads { ReadsFrom I.Inputs Any (block n) buffer.old inputs.old result buffer.new
+        inputs.new }
 {
     let missing = pass_over(buffer, inputs, n)?;
     if missing == 0 {

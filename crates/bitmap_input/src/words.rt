@@ -29,8 +29,7 @@ fn byte_at(pixels: &[bool], at: usize) -> u64
 //
 // It stands alone: where it is inlined, the compiler turns its products into longer ones of vectors.
 #[inline(never)]
-pub(crate) fn word_of(pixels: &[bool]) -> u64
-    requires { length pixels.now ≡ 64 }
+pub(crate) fn word_of(pixels: &[bool; 64]) -> u64
     ensures { (k : ℕ) → k < 64 → is_one result k ≡ get_or pixels.now k false }
 {
     let mut word = 0;

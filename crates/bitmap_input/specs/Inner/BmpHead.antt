@@ -1,6 +1,5 @@
 -- The bytes of a BMP header in the program, and what it makes of them.
 use Rattle.std.specs.Prelude.{◌≡◌, ℕ, ◌+◌, ◌-◌, ◌^◌, ◌≤◌, ◌<◌, true, false, Bool, List, length, slice_index_or, suc, ◌*◌, ◌/◌, reverse, if◌then◌else◌, Option, Some, None, Result, Ok, Err}
-use Rattle.pt_core.specs.declared.limits.TheConstants.{LONGEST_SIDE}
 use Rattle.bitmap_input.specs.Cut.{FileEnd, Cut, ◌>>=◌}
 use Rattle.bitmap_input.specs.Cut.Cut.{Takes, Stops}
 use Rattle.bitmap_input.specs.Inner.Reading.{cause_of}
@@ -14,7 +13,7 @@ use Rattle.bitmap_input.specs.BmpRaster.{color_at, bit_at, half_at, palette_colo
 use Rattle.bitmap_input.specs.declared.stop.Stop.{Stop}
 use Rattle.bitmap_input.specs.declared.bmp.fields.Depth.{Depth}
 use Rattle.bitmap_input.specs.declared.bmp.fields.Depth.TheVariants as depth
-use Rattle.bitmap_input.specs.declared.bmp.header.Header.{Header}
+use Rattle.bitmap_input.specs.declared.bmp.layout.Header.{Header}
 
 -- the first bytes of a header, with a known size
 pub record IsHeaderStart (head : List ℕ) : Type 0 where
@@ -72,17 +71,6 @@ pub record IsHeader (h : Header) (head : List ℕ) : Type 0 where
   pub before_pixels : pixel_offset head - palette_end head ≡ h.before_pixels
   pub pixel_offset : pixel_offset head ≡ h.pixel_offset
   pub file_size : file_size head ≡ h.file_size
-
--- the numbers of a header are within those of a page that is read
-pub record IsReadable (h : Header) : Type 0 where
-  pub some_width : 1 ≤ h.width
-  pub most_width : h.width ≤ LONGEST_SIDE
-  pub some_height : 1 ≤ h.height
-  pub most_height : h.height ≤ LONGEST_SIDE
-  pub most_colors : h.palette_length ≤ 256
-  pub some_bytes : 3 ≤ h.color_bytes
-  pub most_bytes : h.color_bytes ≤ 4
-  pub behind_magic : 2 ≤ h.pixel_offset
 
 -- a check that takes no bytes answers so, whatever the bytes
 abbrev pub Passes : {X A : Type 0} → (X → A → Type 0) → (List ℕ → Cut A) → Result X Stop → Type 0

@@ -1,5 +1,5 @@
 -- A look at the next byte through a buffer.
-use Rattle.std.specs.Prelude.{◌≡◌, ℕ, ◌≤◌, ◌⊎◌, true, false, List, [], ◌∷◌, ◌++◌, length, Option, Some, None}
+use Rattle.std.specs.Prelude.{◌≡◌, ℕ, ◌≤◌, ◌<◌, ◌⊎◌, true, false, List, [], ◌∷◌, ◌++◌, length, Option, Some, None, Result, Ok, Err}
 use Rattle.pt_core.specs.Counts.{Rose}
 use Rattle.pt_core.specs.Files.{Files}
 use Rattle.bitmap_input.specs.Reading.{Buffered, Moves}
@@ -24,7 +24,24 @@ Looks old files (Byte b) new now = ReadsOn old files new now × ((bs : List ℕ)
 Looks old files End new now = ReadsOn old files new now × ((new.bytes ≡ []) × (new.ended ≡ true))
 Looks old files Fault new now = (new ≡ old) × (now ≡ files) × (old.bytes ≡ []) × (old.ended ≡ false)
 
+-- bytes were read into the buffer, which was empty: at most 65,536, and none where the file has ended
+pub record IsFilled (before : Option Files) (new : Buffered) (now : Option Files) : Type 0 where
+  pub moves : Moves false before new.ended now new.bytes
+  pub some : new.ended ≡ false → 0 < length new.bytes
+  pub none : new.ended ≡ true → new.bytes ≡ []
+  pub within : length new.bytes ≤ 65536
+
+-- the empty buffer was filled; or the read failed, and all is as it was
+abbrev pub Fills : {X E : Type 0} → Buffered → Option Files → Result X E → Buffered → Option Files → Type 0
+Fills old before (Ok done) new now = IsFilled before new now
+Fills old before (Err fault) new now = (new ≡ old) × (now ≡ before)
+
 -- the inputs' count of faults rises where the read failed, and else it stays
+abbrev pub CountsRead : {X E : Type 0} → Result X E → ℕ → ℕ → Type 0
+CountsRead (Ok done) before now = now ≡ before
+CountsRead (Err fault) before now = Rose before now × (before ≤ now)
+
+-- the same of a look
 abbrev pub CountsLook : Look → ℕ → ℕ → Type 0
 CountsLook (Byte b) before now = now ≡ before
 CountsLook End before now = now ≡ before

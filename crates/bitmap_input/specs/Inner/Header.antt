@@ -10,7 +10,7 @@ use Rattle.bitmap_input.specs.Reading.Cause.{Says}
 use Rattle.bitmap_input.specs.declared.stop.Stop.{Stop}
 use Rattle.bitmap_input.specs.declared.header.Format.{Format}
 use Rattle.bitmap_input.specs.declared.header.Format.TheVariants as format
-use Rattle.bitmap_input.specs.declared.header.Sides.{Sides}
+use Rattle.bitmap_input.specs.declared.sides.Sides.{Sides}
 
 -- the format that a magic names
 abbrev pub magic_of : Format → Magic

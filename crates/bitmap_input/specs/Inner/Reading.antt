@@ -68,9 +68,19 @@ abbrev pub TakesNone : {X : Type 0} → Result X Stop → Type 0
 TakesNone (Ok x) = Unit {0}
 TakesNone (Err s) = HasMemory (cause_of s)
 
--- how a step leaves the inputs, by what is told of them: the file stays opened, and none was opened
--- anew; the count of faults rose where a read failed, and else it is the same
-pub record Leaves {A X : Type 0} (told : Ghosts A) (result : Result X Stop) (before now : A) : Type 0 where
-  pub counts : Counts result (told.faults before) (told.faults now)
+-- how inputs are left, by what is told of them: their count of faults moved so, the file stays opened, and none was opened
+-- anew
+pub record LeavesCounting {A : Type 0} (told : Ghosts A) (moves : ℕ → ℕ → Type 0) (before now : A) : Type 0 where
+  pub counts : moves (told.faults before) (told.faults now)
   pub opened : told.is_opened now ≡ true
   pub same_openings : told.openings now ≡ told.openings before
+
+-- how a step leaves the inputs: the count of faults rose where a read failed, and else it is the same
+abbrev pub Leaves : {A X : Type 0} → Ghosts A → Result X Stop → A → A → Type 0
+Leaves told result before now = LeavesCounting told (Counts result) before now
+
+-- a step of the reader through inputs, by what is told of them: it reads this part and answers as the part says, and leaves
+-- the inputs so
+pub record ReadsFrom {A X B : Type 0} (told : Ghosts B) (is : X → A → Type 0) (part : List ℕ → Cut A) (old : Buffered) (before : B) (result : Result X Stop) (new : Buffered) (now : B) : Type 0 where
+  pub step : Reads is part old (told.files before) result new (told.files now)
+  pub leaves : Leaves told result before now

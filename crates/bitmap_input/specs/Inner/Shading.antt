@@ -1,12 +1,11 @@
 -- How the samples of a pixel become a black pixel or a white one, in the program.
-use Rattle.std.specs.Prelude.{◌≡◌, ℕ, ◌+◌, ◌*◌, ◌≤◌, Bool, List, min, nat_le, get_or}
+use Rattle.std.specs.Prelude.{◌≡◌, ℕ, ◌+◌, ◌*◌, Bool, List, min, nat_le, get_or}
 use Rattle.bit_image.specs.Image.{differ}
-use Rattle.bitmap_input.specs.Front.{greatest_maxval}
 use Rattle.bitmap_input.specs.Inner.ByteRuns.{cap}
 use Rattle.bitmap_input.specs.Samples.{PixelSamples, samples_in, is_wide, samples}
 use Rattle.bitmap_input.specs.declared.channels.Channels.{Channels}
 use Rattle.bitmap_input.specs.declared.channels.Channels.TheVariants.{Gray, Color}
-use Rattle.bitmap_input.specs.declared.samples.Shading.{Shading}
+use Rattle.bitmap_input.specs.declared.shading.Shading.{Shading}
 
 -- the brightness of a pixel: the sum of its samples
 abbrev pub brightness : (c : Channels) → PixelSamples c → ℕ
@@ -38,8 +37,3 @@ black_of s a = is_black_at s (brightness s.channels a)
 -- whether the pixel in column x of a row of bytes is black
 abbrev pub black_in_bytes : Shading → List ℕ → ℕ → Bool
 black_in_bytes s row x = is_black_at s (brightness_at s.channels (samples (is_wide s.maxval) row) x)
-
--- the sample for white is at most 65535, and no pixel that is brighter than white is black
-pub record IsInRange (s : Shading) : Type 0 where
-  pub most : s.maxval ≤ greatest_maxval
-  pub limit : s.limit ≤ samples_in s.channels * s.maxval

@@ -7,7 +7,7 @@ use Rattle.bitmap_input.specs.Raw.{Entry, black, row_bytes}
 use Rattle.bitmap_input.specs.Raw.Entry.{Bit}
 use Rattle.bitmap_input.specs.Front.{plain_pixel, raw_row}
 use Rattle.bitmap_input.specs.Samples.{PixelSamples, samples_in, as_entry, plain_samples, raw_samples_row, sample_bytes}
-use Rattle.bitmap_input.specs.Inner.Shading.{black_of, IsInRange}
+use Rattle.bitmap_input.specs.Inner.Shading.{black_of}
 use Rattle.bitmap_input.specs.declared.raster.Raster.{Raster}
 use Rattle.bitmap_input.specs.declared.raster.Raster.TheVariants.{PlainBits, RawBits, PlainSamples, RawSamples}
 
@@ -49,10 +49,3 @@ line_bytes (RawSamples s) width = sample_bytes s.maxval (samples_in s.channels *
 -- the pixels that are black are those at this level, inverted or not
 abbrev pub IsAtLevel : ℕ → Bool → Raster → Type 0
 IsAtLevel level invert r = (a : StoredPixel r) → black level invert (pixel_entry r a) ≡ is_black_pixel r a
-
--- where samples stand as numbers, the shading is in range
-abbrev pub IsStoredInRange : Raster → Type 0
-IsStoredInRange (PlainBits invert) = Unit {0}
-IsStoredInRange (RawBits invert) = Unit {0}
-IsStoredInRange (PlainSamples s) = IsInRange s
-IsStoredInRange (RawSamples s) = Unit {0}

@@ -1,9 +1,9 @@
 //! Fields of the header of a BMP picture.
 ghost use Rattle.std.specs.Prelude.{◌≡◌, ◌≤◌, true, not, ◌||◌, ◌^◌, nat_le, length};
 ghost use Rattle.bitmap_input.specs.BmpHeader.{is_short, planes, bits, compression, colors_used, is_known_size, stated_width, stated_height, width, height, is_top_down, mask_bytes, has_masks, has_known_masks, has_known_colors, has_palette, palette_length, color_bytes, palette_end};
-ghost use Rattle.bitmap_input.specs.Inner.BmpHead.{HasInfo, IsKnownDepth, IsDepth, IsMostColors, bits_in};
+ghost use Rattle.bitmap_input.specs.Inner.BmpHead.{IsKnownDepth, IsDepth, IsMostColors, bits_in};
 
-use crate::bmp::head::Head;
+use crate::bmp::info::Info;
 
 /// How many bits a pixel has.
 #[derive(Clone, Copy)]
@@ -39,49 +39,52 @@ pub(crate) fn is_known_size(size: u32) -> bool
 }
 
 /// The oldest header, whose numbers have two bytes.
-pub(crate) fn is_short(head: &Head) -> bool
-    requires { HasInfo head.now }
-    ensures { result ≡ is_short head.now }
+pub(crate) fn is_short(info: &Info) -> bool
+    ensures { result ≡ is_short info.now.head.now }
 {
-    head.four_at(14) == 12
+    info.head.four_at(14) == 12
 }
 
-fn planes(head: &Head) -> u32
-    requires { HasInfo head.now }
-    ensures { result ≡ planes head.now }
+fn planes(info: &Info) -> u32
+    ensures { result ≡ planes info.now.head.now }
 {
-    if is_short(head) {
-        head.two_at(22)
+    if is_short(info) {
+        info.head.two_at(22)
     } else {
-        head.two_at(26)
+        info.head.two_at(26)
     }
 }
 
-fn bits(head: &Head) -> u32
-    requires { HasInfo head.now }
-    ensures { result ≡ bits head.now }
+fn bits(info: &Info) -> u32
+    ensures { result ≡ bits info.now.head.now }
 {
-    if is_short(head) {
-        head.two_at(24)
+    if is_short(info) {
+        info.head.two_at(24)
     } else {
-        head.two_at(28)
+        info.head.two_at(28)
     }
 }
 
 /// How the pixels are stored: plainly where this is 0, and with masks where it is 3.
-pub(crate) fn compression(head: &Head) -> u32
-    requires { HasInfo head.now }
-    ensures { result ≡ compression head.now }
+pub(crate) fn compression(info: &Info) -> u32
+    ensures { result ≡ compression info.now.head.now }
 {
-    if is_short(head) { 0 } else { head.four_at(30) }
+    if is_short(info) {
+        0
+    } else {
+        info.head.four_at(30)
+    }
 }
 
 /// How many colours the palette has, where this isn't 0.
-pub(crate) fn colors_used(head: &Head) -> u32
-    requires { HasInfo head.now }
-    ensures { result ≡ colors_used head.now }
+pub(crate) fn colors_used(info: &Info) -> u32
+    ensures { result ≡ colors_used info.now.head.now }
 {
-    if is_short(head) { 0 } else { head.four_at(46) }
+    if is_short(info) {
+        0
+    } else {
+        info.head.four_at(46)
+    }
 }
 
 /// The depth of pixels of so many bits, plainly stored or with masks.
@@ -105,36 +108,33 @@ fn known_depth(bits: u32, compression: u32) -> Option<Depth>
 }
 
 /// The depth of the pixels, where they are of a kind that is read.
-pub(crate) fn pixel_depth(head: &Head) -> Option<Depth>
-    requires { HasInfo head.now }
-    ensures { IsDepth head.now result }
+pub(crate) fn pixel_depth(info: &Info) -> Option<Depth>
+    ensures { IsDepth info.now.head.now result }
 {
-    if planes(head) == 1 {
-        known_depth(bits(head), compression(head))
+    if planes(info) == 1 {
+        known_depth(bits(info), compression(info))
     } else {
         None
     }
 }
 
-fn stated_width(head: &Head) -> u32
-    requires { HasInfo head.now }
-    ensures { result ≡ stated_width head.now }
+fn stated_width(info: &Info) -> u32
+    ensures { result ≡ stated_width info.now.head.now }
 {
-    if is_short(head) {
-        head.two_at(18)
+    if is_short(info) {
+        info.head.two_at(18)
     } else {
-        head.four_at(18)
+        info.head.four_at(18)
     }
 }
 
-fn stated_height(head: &Head) -> u32
-    requires { HasInfo head.now }
-    ensures { result ≡ stated_height head.now }
+fn stated_height(info: &Info) -> u32
+    ensures { result ≡ stated_height info.now.head.now }
 {
-    if is_short(head) {
-        head.two_at(20)
+    if is_short(info) {
+        info.head.two_at(20)
     } else {
-        head.four_at(22)
+        info.head.four_at(22)
     }
 }
 
@@ -142,20 +142,18 @@ fn stated_height(head: &Head) -> u32
 const SIGN: u32 = 2147483648;
 
 /// The width in pixels, or 0 where it is negative.
-pub(crate) fn width(head: &Head) -> u32
-    requires { HasInfo head.now }
-    ensures { result ≡ width head.now }
+pub(crate) fn width(info: &Info) -> u32
+    ensures { result ≡ width info.now.head.now }
 {
-    let width = stated_width(head);
+    let width = stated_width(info);
     if width >= SIGN { 0 } else { width }
 }
 
 /// The height in pixels.
-pub(crate) fn height(head: &Head) -> u32
-    requires { HasInfo head.now }
-    ensures { result ≡ height head.now }
+pub(crate) fn height(info: &Info) -> u32
+    ensures { result ≡ height info.now.head.now }
 {
-    let height = stated_height(head);
+    let height = stated_height(info);
     if height >= SIGN {
         u32::MAX - height + 1
     } else {
@@ -164,20 +162,18 @@ pub(crate) fn height(head: &Head) -> u32
 }
 
 /// Whether the top row comes first, and not the lowest one.
-pub(crate) fn is_top_down(head: &Head) -> bool
-    requires { HasInfo head.now }
-    ensures { result ≡ is_top_down head.now }
+pub(crate) fn is_top_down(info: &Info) -> bool
+    ensures { result ≡ is_top_down info.now.head.now }
 {
-    stated_height(head) >= SIGN
+    stated_height(info) >= SIGN
 }
 
 /// The bytes of the masks behind the header.
-pub(crate) fn mask_bytes(head: &Head) -> u32
-    requires { HasInfo head.now }
-    ensures value { result ≡ mask_bytes head.now }
+pub(crate) fn mask_bytes(info: &Info) -> u32
+    ensures value { result ≡ mask_bytes info.now.head.now }
     ensures most { result ≤ 12 }
 {
-    if head.four_at(14) == 40 && compression(head) == 3 {
+    if info.head.four_at(14) == 40 && compression(info) == 3 {
         12
     } else {
         0
@@ -185,13 +181,13 @@ pub(crate) fn mask_bytes(head: &Head) -> u32
 }
 
 /// The masks of red, green and blue are those of a pixel without masks.
-fn has_known_masks(head: &Head) -> bool
-    requires { 64 ≤ length head.now }
-    ensures { result ≡ has_known_masks head.now }
+fn has_known_masks(info: &Info) -> bool
+    requires { 64 ≤ length info.now.head.now }
+    ensures { result ≡ has_known_masks info.now.head.now }
 {
-    head.four_at(54) == 0x00ff0000
-        && head.four_at(58) == 0x0000ff00
-        && head.four_at(62) == 0x000000ff
+    info.head.four_at(54) == 0x00ff0000
+        && info.head.four_at(58) == 0x0000ff00
+        && info.head.four_at(62) == 0x000000ff
 }
 
 /// How many colours pixels of this depth can number, where they are numbers of colours.
@@ -207,49 +203,46 @@ fn most_colors(depth: Depth) -> Option<u32>
 }
 
 /// No more colours are used than the pixels can number.
-fn has_known_palette(head: &Head, depth: Depth) -> bool
-    requires info { HasInfo head.now }
-    requires kind { bits head.now ≡ bits_in depth }
-    ensures { result ≡ (not (has_palette head.now) || nat_le (colors_used head.now)
-        (2 ^ bits head.now)) }
+fn has_known_palette(info: &Info, depth: Depth) -> bool
+    requires kind { bits info.now.head.now ≡ bits_in depth }
+    ensures { result ≡ (not (has_palette info.now.head.now) || nat_le (colors_used
+        info.now.head.now)
+        (2 ^ bits info.now.head.now)) }
 {
     match most_colors(depth) {
-        Some(most) => colors_used(head) <= most,
+        Some(most) => colors_used(info) <= most,
         None => true,
     }
 }
 
 /// Whether the masks are read, and no more colours are used than the pixels can number.
-pub(crate) fn has_known_colors(head: &Head, depth: Depth) -> bool
-    requires info { HasInfo head.now }
-    requires masked { has_masks head.now ≡ true → 64 ≤ length head.now }
-    requires kind { bits head.now ≡ bits_in depth }
-    ensures { result ≡ has_known_colors head.now }
+pub(crate) fn has_known_colors(info: &Info, depth: Depth) -> bool
+    requires masked { has_masks info.now.head.now ≡ true → 64 ≤ length info.now.head.now }
+    requires kind { bits info.now.head.now ≡ bits_in depth }
+    ensures { result ≡ has_known_colors info.now.head.now }
 {
-    (compression(head) != 3 || has_known_masks(head)) && has_known_palette(head, depth)
+    (compression(info) != 3 || has_known_masks(info)) && has_known_palette(info, depth)
 }
 
 /// The bytes of a colour of the palette.
-pub(crate) fn color_bytes(head: &Head) -> u32
-    requires { HasInfo head.now }
-    ensures value { result ≡ color_bytes head.now }
+pub(crate) fn color_bytes(info: &Info) -> u32
+    ensures value { result ≡ color_bytes info.now.head.now }
     ensures least { 3 ≤ result }
     ensures most { result ≤ 4 }
 {
-    if is_short(head) { 3 } else { 4 }
+    if is_short(info) { 3 } else { 4 }
 }
 
 /// The colours of the palette.
-pub(crate) fn palette_length(head: &Head, depth: Depth) -> u32
-    requires info { HasInfo head.now }
-    requires kind { bits head.now ≡ bits_in depth }
-    requires colors { has_known_colors head.now ≡ true }
-    ensures value { result ≡ palette_length head.now }
+pub(crate) fn palette_length(info: &Info, depth: Depth) -> u32
+    requires kind { bits info.now.head.now ≡ bits_in depth }
+    requires colors { has_known_colors info.now.head.now ≡ true }
+    ensures value { result ≡ palette_length info.now.head.now }
     ensures most { result ≤ 256 }
 {
     match most_colors(depth) {
         Some(most) => {
-            let used = colors_used(head);
+            let used = colors_used(info);
             if used == 0 { most } else { used }
         }
         None => 0,
@@ -257,13 +250,12 @@ pub(crate) fn palette_length(head: &Head, depth: Depth) -> u32
 }
 
 /// The place behind the header, its masks and its palette.
-pub(crate) fn palette_end(head: &Head, depth: Depth) -> u32
-    requires info { HasInfo head.now }
-    requires kind { bits head.now ≡ bits_in depth }
-    requires colors { has_known_colors head.now ≡ true }
-    ensures value { result ≡ palette_end head.now }
+pub(crate) fn palette_end(info: &Info, depth: Depth) -> u32
+    requires kind { bits info.now.head.now ≡ bits_in depth }
+    requires colors { has_known_colors info.now.head.now ≡ true }
+    ensures value { result ≡ palette_end info.now.head.now }
     ensures least { 14 ≤ result }
 {
-    let colors = color_bytes(head) * palette_length(head, depth);
-    14 + head.four_at(14) + mask_bytes(head) + colors
+    let colors = color_bytes(info) * palette_length(info, depth);
+    14 + info.head.four_at(14) + mask_bytes(info) + colors
 }

@@ -1,6 +1,6 @@
 //! The first bytes of a BMP picture, behind its magic.
 ghost use Rattle.std.specs.Prelude.{◌≡◌, ℕ, ◌+◌, ◌-◌, ◌<◌, ◌≤◌, true, false, length, take, [], ◌++◌, OnOk};
-ghost use Rattle.bitmap_input.specs.Inner.Reading.{Reads, Leaves};
+ghost use Rattle.bitmap_input.specs.Inner.Reading.{ReadsFrom};
 ghost use Rattle.bitmap_input.specs.PageParts.{block};
 ghost use Rattle.bitmap_input.specs.BmpHeader.{two_at, four_at};
 
@@ -41,10 +41,9 @@ fn read_into<I: Inputs>(
     requires opened { I.is_opened inputs.old ≡ true }
     requires order { from ≤ to }
     requires within { to ≤ length bytes.old }
-    ensures reads { Reads (λ _ more. take to bytes.new ≡ take from bytes.old ++ more)
-        (block (to - from)) buffer.old (I.files inputs.old) result buffer.new (I.files inputs.new) }
+    ensures reads { ReadsFrom I.Inputs (λ _ more. take to bytes.new ≡ take from bytes.old ++ more)
+        (block (to - from)) buffer.old inputs.old result buffer.new inputs.new }
     ensures same_room { length bytes.new ≡ length bytes.old }
-    ensures leaves { Leaves I.Inputs result inputs.old inputs.new }
 {
     read_block(buffer, inputs, &mut bytes[from..to])
 }
@@ -69,10 +68,9 @@ impl Head {
     ) -> Result<(), Stop>
         requires opened { I.is_opened inputs.old ≡ true }
         requires room { length self.old + n ≤ 136 }
-        ensures reads { Reads (λ _ more. self.new ≡ self.old ++ more) (block n) buffer.old
-            (I.files inputs.old) result buffer.new (I.files inputs.new) }
+        ensures reads { ReadsFrom I.Inputs (λ _ more. self.new ≡ self.old ++ more) (block n)
+            buffer.old inputs.old result buffer.new inputs.new }
         ensures reach { OnOk result (length self.new ≡ length self.old + n) }
-        ensures leaves { Leaves I.Inputs result inputs.old inputs.new }
     {
         let end = self.len + n;
         read_into(buffer, inputs, &mut self.bytes, self.len, end)?;

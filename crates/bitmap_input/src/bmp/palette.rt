@@ -1,12 +1,12 @@
 //! The palette of a BMP picture.
 ghost use Rattle.std.specs.Prelude.{◌≡◌, ℕ, ◌*◌, ◌≤◌, ◌<◌, true, length};
-ghost use Rattle.bitmap_input.specs.Inner.Reading.{Reads, Leaves};
+ghost use Rattle.bitmap_input.specs.Inner.Reading.{ReadsFrom};
 ghost use Rattle.bitmap_input.specs.PageParts.{block};
 ghost use Rattle.bitmap_input.specs.Raw.{black};
 ghost use Rattle.bitmap_input.specs.BmpRaster.{palette_color};
-ghost use Rattle.bitmap_input.specs.Inner.BmpHead.{IsPaletteTable, IsReadable};
+ghost use Rattle.bitmap_input.specs.Inner.BmpHead.{IsPaletteTable};
 
-use crate::bmp::header::Header;
+use crate::bmp::layout::Header;
 use crate::bmp::pixels::Tone;
 use crate::buffer::Buffer;
 use crate::raw::read_block;
@@ -32,15 +32,13 @@ fn is_black(tone: &Tone, colors: u32, size: u32, palette: &[u8], i: u32) -> bool
 /// Fills the table of which colours of a palette are black pixels.
 //
 // It is one of bools and not of bits: one load and no shift a pixel.
-fn fill_table(tone: &Tone, colors: u32, size: u32, palette: &[u8], table: &mut [bool])
+fn fill_table(tone: &Tone, colors: u32, size: u32, palette: &[u8], table: &mut [bool; 256])
     requires few { colors ≤ 256 }
     requires some { 3 ≤ size }
     requires small { size ≤ 4 }
     requires whole { length palette.now ≡ size * colors }
-    requires room { length table.old ≡ 256 }
     ensures table { IsPaletteTable tone.now.level tone.now.invert
         (palette_color colors size palette.now) table.new }
-    ensures room { length table.new ≡ 256 }
 {
     for i in 0..256u32 {
         table[i as usize] = is_black(tone, colors, size, palette, i);
@@ -54,18 +52,14 @@ fn read_colors<I: Inputs>(
     header: &Header,
     tone: &Tone,
     palette: &mut [u8],
-    table: &mut [bool],
+    table: &mut [bool; 256],
 ) -> Result<(), Stop>
     requires opened { I.is_opened inputs.old ≡ true }
-    requires readable { IsReadable header.now }
     requires whole { length palette.old ≡ header.now.color_bytes * header.now.palette_length }
-    requires room { length table.old ≡ 256 }
-    ensures reads { Reads (λ _ palette. IsPaletteTable tone.now.level tone.now.invert
-        (palette_color header.now.palette_length header.now.color_bytes palette) table.new)
-        (block (header.now.color_bytes * header.now.palette_length)) buffer.old
-        (I.files inputs.old) result buffer.new (I.files inputs.new) }
-    ensures room { length table.new ≡ 256 }
-    ensures leaves { Leaves I.Inputs result inputs.old inputs.new }
+    ensures reads { ReadsFrom I.Inputs (λ _ palette. IsPaletteTable tone.now.level tone.now.invert
+        (palette_color header.now.palette_length header.now.color_bytes palette) table.new) (block
+        (header.now.color_bytes * header.now.palette_length)) buffer.old inputs.old result
+        buffer.new inputs.new }
 {
     read_block(buffer, inputs, palette)?;
     fill_table(
@@ -87,17 +81,13 @@ pub(crate) fn read_palette<I: Inputs>(
     inputs: &mut I,
     header: &Header,
     tone: &Tone,
-    table: &mut [bool],
+    table: &mut [bool; 256],
 ) -> Result<(), Stop>
     requires opened { I.is_opened inputs.old ≡ true }
-    requires readable { IsReadable header.now }
-    requires room { length table.old ≡ 256 }
-    ensures reads { Reads (λ _ palette. IsPaletteTable tone.now.level tone.now.invert
-        (palette_color header.now.palette_length header.now.color_bytes palette) table.new)
-        (block (header.now.color_bytes * header.now.palette_length)) buffer.old
-        (I.files inputs.old) result buffer.new (I.files inputs.new) }
-    ensures room { length table.new ≡ 256 }
-    ensures leaves { Leaves I.Inputs result inputs.old inputs.new }
+    ensures reads { ReadsFrom I.Inputs (λ _ palette. IsPaletteTable tone.now.level tone.now.invert
+        (palette_color header.now.palette_length header.now.color_bytes palette) table.new) (block
+        (header.now.color_bytes * header.now.palette_length)) buffer.old inputs.old result
+        buffer.new inputs.new }
 {
     let mut palette = [0u8; ROOM];
     let n = (header.color_bytes * header.palette_length) as usize;

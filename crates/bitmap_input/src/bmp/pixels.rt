@@ -8,11 +8,11 @@ ghost use Rattle.bitmap_input.specs.PageParts.{block, repeated};
 ghost use Rattle.bitmap_input.specs.Raw.{Entry, black};
 ghost use Rattle.bitmap_input.specs.Raw.Entry.{Color as color};
 ghost use Rattle.bitmap_input.specs.BmpRaster.{color_at, bit_at, half_at, palette_color, color_row};
-ghost use Rattle.bitmap_input.specs.Inner.BmpHead.{IsPaletteTable, IsReadable, bits_in, shade_in, row_place, row_bytes_by};
+ghost use Rattle.bitmap_input.specs.Inner.BmpHead.{IsPaletteTable, bits_in, shade_in, row_place, row_bytes_by};
 ghost use Rattle.bitmap_input.specs.Inner.Raster.{with_row, with_placed};
 
 use crate::bmp::fields::Depth;
-use crate::bmp::header::Header;
+use crate::bmp::layout::Header;
 use crate::buffer::Buffer;
 use crate::dark::color_word;
 use crate::raw::{place_row as place_bits, read_block};
@@ -67,9 +67,8 @@ fn half(row: &[u8], x: usize) -> usize
 
 /// Whether the pixel in column x of a row is black, by a table of the palette.
 #[inline(always)]
-fn shade(depth: Depth, tone: &Tone, table: &[bool], row: &[u8], x: usize) -> bool
-    requires table { length table.now ≡ 256 }
-    requires within { (x + 1) * bits_in depth ≤ 8 * length row.now }
+fn shade(depth: Depth, tone: &Tone, table: &[bool; 256], row: &[u8], x: usize) -> bool
+    requires { (x + 1) * bits_in depth ≤ 8 * length row.now }
     ensures { result ≡ shade_in depth tone.now.level tone.now.invert table.now row.now x }
 {
     match depth {
@@ -85,12 +84,11 @@ fn shade(depth: Depth, tone: &Tone, table: &[bool], row: &[u8], x: usize) -> boo
 fn word_by_pixels(
     depth: Depth,
     tone: &Tone,
-    table: &[bool],
+    table: &[bool; 256],
     row: &[u8],
     from: usize,
     count: usize,
 ) -> u64
-    requires table { length table.now ≡ 256 }
     requires few { count ≤ 64 }
     requires column { from ≤ LONGEST_SIDE }
     requires within { (from + count) * bits_in depth ≤ 8 * length row.now }
@@ -117,8 +115,7 @@ fn colors_word(tone: &Tone, row: &[u8], from: usize, step: usize) -> u64
 }
 
 /// The word of 64 pixels of a row, from one column on.
-fn full_word(depth: Depth, tone: &Tone, table: &[bool], row: &[u8], from: usize) -> u64
-    requires table { length table.now ≡ 256 }
+fn full_word(depth: Depth, tone: &Tone, table: &[bool; 256], row: &[u8], from: usize) -> u64
     requires column { from ≤ LONGEST_SIDE }
     requires within { (from + 64) * bits_in depth ≤ 8 * length row.now }
     ensures { (k : ℕ) → k < 64 → is_one result k
@@ -134,8 +131,14 @@ fn full_word(depth: Depth, tone: &Tone, table: &[bool], row: &[u8], from: usize)
 }
 
 /// The word of so many pixels of a row, from one column on.
-fn word(depth: Depth, tone: &Tone, table: &[bool], row: &[u8], from: usize, count: usize) -> u64
-    requires table { length table.now ≡ 256 }
+fn word(
+    depth: Depth,
+    tone: &Tone,
+    table: &[bool; 256],
+    row: &[u8],
+    from: usize,
+    count: usize,
+) -> u64
     requires few { count ≤ 64 }
     requires column { from ≤ LONGEST_SIDE }
     requires within { (from + count) * bits_in depth ≤ 8 * length row.now }
@@ -150,9 +153,15 @@ fn word(depth: Depth, tone: &Tone, table: &[bool], row: &[u8], from: usize, coun
 }
 
 /// Puts a row of bytes into row y, word by word.
-fn place_words(page: &mut Bitmap, y: u32, depth: Depth, tone: &Tone, table: &[bool], row: &[u8])
+fn place_words(
+    page: &mut Bitmap,
+    y: u32,
+    depth: Depth,
+    tone: &Tone,
+    table: &[bool; 256],
+    row: &[u8],
+)
     requires row { y < page.old.height }
-    requires table { length table.now ≡ 256 }
     requires whole { page.old.width * bits_in depth ≤ 8 * length row.now }
     ensures sides { SameSides page.old page.new }
     ensures pixels { image_of page.new ≡ with_row (image_of page.old) y
@@ -172,8 +181,7 @@ fn place_words(page: &mut Bitmap, y: u32, depth: Depth, tone: &Tone, table: &[bo
 }
 
 /// Whether one of the first two colours is black and the other isn't.
-fn are_apart(table: &[bool]) -> bool
-    requires { length table.now ≡ 256 }
+fn are_apart(table: &[bool; 256]) -> bool
     ensures { result ≡ true
         → slice_index_or table.now 1 false ≡ not (slice_index_or table.now 0 false) }
 {
@@ -182,9 +190,8 @@ fn are_apart(table: &[bool]) -> bool
 
 /// Puts a row of bytes into row y. Bits are taken as they are packed, where they tell two colours
 /// apart.
-fn place_row(page: &mut Bitmap, y: u32, depth: Depth, tone: &Tone, table: &[bool], row: &[u8])
+fn place_row(page: &mut Bitmap, y: u32, depth: Depth, tone: &Tone, table: &[bool; 256], row: &[u8])
     requires row { y < page.old.height }
-    requires table { length table.now ≡ 256 }
     requires whole { page.old.width * bits_in depth ≤ 8 * length row.now }
     ensures sides { SameSides page.old page.new }
     ensures pixels { image_of page.new ≡ with_row (image_of page.old) y
@@ -217,11 +224,10 @@ pub(crate) fn read_rows<I: Inputs>(
     page: &mut Bitmap,
     header: &Header,
     tone: &Tone,
-    table: &[bool],
+    table: &[bool; 256],
     row: &mut [u8],
 ) -> Result<(), Stop>
     requires opened { I.is_opened inputs.old ≡ true }
-    requires table { length table.now ≡ 256 }
     requires room { length row.old ≡ row_bytes_by header.now }
     requires whole { page.old.width * bits_in header.now.depth ≤ 8 * length row.old }
     ensures reads { (color_of : ℕ → Entry)

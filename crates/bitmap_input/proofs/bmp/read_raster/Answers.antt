@@ -1,4 +1,4 @@
-use Rattle.std.proofs.Common.{◌*◌}
+use Rattle.std.proofs.Common.{◌*◌, rules}
 use Rattle.std.proofs.lemmas.Result.{err_from_is_err_and}
 use Rattle.bitmap_input.specs.Cut.{◌>>=◌}
 use Rattle.bitmap_input.specs.PageParts.{block}
@@ -8,20 +8,35 @@ use Rattle.bitmap_input.proofs.Appending.{block_stays}
 use Rattle.bitmap_input.proofs.Telling.{reads_on, reads_stop}
 use Rattle.bitmap_input.proofs.bmp.read_raster.Goals as goal
 
-pub returns-in_err-read_palette-clause-reads : goal.returns-in_err-read_palette-clause-reads
-returns-in_err-read_palette-clause-reads g c =
-    let p = err_from_is_err_and c.from_residual.result c.from_residual.ensures.1 in
-    rw (p.1, p.2) (reads_stop (λ palette rest. block c.args.header.now.before_pixels rest >>= λ _ rest.
-    pixels_by c.args.header.now (palette_color c.args.header.now.palette_length c.args.header.now.color_bytes palette) rest) c.in_err-read_palette.ensures.reads)
+pub returns-in_err-read_palette : goal.returns-in_err-read_palette
+returns-in_err-read_palette g c = record {
+  reads = record {
+    leaves = search rules;
+    step =
+        let p = err_from_is_err_and c.from_residual.result c.from_residual.ensures.1 in
+        rw (p.1, p.2) (reads_stop (λ palette rest. block c.args.header.now.before_pixels rest >>= λ _ rest.
+        pixels_by c.args.header.now (palette_color c.args.header.now.palette_length c.args.header.now.color_bytes palette) rest) c.in_err-read_palette.ensures.reads.step);
+  };
+}
 
-pub returns-in_err-skip_block-clause-reads : goal.returns-in_err-skip_block-clause-reads
-returns-in_err-skip_block-clause-reads g c =
-    let p = err_from_is_err_and c.from_residual-in_err-skip_block.result c.from_residual-in_err-skip_block.ensures.1 in
-    rw (p.1, p.2) (reads_on (block_stays (c.args.header.now.color_bytes * c.args.header.now.palette_length)) c.in_ok-read_palette.ensures.reads
-    (λ palette _. reads_stop (λ _ rest. pixels_by c.args.header.now (palette_color c.args.header.now.palette_length c.args.header.now.color_bytes palette) rest) c.in_err-skip_block.ensures.reads))
+pub returns-in_err-skip_block : goal.returns-in_err-skip_block
+returns-in_err-skip_block g c = record {
+  reads = record {
+    leaves = search rules;
+    step =
+        let p = err_from_is_err_and c.from_residual-in_err-skip_block.result c.from_residual-in_err-skip_block.ensures.1 in
+        rw (p.1, p.2) (reads_on (block_stays (c.args.header.now.color_bytes * c.args.header.now.palette_length)) c.in_ok-read_palette.ensures.reads.step
+        (λ palette _. reads_stop (λ _ rest. pixels_by c.args.header.now (palette_color c.args.header.now.palette_length c.args.header.now.color_bytes palette) rest) c.in_err-skip_block.ensures.reads.step));
+  };
+}
 
-pub returns-clause-reads : goal.returns-clause-reads
-returns-clause-reads g c =
-    reads_on (block_stays (c.args.header.now.color_bytes * c.args.header.now.palette_length)) c.in_ok-read_palette.ensures.reads
-    (λ palette table. reads_on (block_stays c.args.header.now.before_pixels) c.in_ok-skip_block.ensures.reads
-    (λ _ _. c.read_pixels.ensures.reads (palette_color c.args.header.now.palette_length c.args.header.now.color_bytes palette) table))
+pub returns : goal.returns
+returns g c = record {
+  reads = record {
+    leaves = search rules;
+    step =
+        reads_on (block_stays (c.args.header.now.color_bytes * c.args.header.now.palette_length)) c.in_ok-read_palette.ensures.reads.step
+        (λ palette table. reads_on (block_stays c.args.header.now.before_pixels) c.in_ok-skip_block.ensures.reads.step
+        (λ _ _. c.read_pixels.ensures.reads (palette_color c.args.header.now.palette_length c.args.header.now.color_bytes palette) table));
+  };
+}

@@ -12,16 +12,16 @@ use Rattle.bitmap_input.proofs.body.read_raw_body.Goals as goal
 pub returns-in_err-sides-clause-reads : goal.returns-in_err-sides-clause-reads
 returns-in_err-sides-clause-reads g c level =
     let p = err_from_is_err_and c.from_residual.result c.from_residual.ensures.1 in
-    rw (p.1, p.2) (reads_stop (λ s rest. space rest >>= λ _ rest. rows_raster (λ b. Bit b) (raw_row s.0) s.0 s.1 rest) c.in_err-sides.ensures.reads)
+    rw (p.1, p.2) (reads_stop (λ s rest. space rest >>= λ _ rest. rows_raster (λ b. Bit b) (raw_row s.0) s.0 s.1 rest) c.in_err-sides.ensures.reads.step)
 
 pub returns-in_err-skip_space-clause-reads : goal.returns-in_err-skip_space-clause-reads
 returns-in_err-skip_space-clause-reads g c level =
     let p = err_from_is_err_and c.from_residual-in_err-skip_space.result c.from_residual-in_err-skip_space.ensures.1 in
-    rw (p.1, p.2) (reads_on sides_stay c.in_ok-sides.ensures.reads
-    (λ s _. reads_stop (λ _ rest. rows_raster (λ b. Bit b) (raw_row s.0) s.0 s.1 rest) c.in_err-skip_space.ensures.reads))
+    rw (p.1, p.2) (reads_on sides_stay c.in_ok-sides.ensures.reads.step
+    (λ s _. reads_stop (λ _ rest. rows_raster (λ b. Bit b) (raw_row s.0) s.0 s.1 rest) c.in_err-skip_space.ensures.reads.step))
 
 pub returns-clause-reads : goal.returns-clause-reads
 returns-clause-reads g c level =
-    reads_on sides_stay c.in_ok-sides.ensures.reads
-    (λ s is. reads_on space_stays c.in_ok-skip_space.ensures.reads
+    reads_on sides_stay c.in_ok-sides.ensures.reads.step
+    (λ s is. reads_on space_stays c.in_ok-skip_space.ensures.reads.step
     (λ _ _. rows_at level c.args.invert (λ b. Bit b) raw_row c.in_ok-sides.sides s is (c.read_page.ensures.reads level c.args.invert (λ _. refl))))

@@ -9,5 +9,5 @@ returns c = λ k h.
     let at : ℕ = c.args.from + c.args.step * k in
     let most : bytes_sum c.args.row.now at ≤ 765
     = omega (arith, (c.type_inv.row at).fits, (c.type_inv.row (at + 1)).fits, (c.type_inv.row (at + 2)).fits) in
-    c.word_of.ensures k h ∙ c.test_colors.ensures.dark k h ∙ ap (nat_le (bytes_sum c.args.row.now at)) c.min-most.ensures ∙
+    c.word_of.ensures k h ∙ c.test_colors.ensures k h ∙ ap (nat_le (bytes_sum c.args.row.now at)) c.min-most.ensures ∙
     capped (bytes_sum c.args.row.now at) c.args.limit 765 most

@@ -6,5 +6,5 @@ use Rattle.bitmap_input.proofs.dark.gray_word.Goals as goal
 pub returns : goal.returns
 returns c = λ k h.
     let byte = (c.type_inv.row (c.args.from + k)).fits in
-    c.word_of.ensures k h ∙ c.test_grays.ensures.dark k h ∙ ap (nat_le (get_or c.args.row.now (c.args.from + k) 0)) c.min-most.ensures ∙
+    c.word_of.ensures k h ∙ c.test_grays.ensures k h ∙ ap (nat_le (get_or c.args.row.now (c.args.from + k) 0)) c.min-most.ensures ∙
     capped (get_or c.args.row.now (c.args.from + k) 0) c.args.limit 255 (omega (arith, byte))

@@ -9,17 +9,20 @@ use Rattle.bitmap_input.proofs.Painting.{pixel_painted, turned}
 use Rattle.bitmap_input.proofs.plain.read_plain_row.Goals as goal
 
 pub returns-in_err-black-clause-reads : goal.returns-in_err-black-clause-reads
-returns-in_err-black-clause-reads g c =
-    let p = err_from_is_err_and c.from_residual.result c.from_residual.ensures.1 in
-    let one : c.args.page.now.width - c.loop-x.x ≡ suc (c.args.page.now.width - (c.loop-x.x + 1)) = omega arith in
-    rw (p.1, p.2) (gathering_stops (image_of c.loop-x.page) c.loop-x.invariant.so_far one c.in_err-black.ensures.reads)
+returns-in_err-black-clause-reads g c = record {
+  leaves = search rules;
+  step =
+      let p = err_from_is_err_and c.from_residual.result c.from_residual.ensures.1 in
+      let one : c.args.page.now.width - c.loop-x.x ≡ suc (c.args.page.now.width - (c.loop-x.x + 1)) = omega arith in
+      rw (p.1, p.2) (gathering_stops (image_of c.loop-x.page) c.loop-x.invariant.so_far one c.in_err-black.ensures.reads.step);
+}
 
 pub loop-x-preserved : goal.loop-x-preserved
 loop-x-preserved g c =
     let one : c.args.page.now.width - c.loop-x.x ≡ suc (c.args.page.now.width - (c.loop-x.x + 1)) = omega arith in
     record {
       so_far = gathering_goes_on (λ pixels. with_pixels (image_of c.set.new.self) c.args.y (c.loop-x.x + 1) (map (differ c.args.invert) pixels)) plain_pixel_stays
-          c.loop-x.invariant.so_far one c.in_ok-black.ensures.reads
+          c.loop-x.invariant.so_far one c.in_ok-black.ensures.reads.step
           (λ a same. pixel_painted (differ c.args.invert) (image_of c.loop-x.page) (image_of c.set.new.self) c.loop-x.x c.args.y _ a c.set.ensures.pixels
           (ap (differ c.args.invert) same ∙ sym (turned c.args.invert c.in_ok-black.black)));
       sides = search rules;
@@ -28,5 +31,8 @@ loop-x-preserved g c =
     }
 
 pub returns-clause-reads : goal.returns-clause-reads
-returns-clause-reads g c =
-    gathering_ends (image_of c.loop-x.page) c.loop-x.invariant.so_far (omega arith) refl
+returns-clause-reads g c = record {
+  leaves = search rules;
+  step =
+      gathering_ends (image_of c.loop-x.page) c.loop-x.invariant.so_far (omega arith) refl;
+}

@@ -17,9 +17,9 @@ returns-in_err-read_rows-clause-reads g c level invert at =
     let p = err_from_is_err_and c.from_residual-in_err-read_rows.result c.from_residual-in_err-read_rows.ensures.1 in
     let s = c.args.sides in
     rw (p.1, p.2) (rows_stopped level invert (pixel_entry c.args.raster) (is_black_pixel c.args.raster) (row_stored c.args.raster) c.in_ok-page.page s c.in_ok-page.ensures.width c.in_ok-page.ensures.height
-    c.read_rows.new.page _ c.in_err-read_rows.ensures.reads)
+    c.read_rows.new.page _ c.in_err-read_rows.ensures.reads.step)
 
 pub returns-clause-reads : goal.returns-clause-reads
 returns-clause-reads g c level invert at =
     rows_shown level invert (pixel_entry c.args.raster) (is_black_pixel c.args.raster) (row_stored c.args.raster) c.in_ok-page.page c.args.sides c.in_ok-page.ensures.width c.in_ok-page.ensures.height
-    c.read_rows.new.page at c.in_ok-page.ensures.white c.in_ok-read_rows.ensures.sides c.known.ensures c.in_ok-read_rows.ensures.reads
+    c.read_rows.new.page at c.in_ok-page.ensures.white c.in_ok-read_rows.ensures.sides c.known.ensures c.in_ok-read_rows.ensures.reads.step

@@ -12,7 +12,7 @@ pub loop-y-preserved : goal.loop-y-preserved
 unfolding image_of
 loop-y-preserved g c =
     let one : c.loop-y.y ≡ suc (c.loop-y.y - 1) = omega arith in
-    let row = rw c.loop-y.invariant.sides.width at c.in_ok-read_row.ensures.reads in
+    let row = rw c.loop-y.invariant.sides.width at c.in_ok-read_row.ensures.reads.step in
     record {
       so_far = gathering_goes_on (λ rows. with_rows (image_of c.read_row.new.page) (c.loop-y.y - 1) (map (map (is_black_pixel c.args.raster)) rows)) (row_stays c.args.raster c.args.page.now.width)
           c.loop-y.invariant.so_far one row
@@ -25,12 +25,18 @@ loop-y-preserved g c =
     }
 
 pub returns-in_err-read_row-clause-reads : goal.returns-in_err-read_row-clause-reads
-returns-in_err-read_row-clause-reads g c =
-    let p = err_from_is_err_and c.from_residual.result c.from_residual.ensures.1 in
-    let one : c.loop-y.y ≡ suc (c.loop-y.y - 1) = omega arith in
-    let row = rw c.loop-y.invariant.sides.width at c.in_err-read_row.ensures.reads in
-    rw (p.1, p.2) (gathering_stops (image_of c.read_row.new.page) c.loop-y.invariant.so_far one row)
+returns-in_err-read_row-clause-reads g c = record {
+  leaves = search rules;
+  step =
+      let p = err_from_is_err_and c.from_residual.result c.from_residual.ensures.1 in
+      let one : c.loop-y.y ≡ suc (c.loop-y.y - 1) = omega arith in
+      let row = rw c.loop-y.invariant.sides.width at c.in_err-read_row.ensures.reads.step in
+      rw (p.1, p.2) (gathering_stops (image_of c.read_row.new.page) c.loop-y.invariant.so_far one row);
+}
 
 pub returns-clause-reads : goal.returns-clause-reads
-returns-clause-reads g c =
-    gathering_ends (image_of c.loop-y.page) c.loop-y.invariant.so_far (omega arith) refl
+returns-clause-reads g c = record {
+  leaves = search rules;
+  step =
+      gathering_ends (image_of c.loop-y.page) c.loop-y.invariant.so_far (omega arith) refl;
+}

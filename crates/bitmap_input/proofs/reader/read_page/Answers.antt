@@ -1,3 +1,4 @@
+use Rattle.std.proofs.Common.{rules}
 use Rattle.std.proofs.lemmas.Result.{err_from_is_err_and}
 use Rattle.bitmap_input.specs.Cut.{◌>>=◌}
 use Rattle.bitmap_input.specs.Front.{magic}
@@ -6,19 +7,34 @@ use Rattle.bitmap_input.proofs.Appending.{spaces_stay, magic_stays}
 use Rattle.bitmap_input.proofs.Telling.{reads_on, reads_stop}
 use Rattle.bitmap_input.proofs.reader.read_page.Goals as goal
 
-pub returns-in_err-skip-clause-reads : goal.returns-in_err-skip-clause-reads
-returns-in_err-skip-clause-reads g c =
-    let p = err_from_is_err_and c.from_residual.result c.from_residual.ensures.1 in
-    rw (p.1, p.2) (reads_stop (λ _ rest. magic c.args.later rest >>= λ m rest. counted_body m rest) c.in_err-skip.ensures.reads)
+pub returns-in_err-skip : goal.returns-in_err-skip
+returns-in_err-skip g c = record {
+  reads = record {
+    leaves = search rules;
+    step =
+        let p = err_from_is_err_and c.from_residual.result c.from_residual.ensures.1 in
+        rw (p.1, p.2) (reads_stop (λ _ rest. magic c.args.later rest >>= λ m rest. counted_body m rest) c.in_err-skip.ensures.reads.step);
+  };
+}
 
-pub returns-in_err-format-clause-reads : goal.returns-in_err-format-clause-reads
-returns-in_err-format-clause-reads g c =
-    let p = err_from_is_err_and c.from_residual-in_err-format.result c.from_residual-in_err-format.ensures.1 in
-    rw (p.1, p.2) (reads_on spaces_stay c.in_ok-skip.ensures.reads
-    (λ _ _. reads_stop (λ m rest. counted_body m rest) c.in_err-format.ensures.reads))
+pub returns-in_err-format : goal.returns-in_err-format
+returns-in_err-format g c = record {
+  reads = record {
+    leaves = search rules;
+    step =
+        let p = err_from_is_err_and c.from_residual-in_err-format.result c.from_residual-in_err-format.ensures.1 in
+        rw (p.1, p.2) (reads_on spaces_stay c.in_ok-skip.ensures.reads.step
+        (λ _ _. reads_stop (λ m rest. counted_body m rest) c.in_err-format.ensures.reads.step));
+  };
+}
 
-pub returns-clause-reads : goal.returns-clause-reads
-returns-clause-reads g c =
-    reads_on spaces_stay c.in_ok-skip.ensures.reads
-    (λ _ _. reads_on (magic_stays c.args.later) c.in_ok-format.ensures.reads
-    (λ m is. rw is c.read_body.ensures.reads))
+pub returns : goal.returns
+returns g c = record {
+  reads = record {
+    leaves = search rules;
+    step =
+        reads_on spaces_stay c.in_ok-skip.ensures.reads.step
+        (λ _ _. reads_on (magic_stays c.args.later) c.in_ok-format.ensures.reads.step
+        (λ m is. rw is c.read_body.ensures.reads.step));
+  };
+}

@@ -1,4 +1,11 @@
+use Rattle.std.proofs.Common.{rules}
 use Rattle.bitmap_input.proofs.samples.read_plain_samples.Goals as goal
 
-pub returns-in-Gray-clause-reads : goal.returns-in-Gray-clause-reads
-returns-in-Gray-clause-reads g c = rw c.in-Gray.is c.read_number_behind_gap.ensures.reads
+pub returns-in-Gray : goal.returns-in-Gray
+returns-in-Gray g c = record {
+  reads = record {
+    leaves = search rules;
+    step =
+        rw c.in-Gray.is c.read_number_behind_gap.ensures.reads.step;
+  };
+}

@@ -10,24 +10,30 @@ use Rattle.bitmap_input.proofs.Graying.{capped_black}
 use Rattle.bitmap_input.proofs.samples.read_plain_samples_row.Goals as goal
 
 pub returns-in_err-brightness-clause-reads : goal.returns-in_err-brightness-clause-reads
-returns-in_err-brightness-clause-reads g c =
-    let p = err_from_is_err_and c.from_residual.result c.from_residual.ensures.1 in
-    let one : c.args.page.now.width - c.loop-x.x ≡ suc (c.args.page.now.width - (c.loop-x.x + 1)) = omega arith in
-    rw (p.1, p.2) (gathering_stops (image_of c.loop-x.page) c.loop-x.invariant.so_far one c.in_err-brightness.ensures.reads)
+returns-in_err-brightness-clause-reads g c = record {
+  leaves = search rules;
+  step =
+      let p = err_from_is_err_and c.from_residual.result c.from_residual.ensures.1 in
+      let one : c.args.page.now.width - c.loop-x.x ≡ suc (c.args.page.now.width - (c.loop-x.x + 1)) = omega arith in
+      rw (p.1, p.2) (gathering_stops (image_of c.loop-x.page) c.loop-x.invariant.so_far one c.in_err-brightness.ensures.reads.step);
+}
 
 pub loop-x-preserved : goal.loop-x-preserved
 loop-x-preserved g c =
     let one : c.args.page.now.width - c.loop-x.x ≡ suc (c.args.page.now.width - (c.loop-x.x + 1)) = omega arith in
     record {
       so_far = gathering_goes_on (λ row. with_pixels (image_of c.set.new.self) c.args.y (c.loop-x.x + 1) (map (black_of c.args.shading.now) row)) (plain_samples_stay c.args.shading.now.channels)
-          c.loop-x.invariant.so_far one c.in_ok-brightness.ensures.reads
+          c.loop-x.invariant.so_far one c.in_ok-brightness.ensures.reads.step
           (λ a capped. pixel_painted (black_of c.args.shading.now) (image_of c.loop-x.page) (image_of c.set.new.self) c.loop-x.x c.args.y _ a c.set.ensures.pixels
-          (capped_black c.args.shading.now c.requires.range _ a capped ∙ sym c.black.ensures));
+          (capped_black c.args.shading.now _ a capped ∙ sym c.black.ensures));
       sides = search rules;
       end = search rules;
       leaves = search rules;
     }
 
 pub returns-clause-reads : goal.returns-clause-reads
-returns-clause-reads g c =
-    gathering_ends (image_of c.loop-x.page) c.loop-x.invariant.so_far (omega arith) refl
+returns-clause-reads g c = record {
+  leaves = search rules;
+  step =
+      gathering_ends (image_of c.loop-x.page) c.loop-x.invariant.so_far (omega arith) refl;
+}

@@ -16,15 +16,31 @@ loop-left-preserved g c =
       leaves = search rules;
     }
 
-pub returns-in-End-clause-reads : goal.returns-in-End-clause-reads
-returns-in-End-clause-reads g c =
-    let look = c.in-End.ensures.looks in
-    skip_is_short c.loop-left.left c.loop-left.invariant.so_far c.loop-left-test.true look.0 look.1.0 look.1.1
+pub returns-in-End : goal.returns-in-End
+returns-in-End g c = record {
+  reads = record {
+    leaves = search rules;
+    step =
+        let look = c.in-End.ensures.looks in
+        skip_is_short c.loop-left.left c.loop-left.invariant.so_far c.loop-left-test.true look.0 look.1.0 look.1.1;
+  };
+}
 
-pub returns-in-Fault-clause-reads : goal.returns-in-Fault-clause-reads
-returns-in-Fault-clause-reads g c =
-    let look = c.in-Fault.ensures.looks in
-    skip_fails c.loop-left.left c.loop-left.invariant.so_far c.loop-left-test.true look.0 look.1 look.2 look.3
+pub returns-in-Fault : goal.returns-in-Fault
+returns-in-Fault g c = record {
+  reads = record {
+    leaves = search rules;
+    step =
+        let look = c.in-Fault.ensures.looks in
+        skip_fails c.loop-left.left c.loop-left.invariant.so_far c.loop-left-test.true look.0 look.1 look.2 look.3;
+  };
+}
 
-pub returns-clause-reads : goal.returns-clause-reads
-returns-clause-reads g c = skip_ends c.loop-left.invariant.so_far (omega arith)
+pub returns : goal.returns
+returns g c = record {
+  reads = record {
+    leaves = search rules;
+    step =
+        skip_ends c.loop-left.invariant.so_far (omega arith);
+  };
+}

@@ -6,11 +6,11 @@ use Rattle.bitmap_input.specs.Inner.ByteRuns.{cap, IsCapped}
 use Rattle.bitmap_input.proofs.BmpReading.{placed_too_soon}
 use Rattle.bitmap_input.proofs.bmp.header.describe.Goals as goal
 
-pub returns-then-pixel_offset-palette_end-clause-passes :
-    goal.returns-then-pixel_offset-palette_end-clause-passes
-returns-then-pixel_offset-palette_end-clause-passes c =
-    let wide : IsCapped c.min.result (width c.args.head.now) = c.min.ensures ∙ ap (λ n. min n cap) c.width.ensures in
-    let high : IsCapped c.min-2.result (height c.args.head.now) = c.min-2.ensures ∙ ap (λ n. min n cap) c.height.ensures in
-    let in_range = c.in_ok-sides.ensures.checks (width c.args.head.now) (height c.args.head.now) wide high in
-    let soon : pixel_offset c.args.head.now < palette_end c.args.head.now = rw (← c.four_at-pixel_offset.ensures, ← c.palette_end-palette_end.ensures.value) c.if-pixel_offset-palette_end.true in
-    (Refused BadOffset, refl, placed_too_soon c.args.head.now in_range.2 soon)
+pub returns-then-pixel_offset-palette_end :
+    goal.returns-then-pixel_offset-palette_end
+returns-then-pixel_offset-palette_end c =
+    let wide : IsCapped c.min.result (width c.args.info.now.head.now) = c.min.ensures ∙ ap (λ n. min n cap) c.width.ensures in
+    let high : IsCapped c.min-2.result (height c.args.info.now.head.now) = c.min-2.ensures ∙ ap (λ n. min n cap) c.height.ensures in
+    let in_range = c.in_ok-sides.ensures.checks (width c.args.info.now.head.now) (height c.args.info.now.head.now) wide high in
+    let soon : pixel_offset c.args.info.now.head.now < palette_end c.args.info.now.head.now = rw (← c.four_at-pixel_offset.ensures, ← c.palette_end-palette_end.ensures.value) c.if-pixel_offset-palette_end.true in
+    record { passes = (Refused BadOffset, refl, placed_too_soon c.args.info.now.head.now in_range.2 soon) }

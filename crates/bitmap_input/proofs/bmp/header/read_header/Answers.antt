@@ -1,3 +1,4 @@
+use Rattle.std.proofs.Common.{rules}
 use Rattle.std.proofs.lemmas.Result.{err_from_is_err_and}
 use Rattle.bitmap_input.specs.Cut.{◌>>=◌}
 use Rattle.bitmap_input.specs.Bmp.{info, masks, placed}
@@ -7,30 +8,50 @@ use Rattle.bitmap_input.proofs.BmpReading.{reads_passes}
 use Rattle.bitmap_input.proofs.Telling.{reads_on, reads_stop}
 use Rattle.bitmap_input.proofs.bmp.header.read_header.Goals as goal
 
-pub describe-requires-clause-info : goal.describe-requires-clause-info
-describe-requires-clause-info g c = whole_has c.read_masks.new.head c.in_ok-read_masks.ensures.whole
+pub invariant_of-info : goal.invariant_of-info
+invariant_of-info g c = record { fields = whole_has c.read_masks.new.head c.in_ok-read_masks.ensures.whole }
 
-pub returns-in_err-read_start-clause-reads : goal.returns-in_err-read_start-clause-reads
-returns-in_err-read_start-clause-reads g c =
-    let p = err_from_is_err_and c.from_residual.result c.from_residual.ensures.1 in
-    rw (p.1, p.2) (reads_stop (λ head rest. info head rest >>= λ head rest. masks head rest >>= λ head rest. placed head rest) c.in_err-read_start.ensures.reads)
+pub returns-in_err-read_start : goal.returns-in_err-read_start
+returns-in_err-read_start g c = record {
+  reads = record {
+    leaves = search rules;
+    step =
+        let p = err_from_is_err_and c.from_residual.result c.from_residual.ensures.1 in
+        rw (p.1, p.2) (reads_stop (λ head rest. info head rest >>= λ head rest. masks head rest >>= λ head rest. placed head rest) c.in_err-read_start.ensures.reads.step);
+  };
+}
 
-pub returns-in_err-depth-clause-reads : goal.returns-in_err-depth-clause-reads
-returns-in_err-depth-clause-reads g c =
-    let p = err_from_is_err_and c.from_residual-in_err-depth.result c.from_residual-in_err-depth.ensures.1 in
-    rw (p.1, p.2) (reads_on start_stays c.in_ok-read_start.ensures.reads
-    (λ head is. rw is (reads_stop (λ head rest. masks head rest >>= λ head rest. placed head rest) c.in_err-depth.ensures.reads)))
+pub returns-in_err-depth : goal.returns-in_err-depth
+returns-in_err-depth g c = record {
+  reads = record {
+    leaves = search rules;
+    step =
+        let p = err_from_is_err_and c.from_residual-in_err-depth.result c.from_residual-in_err-depth.ensures.1 in
+        rw (p.1, p.2) (reads_on start_stays c.in_ok-read_start.ensures.reads.step
+        (λ head is. rw is (reads_stop (λ head rest. masks head rest >>= λ head rest. placed head rest) c.in_err-depth.ensures.reads.step)));
+  };
+}
 
-pub returns-in_err-read_masks-clause-reads : goal.returns-in_err-read_masks-clause-reads
-returns-in_err-read_masks-clause-reads g c =
-    let p = err_from_is_err_and c.from_residual-in_err-read_masks.result c.from_residual-in_err-read_masks.ensures.1 in
-    rw (p.1, p.2) (reads_on start_stays c.in_ok-read_start.ensures.reads
-    (λ head is. rw is (reads_on (info_stays c.read_start.new.head) c.in_ok-depth.ensures.reads
-    (λ head2 is2. rw is2 (reads_stop placed c.in_err-read_masks.ensures.reads)))))
+pub returns-in_err-read_masks : goal.returns-in_err-read_masks
+returns-in_err-read_masks g c = record {
+  reads = record {
+    leaves = search rules;
+    step =
+        let p = err_from_is_err_and c.from_residual-in_err-read_masks.result c.from_residual-in_err-read_masks.ensures.1 in
+        rw (p.1, p.2) (reads_on start_stays c.in_ok-read_start.ensures.reads.step
+        (λ head is. rw is (reads_on (info_stays c.read_start.new.head) c.in_ok-depth.ensures.reads.step
+        (λ head2 is2. rw is2 (reads_stop placed c.in_err-read_masks.ensures.reads.step)))));
+  };
+}
 
-pub returns-clause-reads : goal.returns-clause-reads
-returns-clause-reads g c =
-    reads_on start_stays c.in_ok-read_start.ensures.reads
-    (λ head is. rw is (reads_on (info_stays c.read_start.new.head) c.in_ok-depth.ensures.reads
-    (λ head2 is2. rw is2 (reads_on (masks_stay c.read_info.new.head) c.in_ok-read_masks.ensures.reads
-    (λ head3 is3. rw is3 (reads_passes c.describe.ensures.passes))))))
+pub returns : goal.returns
+returns g c = record {
+  reads = record {
+    leaves = search rules;
+    step =
+        reads_on start_stays c.in_ok-read_start.ensures.reads.step
+        (λ head is. rw is (reads_on (info_stays c.read_start.new.head) c.in_ok-depth.ensures.reads.step
+        (λ head2 is2. rw is2 (reads_on (masks_stay c.read_info.new.head) c.in_ok-read_masks.ensures.reads.step
+        (λ head3 is3. rw is3 (reads_passes c.describe.ensures.passes))))));
+  };
+}

@@ -1,4 +1,4 @@
-use Rattle.std.proofs.Common.{◌+◌, ◌/◌, ap, ◌∙◌, arith}
+use Rattle.std.proofs.Common.{◌+◌, ◌/◌, ap, ◌∙◌, arith, rules}
 use Rattle.bit_image.specs.Page.{image_of}
 use Rattle.bitmap_input.specs.Inner.Raster.{with_row}
 use Rattle.bitmap_input.proofs.BmpBits.{bits_shown}
@@ -10,4 +10,4 @@ returns-then-are_apart-clause-pixels c =
     rw c.in-One.is (c.place_row.ensures.pixels ∙
     ap (with_row (image_of c.args.page.now) c.args.y)
     (bits_shown c.args.tone.now.level c.args.tone.now.invert c.args.table.now c.args.row.now c.args.page.now.width ((c.width.result + 7) / 8)
-    (ap (λ w. (w + 7) / 8) c.width.ensures.value) (omega (arith, whole, c.width.ensures.value)) c.requires.table (c.are_apart.ensures c.if-are_apart.true)))
+    (ap (λ w. (w + 7) / 8) c.width.ensures.value) (omega (arith, whole, c.width.ensures.value)) (search rules) (c.are_apart.ensures c.if-are_apart.true)))

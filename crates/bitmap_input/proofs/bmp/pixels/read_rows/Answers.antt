@@ -28,7 +28,7 @@ loop-i-preserved g c =
     let place : ℕ → ℕ = row_place c.args.header.now.top_down c.args.page.now.height in
     let old : Image = image_of c.loop-i.page in
     let one : c.args.page.now.height - c.loop-i.i ≡ suc (c.args.page.now.height - (c.loop-i.i + 1)) = omega arith in
-    let row = rw c.loop-i.invariant.row at c.in_ok-read_block.ensures.reads in
+    let row = rw c.loop-i.invariant.row at c.in_ok-read_block.ensures.reads.step in
     let pixels : image_of c.place_row.new.page ≡ with_row old (place c.loop-i.i) (map (shade_in c.args.header.now.depth level invert c.args.table.now c.read_block.new.row) (range_with_len 0 width))
     = rw (c.loop-i.invariant.sides.width, c.row_place-y.ensures.value, c.loop-i.invariant.high) at c.place_row.ensures.pixels in
     record {
@@ -52,7 +52,7 @@ pub returns-in_err-read_block-clause-reads : goal.returns-in_err-read_block-clau
 returns-in_err-read_block-clause-reads g c =
     let p = err_from_is_err_and c.from_residual.result c.from_residual.ensures.1 in
     let one : c.args.page.now.height - c.loop-i.i ≡ suc (c.args.page.now.height - (c.loop-i.i + 1)) = omega arith in
-    let row = rw c.loop-i.invariant.row at c.in_err-read_block.ensures.reads in
+    let row = rw c.loop-i.invariant.row at c.in_err-read_block.ensures.reads.step in
     λ color table. rw (p.1, p.2) (gathering_stops {X = Unit {0}} {is = λ _ row. image_of c.loop-i.page ≡ image_of c.loop-i.page} (image_of c.loop-i.page) (c.loop-i.invariant.so_far color table) one
     (reads_stop (λ bytes rest. Takes false (map (pixel_in (bits_in c.args.header.now.depth) color bytes) (range_with_len 0 c.args.page.now.width)) rest) row))
 

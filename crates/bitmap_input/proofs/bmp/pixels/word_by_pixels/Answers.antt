@@ -4,8 +4,8 @@ use Rattle.bitmap_input.proofs.BmpPixels.{column_within}
 use Rattle.bitmap_input.proofs.Packing.{filled_more}
 use Rattle.bitmap_input.proofs.bmp.pixels.word_by_pixels.Goals as goal
 
-pub shade-requires-clause-within : goal.shade-requires-clause-within
-shade-requires-clause-within c =
+pub shade-requires : goal.shade-requires
+shade-requires c =
     column_within c.args.depth (c.args.from + c.loop-i.i) (c.args.from + c.args.count) (length c.args.row.now) (omega arith) c.requires.within
 
 pub loop-i-preserved : goal.loop-i-preserved

@@ -1,0 +1,30 @@
+//! How a BMP picture is laid out.
+ghost use Rattle.std.specs.Prelude.{◌≤◌};
+ghost use Rattle.pt_core.specs.declared.limits.TheConstants.{LONGEST_SIDE};
+
+use crate::bmp::fields::Depth;
+
+/// What the header of a BMP picture says.
+#[derive(Clone, Copy)]
+pub(crate) struct Header {
+    pub(crate) width: u32,
+    pub(crate) height: u32,
+    /// The top row comes first, and not the lowest one.
+    pub(crate) top_down: bool,
+    pub(crate) depth: Depth,
+    /// The bytes of a colour in the palette, 3 or 4.
+    pub(crate) color_bytes: u32,
+    /// The colours of the palette, at most 256.
+    pub(crate) palette_length: u32,
+    /// The bytes between the palette and the first row.
+    pub(crate) before_pixels: u32,
+    /// The place of the first row, from the picture's first byte on.
+    pub(crate) pixel_offset: u32,
+    /// How long the picture says that it is.
+    pub(crate) file_size: u32,
+    ghost wide: { (1 ≤ width) × (width ≤ LONGEST_SIDE) },
+    ghost high: { (1 ≤ height) × (height ≤ LONGEST_SIDE) },
+    ghost three_or_four: { (3 ≤ color_bytes) × (color_bytes ≤ 4) },
+    ghost few: { palette_length ≤ 256 },
+    ghost behind_magic: { 2 ≤ pixel_offset },
+}
