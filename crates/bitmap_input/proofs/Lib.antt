@@ -38,6 +38,7 @@ pub mod Behind
 pub mod Rests
 pub mod Answering
 pub mod Longest
+pub mod Leaving
 pub mod Files
 pub mod Sided
 pub mod GrayHeading

@@ -1,5 +1,5 @@
 //! BMP pictures.
-ghost use Rattle.std.specs.Prelude.{◌≡◌, ℕ, ◌+◌, ◌-◌, ◌*◌, ◌≤◌, true, length};
+ghost use Rattle.std.specs.Prelude.{◌≡◌, ℕ, ◌+◌, ◌-◌, ◌*◌, ◌≤◌, true};
 ghost use Rattle.bitmap_input.specs.Inner.Reading.{Reads, ReadsFrom, Leaves};
 ghost use Rattle.bitmap_input.specs.Raw.{Entry, IsShown};
 ghost use Rattle.bitmap_input.specs.Front.Magic.{Picture as picture};

@@ -1,5 +1,5 @@
 //! What follows the magic of a page.
-ghost use Rattle.std.specs.Prelude.{◌≡◌, ℕ, ◌≤◌, true, Bool};
+ghost use Rattle.std.specs.Prelude.{◌≡◌, ℕ, true, Bool};
 ghost use Rattle.bitmap_input.specs.Inner.Reading.{Reads, ReadsFrom, Leaves};
 ghost use Rattle.bitmap_input.specs.Front.{body, rows_raster};
 ghost use Rattle.bitmap_input.specs.Front.Magic.{PlainBits as plain_bits, RawBits as raw_bits, PlainSamples as plain_samples, RawSamples as raw_samples};

@@ -1,5 +1,5 @@
 //! The entries that a line may consist of.
-ghost use Rattle.std.specs.Prelude.{◌≡◌, ℕ, ◌<◌, ◌≤◌, ◌^◌, List, IfNone, IfSome, drop, length};
+ghost use Rattle.std.specs.Prelude.{ℕ, ◌≤◌, List, IfNone, IfSome, drop, length};
 
 use crate::byte::read_byte;
 use crate::number::read_number;

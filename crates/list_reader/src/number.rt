@@ -1,5 +1,5 @@
 //! Decimal numbers without needless zeros.
-ghost use Rattle.std.specs.Prelude.{◌≡◌, ℕ, ◌*◌, ◌^◌, ◌<◌, ◌≤◌, ◌↔◌, List, All, IfNone, IfSome, IsTrue, decimal, drop, length, slice_index};
+ghost use Rattle.std.specs.Prelude.{◌≡◌, ℕ, ◌^◌, ◌<◌, ◌≤◌, ◌↔◌, List, All, IfNone, IfSome, IsTrue, decimal, drop, length};
 ghost use Rattle.pt_base.specs.Whole.{IsDigit, value_after};
 ghost use Rattle.list_reader.specs.Inner.Numerals.{IsDigitsEnd, IsNumeral, IsPlain, IsPlainValue};
 ghost use Rattle.list_reader.specs.Inner.TextParts.{EndsBehind};

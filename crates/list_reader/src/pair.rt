@@ -1,5 +1,5 @@
 //! Two numbers behind a space.
-ghost use Rattle.std.specs.Prelude.{◌≡◌, ℕ, ◌<◌, ◌≤◌, List, IfNone, IfSome, drop, length};
+ghost use Rattle.std.specs.Prelude.{ℕ, ◌≤◌, List, IfNone, IfSome, drop, length};
 ghost use Rattle.pt_base.specs.Whole.{IsDigit};
 ghost use Rattle.list_reader.specs.Inner.LineEntries.{IsPair};
 ghost use Rattle.list_reader.specs.Inner.TextParts.{EndsBehind};

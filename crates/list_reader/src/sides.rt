@@ -1,6 +1,5 @@
 //! The first line of a text that tells of a page.
-ghost use Rattle.std.specs.Prelude.{◌≡◌, ℕ, ◌<◌, ◌≤◌, List, IfNone, IfSome, drop, length};
-ghost use Rattle.pt_core.specs.declared.limits.TheConstants.{LONGEST_SIDE};
+ghost use Rattle.std.specs.Prelude.{ℕ, ◌≤◌, List, IfNone, IfSome, drop, length};
 ghost use Rattle.list_reader.specs.Inner.SidesLines.{IsSidesLine};
 
 use crate::byte::read_byte;

@@ -1,5 +1,5 @@
 //! The sign and the area of a path.
-ghost use Rattle.std.specs.Prelude.{◌≡◌, ℕ, ◌+◌, ◌<◌, ◌≤◌, List, ◌++◌, IfNone, IfSome, drop, length};
+ghost use Rattle.std.specs.Prelude.{◌≡◌, ℕ, ◌+◌, List, ◌++◌, IfNone, IfSome, drop};
 ghost use Rattle.pt_base.specs.PointsText.{sign_text};
 ghost use Rattle.pt_core.specs.declared.path.Sign.{Sign};
 ghost use Rattle.list_reader.specs.Inner.SignedAreas.{IsSignedArea};

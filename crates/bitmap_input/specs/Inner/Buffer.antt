@@ -25,7 +25,7 @@ Looks old files End new now = ReadsOn old files new now × ((new.bytes ≡ []) �
 Looks old files Fault new now = (new ≡ old) × (now ≡ files) × (old.bytes ≡ []) × (old.ended ≡ false)
 
 -- bytes were read into the buffer, which was empty: at most 65,536, and none where the file has ended
-pub record IsFilled (before : Option Files) (new : Buffered) (now : Option Files) : Type 0 where
+pub record IsRefilled (before : Option Files) (new : Buffered) (now : Option Files) : Type 0 where
   pub moves : Moves false before new.ended now new.bytes
   pub some : new.ended ≡ false → 0 < length new.bytes
   pub none : new.ended ≡ true → new.bytes ≡ []
@@ -33,7 +33,7 @@ pub record IsFilled (before : Option Files) (new : Buffered) (now : Option Files
 
 -- the empty buffer was filled; or the read failed, and all is as it was
 abbrev pub Fills : {X E : Type 0} → Buffered → Option Files → Result X E → Buffered → Option Files → Type 0
-Fills old before (Ok done) new now = IsFilled before new now
+Fills old before (Ok done) new now = IsRefilled before new now
 Fills old before (Err fault) new now = (new ≡ old) × (now ≡ before)
 
 -- the inputs' count of faults rises where the read failed, and else it stays

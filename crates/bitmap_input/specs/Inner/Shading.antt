@@ -2,7 +2,7 @@
 use Rattle.std.specs.Prelude.{◌≡◌, ℕ, ◌+◌, ◌*◌, Bool, List, min, nat_le, get_or}
 use Rattle.bit_image.specs.Image.{differ}
 use Rattle.bitmap_input.specs.Inner.ByteRuns.{cap}
-use Rattle.bitmap_input.specs.Samples.{PixelSamples, samples_in, is_wide, samples}
+use Rattle.bitmap_input.specs.Samples.{PixelSamples, is_wide, samples}
 use Rattle.bitmap_input.specs.declared.channels.Channels.{Channels}
 use Rattle.bitmap_input.specs.declared.channels.Channels.TheVariants.{Gray, Color}
 use Rattle.bitmap_input.specs.declared.shading.Shading.{Shading}

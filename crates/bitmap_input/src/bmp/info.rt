@@ -1,5 +1,4 @@
 //! The bytes of a BMP picture's header, of which the fields are there.
-ghost use Rattle.std.specs.Prelude.{◌≡◌};
 ghost use Rattle.bitmap_input.specs.Inner.BmpHead.{HasInfo};
 
 use crate::bmp::head::Head;

@@ -1,40 +1,29 @@
 use Rattle.std.proofs.Common.{rules}
 use Rattle.bitmap_input.specs.Front.Magic.{PlainBits, RawBits, PlainSamples, RawSamples}
 use Rattle.bitmap_input.proofs.Behind.{reads_unclaimed, plain_bits_unclaimed, raw_bits_unclaimed, plain_samples_unclaimed, raw_samples_unclaimed}
+use Rattle.bitmap_input.proofs.Leaving.{leaving}
 use Rattle.bitmap_input.proofs.body.read_body.Goals as goal
 
 pub returns-in-PlainBits : goal.returns-in-PlainBits
 returns-in-PlainBits g c = record {
-  reads = record {
-    leaves = search rules;
-    step =
-        rw (c.claiming_none.ensures, c.in-PlainBits.is) (reads_unclaimed c.args.level.now c.args.invert PlainBits plain_bits_unclaimed (c.read_plain_body.ensures.reads c.args.level.now));
-  };
+  reads = leaving (search rules)
+      (rw (c.claiming_none.ensures, c.in-PlainBits.is) (reads_unclaimed c.args.level.now c.args.invert PlainBits plain_bits_unclaimed (c.read_plain_body.ensures.reads c.args.level.now)));
 }
 
 pub returns-in-RawBits : goal.returns-in-RawBits
 returns-in-RawBits g c = record {
-  reads = record {
-    leaves = search rules;
-    step =
-        rw (c.claiming_none-in-RawBits.ensures, c.in-RawBits.is) (reads_unclaimed c.args.level.now c.args.invert RawBits raw_bits_unclaimed (c.read_raw_body.ensures.reads c.args.level.now));
-  };
+  reads = leaving (search rules)
+      (rw (c.claiming_none-in-RawBits.ensures, c.in-RawBits.is) (reads_unclaimed c.args.level.now c.args.invert RawBits raw_bits_unclaimed (c.read_raw_body.ensures.reads c.args.level.now)));
 }
 
 pub returns-in-PlainSamples : goal.returns-in-PlainSamples
 returns-in-PlainSamples g c = record {
-  reads = record {
-    leaves = search rules;
-    step =
-        rw (c.claiming_none-in-PlainSamples.ensures, c.in-PlainSamples.is) (reads_unclaimed c.args.level.now c.args.invert (PlainSamples c.in-PlainSamples.channels) (plain_samples_unclaimed c.in-PlainSamples.channels) c.read_plain_samples_body.ensures.reads.step);
-  };
+  reads = leaving (search rules)
+      (rw (c.claiming_none-in-PlainSamples.ensures, c.in-PlainSamples.is) (reads_unclaimed c.args.level.now c.args.invert (PlainSamples c.in-PlainSamples.channels) (plain_samples_unclaimed c.in-PlainSamples.channels) c.read_plain_samples_body.ensures.reads.step));
 }
 
 pub returns-in-RawSamples : goal.returns-in-RawSamples
 returns-in-RawSamples g c = record {
-  reads = record {
-    leaves = search rules;
-    step =
-        rw (c.claiming_none-in-RawSamples.ensures, c.in-RawSamples.is) (reads_unclaimed c.args.level.now c.args.invert (RawSamples c.in-RawSamples.channels) (raw_samples_unclaimed c.in-RawSamples.channels) c.read_raw_samples_body.ensures.reads.step);
-  };
+  reads = leaving (search rules)
+      (rw (c.claiming_none-in-RawSamples.ensures, c.in-RawSamples.is) (reads_unclaimed c.args.level.now c.args.invert (RawSamples c.in-RawSamples.channels) (raw_samples_unclaimed c.in-RawSamples.channels) c.read_raw_samples_body.ensures.reads.step));
 }

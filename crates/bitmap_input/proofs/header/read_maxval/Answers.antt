@@ -5,20 +5,17 @@ use Rattle.bitmap_input.specs.Front.{checked_maxval}
 use Rattle.bitmap_input.proofs.Appending.{number_behind_gap_stays}
 use Rattle.bitmap_input.proofs.Telling.{reads_on, reads_stop}
 use Rattle.bitmap_input.proofs.Headers.{reads_checked_maxval}
+use Rattle.bitmap_input.proofs.Leaving.{leaving}
 use Rattle.bitmap_input.proofs.header.read_maxval.Goals as goal
 
 pub returns-in_err-maxval-clause-reads : goal.returns-in_err-maxval-clause-reads
-returns-in_err-maxval-clause-reads g c = record {
-  leaves = search rules;
-  step =
-      let p = err_from_is_err_and c.from_residual.result c.from_residual.ensures.1 in
-      rw (p.1, p.2) (reads_stop checked_maxval c.in_err-maxval.ensures.reads.step);
-}
+returns-in_err-maxval-clause-reads g c =
+    leaving (search rules)
+    (let p = err_from_is_err_and c.from_residual.result c.from_residual.ensures.1 in
+    rw (p.1, p.2) (reads_stop checked_maxval c.in_err-maxval.ensures.reads.step))
 
 pub returns-clause-reads : goal.returns-clause-reads
-returns-clause-reads g c = record {
-  leaves = search rules;
-  step =
-      reads_on (number_behind_gap_stays BadHeader) c.in_ok-maxval.ensures.reads.step
-      (λ n is. reads_checked_maxval n is c.check_maxval.ensures.checks);
-}
+returns-clause-reads g c =
+    leaving (search rules)
+    (reads_on (number_behind_gap_stays BadHeader) c.in_ok-maxval.ensures.reads.step
+    (λ n is. reads_checked_maxval n is c.check_maxval.ensures.checks))

@@ -4,6 +4,7 @@ use Rattle.bitmap_input.specs.PageParts.{run_length, is_digit, value}
 use Rattle.bitmap_input.proofs.Telling.{reads_map, reads_stop}
 use Rattle.bitmap_input.proofs.Running.{run_begins, run_ends_at, run_ends_last, run_fails, run_is_long, run_goes_on}
 use Rattle.bitmap_input.proofs.Digits.{value_more, capped_more}
+use Rattle.bitmap_input.proofs.Leaving.{leaving}
 use Rattle.bitmap_input.proofs.number.read_digits.Goals as goal
 
 pub loop-n-init : goal.loop-n-init
@@ -15,31 +16,27 @@ loop-n-init g c = record {
 }
 
 pub returns-then-not-is_digit-clause-reads : goal.returns-then-not-is_digit-clause-reads
-returns-then-not-is_digit-clause-reads g c = record {
-  leaves = search rules;
-  step =
-      let s = c.loop-n.invariant.so_far in
-      let look = c.in-Byte.ensures.looks in
-      let test : is_digit c.in-Byte.byte ≡ false = search rules in
-      reads_map (value 0)
-      (λ y a (is, same). rw (is, same) c.loop-n.invariant.number)
-      (run_ends_at (run_length is_digit) (run_length is_digit) c.args.buffer.now c.loop-n.buffer c.look.new.self
-      (g.I.Inputs.files c.args.inputs.now) (g.I.Inputs.files c.loop-n.inputs) (g.I.Inputs.files c.look.new.inputs) c.loop-n.n s
-      c.loop-n.value c.in-Byte.byte look.1.0 look.0 look.1.1 refl (λ xs. rw test refl) (omega arith));
-}
+returns-then-not-is_digit-clause-reads g c =
+    leaving (search rules)
+    (let s = c.loop-n.invariant.so_far in
+    let look = c.in-Byte.ensures.looks in
+    let test : is_digit c.in-Byte.byte ≡ false = search rules in
+    reads_map (value 0)
+    (λ y a (is, same). rw (is, same) c.loop-n.invariant.number)
+    (run_ends_at (run_length is_digit) (run_length is_digit) c.args.buffer.now c.loop-n.buffer c.look.new.self
+    (g.I.Inputs.files c.args.inputs.now) (g.I.Inputs.files c.loop-n.inputs) (g.I.Inputs.files c.look.new.inputs) c.loop-n.n s
+    c.loop-n.value c.in-Byte.byte look.1.0 look.0 look.1.1 refl (λ xs. rw test refl) (omega arith)))
 
 pub returns-in-End-clause-reads : goal.returns-in-End-clause-reads
-returns-in-End-clause-reads g c = record {
-  leaves = search rules;
-  step =
-      let s = c.loop-n.invariant.so_far in
-      let look = c.in-End.ensures.looks in
-      reads_map (value 0)
-      (λ y a (is, same). rw (is, same) c.loop-n.invariant.number)
-      (run_ends_last (run_length is_digit) (run_length is_digit) c.args.buffer.now c.loop-n.buffer c.look.new.self
-      (g.I.Inputs.files c.args.inputs.now) (g.I.Inputs.files c.loop-n.inputs) (g.I.Inputs.files c.look.new.inputs) c.loop-n.n s
-      c.loop-n.value look.0 look.1.0 look.1.1 refl (omega arith));
-}
+returns-in-End-clause-reads g c =
+    leaving (search rules)
+    (let s = c.loop-n.invariant.so_far in
+    let look = c.in-End.ensures.looks in
+    reads_map (value 0)
+    (λ y a (is, same). rw (is, same) c.loop-n.invariant.number)
+    (run_ends_last (run_length is_digit) (run_length is_digit) c.args.buffer.now c.loop-n.buffer c.look.new.self
+    (g.I.Inputs.files c.args.inputs.now) (g.I.Inputs.files c.loop-n.inputs) (g.I.Inputs.files c.look.new.inputs) c.loop-n.n s
+    c.loop-n.value look.0 look.1.0 look.1.1 refl (omega arith)))
 
 pub loop-n-preserved : goal.loop-n-preserved
 loop-n-preserved g c =
@@ -56,22 +53,18 @@ loop-n-preserved g c =
     }
 
 pub returns-in-Fault-clause-reads : goal.returns-in-Fault-clause-reads
-returns-in-Fault-clause-reads g c = record {
-  leaves = search rules;
-  step =
-      let look = c.in-Fault.ensures.looks in
-      reads_stop (λ ds rest. Takes false (value 0 ds) rest)
-      (run_fails (run_length is_digit) (run_length is_digit) c.args.buffer.now c.loop-n.buffer c.look.new.self
-      (g.I.Inputs.files c.args.inputs.now) (g.I.Inputs.files c.loop-n.inputs) (g.I.Inputs.files c.look.new.inputs) c.loop-n.n c.loop-n.invariant.so_far
-      (λ (x : ℕ) (ds : List ℕ). Unit {0}) look.0 look.1 look.2 look.3 refl (omega arith));
-}
+returns-in-Fault-clause-reads g c =
+    leaving (search rules)
+    (let look = c.in-Fault.ensures.looks in
+    reads_stop (λ ds rest. Takes false (value 0 ds) rest)
+    (run_fails (run_length is_digit) (run_length is_digit) c.args.buffer.now c.loop-n.buffer c.look.new.self
+    (g.I.Inputs.files c.args.inputs.now) (g.I.Inputs.files c.loop-n.inputs) (g.I.Inputs.files c.look.new.inputs) c.loop-n.n c.loop-n.invariant.so_far
+    (λ (x : ℕ) (ds : List ℕ). Unit {0}) look.0 look.1 look.2 look.3 refl (omega arith)))
 
 pub returns-clause-reads : goal.returns-clause-reads
-returns-clause-reads g c = record {
-  leaves = search rules;
-  step =
-      reads_stop (λ ds rest. Takes false (value 0 ds) rest)
-      (run_is_long (run_length is_digit) (run_length is_digit) c.args.buffer.now c.loop-n.buffer c.loop-n.buffer
-      (g.I.Inputs.files c.args.inputs.now) (g.I.Inputs.files c.loop-n.inputs) (g.I.Inputs.files c.loop-n.inputs) c.loop-n.n c.loop-n.invariant.so_far
-      (λ (x : ℕ) (ds : List ℕ). Unit {0}) (omega arith));
-}
+returns-clause-reads g c =
+    leaving (search rules)
+    (reads_stop (λ ds rest. Takes false (value 0 ds) rest)
+    (run_is_long (run_length is_digit) (run_length is_digit) c.args.buffer.now c.loop-n.buffer c.loop-n.buffer
+    (g.I.Inputs.files c.args.inputs.now) (g.I.Inputs.files c.loop-n.inputs) (g.I.Inputs.files c.loop-n.inputs) c.loop-n.n c.loop-n.invariant.so_far
+    (λ (x : ℕ) (ds : List ℕ). Unit {0}) (omega arith)))

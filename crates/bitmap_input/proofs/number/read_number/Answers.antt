@@ -5,38 +5,31 @@ use Rattle.bitmap_input.specs.Inner.Number.{kind_at}
 use Rattle.bitmap_input.specs.PageParts.{is_digit, number}
 use Rattle.bitmap_input.proofs.Telling.{reads_look, reads_fault, reads_end, reads_refused}
 use Rattle.bitmap_input.proofs.Digits.{number_at, no_number_at}
+use Rattle.bitmap_input.proofs.Leaving.{leaving}
 use Rattle.bitmap_input.proofs.number.read_number.Goals as goal
 
 pub returns-then-is_digit-clause-reads : goal.returns-then-is_digit-clause-reads
-returns-then-is_digit-clause-reads g c = record {
-  leaves = search rules;
-  step =
-      let look = c.in-Byte.ensures.looks in
-      let test : is_digit c.in-Byte.byte ≡ true = search rules in
-      reads_look {part = number (kind_at c.args.section)} refl look.1 look.0 (λ xs. number_at (kind_at c.args.section) c.in-Byte.byte xs test) c.read_digits.ensures.reads.step;
-}
+returns-then-is_digit-clause-reads g c =
+    leaving (search rules)
+    (let look = c.in-Byte.ensures.looks in
+    let test : is_digit c.in-Byte.byte ≡ true = search rules in
+    reads_look {part = number (kind_at c.args.section)} refl look.1 look.0 (λ xs. number_at (kind_at c.args.section) c.in-Byte.byte xs test) c.read_digits.ensures.reads.step)
 
 pub returns-in-Fault-clause-reads : goal.returns-in-Fault-clause-reads
-returns-in-Fault-clause-reads g c = record {
-  leaves = search rules;
-  step =
-      let look = c.in-Fault.ensures.looks in reads_fault {part = number (kind_at c.args.section)} refl look.0 look.1 look.2 look.3;
-}
+returns-in-Fault-clause-reads g c =
+    leaving (search rules)
+    (let look = c.in-Fault.ensures.looks in reads_fault {part = number (kind_at c.args.section)} refl look.0 look.1 look.2 look.3)
 
 pub returns-else-is_digit-clause-reads : goal.returns-else-is_digit-clause-reads
-returns-else-is_digit-clause-reads g c = record {
-  leaves = search rules;
-  step =
-      let look = c.in-Byte.ensures.looks in
-      let test : is_digit c.in-Byte.byte ≡ false = search rules in
-      reads_refused {part = number (kind_at c.args.section)} (Refused (kind_at c.args.section)) refl look.1 look.0
-      (λ xs. no_number_at (kind_at c.args.section) c.in-Byte.byte xs test) c.fault.ensures.cause;
-}
+returns-else-is_digit-clause-reads g c =
+    leaving (search rules)
+    (let look = c.in-Byte.ensures.looks in
+    let test : is_digit c.in-Byte.byte ≡ false = search rules in
+    reads_refused {part = number (kind_at c.args.section)} (Refused (kind_at c.args.section)) refl look.1 look.0
+    (λ xs. no_number_at (kind_at c.args.section) c.in-Byte.byte xs test) c.fault.ensures.cause)
 
 pub returns-in-End-clause-reads : goal.returns-in-End-clause-reads
-returns-in-End-clause-reads g c = record {
-  leaves = search rules;
-  step =
-      let look = c.in-End.ensures.looks in
-      reads_end {part = number (kind_at c.args.section)} (Refused Truncated) refl refl look.0 look.1.0 look.1.1;
-}
+returns-in-End-clause-reads g c =
+    leaving (search rules)
+    (let look = c.in-End.ensures.looks in
+    reads_end {part = number (kind_at c.args.section)} (Refused Truncated) refl refl look.0 look.1.0 look.1.1)

@@ -6,16 +6,15 @@ use Rattle.bitmap_input.specs.Inner.Raster.{with_pixels}
 use Rattle.bitmap_input.proofs.Appending.{plain_pixel_stays}
 use Rattle.bitmap_input.proofs.Gathering.{gathering_goes_on, gathering_stops, gathering_ends}
 use Rattle.bitmap_input.proofs.Painting.{pixel_painted, turned}
+use Rattle.bitmap_input.proofs.Leaving.{leaving}
 use Rattle.bitmap_input.proofs.plain.read_plain_row.Goals as goal
 
 pub returns-in_err-black-clause-reads : goal.returns-in_err-black-clause-reads
-returns-in_err-black-clause-reads g c = record {
-  leaves = search rules;
-  step =
-      let p = err_from_is_err_and c.from_residual.result c.from_residual.ensures.1 in
-      let one : c.args.page.now.width - c.loop-x.x ≡ suc (c.args.page.now.width - (c.loop-x.x + 1)) = omega arith in
-      rw (p.1, p.2) (gathering_stops (image_of c.loop-x.page) c.loop-x.invariant.so_far one c.in_err-black.ensures.reads.step);
-}
+returns-in_err-black-clause-reads g c =
+    leaving (search rules)
+    (let p = err_from_is_err_and c.from_residual.result c.from_residual.ensures.1 in
+    let one : c.args.page.now.width - c.loop-x.x ≡ suc (c.args.page.now.width - (c.loop-x.x + 1)) = omega arith in
+    rw (p.1, p.2) (gathering_stops (image_of c.loop-x.page) c.loop-x.invariant.so_far one c.in_err-black.ensures.reads.step))
 
 pub loop-x-preserved : goal.loop-x-preserved
 loop-x-preserved g c =
@@ -31,8 +30,6 @@ loop-x-preserved g c =
     }
 
 pub returns-clause-reads : goal.returns-clause-reads
-returns-clause-reads g c = record {
-  leaves = search rules;
-  step =
-      gathering_ends (image_of c.loop-x.page) c.loop-x.invariant.so_far (omega arith) refl;
-}
+returns-clause-reads g c =
+    leaving (search rules)
+    (gathering_ends (image_of c.loop-x.page) c.loop-x.invariant.so_far (omega arith) refl)

@@ -6,6 +6,7 @@ use Rattle.bitmap_input.specs.Inner.Stored.{is_black_pixel}
 use Rattle.bitmap_input.proofs.Bodies.{row_stays}
 use Rattle.bitmap_input.proofs.Gathering.{gathering_goes_on, gathering_stops, gathering_ends}
 use Rattle.bitmap_input.proofs.Placing.{row_painted}
+use Rattle.bitmap_input.proofs.Leaving.{leaving}
 use Rattle.bitmap_input.proofs.raster.read_rows.Goals as goal
 
 pub loop-y-preserved : goal.loop-y-preserved
@@ -25,18 +26,14 @@ loop-y-preserved g c =
     }
 
 pub returns-in_err-read_row-clause-reads : goal.returns-in_err-read_row-clause-reads
-returns-in_err-read_row-clause-reads g c = record {
-  leaves = search rules;
-  step =
-      let p = err_from_is_err_and c.from_residual.result c.from_residual.ensures.1 in
-      let one : c.loop-y.y ≡ suc (c.loop-y.y - 1) = omega arith in
-      let row = rw c.loop-y.invariant.sides.width at c.in_err-read_row.ensures.reads.step in
-      rw (p.1, p.2) (gathering_stops (image_of c.read_row.new.page) c.loop-y.invariant.so_far one row);
-}
+returns-in_err-read_row-clause-reads g c =
+    leaving (search rules)
+    (let p = err_from_is_err_and c.from_residual.result c.from_residual.ensures.1 in
+    let one : c.loop-y.y ≡ suc (c.loop-y.y - 1) = omega arith in
+    let row = rw c.loop-y.invariant.sides.width at c.in_err-read_row.ensures.reads.step in
+    rw (p.1, p.2) (gathering_stops (image_of c.read_row.new.page) c.loop-y.invariant.so_far one row))
 
 pub returns-clause-reads : goal.returns-clause-reads
-returns-clause-reads g c = record {
-  leaves = search rules;
-  step =
-      gathering_ends (image_of c.loop-y.page) c.loop-y.invariant.so_far (omega arith) refl;
-}
+returns-clause-reads g c =
+    leaving (search rules)
+    (gathering_ends (image_of c.loop-y.page) c.loop-y.invariant.so_far (omega arith) refl)

@@ -1,5 +1,6 @@
 use Rattle.std.proofs.Common.{arith, rules, ◌≤◌, length}
 use Rattle.bitmap_input.proofs.Blocks.{block_begins, block_is_short, block_fails, block_ends, block_goes_on, filled_within}
+use Rattle.bitmap_input.proofs.Leaving.{leaving}
 use Rattle.bitmap_input.proofs.raw.read_block.Goals as goal
 
 pub loop-done-init : goal.loop-done-init
@@ -21,24 +22,18 @@ loop-done-preserved g c =
     }
 
 pub returns-in-End-clause-reads : goal.returns-in-End-clause-reads
-returns-in-End-clause-reads g c = record {
-  leaves = search rules;
-  step =
-      let look = c.in-End.ensures.looks in
-      block_is_short _ c.loop-done.done c.loop-done.row _ c.loop-done.invariant.so_far c.loop-done.auto.row (omega arith) look.0 look.1.0 look.1.1;
-}
+returns-in-End-clause-reads g c =
+    leaving (search rules)
+    (let look = c.in-End.ensures.looks in
+    block_is_short _ c.loop-done.done c.loop-done.row _ c.loop-done.invariant.so_far c.loop-done.auto.row (omega arith) look.0 look.1.0 look.1.1)
 
 pub returns-in-Fault-clause-reads : goal.returns-in-Fault-clause-reads
-returns-in-Fault-clause-reads g c = record {
-  leaves = search rules;
-  step =
-      let look = c.in-Fault.ensures.looks in
-      block_fails c.loop-done.invariant.so_far (omega (arith, c.loop-done.auto.row)) look.0 look.1 look.2 look.3;
-}
+returns-in-Fault-clause-reads g c =
+    leaving (search rules)
+    (let look = c.in-Fault.ensures.looks in
+    block_fails c.loop-done.invariant.so_far (omega (arith, c.loop-done.auto.row)) look.0 look.1 look.2 look.3)
 
 pub returns-clause-reads : goal.returns-clause-reads
-returns-clause-reads g c = record {
-  leaves = search rules;
-  step =
-      block_ends c.loop-done.invariant.so_far c.loop-done.auto.row (omega (arith, c.loop-done.auto.row));
-}
+returns-clause-reads g c =
+    leaving (search rules)
+    (block_ends c.loop-done.invariant.so_far c.loop-done.auto.row (omega (arith, c.loop-done.auto.row)))

@@ -5,36 +5,28 @@ use Rattle.bitmap_input.specs.Front.{magic}
 use Rattle.bitmap_input.specs.Inner.Behind.{counted_body}
 use Rattle.bitmap_input.proofs.Appending.{spaces_stay, magic_stays}
 use Rattle.bitmap_input.proofs.Telling.{reads_on, reads_stop}
+use Rattle.bitmap_input.proofs.Leaving.{leaving}
 use Rattle.bitmap_input.proofs.reader.read_page.Goals as goal
 
 pub returns-in_err-skip : goal.returns-in_err-skip
 returns-in_err-skip g c = record {
-  reads = record {
-    leaves = search rules;
-    step =
-        let p = err_from_is_err_and c.from_residual.result c.from_residual.ensures.1 in
-        rw (p.1, p.2) (reads_stop (λ _ rest. magic c.args.later rest >>= λ m rest. counted_body m rest) c.in_err-skip.ensures.reads.step);
-  };
+  reads = leaving (search rules)
+      (let p = err_from_is_err_and c.from_residual.result c.from_residual.ensures.1 in
+      rw (p.1, p.2) (reads_stop (λ _ rest. magic c.args.later rest >>= λ m rest. counted_body m rest) c.in_err-skip.ensures.reads.step));
 }
 
 pub returns-in_err-format : goal.returns-in_err-format
 returns-in_err-format g c = record {
-  reads = record {
-    leaves = search rules;
-    step =
-        let p = err_from_is_err_and c.from_residual-in_err-format.result c.from_residual-in_err-format.ensures.1 in
-        rw (p.1, p.2) (reads_on spaces_stay c.in_ok-skip.ensures.reads.step
-        (λ _ _. reads_stop (λ m rest. counted_body m rest) c.in_err-format.ensures.reads.step));
-  };
+  reads = leaving (search rules)
+      (let p = err_from_is_err_and c.from_residual-in_err-format.result c.from_residual-in_err-format.ensures.1 in
+      rw (p.1, p.2) (reads_on spaces_stay c.in_ok-skip.ensures.reads.step
+      (λ _ _. reads_stop (λ m rest. counted_body m rest) c.in_err-format.ensures.reads.step)));
 }
 
 pub returns : goal.returns
 returns g c = record {
-  reads = record {
-    leaves = search rules;
-    step =
-        reads_on spaces_stay c.in_ok-skip.ensures.reads.step
-        (λ _ _. reads_on (magic_stays c.args.later) c.in_ok-format.ensures.reads.step
-        (λ m is. rw is c.read_body.ensures.reads.step));
-  };
+  reads = leaving (search rules)
+      (reads_on spaces_stay c.in_ok-skip.ensures.reads.step
+      (λ _ _. reads_on (magic_stays c.args.later) c.in_ok-format.ensures.reads.step
+      (λ m is. rw is c.read_body.ensures.reads.step)));
 }

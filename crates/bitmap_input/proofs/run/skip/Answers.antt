@@ -3,6 +3,7 @@ use Rattle.bitmap_input.specs.Inner.Reading.{Any}
 use Rattle.bitmap_input.specs.Inner.ByteRuns.{run_size}
 use Rattle.bitmap_input.proofs.Telling.{reads_weaken}
 use Rattle.bitmap_input.proofs.Running.{length_of-nil, run_begins, run_ends_at, run_ends_last, run_fails, run_is_long, run_goes_on}
+use Rattle.bitmap_input.proofs.Leaving.{leaving}
 use Rattle.bitmap_input.proofs.run.skip.Goals as goal
 
 pub loop-n-init : goal.loop-n-init
@@ -13,28 +14,24 @@ loop-n-init g c = record {
 }
 
 pub returns-in-None-clause-reads : goal.returns-in-None-clause-reads
-returns-in-None-clause-reads g c = record {
-  leaves = search rules;
-  step =
-      let s = c.loop-n.invariant.so_far in
-      let look = c.in-Byte.ensures.looks in
-      reads_weaken (λ _ _ _. tt)
-      (run_ends_at (run_size c.args.run) (run_size c.loop-n.run) c.args.buffer.now c.loop-n.buffer c.look.new.self
-      (g.I.Inputs.files c.args.inputs.now) (g.I.Inputs.files c.loop-n.inputs) (g.I.Inputs.files c.look.new.inputs) c.loop-n.n s
-      (tt {0}) c.in-Byte.byte look.1.0 look.0 look.1.1 (length_of-nil c.loop-n.run) c.in-None.ensures (omega arith));
-}
+returns-in-None-clause-reads g c =
+    leaving (search rules)
+    (let s = c.loop-n.invariant.so_far in
+    let look = c.in-Byte.ensures.looks in
+    reads_weaken (λ _ _ _. tt)
+    (run_ends_at (run_size c.args.run) (run_size c.loop-n.run) c.args.buffer.now c.loop-n.buffer c.look.new.self
+    (g.I.Inputs.files c.args.inputs.now) (g.I.Inputs.files c.loop-n.inputs) (g.I.Inputs.files c.look.new.inputs) c.loop-n.n s
+    (tt {0}) c.in-Byte.byte look.1.0 look.0 look.1.1 (length_of-nil c.loop-n.run) c.in-None.ensures (omega arith)))
 
 pub returns-in-End-clause-reads : goal.returns-in-End-clause-reads
-returns-in-End-clause-reads g c = record {
-  leaves = search rules;
-  step =
-      let s = c.loop-n.invariant.so_far in
-      let look = c.in-End.ensures.looks in
-      reads_weaken (λ _ _ _. tt)
-      (run_ends_last (run_size c.args.run) (run_size c.loop-n.run) c.args.buffer.now c.loop-n.buffer c.look.new.self
-      (g.I.Inputs.files c.args.inputs.now) (g.I.Inputs.files c.loop-n.inputs) (g.I.Inputs.files c.look.new.inputs) c.loop-n.n s
-      (tt {0}) look.0 look.1.0 look.1.1 (length_of-nil c.loop-n.run) (omega arith));
-}
+returns-in-End-clause-reads g c =
+    leaving (search rules)
+    (let s = c.loop-n.invariant.so_far in
+    let look = c.in-End.ensures.looks in
+    reads_weaken (λ _ _ _. tt)
+    (run_ends_last (run_size c.args.run) (run_size c.loop-n.run) c.args.buffer.now c.loop-n.buffer c.look.new.self
+    (g.I.Inputs.files c.args.inputs.now) (g.I.Inputs.files c.loop-n.inputs) (g.I.Inputs.files c.look.new.inputs) c.loop-n.n s
+    (tt {0}) look.0 look.1.0 look.1.1 (length_of-nil c.loop-n.run) (omega arith)))
 
 pub loop-n-preserved : goal.loop-n-preserved
 loop-n-preserved g c =
@@ -48,20 +45,16 @@ loop-n-preserved g c =
     }
 
 pub returns-in-Fault-clause-reads : goal.returns-in-Fault-clause-reads
-returns-in-Fault-clause-reads g c = record {
-  leaves = search rules;
-  step =
-      let look = c.in-Fault.ensures.looks in
-      run_fails (run_size c.args.run) (run_size c.loop-n.run) c.args.buffer.now c.loop-n.buffer c.look.new.self
-      (g.I.Inputs.files c.args.inputs.now) (g.I.Inputs.files c.loop-n.inputs) (g.I.Inputs.files c.look.new.inputs) c.loop-n.n c.loop-n.invariant.so_far
-      (Any {X = Unit {0}} {A = List ℕ}) look.0 look.1 look.2 look.3 (length_of-nil c.loop-n.run) (omega arith);
-}
+returns-in-Fault-clause-reads g c =
+    leaving (search rules)
+    (let look = c.in-Fault.ensures.looks in
+    run_fails (run_size c.args.run) (run_size c.loop-n.run) c.args.buffer.now c.loop-n.buffer c.look.new.self
+    (g.I.Inputs.files c.args.inputs.now) (g.I.Inputs.files c.loop-n.inputs) (g.I.Inputs.files c.look.new.inputs) c.loop-n.n c.loop-n.invariant.so_far
+    (Any {X = Unit {0}} {A = List ℕ}) look.0 look.1 look.2 look.3 (length_of-nil c.loop-n.run) (omega arith))
 
 pub returns-clause-reads : goal.returns-clause-reads
-returns-clause-reads g c = record {
-  leaves = search rules;
-  step =
-      run_is_long (run_size c.args.run) (run_size c.loop-n.run) c.args.buffer.now c.loop-n.buffer c.loop-n.buffer
-      (g.I.Inputs.files c.args.inputs.now) (g.I.Inputs.files c.loop-n.inputs) (g.I.Inputs.files c.loop-n.inputs) c.loop-n.n c.loop-n.invariant.so_far
-      (Any {X = Unit {0}} {A = List ℕ}) (omega arith);
-}
+returns-clause-reads g c =
+    leaving (search rules)
+    (run_is_long (run_size c.args.run) (run_size c.loop-n.run) c.args.buffer.now c.loop-n.buffer c.loop-n.buffer
+    (g.I.Inputs.files c.args.inputs.now) (g.I.Inputs.files c.loop-n.inputs) (g.I.Inputs.files c.loop-n.inputs) c.loop-n.n c.loop-n.invariant.so_far
+    (Any {X = Unit {0}} {A = List ℕ}) (omega arith))

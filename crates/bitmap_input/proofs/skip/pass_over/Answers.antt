@@ -1,5 +1,6 @@
 use Rattle.std.proofs.Common.{arith, rules, refl}
 use Rattle.bitmap_input.proofs.Skipping.{skip_begins, skip_goes_on, skip_ends, skip_is_short, skip_fails}
+use Rattle.bitmap_input.proofs.Leaving.{leaving}
 use Rattle.bitmap_input.proofs.skip.pass_over.Goals as goal
 
 pub loop-left-init : goal.loop-left-init
@@ -18,29 +19,20 @@ loop-left-preserved g c =
 
 pub returns-in-End : goal.returns-in-End
 returns-in-End g c = record {
-  reads = record {
-    leaves = search rules;
-    step =
-        let look = c.in-End.ensures.looks in
-        skip_is_short c.loop-left.left c.loop-left.invariant.so_far c.loop-left-test.true look.0 look.1.0 look.1.1;
-  };
+  reads = leaving (search rules)
+      (let look = c.in-End.ensures.looks in
+      skip_is_short c.loop-left.left c.loop-left.invariant.so_far c.loop-left-test.true look.0 look.1.0 look.1.1);
 }
 
 pub returns-in-Fault : goal.returns-in-Fault
 returns-in-Fault g c = record {
-  reads = record {
-    leaves = search rules;
-    step =
-        let look = c.in-Fault.ensures.looks in
-        skip_fails c.loop-left.left c.loop-left.invariant.so_far c.loop-left-test.true look.0 look.1 look.2 look.3;
-  };
+  reads = leaving (search rules)
+      (let look = c.in-Fault.ensures.looks in
+      skip_fails c.loop-left.left c.loop-left.invariant.so_far c.loop-left-test.true look.0 look.1 look.2 look.3);
 }
 
 pub returns : goal.returns
 returns g c = record {
-  reads = record {
-    leaves = search rules;
-    step =
-        skip_ends c.loop-left.invariant.so_far (omega arith);
-  };
+  reads = leaving (search rules)
+      (skip_ends c.loop-left.invariant.so_far (omega arith));
 }
