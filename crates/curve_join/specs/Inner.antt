@@ -1,4 +1,5 @@
 -- What inner contracts alone speak of: no promise rests on it.
+pub mod Areas
 pub mod Bends
 pub mod Choice
 pub mod Costs

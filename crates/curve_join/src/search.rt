@@ -161,8 +161,7 @@ fn better(runs: &Runs, from: u32, way: WayOn, best: WayOn) -> WayOn
     if !way.is_before(best) {
         return best;
     }
-    let run = &runs.bends[from as usize..way.next as usize];
-    let Some((_, penalty)) = joined_round(runs.tol, run) else {
+    let Some((_, penalty)) = joined_round(runs.tol, &runs.run(from, way.next)) else {
         return best;
     };
     let way = WayOn {

@@ -1,22 +1,14 @@
 use Rattle.std.proofs.Common.{◌≡◌, ℕ, ◌+◌, ◌-◌, ◌<◌, inr, refl, ap, ◌∙◌, subst, arith, inl}
-use Rattle.curve_join.specs.Inner.Costs.{slice_most}
 use Rattle.curve_join.specs.Inner.CutSearch.{IsNotBehind, paid}
 use Rattle.curve_join.specs.declared.search.WayOn.{WayOn}
-use Rattle.curve_join.proofs.Slices.{joinable, may_be_one, penalty_is, some_of_slice, shown_small}
+use Rattle.curve_join.proofs.Slices.{joinable, may_be_one, penalty_is}
 use Rattle.curve_join.proofs.search.better.Goals as goal
 
 not_single : (i j : ℕ) → i + 1 < j → ¬ (j - i ≡ 1)
 not_single i j onwards = λ e. omega arith
 
--- the run is looked at through a slice
-pub joined_round-requires-clause-some : goal.joined_round-requires-clause-some
-joined_round-requires-clause-some c = rw c.deref.ensures.value (some_of_slice c.args.runs.now.bends.items c.args.from c.args.way.next c.requires.onwards c.requires.within)
-
-pub joined_round-requires-clause-few : goal.joined_round-requires-clause-few
-joined_round-requires-clause-few c = omega (arith, slice_most c.deref.result.now c.args.from c.args.way.next, c.requires.few)
-
 pub joined_round-requires-clause-round : goal.joined_round-requires-clause-round
-joined_round-requires-clause-round c = rw c.deref.ensures.value c.requires.round
+joined_round-requires-clause-round c = rw c.run.ensures c.requires.round
 
 -- what comes behind without the penalty does so with it
 behind_paid : (best way : WayOn) (penalty : ℕ) → IsNotBehind best way → IsNotBehind best (paid penalty way)
@@ -36,16 +28,16 @@ pub returns-then-not-is_before-clause-run : goal.returns-then-not-is_before-clau
 returns-then-not-is_before-clause-run c = λ may. behind_paid c.args.best c.args.way _ (c.if-not-is_before.ensures.not refl)
 
 pub returns-in_default-clause-run : goal.returns-in_default-clause-run
-returns-in_default-clause-run c = λ may. absurd (c.in_default.ensures.none (joinable c.args.runs.now.bends.items c.deref.result.now c.args.from c.args.way.next c.deref.ensures.value (not_single c.args.from c.args.way.next c.requires.onwards) c.args.runs.now.tol may))
+returns-in_default-clause-run c = λ may. absurd (c.in_default.ensures.none (joinable c.args.runs.now.bends.items c.run.result.bends.now c.args.from c.args.way.next c.run.ensures (not_single c.args.from c.args.way.next c.requires.onwards) c.args.runs.now.tol may))
 
 pub returns-then-is_before-clause-run : goal.returns-then-is_before-clause-run
-returns-then-is_before-clause-run c = λ may. paid_same c.args.way _ _ (c.from.ensures ∙ penalty_is c.args.runs.now.bends.items c.deref.result.now c.args.from c.args.way.next c.deref.ensures.value (not_single c.args.from c.args.way.next c.requires.onwards) c.in-Some.penalty c.in-Some.ensures.penalty)
+returns-then-is_before-clause-run c = λ may. paid_same c.args.way _ _ (c.from.ensures ∙ penalty_is c.args.runs.now.bends.items c.run.result.bends.now c.args.from c.args.way.next c.run.ensures (not_single c.args.from c.args.way.next c.requires.onwards) c.in-Some.penalty c.in-Some.ensures.penalty)
 
 pub returns-then-is_before-clause-one : goal.returns-then-is_before-clause-one
 returns-then-is_before-clause-one c =
     inr (
-      may_be_one c.args.runs.now.bends.items c.deref.result.now c.args.from c.args.way.next c.deref.ensures.value (not_single c.args.from c.args.way.next c.requires.onwards) c.args.runs.now.tol c.requires.within c.in-Some.ensures.some,
-      ap (λ n. paid n c.args.way) (c.from.ensures ∙ penalty_is c.args.runs.now.bends.items c.deref.result.now c.args.from c.args.way.next c.deref.ensures.value (not_single c.args.from c.args.way.next c.requires.onwards) c.in-Some.penalty c.in-Some.ensures.penalty),
+      may_be_one c.args.runs.now.bends.items c.run.result.bends.now c.args.from c.args.way.next c.run.ensures (not_single c.args.from c.args.way.next c.requires.onwards) c.args.runs.now.tol c.requires.within c.in-Some.ensures.some,
+      ap (λ n. paid n c.args.way) (c.from.ensures ∙ penalty_is c.args.runs.now.bends.items c.run.result.bends.now c.args.from c.args.way.next c.run.ensures (not_single c.args.from c.args.way.next c.requires.onwards) c.in-Some.penalty c.in-Some.ensures.penalty),
     )
 
 pub returns-then-not-is_before-clause-best : goal.returns-then-not-is_before-clause-best
@@ -60,20 +52,8 @@ returns-else-is_before-clause-best c = no_worse c.args.best
 pub returns-then-not-is_before-clause-one : goal.returns-then-not-is_before-clause-one
 returns-then-not-is_before-clause-one c = inl refl
 
-pub overflow_cast-run-2 : goal.overflow_cast-run-2
-overflow_cast-run-2 c = record { fits = omega (arith, c.requires.within, c.args.runs.now.most) }
-
-pub offset_bounds-deref-from : goal.offset_bounds-deref-from
-offset_bounds-deref-from c = record { fits = omega (arith, c.requires.from, c.args.runs.now.most) }
-
-pub slice_bounds-run-count : goal.slice_bounds-run-count
-slice_bounds-run-count c = omega (arith, c.requires.onwards)
-
 pub joined_round-requires-clause-tol : goal.joined_round-requires-clause-tol
 joined_round-requires-clause-tol c = c.args.runs.now.tolerance
-
-pub joined_round-requires-clause-small : goal.joined_round-requires-clause-small
-joined_round-requires-clause-small c = shown_small c.args.runs.now.bends.items c.deref.result.now c.args.from c.args.way.next c.deref.ensures.value c.args.runs.now.small
 
 pub returns-in_default-clause-one : goal.returns-in_default-clause-one
 returns-in_default-clause-one c = inl refl
@@ -86,5 +66,5 @@ returns-else-is_before-clause-one c = inl refl
 
 pub returns-else-is_before-clause-run : goal.returns-else-is_before-clause-run
 returns-else-is_before-clause-run c = λ may. subst (λ n. IsNotBehind c.args.best (paid n c.args.way))
-    (c.from.ensures ∙ penalty_is c.args.runs.now.bends.items c.deref.result.now c.args.from c.args.way.next c.deref.ensures.value (not_single c.args.from c.args.way.next c.requires.onwards) c.in-Some.penalty c.in-Some.ensures.penalty)
+    (c.from.ensures ∙ penalty_is c.args.runs.now.bends.items c.run.result.bends.now c.args.from c.args.way.next c.run.ensures (not_single c.args.from c.args.way.next c.requires.onwards) c.in-Some.penalty c.in-Some.ensures.penalty)
     (c.if-is_before.ensures.not refl)
