@@ -50,6 +50,9 @@ area_most start placed run small most few = omega (arith, total_small start plac
 pub area_small : (run : List Bend) → All IsWorkable run → 2 ≤ length run → length run ≤ 64 → (z : ℤ) → z ≡ area_at run → unsigned_abs z ≤ 2 ^ 70
 area_small run small some few z ez = rw ez (omega (arith, area_most (first_bend run).start (small 0 no_bend (omega arith)).start run small 64 few))
 
+pub area_there : (run : List Bend) → All IsWorkable run → 2 ≤ length run → length run ≤ 64 → (z : ℤ) → z ≡ area_at run → to_z w128 (of_z w128 z) ≡ area_at run
+area_there run small some few z ez = long_back z (omega (arith, area_small run small some few z ez)) ∙ ez
+
 pub at_origin : IsPlaced (2 ^ 26) origin
 at_origin = record { x = omega arith; y = omega arith }
 

@@ -1,11 +1,13 @@
 -- Runs as slices of the pieces.
-use Rattle.std.proofs.Common.{◌≡◌, ℕ, ◌+◌, ◌-◌, ◌≤◌, Bool, true, false, cond, nat_eq, List, length, drop, length-drop, Option, None, Some, IfSome, IfNone, IsTrue, ◌↔◌, inl, inr, refl, ap, ◌∙◌, arith}
+use Rattle.std.proofs.Common.{◌≡◌, ℕ, ◌+◌, ◌-◌, ◌≤◌, Bool, true, false, cond, nat_eq, List, length, drop, length-drop, Option, None, Some, IsTrue, ◌↔◌, inl, inr, refl, ap, ◌∙◌, arith}
 use Rattle.std.proofs.lemmas.Bool.Decides.{nat_tests}
 use Rattle.std.proofs.lemmas.List.{length-take}
 use Rattle.std.specs.Prelude.{is_some}
 use Rattle.std.specs.List.{slice_range}
+use Rattle.pt_core.specs.declared.piece.Piece.{Piece}
 use Rattle.curve_join.specs.Choice.{MayBeOne, run_penalty}
-use Rattle.curve_join.specs.Join.{MayJoin, penalty_at}
+use Rattle.curve_join.proofs.Giving.{IsJoinGiven}
+use Rattle.curve_join.specs.Join.{MayJoin, joined_piece, penalty_at}
 use Rattle.curve_join.specs.declared.bend.Bend.{Bend}
 
 if_false : (b : Bool) (n : ℕ) → b ≡ false → n ≡ cond b 0 n
@@ -33,13 +35,13 @@ module _ (bends run : List Bend) (i j : ℕ) (same : run ≡ slice_range bends i
   pub may_be_one : (tol : ℕ) → j ≤ length bends → MayJoin tol run → MayBeOne tol bends i j
   may_be_one tol within may = inr (within, rw same at may)
 
-  pub penalty_is : (penalty : ℕ) → penalty ≡ penalty_at run → penalty ≡ run_penalty bends i j
-  penalty_is penalty is =
+  pub penalty_is : (piece : Piece) (penalty : ℕ) → ◌≡◌ {A = Piece × ℕ} (piece, penalty) (joined_piece run, penalty_at run) → penalty ≡ run_penalty bends i j
+  penalty_is piece penalty is =
       let other : ¬ (j ≡ i + 1) = λ e. more (omega arith) in
       let choice : nat_eq j (i + 1) ≡ false = grind (arith, nat_tests) in
-      is ∙ ap penalty_at same ∙ if_false (nat_eq j (i + 1)) (penalty_at (slice_range bends i j)) choice
+      ap (λ both. both.1) is ∙ ap penalty_at same ∙ if_false (nat_eq j (i + 1)) (penalty_at (slice_range bends i j)) choice
 
-  pub allowed_is : {X : Type 0} → (tol : ℕ) (found : Option X) (answer : Bool) → j ≤ length bends → answer ≡ is_some found
-      → IfSome found (λ _. MayJoin tol run) → IfNone found (¬ MayJoin tol run) → IsTrue answer ↔ MayBeOne tol bends i j
-  allowed_is tol (Some x) answer within is some none = (λ _. may_be_one tol within some, λ _. is)
-  allowed_is tol None answer within is some none = (λ yes. absurd (cc), λ may. absurd (none (joinable tol may)))
+  pub allowed_is : (tol : ℕ) (found : Option (Piece × ℕ)) (answer : Bool) → j ≤ length bends → answer ≡ is_some found → IsJoinGiven tol run found
+      → IsTrue answer ↔ MayBeOne tol bends i j
+  allowed_is tol (Some both) answer within is given = (λ _. may_be_one tol within given.holds, λ _. is)
+  allowed_is tol None answer within is given = (λ yes. absurd (cc), λ may. absurd (given (joinable tol may)))

@@ -2,6 +2,7 @@
 pub mod Areas
 pub mod Bends
 pub mod Choice
+pub mod Conditions
 pub mod Costs
 pub mod Cubic
 pub mod CutSearch

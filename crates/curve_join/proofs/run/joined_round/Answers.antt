@@ -1,35 +1,45 @@
-use Rattle.std.proofs.Common.{◌-◌, length, ◌∙◌, arith}
+use Rattle.std.proofs.Common.{◌≡◌, ◌+◌, ◌-◌, length, ap, ◌∙◌, arith}
 use Rattle.std.proofs.lemmas.List.{length-take}
 use Rattle.std.proofs.lemmas.List.Elements.{All-take}
 use Rattle.curve_join.specs.Inner.Bends.{IsWorkable}
+use Rattle.curve_join.specs.Inner.Costs.{joined_small}
+use Rattle.curve_join.specs.Join.{MayJoin, penalty_at}
+use Rattle.curve_join.proofs.Giving.{both_are}
 use Rattle.curve_join.proofs.Joining.{joined_is, may_join, not_covering, not_curved, not_following, penalty_there}
 use Rattle.curve_join.proofs.run.joined_round.Goals as goal
 
-pub returns-in_default-clause-none : goal.returns-in_default-clause-none
-returns-in_default-clause-none c = not_curved c.args.tol c.args.run.now.bends.now c.in_default.ensures.none
+-- the curve is the run's, and the run may be joined at this penalty
+module _ (c : goal.After-piece) where
+  may : MayJoin c.args.tol c.args.run.now.bends.now
+  may =
+      may_join c.args.tol c.args.run.now.bends.now c.in-Some.cubic (ap (λ both. both.0) c.in-Some.ensures.given.is) c.sense.result c.sense.ensures
+      c.args.run.now.some c.args.run.now.few c.requires.round
+      c.in-Some.ensures.given.holds.0 c.in-Some.ensures.given.holds.1 c.in-Some-sides_penalty.ensures.holds c.in-Some-pieces_penalty.ensures.holds
 
-pub returns-in_default-sides_penalty-clause-none : goal.returns-in_default-sides_penalty-clause-none
-returns-in_default-sides_penalty-clause-none c =
-    not_following c.args.tol c.args.run.now.bends.now c.in-Some.curve.cubic c.in-Some.ensures.cubic c.in_default-sides_penalty.ensures.none
+  penalty_is : c.in-Some-sides_penalty.sides + c.in-Some-pieces_penalty.pieces ≡ penalty_at c.args.run.now.bends.now
+  penalty_is =
+      penalty_there c.args.tol c.args.run.now.bends.now c.in-Some.cubic (ap (λ both. both.0) c.in-Some.ensures.given.is) c.sense.result c.sense.ensures
+      c.in-Some-sides_penalty.sides c.in-Some-pieces_penalty.pieces c.in-Some-sides_penalty.ensures.is c.in-Some-pieces_penalty.ensures.is
 
-pub returns-in_default-pieces_penalty-clause-none : goal.returns-in_default-pieces_penalty-clause-none
-returns-in_default-pieces_penalty-clause-none c =
-    not_covering c.args.tol c.args.run.now.bends.now c.in-Some.curve.cubic c.in-Some.ensures.cubic c.sense.result c.sense.ensures c.in_default-pieces_penalty.ensures.none
+pub returns-in_default : goal.returns-in_default
+returns-in_default c = not_curved c.args.tol c.args.run.now.bends.now c.in_default.ensures.given
 
-pub returns-clause-some : goal.returns-clause-some
-returns-clause-some c =
-    may_join c.args.tol c.args.run.now.bends.now c.in-Some.curve.cubic c.in-Some.ensures.cubic c.sense.result c.sense.ensures
-    c.args.run.now.some c.args.run.now.few c.requires.round
-    c.in-Some.ensures.tangents c.in-Some.ensures.area c.in-Some-sides_penalty.ensures.some c.in-Some-pieces_penalty.ensures.some
+pub returns-in_default-sides_penalty : goal.returns-in_default-sides_penalty
+returns-in_default-sides_penalty c =
+    not_following c.args.tol c.args.run.now.bends.now c.in-Some.cubic (ap (λ both. both.0) c.in-Some.ensures.given.is) c.in_default-sides_penalty.ensures
 
-pub returns-clause-piece : goal.returns-clause-piece
-returns-clause-piece c =
-    c.piece.ensures ∙ joined_is c.args.run.now.bends.now c.in-Some.curve.cubic c.in-Some.curve.alpha c.in-Some.ensures.cubic c.in-Some.ensures.alpha
+pub returns-in_default-pieces_penalty : goal.returns-in_default-pieces_penalty
+returns-in_default-pieces_penalty c =
+    not_covering c.args.tol c.args.run.now.bends.now c.in-Some.cubic (ap (λ both. both.0) c.in-Some.ensures.given.is) c.sense.result c.sense.ensures
+    c.in_default-pieces_penalty.ensures
 
-pub returns-clause-penalty : goal.returns-clause-penalty
-returns-clause-penalty c =
-    penalty_there c.args.tol c.args.run.now.bends.now c.in-Some.curve.cubic c.in-Some.ensures.cubic c.sense.result c.sense.ensures
-    c.in-Some-sides_penalty.sides c.in-Some-pieces_penalty.pieces c.in-Some-sides_penalty.ensures.value c.in-Some-pieces_penalty.ensures.value
+pub returns : goal.returns
+returns c = record {
+  holds = may c;
+  is = both_are
+      (c.piece.ensures ∙ joined_is c.args.run.now.bends.now c.in-Some.cubic c.in-Some.alpha (ap (λ both. both.0) c.in-Some.ensures.given.is) (ap (λ both. both.1) c.in-Some.ensures.given.is))
+      (penalty_is c);
+}
 
 pub sides_penalty-requires-clause-small : goal.sides_penalty-requires-clause-small
 sides_penalty-requires-clause-small c = All-take IsWorkable (length c.args.run.now.bends.now - 1) c.args.run.now.bends.now c.args.run.now.small
@@ -62,4 +72,4 @@ pub pieces_penalty-requires-clause-few : goal.pieces_penalty-requires-clause-few
 pieces_penalty-requires-clause-few c = c.args.run.now.few
 
 pub overflow_add-result : goal.overflow_add-result
-overflow_add-result c = record { fits = omega (arith, c.in-Some-sides_penalty.ensures.most, c.in-Some-pieces_penalty.ensures.most) }
+overflow_add-result c = record { fits = omega (arith, penalty_is c, joined_small c.args.tol c.requires.tol c.args.run.now.bends.now (may c)) }

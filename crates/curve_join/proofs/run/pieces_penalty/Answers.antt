@@ -4,7 +4,7 @@ use Rattle.std.proofs.lemmas.List.Elements.{AllWithin-more}
 use Rattle.std.proofs.lemmas.List.Sums.{sum_by_more}
 use Rattle.std.specs.Prelude.{sum_by}
 use Rattle.curve_join.specs.Join.{CoversPiece, no_bend, piece_penalty}
-use Rattle.curve_join.proofs.Running.{sums_fit, sums_most}
+use Rattle.curve_join.proofs.Running.{piece_most, sums_fit}
 use Rattle.curve_join.proofs.run.pieces_penalty.Goals as goal
 
 pub loop-bend-init : goal.loop-bend-init
@@ -25,11 +25,11 @@ piece_share-requires-clause-cubic c = c.requires.cubic
 pub piece_share-requires-clause-small : goal.piece_share-requires-clause-small
 piece_share-requires-clause-small c = c.requires.small _ _ c.loop-bend-test.true
 
-pub returns-in_default-clause-none : goal.returns-in_default-clause-none
-returns-in_default-clause-none c = λ all. c.in_default.ensures.none (all _ _ c.loop-bend-test.true)
+pub returns-in_default : goal.returns-in_default
+returns-in_default c = λ all. c.in_default.ensures (all _ _ c.loop-bend-test.true)
 
 pub overflow_add-total : goal.overflow_add-total
-overflow_add-total c = record { fits = sums_fit c.loop-bend.bend-index c.loop-bend.total c.in-Some.penalty _ c.loop-bend-test.true c.requires.few c.loop-bend.invariant.most c.in-Some.ensures.most }
+overflow_add-total c = record { fits = sums_fit c.loop-bend.bend-index c.loop-bend.total c.in-Some.penalty _ c.loop-bend-test.true c.requires.few c.loop-bend.invariant.most (piece_most c.requires.tol c.in-Some.ensures) }
 
 pub loop-bend-preserved : goal.loop-bend-preserved
 loop-bend-preserved c = let so_far = c.loop-bend.invariant in
@@ -38,22 +38,19 @@ loop-bend-preserved c = let so_far = c.loop-bend.invariant in
     let here = c.loop-bend-test.true in
     let sense = c.args.sense in
     let cubic = c.args.cubic.now in
-    let most = c.in-Some.ensures.most in
+    let most = piece_most c.requires.tol c.in-Some.ensures in
     let most-2 = so_far.most in
     record {
       each = AllWithin-more (CoversPiece c.args.tol sense cubic) bends 0 i so_far.each
-          (λ d. subst (λ b. CoversPiece c.args.tol sense cubic b) (get_or_default bends i no_bend d here) c.in-Some.ensures.some);
+          (λ d. subst (λ b. CoversPiece c.args.tol sense cubic b) (get_or_default bends i no_bend d here) c.in-Some.ensures.holds);
       total = ap (λ n. n + c.in-Some.penalty) so_far.total
-          ∙ ap (λ n. sum_by (piece_penalty sense cubic) (take i bends) + n) c.in-Some.ensures.value
+          ∙ ap (λ n. sum_by (piece_penalty sense cubic) (take i bends) + n) c.in-Some.ensures.is
           ∙ sym (sum_by_more (piece_penalty sense cubic) bends i no_bend here);
       most = omega (arith, most, most-2);
     }
 
-pub returns-clause-some : goal.returns-clause-some
-returns-clause-some c = λ k d within. c.loop-bend.invariant.each k d (omega arith) (omega (arith, within, c.loop-bend-test.false))
-
-pub returns-clause-value : goal.returns-clause-value
-returns-clause-value c = c.loop-bend.invariant.total ∙ ap (λ bends. sum_by (piece_penalty c.args.sense c.args.cubic.now) bends) (take_all c.loop-bend.bend-index c.args.bends.now c.loop-bend-test.false)
-
-pub returns-clause-most : goal.returns-clause-most
-returns-clause-most c = sums_most c.loop-bend.bend-index c.loop-bend.total _ c.loop-bend.auto.bend-index-end c.requires.few c.loop-bend.invariant.most
+pub returns : goal.returns
+returns c = record {
+  holds = λ k d within. c.loop-bend.invariant.each k d (omega arith) (omega (arith, within, c.loop-bend-test.false));
+  is = c.loop-bend.invariant.total ∙ ap (λ bends. sum_by (piece_penalty c.args.sense c.args.cubic.now) bends) (take_all c.loop-bend.bend-index c.args.bends.now c.loop-bend-test.false);
+}

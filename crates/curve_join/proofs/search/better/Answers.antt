@@ -28,16 +28,16 @@ pub returns-then-not-is_before-clause-run : goal.returns-then-not-is_before-clau
 returns-then-not-is_before-clause-run c = λ may. behind_paid c.args.best c.args.way _ (c.if-not-is_before.ensures.not refl)
 
 pub returns-in_default-clause-run : goal.returns-in_default-clause-run
-returns-in_default-clause-run c = λ may. absurd (c.in_default.ensures.none (joinable c.args.runs.now.bends.items c.run.result.bends.now c.args.from c.args.way.next c.run.ensures (not_single c.args.from c.args.way.next c.requires.onwards) c.args.runs.now.tol may))
+returns-in_default-clause-run c = λ may. absurd (c.in_default.ensures (joinable c.args.runs.now.bends.items c.run.result.bends.now c.args.from c.args.way.next c.run.ensures (not_single c.args.from c.args.way.next c.requires.onwards) c.args.runs.now.tol may))
 
 pub returns-then-is_before-clause-run : goal.returns-then-is_before-clause-run
-returns-then-is_before-clause-run c = λ may. paid_same c.args.way _ _ (c.from.ensures ∙ penalty_is c.args.runs.now.bends.items c.run.result.bends.now c.args.from c.args.way.next c.run.ensures (not_single c.args.from c.args.way.next c.requires.onwards) c.in-Some.penalty c.in-Some.ensures.penalty)
+returns-then-is_before-clause-run c = λ may. paid_same c.args.way _ _ (c.from.ensures ∙ penalty_is c.args.runs.now.bends.items c.run.result.bends.now c.args.from c.args.way.next c.run.ensures (not_single c.args.from c.args.way.next c.requires.onwards) _ c.in-Some.penalty c.in-Some.ensures.is)
 
 pub returns-then-is_before-clause-one : goal.returns-then-is_before-clause-one
 returns-then-is_before-clause-one c =
     inr (
-      may_be_one c.args.runs.now.bends.items c.run.result.bends.now c.args.from c.args.way.next c.run.ensures (not_single c.args.from c.args.way.next c.requires.onwards) c.args.runs.now.tol c.requires.within c.in-Some.ensures.some,
-      ap (λ n. paid n c.args.way) (c.from.ensures ∙ penalty_is c.args.runs.now.bends.items c.run.result.bends.now c.args.from c.args.way.next c.run.ensures (not_single c.args.from c.args.way.next c.requires.onwards) c.in-Some.penalty c.in-Some.ensures.penalty),
+      may_be_one c.args.runs.now.bends.items c.run.result.bends.now c.args.from c.args.way.next c.run.ensures (not_single c.args.from c.args.way.next c.requires.onwards) c.args.runs.now.tol c.requires.within c.in-Some.ensures.holds,
+      ap (λ n. paid n c.args.way) (c.from.ensures ∙ penalty_is c.args.runs.now.bends.items c.run.result.bends.now c.args.from c.args.way.next c.run.ensures (not_single c.args.from c.args.way.next c.requires.onwards) _ c.in-Some.penalty c.in-Some.ensures.is),
     )
 
 pub returns-then-not-is_before-clause-best : goal.returns-then-not-is_before-clause-best
@@ -66,5 +66,5 @@ returns-else-is_before-clause-one c = inl refl
 
 pub returns-else-is_before-clause-run : goal.returns-else-is_before-clause-run
 returns-else-is_before-clause-run c = λ may. subst (λ n. IsNotBehind c.args.best (paid n c.args.way))
-    (c.from.ensures ∙ penalty_is c.args.runs.now.bends.items c.run.result.bends.now c.args.from c.args.way.next c.run.ensures (not_single c.args.from c.args.way.next c.requires.onwards) c.in-Some.penalty c.in-Some.ensures.penalty)
+    (c.from.ensures ∙ penalty_is c.args.runs.now.bends.items c.run.result.bends.now c.args.from c.args.way.next c.run.ensures (not_single c.args.from c.args.way.next c.requires.onwards) _ c.in-Some.penalty c.in-Some.ensures.is)
     (c.if-is_before.ensures.not refl)

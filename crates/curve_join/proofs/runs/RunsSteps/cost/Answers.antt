@@ -4,11 +4,11 @@ use Rattle.curve_join.specs.Inner.Costs.{goes_up}
 use Rattle.curve_join.proofs.runs.RunsSteps.cost.Goals as goal
 
 pub returns : goal.returns
-returns c = penalty_is c.args.self.now.bends.items c.run.result.bends.now c.args.from c.args.to c.run.ensures c.if-to-from-eq1.false c.in-Some.penalty c.in-Some.ensures.penalty
+returns c = penalty_is c.args.self.now.bends.items c.run.result.bends.now c.args.from c.args.to c.run.ensures c.if-to-from-eq1.false _ c.in-Some.penalty c.in-Some.ensures.is
 
 pub unreachable-requires : goal.unreachable-requires
 unreachable-requires c =
-    c.in-None.ensures.none (joinable c.args.self.now.bends.items c.run.result.bends.now c.args.from c.args.to c.run.ensures c.if-to-from-eq1.false c.args.self.now.tol c.requires.allowed)
+    c.in-None.ensures (joinable c.args.self.now.bends.items c.run.result.bends.now c.args.from c.args.to c.run.ensures c.if-to-from-eq1.false c.args.self.now.tol c.requires.allowed)
 
 pub overflow_sub-to : goal.overflow_sub-to
 overflow_sub-to c = omega (arith, goes_up c.args.self.now.tol c.args.self.now.bends.items c.args.from c.args.to c.requires.allowed)
