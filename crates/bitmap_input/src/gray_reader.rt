@@ -62,8 +62,8 @@ impl Model for GrayReader {
 }
 
 impl GrayReader {
-    /// A reader before the first byte of a file, with a buffer of 65,536 bytes and room for the bytes of
-    /// a row.
+    /// A reader before the first byte of a file, with a buffer that grows to 65,536 bytes and room for the
+    /// bytes of a row.
     pub fn new(alloc: Global) -> Result<GrayReader, NoMemory>
         ensures { IfOk result (λ reader. reader ≡ gray_at_start) }
     {

@@ -1,4 +1,4 @@
-use Rattle.std.proofs.Common.{◌≡◌, ◌<◌, ◌≤◌, ◌∙◌, List, ℕ, length, ap, sym, arith, rules}
+use Rattle.std.proofs.Common.{◌≡◌, ◌<◌, ◌≤◌, ◌∙◌, List, [], ℕ, length, ap, sym, arith, rules}
 use Rattle.std.proofs.lemmas.Result.{err_from_is_err_and}
 use Rattle.bitmap_input.specs.Reading.{Buffered}
 use Rattle.bitmap_input.proofs.Filling.{read_moves, none_held, some_filled, none_filled, filled_within}
@@ -6,10 +6,11 @@ use Rattle.bitmap_input.proofs.buffer.Buffer.fill.Goals as goal
 
 pub returns-in_err-n-clause-fills : goal.returns-in_err-n-clause-fills
 returns-in_err-n-clause-fills g c =
-    let none = rw (← c.self.view_is) at c.requires.none_left in
+    let empty : c.widen.new.self.bytes ≡ [] = rw c.widen.ensures c.requires.none_left in
+    let none = rw (← c.self.view_is) at empty in
     let held : List ℕ → Buffered = λ bytes. record { bytes = bytes; ended = c.self.inside.ended } in
     let p = err_from_is_err_and c.from_residual.result c.from_residual.ensures.1 in
-    rw (p.1, ← c.self.view_is)
+    rw (p.1, ← c.widen.ensures, ← c.self.view_is)
     (ap held (none_held c.self.inside.start c.self.inside.end c.self.inside.buf.items _ c.self.invariant.1 none ∙ sym none), search rules)
 
 pub returns-clause-fills : goal.returns-clause-fills
