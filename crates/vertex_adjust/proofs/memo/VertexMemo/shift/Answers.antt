@@ -1,4 +1,4 @@
-use Rattle.std.proofs.Common.{sym, subst, rules, refl}
+use Rattle.std.proofs.Common.{sym, subst, rules}
 use Rattle.std.proofs.lemmas.List.Elements.{All-set}
 use Rattle.vertex_adjust.specs.Inner.Quadratic.{IsErrorOver, IsLeastShift}
 use Rattle.vertex_adjust.specs.declared.memo.LeastShift.{LeastShift}
