@@ -6,7 +6,7 @@ usage: memory.py [PROGRAM [TESTS]] [NAME=PROGRAM ..]
 PROGRAM is run on small pages, over real files and streams, with its first request for memory refused, then with its
 second one, and so on until a run asks less often. Each run has to end with its whole answer, or with status 5, `potrace:
 out of memory` as its last message, and only whole documents, the first ones, written. TESTS is the program of the
-tests, crates/potrace_tests/out/run_tests_tests, which `rt test` leaves there; its test `memory_refused` does the same over
+tests, crates/potrace_tests/out/potrace_tests_tests, which `rt test` leaves there; its test `memory_refused` does the same over
 files and documents in memory, and has to pass each time. A library that stands before the C library's malloc, calloc
 and realloc counts and refuses. NAME is another program, `point_fill` or `mkbitmap`, which read standard input and write a document,
 and PROGRAM where it stands: with status 5 it may write nothing. It needs python3 and a C compiler, cc, on Linux with glibc.
