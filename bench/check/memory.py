@@ -55,6 +55,8 @@ void *realloc(void *p, size_t n) { return is_refused() ? NULL : __libc_realloc(p
 
 PIXEL = b"P1 1 1 1\n"
 RINGS = b"P1 5 5 11111 10001 10101 10001 11111\n"
+# Longer than the first blocks that are read, so that the reader asks for more room; where it gets none, the answer is whole.
+LONG = b"P4 512 512\n" + b"\x80" + bytes(32767)
 FILES = {"a.pbm": b"P1 1 1 1\nP1 1 1 0\nxyz", "b.pbm": b"P1 2 1 01\nP1 1 1 1\n"}
 ROWS = [
     ("-b points -z left -t 0", PIXEL),
@@ -65,6 +67,7 @@ ROWS = [
     ("-b ps -t 0", PIXEL + RINGS),
     ("-b dxf -a 0 -t 0", PIXEL),
     ("-b geojson -t 0", RINGS),
+    ("-b points -t 0", LONG),
     ("--demo 3", b""),
     ("-h", b""),
     ("-q", b""),
