@@ -5,7 +5,7 @@ use Rattle.bitmap_input.specs.Cut.Cut.{Takes, Stops}
 use Rattle.bitmap_input.specs.Inner.Reading.{cause_of}
 use Rattle.bitmap_input.specs.Reading.Cause.{Says}
 use Rattle.bitmap_input.specs.Sides.{}
-use Rattle.bitmap_input.specs.BmpHeader.{file_size, pixel_offset, header_size, is_short, bits, is_known_depth, width, height, is_top_down, is_known_size, is_known_kind, mask_bytes, palette_length, color_bytes, palette_end}
+use Rattle.bitmap_input.specs.BmpHeader.{two_at, four_at, file_size, pixel_offset, header_size, is_short, bits, is_known_depth, width, height, is_top_down, is_known_size, is_known_kind, mask_bytes, palette_length, color_bytes, palette_end}
 use Rattle.bitmap_input.specs.PageParts.{block, repeated}
 use Rattle.bitmap_input.specs.Raw.{Raw, Entry, black}
 use Rattle.bitmap_input.specs.Raw.Entry.{Color}
@@ -13,6 +13,8 @@ use Rattle.bitmap_input.specs.BmpRaster.{color_at, bit_at, half_at, palette_colo
 use Rattle.bitmap_input.specs.declared.stop.Stop.{Stop}
 use Rattle.bitmap_input.specs.declared.bmp.fields.Depth.{Depth}
 use Rattle.bitmap_input.specs.declared.bmp.fields.Depth.TheVariants as depth
+use Rattle.bitmap_input.specs.declared.bmp.fields.Field.{Field}
+use Rattle.bitmap_input.specs.declared.bmp.fields.Field.TheVariants as field
 use Rattle.bitmap_input.specs.declared.bmp.layout.Header.{Header}
 
 -- the first bytes of a header, with a known size
@@ -36,6 +38,22 @@ pub record HasInfo (head : List ℕ) : Type 0 where
   pub least : 12 ≤ header_size head
   pub most : header_size head ≤ 124
   pub long : is_short head ≡ false → 40 ≤ header_size head
+
+-- the number that a field of the header holds
+abbrev pub number_in : List ℕ → Field → ℕ
+number_in head field.None = 0
+number_in head (field.Two place) = two_at head place
+number_in head (field.Four place) = four_at head place
+
+-- the number that the oldest header has at one field, and the later ones at another
+abbrev pub number_by_age : List ℕ → Field → Field → ℕ
+number_by_age head oldest later = if is_short head then number_in head oldest else number_in head later
+
+-- the field stands behind the magic, within so many bytes of it
+abbrev pub StandsWithin : Field → ℕ → Type 0
+StandsWithin field.None room = Unit {0}
+StandsWithin (field.Two place) room = (2 ≤ place) × (place ≤ room)
+StandsWithin (field.Four place) room = (2 ≤ place) × (place + 2 ≤ room)
 
 -- the bits of a pixel
 abbrev pub bits_in : Depth → ℕ

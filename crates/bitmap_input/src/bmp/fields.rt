@@ -1,7 +1,7 @@
 //! Fields of the header of a BMP picture.
 ghost use Rattle.std.specs.Prelude.{◌≡◌, ◌≤◌, true, not, ◌||◌, ◌^◌, nat_le, length};
 ghost use Rattle.bitmap_input.specs.BmpHeader.{is_short, planes, bits, compression, colors_used, is_known_size, stated_width, stated_height, width, height, is_top_down, mask_bytes, has_masks, has_known_masks, has_known_colors, has_palette, palette_length, color_bytes, palette_end};
-ghost use Rattle.bitmap_input.specs.Inner.BmpHead.{IsKnownDepth, IsDepth, IsMostColors, bits_in};
+ghost use Rattle.bitmap_input.specs.Inner.BmpHead.{number_in, number_by_age, StandsWithin, IsKnownDepth, IsDepth, IsMostColors, bits_in};
 
 use crate::bmp::info::Info;
 
@@ -45,23 +45,37 @@ pub(crate) fn is_short(info: &Info) -> bool
     info.head.four_at(14) == 12
 }
 
-fn planes(info: &Info) -> u32
-    ensures { result ≡ planes info.now.head.now }
+/// A number of the header, or 0 where a header has none.
+#[derive(Clone, Copy)]
+enum Field {
+    None,
+    /// Two bytes from a place on.
+    Two(usize),
+    /// Four bytes from a place on.
+    Four(usize),
+}
+
+fn number_in(info: &Info, field: Field) -> u32
+    requires { StandsWithin field (length info.now.head.now) }
+    ensures { result ≡ number_in info.now.head.now field }
 {
-    if is_short(info) {
-        info.head.two_at(22)
-    } else {
-        info.head.two_at(26)
+    match field {
+        Field::None => 0,
+        Field::Two(place) => info.head.two_at(place),
+        Field::Four(place) => info.head.four_at(place),
     }
 }
 
-fn bits(info: &Info) -> u32
-    ensures { result ≡ bits info.now.head.now }
+/// The number that the oldest header has at one field, and the later ones at another.
+fn number_by_age(info: &Info, oldest: Field, later: Field) -> u32
+    requires oldest { StandsWithin oldest 24 }
+    requires later { StandsWithin later 52 }
+    ensures { result ≡ number_by_age info.now.head.now oldest later }
 {
     if is_short(info) {
-        info.head.two_at(24)
+        number_in(info, oldest)
     } else {
-        info.head.two_at(28)
+        number_in(info, later)
     }
 }
 
@@ -69,22 +83,14 @@ fn bits(info: &Info) -> u32
 pub(crate) fn compression(info: &Info) -> u32
     ensures { result ≡ compression info.now.head.now }
 {
-    if is_short(info) {
-        0
-    } else {
-        info.head.four_at(30)
-    }
+    number_by_age(info, Field::None, Field::Four(30))
 }
 
 /// How many colours the palette has, where this isn't 0.
 pub(crate) fn colors_used(info: &Info) -> u32
     ensures { result ≡ colors_used info.now.head.now }
 {
-    if is_short(info) {
-        0
-    } else {
-        info.head.four_at(46)
-    }
+    number_by_age(info, Field::None, Field::Four(46))
 }
 
 /// The depth of pixels of so many bits, plainly stored or with masks.
@@ -111,31 +117,17 @@ fn known_depth(bits: u32, compression: u32) -> Option<Depth>
 pub(crate) fn pixel_depth(info: &Info) -> Option<Depth>
     ensures { IsDepth info.now.head.now result }
 {
-    if planes(info) == 1 {
-        known_depth(bits(info), compression(info))
-    } else {
-        None
+    if number_by_age(info, Field::Two(22), Field::Two(26)) != 1 {
+        return None;
     }
-}
-
-fn stated_width(info: &Info) -> u32
-    ensures { result ≡ stated_width info.now.head.now }
-{
-    if is_short(info) {
-        info.head.two_at(18)
-    } else {
-        info.head.four_at(18)
-    }
+    let bits = number_by_age(info, Field::Two(24), Field::Two(28));
+    known_depth(bits, compression(info))
 }
 
 fn stated_height(info: &Info) -> u32
     ensures { result ≡ stated_height info.now.head.now }
 {
-    if is_short(info) {
-        info.head.two_at(20)
-    } else {
-        info.head.four_at(22)
-    }
+    number_by_age(info, Field::Two(20), Field::Four(22))
 }
 
 /// The sign bit of a number of four bytes.
@@ -145,7 +137,7 @@ const SIGN: u32 = 2147483648;
 pub(crate) fn width(info: &Info) -> u32
     ensures { result ≡ width info.now.head.now }
 {
-    let width = stated_width(info);
+    let width = number_by_age(info, Field::Two(18), Field::Four(18));
     if width >= SIGN { 0 } else { width }
 }
 
