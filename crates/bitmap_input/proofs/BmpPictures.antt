@@ -109,27 +109,27 @@ module _ (level : ℕ) (invert : Bool) (b : Image) (u v : ℕ) (rows : List (Lis
   outside_at false h len above = placed_other (row_place false h) b 0 u v pixels (λ j less at. omega (arith, count))
 
 -- the picture's rows on a white page
-picture_at : (level : ℕ) (invert : Bool) (h : Header) (b : Image) (u v : ℕ) (rows : List (List Entry)) → IsWhite b → length rows ≡ h.height →
-    with_placed (row_place h.top_down h.height) b 0 (map (map (black level invert)) rows) u v ≡ picture_of level invert (picture_by h rows) u v
-picture_at level invert h b u v rows maxval len = elim (cases_lt v h.height) [
+picture_at : (level : ℕ) (invert : Bool) (h : Header) (b : Image) (u v : ℕ) (rows : List (List Entry)) → IsWhite b → length rows ≡ h.sides.height →
+    with_placed (row_place h.top_down h.sides.height) b 0 (map (map (black level invert)) rows) u v ≡ picture_of level invert (picture_by h rows) u v
+picture_at level invert h b u v rows maxval len = elim (cases_lt v h.sides.height) [
   | inl within ↦
-      let test : nat_lt v h.height ≡ true = lt-ltb v h.height within in
-      rw test (inside_at level invert b u v rows maxval h.top_down h.height len within)
+      let test : nat_lt v h.sides.height ≡ true = lt-ltb v h.sides.height within in
+      rw test (inside_at level invert b u v rows maxval h.top_down h.sides.height len within)
   | inr above ↦
-      let test : nat_lt v h.height ≡ false = le-ltb v h.height above in
-      rw test (outside_at level invert b u v rows maxval h.top_down h.height len above ∙ maxval u v)
+      let test : nat_lt v h.sides.height ≡ false = le-ltb v h.sides.height above in
+      rw test (outside_at level invert b u v rows maxval h.top_down h.sides.height len above ∙ maxval u v)
 ]
 
 -- the page that was painted
 shown_picture : (level : ℕ) (invert : Bool) (h : Header) (q : Pixels) (b : Image) (rows : List (List Entry)) → q ≡ page_of q.width q.height (image_of q) →
-    q.width ≡ h.width → q.height ≡ h.height → IsWhite b → length rows ≡ h.height →
-    image_of q ≡ with_placed (row_place h.top_down h.height) b 0 (map (map (black level invert)) rows) → q ≡ shown level invert (picture_by h rows)
+    q.width ≡ h.sides.width → q.height ≡ h.sides.height → IsWhite b → length rows ≡ h.sides.height →
+    image_of q ≡ with_placed (row_place h.top_down h.sides.height) b 0 (map (map (black level invert)) rows) → q ≡ shown level invert (picture_by h rows)
 shown_picture level invert h q b rows whole wide high maxval len painted =
     let image : image_of q ≡ picture_of level invert (picture_by h rows)
     = painted ∙ fun_ext (λ u. fun_ext (λ v. picture_at level invert h b u v rows maxval len)) in
-    whole ∙ ap (λ w. page_of w q.height (image_of q)) wide ∙ ap (λ n. page_of h.width n (image_of q)) high ∙ ap (page_of h.width h.height) image
+    whole ∙ ap (λ w. page_of w q.height (image_of q)) wide ∙ ap (λ n. page_of h.sides.width n (image_of q)) high ∙ ap (page_of h.sides.width h.sides.height) image
 
-module _ {mid new : Buffered} {fmid now : Option Files} (level : ℕ) (invert : Bool) (h : Header) (color : ℕ → Entry) (p q : Pixels) (wide : p.width ≡ h.width) (high : p.height ≡ h.height) where
+module _ {mid new : Buffered} {fmid now : Option Files} (level : ℕ) (invert : Bool) (h : Header) (color : ℕ → Entry) (p q : Pixels) (wide : p.width ≡ h.sides.width) (high : p.height ≡ h.sides.height) where
   -- the rows were read
   pub picture_shown : IsWhite (image_of p) → SameSides p q → q ≡ page_of q.width q.height (image_of q) →
       Reads (λ _ rows. image_of q ≡ with_placed (row_place h.top_down p.height) (image_of p) 0 (map (map (black level invert)) rows))
@@ -140,7 +140,7 @@ module _ {mid new : Buffered} {fmid now : Option Files} (level : ℕ) (invert : 
       let read = rw (wide, high) at r in
       reads_made {js = IsShown level invert} (picture_by h) q
       (λ rows counted. shown_picture level invert h q (image_of p) rows whole (sides.width ∙ wide) (sides.height ∙ high) maxval counted.1 counted.0)
-      (reads_counted (color_row (row_bytes_by h) (bits_in h.depth) color h.width) h.height read)
+      (reads_counted (color_row (row_bytes_by h) (bits_in h.depth) color h.sides.width) h.sides.height read)
 
   -- a row could not be read
   pub picture_stopped : (stop : Stop) →
@@ -173,18 +173,18 @@ bmp_parts bytes = header bytes >>= λ head rest. raster head rest >>= λ raw res
 claim : (behind least size offset rows n : ℕ) → behind ≡ size - (offset + rows) → least ≡ size → n ≡ offset + rows → 2 ≤ offset → behind ≡ least - (2 + (n - 2))
 claim behind least size offset rows n is same whole some = omega arith
 
-rows_end_is : (h : Header) (head : List ℕ) → IsHeader h head → rows_end head ≡ h.pixel_offset + h.height * row_bytes_by h
+rows_end_is : (h : Header) (head : List ℕ) → IsHeader h head → rows_end head ≡ h.pixel_offset + h.sides.height * row_bytes_by h
 rows_end_is h head is = rw (is.pixel_offset, is.width, is.height, is.depth) refl
 
 module _ {old mid new : Buffered} {files fmid now : Option Files} (level : ℕ) (invert : Bool) where
   pub bmp_read : (h : Header) (page : Pixels) (behind : ℕ) → 2 ≤ h.pixel_offset → Reads IsHeader header old files (Ok h) mid fmid →
-      Reads (IsShown level invert) (raster_by h) mid fmid (Ok page) new now → behind ≡ h.file_size - (h.pixel_offset + h.height * row_bytes_by h) →
+      Reads (IsShown level invert) (raster_by h) mid fmid (Ok page) new now → behind ≡ h.file_size - (h.pixel_offset + h.sides.height * row_bytes_by h) →
       Reads (IsRead level invert) (counted_body Picture) old files (Ok (record { page = page; behind = behind })) new now
   bmp_read h page behind some first second is =
       reads_as (λ more. sym (bmp_counted (old.bytes ++ more)))
       (reads_on {js = IsRead level invert} header_stays first (λ head is_header.
       reads_made {js = IsRead level invert} (λ raw. (raw, rows_end head - 2)) (record { page = page; behind = behind })
-      (λ raw shown. (shown.0, claim behind raw.least_length h.file_size h.pixel_offset (h.height * row_bytes_by h) (rows_end head) is (shown.1 ∙ is_header.file_size) (rows_end_is h head is_header) some))
+      (λ raw shown. (shown.0, claim behind raw.least_length h.file_size h.pixel_offset (h.sides.height * row_bytes_by h) (rows_end head) is (shown.1 ∙ is_header.file_size) (rows_end_is h head is_header) some))
       (reads_with {is = IsShown level invert} {part = raster head} (λ raw. raw.least_length ≡ file_size head) (λ bytes e raw rest takes. (cuts_raster head bytes e raw rest takes).0)
       (reads_as (λ more. raster_is h head is_header (mid.bytes ++ more)) second))))
 

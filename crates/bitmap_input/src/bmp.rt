@@ -30,9 +30,9 @@ use threshold_map::Level;
 /// The bytes of a row.
 fn row_bytes(header: &Header) -> u32
     ensures value { result ≡ row_bytes_by header.now }
-    ensures whole { header.now.width * bits_in header.now.depth ≤ 8 * result }
+    ensures whole { header.now.sides.width * bits_in header.now.depth ≤ 8 * result }
 {
-    4 * ((header.width * header.depth.bits() + 31) / 32)
+    4 * ((header.sides.width * header.depth.bits() + 31) / 32)
 }
 
 /// The rows, on a page of their own.
@@ -51,7 +51,7 @@ fn read_pixels<I: Inputs>(
         (I.files inputs.old) result buffer.new (I.files inputs.new) }
     ensures leaves { Leaves I.Inputs result inputs.old inputs.new }
 {
-    let mut page = Bitmap::new(alloc, header.width, header.height)?;
+    let mut page = Bitmap::new(alloc, header.sides.width, header.sides.height)?;
     let mut row = vec![in alloc; 0u8; row_bytes(header) as usize]?;
     read_rows(buffer, inputs, &mut page, header, tone, table, &mut row)?;
     known(&page);
@@ -79,9 +79,10 @@ fn read_raster<I: Inputs>(
 /// How many bytes the picture claims behind its last row.
 fn behind(header: &Header) -> u32
     ensures { result ≡ header.now.file_size -
-        (header.now.pixel_offset + header.now.height * row_bytes_by header.now) }
+        (header.now.pixel_offset + header.now.sides.height * row_bytes_by header.now) }
 {
-    let rows_end = header.pixel_offset as u64 + header.height as u64 * row_bytes(header) as u64;
+    let rows_end = header.pixel_offset as u64
+        + header.sides.height as u64 * row_bytes(header) as u64;
     if rows_end < header.file_size as u64 {
         (header.file_size as u64 - rows_end) as u32
     } else {

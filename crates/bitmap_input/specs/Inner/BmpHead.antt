@@ -80,8 +80,8 @@ IsDepth head None = is_known_kind head ≡ false
 
 -- what the program keeps of a header
 pub record IsHeader (h : Header) (head : List ℕ) : Type 0 where
-  pub width : width head ≡ h.width
-  pub height : height head ≡ h.height
+  pub width : width head ≡ h.sides.width
+  pub height : height head ≡ h.sides.height
   pub top_down : is_top_down head ≡ h.top_down
   pub depth : bits head ≡ bits_in h.depth
   pub color_bytes : color_bytes head ≡ h.color_bytes
@@ -118,13 +118,13 @@ row_place false height i = i
 
 -- the bytes of a row, which are filled up to four
 abbrev pub row_bytes_by : Header → ℕ
-row_bytes_by h = 4 * ((h.width * bits_in h.depth + 31) / 32)
+row_bytes_by h = 4 * ((h.sides.width * bits_in h.depth + 31) / 32)
 
 -- the raw page of these rows, as the file holds them
 abbrev pub picture_by : Header → List (List Entry) → Raw
 picture_by h rows = record {
-  width = h.width;
-  height = h.height;
+  width = h.sides.width;
+  height = h.sides.height;
   rows = if h.top_down then rows else reverse rows;
   least_length = h.file_size;
 }
@@ -132,7 +132,7 @@ picture_by h rows = record {
 -- the rows
 abbrev pub pixels_by : Header → (ℕ → Entry) → List ℕ → Cut Raw
 pixels_by h color bytes =
-    repeated (color_row (row_bytes_by h) (bits_in h.depth) color h.width) h.height bytes >>= λ rows rest.
+    repeated (color_row (row_bytes_by h) (bits_in h.depth) color h.sides.width) h.sides.height bytes >>= λ rows rest.
     Takes false (picture_by h rows) rest
 
 -- all of it

@@ -94,8 +94,7 @@ fn describe(info: &Info, depth: Depth) -> Result<Header, Stop>
         return Err(Stop::Fault(InFault::BadOffset));
     }
     Ok(Header {
-        width: sides.width,
-        height: sides.height,
+        sides,
         top_down: is_top_down(info),
         depth,
         color_bytes: color_bytes(info),

@@ -1,14 +1,13 @@
 //! How a BMP picture is laid out.
 ghost use Rattle.std.specs.Prelude.{◌≤◌};
-ghost use Rattle.pt_core.specs.declared.limits.TheConstants.{LONGEST_SIDE};
 
 use crate::bmp::fields::Depth;
+use crate::sides::Sides;
 
 /// What the header of a BMP picture says.
 #[derive(Clone, Copy)]
 pub(crate) struct Header {
-    pub(crate) width: u32,
-    pub(crate) height: u32,
+    pub(crate) sides: Sides,
     /// The top row comes first, and not the lowest one.
     pub(crate) top_down: bool,
     pub(crate) depth: Depth,
@@ -22,8 +21,6 @@ pub(crate) struct Header {
     pub(crate) pixel_offset: u32,
     /// How long the picture says that it is.
     pub(crate) file_size: u32,
-    ghost wide: { (1 ≤ width) × (width ≤ LONGEST_SIDE) },
-    ghost high: { (1 ≤ height) × (height ≤ LONGEST_SIDE) },
     ghost three_or_four: { (3 ≤ color_bytes) × (color_bytes ≤ 4) },
     ghost few: { palette_length ≤ 256 },
     ghost behind_magic: { 2 ≤ pixel_offset },
