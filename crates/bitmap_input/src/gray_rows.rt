@@ -6,7 +6,7 @@ ghost use Rattle.bitmap_input.specs.Samples.{samples_in, samples, plain_sample, 
 ghost use Rattle.bitmap_input.specs.declared.channels.Channels.TheVariants as channels;
 ghost use Rattle.bitmap_input.specs.Inner.Header.{magic_of};
 ghost use Rattle.bitmap_input.specs.Inner.GrayRows.{ChecksKind};
-ghost use Rattle.bitmap_input.specs.GrayRows.{gray_alone, gray_kind, gray_magic, header_end, gray_header, gray_header_behind, lowered};
+ghost use Rattle.bitmap_input.specs.GrayRows.{gray_alone, gray_kind, gray_magic, header_end, gray_header, lowered};
 
 use crate::buffer::Buffer;
 use crate::channels::Channels;
@@ -79,31 +79,6 @@ fn end_header<I: Inputs>(buffer: &mut Buffer, inputs: &mut I, plain: bool) -> Re
     }
 }
 
-/// What follows the magic in a gray page's header.
-fn read_behind_kind<I: Inputs>(
-    buffer: &mut Buffer,
-    inputs: &mut I,
-    plain: bool,
-) -> Result<GrayHeader, Stop>
-    requires { I.is_opened inputs.old ≡ true }
-    ensures reads { ReadsFrom I.Inputs Same (gray_header_behind plain) buffer.old inputs.old result
-        buffer.new inputs.new }
-    ensures free { TakesNone result }
-    ensures width { IfOk result (λ h. (1 ≤ h.width) × (h.width ≤ LONGEST_SIDE)) }
-    ensures height { IfOk result (λ h. (1 ≤ h.height) × (h.height ≤ LONGEST_SIDE)) }
-    ensures maxval { IfOk result (λ h. (1 ≤ h.maxval) × (h.maxval ≤ GREATEST_MAXVAL)) }
-{
-    let sides = read_sides(buffer, inputs)?;
-    let maxval = read_maxval(buffer, inputs)?;
-    end_header(buffer, inputs, plain)?;
-    Ok(GrayHeader {
-        plain,
-        width: sides.width,
-        height: sides.height,
-        maxval,
-    })
-}
-
 /// The header of a gray page, which is the first page of its file.
 pub(crate) fn read_gray_header<I: Inputs>(
     buffer: &mut Buffer,
@@ -119,7 +94,15 @@ pub(crate) fn read_gray_header<I: Inputs>(
 {
     skip(buffer, inputs, Run::Space)?;
     let plain = read_gray_kind(buffer, inputs)?;
-    read_behind_kind(buffer, inputs, plain)
+    let sides = read_sides(buffer, inputs)?;
+    let maxval = read_maxval(buffer, inputs)?;
+    end_header(buffer, inputs, plain)?;
+    Ok(GrayHeader {
+        plain,
+        width: sides.width,
+        height: sides.height,
+        maxval,
+    })
 }
 
 /// The samples of a row of bytes.
