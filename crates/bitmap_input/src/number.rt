@@ -4,7 +4,7 @@ ghost use Rattle.bitmap_input.specs.Inner.Reading.{ReadsFrom, Any, HasMemory, Ta
 ghost use Rattle.bitmap_input.specs.Reading.{cause_of_fault};
 ghost use Rattle.bitmap_input.specs.Reading.Cause.{Says};
 ghost use Rattle.bitmap_input.specs.Cut.FileEnd.{Refused};
-ghost use Rattle.bitmap_input.specs.PageParts.{is_digit, some_gap, number, number_behind_gap};
+ghost use Rattle.bitmap_input.specs.PageParts.{is_digit, some_gap, number_behind_gap};
 ghost use Rattle.bitmap_input.specs.Inner.ByteRuns.{digits, IsCapped};
 ghost use Rattle.bitmap_input.specs.Inner.Number.{kind_at};
 
@@ -74,30 +74,6 @@ fn read_digits<I: Inputs>(buffer: &mut Buffer, inputs: &mut I) -> Result<u32, St
     Err(Stop::Fault(InFault::TooLong))
 }
 
-/// A number, or 200000 where it is larger.
-fn read_number<I: Inputs>(
-    buffer: &mut Buffer,
-    inputs: &mut I,
-    section: Section,
-) -> Result<u32, Stop>
-    requires { I.is_opened inputs.old ≡ true }
-    ensures reads { ReadsFrom I.Inputs IsCapped (number (kind_at section)) buffer.old inputs.old
-        result buffer.new inputs.new }
-    ensures free { TakesNone result }
-{
-    match buffer.look(inputs) {
-        Look::Byte(byte) => {
-            if is_digit(byte) {
-                read_digits(buffer, inputs)
-            } else {
-                Err(Stop::Fault(section.fault()))
-            }
-        }
-        Look::End => Err(Stop::Fault(InFault::Truncated)),
-        Look::Fault => Err(Stop::Fault(InFault::ReadFault)),
-    }
-}
-
 /// Goes on behind whitespace and comments, of which there is at least a byte.
 fn skip_gap<I: Inputs>(buffer: &mut Buffer, inputs: &mut I, section: Section) -> Result<(), Stop>
     requires { I.is_opened inputs.old ≡ true }
@@ -127,5 +103,15 @@ pub(crate) fn read_number_behind_gap<I: Inputs>(
     ensures free { TakesNone result }
 {
     skip_gap(buffer, inputs, section)?;
-    read_number(buffer, inputs, section)
+    match buffer.look(inputs) {
+        Look::Byte(byte) => {
+            if is_digit(byte) {
+                read_digits(buffer, inputs)
+            } else {
+                Err(Stop::Fault(section.fault()))
+            }
+        }
+        Look::End => Err(Stop::Fault(InFault::Truncated)),
+        Look::Fault => Err(Stop::Fault(InFault::ReadFault)),
+    }
 }
