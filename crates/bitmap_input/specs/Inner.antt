@@ -14,3 +14,4 @@ pub mod Reading
 pub mod Shading
 pub mod Skip
 pub mod Stored
+pub mod Words

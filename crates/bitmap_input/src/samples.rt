@@ -1,7 +1,6 @@
 //! Rasters of samples: for each pixel one of gray, or three of red, green and blue, as numbers or as a
 //! byte or two.
 ghost use Rattle.std.specs.Prelude.{◌≡◌, ℕ, ◌+◌, ◌*◌, ◌<◌, ◌≤◌, true, false, length, map, nat_le, get_or};
-ghost use Rattle.bit_image.specs.Words.{is_one};
 ghost use Rattle.bit_image.specs.Page.{Page, SameSides, image_of};
 ghost use Rattle.bitmap_input.specs.Inner.Reading.{ReadsFrom};
 ghost use Rattle.bitmap_input.specs.PageParts.{repeated};
@@ -9,6 +8,7 @@ ghost use Rattle.bitmap_input.specs.Raw.{is_dark};
 ghost use Rattle.bitmap_input.specs.Samples.{PixelSamples, samples_in, as_entry, plain_samples, is_wide, sample_bytes, samples, grouped, raw_samples_row};
 ghost use Rattle.bitmap_input.specs.Inner.Raster.{with_row};
 ghost use Rattle.bitmap_input.specs.Inner.Shading.{brightness, brightness_at, IsCappedBrightness, black_of, black_in_bytes};
+ghost use Rattle.bitmap_input.specs.Inner.Words.{FitsWord, ShowsPixels};
 ghost use Rattle.bitmap_input.specs.declared.channels.Channels.TheVariants as channels;
 
 use crate::buffer::Buffer;
@@ -146,7 +146,7 @@ fn brightness_at(row: &[u8], channels: Channels, wide: bool, x: usize) -> u32
 fn full_word(row: &[u8], from: usize, shading: &Shading) -> u64
     requires narrow { is_wide shading.now.maxval ≡ false }
     requires within { samples_in shading.now.channels * (from + 64) ≤ length row.now }
-    ensures { (k : ℕ) → k < 64 → is_one result k ≡ black_in_bytes shading.now row.now (from + k) }
+    ensures { ShowsPixels (black_in_bytes shading.now row.now) from 64 result }
 {
     match shading.channels {
         Channels::Gray => inverted(gray_word(row, from, shading.limit), shading.invert),
@@ -156,12 +156,9 @@ fn full_word(row: &[u8], from: usize, shading: &Shading) -> u64
 
 /// The word of so many pixels of a row, from one column on, pixel by pixel.
 fn word_by_pixels(row: &[u8], from: usize, count: usize, shading: &Shading) -> u64
-    requires few { count ≤ 64 }
-    requires column { from ≤ LONGEST_SIDE }
-    requires within { samples_in shading.now.channels * (from + count)
-        ≤ length (samples (is_wide shading.now.maxval) row.now) }
-    ensures { (k : ℕ) → k < count → is_one result k ≡ black_in_bytes shading.now row.now (from +
-        k) }
+    requires { FitsWord (samples_in shading.now.channels) from count
+        (length (samples (is_wide shading.now.maxval) row.now)) }
+    ensures { ShowsPixels (black_in_bytes shading.now row.now) from count result }
 {
     let wide = is_wide(shading.maxval);
     let mut pixels = [false; 64];
@@ -174,12 +171,9 @@ fn word_by_pixels(row: &[u8], from: usize, count: usize, shading: &Shading) -> u
 
 /// The word of so many pixels of a row, from one column on.
 fn word(row: &[u8], from: usize, count: usize, shading: &Shading) -> u64
-    requires few { count ≤ 64 }
-    requires column { from ≤ LONGEST_SIDE }
-    requires within { samples_in shading.now.channels * (from + count)
-        ≤ length (samples (is_wide shading.now.maxval) row.now) }
-    ensures { (k : ℕ) → k < count → is_one result k ≡ black_in_bytes shading.now row.now (from +
-        k) }
+    requires { FitsWord (samples_in shading.now.channels) from count
+        (length (samples (is_wide shading.now.maxval) row.now)) }
+    ensures { ShowsPixels (black_in_bytes shading.now row.now) from count result }
 {
     if count < 64 || is_wide(shading.maxval) {
         word_by_pixels(row, from, count, shading)

@@ -16,12 +16,16 @@ loop-at-init c = record {
   end = search rules;
 }
 
-pub word-requires-clause-within : goal.word-requires-clause-within
-word-requires-clause-within c =
+pub word-requires : goal.word-requires
+word-requires c =
     let wide = is_wide c.args.shading.now.maxval in
     let len : length (samples wide c.args.row.now) ≡ samples_in c.args.shading.now.channels * c.args.page.now.width
     = samples-length wide (samples_in c.args.shading.now.channels * c.args.page.now.width) c.args.row.now c.requires.whole in
-    fewer_samples c.args.shading.now.channels (64 * c.loop-at.at + c.min-count.result) c.args.page.now.width _ (omega arith) (omega (arith, len))
+    record {
+      few = omega arith;
+      column = omega arith;
+      within = fewer_samples c.args.shading.now.channels (64 * c.loop-at.at + c.min-count.result) c.args.page.now.width _ (omega arith) (omega (arith, len));
+    }
 
 pub loop-at-preserved : goal.loop-at-preserved
 loop-at-preserved c = record {

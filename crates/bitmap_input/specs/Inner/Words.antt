@@ -1,0 +1,14 @@
+-- Words of the pixels of a row.
+use Rattle.std.specs.Prelude.{◌≡◌, ℕ, ◌+◌, ◌*◌, ◌<◌, ◌≤◌, Bool}
+use Rattle.pt_core.specs.declared.limits.TheConstants.{LONGEST_SIDE}
+use Rattle.bit_image.specs.Words.{is_one}
+
+-- a word has bits for so many pixels of a row, from a column on, and the row has this room for them, where each takes so much
+pub record FitsWord (size from count room : ℕ) : Type 0 where
+  pub few : count ≤ 64
+  pub column : from ≤ LONGEST_SIDE
+  pub within : size * (from + count) ≤ room
+
+-- the word shows so many pixels of a row, from a column on: their bits are ones where they are black
+abbrev pub ShowsPixels : (ℕ → Bool) → ℕ → ℕ → ℕ → Type 0
+ShowsPixels black from count word = (k : ℕ) → k < count → is_one word k ≡ black (from + k)
