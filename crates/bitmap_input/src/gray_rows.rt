@@ -48,9 +48,9 @@ fn kind_of(format: Format) -> Result<bool, Stop>
     match format {
         Format::PlainSamples(channels) => check_gray(channels, true),
         Format::RawSamples(channels) => check_gray(channels, false),
-        Format::PlainBits => Err(Stop::Fault(InFault::UnknownFormat)),
-        Format::RawBits => Err(Stop::Fault(InFault::UnknownFormat)),
-        Format::Picture => Err(Stop::Fault(InFault::UnknownFormat)),
+        Format::PlainBits | Format::RawBits | Format::Picture => {
+            Err(Stop::Fault(InFault::UnknownFormat))
+        }
     }
 }
 
