@@ -17,15 +17,15 @@ mod pixels;
 use crate::bmp::header::read_header;
 use crate::bmp::layout::Header;
 use crate::bmp::palette::read_palette;
-use crate::bmp::pixels::{Tone, read_rows};
+use crate::bmp::pixels::read_rows;
 use crate::buffer::Buffer;
 use crate::extent::{ReadPage, known};
 use crate::skip::skip_block;
 use crate::stop::Stop;
+use crate::tone::Tone;
 use bit_image::Bitmap;
 use pt_core::Inputs;
 use std::alloc::Global;
-use threshold_map::Level;
 
 /// The bytes of a row.
 fn row_bytes(header: &Header) -> u32
@@ -90,7 +90,7 @@ fn behind(header: &Header) -> u32
     }
 }
 
-/// A BMP picture, behind its magic, at a level and inverted or not.
+/// A BMP picture, behind its magic, of which the tone says what is black.
 //
 // Memory for the page is taken after all checks of its header, masks and places, so a hostile header takes none.
 // Bytes that are passed over, up to 4 GiB, take none either.
@@ -98,19 +98,14 @@ pub(crate) fn read_bmp<I: Inputs>(
     alloc: Global,
     buffer: &mut Buffer,
     inputs: &mut I,
-    level: &Level,
-    invert: bool,
+    tone: &Tone,
 ) -> Result<ReadPage, Stop>
     requires { I.is_opened inputs.old ≡ true }
-    ensures reads { ReadsFrom I.Inputs (IsRead level.now invert) (counted_body picture) buffer.old
-        inputs.old result buffer.new inputs.new }
+    ensures reads { ReadsFrom I.Inputs (IsRead tone.now.level tone.now.invert) (counted_body picture)
+        buffer.old inputs.old result buffer.new inputs.new }
 {
     let header = read_header(buffer, inputs)?;
-    let tone = Tone {
-        level: *level,
-        invert,
-    };
-    let page = read_raster(alloc, buffer, inputs, &header, &tone)?;
+    let page = read_raster(alloc, buffer, inputs, &header, tone)?;
     Ok(ReadPage {
         page,
         behind: behind(&header),

@@ -20,10 +20,10 @@ use crate::samples::{brightest_black, row_bytes};
 use crate::shading::Shading;
 use crate::sides::Sides;
 use crate::stop::Stop;
+use crate::tone::Tone;
 use bit_image::Bitmap;
 use pt_core::{Inputs, LONGEST_SIDE};
 use std::alloc::Global;
-use threshold_map::Level;
 
 /// A plain page of bits, behind its magic.
 fn read_plain_body<I: Inputs>(
@@ -85,20 +85,19 @@ fn read_plain_samples_body<I: Inputs>(
     buffer: &mut Buffer,
     inputs: &mut I,
     channels: Channels,
-    level: &Level,
-    invert: bool,
+    tone: &Tone,
 ) -> Result<Bitmap, Stop>
     requires { I.is_opened inputs.old ≡ true }
-    ensures reads { ReadsFrom I.Inputs (IsShown level.now invert) (body (plain_samples channels))
-        buffer.old inputs.old result buffer.new inputs.new }
+    ensures reads { ReadsFrom I.Inputs (IsShown tone.now.level tone.now.invert)
+        (body (plain_samples channels)) buffer.old inputs.old result buffer.new inputs.new }
 {
     let sides = read_sides(buffer, inputs)?;
     let maxval = read_maxval(buffer, inputs)?;
     let shading = Shading {
         channels,
         maxval,
-        limit: brightest_black(level, channels, maxval),
-        invert,
+        limit: brightest_black(&tone.level, channels, maxval),
+        invert: tone.invert,
     };
     read_page(
         alloc,
@@ -143,12 +142,11 @@ fn read_raw_samples_body<I: Inputs>(
     buffer: &mut Buffer,
     inputs: &mut I,
     channels: Channels,
-    level: &Level,
-    invert: bool,
+    tone: &Tone,
 ) -> Result<Bitmap, Stop>
     requires { I.is_opened inputs.old ≡ true }
-    ensures reads { ReadsFrom I.Inputs (IsShown level.now invert) (body (raw_samples channels))
-        buffer.old inputs.old result buffer.new inputs.new }
+    ensures reads { ReadsFrom I.Inputs (IsShown tone.now.level tone.now.invert)
+        (body (raw_samples channels)) buffer.old inputs.old result buffer.new inputs.new }
 {
     let sides = read_sides(buffer, inputs)?;
     let maxval = read_maxval(buffer, inputs)?;
@@ -156,34 +154,33 @@ fn read_raw_samples_body<I: Inputs>(
     let shading = Shading {
         channels,
         maxval,
-        limit: brightest_black(level, channels, maxval),
-        invert,
+        limit: brightest_black(&tone.level, channels, maxval),
+        invert: tone.invert,
     };
     read_raw_samples(alloc, buffer, inputs, sides, shading)
 }
 
-/// The page of this format, behind its magic, at a level and inverted or not.
+/// The page of this format, behind its magic, of which the tone says what is black.
 pub(crate) fn read_body<I: Inputs>(
     alloc: Global,
     buffer: &mut Buffer,
     inputs: &mut I,
     format: Format,
-    level: &Level,
-    invert: bool,
+    tone: &Tone,
 ) -> Result<ReadPage, Stop>
     requires { I.is_opened inputs.old ≡ true }
-    ensures reads { ReadsFrom I.Inputs (IsRead level.now invert) (counted_body (magic_of format))
-        buffer.old inputs.old result buffer.new inputs.new }
+    ensures reads { ReadsFrom I.Inputs (IsRead tone.now.level tone.now.invert)
+        (counted_body (magic_of format)) buffer.old inputs.old result buffer.new inputs.new }
 {
     match format {
-        Format::PlainBits => claiming_none(read_plain_body(alloc, buffer, inputs, invert)),
-        Format::RawBits => claiming_none(read_raw_body(alloc, buffer, inputs, invert)),
+        Format::PlainBits => claiming_none(read_plain_body(alloc, buffer, inputs, tone.invert)),
+        Format::RawBits => claiming_none(read_raw_body(alloc, buffer, inputs, tone.invert)),
         Format::PlainSamples(channels) => claiming_none(read_plain_samples_body(
-            alloc, buffer, inputs, channels, level, invert,
+            alloc, buffer, inputs, channels, tone,
         )),
         Format::RawSamples(channels) => claiming_none(read_raw_samples_body(
-            alloc, buffer, inputs, channels, level, invert,
+            alloc, buffer, inputs, channels, tone,
         )),
-        Format::Picture => read_bmp(alloc, buffer, inputs, level, invert),
+        Format::Picture => read_bmp(alloc, buffer, inputs, tone),
     }
 }

@@ -38,6 +38,7 @@ mod shading;
 mod sides;
 mod skip;
 mod stop;
+mod tone;
 mod words;
 
 pub use fault::InFault;

@@ -19,6 +19,7 @@ use crate::next::Next;
 use crate::run::{Run, skip};
 use crate::skip::pass_over;
 use crate::stop::Stop;
+use crate::tone::Tone;
 use pt_core::{Inputs, NoMemory};
 use std::alloc::Global;
 use std::marker::Model;
@@ -51,40 +52,25 @@ impl Model for PageReader {
     ghost invariant = { λ r. length r.buffer.bytes ≤ 65536 };
 }
 
-/// The next page, behind whitespace.
-fn read_page<I: Inputs>(
-    alloc: Global,
-    buffer: &mut Buffer,
-    inputs: &mut I,
-    later: bool,
-    level: &Level,
-    invert: bool,
-) -> Result<ReadPage, Stop>
-    requires { I.is_opened inputs.old ≡ true }
-    ensures reads { ReadsFrom I.Inputs (IsRead level.now invert) (counted_page later) buffer.old
-        inputs.old result buffer.new inputs.new }
-{
-    skip(buffer, inputs, Run::Space)?;
-    let format = read_magic(buffer, inputs, later)?;
-    read_body(alloc, buffer, inputs, format, level, invert)
-}
-
-/// The next page, behind bytes that the last one claims. Where the file ends sooner there is none.
+/// The next page, behind bytes that the last one claims and behind whitespace. Where the file ends sooner there is
+/// none.
 fn read_ahead<I: Inputs>(
     alloc: Global,
     buffer: &mut Buffer,
     inputs: &mut I,
     behind: u32,
     later: bool,
-    level: &Level,
-    invert: bool,
+    tone: &Tone,
 ) -> Result<ReadPage, Stop>
     requires { I.is_opened inputs.old ≡ true }
-    ensures reads { ReadsFrom I.Inputs (IsRead level.now invert) (λ bytes. counted_page later (drop
-        behind bytes)) buffer.old inputs.old result buffer.new inputs.new }
+    ensures reads { ReadsFrom I.Inputs (IsRead tone.now.level tone.now.invert)
+        (λ bytes. counted_page later (drop behind bytes)) buffer.old inputs.old result buffer.new
+        inputs.new }
 {
     pass_over(buffer, inputs, behind)?;
-    read_page(alloc, buffer, inputs, later, level, invert)
+    skip(buffer, inputs, Run::Space)?;
+    let format = read_magic(buffer, inputs, later)?;
+    read_body(alloc, buffer, inputs, format, tone)
 }
 
 impl PageReader {
@@ -183,15 +169,11 @@ impl PageReader {
             return Ok(Next::Over);
         }
         let later = self.pages > 0;
-        let answer = read_ahead(
-            alloc,
-            &mut self.buffer,
-            inputs,
-            self.skip,
-            later,
-            level,
+        let tone = Tone {
+            level: *level,
             invert,
-        );
+        };
+        let answer = read_ahead(alloc, &mut self.buffer, inputs, self.skip, later, &tone);
         self.buffer.bounded();
         match answer {
             Ok(read) => {

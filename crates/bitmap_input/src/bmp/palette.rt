@@ -7,10 +7,10 @@ ghost use Rattle.bitmap_input.specs.BmpRaster.{palette_color};
 ghost use Rattle.bitmap_input.specs.Inner.BmpHead.{IsPaletteTable};
 
 use crate::bmp::layout::Header;
-use crate::bmp::pixels::Tone;
 use crate::buffer::Buffer;
 use crate::raw::read_block;
 use crate::stop::Stop;
+use crate::tone::Tone;
 use pt_core::Inputs;
 
 /// Whether a colour of a palette is a black pixel.

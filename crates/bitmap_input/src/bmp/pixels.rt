@@ -6,7 +6,6 @@ ghost use Rattle.bit_image.specs.Page.{Page, SameSides, image_of};
 ghost use Rattle.bitmap_input.specs.Inner.Reading.{Reads, Leaves};
 ghost use Rattle.bitmap_input.specs.PageParts.{block, repeated};
 ghost use Rattle.bitmap_input.specs.Raw.{Entry, black};
-ghost use Rattle.bitmap_input.specs.Raw.Entry.{Color as color};
 ghost use Rattle.bitmap_input.specs.BmpRaster.{color_at, bit_at, half_at, palette_color, color_row};
 ghost use Rattle.bitmap_input.specs.Inner.BmpHead.{IsPaletteTable, bits_in, shade_in, row_place, row_bytes_by};
 ghost use Rattle.bitmap_input.specs.Inner.Raster.{with_row, with_placed};
@@ -17,34 +16,10 @@ use crate::buffer::Buffer;
 use crate::dark::color_word;
 use crate::raw::{place_row as place_bits, read_block};
 use crate::stop::Stop;
+use crate::tone::Tone;
 use crate::words::{inverted, word_of};
 use bit_image::Bitmap;
 use pt_core::{Inputs, LONGEST_SIDE};
-use threshold_map::Level;
-
-/// How the colours of a picture become pixels.
-#[derive(Clone, Copy)]
-pub(crate) struct Tone {
-    pub(crate) level: Level,
-    pub(crate) invert: bool,
-}
-
-impl Tone {
-    /// Whether no colour at all is a black pixel.
-    pub(crate) fn none(&self) -> bool
-        ensures { result ≡ black self.now.level self.now.invert (color 0 0 0) }
-    {
-        self.level.rgb(0, 0, 0) != self.invert
-    }
-
-    /// Whether a colour is a black pixel: its blue stands first, then its green and its red.
-    pub(crate) fn black(&self, bytes: &[u8], at: usize) -> bool
-        requires { at + 2 < length bytes.now }
-        ensures { result ≡ black self.now.level self.now.invert (color_at bytes.now at) }
-    {
-        self.level.rgb(bytes[at + 2], bytes[at + 1], bytes[at]) != self.invert
-    }
-}
 
 /// A bit of a row, the most significant one of each byte first.
 fn bit(row: &[u8], x: usize) -> usize

@@ -7,23 +7,23 @@ use Rattle.bitmap_input.proofs.body.read_body.Goals as goal
 pub returns-in-PlainBits : goal.returns-in-PlainBits
 returns-in-PlainBits g c = record {
   reads = leaving (search rules)
-      (rw (c.claiming_none.ensures, c.in-PlainBits.is) (reads_unclaimed c.args.level.now c.args.invert PlainBits plain_bits_unclaimed (c.read_plain_body.ensures.reads c.args.level.now)));
+      (rw (c.claiming_none.ensures, c.in-PlainBits.is) (reads_unclaimed c.args.tone.now.level c.args.tone.now.invert PlainBits plain_bits_unclaimed (c.read_plain_body.ensures.reads c.args.tone.now.level)));
 }
 
 pub returns-in-RawBits : goal.returns-in-RawBits
 returns-in-RawBits g c = record {
   reads = leaving (search rules)
-      (rw (c.claiming_none-in-RawBits.ensures, c.in-RawBits.is) (reads_unclaimed c.args.level.now c.args.invert RawBits raw_bits_unclaimed (c.read_raw_body.ensures.reads c.args.level.now)));
+      (rw (c.claiming_none-in-RawBits.ensures, c.in-RawBits.is) (reads_unclaimed c.args.tone.now.level c.args.tone.now.invert RawBits raw_bits_unclaimed (c.read_raw_body.ensures.reads c.args.tone.now.level)));
 }
 
 pub returns-in-PlainSamples : goal.returns-in-PlainSamples
 returns-in-PlainSamples g c = record {
   reads = leaving (search rules)
-      (rw (c.claiming_none-in-PlainSamples.ensures, c.in-PlainSamples.is) (reads_unclaimed c.args.level.now c.args.invert (PlainSamples c.in-PlainSamples.channels) (plain_samples_unclaimed c.in-PlainSamples.channels) c.read_plain_samples_body.ensures.reads.step));
+      (rw (c.claiming_none-in-PlainSamples.ensures, c.in-PlainSamples.is) (reads_unclaimed c.args.tone.now.level c.args.tone.now.invert (PlainSamples c.in-PlainSamples.channels) (plain_samples_unclaimed c.in-PlainSamples.channels) c.read_plain_samples_body.ensures.reads.step));
 }
 
 pub returns-in-RawSamples : goal.returns-in-RawSamples
 returns-in-RawSamples g c = record {
   reads = leaving (search rules)
-      (rw (c.claiming_none-in-RawSamples.ensures, c.in-RawSamples.is) (reads_unclaimed c.args.level.now c.args.invert (RawSamples c.in-RawSamples.channels) (raw_samples_unclaimed c.in-RawSamples.channels) c.read_raw_samples_body.ensures.reads.step));
+      (rw (c.claiming_none-in-RawSamples.ensures, c.in-RawSamples.is) (reads_unclaimed c.args.tone.now.level c.args.tone.now.invert (RawSamples c.in-RawSamples.channels) (raw_samples_unclaimed c.in-RawSamples.channels) c.read_raw_samples_body.ensures.reads.step));
 }

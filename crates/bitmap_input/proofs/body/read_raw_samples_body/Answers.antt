@@ -38,8 +38,8 @@ returns-in_err-skip_space g c = record {
 pub returns : goal.returns
 returns g c = record {
   reads = leaving (search rules)
-      (let level : ℕ = c.args.level.now in
-      let invert : Bool = c.args.invert in
+      (let level : ℕ = c.args.tone.now.level in
+      let invert : Bool = c.args.tone.now.invert in
       let kind = c.args.channels in
       let maxval : ℕ = c.in_ok-maxval.maxval in
       reads_on sides_stay c.in_ok-sides.ensures.reads.step
