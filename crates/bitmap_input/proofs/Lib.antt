@@ -32,6 +32,7 @@ pub mod BmpPictures
 pub mod Keeping
 pub mod BmpKeeps
 pub mod BmpLengths
+pub mod Formats
 pub mod FrontKeeps
 pub mod Spelling
 pub mod Behind

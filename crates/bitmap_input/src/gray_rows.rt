@@ -1,17 +1,17 @@
 //! A gray page row by row: its header, and the samples of one row.
 ghost use Rattle.std.specs.Prelude.{◌≡◌, ℕ, ◌+◌, ◌*◌, ◌<◌, ◌≤◌, true, false, length, map, min, IfOk};
-ghost use Rattle.bitmap_input.specs.Inner.Reading.{ReadsFrom, Any, Same, TakesNone};
+ghost use Rattle.bitmap_input.specs.Inner.Reading.{ReadsFrom, Same, TakesNone};
 ghost use Rattle.bitmap_input.specs.PageParts.{repeated};
 ghost use Rattle.bitmap_input.specs.Samples.{samples_in, samples, plain_sample, sample_bytes, raw_samples_row};
 ghost use Rattle.bitmap_input.specs.declared.channels.Channels.TheVariants as channels;
 ghost use Rattle.bitmap_input.specs.Inner.Header.{magic_of};
 ghost use Rattle.bitmap_input.specs.Inner.GrayRows.{ChecksKind};
-ghost use Rattle.bitmap_input.specs.GrayRows.{gray_alone, gray_kind, gray_magic, header_end, gray_header, lowered};
+ghost use Rattle.bitmap_input.specs.GrayRows.{gray_alone, gray_kind, gray_magic, gray_header, lowered};
 
 use crate::buffer::Buffer;
 use crate::channels::Channels;
 use crate::fault::InFault;
-use crate::header::{Format, GREATEST_MAXVAL, read_magic, read_maxval, read_sides, skip_space};
+use crate::header::{Format, GREATEST_MAXVAL, end_header, read_magic, read_maxval, read_sides};
 use crate::number::{Section, read_number_behind_gap};
 use crate::raw::read_block;
 use crate::run::{Run, skip};
@@ -63,20 +63,6 @@ fn read_gray_kind<I: Inputs>(buffer: &mut Buffer, inputs: &mut I) -> Result<bool
 {
     let format = read_magic(buffer, inputs, false)?;
     kind_of(format)
-}
-
-/// Goes on behind the byte that ends a raw page's header.
-fn end_header<I: Inputs>(buffer: &mut Buffer, inputs: &mut I, plain: bool) -> Result<(), Stop>
-    requires { I.is_opened inputs.old ≡ true }
-    ensures reads { ReadsFrom I.Inputs Any (header_end plain) buffer.old inputs.old result
-        buffer.new inputs.new }
-    ensures free { TakesNone result }
-{
-    if plain {
-        Ok(())
-    } else {
-        skip_space(buffer, inputs)
-    }
 }
 
 /// The header of a gray page, which is the first page of its file.

@@ -2,6 +2,7 @@
 ghost use Rattle.std.specs.Prelude.{◌≡◌, ℕ, ◌≤◌, true, false, IfOk, if◌then◌else◌, option_map};
 ghost use Rattle.bitmap_input.specs.Inner.Reading.{ReadsFrom, Any, Same, HasMemory, TakesNone, cause_of};
 ghost use Rattle.bitmap_input.specs.PageParts.{space};
+ghost use Rattle.bitmap_input.specs.GrayRows.{header_end};
 ghost use Rattle.bitmap_input.specs.Front.{magic, magic_named, magic_behind, sides, maxval};
 ghost use Rattle.bitmap_input.specs.Inner.Header.{magic_of, IsFormat, IsSides, Checks, ChecksMaxval};
 
@@ -116,7 +117,7 @@ pub(crate) fn read_magic<I: Inputs>(
 }
 
 /// Goes on behind one byte of whitespace.
-pub(crate) fn skip_space<I: Inputs>(buffer: &mut Buffer, inputs: &mut I) -> Result<(), Stop>
+fn skip_space<I: Inputs>(buffer: &mut Buffer, inputs: &mut I) -> Result<(), Stop>
     requires { I.is_opened inputs.old ≡ true }
     ensures reads { ReadsFrom I.Inputs Any space buffer.old inputs.old result buffer.new
         inputs.new }
@@ -133,6 +134,24 @@ pub(crate) fn skip_space<I: Inputs>(buffer: &mut Buffer, inputs: &mut I) -> Resu
         }
         Look::End => Err(Stop::Fault(InFault::Truncated)),
         Look::Fault => Err(Stop::Fault(InFault::ReadFault)),
+    }
+}
+
+/// Goes on behind the byte that ends a raw page's header.
+pub(crate) fn end_header<I: Inputs>(
+    buffer: &mut Buffer,
+    inputs: &mut I,
+    plain: bool,
+) -> Result<(), Stop>
+    requires { I.is_opened inputs.old ≡ true }
+    ensures reads { ReadsFrom I.Inputs Any (header_end plain) buffer.old inputs.old result
+        buffer.new inputs.new }
+    ensures free { TakesNone result }
+{
+    if plain {
+        Ok(())
+    } else {
+        skip_space(buffer, inputs)
     }
 }
 

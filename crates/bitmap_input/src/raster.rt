@@ -1,23 +1,23 @@
 //! Rasters: the rows of a page, as its format stores them.
-ghost use Rattle.std.specs.Prelude.{◌≡◌, ℕ, ◌<◌, true, Bool, length, map};
+ghost use Rattle.std.specs.Prelude.{◌≡◌, ℕ, ◌<◌, ◌≤◌, true, Bool, length, map};
 ghost use Rattle.bit_image.specs.Page.{Page, SameSides, image_of};
 ghost use Rattle.bitmap_input.specs.Inner.Reading.{Reads, ReadsFrom, Leaves};
 ghost use Rattle.bitmap_input.specs.PageParts.{repeated};
 ghost use Rattle.bitmap_input.specs.Front.{rows_raster};
 ghost use Rattle.bitmap_input.specs.Raw.{IsShown};
 ghost use Rattle.bitmap_input.specs.Inner.Raster.{with_row, with_rows};
-ghost use Rattle.bitmap_input.specs.Inner.Stored.{row_stored, pixel_entry, is_black_pixel, line_bytes, IsAtLevel};
+ghost use Rattle.bitmap_input.specs.Inner.Stored.{row_stored, pixel_entry, is_black_pixel, line_bytes, is_plain, samples_raster, IsAtLevel};
 
 use crate::buffer::Buffer;
 use crate::extent::known;
 use crate::plain::read_plain_row;
 use crate::raw::read_raw_row;
-use crate::samples::{read_plain_samples_row, read_raw_samples_row};
+use crate::samples::{read_plain_samples_row, read_raw_samples_row, row_bytes};
 use crate::shading::Shading;
 use crate::sides::Sides;
 use crate::stop::Stop;
 use bit_image::Bitmap;
-use pt_core::Inputs;
+use pt_core::{Inputs, LONGEST_SIDE};
 use std::alloc::Global;
 
 /// How the pixels of a page are stored, and which of them are black.
@@ -31,6 +31,41 @@ pub(crate) enum Raster {
     PlainSamples { shading: Shading },
     /// Samples as bytes.
     RawSamples { shading: Shading },
+}
+
+impl Raster {
+    /// That of a page of samples, plain or raw.
+    pub(crate) fn of_samples(plain: bool, shading: Shading) -> Raster
+        ensures { result ≡ samples_raster plain shading }
+    {
+        if plain {
+            Raster::PlainSamples { shading }
+        } else {
+            Raster::RawSamples { shading }
+        }
+    }
+
+    /// Whether a pixel or a sample is written as characters.
+    pub(crate) fn is_plain(self) -> bool
+        ensures { result ≡ is_plain self }
+    {
+        match self {
+            Raster::PlainBits { .. } | Raster::PlainSamples { .. } => true,
+            Raster::RawBits { .. } | Raster::RawSamples { .. } => false,
+        }
+    }
+
+    /// The bytes of a row, where each row has as many.
+    fn line_bytes(self, width: u32) -> usize
+        requires { width ≤ LONGEST_SIDE }
+        ensures { result ≡ line_bytes self width }
+    {
+        match self {
+            Raster::PlainBits { .. } | Raster::PlainSamples { .. } => 0,
+            Raster::RawBits { .. } => (width as usize + 7) / 8,
+            Raster::RawSamples { shading } => row_bytes(shading.channels, width, shading.maxval),
+        }
+    }
 }
 
 /// One row, put into row y, with room for its bytes.
@@ -85,17 +120,15 @@ fn read_rows<I: Inputs>(
     Ok(())
 }
 
-/// The rows behind a header, on a page of their own, with room for the bytes of one of them.
+/// The rows behind a header, on a page of their own.
 pub(crate) fn read_page<I: Inputs>(
     alloc: Global,
     buffer: &mut Buffer,
     inputs: &mut I,
     sides: Sides,
     raster: Raster,
-    line: &mut [u8],
 ) -> Result<Bitmap, Stop>
-    requires opened { I.is_opened inputs.old ≡ true }
-    requires room { length line.old ≡ line_bytes raster sides.width }
+    requires { I.is_opened inputs.old ≡ true }
     ensures reads { (level : ℕ) (invert : Bool) → IsAtLevel level invert raster
         → Reads (IsShown level invert)
         (rows_raster (pixel_entry raster) (row_stored raster sides.width) sides.width sides.height)
@@ -103,7 +136,8 @@ pub(crate) fn read_page<I: Inputs>(
     ensures leaves { Leaves I.Inputs result inputs.old inputs.new }
 {
     let mut page = Bitmap::new(alloc, sides.width, sides.height)?;
-    read_rows(buffer, inputs, &mut page, raster, line)?;
+    let mut line = vec![in alloc; 0u8; raster.line_bytes(sides.width)]?;
+    read_rows(buffer, inputs, &mut page, raster, &mut line)?;
     known(&page);
     Ok(page)
 }

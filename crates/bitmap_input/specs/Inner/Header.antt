@@ -1,5 +1,5 @@
 -- The header of a page in the program: its format, its sides and its sample for white.
-use Rattle.std.specs.Prelude.{◌≡◌, ℕ, false, List, Result, Ok, Err}
+use Rattle.std.specs.Prelude.{◌≡◌, ℕ, Bool, true, false, List, Result, Ok, Err}
 use Rattle.bitmap_input.specs.Cut.Cut.{Takes, Stops}
 use Rattle.bitmap_input.specs.Cut.{FileEnd}
 use Rattle.bitmap_input.specs.Front.{Magic, checked, checked_maxval}
@@ -7,6 +7,7 @@ use Rattle.bitmap_input.specs.Front.Magic.{PlainBits, RawBits, PlainSamples, Raw
 use Rattle.bitmap_input.specs.Inner.ByteRuns.{IsCapped}
 use Rattle.bitmap_input.specs.Inner.Reading.{cause_of}
 use Rattle.bitmap_input.specs.Reading.Cause.{Says}
+use Rattle.bitmap_input.specs.declared.channels.Channels.{Channels}
 use Rattle.bitmap_input.specs.declared.stop.Stop.{Stop}
 use Rattle.bitmap_input.specs.declared.header.Format.{Format}
 use Rattle.bitmap_input.specs.declared.header.Format.TheVariants as format
@@ -19,6 +20,11 @@ magic_of format.RawBits = RawBits
 magic_of (format.PlainSamples c) = PlainSamples c
 magic_of (format.RawSamples c) = RawSamples c
 magic_of format.Picture = Picture
+
+-- the magic of a page of samples, plain or raw
+abbrev pub samples_magic : Bool → Channels → Magic
+samples_magic true c = PlainSamples c
+samples_magic false c = RawSamples c
 
 -- the magic names this format
 abbrev pub IsFormat : Format → Magic → Type 0

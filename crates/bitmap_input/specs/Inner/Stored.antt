@@ -1,15 +1,29 @@
 -- How the pixels of a page are stored in the program, and which of them are black.
-use Rattle.std.specs.Prelude.{◌≡◌, ℕ, ◌*◌, Bool, List}
+use Rattle.std.specs.Prelude.{◌≡◌, ℕ, ◌*◌, Bool, true, false, List}
 use Rattle.bit_image.specs.Image.{differ}
-use Rattle.bitmap_input.specs.Cut.{Cut}
+use Rattle.bitmap_input.specs.Cut.{Cut, ◌>>=◌}
 use Rattle.bitmap_input.specs.PageParts.{repeated}
-use Rattle.bitmap_input.specs.Raw.{Entry, black, row_bytes}
+use Rattle.bitmap_input.specs.Raw.{Raw, Entry, black, row_bytes}
 use Rattle.bitmap_input.specs.Raw.Entry.{Bit}
-use Rattle.bitmap_input.specs.Front.{plain_pixel, raw_row}
+use Rattle.bitmap_input.specs.Front.{sides, plain_pixel, raw_row, rows_raster}
+use Rattle.bitmap_input.specs.GrayRows.{header_end}
 use Rattle.bitmap_input.specs.Samples.{PixelSamples, samples_in, as_entry, plain_samples, raw_samples_row, sample_bytes}
 use Rattle.bitmap_input.specs.Inner.Shading.{black_of}
+use Rattle.bitmap_input.specs.declared.shading.Shading.{Shading}
 use Rattle.bitmap_input.specs.declared.raster.Raster.{Raster}
 use Rattle.bitmap_input.specs.declared.raster.Raster.TheVariants.{PlainBits, RawBits, PlainSamples, RawSamples}
+
+-- a pixel or a sample is written as characters
+abbrev pub is_plain : Raster → Bool
+is_plain (PlainBits invert) = true
+is_plain (RawBits invert) = false
+is_plain (PlainSamples s) = true
+is_plain (RawSamples s) = false
+
+-- the raster of a page of samples, plain or raw
+abbrev pub samples_raster : Bool → Shading → Raster
+samples_raster true s = PlainSamples s
+samples_raster false s = RawSamples s
 
 -- what is stored of a pixel
 abbrev pub StoredPixel : Raster → Type 0
@@ -38,6 +52,11 @@ is_black_pixel (PlainBits invert) b = differ invert b
 is_black_pixel (RawBits invert) b = differ invert b
 is_black_pixel (PlainSamples s) a = black_of s a
 is_black_pixel (RawSamples s) a = black_of s a
+
+-- the sides and the rows behind them, as what follows a magic
+abbrev pub sides_and_rows : Raster → List ℕ → Cut Raw
+sides_and_rows r bytes =
+    sides bytes >>= λ s rest. header_end (is_plain r) rest >>= λ _ rest. rows_raster (pixel_entry r) (row_stored r s.0) s.0 s.1 rest
 
 -- the bytes of a row, where each row has as many
 abbrev pub line_bytes : Raster → ℕ → ℕ

@@ -12,6 +12,12 @@ returns-in_err-page-clause-reads g c level invert at =
     let s = c.args.sides in
     rw (p.1, p.2) (reads_memory (IsShown level invert) (rows_raster (pixel_entry c.args.raster) (row_stored c.args.raster s.width) s.width s.height) _ _)
 
+pub returns-in_err-line-clause-reads : goal.returns-in_err-line-clause-reads
+returns-in_err-line-clause-reads g c level invert at =
+    let p = err_from_is_err_and c.from_residual-in_err-line.result c.from_residual-in_err-line.ensures.1 in
+    let s = c.args.sides in
+    rw (p.1, p.2) (reads_memory (IsShown level invert) (rows_raster (pixel_entry c.args.raster) (row_stored c.args.raster s.width) s.width s.height) _ _)
+
 pub returns-in_err-read_rows-clause-reads : goal.returns-in_err-read_rows-clause-reads
 returns-in_err-read_rows-clause-reads g c level invert at =
     let p = err_from_is_err_and c.from_residual-in_err-read_rows.result c.from_residual-in_err-read_rows.ensures.1 in
