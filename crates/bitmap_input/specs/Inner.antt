@@ -11,7 +11,7 @@ pub mod Header
 pub mod Number
 pub mod Raster
 pub mod Reading
+pub mod RowWords
 pub mod Shading
 pub mod Skip
 pub mod Stored
-pub mod Words

@@ -8,7 +8,7 @@ ghost use Rattle.bitmap_input.specs.Raw.{is_dark};
 ghost use Rattle.bitmap_input.specs.Samples.{PixelSamples, samples_in, as_entry, plain_samples, is_wide, sample_bytes, samples, grouped, raw_samples_row};
 ghost use Rattle.bitmap_input.specs.Inner.Raster.{with_row};
 ghost use Rattle.bitmap_input.specs.Inner.Shading.{brightness, brightness_at, IsCappedBrightness, black_of, black_in_bytes};
-ghost use Rattle.bitmap_input.specs.Inner.Words.{FitsWord, ShowsPixels};
+ghost use Rattle.bitmap_input.specs.Inner.RowWords.{FitsWord, ShowsPixels};
 ghost use Rattle.bitmap_input.specs.declared.channels.Channels.TheVariants as channels;
 
 use crate::buffer::Buffer;

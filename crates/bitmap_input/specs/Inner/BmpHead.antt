@@ -40,14 +40,14 @@ pub record HasInfo (head : List ℕ) : Type 0 where
   pub long : is_short head ≡ false → 40 ≤ header_size head
 
 -- the number that a field of the header holds
-abbrev pub number_in : List ℕ → Field → ℕ
-number_in head field.None = 0
-number_in head (field.Two place) = two_at head place
-number_in head (field.Four place) = four_at head place
+abbrev pub field_number : List ℕ → Field → ℕ
+field_number head field.None = 0
+field_number head (field.Two place) = two_at head place
+field_number head (field.Four place) = four_at head place
 
 -- the number that the oldest header has at one field, and the later ones at another
 abbrev pub number_by_age : List ℕ → Field → Field → ℕ
-number_by_age head oldest later = if is_short head then number_in head oldest else number_in head later
+number_by_age head oldest later = if is_short head then field_number head oldest else field_number head later
 
 -- the field stands behind the magic, within so many bytes of it
 abbrev pub StandsWithin : Field → ℕ → Type 0

@@ -1,7 +1,7 @@
 //! Fields of the header of a BMP picture.
 ghost use Rattle.std.specs.Prelude.{◌≡◌, ◌≤◌, true, not, ◌||◌, ◌^◌, nat_le, length};
 ghost use Rattle.bitmap_input.specs.BmpHeader.{is_short, planes, bits, compression, colors_used, is_known_size, stated_width, stated_height, width, height, is_top_down, mask_bytes, has_masks, has_known_masks, has_known_colors, has_palette, palette_length, color_bytes, palette_end};
-ghost use Rattle.bitmap_input.specs.Inner.BmpHead.{number_in, number_by_age, StandsWithin, IsKnownDepth, IsDepth, IsMostColors, bits_in};
+ghost use Rattle.bitmap_input.specs.Inner.BmpHead.{field_number, number_by_age, StandsWithin, IsKnownDepth, IsDepth, IsMostColors, bits_in};
 
 use crate::bmp::info::Info;
 
@@ -55,9 +55,9 @@ enum Field {
     Four(usize),
 }
 
-fn number_in(info: &Info, field: Field) -> u32
+fn field_number(info: &Info, field: Field) -> u32
     requires { StandsWithin field (length info.now.head.now) }
-    ensures { result ≡ number_in info.now.head.now field }
+    ensures { result ≡ field_number info.now.head.now field }
 {
     match field {
         Field::None => 0,
@@ -73,9 +73,9 @@ fn number_by_age(info: &Info, oldest: Field, later: Field) -> u32
     ensures { result ≡ number_by_age info.now.head.now oldest later }
 {
     if is_short(info) {
-        number_in(info, oldest)
+        field_number(info, oldest)
     } else {
-        number_in(info, later)
+        field_number(info, later)
     }
 }
 
