@@ -10,7 +10,7 @@ use Rattle.bitmap_input.specs.declared.bmp.fields.Depth.TheVariants as depth
 use Rattle.bitmap_input.specs.Inner.BmpHead.{bits_in, IsPaletteTable, shade_in}
 
 -- a column of the page is one of the row
-pub column_within : (d : Depth) (x w n : ℕ) → x < w → w * bits_in d ≤ 8 * n → (x + 1) * bits_in d ≤ 8 * n
+pub column_within : (d : Depth) (x w n : ℕ) → x < w → bits_in d * w ≤ 8 * n → (x + 1) * bits_in d ≤ 8 * n
 column_within depth.One x w n less whole = omega arith
 column_within depth.Four x w n less whole = omega arith
 column_within depth.Eight x w n less whole = omega arith
@@ -18,7 +18,7 @@ column_within depth.TwentyFour x w n less whole = omega arith
 column_within depth.ThirtyTwo x w n less whole = omega arith
 
 -- and so are fewer columns than the page has
-pub columns_within : (d : Depth) (m w n : ℕ) → m ≤ w → w * bits_in d ≤ 8 * n → m * bits_in d ≤ 8 * n
+pub columns_within : (d : Depth) (m w n : ℕ) → m ≤ w → w * bits_in d ≤ 8 * n → bits_in d * m ≤ 8 * n
 columns_within depth.One m w n less whole = omega arith
 columns_within depth.Four m w n less whole = omega arith
 columns_within depth.Eight m w n less whole = omega arith

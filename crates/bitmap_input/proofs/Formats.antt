@@ -1,5 +1,5 @@
 -- Plain and raw pages as one: the part of a raw page's header that a plain one doesn't have takes nothing there.
-use Rattle.std.proofs.Common.{◌≡◌, refl, ℕ, ◌*◌, Bool, true, false, List, ap, sym, Option, Result}
+use Rattle.std.proofs.Common.{◌≡◌, refl, ℕ, Bool, true, false, List, ap, sym, Option, Result}
 use Rattle.std.specs.Prelude.{nat_le}
 use Rattle.std.proofs.Math.Path.{fun_ext}
 use Rattle.pt_core.specs.Files.{Files}

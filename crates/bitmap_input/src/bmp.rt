@@ -10,11 +10,13 @@ mod fields;
 mod head;
 mod header;
 mod info;
+mod ink;
 mod layout;
 mod palette;
 mod pixels;
 
 use crate::bmp::header::read_header;
+use crate::bmp::ink::Ink;
 use crate::bmp::layout::Header;
 use crate::bmp::palette::read_palette;
 use crate::bmp::pixels::read_rows;
@@ -53,7 +55,12 @@ fn read_pixels<I: Inputs>(
 {
     let mut page = Bitmap::new(alloc, header.sides.width, header.sides.height)?;
     let mut row = vec![in alloc; 0u8; row_bytes(header) as usize]?;
-    read_rows(buffer, inputs, &mut page, header, tone, table, &mut row)?;
+    let ink = Ink {
+        depth: header.depth,
+        tone: *tone,
+        table,
+    };
+    read_rows(buffer, inputs, &mut page, header, &ink, &mut row)?;
     known(&page);
     Ok(page)
 }

@@ -16,6 +16,7 @@ use Rattle.bitmap_input.specs.declared.bmp.fields.Depth.TheVariants as depth
 use Rattle.bitmap_input.specs.declared.bmp.fields.Field.{Field}
 use Rattle.bitmap_input.specs.declared.bmp.fields.Field.TheVariants as field
 use Rattle.bitmap_input.specs.declared.bmp.layout.Header.{Header}
+use Rattle.bitmap_input.specs.declared.bmp.ink.Ink.{Ink}
 
 -- the first bytes of a header, with a known size
 pub record IsHeaderStart (head : List ℕ) : Type 0 where
@@ -108,6 +109,10 @@ shade_in depth.Eight level invert table row x =
     slice_index_or table (slice_index_or row x 0) (black level invert (Color 0 0 0))
 shade_in depth.TwentyFour level invert table row x = black level invert (color_at row (3 * x))
 shade_in depth.ThirtyTwo level invert table row x = black level invert (color_at row (4 * x))
+
+-- the same of what the program keeps of it
+abbrev pub shade_by : Ink → List ℕ → ℕ → Bool
+shade_by i row x = shade_in i.depth i.tone.level i.tone.invert i.table.now row x
 
 -- the row of the page that the picture's row of this number is: they come from the top, or from below
 abbrev pub row_place : Bool → ℕ → ℕ → ℕ

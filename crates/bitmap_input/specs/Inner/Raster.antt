@@ -1,6 +1,7 @@
 -- Putting the rows of a raster into a page.
-use Rattle.std.specs.Prelude.{ℕ, zero, suc, Bool, List, [], ◌∷◌}
+use Rattle.std.specs.Prelude.{◌≡◌, ℕ, zero, suc, Bool, List, [], ◌∷◌}
 use Rattle.bit_image.specs.Image.{Image, with_pixel}
+use Rattle.bit_image.specs.Page.{Page, SameSides, image_of}
 
 -- the image with these pixels in row y, from column x on, one after another
 abbrev pub with_pixels : Image → ℕ → ℕ → List Bool → Image
@@ -10,6 +11,11 @@ with_pixels b y x (p ∷ ps) = with_pixels (with_pixel b x y p) y (suc x) ps
 -- the image with these as the first pixels of row y
 abbrev pub with_row : Image → ℕ → List Bool → Image
 with_row b y pixels = with_pixels b y 0 pixels
+
+-- the page has these as the first pixels of row y, and else it is as it was
+pub record HasRow (old : Page) (y : ℕ) (row : List Bool) (new : Page) : Type 0 where
+  pub sides : SameSides old new
+  pub pixels : image_of new ≡ with_row (image_of old) y row
 
 -- the image with these rows, the first one below row y, and the others downwards
 abbrev pub with_rows : Image → ℕ → List (List Bool) → Image

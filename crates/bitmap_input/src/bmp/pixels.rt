@@ -7,10 +7,12 @@ ghost use Rattle.bitmap_input.specs.Inner.Reading.{Reads, Leaves};
 ghost use Rattle.bitmap_input.specs.PageParts.{block, repeated};
 ghost use Rattle.bitmap_input.specs.Raw.{Entry, black};
 ghost use Rattle.bitmap_input.specs.BmpRaster.{color_at, bit_at, half_at, palette_color, color_row};
-ghost use Rattle.bitmap_input.specs.Inner.BmpHead.{IsPaletteTable, bits_in, shade_in, row_place, row_bytes_by};
-ghost use Rattle.bitmap_input.specs.Inner.Raster.{with_row, with_placed};
+ghost use Rattle.bitmap_input.specs.Inner.BmpHead.{IsPaletteTable, bits_in, shade_by, row_place, row_bytes_by};
+ghost use Rattle.bitmap_input.specs.Inner.RowWords.{FitsWord, ShowsPixels};
+ghost use Rattle.bitmap_input.specs.Inner.Raster.{HasRow, with_placed};
 
 use crate::bmp::fields::Depth;
+use crate::bmp::ink::Ink;
 use crate::bmp::layout::Header;
 use crate::buffer::Buffer;
 use crate::dark::color_word;
@@ -40,39 +42,29 @@ fn half(row: &[u8], x: usize) -> usize
     if x % 2 == 0 { byte / 16 } else { byte % 16 }
 }
 
-/// Whether the pixel in column x of a row is black, by a table of the palette.
+/// Whether the pixel in column x of a row is black.
 #[inline(always)]
-fn shade(depth: Depth, tone: &Tone, table: &[bool; 256], row: &[u8], x: usize) -> bool
-    requires { (x + 1) * bits_in depth ≤ 8 * length row.now }
-    ensures { result ≡ shade_in depth tone.now.level tone.now.invert table.now row.now x }
+fn shade(ink: &Ink, row: &[u8], x: usize) -> bool
+    requires { (x + 1) * bits_in ink.now.depth ≤ 8 * length row.now }
+    ensures { result ≡ shade_by ink.now row.now x }
 {
-    match depth {
-        Depth::One => table[bit(row, x)],
-        Depth::Four => table[half(row, x)],
-        Depth::Eight => table[row[x] as usize],
-        Depth::TwentyFour => tone.black(row, 3 * x),
-        Depth::ThirtyTwo => tone.black(row, 4 * x),
+    match ink.depth {
+        Depth::One => ink.table[bit(row, x)],
+        Depth::Four => ink.table[half(row, x)],
+        Depth::Eight => ink.table[row[x] as usize],
+        Depth::TwentyFour => ink.tone.black(row, 3 * x),
+        Depth::ThirtyTwo => ink.tone.black(row, 4 * x),
     }
 }
 
 /// The word of so many pixels of a row, from one column on, pixel by pixel.
-fn word_by_pixels(
-    depth: Depth,
-    tone: &Tone,
-    table: &[bool; 256],
-    row: &[u8],
-    from: usize,
-    count: usize,
-) -> u64
-    requires few { count ≤ 64 }
-    requires column { from ≤ LONGEST_SIDE }
-    requires within { (from + count) * bits_in depth ≤ 8 * length row.now }
-    ensures { (k : ℕ) → k < count → is_one result k
-        ≡ shade_in depth tone.now.level tone.now.invert table.now row.now (from + k) }
+fn word_by_pixels(ink: &Ink, row: &[u8], from: usize, count: usize) -> u64
+    requires { FitsWord (bits_in ink.now.depth) from count (8 * length row.now) }
+    ensures { ShowsPixels (shade_by ink.now row.now) from count result }
 {
     let mut pixels = [false; 64];
     for i in 0..count {
-        pixels[i] = shade(depth, tone, table, row, from + i);
+        pixels[i] = shade(ink, row, from + i);
     }
     word_of(&pixels)
 }
@@ -90,68 +82,41 @@ fn colors_word(tone: &Tone, row: &[u8], from: usize, step: usize) -> u64
 }
 
 /// The word of 64 pixels of a row, from one column on.
-fn full_word(depth: Depth, tone: &Tone, table: &[bool; 256], row: &[u8], from: usize) -> u64
-    requires column { from ≤ LONGEST_SIDE }
-    requires within { (from + 64) * bits_in depth ≤ 8 * length row.now }
-    ensures { (k : ℕ) → k < 64 → is_one result k
-        ≡ shade_in depth tone.now.level tone.now.invert table.now row.now (from + k) }
+fn full_word(ink: &Ink, row: &[u8], from: usize) -> u64
+    requires { FitsWord (bits_in ink.now.depth) from 64 (8 * length row.now) }
+    ensures { ShowsPixels (shade_by ink.now row.now) from 64 result }
 {
-    match depth {
-        Depth::TwentyFour => colors_word(tone, row, 3 * from, 3),
-        Depth::ThirtyTwo => colors_word(tone, row, 4 * from, 4),
-        Depth::One | Depth::Four | Depth::Eight => {
-            word_by_pixels(depth, tone, table, row, from, 64)
-        }
+    match ink.depth {
+        Depth::TwentyFour => colors_word(&ink.tone, row, 3 * from, 3),
+        Depth::ThirtyTwo => colors_word(&ink.tone, row, 4 * from, 4),
+        Depth::One | Depth::Four | Depth::Eight => word_by_pixels(ink, row, from, 64),
     }
 }
 
 /// The word of so many pixels of a row, from one column on.
-fn word(
-    depth: Depth,
-    tone: &Tone,
-    table: &[bool; 256],
-    row: &[u8],
-    from: usize,
-    count: usize,
-) -> u64
-    requires few { count ≤ 64 }
-    requires column { from ≤ LONGEST_SIDE }
-    requires within { (from + count) * bits_in depth ≤ 8 * length row.now }
-    ensures { (k : ℕ) → k < count → is_one result k
-        ≡ shade_in depth tone.now.level tone.now.invert table.now row.now (from + k) }
+fn word(ink: &Ink, row: &[u8], from: usize, count: usize) -> u64
+    requires { FitsWord (bits_in ink.now.depth) from count (8 * length row.now) }
+    ensures { ShowsPixels (shade_by ink.now row.now) from count result }
 {
     if count < 64 {
-        word_by_pixels(depth, tone, table, row, from, count)
+        word_by_pixels(ink, row, from, count)
     } else {
-        full_word(depth, tone, table, row, from)
+        full_word(ink, row, from)
     }
 }
 
 /// Puts a row of bytes into row y, word by word.
-fn place_words(
-    page: &mut Bitmap,
-    y: u32,
-    depth: Depth,
-    tone: &Tone,
-    table: &[bool; 256],
-    row: &[u8],
-)
+fn place_words(page: &mut Bitmap, y: u32, ink: &Ink, row: &[u8])
     requires row { y < page.old.height }
-    requires whole { page.old.width * bits_in depth ≤ 8 * length row.now }
-    ensures sides { SameSides page.old page.new }
-    ensures pixels { image_of page.new ≡ with_row (image_of page.old) y
-        (map (shade_in depth tone.now.level tone.now.invert table.now row.now)
-        (range_with_len 0 page.old.width)) }
+    requires whole { page.old.width * bits_in ink.now.depth ≤ 8 * length row.now }
+    ensures { HasRow page.old y (map (shade_by ink.now row.now) (range_with_len 0 page.old.width))
+        page.new }
 {
     let width = page.width();
     for at in 0..(width + 63) / 64 {
         let from = 64 * at;
         let count = (width - from).min(64);
-        page.put_word(
-            y,
-            at,
-            word(depth, tone, table, row, from as usize, count as usize),
-        );
+        page.put_word(y, at, word(ink, row, from as usize, count as usize));
     }
 }
 
@@ -165,22 +130,20 @@ fn are_apart(table: &[bool; 256]) -> bool
 
 /// Puts a row of bytes into row y. Bits are taken as they are packed, where they tell two colours
 /// apart.
-fn place_row(page: &mut Bitmap, y: u32, depth: Depth, tone: &Tone, table: &[bool; 256], row: &[u8])
+fn place_row(page: &mut Bitmap, y: u32, ink: &Ink, row: &[u8])
     requires row { y < page.old.height }
-    requires whole { page.old.width * bits_in depth ≤ 8 * length row.now }
-    ensures sides { SameSides page.old page.new }
-    ensures pixels { image_of page.new ≡ with_row (image_of page.old) y
-        (map (shade_in depth tone.now.level tone.now.invert table.now row.now)
-        (range_with_len 0 page.old.width)) }
+    requires whole { page.old.width * bits_in ink.now.depth ≤ 8 * length row.now }
+    ensures { HasRow page.old y (map (shade_by ink.now row.now) (range_with_len 0 page.old.width))
+        page.new }
 {
-    if let Depth::One = depth {
-        if are_apart(table) {
+    if let Depth::One = ink.depth {
+        if are_apart(ink.table) {
             let n = (page.width() as usize + 7) / 8;
-            place_bits(page, y, &row[..n], table[0]);
+            place_bits(page, y, &row[..n], ink.table[0]);
             return;
         }
     }
-    place_words(page, y, depth, tone, table, row);
+    place_words(page, y, ink, row);
 }
 
 /// The row of the page that the picture's row of this number is: they come from the top, or from below.
@@ -198,20 +161,19 @@ pub(crate) fn read_rows<I: Inputs>(
     inputs: &mut I,
     page: &mut Bitmap,
     header: &Header,
-    tone: &Tone,
-    table: &[bool; 256],
+    ink: &Ink,
     row: &mut [u8],
 ) -> Result<(), Stop>
     requires opened { I.is_opened inputs.old ≡ true }
     requires room { length row.old ≡ row_bytes_by header.now }
-    requires whole { page.old.width * bits_in header.now.depth ≤ 8 * length row.old }
+    requires whole { page.old.width * bits_in ink.now.depth ≤ 8 * length row.old }
     ensures reads { (color_of : ℕ → Entry)
-        → IsPaletteTable tone.now.level tone.now.invert color_of table.now
+        → IsPaletteTable ink.now.tone.level ink.now.tone.invert color_of ink.now.table.now
         → Reads (λ _ rows. image_of page.new
         ≡ with_placed (row_place header.now.top_down page.old.height) (image_of page.old) 0
-        (map (map (black tone.now.level tone.now.invert)) rows))
+        (map (map (black ink.now.tone.level ink.now.tone.invert)) rows))
         (repeated (color_row (row_bytes_by header.now)
-        (bits_in header.now.depth) color_of page.old.width) page.old.height) buffer.old
+        (bits_in ink.now.depth) color_of page.old.width) page.old.height) buffer.old
         (I.files inputs.old) result buffer.new (I.files inputs.new) }
     ensures sides { SameSides page.old page.new }
     ensures leaves { Leaves I.Inputs result inputs.old inputs.new }
@@ -220,7 +182,7 @@ pub(crate) fn read_rows<I: Inputs>(
     for i in 0..height {
         read_block(buffer, inputs, row)?;
         let y = row_place(header.top_down, height, i);
-        place_row(page, y, header.depth, tone, table, row);
+        place_row(page, y, ink, row);
     }
     Ok(())
 }

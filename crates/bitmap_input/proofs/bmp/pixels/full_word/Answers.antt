@@ -12,9 +12,9 @@ colors_word-requires-in-ThirtyTwo-clause-within c = let within = rw c.in-ThirtyT
 pub returns-in-TwentyFour : goal.returns-in-TwentyFour
 returns-in-TwentyFour c = λ k h.
     let place : 3 * c.args.from + 3 * k ≡ 3 * (c.args.from + k) = omega arith in
-    rw c.in-TwentyFour.is (c.colors_word.ensures k h ∙ ap (λ n. black c.args.tone.now.level c.args.tone.now.invert (color_at c.args.row.now n)) place)
+    rw c.in-TwentyFour.is (c.colors_word.ensures k h ∙ ap (λ n. black c.args.ink.now.tone.level c.args.ink.now.tone.invert (color_at c.args.row.now n)) place)
 
 pub returns-in-ThirtyTwo : goal.returns-in-ThirtyTwo
 returns-in-ThirtyTwo c = λ k h.
     let place : 4 * c.args.from + 4 * k ≡ 4 * (c.args.from + k) = omega arith in
-    rw c.in-ThirtyTwo.is (c.colors_word-in-ThirtyTwo.ensures k h ∙ ap (λ n. black c.args.tone.now.level c.args.tone.now.invert (color_at c.args.row.now n)) place)
+    rw c.in-ThirtyTwo.is (c.colors_word-in-ThirtyTwo.ensures k h ∙ ap (λ n. black c.args.ink.now.tone.level c.args.ink.now.tone.invert (color_at c.args.row.now n)) place)

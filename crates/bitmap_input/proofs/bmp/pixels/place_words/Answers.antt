@@ -2,7 +2,7 @@ use Rattle.std.proofs.Common.{◌-◌, ◌*◌, ◌+◌, ℕ, Bool, false, lengt
 use Rattle.std.specs.List.{range_with_len}
 use Rattle.std.proofs.lemmas.List.FromFn.{get_or-map-range_with_len, length-map-range_with_len}
 use Rattle.bit_image.specs.Page.{image_of}
-use Rattle.bitmap_input.specs.Inner.BmpHead.{shade_in}
+use Rattle.bitmap_input.specs.Inner.BmpHead.{shade_by}
 use Rattle.bitmap_input.proofs.BmpPixels.{columns_within}
 use Rattle.bitmap_input.proofs.Rows.{none_placed, word_placed, words_placed, white_past}
 use Rattle.bitmap_input.proofs.bmp.pixels.place_words.Goals as goal
@@ -15,13 +15,16 @@ loop-at-init c = record {
   end = search rules;
 }
 
-pub word-requires-clause-within : goal.word-requires-clause-within
-word-requires-clause-within c =
-    columns_within c.args.depth (64 * c.loop-at.at + c.min-count.result) c.args.page.now.width (length c.args.row.now) (omega arith) c.requires.whole
+pub word-requires : goal.word-requires
+word-requires c = record {
+  few = omega arith;
+  column = omega arith;
+  within = columns_within c.args.ink.now.depth (64 * c.loop-at.at + c.min-count.result) c.args.page.now.width (length c.args.row.now) (omega arith) c.requires.whole;
+}
 
 pub loop-at-preserved : goal.loop-at-preserved
 loop-at-preserved c =
-    let pixel : ℕ → Bool = shade_in c.args.depth c.args.tone.now.level c.args.tone.now.invert c.args.table.now c.args.row.now in
+    let pixel : ℕ → Bool = shade_by c.args.ink.now c.args.row.now in
     record {
       words = word_placed pixel c.args.page.now.width c.args.y (image_of c.args.page.now) (image_of c.loop-at.page) (image_of c.put_word.new.self) c.loop-at.at c.word.result _
           c.loop-at.invariant.words (ap (λ w. min (w - 64 * c.loop-at.at) 64) c.width-width.ensures.value) (rw c.min-count.ensures at c.word.ensures)
@@ -31,11 +34,14 @@ loop-at-preserved c =
       end = search rules;
     }
 
-pub returns-clause-pixels : goal.returns-clause-pixels
-returns-clause-pixels c =
-    let pixel : ℕ → Bool = shade_in c.args.depth c.args.tone.now.level c.args.tone.now.invert c.args.table.now c.args.row.now in
-    words_placed pixel c.args.page.now.width c.args.y (image_of c.args.page.now) (image_of c.loop-at.page) c.loop-at.at
-    (map pixel (range_with_len 0 c.args.page.now.width)) c.loop-at.invariant.words (omega arith)
-    (λ u past. white_past (image_of c.args.page.now) c.args.page.now.width c.args.page.now.height c.width-width.ensures.fits u c.args.y past)
-    (length-map-range_with_len pixel 0 c.args.page.now.width)
-    (λ u h. sym (get_or-map-range_with_len pixel 0 c.args.page.now.width u u false h (omega arith)))
+pub returns : goal.returns
+returns c =
+    let pixel : ℕ → Bool = shade_by c.args.ink.now c.args.row.now in
+    record {
+      sides = search rules;
+      pixels = words_placed pixel c.args.page.now.width c.args.y (image_of c.args.page.now) (image_of c.loop-at.page) c.loop-at.at
+          (map pixel (range_with_len 0 c.args.page.now.width)) c.loop-at.invariant.words (omega arith)
+          (λ u past. white_past (image_of c.args.page.now) c.args.page.now.width c.args.page.now.height c.width-width.ensures.fits u c.args.y past)
+          (length-map-range_with_len pixel 0 c.args.page.now.width)
+          (λ u h. sym (get_or-map-range_with_len pixel 0 c.args.page.now.width u u false h (omega arith)));
+    }
