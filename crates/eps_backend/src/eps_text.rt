@@ -1,5 +1,5 @@
 //! The document of a page, and a page of a document of several.
-ghost use Rattle.std.specs.Prelude.{◌≡◌, ◌≤◌, ◌++◌, IfOk, OnOk};
+ghost use Rattle.std.specs.Prelude.{◌≡◌, ◌≤◌, ◌++◌, IfOk, OnOk, codes, decimal};
 ghost use Rattle.eps_backend.specs.EpsText.{comments_text, drawing_text, eps_text, ps_page_text, scale_text};
 
 use crate::pen::EpsPen;
@@ -43,10 +43,19 @@ fn put_comments(out: &mut Vec<u8>, width: u32, height: u32) -> Result<(), NoMemo
     ensures { OnOk result (out.new.items ≡ out.old.items ++ comments_text width height) }
 {
     out.extend_from_slice(b"%!PS-Adobe-3.0 EPSF-3.0\n%%BoundingBox: 0 0 ")?;
+    put_corner(out, width, height)?;
+    out.extend_from_slice(b"\n%%EndComments\n")?;
+    Ok(())
+}
+
+/// Appends the upper right corner of the box.
+fn put_corner(out: &mut Vec<u8>, width: u32, height: u32) -> Result<(), NoMemory>
+    ensures { OnOk result (out.new.items
+        ≡ out.old.items ++ (decimal width ++ codes " " ++ decimal height)) }
+{
     put_number(out, width)?;
     out.extend_from_slice(b" ")?;
     put_number(out, height)?;
-    out.extend_from_slice(b"\n%%EndComments\n")?;
     Ok(())
 }
 
