@@ -4,22 +4,9 @@ ghost use Rattle.pt_core.specs.declared.piece.Piece.{Piece};
 ghost use Rattle.pt_core.specs.declared.trace.Trace.{Trace};
 ghost use Rattle.eps_backend.specs.EpsText.{eps_text, ps_page_text};
 ghost use Rattle.svg_backend.specs.SvgText.{svg_text};
-ghost use Rattle.dxf_geojson.specs.GeoJsonText.{geojson_text};
-ghost use Rattle.dxf_geojson.specs.DxfText.{dxf_text};
+ghost use Rattle.dxf_geojson.specs.{dxf_text, geojson_text};
 ghost use Rattle.run_output.specs.Parts.{file_text};
-ghost use Rattle.document_readings.specs.Drawn.{Place};
-ghost use Rattle.document_readings.specs.DscReading.{dsc_pages};
-ghost use Rattle.document_readings.specs.DxfReading.{dxf_polylines};
-ghost use Rattle.document_readings.specs.EpsBox.{eps_box};
-ghost use Rattle.document_readings.specs.GeoJsonReading.{geojson_polygons};
-ghost use Rattle.document_readings.specs.PathData.{path_subpaths};
-ghost use Rattle.document_readings.specs.Places.{AreInReach, ComesBack, outline_subpath};
-ghost use Rattle.document_readings.specs.PsReading.{ps_painted};
-ghost use Rattle.document_readings.specs.Rings.{HasTwoPieces, HaveTwoPieces, polyline_of, trace_polygons};
-ghost use Rattle.document_readings.specs.SvgPicture.{trace_picture, up_the_page};
-ghost use Rattle.document_readings.specs.SvgReading.{svg_picture};
-ghost use Rattle.document_readings.specs.TraceShapes.{filled_shapes, path_data};
-ghost use Rattle.document_readings.specs.Transforms.{image_by};
+ghost use Rattle.document_readings.specs.{Place, dsc_pages, dxf_polylines, eps_box, geojson_polygons, path_subpaths, AreInReach, ComesBack, outline_subpath, ps_painted, HasTwoPieces, HaveTwoPieces, polyline_of, trace_polygons, trace_picture, up_the_page, svg_picture, filled_shapes, path_data, image_by};
 
 /// Path data draws its outlines: a closed subpath for each, with each place rounded by itself.
 pub fn path_data_draws_its_outlines()
