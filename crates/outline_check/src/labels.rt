@@ -9,7 +9,7 @@ ghost use Rattle.outline_check.specs.Labels.{no_label, label_at};
 ghost use Rattle.outline_check.specs.Inner.Known.{AreRightDownTo};
 
 use crate::label::Label;
-use crate::onward::{begin_from, label_from};
+use crate::onward::Stage;
 use crate::segments::CheckedSegments;
 use pt_core::{NoMemory, Point};
 use std::alloc::Global;
@@ -35,12 +35,9 @@ fn fill(segments: &CheckedSegments, labels: &mut [Label])
         (IsUpToLast segments.now.lasts.items) (penalty_of segments.now.moments) 0 labels.new }
 {
     let size = segments.size();
-    let mut begin = size as u32;
-    let mut guess = begin;
+    let mut stage = Stage::at_end(size as u32);
     for from in (0..size as u32).rev() {
-        begin = begin_from(segments, labels, from, begin);
-        let onward = label_from(segments, labels, from, begin, guess);
-        labels[from as usize] = onward.label;
-        guess = onward.next;
+        stage = stage.before(segments, labels, from);
+        labels[from as usize] = stage.label;
     }
 }

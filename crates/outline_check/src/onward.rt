@@ -10,7 +10,7 @@
 ghost use Rattle.std.specs.Prelude.{◌≡◌, ℕ, ◌+◌, ◌*◌, ◌^◌, ◌<◌, ◌≤◌, length, slice_index};
 ghost use Rattle.polygon_optimal.specs.Inner.Lasts.{AreRising, IsUpToLast, LeadsOn};
 ghost use Rattle.polygon_optimal.specs.Polygon.{penalty_of};
-ghost use Rattle.outline_check.specs.Labels.{IsRight, label_at, label_by};
+ghost use Rattle.outline_check.specs.Labels.{IsRight, label_at, label_by, no_label};
 ghost use Rattle.outline_check.specs.Inner.Known.{AreRightDownTo, IsWindowBegin};
 ghost use Rattle.outline_check.specs.Inner.LabelPoints.{IsCheapestBefore, onward_by};
 
@@ -24,9 +24,9 @@ const WIDE: u32 = 8;
 
 /// A label, and the point that it comes from.
 #[derive(Clone, Copy)]
-pub(crate) struct Onward {
-    pub(crate) label: Label,
-    pub(crate) next: u32,
+struct Onward {
+    label: Label,
+    next: u32,
 }
 
 /// The window of a point, among whose points a segment from there has to lead to one.
@@ -51,8 +51,54 @@ struct Window<'a> {
         → (label_at labels.now k).cost ≤ (label_at labels.now k).count * 2 ^ 56 },
 }
 
+/// The first point from which on the labels are known.
+#[derive(Clone, Copy)]
+pub(crate) struct Stage {
+    /// Its right label.
+    pub(crate) label: Label,
+    /// Where its window begins.
+    pub(crate) begin: u32,
+    /// The point that its label comes from.
+    pub(crate) next: u32,
+}
+
+impl Stage {
+    /// The end of a path of so many points, where nothing is left.
+    pub(crate) fn at_end(size: u32) -> Stage
+        ensures { result.label ≡ no_label }
+    {
+        Stage {
+            label: Label { count: 0, cost: 0 },
+            begin: size,
+            next: size,
+        }
+    }
+
+    /// The point before, where the labels from this one on are right.
+    #[inline]
+    pub(crate) fn before(self, segments: &CheckedSegments, labels: &[Label], from: u32) -> Stage
+        requires from { from < length segments.now.moments }
+        requires known { AreRightDownTo (length segments.now.moments)
+            (IsUpToLast segments.now.lasts.items) (penalty_of segments.now.moments)
+            (from + 1) labels.now }
+        requires later { from + 1 < length segments.now.moments
+            → IsWindowBegin (length segments.now.moments) segments.now.lasts.items labels.now (from + 1) self.begin }
+        ensures label { IsRight (IsUpToLast segments.now.lasts.items) (penalty_of segments.now.moments)
+            labels.now from result.label }
+        ensures begin { IsWindowBegin (length segments.now.moments) segments.now.lasts.items labels.now from result.begin }
+    {
+        let begin = begin_from(segments, labels, from, self.begin);
+        let onward = label_from(segments, labels, from, begin, self.next);
+        Stage {
+            label: onward.label,
+            begin,
+            next: onward.next,
+        }
+    }
+}
+
 /// Where the window of a point begins, by where that of the next point does.
-pub(crate) fn begin_from(segments: &CheckedSegments, labels: &[Label], from: u32, later: u32) -> u32
+fn begin_from(segments: &CheckedSegments, labels: &[Label], from: u32, later: u32) -> u32
     requires from { from < length segments.now.moments }
     requires known { AreRightDownTo (length segments.now.moments)
         (IsUpToLast segments.now.lasts.items) (penalty_of segments.now.moments)
@@ -76,7 +122,7 @@ pub(crate) fn begin_from(segments: &CheckedSegments, labels: &[Label], from: u32
 // narrow windows, since all their points reach the same corner. A certificate of a page of text takes 2.5 times as
 // long as its polygons, of a spiral of walls 2.7 times, of a nest of squares 3.9 times; to check it takes less than
 // to make it.
-pub(crate) fn label_from(
+fn label_from(
     segments: &CheckedSegments,
     labels: &[Label],
     from: u32,

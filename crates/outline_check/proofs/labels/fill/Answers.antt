@@ -14,7 +14,7 @@ loop-from-preserved c =
     let size = length s.moments in
     let lasts = s.lasts.items in
     let labels = c.loop-from.labels in
-    let label = c.label_from-onward.result.label in
+    let label = c.before-stage.result.label in
     let i : ℕ = c.loop-from.from - 1 in
     let low : c.loop-from.from ≡ i + 1 = omega arith in
     let below : i < size = omega arith in
@@ -23,11 +23,11 @@ loop-from-preserved c =
     let more = set labels i label in
     record {
       known = known_more size lasts s.onwards s.rising (penalty_of s.moments) (λ i j below up. penalty_most s.moments s.on_page i j)
-          labels more i below known label c.label_from-onward.ensures
+          labels more i below known label c.before-stage.ensures.label
           (omega (arith, length-set labels i label, known.places)) (get_or-set_same labels i label no_label room)
           (λ k above within. get_or-set_other labels i k label no_label (λ same. let no : ⊥ = omega arith in no));
-      begin = λ inside. begin_same size lasts s.onwards s.rising (penalty_of s.moments) labels i below known more c.begin_from-begin.result
-          (λ k above within. get_or-set_other labels i k label no_label (λ same. let no : ⊥ = omega arith in no)) c.begin_from-begin.ensures;
+      begin = λ inside. begin_same size lasts s.onwards s.rising (penalty_of s.moments) labels i below known more c.before-stage.result.begin
+          (λ k above within. get_or-set_other labels i k label no_label (λ same. let no : ⊥ = omega arith in no)) c.before-stage.ensures.begin;
     }
 
 pub returns : goal.returns

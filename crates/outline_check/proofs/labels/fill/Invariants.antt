@@ -10,5 +10,5 @@ invariant-loop-from l =
     let points = l.segments.moments in
     record {
       known : AreRightDownTo (length points) (IsUpToLast l.segments.lasts.items) (penalty_of points) l.from l.labels;
-      begin : l.from < length points → IsWindowBegin (length points) l.segments.lasts.items l.labels l.from l.begin;
+      begin : l.from < length points → IsWindowBegin (length points) l.segments.lasts.items l.labels l.from l.stage.begin;
     }
