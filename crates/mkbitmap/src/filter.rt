@@ -11,7 +11,7 @@ ghost use Rattle.mkbitmap.specs.Follows.{HoldsRows, AreRaised, Follows, IsRow};
 
 use crate::enlarge::{CentrePlace, mix_row, pack_row};
 use crate::relief::raise_row;
-use crate::sums::{enter, leave};
+use crate::sums::leave;
 use pt_core::NoMemory;
 use std::alloc::Global;
 use std::marker::Model;
@@ -38,7 +38,7 @@ impl Slot {
         &self.samples
     }
 
-    /// Takes another row, whose samples are added to the columns' sums.
+    /// Keeps the samples of the row that comes, none brighter than white, and adds them to the columns' sums.
     fn keep(&mut self, columns: &mut [u32], row: &[u16], maxval: u16)
         requires whole { length row.now ≡ length columns.old }
         requires room { length self.old ≡ length columns.old }
@@ -50,7 +50,12 @@ impl Slot {
         ensures sums { (x : ℕ) → x < length row.now
             → get_or columns.new x 0 ≡ get_or columns.old x 0 + min (get_or row.now x 0) maxval }
     {
-        enter(columns, &mut self.samples, row, maxval);
+        let kept: &mut [u16] = &mut self.samples;
+        for x in 0..columns.len() {
+            let sample = row[x].min(maxval);
+            kept[x] = sample;
+            columns[x] += sample as u32;
+        }
     }
 }
 

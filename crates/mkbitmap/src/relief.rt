@@ -48,40 +48,17 @@ fn slid(columns: &[u32], x: usize, radius: usize, sum: u32) -> u32
     }
 }
 
-/// The reliefs, raised, of the samples of a row, from the sums of the columns over the rows of the boxes.
-fn raise_by_boxes(
-    columns: &[u32],
-    samples: &[u16],
-    rows: u32,
-    radius: usize,
-    maxval: u32,
-    relief: &mut [u32],
-)
-    requires whole { length samples.now ≡ length columns.now }
-    requires room { length relief.old ≡ length columns.now }
-    requires some { 0 < rows }
-    requires rows { rows ≤ LONGEST_BOX }
+/// The sum of the columns in front of the first box's end.
+fn first_sum(columns: &[u32], radius: usize) -> u32
     requires radius { radius ≤ GREATEST_RADIUS }
-    requires maxval { maxval ≤ GREATEST_MAXVAL }
-    requires samples { (x : ℕ) → get_or samples.now x 0 ≤ maxval }
-    requires columns { (x : ℕ) → get_or columns.now x 0 ≤ rows * maxval }
-    ensures same_room { length relief.new ≡ length relief.old }
-    ensures value { (x : ℕ) → x < length columns.now → get_or relief.new x 0
-        ≡ raised_by (get_or samples.now x 0)
-        (sum_between (λ a. get_or columns.now a 0) (box_from radius x)
-        (box_end radius (length columns.now) x))
-        (box_count radius (length columns.now) x * rows) maxval }
+    requires columns { (a : ℕ) → get_or columns.now a 0 ≤ GREATEST_SUM }
+    ensures { result ≡ sum_between (λ a. get_or columns.now a 0) 0 radius }
 {
-    let width = columns.len();
     let mut sum = 0;
     for x in 0..radius {
         sum = with_column(columns, x, sum);
     }
-    for x in 0..width {
-        sum = slid(columns, x, radius, sum);
-        let across = (x + radius + 1).min(width) - x.saturating_sub(radius);
-        relief[x] = raised(samples[x] as u32, sum, across as u32 * rows, maxval);
-    }
+    sum
 }
 
 /// The samples of a row as reliefs, raised, where boxes are no larger than pixels.
@@ -124,7 +101,13 @@ pub(crate) fn raise_row(
 {
     if radius == 0 {
         raise_plainly(samples, maxval, relief);
-    } else {
-        raise_by_boxes(columns, samples, rows, radius, maxval, relief);
+        return;
+    }
+    let width = columns.len();
+    let mut sum = first_sum(columns, radius);
+    for x in 0..width {
+        sum = slid(columns, x, radius, sum);
+        let across = (x + radius + 1).min(width) - x.saturating_sub(radius);
+        relief[x] = raised(samples[x] as u32, sum, across as u32 * rows, maxval);
     }
 }
