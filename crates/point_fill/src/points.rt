@@ -47,7 +47,7 @@ fn mark_loop(text: &[u8], at: usize, page: &mut Bitmap) -> Option<usize>
     if !makes_loop(count) {
         return None;
     }
-    if !mark_closing(page, first.value, last) {
+    if !mark_step(page, last, first.value) {
         return None;
     }
     Some(end + 1)
@@ -58,18 +58,6 @@ fn makes_loop(count: u64) -> bool
     ensures { MatchBool result (4 ≤ count) (count < 4) }
 {
     4 <= count
-}
-
-/// Marks the step from the last point of a loop to its first one, if it is one.
-fn mark_closing(page: &mut Bitmap, first: Point, last: Point) -> bool
-    requires first { IsCornerOf page.old.width page.old.height first }
-    requires last { IsCornerOf page.old.width page.old.height last }
-    ensures sides { SameSides page.old page.new }
-    ensures step { MatchBool result (IsUnitStep last first) (IsUnitStep last first → ⊥) }
-    ensures marked { MatchBool result
-        (AreMarked page.old page.new (λ u v. is_crossed u v (line_between last first))) Unit }
-{
-    mark_step(page, last, first)
 }
 
 /// Marks the path that stands at a place, and gives the place behind its line.

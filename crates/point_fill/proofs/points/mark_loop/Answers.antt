@@ -67,14 +67,14 @@ pub returns-then-not-makes_loop-clause-none : goal.returns-then-not-makes_loop-c
 returns-then-not-makes_loop-clause-none c =
     no_loop_of_few c.args.text.now c.args.at c.args.page.now c.width.ensures.page.most_width c.width.ensures.page.most_height c.points.page c.in_ok-first.first.value c.points.last c.points.end c.points.count c.points.invariant (c.has_byte.ensures.0 c.points-test.false) c.if-not-makes_loop.ensures
 
-pub mark_closing-requires-clause-last : goal.mark_closing-requires-clause-last
-mark_closing-requires-clause-last c = at_same (λ w h. IsCornerOf w h c.points.last) c.args.page.now c.points.page c.points.invariant.sides (last_is_corner c.points.invariant)
+pub mark_step-requires-2-clause-from : goal.mark_step-requires-2-clause-from
+mark_step-requires-2-clause-from c = at_same (λ w h. IsCornerOf w h c.points.last) c.args.page.now c.points.page c.points.invariant.sides (last_is_corner c.points.invariant)
 
-pub returns-then-not-mark_closing-clause-none : goal.returns-then-not-mark_closing-clause-none
-returns-then-not-mark_closing-clause-none c =
-    no_loop_open c.args.text.now c.args.at c.args.page.now c.width.ensures.page.most_width c.width.ensures.page.most_height c.points.page c.in_ok-first.first.value c.points.last c.points.end c.points.count c.points.invariant (c.has_byte.ensures.0 c.points-test.false) c.if-not-mark_closing.ensures.step
+pub returns-then-not-mark_step-2-clause-none : goal.returns-then-not-mark_step-2-clause-none
+returns-then-not-mark_step-2-clause-none c =
+    no_loop_open c.args.text.now c.args.at c.args.page.now c.width.ensures.page.most_width c.width.ensures.page.most_height c.points.page c.in_ok-first.first.value c.points.last c.points.end c.points.count c.points.invariant (c.has_byte.ensures.0 c.points-test.false) c.if-not-mark_step-2.ensures.step
 
 pub returns-clause-some : goal.returns-clause-some
 returns-clause-some c =
     loop_read c.args.text.now c.args.at c.args.page.now c.width.ensures.page.most_width c.width.ensures.page.most_height c.points.page _ c.in_ok-first.first.value c.points.last c.points.end c.points.count c.points.invariant
-    (c.has_byte.ensures.0 c.points-test.false) c.if-not-makes_loop.ensures c.if-not-mark_closing.ensures.step c.if-not-mark_closing.ensures.marked
+    (c.has_byte.ensures.0 c.points-test.false) c.if-not-makes_loop.ensures c.if-not-mark_step-2.ensures.step c.if-not-mark_step-2.ensures.marked
