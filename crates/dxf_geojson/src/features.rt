@@ -17,98 +17,91 @@ use std::alloc::Global;
 pub fn geojson(alloc: Global, trace: &Trace) -> Result<Vec<u8>, NoMemory>
     ensures { IfOk result (λ text. text.items ≡ geojson_text trace.now) }
 {
-    let mut out = Vec::new(alloc);
-    let mut points = Vec::new(alloc);
-    out.extend_from_slice(b"{\"type\":\"FeatureCollection\",\"features\":[\n")?;
-    put_features(
-        &mut out,
-        &mut points,
-        trace.outlines.as_slice(),
-        trace.groups.as_slice(),
-    )?;
-    out.extend_from_slice(b"]}\n")?;
-    Ok(out)
+    let mut lines = Lines {
+        out: Vec::new(alloc),
+        points: Vec::new(alloc),
+    };
+    lines
+        .out
+        .extend_from_slice(b"{\"type\":\"FeatureCollection\",\"features\":[\n")?;
+    lines.put_features(trace.outlines.as_slice(), trace.groups.as_slice())?;
+    lines.out.extend_from_slice(b"]}\n")?;
+    Ok(lines.out)
 }
 
-/// Appends a line for each shape; `points` is room for the points of one ring.
-fn put_features(
-    out: &mut Vec<u8>,
-    points: &mut Vec<Point>,
-    outlines: &[Sequence<Piece>],
-    groups: &[Group],
-) -> Result<(), NoMemory>
-    ensures { OnOk result (out.new.items ≡ out.old.items ++ features_text outlines.now groups.now) }
-{
-    if let Some((first, more)) = groups.split_first() {
-        put_feature(out, points, outlines, first)?;
-        put_more_features(out, points, outlines, more)?;
-        out.extend_from_slice(b"\n")?;
+/// The lines of a document so far.
+#[derive(Drop)]
+struct Lines {
+    out: Vec<u8>,
+    /// Room for the points of a ring.
+    points: Vec<Point>,
+}
+
+impl Lines {
+    /// Appends a line for each shape.
+    fn put_features(
+        &mut self,
+        outlines: &[Sequence<Piece>],
+        groups: &[Group],
+    ) -> Result<(), NoMemory>
+        ensures { OnOk result (self.new.out.items ≡ self.old.out.items ++ features_text outlines.now groups.now) }
+    {
+        if let Some((first, more)) = groups.split_first() {
+            self.put_feature(outlines, first)?;
+            self.put_more(outlines, more)?;
+            self.out.extend_from_slice(b"\n")?;
+        }
+        Ok(())
     }
-    Ok(())
-}
 
-/// Appends shapes, each on a line of its own behind a comma.
-fn put_more_features(
-    out: &mut Vec<u8>,
-    points: &mut Vec<Point>,
-    outlines: &[Sequence<Piece>],
-    groups: &[Group],
-) -> Result<(), NoMemory>
-    ensures { OnOk result (out.new.items
-        ≡ out.old.items ++ flat_map (λ group. codes ",\n"
-        ++ feature_text outlines.now group) groups.now) }
-{
-    for group in groups {
-        out.extend_from_slice(b",\n")?;
-        put_feature(out, points, outlines, group)?;
+    /// Appends shapes, each on a line of its own behind a comma.
+    fn put_more(&mut self, outlines: &[Sequence<Piece>], groups: &[Group]) -> Result<(), NoMemory>
+        ensures { OnOk result (self.new.out.items
+            ≡ self.old.out.items ++ flat_map (λ group. codes ",\n"
+            ++ feature_text outlines.now group) groups.now) }
+    {
+        for group in groups {
+            self.out.extend_from_slice(b",\n")?;
+            self.put_feature(outlines, group)?;
+        }
+        Ok(())
     }
-    Ok(())
-}
 
-/// Appends a shape with its holes.
-fn put_feature(
-    out: &mut Vec<u8>,
-    points: &mut Vec<Point>,
-    outlines: &[Sequence<Piece>],
-    group: &Group,
-) -> Result<(), NoMemory>
-    ensures { OnOk result (out.new.items ≡ out.old.items ++ feature_text outlines.now group.now) }
-{
-    gather_chords(points, pieces_at(outlines, group.outer))?;
-    out.extend_from_slice(
-        b"{\"type\":\"Feature\",\"properties\":{},\"geometry\":{\"type\":\"Polygon\",\"coordinates\":[",
-    )?;
-    put_ring(out, points)?;
-    put_holes(out, points, outlines, group.holes.as_slice())?;
-    out.extend_from_slice(b"]}}")?;
-    Ok(())
-}
-
-/// Appends the rings of the holes of these numbers.
-fn put_holes(
-    out: &mut Vec<u8>,
-    points: &mut Vec<Point>,
-    outlines: &[Sequence<Piece>],
-    holes: &[u32],
-) -> Result<(), NoMemory>
-    ensures { OnOk result (out.new.items
-        ≡ out.old.items ++ flat_map (λ hole. hole_text (outline_at outlines.now hole)) holes.now) }
-{
-    for hole in holes {
-        put_hole(out, points, pieces_at(outlines, *hole))?;
+    /// Appends a shape with its holes.
+    fn put_feature(&mut self, outlines: &[Sequence<Piece>], group: &Group) -> Result<(), NoMemory>
+        ensures { OnOk result (self.new.out.items ≡ self.old.out.items ++ feature_text outlines.now group.now) }
+    {
+        gather_chords(&mut self.points, pieces_at(outlines, group.outer))?;
+        self.out.extend_from_slice(
+            b"{\"type\":\"Feature\",\"properties\":{},\"geometry\":{\"type\":\"Polygon\",\"coordinates\":[",
+        )?;
+        put_ring(&mut self.out, &self.points)?;
+        self.put_holes(outlines, group.holes.as_slice())?;
+        self.out.extend_from_slice(b"]}}")?;
+        Ok(())
     }
-    Ok(())
-}
 
-/// Appends the ring of a hole, against the direction of its outline.
-fn put_hole(out: &mut Vec<u8>, points: &mut Vec<Point>, pieces: &[Piece]) -> Result<(), NoMemory>
-    ensures { OnOk result (out.new.items ≡ out.old.items ++ hole_text pieces.now) }
-{
-    gather_chords(points, pieces)?;
-    points.reverse();
-    out.extend_from_slice(b",")?;
-    put_ring(out, points)?;
-    Ok(())
+    /// Appends the rings of the holes of these numbers.
+    fn put_holes(&mut self, outlines: &[Sequence<Piece>], holes: &[u32]) -> Result<(), NoMemory>
+        ensures { OnOk result (self.new.out.items
+            ≡ self.old.out.items ++ flat_map (λ hole. hole_text (outline_at outlines.now hole)) holes.now) }
+    {
+        for hole in holes {
+            self.put_hole(pieces_at(outlines, *hole))?;
+        }
+        Ok(())
+    }
+
+    /// Appends the ring of a hole, against the direction of its outline.
+    fn put_hole(&mut self, pieces: &[Piece]) -> Result<(), NoMemory>
+        ensures { OnOk result (self.new.out.items ≡ self.old.out.items ++ hole_text pieces.now) }
+    {
+        gather_chords(&mut self.points, pieces)?;
+        self.points.reverse();
+        self.out.extend_from_slice(b",")?;
+        put_ring(&mut self.out, &self.points)?;
+        Ok(())
+    }
 }
 
 /// Appends a ring.

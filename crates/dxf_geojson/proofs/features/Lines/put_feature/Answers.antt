@@ -1,5 +1,5 @@
 use Rattle.pt_core.proofs.Appending.{four}
-use Rattle.dxf_geojson.proofs.features.put_feature.Goals as goal
+use Rattle.dxf_geojson.proofs.features.Lines.put_feature.Goals as goal
 
 pub returns : goal.returns
 returns c =

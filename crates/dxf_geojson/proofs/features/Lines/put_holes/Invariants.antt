@@ -1,10 +1,10 @@
 use Rattle.std.proofs.Common.{◌≡◌, ◌++◌, drop, flat_map}
 use Rattle.pt_core.specs.Outlines.{outline_at}
 use Rattle.dxf_geojson.specs.GeoJsonText.{hole_text}
-use Rattle.dxf_geojson.proofs.features.put_holes.Given as goal
+use Rattle.dxf_geojson.proofs.features.Lines.put_holes.Given as goal
 
 -- what stands there and what is still to come are the text
 abbrev pub invariant-loop-hole : goal.invariant-loop-hole
 invariant-loop-hole l =
-    l.out.items ++ flat_map (λ hole. hole_text (outline_at l.outlines hole)) (drop l.hole-index l.holes)
-    ≡ l.fn.out.items ++ flat_map (λ hole. hole_text (outline_at l.outlines hole)) l.holes
+    l.self.out.items ++ flat_map (λ hole. hole_text (outline_at l.outlines hole)) (drop l.hole-index l.holes)
+    ≡ l.fn.self.out.items ++ flat_map (λ hole. hole_text (outline_at l.outlines hole)) l.holes

@@ -1,9 +1,0 @@
-use Rattle.std.proofs.Common.{◌≡◌, ◌++◌, codes, drop, flat_map}
-use Rattle.dxf_geojson.specs.GeoJsonText.{feature_text}
-use Rattle.dxf_geojson.proofs.features.put_more_features.Given as goal
-
--- what stands there and what is still to come are the text
-abbrev pub invariant-loop-group : goal.invariant-loop-group
-invariant-loop-group l =
-    l.out.items ++ flat_map (λ group. codes ",\n" ++ feature_text l.outlines group) (drop l.group-index l.groups)
-    ≡ l.fn.out.items ++ flat_map (λ group. codes ",\n" ++ feature_text l.outlines group) l.groups
