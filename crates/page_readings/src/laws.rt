@@ -7,17 +7,8 @@ ghost use Rattle.pt_core.specs.declared.trace.Trace.{Trace};
 ghost use Rattle.bit_image.specs.Page.{Page, IsPage};
 ghost use Rattle.run_output.specs.Made.{most_pages};
 ghost use Rattle.run_output.specs.Parts.{file_text};
-ghost use Rattle.page_trace.specs.Document.{IsDocument};
-ghost use Rattle.page_trace.specs.Trace.{IsTrace};
-ghost use Rattle.document_readings.specs.DscReading.{dsc_pages};
-ghost use Rattle.document_readings.specs.DxfReading.{dxf_polylines};
-ghost use Rattle.document_readings.specs.EpsBox.{eps_box};
-ghost use Rattle.document_readings.specs.GeoJsonReading.{geojson_polygons};
-ghost use Rattle.document_readings.specs.PsReading.{ps_painted};
-ghost use Rattle.document_readings.specs.Rings.{polyline_of, trace_polygons};
-ghost use Rattle.document_readings.specs.SvgPicture.{trace_picture};
-ghost use Rattle.document_readings.specs.SvgReading.{svg_picture};
-ghost use Rattle.document_readings.specs.TraceShapes.{filled_shapes};
+ghost use Rattle.page_trace.specs.{IsDocument, IsTrace};
+ghost use Rattle.document_readings.specs.{dsc_pages, dxf_polylines, eps_box, geojson_polygons, ps_painted, polyline_of, trace_polygons, trace_picture, svg_picture, filled_shapes};
 ghost use Rattle.page_readings.specs.AskedFor.{AskUnder};
 
 /// A page's document of vector graphics, read as such, is the picture of the page's trace.
