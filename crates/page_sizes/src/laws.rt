@@ -1,29 +1,16 @@
 //! What follows from the definitions alone.
-ghost use Rattle.std.specs.Prelude.{◌≡◌, ℕ, ◌+◌, ◌*◌, ◌≤◌, List, length, sum_by};
-ghost use Rattle.pt_core.specs.declared.path.Path.{Path};
-ghost use Rattle.pt_core.specs.declared.policy.Policy.{Policy};
+ghost use Rattle.std.specs.Prelude.{ℕ, ◌+◌, ◌*◌, ◌≤◌, List, length, sum_by};
 ghost use Rattle.std.specs.List.{AllZip};
 ghost use Rattle.pt_core.specs.declared.settings.Settings.{Settings};
 ghost use Rattle.pt_core.specs.declared.trace.Trace.{Trace};
-ghost use Rattle.bit_image.specs.Image.{Image};
-ghost use Rattle.bit_image.specs.Page.{Page, IsPage, image_of};
-ghost use Rattle.path_decompose.specs.Decomposition.{IsDecomposition};
+ghost use Rattle.bit_image.specs.Page.{Page, IsPage};
 ghost use Rattle.run_output.specs.Parts.{file_text};
 ghost use Rattle.page_trace.specs.Document.{IsDocument};
 ghost use Rattle.page_trace.specs.Trace.{HasPolygons, IsTrace};
 ghost use Rattle.page_sizes.specs.Bytes.{bytes_beside, bytes_each};
-ghost use Rattle.page_sizes.specs.Edges.{edge_count, point_count, side_count};
+ghost use Rattle.page_sizes.specs.Edges.{point_count, side_count};
 
-/// The paths of a page have together just as many points as the page has pixel sides between black and white.
-pub fn points_are_edges()
-    ensures { (page : Page) (policy : Policy) (paths : List Path) → IsPage page
-        → IsDecomposition page policy paths → point_count paths ≡ edge_count (image_of page) page.width page.height }
-{}
-
-/// These are at most all sides of its pixels.
-pub fn edges_are_sides()
-    ensures { (b : Image) (width height : ℕ) → edge_count b width height ≤ side_count width height }
-{}
+pub mod edges;
 
 /// A polygon has no more vertices than its path has points, and outlines no more pieces together than their paths.
 pub fn outlines_have_few_pieces()

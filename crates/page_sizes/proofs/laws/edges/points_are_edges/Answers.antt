@@ -1,5 +1,5 @@
 use Rattle.page_sizes.proofs.Counted.{points_counted}
-use Rattle.page_sizes.proofs.laws.points_are_edges.Goals as goal
+use Rattle.page_sizes.proofs.laws.edges.points_are_edges.Goals as goal
 
 pub returns : goal.returns
 returns c = points_counted
