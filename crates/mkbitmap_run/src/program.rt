@@ -36,31 +36,14 @@ pub fn mk_run<I: Inputs, O: Outputs, E: Sink>(
         (source_of I.Inputs inputs.old) (source_of I.Inputs inputs.new)
         (sinks_of O.Sink E.Sink outs.old errs.old) (sinks_of O.Sink E.Sink outs.new errs.new) }
 {
-    run(alloc, words, inputs, outs, errs).code()
-}
-
-/// The same, with how it ends.
-fn run<I: Inputs, O: Outputs, E: Sink>(
-    alloc: Global,
-    words: &[String],
-    inputs: &mut I,
-    outs: &mut O,
-    errs: &mut E,
-) -> Status
-    requires closed { O.is_ready outs.old ≡ false }
-    requires ready { E.is_ready errs.old ≡ true }
-    ensures { IsFilterRun (map string_bytes words.now) result
-        (source_of I.Inputs inputs.old) (source_of I.Inputs inputs.new)
-        (sinks_of O.Sink E.Sink outs.old errs.old) (sinks_of O.Sink E.Sink outs.new errs.new) }
-{
     match filter_ask_of(alloc, words) {
-        Ok(FilterAsk::Help) => put_usage(outs, errs),
-        Ok(FilterAsk::Page(setup)) => filter_input(alloc, setup, inputs, outs, errs),
+        Ok(FilterAsk::Help) => put_usage(outs, errs).code(),
+        Ok(FilterAsk::Page(setup)) => filter_input(alloc, setup, inputs, outs, errs).code(),
         Err(AskFault::Bad) => {
             say_line(errs, NAME, BAD_WORDS);
-            Status::BadWords
+            Status::BadWords.code()
         }
-        Err(AskFault::NoMemory) => say_out_of_memory(errs),
+        Err(AskFault::NoMemory) => say_out_of_memory(errs).code(),
     }
 }
 
