@@ -1,10 +1,9 @@
 -- Rows of the result that are written one after another, and what breaks that off.
-use Rattle.std.proofs.Common.{◌≡◌, ℕ, suc, zero, ◌+◌, ◌-◌, ◌*◌, ◌≤◌, ◌<◌, inr, true, List, [], ◌++◌, length, take, refl, ap, sym, ◌∙◌, subst, arith, Option, Result, Ok, Err, length-append}
+use Rattle.std.proofs.Common.{◌≡◌, ℕ, suc, zero, ◌+◌, ◌-◌, ◌*◌, ◌≤◌, ◌<◌, inr, List, [], ◌++◌, length, take, refl, ap, sym, ◌∙◌, subst, arith, Option, Result, Ok, Err, length-append}
 use Rattle.std.proofs.lemmas.List.{take_all}
 use Rattle.std.proofs.lemmas.Nat.{mul-le}
 use Rattle.pt_core.specs.Documents.{Documents, with_bytes, with_end, with_open, with_whole}
 use Rattle.pt_base.proofs.Writing.{none_written, with_bytes-with_bytes}
-use Rattle.bitmap_input.specs.GrayReader.{GraySource}
 use Rattle.bitmap_input.specs.Inner.Reading.{CountsBy}
 use Rattle.bitmap_input.specs.Reading.{cause_of_fault}
 use Rattle.bitmap_input.specs.declared.gray_reader.GrayHead.{GrayHead}

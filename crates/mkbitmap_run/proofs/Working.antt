@@ -1,24 +1,23 @@
 -- A page at work, whose reader and filter go along its rows together.
-use Rattle.std.proofs.Common.{◌≡◌, ℕ, suc, ◌+◌, ◌-◌, ◌*◌, ◌≤◌, ◌<◌, List, [], ◌∷◌, ◌++◌, length, min, nat_eq, nat_le, nat_lt, ◌&&◌, zero, true, false, refl, ap, sym, ◌∙◌, subst, arith, Option, length-append, append-nil, append_assoc}
+use Rattle.std.proofs.Common.{◌≡◌, ℕ, ◌+◌, ◌*◌, ◌≤◌, ◌<◌, List, [], ◌∷◌, ◌++◌, length, min, nat_eq, nat_le, nat_lt, ◌&&◌, true, false, refl, ap, sym, ◌∙◌, subst, arith, Option, length-append, append-nil, append_assoc}
 use Rattle.std.proofs.lemmas.List.{get_or_push}
 use Rattle.pt_core.specs.Files.{Files}
-use Rattle.bitmap_input.specs.GrayReader.{GivesRow, GraySource}
+use Rattle.bitmap_input.specs.GrayReader.{GivesRow}
 use Rattle.bitmap_input.specs.declared.gray_reader.GrayHead.{GrayHead}
 use Rattle.mkbitmap_run.specs.PageHeader.{PageHeader}
 use Rattle.mkbitmap.specs.Box.{Gray}
-use Rattle.mkbitmap.specs.Enlarged.{after_of, is_black, need}
+use Rattle.mkbitmap.specs.Enlarged.{after_of, is_black}
 use Rattle.mkbitmap.specs.Filtering.{Filtering, HasGone, SameSetup}
 use Rattle.mkbitmap.specs.Follows.{Follows, IsRow}
 use Rattle.bit_image.specs.PbmText.{row_text}
 use Rattle.mkbitmap.specs.Packing.{padded}
 use Rattle.mkbitmap.proofs.Lifting.{need-is}
-use Rattle.mkbitmap.proofs.Order.{after-rises, need-rises}
 use Rattle.run_output.specs.Told.{Source}
 use Rattle.mkbitmap_words.specs.declared.setup.Setup.{Setup}
 use Rattle.mkbitmap_words.specs.Inner.FilterAsked.{CanFilter}
 use Rattle.mkbitmap_run.specs.FilterRun.{need_of, HasFirstRows}
 use Rattle.mkbitmap_run.specs.Result.{result_row}
-use Rattle.mkbitmap_run.specs.Inner.FilterWork.{CanPut, FitsWork, GetsReady, GivesRows, GoesAlong, IsAtWork, IsGrayHead, MayRead, header_of, setup_of}
+use Rattle.mkbitmap_run.specs.Inner.FilterWork.{CanPut, FitsWork, GetsReady, GoesAlong, IsAtWork, IsGrayHead, MayRead, header_of, setup_of}
 use Rattle.mkbitmap_run.specs.declared.work.Work.{Work}
 use Rattle.mkbitmap_run.proofs.Giving.{fewer_rows, gives_none, gives_on, gives_one, header_stays, lowered_row}
 

@@ -1,4 +1,4 @@
-use Rattle.std.proofs.Common.{ℕ, Err, refl, ap, ◌∙◌, subst}
+use Rattle.std.proofs.Common.{ℕ, Err, refl, ap, subst}
 use Rattle.bitmap_input.specs.Inner.Reading.{CountsBy}
 use Rattle.bitmap_input.specs.Reading.{cause_of_fault}
 use Rattle.run_output.specs.Told.{source_of}

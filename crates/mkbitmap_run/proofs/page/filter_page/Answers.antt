@@ -1,4 +1,4 @@
-use Rattle.std.proofs.Common.{◌≡◌, ◌*◌, ◌≤◌, Err, refl, ap, sym, ◌∙◌, subst, arith}
+use Rattle.std.proofs.Common.{◌≡◌, Err, refl, ap, sym, ◌∙◌, subst, arith}
 use Rattle.bitmap_input.specs.GrayReader.{GraySource}
 use Rattle.bitmap_input.specs.declared.gray_reader.GrayHead.{GrayHead}
 use Rattle.run_output.specs.Told.{source_of}
