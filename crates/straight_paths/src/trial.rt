@@ -1,10 +1,10 @@
 //! The search for a strip that holds what is straight from a point on: ways are tried, simple ones first.
-ghost use Rattle.std.specs.Prelude.{◌≤◌, ℕ, unsigned_abs, IfSome};
+ghost use Rattle.std.specs.Prelude.{◌≤◌, ◌^◌, ℕ, pos, neg_ℤ, unsigned_abs, IfSome};
 ghost use Rattle.straight_paths.specs.Inner.Cones.{IsShort, IsSound};
 ghost use Rattle.straight_paths.specs.Inner.Slopes.{AreSmallSlopes};
 ghost use Rattle.straight_paths.specs.Straight.{path_from};
 ghost use Rattle.straight_paths.specs.Inner.Tails.{IsSubpath};
-ghost use Rattle.straight_paths.specs.Inner.Strips.{AreUpTo, HoldsPath};
+ghost use Rattle.straight_paths.specs.Inner.Strips.{AreInSpan, AreUpTo, HoldsPath, IsSpan, across_at};
 ghost use Rattle.straight_paths.specs.Inner.Wedges.{IsQuarter};
 
 use crate::cone::Cone;
@@ -36,6 +36,13 @@ pub(crate) struct StripTrial {
     pub strip: Option<Strip>,
     /// Where the path is farthest across it; where it goes back by more than 1, its start alone.
     pub ends: Ends,
+}
+
+/// How far a path goes to each side of a way, and after how many steps it is farthest.
+#[derive(Clone, Copy)]
+struct Sway {
+    span: Span,
+    ends: Ends,
 }
 
 impl Ends {
@@ -150,8 +157,56 @@ fn simplest_strip(
 }
 
 /// The strip along a way in which the path from this point stays for so many steps, if it does.
-#[inline(always)]
+//
+// Where the path goes as far into the way's quarter as it has steps, none of its steps goes back there. Then all that is
+// asked of its corners is how far across the way they are. Of maps and text nearly all subpaths are like that.
 fn strip_along(track: &Track, first: usize, most: usize, way: Vector) -> StripTrial
+    requires subpath { IsSubpath track.now first most }
+    requires short { IsShort 65535 way }
+    ensures ends { AreUpTo most result.ends }
+    ensures strip { IfSome result.strip (λ strip. HoldsPath strip (path_from track.now first) most) }
+{
+    let quarter = Quarter::of(way);
+    let onward = quarter.turned(track.way(first, most));
+    if onward.x + onward.y != most as i64 {
+        return strip_by_extent(track, first, most, way);
+    }
+    let sway = sway_along(track, first, most, way);
+    let extent = Extent {
+        across: sway.span,
+        right: Span::up_to(onward.x),
+        up: Span::up_to(onward.y),
+    };
+    StripTrial {
+        strip: extent.strip(quarter, way),
+        ends: sway.ends,
+    }
+}
+
+/// How far the path from this point goes to each side of a way, in so many steps.
+fn sway_along(track: &Track, first: usize, most: usize, way: Vector) -> Sway
+    requires subpath { IsSubpath track.now first most }
+    requires short { IsShort 65535 way }
+    ensures small { IsSpan (neg_ℤ (pos (2 ^ 34))) (pos (2 ^ 34)) result.span }
+    ensures span { AreInSpan result.span (across_at way (path_from track.now first)) most }
+    ensures ends { AreUpTo most result.ends }
+{
+    let mut span = Span::at_zero();
+    let mut ends = Ends::at_start();
+    let mut steps = 0;
+    while steps < most {
+        let next = track.run_end(first, steps, most);
+        let across = way.cross(track.way(first, next));
+        ends = ends.with(span, across, next);
+        span = span.with(across);
+        steps = next;
+    }
+    Sway { span, ends }
+}
+
+/// The same strip, where the path may go back.
+#[inline(never)]
+fn strip_by_extent(track: &Track, first: usize, most: usize, way: Vector) -> StripTrial
     requires subpath { IsSubpath track.now first most }
     requires short { IsShort 65535 way }
     ensures ends { AreUpTo most result.ends }
