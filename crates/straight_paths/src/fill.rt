@@ -1,6 +1,6 @@
 //! How far what is straight from each point reaches, by the walk taken backwards.
 ghost use Rattle.std.specs.Prelude.{◌≡◌, ◌⊎◌, ◌+◌, ◌<◌, ◌≤◌, length, IfOk};
-ghost use Rattle.straight_paths.specs.Inner.Cones.{IsClear, IsShort};
+ghost use Rattle.straight_paths.specs.Inner.Cones.{IsClear};
 ghost use Rattle.straight_paths.specs.Straight.{path_from};
 ghost use Rattle.straight_paths.specs.Inner.Sweeps.{AreEndsFrom, IsEnough, IsSeen, IsSweep, IsTold};
 ghost use Rattle.straight_paths.specs.Inner.Tables.{IsWordTable};
@@ -10,7 +10,6 @@ use crate::first::clear_steps;
 use crate::sweep::{Seen, Sweep};
 use crate::table::Table;
 use crate::track::Track;
-use crate::vector::Vector;
 use crate::word::direction;
 use pt_core::NoMemory;
 use std::alloc::Global;
@@ -223,41 +222,6 @@ fn held_on(
         let index = hold.index - 1;
         let step = track.step(index);
         let Some(earlier) = hold.seen.by_strip(track, index, last, step) else {
-            return hold;
-        };
-        steps[index - lap] = (earlier.tail.end - index) as u32;
-        hold = along(track, last, lap, index, step, earlier, steps);
-    }
-    hold
-}
-
-/// Writes down how many steps are straight along a straight run, as far as the strip holds its points.
-//
-// All of a run is one step, so that what its strip asks of a point is a sum or two.
-#[inline(always)]
-fn along(
-    track: &Track,
-    last: usize,
-    lap: usize,
-    from: usize,
-    run: Vector,
-    seen: Seen,
-    steps: &mut [u32],
-) -> Hold
-    requires run { IsShort 1 run }
-    requires seen { IsSeen track.now last from seen }
-    requires ends { AreEndsFrom track.now last lap from steps.old }
-    ensures index { result.index ≤ from }
-    ensures seen { IsSeen track.now last result.index result.seen }
-    ensures ends { AreEndsFrom track.now last lap result.index steps.new }
-{
-    let mut hold = Hold { index: from, seen };
-    while hold.index > lap {
-        let index = hold.index - 1;
-        if !track.step(index).is_same(run) {
-            return hold;
-        }
-        let Some(earlier) = hold.seen.by_strip(track, index, last, run) else {
             return hold;
         };
         steps[index - lap] = (earlier.tail.end - index) as u32;
