@@ -1,6 +1,6 @@
 -- The fewest segments to the end, where the longest segments rise.
-use Rattle.std.proofs.Common.{◌≡◌, ℕ, zero, suc, ◌+◌, ◌<◌, ◌≤◌, List, length, refl, ap, set, get_or-set_same, inl, inr, arith}
-use Rattle.std.proofs.lemmas.List.{get_or-set_other}
+use Rattle.std.proofs.Common.{◌≡◌, ℕ, zero, suc, ◌+◌, ◌-◌, ◌<◌, ◌≤◌, List, [], length, refl, sym, ◌∙◌, subst, ap, set, get_or-set_same, inl, inr, arith}
+use Rattle.std.proofs.lemmas.List.{get_or-replicate, get_or-set_other, length-replicate, length-set}
 use Rattle.std.proofs.lemmas.Bool.{cases_eq, cases_lt}
 use Rattle.std.specs.Prelude.{slice_index}
 use Rattle.least_walk.specs.Inner.Suffix.{HasFewest, IsFewestFrom}
@@ -8,7 +8,7 @@ use Rattle.least_walk.proofs.Filling.{filled}
 use Rattle.least_walk.proofs.Going.{fewest_below}
 use Rattle.least_walk.proofs.Onward.{count_bound, fewest_onward, some_fewest}
 use Rattle.polygon_optimal.specs.Inner.Lasts.{AreRising, IsUpToLast, LeadsOn}
-use Rattle.polygon_optimal.specs.Inner.Search.{AreFalling}
+use Rattle.polygon_optimal.specs.Inner.Search.{AreFalling, counts_after, counts_of}
 
 module _ (size : ℕ) (lasts : List ℕ) (leads : (i : ℕ) → i < size → LeadsOn size i (slice_index lasts i))
     (rising : AreRising size lasts) where
@@ -72,6 +72,41 @@ module _ (size : ℕ) (lasts : List ℕ) (leads : (i : ℕ) → i < size → Lea
             falling j k (omega arith) onwards within,
           )
         ]
+
+  length-counts_after : (done : ℕ) → length (counts_after size lasts done) ≡ size + 1
+  length-counts_after zero = (let none : ℕ = 0 in length-replicate (size + 1) none)
+  length-counts_after (suc done) = length-set (counts_after size lasts done) _ _ ∙ length-counts_after done
+
+  counts_after_are : (done : ℕ) → done ≤ size
+      → HasFewest size (IsUpToLast lasts) (size - done) (counts_after size lasts done) × AreFalling size (size - done) (counts_after size lasts done)
+  counts_after_are zero few =
+      let at_end : (k : ℕ) → k ≤ size → slice_index (counts_after size lasts 0) k ≡ 0 = λ k within. get_or-replicate (size + 1) k 0 0 (omega arith) in (
+        λ k above within. record {
+          rest = [];
+          goes_on = omega arith;
+          count = sym (at_end k within);
+          none_fewer = λ other goes. omega (arith, at_end k within);
+        },
+        λ j k above onwards within. omega (arith, at_end j (omega arith), at_end k within),
+      )
+  counts_after_are (suc done) few =
+      let i : ℕ = size - suc done in
+      let later = counts_after_are done (omega arith) in
+      let e : size - done ≡ i + 1 = omega arith in
+      let room : i < length (counts_after size lasts done) = omega (arith, length-counts_after done) in
+      let fewest = subst (λ n. HasFewest size (IsUpToLast lasts) n (counts_after size lasts done)) e later.0 in
+      let falling = subst (λ n. AreFalling size n (counts_after size lasts done)) e later.1 in (
+        counts_more (counts_after size lasts done) i (omega arith) fewest falling room,
+        falling_more (counts_after size lasts done) i (omega arith) fewest falling room,
+      )
+
+  pub counts_fewest : HasFewest size (IsUpToLast lasts) 0 (counts_of size lasts)
+  counts_fewest = let e : size - size ≡ 0 = omega arith in
+      subst (λ n. HasFewest size (IsUpToLast lasts) n (counts_of size lasts)) e (counts_after_are size (omega arith)).0
+
+  pub counts_falling : AreFalling size 0 (counts_of size lasts)
+  counts_falling = let e : size - size ≡ 0 = omega arith in
+      subst (λ n. AreFalling size n (counts_of size lasts)) e (counts_after_are size (omega arith)).1
 
   -- what is known of all points
   module _ (counts : List ℕ) (fewest : HasFewest size (IsUpToLast lasts) 0 counts) (falling : AreFalling size 0 counts) where

@@ -7,7 +7,7 @@ use Rattle.std.specs.Prelude.{slice_index}
 use Rattle.least_walk.specs.Inner.Suffix.{HasFewest}
 use Rattle.polygon_optimal.specs.Inner.Lasts.{AreRising, IsUpToLast, LeadsOn}
 use Rattle.polygon_optimal.specs.Inner.Search.{AreFalling, AreFarthest}
-use Rattle.polygon_optimal.proofs.Counting.{before_end, last_keeps}
+use Rattle.polygon_optimal.proofs.Counting.{before_end, last_keeps, none_left, some_left}
 
 -- an index of a list, and the one that is appended
 early : (xs : List ℕ) (x c : ℕ) → c < length xs → slice_index (xs ++ x ∷ []) c ≡ slice_index xs c
@@ -35,8 +35,7 @@ written_none size lasts counts written none =
 
 module _ (size : ℕ) (lasts : List ℕ) (leads : (i : ℕ) → i < size → LeadsOn size i (slice_index lasts i))
     (rising : AreRising size lasts) (counts : List ℕ) (fewest : HasFewest size (IsUpToLast lasts) 0 counts)
-    (falling : AreFalling size 0 counts) (c : ℕ) (written : List ℕ) (at : ℕ) (are : AreWritten size lasts counts c written at)
-    (more : c < slice_index counts 0) where
+    (falling : AreFalling size 0 counts) (c : ℕ) (written : List ℕ) (at : ℕ) (are : AreWritten size lasts counts c written at) where
   abbrev now : List ℕ
   now = written ++ at ∷ []
 
@@ -52,43 +51,55 @@ module _ (size : ℕ) (lasts : List ℕ) (leads : (i : ℕ) → i < size → Lea
   at_left : slice_index counts at + c ≡ slice_index counts 0
   at_left = subst (λ n. slice_index counts n + c ≡ slice_index counts 0) here (are.left c (omega arith))
 
-  -- the longest segment leads on from the next one
-  pub at_below : at < size
-  at_below = before_end size lasts leads rising counts fewest falling at at_within (omega (arith, at_left))
+  -- before the end segments are left
+  pub more_left : at < size → c < slice_index counts 0
+  more_left below = omega (arith, at_left, some_left size lasts leads rising counts fewest falling at below)
 
-  abbrev new : List ℕ
-  new = now ++ slice_index lasts at ∷ []
+  -- at the end none is
+  pub all_left : size ≤ at → c ≡ slice_index counts 0
+  all_left end =
+      let last : at ≡ size = omega (arith, at_within) in
+      let none : slice_index counts at ≡ 0 = subst (λ n. slice_index counts n ≡ 0) (sym last) (none_left size lasts leads rising counts fewest falling) in
+      omega (arith, at_left)
 
-  there : slice_index new (c + 1) ≡ slice_index lasts at
-  there = appended now (slice_index lasts at) (c + 1) (sym are.count)
+  module _ (more : c < slice_index counts 0) where
+    -- the longest segment leads on from the next one
+    pub at_below : at < size
+    at_below = before_end size lasts leads rising counts fewest falling at at_within (omega (arith, at_left))
 
-  before : (d : ℕ) → d ≤ c → slice_index new d ≡ slice_index now d
-  before d few = early now (slice_index lasts at) d (omega (arith, are.count))
+    abbrev new : List ℕ
+    new = now ++ slice_index lasts at ∷ []
 
-  pub written_more : (pushed : List ℕ) → pushed ≡ now → AreWritten size lasts counts (c + 1) pushed (slice_index lasts at)
-  written_more pushed same =
-      subst (λ xs. AreWritten size lasts counts (c + 1) xs (slice_index lasts at)) (sym same) (record {
-        count = omega (arith, are.count, length-append now (slice_index lasts at ∷ []));
-        first = before 0 (omega arith) ∙ are.first;
-        onwards = λ d below. elim (cases_lt d c) [
-          | inl earlier ↦ before (d + 1) (omega arith) ∙ are.onwards d earlier ∙ ap (slice_index lasts) (sym (before d (omega arith)))
-          | inr last ↦
-              let is : d ≡ c = omega arith in
-              let P : ℕ → Type 0 = λ n. slice_index new (n + 1) ≡ slice_index lasts (slice_index new n) in
-              subst P (sym is) (there ∙ ap (slice_index lasts) (sym (before c (omega arith) ∙ here)))
-        ];
-        within = λ d few. elim (cases_lt d (c + 1)) [
-          | inl earlier ↦ omega (arith, before d (omega arith), are.within d (omega arith))
-          | inr last ↦
-              let is : d ≡ c + 1 = omega arith in
-              omega (arith, ap (slice_index new) is, there, (leads at at_below).within)
-        ];
-        left = λ d few. elim (cases_lt d (c + 1)) [
-          | inl earlier ↦ ap (λ n. slice_index counts n + d) (before d (omega arith)) ∙ are.left d (omega arith)
-          | inr last ↦
-              let is : d ≡ c + 1 = omega arith in
-              let P : ℕ → Type 0 = λ n. slice_index counts (slice_index new n) + n ≡ slice_index counts 0 in
-              subst P (sym is)
-              (omega (arith, ap (slice_index counts) there, last_keeps size lasts leads rising counts fewest falling at at_below, at_left))
-        ];
-      })
+    there : slice_index new (c + 1) ≡ slice_index lasts at
+    there = appended now (slice_index lasts at) (c + 1) (sym are.count)
+
+    before : (d : ℕ) → d ≤ c → slice_index new d ≡ slice_index now d
+    before d few = early now (slice_index lasts at) d (omega (arith, are.count))
+
+    pub written_more : (pushed : List ℕ) → pushed ≡ now → AreWritten size lasts counts (c + 1) pushed (slice_index lasts at)
+    written_more pushed same =
+        subst (λ xs. AreWritten size lasts counts (c + 1) xs (slice_index lasts at)) (sym same) (record {
+          count = omega (arith, are.count, length-append now (slice_index lasts at ∷ []));
+          first = before 0 (omega arith) ∙ are.first;
+          onwards = λ d below. elim (cases_lt d c) [
+            | inl earlier ↦ before (d + 1) (omega arith) ∙ are.onwards d earlier ∙ ap (slice_index lasts) (sym (before d (omega arith)))
+            | inr last ↦
+                let is : d ≡ c = omega arith in
+                let P : ℕ → Type 0 = λ n. slice_index new (n + 1) ≡ slice_index lasts (slice_index new n) in
+                subst P (sym is) (there ∙ ap (slice_index lasts) (sym (before c (omega arith) ∙ here)))
+          ];
+          within = λ d few. elim (cases_lt d (c + 1)) [
+            | inl earlier ↦ omega (arith, before d (omega arith), are.within d (omega arith))
+            | inr last ↦
+                let is : d ≡ c + 1 = omega arith in
+                omega (arith, ap (slice_index new) is, there, (leads at at_below).within)
+          ];
+          left = λ d few. elim (cases_lt d (c + 1)) [
+            | inl earlier ↦ ap (λ n. slice_index counts n + d) (before d (omega arith)) ∙ are.left d (omega arith)
+            | inr last ↦
+                let is : d ≡ c + 1 = omega arith in
+                let P : ℕ → Type 0 = λ n. slice_index counts (slice_index new n) + n ≡ slice_index counts 0 in
+                subst P (sym is)
+                (omega (arith, ap (slice_index counts) there, last_keeps size lasts leads rising counts fewest falling at at_below, at_left))
+          ];
+        })

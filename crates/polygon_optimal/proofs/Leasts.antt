@@ -10,8 +10,15 @@ use Rattle.least_walk.proofs.Going.{goes_below, total_cost-cons}
 use Rattle.least_walk.proofs.Places.{place_onward}
 use Rattle.polygon_optimal.specs.declared.search.Onward.{Onward}
 use Rattle.polygon_optimal.specs.Inner.Lasts.{AreRising, IsUpToLast, LeadsOn}
-use Rattle.polygon_optimal.specs.Inner.Search.{AreFalling, HasCheapest, IsBegin}
+use Rattle.polygon_optimal.specs.Inner.Search.{AreFalling, HasCheapest}
 use Rattle.polygon_optimal.proofs.Counting.{last_keeps}
+
+-- the first point after i from which one segment fewer is left
+pub record IsBegin (size : ℕ) (counts : List ℕ) (i begin : ℕ) : Type 0 where
+  pub above : i < begin
+  pub within : begin ≤ size
+  pub count : slice_index counts begin + 1 ≡ slice_index counts i
+  pub none_before : (k : ℕ) → i < k → k ≤ size → slice_index counts k + 1 ≡ slice_index counts i → begin ≤ k
 
 -- segments that cost little each cost little together
 total_small : (size : ℕ) (lasts : List ℕ) (cost : ℕ → ℕ → ℕ) → ((i j : ℕ) → i < size → IsUpToLast lasts i j → cost i j < 2 ^ 24)

@@ -1,29 +1,22 @@
 -- What the best ways to the end cost, as much of it as is kept.
-use Rattle.std.proofs.Common.{◌≡◌, ℕ, ◌+◌, ◌<◌, ◌≤◌, List, length, sym, ◌∙◌, subst, set, get_or, get_or-set_same, replicate, inl, inr, arith}
+use Rattle.std.proofs.Common.{◌≡◌, ℕ, zero, suc, ◌+◌, ◌<◌, ◌≤◌, List, length, sym, ◌∙◌, subst, set, get_or, get_or-set_same, replicate, inl, inr, arith}
 use Rattle.std.proofs.lemmas.Bool.{cases_eq}
 use Rattle.std.proofs.lemmas.List.{get_or-set_other, length-replicate, length-set}
 use Rattle.std.specs.Prelude.{slice_index}
 use Rattle.pt_core.specs.declared.limits.TheConstants.{MOST_STEPS}
 use Rattle.least_walk.specs.Inner.MarkedPlaces.{IsPlace}
-use Rattle.least_walk.specs.Inner.Suffix.{HasCosts, IsLeastCost}
+use Rattle.least_walk.specs.Inner.Suffix.{IsLeastCost}
 use Rattle.least_walk.proofs.Filling.{costs_more}
 use Rattle.least_walk.proofs.Onward.{cost_at_end}
 use Rattle.polygon_optimal.specs.declared.search.Onward.{Onward}
-use Rattle.polygon_optimal.specs.Inner.Search.{HasCheapest, slot_of}
+use Rattle.polygon_optimal.specs.Inner.Search.{AreKept, HasCheapest, slot_of}
 
 -- two points that a segment may lead between have slots of their own
 apart : (i k : ℕ) → i < k → k < i + (MOST_STEPS + 1) → ¬ (slot_of k ≡ slot_of i)
 apart i k above near same = omega arith
 
 module _ (size : ℕ) (is_allowed : ℕ → ℕ → Type 0) (cost : ℕ → ℕ → ℕ) where
-  -- the slots have the nearest ones of a list of all costs from `low` on
-  pub record AreKept (low : ℕ) (costs : List ℕ) : Type 0 where
-    pub whole : List ℕ
-    pub places : size < length whole
-    pub are : HasCosts size is_allowed cost low whole
-    pub kept : (k : ℕ) → low ≤ k → k ≤ size → k < low + (MOST_STEPS + 1) → slice_index costs (slot_of k) ≡ slice_index whole k
-
-  pub kept_at_end : (costs : List ℕ) (low slot : ℕ) → low ≡ size → slot ≡ slot_of size → slot < length costs → AreKept low (set costs slot 0)
+  pub kept_at_end : (costs : List ℕ) (low slot : ℕ) → low ≡ size → slot ≡ slot_of size → slot < length costs → AreKept size is_allowed cost low (set costs slot 0)
   kept_at_end costs low slot end is room =
       let all : List ℕ = replicate (size + 1) 0 in
       let long : size < length all = (let none : ℕ = 0 in omega (arith, length-replicate (size + 1) none)) in
@@ -45,8 +38,8 @@ module _ (size : ℕ) (is_allowed : ℕ → ℕ → Type 0) (cost : ℕ → ℕ 
       }
 
   -- one more is kept
-  pub kept_more : (costs : List ℕ) (i slot c : ℕ) → i < size → slot ≡ slot_of i → slot < length costs → AreKept (i + 1) costs
-      → IsLeastCost size is_allowed cost i c → AreKept i (set costs slot c)
+  pub kept_more : (costs : List ℕ) (i slot c : ℕ) → i < size → slot ≡ slot_of i → slot < length costs → AreKept size is_allowed cost (i + 1) costs
+      → IsLeastCost size is_allowed cost i c → AreKept size is_allowed cost i (set costs slot c)
   kept_more costs i slot c below is room later here =
       let long : i < length later.whole = omega (arith, later.places) in
       record {
@@ -66,7 +59,7 @@ module _ (size : ℕ) (is_allowed : ℕ → ℕ → Type 0) (cost : ℕ → ℕ 
       }
 
   -- a point that no polygon of fewest segments goes through is passed over
-  pub kept_same : (costs : List ℕ) (i : ℕ) → i < size → AreKept (i + 1) costs → ¬ IsPlace size is_allowed i → AreKept i costs
+  pub kept_same : (costs : List ℕ) (i : ℕ) → i < size → AreKept size is_allowed cost (i + 1) costs → ¬ IsPlace size is_allowed i → AreKept size is_allowed cost i costs
   kept_same costs i below later none =
       let c : ℕ = slice_index costs (slot_of i) in
       let long : i < length later.whole = omega (arith, later.places) in
@@ -84,6 +77,18 @@ module _ (size : ℕ) (is_allowed : ℕ → ℕ → Type 0) (cost : ℕ → ℕ 
           | inr other ↦ later.kept k (omega arith) within (omega arith) ∙ sym (get_or-set_other later.whole i k c 0 other)
         ];
       }
+
+  -- and so are several of them
+  pub kept_down : (costs : List ℕ) (d low : ℕ) → low + d ≤ size → AreKept size is_allowed cost (low + d) costs
+      → ((k : ℕ) → low ≤ k → k < low + d → ¬ IsPlace size is_allowed k) → AreKept size is_allowed cost low costs
+  kept_down costs zero low within later none =
+      let e : low + 0 ≡ low = omega arith in
+      subst (λ n. AreKept size is_allowed cost n costs) e later
+  kept_down costs (suc d) low within later none =
+      let e : low + suc d ≡ low + d + 1 = omega arith in
+      kept_down costs d low (omega arith)
+      (kept_same costs (low + d) (omega arith) (subst (λ n. AreKept size is_allowed cost n costs) e later) (none (low + d) (omega arith) (omega arith)))
+      (λ k above below. none k above (omega arith))
 
 -- the cheapest segment by one reckoning is that by another one with the same costs
 pub cheapest_same : (cost_by other_by : ℕ → ℕ) (begin end : ℕ) (onward : Onward) → ((k : ℕ) → begin ≤ k → k < end → cost_by k ≡ other_by k)

@@ -12,10 +12,10 @@
 //! ```
 ghost use Rattle.std.specs.Prelude.{◌≡◌, ℕ, ◌+◌, ◌-◌, ◌^◌, ◌<◌, ◌≤◌, length, slice_index, IfOk};
 ghost use Rattle.least_walk.specs.LeastWalk.{IsLeast, walk_from, step_count, total_cost};
-ghost use Rattle.least_walk.specs.Inner.Suffix.{HasFewest, HasNexts, IsLeastCost};
+ghost use Rattle.least_walk.specs.Inner.Suffix.{HasNexts, IsFewestFrom, IsLeastCost};
 ghost use Rattle.polygon_optimal.specs.Inner.Lasts.{IsUpToLast};
 ghost use Rattle.polygon_optimal.specs.Polygon.{penalty_of};
-ghost use Rattle.polygon_optimal.specs.Inner.Search.{AreFalling, AreFarthest, HasCheapest, HasSlots, IsBegin, IsCheaperIn, slot_of};
+ghost use Rattle.polygon_optimal.specs.Inner.Search.{AreKept, AreWindowEnds, BeginsWindow, HasCheapest, HasSlots, IsCheaperIn, counts_of, slot_of};
 
 use crate::segments::Segments;
 use least_walk::Walk;
@@ -45,12 +45,14 @@ struct Onward {
 
 /// The same as `least` finds.
 //
-// 1. `counts`: the fewest segments from each point to the end.
-// 2. `farthest`: the farthest point after so many segments. The points up to it from which as few are
-//    left as can be are vertices of polygons of fewest segments.
-// 3. `costs` and `nexts`, from the end down and for these points alone: the cheapest segment to the next
+// 1. `farthest`: the farthest point after so many segments. The points up to it from which as few are
+//    left as can be are vertices of polygons of fewest segments: its window.
+// 2. `costs` and `nexts`, from the end down and for these points alone: the cheapest segment to the next
 //    window, and of several the shortest. Only the costs that a segment can reach are kept.
-// 4. The walk goes from 0 on by `nexts`.
+// 3. The walk goes from 0 on by `nexts`.
+//
+// A point up to the farthest one is in its window where its longest segment reaches the next window. So how many
+// segments are left from a point needs no list, and points between windows aren't looked at.
 pub(crate) fn least_by_windows(
     alloc: Global,
     segments: &Segments,
@@ -67,27 +69,24 @@ pub(crate) fn least_by_windows(
         (walk_from walk.at (length segments.now.moments.now))) }
 {
     let places = segments.lasts.len() + 1;
-    let mut counts = vec![in alloc; 0u32; places]?;
     let mut costs = vec![in alloc; 0u64; places.min(SLOTS)]?;
     let mut nexts = vec![in alloc; 0u32; places]?;
-    fill_counts(segments, &mut counts);
-    let farthest = farthest(alloc, segments, &counts)?;
-    fill_costs(segments, &counts, &farthest, &mut costs, &mut nexts, roots);
-    walk_along(alloc, segments, &counts, costs[0], &nexts)
+    let farthest = farthest(alloc, segments)?;
+    fill_costs(segments, &farthest, &mut costs, &mut nexts, roots);
+    let count = (farthest.len() - 1) as u32;
+    walk_along(alloc, segments, count, costs[0], &nexts)
 }
 
-/// The walk that begins at 0 and goes on by `nexts`, where the whole of it costs so much.
+/// The walk that begins at 0 and goes on by `nexts`, where the whole of it has so many segments and costs so much.
 fn walk_along(
     alloc: Global,
     segments: &Segments,
-    counts: &[u32],
+    count: u32,
     cost: u64,
     nexts: &[u32],
 ) -> Result<Walk, NoMemory>
-    requires count_places { length counts.now ≡ length segments.now.moments.now + 1 }
     requires next_places { length nexts.now ≡ length segments.now.moments.now + 1 }
-    requires counts { HasFewest (length segments.now.moments.now)
-        (IsUpToLast segments.now.lasts.items) 0 counts.now }
+    requires count { IsFewestFrom (length segments.now.moments.now) (IsUpToLast segments.now.lasts.items) 0 count }
     requires cost { IsLeastCost (length segments.now.moments.now)
         (IsUpToLast segments.now.lasts.items) (penalty_of segments.now.moments.now) 0 cost }
     requires nexts { HasNexts (length segments.now.moments.now)
@@ -103,7 +102,6 @@ fn walk_along(
         (walk_from walk.at (length segments.now.moments.now))) }
 {
     let size = segments.lasts.len() as u32;
-    let count = counts[0];
     let mut at = Vec::with_capacity(alloc, count as usize)?;
     let mut from = 0;
     while from < size {
@@ -117,32 +115,14 @@ fn walk_along(
     })
 }
 
-/// Writes down the fewest segments from each point to the end.
-fn fill_counts(segments: &Segments, counts: &mut [u32])
-    requires places { length counts.old ≡ length segments.now.moments.now + 1 }
-    ensures fewest { HasFewest (length segments.now.moments.now)
-        (IsUpToLast segments.now.lasts.items) 0 counts.new }
-    ensures falling { AreFalling (length segments.now.moments.now) 0 counts.new }
-{
-    let size = segments.lasts.len();
-    counts[size] = 0;
-    for from in (0..size).rev() {
-        counts[from] = counts[segments.lasts[from] as usize] + 1;
-    }
-}
-
 /// The farthest points that one segment reaches, two segments, and so on to the end.
-fn farthest(alloc: Global, segments: &Segments, counts: &[u32]) -> Result<Vec<u32>, NoMemory>
-    requires places { length counts.now ≡ length segments.now.moments.now + 1 }
-    requires fewest { HasFewest (length segments.now.moments.now)
-        (IsUpToLast segments.now.lasts.items) 0 counts.now }
-    requires falling { AreFalling (length segments.now.moments.now) 0 counts.now }
-    ensures { IfOk result (λ farthest. AreFarthest (length segments.now.moments.now)
-        segments.now.lasts.items counts.now (slice_index counts.now 0) farthest.items) }
+fn farthest(alloc: Global, segments: &Segments) -> Result<Vec<u32>, NoMemory>
+    ensures { IfOk result (λ farthest. AreWindowEnds (length segments.now.moments.now) segments.now.lasts.items farthest.items) }
 {
-    let mut farthest = Vec::with_capacity(alloc, counts[0] as usize + 1)?;
+    let size = segments.lasts.len() as u32;
+    let mut farthest = Vec::new(alloc);
     let mut at = 0;
-    for _ in 0..counts[0] {
+    while at < size {
         farthest.push(at)?;
         at = segments.lasts[at as usize];
     }
@@ -168,20 +148,14 @@ fn slot(point: usize) -> usize
 /// goes first, and in its slot what that way costs.
 fn fill_costs(
     segments: &Segments,
-    counts: &[u32],
     farthest: &[u32],
     costs: &mut [u64],
     nexts: &mut [u32],
     roots: &mut Roots,
 )
-    requires count_places { length counts.now ≡ length segments.now.moments.now + 1 }
     requires slots { HasSlots (length segments.now.moments.now) costs.old }
     requires next_places { length nexts.old ≡ length segments.now.moments.now + 1 }
-    requires fewest { HasFewest (length segments.now.moments.now)
-        (IsUpToLast segments.now.lasts.items) 0 counts.now }
-    requires falling { AreFalling (length segments.now.moments.now) 0 counts.now }
-    requires farthest { AreFarthest (length segments.now.moments.now) segments.now.lasts.items
-        counts.now (slice_index counts.now 0) farthest.now }
+    requires windows { AreWindowEnds (length segments.now.moments.now) segments.now.lasts.items farthest.now }
     ensures cost { IsLeastCost (length segments.now.moments.now)
         (IsUpToLast segments.now.lasts.items) (penalty_of segments.now.moments.now)
         0 (slice_index costs.new 0) }
@@ -191,33 +165,50 @@ fn fill_costs(
     let size = segments.lasts.len();
     costs[slot(size)] = 0;
     let mut begin = size as u32;
-    for from in (0..size).rev() {
-        begin = begin_from(counts, from, begin);
-        if from as u32 <= farthest[(counts[0] - counts[from]) as usize] {
-            let onward = cheapest_from(segments, from as u32, begin, nexts[from + 1], costs, roots);
-            costs[slot(from)] = onward.cost;
-            nexts[from] = onward.next;
-        }
+    for window in (0..farthest.len() - 1).rev() {
+        begin = fill_window(segments, farthest, window, begin, costs, nexts, roots);
     }
 }
 
-/// Where the next window begins: the first point from which one segment fewer is left.
-fn begin_from(counts: &[u32], from: usize, later: u32) -> u32
-    requires within { from + 1 < length counts.now }
-    requires few { length counts.now ≤ 2 ^ 31 + 1 }
-    requires steps { slice_index counts.now from ≤ slice_index counts.now (from + 1) + 1 }
-    requires falling { AreFalling (length counts.now - 1) from counts.now }
-    requires some { 0 < slice_index counts.now from }
-    requires end { slice_index counts.now (length counts.now - 1) ≡ 0 }
-    requires later { from + 2 < length counts.now
-        → IsBegin (length counts.now - 1) counts.now (from + 1) later }
-    ensures { IsBegin (length counts.now - 1) counts.now from result }
+/// The same for the vertices of one window, where all of the next one, which begins at a point, are done. It is the
+/// window's own first point.
+fn fill_window(
+    segments: &Segments,
+    farthest: &[u32],
+    window: usize,
+    begin: u32,
+    costs: &mut [u64],
+    nexts: &mut [u32],
+    roots: &mut Roots,
+) -> u32
+    requires slots { HasSlots (length segments.now.moments.now) costs.old }
+    requires next_places { length nexts.old ≡ length segments.now.moments.now + 1 }
+    requires windows { AreWindowEnds (length segments.now.moments.now) segments.now.lasts.items farthest.now }
+    requires window { window + 1 < length farthest.now }
+    requires begin { BeginsWindow (length segments.now.moments.now)
+        (counts_of (length segments.now.moments.now) segments.now.lasts.items) (window + 1) begin }
+    requires later { AreKept (length segments.now.moments.now) (IsUpToLast segments.now.lasts.items)
+        (penalty_of segments.now.moments.now) begin costs.old }
+    requires later_nexts { HasNexts (length segments.now.moments.now) (IsUpToLast segments.now.lasts.items)
+        (penalty_of segments.now.moments.now) begin nexts.old }
+    ensures slots { HasSlots (length segments.now.moments.now) costs.new }
+    ensures next_places { length nexts.new ≡ length nexts.old }
+    ensures begin { BeginsWindow (length segments.now.moments.now)
+        (counts_of (length segments.now.moments.now) segments.now.lasts.items) window result }
+    ensures costs { AreKept (length segments.now.moments.now) (IsUpToLast segments.now.lasts.items)
+        (penalty_of segments.now.moments.now) result costs.new }
+    ensures nexts { HasNexts (length segments.now.moments.now) (IsUpToLast segments.now.lasts.items)
+        (penalty_of segments.now.moments.now) result nexts.new }
 {
-    if counts[from] == counts[from + 1] {
-        later
-    } else {
-        from as u32 + 1
+    let mut first = farthest[window] + 1;
+    while first > 0 && begin <= segments.lasts[first as usize - 1] {
+        let guess = nexts[first as usize];
+        first -= 1;
+        let onward = cheapest_from(segments, first, begin, guess, costs, roots);
+        costs[slot(first as usize)] = onward.cost;
+        nexts[first as usize] = onward.next;
     }
+    first
 }
 
 /// The cheapest segment from a point into the next window, and of several the shortest.

@@ -1,5 +1,7 @@
 -- What the search for a path's best polygon knows of its points.
-use Rattle.std.specs.Prelude.{◌≡◌, ℕ, ◌+◌, ◌%◌, ◌<◌, ◌≤◌, List, length, slice_index}
+use Rattle.std.specs.Prelude.{◌≡◌, ℕ, zero, suc, ◌+◌, ◌-◌, ◌%◌, ◌<◌, ◌≤◌, List, length, replicate, set, slice_index}
+use Rattle.pt_core.specs.declared.limits.TheConstants.{MOST_STEPS}
+use Rattle.least_walk.specs.Inner.Suffix.{HasCosts}
 use Rattle.polygon_optimal.specs.declared.search.Onward.{Onward}
 use Rattle.polygon_optimal.specs.declared.search.TheConstants.{SLOTS}
 
@@ -16,12 +18,26 @@ pub record AreFarthest (size : ℕ) (lasts counts : List ℕ) (most : ℕ) (fart
   pub within : (c : ℕ) → c ≤ most → slice_index farthest c ≤ size
   pub left : (c : ℕ) → c ≤ most → slice_index counts (slice_index farthest c) + c ≡ slice_index counts 0
 
--- the first point after i from which one segment fewer is left
-pub record IsBegin (size : ℕ) (counts : List ℕ) (i begin : ℕ) : Type 0 where
-  pub above : i < begin
+-- a list of the fewest segments to the end from each of the last points, so many of them: from each one more than from
+-- where its longest segment leads
+abbrev pub counts_after : ℕ → List ℕ → ℕ → List ℕ
+counts_after size lasts zero = replicate (size + 1) 0
+counts_after size lasts (suc done) = set (counts_after size lasts done) (size - suc done)
+    (slice_index (counts_after size lasts done) (slice_index lasts (size - suc done)) + 1)
+
+-- the same from all points
+abbrev pub counts_of : ℕ → List ℕ → List ℕ
+counts_of size lasts = counts_after size lasts size
+
+-- the farthest points after no segment, after one, and so on to the end
+abbrev pub AreWindowEnds : ℕ → List ℕ → List ℕ → Type 0
+AreWindowEnds size lasts farthest = AreFarthest size lasts (counts_of size lasts) (slice_index (counts_of size lasts) 0) farthest
+
+-- the first point from which as few segments are left as can be after so many
+pub record BeginsWindow (size : ℕ) (counts : List ℕ) (window begin : ℕ) : Type 0 where
   pub within : begin ≤ size
-  pub count : slice_index counts begin + 1 ≡ slice_index counts i
-  pub none_before : (k : ℕ) → i < k → k ≤ size → slice_index counts k + 1 ≡ slice_index counts i → begin ≤ k
+  pub left : slice_index counts begin + window ≡ slice_index counts 0
+  pub none_before : (k : ℕ) → k < begin → slice_index counts begin < slice_index counts k
 
 -- where the cost of the best way from point k is kept: no segment leads from one point to another of the same slot
 abbrev pub slot_of : ℕ → ℕ
@@ -43,3 +59,10 @@ pub record HasCheapest (cost_by : ℕ → ℕ) (begin end : ℕ) (onward : Onwar
 pub data IsCheaperIn (cost_by : ℕ → ℕ) (begin end : ℕ) (best onward : Onward) : Type 0 where
   found : onward.cost < best.cost → HasCheapest cost_by begin end onward → IsCheaperIn cost_by begin end best onward
   none : onward ≡ best → ((k : ℕ) → begin ≤ k → k < end → best.cost ≤ cost_by k) → IsCheaperIn cost_by begin end best onward
+
+-- the slots have the nearest ones of a list of what the best ways on cost, from `low` on
+pub record AreKept (size : ℕ) (is_allowed : ℕ → ℕ → Type 0) (cost : ℕ → ℕ → ℕ) (low : ℕ) (costs : List ℕ) : Type 0 where
+  pub whole : List ℕ
+  pub places : size < length whole
+  pub are : HasCosts size is_allowed cost low whole
+  pub kept : (k : ℕ) → low ≤ k → k ≤ size → k < low + (MOST_STEPS + 1) → slice_index costs (slot_of k) ≡ slice_index whole k

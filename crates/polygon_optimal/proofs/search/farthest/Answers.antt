@@ -1,42 +1,43 @@
-use Rattle.std.proofs.Common.{◌≡◌, ℕ, ◌+◌, ◌<◌, List, length, sym, ◌∙◌, subst, arith}
+use Rattle.std.proofs.Common.{◌≡◌, ℕ, ◌+◌, ◌<◌, ◌≤◌, ◌∷◌, [], List, length, length-append, ap, sym, ◌∙◌, subst, arith}
 use Rattle.std.proofs.lemmas.List.{get_or_default}
 use Rattle.std.specs.Prelude.{slice_index}
-use Rattle.polygon_optimal.specs.Inner.Search.{AreFarthest}
-use Rattle.polygon_optimal.proofs.Greedy.{AreWritten, at_below, written_none, written_more}
+use Rattle.polygon_optimal.specs.Inner.Search.{AreFarthest, counts_of}
+use Rattle.polygon_optimal.proofs.Counting.{counts_falling, counts_fewest}
+use Rattle.polygon_optimal.proofs.Greedy.{AreWritten, all_left, more_left, written_more}
 use Rattle.polygon_optimal.proofs.search.farthest.Goals as goal
 
-pub loop-init : goal.loop-init
-loop-init c =
-    let s = c.args.segments.now in
-    written_none (length s.moments.now) s.lasts.items c.args.counts.now c.in_ok-farthest.farthest.items c.in_ok-farthest.ensures.items
-
--- where segments are left there is a longest one
-pub index-at-requires : goal.index-at-requires
-index-at-requires c =
-    let s = c.args.segments.now in
-    let more : c.loop.counter < slice_index c.args.counts.now 0 = omega arith in
-    let below = at_below (length s.moments.now) s.lasts.items s.onwards s.rising c.args.counts.now c.requires.fewest c.requires.falling
-    c.loop.counter c.loop.farthest.items c.loop.at c.loop.invariant more in
-    omega (arith, s.places)
-
-pub loop-preserved : goal.loop-preserved
-loop-preserved c =
+pub loop-at-preserved : goal.loop-at-preserved
+loop-at-preserved c =
     let s = c.args.segments.now in
     let size = length s.moments.now in
-    let at = c.loop.at in
-    let more : c.loop.counter < slice_index c.args.counts.now 0 = omega arith in
-    let below = at_below size s.lasts.items s.onwards s.rising c.args.counts.now c.requires.fewest c.requires.falling
-    c.loop.counter c.loop.farthest.items at c.loop.invariant more in
-    let there : at < length s.lasts.items = omega (arith, s.places) in
-    let last : c.index-at.result.now ≡ slice_index s.lasts.items at = c.index-at.ensures ∙ get_or_default s.lasts.items at c.index-at.result.now 0 there in
-    subst (λ n. AreWritten size s.lasts.items c.args.counts.now (c.loop.counter + 1) c.push.new.self.items n) (sym last)
-    (written_more size s.lasts.items s.onwards s.rising c.args.counts.now c.requires.fewest c.requires.falling
-    c.loop.counter c.loop.farthest.items at c.loop.invariant more c.push.new.self.items c.in_ok-push.ensures.items)
+    let lasts = s.lasts.items in
+    let counts = counts_of size lasts in
+    let fewest = counts_fewest size lasts s.onwards s.rising in
+    let falling = counts_falling size lasts s.onwards s.rising in
+    let at = c.loop-at.at in
+    let written = c.loop-at.farthest.items in
+    let below : at < size = omega (arith, s.places) in
+    let more = more_left size lasts s.onwards s.rising counts fewest falling (length written) written at c.loop-at.invariant below in
+    let there : at < length lasts = omega (arith, s.places) in
+    let last : c.index-at.result.now ≡ slice_index lasts at = c.index-at.ensures ∙ get_or_default lasts at c.index-at.result.now 0 there in
+    let one : length c.push.new.self.items ≡ length written + 1 = ap length c.in_ok-push.ensures.items ∙ length-append written (at ∷ []) in
+    subst (λ n. AreWritten size lasts counts n c.push.new.self.items c.index-at.result.now) (sym one)
+    (subst (λ n. AreWritten size lasts counts (length written + 1) c.push.new.self.items n) (sym last)
+    (written_more size lasts s.onwards s.rising counts fewest falling (length written) written at c.loop-at.invariant more
+    c.push.new.self.items c.in_ok-push.ensures.items))
 
 pub returns : goal.returns
 returns c =
     let s = c.args.segments.now in
-    let P : List ℕ → Type 0 = λ xs. AreFarthest (length s.moments.now) s.lasts.items c.args.counts.now (slice_index c.args.counts.now 0) xs in
-    let Q : ℕ → Type 0 = λ n. AreWritten (length s.moments.now) s.lasts.items c.args.counts.now n c.loop.farthest.items c.loop.at in
-    let whole : c.loop.counter ≡ slice_index c.args.counts.now 0 = omega arith in
-    subst P (sym c.in_ok-push-2.ensures.items) (subst Q whole c.loop.invariant)
+    let size = length s.moments.now in
+    let lasts = s.lasts.items in
+    let counts = counts_of size lasts in
+    let fewest = counts_fewest size lasts s.onwards s.rising in
+    let falling = counts_falling size lasts s.onwards s.rising in
+    let at = c.loop-at.at in
+    let written = c.loop-at.farthest.items in
+    let end : size ≤ at = omega (arith, s.places) in
+    let whole = all_left size lasts s.onwards s.rising counts fewest falling (length written) written at c.loop-at.invariant end in
+    let P : List ℕ → Type 0 = λ xs. AreFarthest size lasts counts (slice_index counts 0) xs in
+    let Q : ℕ → Type 0 = λ n. AreWritten size lasts counts n written at in
+    subst P (sym c.in_ok-push-2.ensures.items) (subst Q whole c.loop-at.invariant)

@@ -5,6 +5,8 @@ use Rattle.least_walk.proofs.Written.{written_none, written_place, written_more,
 use Rattle.least_walk.proofs.Places.{place_at_start}
 use Rattle.polygon_optimal.specs.Inner.Lasts.{IsUpToLast}
 use Rattle.polygon_optimal.specs.Polygon.{penalty_of}
+use Rattle.polygon_optimal.specs.Inner.Search.{counts_of}
+use Rattle.polygon_optimal.proofs.Counting.{counts_fewest}
 use Rattle.polygon_optimal.proofs.search.walk_along.Goals as goal
 
 pub loop-from-init : goal.loop-from-init
@@ -12,8 +14,11 @@ loop-from-init c =
     let s = c.args.segments.now in
     written_none (length s.moments.now) (IsUpToLast s.lasts.items) (penalty_of s.moments.now)
     c.in_ok-at.at.items (get_or c.args.nexts.now 0 0) c.in_ok-at.ensures.items
-    (c.requires.nexts 0 (omega arith) (omega (arith, s.some))
-    (0, place_at_start (length s.moments.now) (IsUpToLast s.lasts.items) c.args.counts.now c.requires.counts))
+    (c.requires.nexts 0 (omega arith) (omega (arith, s.some)) (
+      0,
+      place_at_start (length s.moments.now) (IsUpToLast s.lasts.items) (counts_of (length s.moments.now) s.lasts.items)
+          (counts_fewest (length s.moments.now) s.lasts.items s.onwards s.rising),
+    ))
 
 pub loop-from-preserved : goal.loop-from-preserved
 loop-from-preserved c =
@@ -45,8 +50,7 @@ returns c =
     let end : size ≤ c.loop-from.from = omega (arith, s.places) in
     let walk : IsLeast size is_allowed (penalty_of s.moments.now) (starts ++ size ∷ []) = written_all size is_allowed (penalty_of s.moments.now)
     starts c.loop-from.from end c.loop-from.invariant in
-    let fewest = c.requires.counts 0 (omega arith) (omega arith) in
-    let steps = step_count-least size is_allowed (penalty_of s.moments.now) (starts ++ size ∷ []) walk (get_or c.args.counts.now 0 0) fewest in
+    let steps = step_count-least size is_allowed (penalty_of s.moments.now) (starts ++ size ∷ []) walk c.args.count c.requires.count in
     rw c.from_vec.ensures (record {
       least = walk;
       starts = steps ∙ step_count-walk_from starts size;
