@@ -31,6 +31,9 @@ const SLOTS: usize = 1 << 16;
 /// costs less where each of its segments is looked up by itself.
 const WIDE: u32 = 8;
 
+/// Longest segments mostly have as many steps as this.
+const FEW_STEPS: usize = 4;
+
 /// A segment to go on by.
 //
 // What it costs has 64 bits, where `least` takes 128: the contract of `Steps` allows a penalty to 2^56, so a sum of 2^31
@@ -120,7 +123,7 @@ fn farthest(alloc: Global, segments: &Segments) -> Result<Vec<u32>, NoMemory>
     ensures { IfOk result (λ farthest. AreWindowEnds (length segments.now.moments.now) segments.now.lasts.items farthest.items) }
 {
     let size = segments.lasts.len() as u32;
-    let mut farthest = Vec::new(alloc);
+    let mut farthest = Vec::with_capacity(alloc, segments.lasts.len() / FEW_STEPS + 2)?;
     let mut at = 0;
     while at < size {
         farthest.push(at)?;
