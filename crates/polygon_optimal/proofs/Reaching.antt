@@ -1,8 +1,6 @@
 -- How far the segments of a path's polygons reach.
-use Rattle.std.proofs.Common.{◌≡◌, ℕ, ◌+◌, ◌-◌, ◌<◌, ◌≤◌, List, [], ◌∷◌, ◌++◌, length, subst, sym, ap, ◌∙◌, arith}
+use Rattle.std.proofs.Common.{◌≡◌, ℕ, ◌+◌, ◌-◌, ◌<◌, ◌≤◌, List, length, subst, sym, arith}
 use Rattle.std.proofs.lemmas.List.{get_or_past}
-use Rattle.std.proofs.Math.ListN.{get_or-append}
-use Rattle.std.proofs.Math.Seq.{get_or-append_seam}
 use Rattle.std.specs.Prelude.{slice_index}
 use Rattle.std.proofs.Math.Decide.{dec_lt}
 use Rattle.pt_core.specs.declared.point.Point.{Point}
@@ -25,21 +23,6 @@ last_from_farthest points i far last farthest below some within reached rises gr
           let most = farthest.greatest (j - i) (subst P (sym is) segment.possible) in
           greatest j segment.ends (omega arith));
     }
-
--- one more point's longest segment
-pub lasts_more : (points : List Point) (lasts more : List ℕ) (last count : ℕ) → length lasts ≡ count
-    → ((k : ℕ) → k < count → IsLast points k (slice_index lasts k)) → IsLast points count last → more ≡ lasts ++ last ∷ []
-    → (k : ℕ) → k < count + 1 → IsLast points k (slice_index more k)
-lasts_more points lasts more last count len each longest is k below =
-    elim (dec_lt k count) [
-      | yes earlier ↦ (let P : ℕ → Type 0 = λ n. IsLast points k n in
-          subst P (sym (ap (λ xs. slice_index xs k) is ∙ get_or-append lasts (last ∷ []) 0 k (omega arith))) (each k earlier))
-      | no not_earlier ↦ (let e : k ≡ length lasts = omega arith in
-          let same : slice_index more k ≡ last = ap (λ xs. slice_index xs k) is ∙ ap (λ n. slice_index (lasts ++ last ∷ []) n) e ∙ get_or-append_seam lasts last [] 0 in
-          let P : ℕ → Type 0 = λ n. IsLast points n (slice_index more k) in
-          let Q : ℕ → Type 0 = λ n. IsLast points count n in
-          subst P (sym (e ∙ len)) (subst Q (sym same) longest))
-    ]
 
 -- so it leads onwards
 pub leads_on : (points : List Point) (lasts : List ℕ) → HasLasts points lasts → (i : ℕ) → i < length points → LeadsOn (length points) i (slice_index lasts i)

@@ -56,8 +56,8 @@ pub fn polygon_by(
 
 /// The same, by what was found of how far segments reach, and by roots.
 //
-// How far segments reach is measured before the points are summed up: the one takes 36 bytes a point, which are given
-// back, the other 32, which stay. In the other order a spiral of walls took a fifth more memory.
+// How far segments reach is measured before the points are summed up: the one takes 24 bytes a point, of which 20 are
+// given back, the other 32, which stay. In the other order a spiral of walls took a fifth more memory.
 fn measured(
     alloc: Global,
     points: &[Point],

@@ -15,7 +15,7 @@ use straight_paths::{Memo, Reach};
 /// The segments of a closed walk's polygons, and their penalties.
 //
 // Of a possible segment each shorter one from the same point is possible too, so one number for each point, where its
-// longest segment leads, decides every step. The `Reach` itself, 24 bytes a point, is given back before the search.
+// longest segment leads, decides every step. What else was measured, 20 bytes a point, is given back before the search.
 #[derive(Drop)]
 pub(crate) struct Segments<'a> {
     pub(crate) moments: &'a Moments,
@@ -48,6 +48,8 @@ impl<'a> Segments<'a> {
 }
 
 /// For each point of a walk, where the longest segment from it leads, by what was found of other walks.
+//
+// Both lists are one: how many steps the segments have is turned into where they lead.
 pub fn lasts(alloc: Global, points: &[Point], memo: &mut Memo) -> Result<Vec<u32>, NoMemory>
     requires closed { IsClosedWalk points.now }
     requires on_page { AreOnPage points.now }
@@ -55,21 +57,11 @@ pub fn lasts(alloc: Global, points: &[Point], memo: &mut Memo) -> Result<Vec<u32
 {
     let reach = Reach::by(alloc, points, memo)?;
     let size = points.len() as u32;
-    let mut lasts = Vec::with_capacity(alloc, points.len())?;
+    let mut lasts = reach.into_steps();
     for i in 0..size {
-        lasts.push(last_from(&reach, i, size))?;
+        lasts[i as usize] = size.min(i + lasts[i as usize]);
     }
     Ok(lasts)
-}
-
-/// Where the longest segment from point `i` leads, of a walk of so many points.
-fn last_from(reach: &Reach, i: u32, size: u32) -> u32
-    requires size { size ≡ length reach.now }
-    requires most { size ≤ 2 ^ 31 }
-    requires point { i < size }
-    ensures { IsLast reach.now i result }
-{
-    size.min(i + reach.far(i))
 }
 
 impl Steps for Segments<'_> {
