@@ -180,6 +180,23 @@ module _ (points : List Point) where
       let (r, goes, counted, costs) = by.some below in
       omega (arith, ways_count points on_page end j r small goes)
 
+  -- the least way of the fewest segments is the best one
+  pub best_by_least : AreOnPage points → (start count : ℕ) (best : Best) → best.count ≡ count → start + length points < 2 ^ 33 → count ≤ 2 ^ 31
+      → IsFewestFrom (start + length points) (IsPossible points) start count
+      → IsLeastBy points (start + length points) count start best.worth → IsBestFrom points start best
+  best_by_least on_page start count best counts small few fewest by =
+      let bound = by.bound fewest.rest fewest.goes_on fewest.count in
+      let most = ways_count points on_page (start + length points) start fewest.rest small fewest.goes_on in
+      let (way, goes, counted, costs) = by.some (omega (arith, fewest.count)) in
+      record {
+        way = way;
+        goes = goes;
+        count = omega arith;
+        worth = costs;
+        fewest = λ r goes. (let least = fewest.none_fewer r goes in omega arith);
+        least = λ r goes tied. by.bound r goes (omega arith);
+      }
+
   -- the first front has the best way from the start
   module _ (on_page : AreOnPage points) (start count value : ℕ) (front : Front) (is : IsFrontOf points front)
       (end : front.end ≡ start + length points) (small : start + length points < 2 ^ 33) (left : front.left ≡ count) (few : count ≤ 2 ^ 31)
@@ -197,14 +214,6 @@ module _ (points : List Point) where
     pub best_is : (best : Best) → best.count ≡ count → best.worth ≡ slice_index front.least.items (start - front.low) → IsBestFrom points start best
     best_is best counts worth =
         let by = front_at front start best.worth is start_in top worth in
-        let bound = by.bound fewest.rest at_end (omega (arith, fewest.count)) in
-        let most = ways_count points on_page (start + length points) start fewest.rest small fewest.goes_on in
-        let (way, goes, counted, costs) = by.some (omega (arith, fewest.count)) in
-        record {
-          way = way;
-          goes = subst (λ e. WalksOn e (IsPossible points) start way) end goes;
-          count = omega arith;
-          worth = costs;
-          fewest = λ r goes. (let least = fewest.none_fewer r goes in omega arith);
-          least = λ r goes tied. by.bound r (subst (λ e. WalksOn e (IsPossible points) start r) (sym end) goes) (omega arith);
-        }
+        let P : ℕ → Type 0 = λ e. IsLeastBy points e front.left start best.worth in
+        let Q : ℕ → Type 0 = λ n. IsLeastBy points (start + length points) n start best.worth in
+        best_by_least on_page start count best counts small few fewest (subst Q left (subst P end by))

@@ -47,9 +47,9 @@ module _ (points : List Point) where
     pub most : best.count ≤ fewest + 1
     pub nothing : best.count ≡ fewest + 1 → best.worth ≡ 0
 
-  pub so_far_none : (fewest low to : ℕ) (best : Best) → to ≡ low → best.count ≡ fewest + 1 → best.worth ≡ 0
-      → IsBestSoFar fewest low to best
-  so_far_none fewest low to best here count worth = record {
+  pub so_far_none : (fewest from high : ℕ) (best : Best) → from ≡ high → best.count ≡ fewest + 1 → best.worth ≡ 0
+      → IsBestSoFar fewest from high best
+  so_far_none fewest from high best here count worth = record {
     found = λ few. absurd (omega arith);
     least = record {
       fewest = λ s r a b. let no : ⊥ = omega arith in elim no [ ];
@@ -59,48 +59,48 @@ module _ (points : List Point) where
     nothing = λ _. worth;
   }
 
-  module _ (low s : ℕ) (above : low ≤ s) where
-    way_on : (best : Best) → IsWayAmong low s best → IsWayAmong low (s + 1) best
+  module _ (s high : ℕ) (under : s < high) where
+    way_on : (best : Best) → IsWayAmong (s + 1) high best → IsWayAmong s high best
     way_on best is = record {
       start = is.start;
-      above = is.above;
-      under = omega (arith, is.under);
+      above = omega (arith, is.above);
+      under = is.under;
       way = is.way;
       goes = is.goes;
       count = is.count;
       worth = is.worth;
     }
 
-    -- the points before this one, and this one
+    -- the points behind this one, and this one
     least_on : (best : Best)
-        → ((t : ℕ) (r : List ℕ) → low ≤ t → t < s → WalksOn (t + length points) (IsPossible points) t r → best.count ≤ length r)
-        → ((t : ℕ) (r : List ℕ) → low ≤ t → t < s → WalksOn (t + length points) (IsPossible points) t r → length r ≡ best.count
+        → ((t : ℕ) (r : List ℕ) → s + 1 ≤ t → t < high → WalksOn (t + length points) (IsPossible points) t r → best.count ≤ length r)
+        → ((t : ℕ) (r : List ℕ) → s + 1 ≤ t → t < high → WalksOn (t + length points) (IsPossible points) t r → length r ≡ best.count
         → best.worth ≤ total_cost (worth_of points) (t ∷ r))
         → ((r : List ℕ) → WalksOn (s + length points) (IsPossible points) s r → best.count ≤ length r)
         → ((r : List ℕ) → WalksOn (s + length points) (IsPossible points) s r → length r ≡ best.count
         → best.worth ≤ total_cost (worth_of points) (s ∷ r))
-        → IsLeastAmong low (s + 1) best
+        → IsLeastAmong s high best
     least_on best few cheap more dearer = record {
-      fewest = λ t r a b goes. elim (cases_lt t s) [
-        | inl earlier ↦ few t r a earlier goes
-        | inr late ↦
+      fewest = λ t r a b goes. elim (cases_lt s t) [
+        | inl later ↦ few t r (omega arith) b goes
+        | inr here ↦
             let is : t ≡ s = omega arith in
             more r (subst (λ m. WalksOn (m + length points) (IsPossible points) m r) is goes)
       ];
-      least = λ t r a b goes counted. elim (cases_lt t s) [
-        | inl earlier ↦ cheap t r a earlier goes counted
-        | inr late ↦
+      least = λ t r a b goes counted. elim (cases_lt s t) [
+        | inl later ↦ cheap t r (omega arith) b goes counted
+        | inr here ↦
             let is : t ≡ s = omega arith in
             let less = dearer r (subst (λ m. WalksOn (m + length points) (IsPossible points) m r) is goes) counted in
             omega (arith, ap (λ m. total_cost (worth_of points) (m ∷ r)) is)
       ];
     }
 
-    module _ (fewest : ℕ) (best : Best) (so_far : IsBestSoFar fewest low s best) where
+    module _ (fewest : ℕ) (best : Best) (so_far : IsBestSoFar fewest (s + 1) high best) where
       kept : ((r : List ℕ) → WalksOn (s + length points) (IsPossible points) s r → best.count ≤ length r)
           → ((r : List ℕ) → WalksOn (s + length points) (IsPossible points) s r → length r ≡ best.count
           → best.worth ≤ total_cost (worth_of points) (s ∷ r))
-          → IsBestSoFar fewest low (s + 1) best
+          → IsBestSoFar fewest s high best
       kept more dearer = record {
         found = λ few. way_on best (so_far.found few);
         least = least_on best so_far.least.fewest so_far.least.least more dearer;
@@ -110,21 +110,21 @@ module _ (points : List Point) where
 
       -- a point from which there are more segments
       pub so_far_passed : (count : ℕ) → fewest < count → IsFewestFrom (s + length points) (IsPossible points) s count
-          → IsBestSoFar fewest low (s + 1) best
+          → IsBestSoFar fewest s high best
       so_far_passed count more is =
           kept (λ r goes. omega (arith, so_far.most, is.none_fewer r goes))
           (λ r goes counted. omega (arith, so_far.most, is.none_fewer r goes, so_far.nothing (omega (arith, so_far.most, is.none_fewer r goes))))
 
       taken : (next : Best) → next.count ≤ fewest → IsBestFrom points s next
-          → ((t : ℕ) (r : List ℕ) → low ≤ t → t < s → WalksOn (t + length points) (IsPossible points) t r → next.count ≤ length r)
-          → ((t : ℕ) (r : List ℕ) → low ≤ t → t < s → WalksOn (t + length points) (IsPossible points) t r → length r ≡ next.count
+          → ((t : ℕ) (r : List ℕ) → s + 1 ≤ t → t < high → WalksOn (t + length points) (IsPossible points) t r → next.count ≤ length r)
+          → ((t : ℕ) (r : List ℕ) → s + 1 ≤ t → t < high → WalksOn (t + length points) (IsPossible points) t r → length r ≡ next.count
           → next.worth ≤ total_cost (worth_of points) (t ∷ r))
-          → IsBestSoFar fewest low (s + 1) next
+          → IsBestSoFar fewest s high next
       taken next few from more dearer = record {
         found = λ _. record {
           start = s;
-          above = above;
-          under = omega arith;
+          above = omega arith;
+          under = under;
           way = from.way;
           goes = from.goes;
           count = from.count;
@@ -141,23 +141,23 @@ module _ (points : List Point) where
           → (best.count < next.count → chosen ≡ best)
           → (next.count ≡ best.count → next.worth < best.worth → chosen ≡ next)
           → (next.count ≡ best.count → best.worth ≤ next.worth → chosen ≡ best)
-          → IsBestSoFar fewest low (s + 1) chosen
+          → IsBestSoFar fewest s high chosen
       so_far_better next chosen small from fewer more lower equal =
           elim (cases_lt next.count best.count) [
-            | inl few ↦ subst (IsBestSoFar fewest low (s + 1)) (sym (fewer few))
+            | inl few ↦ subst (IsBestSoFar fewest s high) (sym (fewer few))
                 (taken next small from (λ t r a b goes. let least = so_far.least.fewest t r a b goes in omega arith)
                 (λ t r a b goes counted. let least = so_far.least.fewest t r a b goes in absurd (omega arith)))
             | inr not_fewer ↦ elim (cases_lt best.count next.count) [
-              | inl many ↦ subst (IsBestSoFar fewest low (s + 1)) (sym (more many))
+              | inl many ↦ subst (IsBestSoFar fewest s high) (sym (more many))
                   (kept (λ r goes. let least = from.fewest r goes in omega arith)
                   (λ r goes counted. let least = from.fewest r goes in absurd (omega arith)))
               | inr not_more ↦
                   let tied : next.count ≡ best.count = omega arith in
                   elim (cases_lt next.worth best.worth) [
-                    | inl cheap ↦ subst (IsBestSoFar fewest low (s + 1)) (sym (lower tied cheap))
+                    | inl cheap ↦ subst (IsBestSoFar fewest s high) (sym (lower tied cheap))
                         (taken next small from (λ t r a b goes. let least = so_far.least.fewest t r a b goes in omega arith)
                         (λ t r a b goes counted. let least = so_far.least.least t r a b goes (omega arith) in omega arith))
-                    | inr dear ↦ subst (IsBestSoFar fewest low (s + 1)) (sym (equal tied dear))
+                    | inr dear ↦ subst (IsBestSoFar fewest s high) (sym (equal tied dear))
                         (kept (λ r goes. let least = from.fewest r goes in omega arith)
                         (λ r goes counted. let least = from.least r goes (omega arith) in omega arith))
                   ]

@@ -66,6 +66,7 @@ written_none points start end written none room =
         size = refl;
         first = refl;
         within = λ c few. (let is : c ≡ 0 = omega arith in omega (arith, ap (slice_index (start ∷ [])) is));
+        before = λ c few. (let no : ⊥ = omega arith in elim no [ ]);
         onwards = λ c i j below. let no : ⊥ = omega arith in elim no [ ];
       };
       way = [];
@@ -110,6 +111,12 @@ module _ (points : List Point) (start end : ℕ) (written : List ℕ) (at last n
       | inr last ↦
           let is : d ≡ length written + 1 = omega (arith, size_now) in
           omega (arith, there, ap (slice_index new) is)
+    ];
+    before = λ d few. elim (cases_lt d (length written)) [
+      | inl earlier ↦ omega (arith, before d (omega arith), are.tops.before d earlier)
+      | inr last ↦
+          let is : d ≡ length written = omega (arith, size_now) in
+          omega (arith, more, ap (slice_index new) is, before (length written) (omega arith), here)
     ];
     onwards = λ d i j below order possible ends. elim (cases_lt d (length written)) [
       | inl earlier ↦

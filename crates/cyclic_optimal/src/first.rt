@@ -104,10 +104,13 @@ fn best_among(
         count: fewest + 1,
         worth: 0,
     };
-    for start in low..high {
+    let mut kept = Vec::new(alloc);
+    for start in (low..high).rev() {
         let ways = tops(alloc, sides, start)?;
         if ways.len() <= fewest + 1 {
-            best = better(best, best_by(alloc, sides, start, &ways)?);
+            let (next, fronts) = best_by(alloc, sides, start, &ways, kept)?;
+            kept = fronts;
+            best = better(best, next);
         }
     }
     Ok(best)

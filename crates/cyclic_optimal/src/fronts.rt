@@ -5,19 +5,23 @@
 //!                                                 can stand after each. A front ends with the farthest
 //!                                                 point from s, and begins with the farthest backwards.
 //! ```
-ghost use Rattle.std.specs.Prelude.{◌≡◌, ℕ, ◌+◌, ◌-◌, ◌*◌, ◌<◌, ◌≤◌, ◌^◌, length, IfOk, IfSome};
+ghost use Rattle.std.specs.Prelude.{◌≡◌, ℕ, ◌+◌, ◌-◌, ◌*◌, ◌<◌, ◌≤◌, ◌^◌, All, length, IfOk, IfSome};
 ghost use Rattle.straight_paths.specs.Straight.{IsPossible};
 ghost use Rattle.least_walk.specs.Inner.Suffix.{IsFewestFrom};
 ghost use Rattle.cyclic_optimal.specs.Inner.Fronts.{AreTops, IsBestFrom, IsFrontOf, IsInLap, IsLeastBy, IsLeastVia, worth_of};
 
 use crate::first::Best;
+use crate::merged::worth_by;
 use crate::sides::WalkSegments;
 use prefix_moments::Growing;
 use pt_core::NoMemory;
 use std::alloc::Global;
 
 /// What no way counts.
-const NONE: u128 = u128::MAX;
+pub(crate) const NONE: u128 = u128::MAX;
+
+/// More than any way counts.
+pub(crate) const MOST: u128 = 1 << 120;
 
 /// To so many points at most the segments from another one are tried in their order; among more, a guess comes first.
 const FEW: usize = 3;
@@ -33,15 +37,15 @@ struct Onward {
 
 /// Points in a row, and what the least way of so many segments from each of them to the end counts.
 #[derive(Drop)]
-struct Front {
+pub(crate) struct Front {
     /// The point at which the ways end.
-    end: usize,
+    pub end: usize,
     /// Their number of segments.
-    left: usize,
+    pub left: usize,
     /// The first of the points.
-    low: usize,
+    pub low: usize,
     /// `NONE` where there is no such way.
-    least: Vec<u128>,
+    pub least: Vec<u128>,
 }
 
 /// The farthest points from `start` after no segment, after one, and so on to the same point a lap on.
@@ -68,25 +72,32 @@ pub(crate) fn tops(
     Ok(tops)
 }
 
-/// The best way once round from this point.
+/// The best way once round from this point, by the fronts of a later one; and the fronts to go on with.
 //
 // From the last front back to the first: for each point the least of all segments to the next front.
+//
+// Ways to two ends a lap on mostly go through the same points from a few segments before these on. So their fronts
+// differ by a constant there, and in all earlier fronts too: what was found of the later start tells the rest.
 pub(crate) fn best_by(
     alloc: Global,
     sides: &WalkSegments,
     start: usize,
     tops: &[usize],
-) -> Result<Best, NoMemory>
+    kept: Vec<Front>,
+) -> Result<(Best, Vec<Front>), NoMemory>
     requires start { start < length sides.now.moments.now }
     requires some { 1 ≤ length tops.now }
     requires tops { AreTops sides.now.moments.now start (start + length sides.now.moments.now)
         (length tops.now - 1) tops.now }
     requires fewest { IsFewestFrom (start + length sides.now.moments.now)
         (IsPossible sides.now.moments.now) start (length tops.now - 1) }
-    ensures { IfOk result (IsBestFrom sides.now.moments.now start) }
+    requires kept { All (IsFrontOf sides.now.moments.now) kept.items }
+    ensures best { IfOk result (λ both. IsBestFrom sides.now.moments.now start both.0) }
+    ensures fronts { IfOk result (λ both. All (IsFrontOf sides.now.moments.now) both.1.items) }
 {
     let count = tops.len() - 1;
     let end = start + sides.size;
+    let mut fronts = Vec::with_capacity(alloc, tops.len())?;
     let mut front = Front {
         end,
         left: 0,
@@ -94,12 +105,16 @@ pub(crate) fn best_by(
         least: vec![in alloc; 0u128; 1]?,
     };
     for c in (0..count).rev() {
-        front = earlier(alloc, sides, tops[c], &front)?;
+        let next = earlier(alloc, sides, tops[c], &front)?;
+        if let Some(worth) = worth_by(&next, &kept, start, count) {
+            return Ok((Best { count, worth }, kept));
+        }
+        fronts.push(front)?;
+        front = next;
     }
-    Ok(Best {
-        count,
-        worth: front.least[start - front.low],
-    })
+    let worth = front.least[start - front.low];
+    fronts.push(front)?;
+    Ok((Best { count, worth }, fronts))
 }
 
 /// The front before this one, up to `top`.

@@ -7,7 +7,7 @@ use Rattle.least_walk.specs.Inner.Suffix.{WalksOn}
 use Rattle.polygon_optimal.specs.Polygon.{penalty_of}
 use Rattle.cyclic_optimal.specs.declared.first.Best.{Best}
 use Rattle.cyclic_optimal.specs.declared.fronts.Front.{Front}
-use Rattle.cyclic_optimal.specs.declared.fronts.TheConstants.{NONE}
+use Rattle.cyclic_optimal.specs.declared.fronts.TheConstants.{MOST, NONE}
 
 -- the longest possible segment from point i leads to point `last`
 pub record IsLongest (points : List Point) (i last : ℕ) : Type 0 where
@@ -39,6 +39,21 @@ pub record IsFrontOf (points : List Point) (front : Front) : Type 0 where
       → IsLeastBy points front.end front.left i (slice_index front.least.items (i - front.low))
   pub below : (i : ℕ) (r : List ℕ) → i < front.low → WalksOn front.end (IsPossible points) i r → length r ≡ front.left → ⊥
 
+-- a front has the first points of another one, and each of these counts as much more or less than there
+pub record IsMoved (front other : Front) : Type 0 where
+  pub left : front.left ≡ other.left
+  pub low : front.low ≡ other.low
+  pub some : 1 ≤ length front.least.items
+  pub most : length front.least.items ≤ length other.least.items
+  pub each : (k : ℕ) → k < length front.least.items → (slice_index front.least.items k < MOST) × (slice_index other.least.items k < MOST)
+      × (slice_index front.least.items k + slice_index other.least.items 0 ≡ slice_index other.least.items k + slice_index front.least.items 0)
+
+-- a way from point s leads to one of a front's points or before them, where so many segments of `count` are left
+pub record LeadsInto (points : List Point) (s count : ℕ) (front : Front) : Type 0 where
+  pub left : front.left ≤ count
+  pub within : (j : ℕ) (way : List ℕ) → WalksOn j (IsPossible points) s way → length way + front.left ≡ count
+      → j < front.low + length front.least.items
+
 -- the same of the ways from point i whose first segment leads to below `to`
 pub record IsLeastVia (points : List Point) (end count i to least : ℕ) : Type 0 where
   pub bound : (j : ℕ) (r : List ℕ) → j < to → IsPossible points i j → WalksOn end (IsPossible points) j r → length r ≡ count
@@ -51,6 +66,7 @@ pub record AreTops (points : List Point) (start end count : ℕ) (tops : List �
   pub size : length tops ≡ count + 1
   pub first : slice_index tops 0 ≡ start
   pub within : (c : ℕ) → c ≤ count → slice_index tops c ≤ end
+  pub before : (c : ℕ) → c < count → slice_index tops c < end
   pub onwards : (c i j : ℕ) → c < count → i ≤ slice_index tops c → IsPossible points i j → j ≤ end
       → j ≤ slice_index tops (c + 1)
 
