@@ -8,7 +8,8 @@ ghost use Rattle.pt_core.specs.ClosedWalk.{IsClosedWalk};
 ghost use Rattle.pt_core.specs.OnPage.{AreOnPage};
 ghost use Rattle.straight_paths.specs.Straight.{IsPossible};
 ghost use Rattle.least_walk.specs.Inner.Suffix.{IsFewestFrom};
-ghost use Rattle.cyclic_optimal.specs.Inner.First.{IsFirstVertex};
+ghost use Rattle.polygon_optimal.specs.Inner.Lasts.{HasLasts};
+ghost use Rattle.cyclic_optimal.specs.Inner.First.{IsFirstVertex, turned_to};
 ghost use Rattle.cyclic_optimal.specs.Inner.Fronts.{IsBestAmong, IsBestFrom};
 
 use crate::fronts::{best_by, tops};
@@ -20,7 +21,7 @@ use pt_core::{NoMemory, Point};
 use std::alloc::Global;
 
 /// A window of at most so many points is looked through as it stands. There is one behind each corner.
-const FEW: usize = 3;
+const FEW: usize = 8;
 
 /// The number of segments of a way once round, and what they count: 2^32 times their penalties together, and the
 /// number of the first of its points after the path's end.
@@ -30,7 +31,7 @@ pub(crate) struct Best {
     pub worth: u128,
 }
 
-/// The first vertex of the least cyclic polygon.
+/// The first vertex of the least cyclic polygon, and where the longest segments of the path lead that begins there.
 //
 // A path without any corner has wide windows alone. There it is worth while to look for one with few points at which
 // a polygon of fewest segments can begin.
@@ -41,26 +42,37 @@ pub(crate) struct Best {
 // two passes over the points for each binary digit of the number of segments. Tried and left: halving the window by
 // lower bounds, which saved nothing; and lower bounds by two passes over the whole window, which leave fewer searches
 // but look at more pairs themselves; and to write down the penalties that all searches from there ask for, which took
-// longer than to find the few that count. The price: reaches and sums are made twice.
+// longer than to find the few that count. The price: sums are made twice.
 pub(crate) fn first_vertex(
     alloc: Global,
     points: &[Point],
     moments: &Moments,
-) -> Result<u32, NoMemory>
+) -> Result<(u32, Vec<u32>), NoMemory>
     requires closed { IsClosedWalk points.now }
     requires on_page { AreOnPage points.now }
     requires moments { moments.now ≡ points.now }
-    ensures first { IfOk result (IsFirstVertex points.now) }
-    ensures point { IfOk result (λ first. first < length points.now) }
+    ensures first { IfOk result (λ both. IsFirstVertex points.now both.0) }
+    ensures point { IfOk result (λ both. both.0 < length points.now) }
+    ensures lasts { IfOk result (λ both. HasLasts (turned_to both.0 points.now) both.1.items) }
 {
     let sides = WalkSegments::of(alloc, points, moments)?;
-    let narrow = narrowest(&sides);
+    let point = window(alloc, &sides)?;
+    let first = first_after(alloc, &sides, point)?;
+    Ok((first, sides.lasts_from(alloc, first as usize)?))
+}
+
+/// The point behind which a vertex of each cyclic polygon is looked for.
+fn window(alloc: Global, sides: &WalkSegments) -> Result<usize, NoMemory>
+    ensures point { IfOk result (λ point. point < length sides.now.moments.now) }
+    ensures within { IfOk result (λ point. (j : ℕ) → IsPossible sides.now.moments.now point j
+        → j < length sides.now.moments.now) }
+{
+    let narrow = narrowest(sides);
     if sides.last(narrow) - narrow <= FEW {
-        return first_after(alloc, &sides, narrow);
+        return Ok(narrow);
     }
-    let nexts = nexts_round(alloc, &sides, narrow)?;
-    let sparse = sparsest(alloc, &sides, &nexts, narrow)?;
-    first_after(alloc, &sides, sparse)
+    let nexts = nexts_round(alloc, sides, narrow)?;
+    sparsest(alloc, sides, &nexts, narrow)
 }
 
 /// For each point, the nearest one from which the polygon's other segments can lead round to it, where this point has

@@ -1,7 +1,11 @@
 -- Where the least cyclic polygon begins.
-use Rattle.std.specs.Prelude.{◌≡◌, ℕ, ◌≤◌, List, ◌∷◌, length}
+use Rattle.std.specs.Prelude.{◌≡◌, ℕ, ◌≤◌, List, ◌∷◌, ◌++◌, length, take, drop}
 use Rattle.pt_core.specs.declared.point.Point.{Point}
 use Rattle.cyclic_optimal.specs.Cyclic.{IsCyclicPolygon, round_penalty}
+
+-- the points from this one on, and then those before it
+abbrev pub turned_to : ℕ → List Point → List Point
+turned_to first points = drop first points ++ take first points
 
 -- a cyclic polygon begins at this point that has the fewest segments and, of several such, the least penalty; and
 -- none that ties in both begins at an earlier point
