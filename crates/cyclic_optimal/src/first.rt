@@ -33,16 +33,7 @@ pub(crate) struct Best {
 
 /// The first vertex of the least cyclic polygon, and where the longest segments of the path lead that begins there.
 //
-// A path without any corner has wide windows alone. There it is worth while to look for one with few points at which
-// a polygon of fewest segments can begin.
-//
-// The window after the first point could hold thousands of points on a long straight side. The narrowest holds two or
-// three behind each corner. On a disc with a radius of 2,000 pixels it holds 32, of which polygons of fewest segments
-// begin at 29; the sparsest has 15 such points. Where so many longest segments lead tells which points these are, by
-// two passes over the points for each binary digit of the number of segments. Tried and left: halving the window by
-// lower bounds, which saved nothing; and lower bounds by two passes over the whole window, which leave fewer searches
-// but look at more pairs themselves; and to write down the penalties that all searches from there ask for, which took
-// longer than to find the few that count. The price: sums are made twice.
+// The price: sums are made twice.
 pub(crate) fn first_vertex(
     alloc: Global,
     points: &[Point],
@@ -62,6 +53,17 @@ pub(crate) fn first_vertex(
 }
 
 /// The point behind which a vertex of each cyclic polygon is looked for.
+//
+// A path without any corner has wide windows alone. There it is worth while to look for one with few points at which
+// a polygon of fewest segments can begin.
+//
+// The window after the first point could hold thousands of points on a long straight side. The narrowest holds two or
+// three behind each corner. On a disc with a radius of 2,000 pixels it holds 32, of which polygons of fewest segments
+// begin at 29; the sparsest has 15 such points. Where so many longest segments lead tells which points these are, by
+// two passes over the points for each binary digit of the number of segments. Tried and left: halving the window by
+// lower bounds, which saved nothing; and lower bounds by two passes over the whole window, which leave fewer searches
+// but look at more pairs themselves; and to write down the penalties that all searches from there ask for, which took
+// longer than to find the few that count.
 fn window(alloc: Global, sides: &WalkSegments) -> Result<usize, NoMemory>
     ensures point { IfOk result (λ point. point < length sides.now.moments.now) }
     ensures within { IfOk result (λ point. (j : ℕ) → IsPossible sides.now.moments.now point j
