@@ -13,12 +13,14 @@ ghost use Rattle.curve_join.specs.Join.{GoesRound, first_bend, sense_at};
 ghost use Rattle.curve_join.specs.Inner.CutSearch.{AreLeastCosts, IsNotBehind, paid};
 
 use crate::bend::Bend;
+use crate::room::{JoinRoom, with_places};
 use crate::run::{joined_round, round_count};
 use crate::runs::Runs;
 use crate::sense::Sense;
 use least_walk::{Walk, walk_by};
 use pt_core::NoMemory;
 use std::alloc::Global;
+use std::mem::replace;
 
 /// A way on from a piece.
 #[derive(Clone, Copy)]
@@ -48,17 +50,25 @@ impl WayOn {
 }
 
 /// The same as `least` finds.
-pub(crate) fn least_by_runs(alloc: Global, runs: &Runs) -> Result<Walk, NoMemory>
+pub(crate) fn least_by_runs(
+    alloc: Global,
+    runs: &Runs,
+    room: &mut JoinRoom,
+) -> Result<Walk, NoMemory>
     ensures { IfOk result (λ walk. IsLeast (length runs.now.bends.items)
         (MayBeOne runs.now.tol runs.now.bends.items) (run_penalty runs.now.bends.items)
         (walk_from walk.at (length runs.now.bends.items))) }
 {
     let places = runs.bends.len() + 1;
-    let mut counts = vec![in alloc; 0u32; places]?;
-    let mut costs = vec![in alloc; 0u128; places]?;
-    let mut nexts = vec![in alloc; 0u32; places]?;
+    let mut counts = with_places(replace(&mut room.counts, Vec::new(alloc)), places, 0)?;
+    let mut costs = with_places(replace(&mut room.costs, Vec::new(alloc)), places, 0)?;
+    let mut nexts = with_places(replace(&mut room.nexts, Vec::new(alloc)), places, 0)?;
     fill_ways(runs, &mut counts, &mut costs, &mut nexts);
-    walk_by(alloc, runs, &counts, &costs, &nexts)
+    let walk = walk_by(alloc, runs, &counts, &costs, &nexts)?;
+    room.counts = counts;
+    room.costs = costs;
+    room.nexts = nexts;
+    Ok(walk)
 }
 
 /// Writes down the best way on from each piece.

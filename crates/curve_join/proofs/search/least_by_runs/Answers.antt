@@ -20,22 +20,22 @@ walk_by-requires-clause-nexts c =
 
 -- the lists have a place for each piece, and one more
 pub fill_ways-requires-clause-count_places : goal.fill_ways-requires-clause-count_places
-fill_ways-requires-clause-count_places c = omega (arith, c.deref_mut.ensures.len, c.in_ok-counts.ensures.len, c.len-places.ensures)
+fill_ways-requires-clause-count_places c = omega (arith, c.deref_mut.ensures.len, c.in_ok-counts.ensures, c.len-places.ensures)
 
 pub fill_ways-requires-clause-cost_places : goal.fill_ways-requires-clause-cost_places
-fill_ways-requires-clause-cost_places c = omega (arith, c.deref_mut-2.ensures.len, c.in_ok-costs.ensures.len, c.len-places.ensures)
+fill_ways-requires-clause-cost_places c = omega (arith, c.deref_mut-2.ensures.len, c.in_ok-costs.ensures, c.len-places.ensures)
 
 pub fill_ways-requires-clause-next_places : goal.fill_ways-requires-clause-next_places
-fill_ways-requires-clause-next_places c = omega (arith, c.deref_mut-3.ensures.len, c.in_ok-nexts.ensures.len, c.len-places.ensures)
+fill_ways-requires-clause-next_places c = omega (arith, c.deref_mut-3.ensures.len, c.in_ok-nexts.ensures, c.len-places.ensures)
 
 pub walk_by-requires-clause-count_places : goal.walk_by-requires-clause-count_places
-walk_by-requires-clause-count_places c = omega (arith, c.deref.ensures.len, c.in_ok-counts.ensures.len, c.len-places.ensures)
+walk_by-requires-clause-count_places c = omega (arith, c.deref.ensures.len, c.in_ok-counts.ensures, c.len-places.ensures)
 
 pub walk_by-requires-clause-cost_places : goal.walk_by-requires-clause-cost_places
-walk_by-requires-clause-cost_places c = omega (arith, c.deref-2.ensures.len, c.in_ok-costs.ensures.len, c.len-places.ensures)
+walk_by-requires-clause-cost_places c = omega (arith, c.deref-2.ensures.len, c.in_ok-costs.ensures, c.len-places.ensures)
 
 pub walk_by-requires-clause-next_places : goal.walk_by-requires-clause-next_places
-walk_by-requires-clause-next_places c = omega (arith, c.deref-3.ensures.len, c.in_ok-nexts.ensures.len, c.len-places.ensures)
+walk_by-requires-clause-next_places c = omega (arith, c.deref-3.ensures.len, c.in_ok-nexts.ensures, c.len-places.ensures)
 
 pub walk_by-requires-clause-counts : goal.walk_by-requires-clause-counts
 walk_by-requires-clause-counts c =
@@ -61,4 +61,4 @@ pub overflow_add-places : goal.overflow_add-places
 overflow_add-places c = record { fits = omega (arith, c.len-places.ensures, c.args.runs.now.most, c.args.runs.now.bends.ok.0) }
 
 pub returns : goal.returns
-returns c = c.walk_by.ensures.least
+returns c = c.in_ok-walk.ensures.least
