@@ -1,5 +1,5 @@
 -- A run's piece and penalty, which are given where it may be joined.
-use Rattle.std.proofs.Common.{◌≡◌, ℕ, List, Option, None, Some, IfSome, IfNone, ap, ◌∙◌}
+use Rattle.std.proofs.Common.{◌≡◌, ◌≤◌, ℕ, List, Option, None, Some, IfSome, IfNone, ap, ◌∙◌}
 use Rattle.pt_core.specs.declared.piece.Piece.{Piece}
 use Rattle.curve_join.specs.Inner.Conditions.{IsGivenIf}
 use Rattle.curve_join.specs.Join.{MayJoin, joined_piece, penalty_at}
@@ -17,6 +17,12 @@ abbrev pub IsJoinGiven : ℕ → List Bend → Option (Piece × ℕ) → Type 0
 IsJoinGiven tol run found = IsGivenIf {A = Piece × ℕ} (MayJoin tol run) (joined_piece run, penalty_at run) found
 
 module _ (tol : ℕ) (run : List Bend) where
+  -- a limit that no penalty is above refuses nothing
+  pub unlimited : (limit : ℕ) (found : Option (Piece × ℕ)) → (MayJoin tol run → penalty_at run ≤ limit)
+      → IsGivenIf {A = Piece × ℕ} (MayJoin tol run × (penalty_at run ≤ limit)) (joined_piece run, penalty_at run) found → IsJoinGiven tol run found
+  unlimited limit (Some answer) few is = record { holds = is.holds.0; is = is.is }
+  unlimited limit None few is = λ may. is (may, few may)
+
   pub if_some : (found : Option (Piece × ℕ)) → IsJoinGiven tol run found → IfSome found (λ _. MayJoin tol run)
   if_some (Some answer) is = is.holds
   if_some None is = tt

@@ -35,11 +35,14 @@ module _ (bends run : List Bend) (i j : ℕ) (same : run ≡ slice_range bends i
   pub may_be_one : (tol : ℕ) → j ≤ length bends → MayJoin tol run → MayBeOne tol bends i j
   may_be_one tol within may = inr (within, rw same at may)
 
-  pub penalty_is : (piece : Piece) (penalty : ℕ) → ◌≡◌ {A = Piece × ℕ} (piece, penalty) (joined_piece run, penalty_at run) → penalty ≡ run_penalty bends i j
-  penalty_is piece penalty is =
+  pub penalty_of : penalty_at run ≡ run_penalty bends i j
+  penalty_of =
       let other : ¬ (j ≡ i + 1) = λ e. more (omega arith) in
       let choice : nat_eq j (i + 1) ≡ false = grind (arith, nat_tests) in
-      ap (λ both. both.1) is ∙ ap penalty_at same ∙ if_false (nat_eq j (i + 1)) (penalty_at (slice_range bends i j)) choice
+      ap penalty_at same ∙ if_false (nat_eq j (i + 1)) (penalty_at (slice_range bends i j)) choice
+
+  pub penalty_is : (piece : Piece) (penalty : ℕ) → ◌≡◌ {A = Piece × ℕ} (piece, penalty) (joined_piece run, penalty_at run) → penalty ≡ run_penalty bends i j
+  penalty_is piece penalty is = ap (λ both. both.1) is ∙ penalty_of
 
   pub allowed_is : (tol : ℕ) (found : Option (Piece × ℕ)) (answer : Bool) → j ≤ length bends → answer ≡ is_some found → IsJoinGiven tol run found
       → IsTrue answer ↔ MayBeOne tol bends i j

@@ -3,7 +3,7 @@
 //! The best way on from a piece goes by one run to a later piece, and on from there by the best way from that one. So
 //! the ways on are found from the end down, all that is asked of one in one go: how many runs it has, what they cost,
 //! and where the first of them ends.
-ghost use Rattle.std.specs.Prelude.{◌≡◌, ◌+◌, ◌<◌, ◌≤◌, ◌^◌, ◌⊎◌, true, false, length, slice_index, slice_range, All, IfOk};
+ghost use Rattle.std.specs.Prelude.{◌≡◌, ℕ, ◌+◌, ◌<◌, ◌≤◌, ◌^◌, ◌⊎◌, true, false, length, slice_index, slice_range, All, IfOk};
 ghost use Rattle.least_walk.specs.LeastWalk.{IsLeast, walk_from};
 ghost use Rattle.least_walk.specs.Inner.Suffix.{HasCosts, HasFewest, HasNexts, IsFewestFrom, IsLeastCost, IsLeastNext};
 ghost use Rattle.curve_join.specs.Inner.Bends.{IsWorkable};
@@ -171,7 +171,8 @@ fn better(runs: &Runs, from: u32, way: WayOn, best: WayOn) -> WayOn
     if !way.is_before(best) {
         return best;
     }
-    let Some((_, penalty)) = joined_round(runs.tol, &runs.run(from, way.next)) else {
+    let limit = limit_of(way, best);
+    let Some((_, penalty)) = joined_round(runs.tol, &runs.run(from, way.next), limit) else {
         return best;
     };
     let way = WayOn {
@@ -180,4 +181,16 @@ fn better(runs: &Runs, from: u32, way: WayOn, best: WayOn) -> WayOn
         next: way.next,
     };
     if way.is_before(best) { way } else { best }
+}
+
+/// The greatest penalty with which a way on may still come before another one.
+fn limit_of(way: WayOn, best: WayOn) -> u64
+    requires { IsNotBehind way best }
+    ensures { (penalty : ℕ) → penalty < 2 ^ 56 → result < penalty → IsNotBehind best (paid penalty way) }
+{
+    if way.count < best.count {
+        return u64::MAX;
+    }
+    let rest = best.cost - way.cost;
+    rest.min(u128::from(u64::MAX)) as u64
 }

@@ -5,7 +5,7 @@ use Rattle.curve_join.specs.Inner.Bends.{IsWorkable}
 use Rattle.curve_join.specs.Inner.Costs.{joined_small}
 use Rattle.curve_join.specs.Join.{MayJoin, penalty_at}
 use Rattle.curve_join.proofs.Giving.{both_are}
-use Rattle.curve_join.proofs.Joining.{joined_is, may_join, not_covering, not_curved, not_following, penalty_there}
+use Rattle.curve_join.proofs.Joining.{joined_is, may_join, not_curved, penalty_there, pieces_within, sides_within}
 use Rattle.curve_join.proofs.run.joined_round.Goals as goal
 
 -- the curve is the run's, and the run may be joined at this penalty
@@ -14,7 +14,7 @@ module _ (c : goal.After-piece) where
   may =
       may_join c.args.tol c.args.run.now.bends.now c.in-Some.cubic (ap (λ both. both.0) c.in-Some.ensures.given.is) c.sense.result c.sense.ensures
       c.args.run.now.some c.args.run.now.few c.requires.round
-      c.in-Some.ensures.given.holds.0 c.in-Some.ensures.given.holds.1 c.in-Some-sides_penalty.ensures.holds c.in-Some-pieces_penalty.ensures.holds
+      c.in-Some.ensures.given.holds.0 c.in-Some.ensures.given.holds.1 c.in-Some-sides_penalty.ensures.holds.0 c.in-Some-pieces_penalty.ensures.holds.0
 
   penalty_is : c.in-Some-sides_penalty.sides + c.in-Some-pieces_penalty.pieces ≡ penalty_at c.args.run.now.bends.now
   penalty_is =
@@ -22,20 +22,21 @@ module _ (c : goal.After-piece) where
       c.in-Some-sides_penalty.sides c.in-Some-pieces_penalty.pieces c.in-Some-sides_penalty.ensures.is c.in-Some-pieces_penalty.ensures.is
 
 pub returns-in_default : goal.returns-in_default
-returns-in_default c = not_curved c.args.tol c.args.run.now.bends.now c.in_default.ensures.given
+returns-in_default c = λ both. not_curved c.args.tol c.args.run.now.bends.now c.in_default.ensures.given both.0
 
 pub returns-in_default-sides_penalty : goal.returns-in_default-sides_penalty
-returns-in_default-sides_penalty c =
-    not_following c.args.tol c.args.run.now.bends.now c.in-Some.cubic (ap (λ both. both.0) c.in-Some.ensures.given.is) c.in_default-sides_penalty.ensures
+returns-in_default-sides_penalty c = λ both.
+    c.in_default-sides_penalty.ensures (sides_within c.args.tol c.args.run.now.bends.now c.in-Some.cubic (ap (λ both. both.0) c.in-Some.ensures.given.is) c.args.limit both.0 both.1)
 
 pub returns-in_default-pieces_penalty : goal.returns-in_default-pieces_penalty
-returns-in_default-pieces_penalty c =
-    not_covering c.args.tol c.args.run.now.bends.now c.in-Some.cubic (ap (λ both. both.0) c.in-Some.ensures.given.is) c.sense.result c.sense.ensures
+returns-in_default-pieces_penalty c = λ both.
     c.in_default-pieces_penalty.ensures
+    (pieces_within c.args.tol c.args.run.now.bends.now c.in-Some.cubic (ap (λ both. both.0) c.in-Some.ensures.given.is) c.sense.result c.sense.ensures
+    c.in-Some-sides_penalty.sides c.args.limit c.in-Some-sides_penalty.ensures.is both.0 both.1)
 
 pub returns : goal.returns
 returns c = record {
-  holds = may c;
+  holds = (may c, omega (arith, penalty_is c, c.in-Some-sides_penalty.ensures.is, c.in-Some-sides_penalty.ensures.holds.1, c.in-Some-pieces_penalty.ensures.is, c.in-Some-pieces_penalty.ensures.holds.1));
   is = both_are
       (c.piece.ensures ∙ joined_is c.args.run.now.bends.now c.in-Some.cubic c.in-Some.alpha (ap (λ both. both.0) c.in-Some.ensures.given.is) (ap (λ both. both.1) c.in-Some.ensures.given.is))
       (penalty_is c);
@@ -44,11 +45,11 @@ returns c = record {
 pub sides_penalty-requires-clause-small : goal.sides_penalty-requires-clause-small
 sides_penalty-requires-clause-small c = All-take IsWorkable (length c.args.run.now.bends.now - 1) c.args.run.now.bends.now c.args.run.now.small
 
-pub slice_bounds-sides_penalty-count : goal.slice_bounds-sides_penalty-count
-slice_bounds-sides_penalty-count c = omega (arith, c.args.run.now.some)
+pub slice_bounds-inner-count : goal.slice_bounds-inner-count
+slice_bounds-inner-count c = omega (arith, c.args.run.now.some)
 
-pub slice_bounds-sides_penalty-length : goal.slice_bounds-sides_penalty-length
-slice_bounds-sides_penalty-length c = omega (arith, length-take (length c.args.run.now.bends.now - 1) c.args.run.now.bends.now)
+pub slice_bounds-inner-length : goal.slice_bounds-inner-length
+slice_bounds-inner-length c = omega (arith, length-take (length c.args.run.now.bends.now - 1) c.args.run.now.bends.now)
 
 pub sides_penalty-requires-clause-tol : goal.sides_penalty-requires-clause-tol
 sides_penalty-requires-clause-tol c = c.requires.tol

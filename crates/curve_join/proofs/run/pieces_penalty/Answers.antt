@@ -1,14 +1,14 @@
-use Rattle.std.proofs.Common.{ap, ◌∙◌, ◌+◌, refl, sym, subst, take, arith}
+use Rattle.std.proofs.Common.{◌≡◌, ap, ◌∙◌, ◌+◌, refl, sym, subst, take, arith}
 use Rattle.std.proofs.lemmas.List.{take_all, get_or_default}
 use Rattle.std.proofs.lemmas.List.Elements.{AllWithin-more}
-use Rattle.std.proofs.lemmas.List.Sums.{sum_by_more}
+use Rattle.std.proofs.lemmas.List.Sums.{sum_by_more, sum_by-take-le}
 use Rattle.std.specs.Prelude.{sum_by}
 use Rattle.curve_join.specs.Join.{CoversPiece, no_bend, piece_penalty}
 use Rattle.curve_join.proofs.Running.{piece_most, sums_fit}
 use Rattle.curve_join.proofs.run.pieces_penalty.Goals as goal
 
 pub loop-bend-init : goal.loop-bend-init
-loop-bend-init c = record { each = λ k d above below. absurd (omega (arith, below)); total = refl; most = omega arith }
+loop-bend-init c = record { each = λ k d above below. absurd (omega (arith, below)); total = refl; most = omega arith; within = omega arith }
 
 pub offset_bounds-bends-bend-index : goal.offset_bounds-bends-bend-index
 offset_bounds-bends-bend-index c = record { fits = omega (arith, c.loop-bend-test.true, c.requires.few) }
@@ -26,7 +26,7 @@ pub piece_share-requires-clause-small : goal.piece_share-requires-clause-small
 piece_share-requires-clause-small c = c.requires.small _ _ c.loop-bend-test.true
 
 pub returns-in_default : goal.returns-in_default
-returns-in_default c = λ all. c.in_default.ensures (all _ _ c.loop-bend-test.true)
+returns-in_default c = λ both. c.in_default.ensures (both.0 _ _ c.loop-bend-test.true)
 
 pub overflow_add-total : goal.overflow_add-total
 overflow_add-total c = record { fits = sums_fit c.loop-bend.bend-index c.loop-bend.total c.in-Some.penalty _ c.loop-bend-test.true c.requires.few c.loop-bend.invariant.most (piece_most c.requires.tol c.in-Some.ensures) }
@@ -47,10 +47,25 @@ loop-bend-preserved c = let so_far = c.loop-bend.invariant in
           ∙ ap (λ n. sum_by (piece_penalty sense cubic) (take i bends) + n) c.in-Some.ensures.is
           ∙ sym (sum_by_more (piece_penalty sense cubic) bends i no_bend here);
       most = omega (arith, most, most-2);
+      within = omega (arith, c.if-limit-total.false);
     }
 
+pub returns-then-limit-total : goal.returns-then-limit-total
+returns-then-limit-total c = λ both.
+    let i = c.loop-bend.bend-index in
+    let bends = c.args.bends.now in
+    let share = piece_penalty c.args.sense c.args.cubic.now in
+    let so_far = sum_by_more share bends i no_bend c.loop-bend-test.true in
+    omega (arith, both.1, c.loop-bend.invariant.total, c.in-Some.ensures.is, so_far, sum_by-take-le share bends (i + 1), c.if-limit-total.true)
+
 pub returns : goal.returns
-returns c = record {
-  holds = λ k d within. c.loop-bend.invariant.each k d (omega arith) (omega (arith, within, c.loop-bend-test.false));
-  is = c.loop-bend.invariant.total ∙ ap (λ bends. sum_by (piece_penalty c.args.sense c.args.cubic.now) bends) (take_all c.loop-bend.bend-index c.args.bends.now c.loop-bend-test.false);
-}
+returns c =
+    let bends = c.args.bends.now in
+    let total : c.loop-bend.total ≡ sum_by (piece_penalty c.args.sense c.args.cubic.now) bends = c.loop-bend.invariant.total ∙ ap (λ bends. sum_by (piece_penalty c.args.sense c.args.cubic.now) bends) (take_all c.loop-bend.bend-index bends c.loop-bend-test.false) in
+    record {
+      holds = (
+        λ k d within. c.loop-bend.invariant.each k d (omega arith) (omega (arith, within, c.loop-bend-test.false)),
+        omega (arith, total, c.loop-bend.invariant.within),
+      );
+      is = total;
+    }

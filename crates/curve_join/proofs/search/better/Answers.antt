@@ -1,7 +1,10 @@
-use Rattle.std.proofs.Common.{◌≡◌, ℕ, ◌+◌, ◌-◌, ◌<◌, inr, refl, ap, ◌∙◌, subst, arith, inl}
+use Rattle.std.proofs.Common.{◌≡◌, ℕ, ◌+◌, ◌-◌, ◌<◌, ◌≤◌, inr, refl, ap, ◌∙◌, subst, arith, inl}
 use Rattle.curve_join.specs.Inner.CutSearch.{IsNotBehind, paid}
 use Rattle.curve_join.specs.declared.search.WayOn.{WayOn}
-use Rattle.curve_join.proofs.Slices.{joinable, may_be_one, penalty_is}
+use Rattle.std.proofs.lemmas.Bool.{cases_lt}
+use Rattle.curve_join.specs.Inner.Costs.{joined_small}
+use Rattle.curve_join.specs.Join.{penalty_at}
+use Rattle.curve_join.proofs.Slices.{joinable, may_be_one, penalty_is, penalty_of}
 use Rattle.curve_join.proofs.search.better.Goals as goal
 
 not_single : (i j : ℕ) → i + 1 < j → ¬ (j - i ≡ 1)
@@ -27,8 +30,22 @@ paid_same way n m e = subst (λ k. IsNotBehind (paid n way) (paid k way)) e (no_
 pub returns-then-not-is_before-clause-run : goal.returns-then-not-is_before-clause-run
 returns-then-not-is_before-clause-run c = λ may. behind_paid c.args.best c.args.way _ (c.if-not-is_before.ensures.not refl)
 
+-- what is refused for its penalty comes behind
+above : (n m : ℕ) → ¬ (n ≤ m) → m < n
+above n m not = elim (cases_lt m n) [ inl more ↦ more | inr few ↦ absurd (not few) ]
+
+pub limit_of-limit-requires : goal.limit_of-limit-requires
+limit_of-limit-requires c = c.if-not-is_before.ensures.before refl
+
 pub returns-in_default-clause-run : goal.returns-in_default-clause-run
-returns-in_default-clause-run c = λ may. absurd (c.in_default.ensures (joinable c.args.runs.now.bends.items c.run.result.bends.now c.args.from c.args.way.next c.run.ensures (not_single c.args.from c.args.way.next c.requires.onwards) c.args.runs.now.tol may))
+returns-in_default-clause-run c = λ may.
+    let run = c.run.result.bends.now in
+    let tol = c.args.runs.now.tol in
+    let single = not_single c.args.from c.args.way.next c.requires.onwards in
+    let joins = joinable c.args.runs.now.bends.items run c.args.from c.args.way.next c.run.ensures single tol may in
+    let dear = above (penalty_at run) c.limit_of-limit.result (λ few. c.in_default.ensures (joins, few)) in
+    subst (λ n. IsNotBehind c.args.best (paid n c.args.way)) (penalty_of c.args.runs.now.bends.items run c.args.from c.args.way.next c.run.ensures single)
+    (c.limit_of-limit.ensures (penalty_at run) (joined_small tol c.args.runs.now.tolerance run joins) dear)
 
 pub returns-then-is_before-clause-run : goal.returns-then-is_before-clause-run
 returns-then-is_before-clause-run c = λ may. paid_same c.args.way _ _ (c.from.ensures ∙ penalty_is c.args.runs.now.bends.items c.run.result.bends.now c.args.from c.args.way.next c.run.ensures (not_single c.args.from c.args.way.next c.requires.onwards) _ c.in-Some.penalty c.in-Some.ensures.is)
@@ -36,7 +53,7 @@ returns-then-is_before-clause-run c = λ may. paid_same c.args.way _ _ (c.from.e
 pub returns-then-is_before-clause-one : goal.returns-then-is_before-clause-one
 returns-then-is_before-clause-one c =
     inr (
-      may_be_one c.args.runs.now.bends.items c.run.result.bends.now c.args.from c.args.way.next c.run.ensures (not_single c.args.from c.args.way.next c.requires.onwards) c.args.runs.now.tol c.requires.within c.in-Some.ensures.holds,
+      may_be_one c.args.runs.now.bends.items c.run.result.bends.now c.args.from c.args.way.next c.run.ensures (not_single c.args.from c.args.way.next c.requires.onwards) c.args.runs.now.tol c.requires.within c.in-Some.ensures.holds.0,
       ap (λ n. paid n c.args.way) (c.from.ensures ∙ penalty_is c.args.runs.now.bends.items c.run.result.bends.now c.args.from c.args.way.next c.run.ensures (not_single c.args.from c.args.way.next c.requires.onwards) _ c.in-Some.penalty c.in-Some.ensures.is),
     )
 
