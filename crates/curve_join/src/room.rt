@@ -1,8 +1,8 @@
 //! Room for the lists that joining an outline takes.
-ghost use Rattle.std.specs.Prelude.{◌≡◌, IfOk, length};
+ghost use Rattle.std.specs.Prelude.{◌≡◌, All, IfOk, length};
 
 use crate::bend::Bend;
-use pt_core::NoMemory;
+use pt_core::{NoMemory, Piece, Point};
 use std::alloc::Global;
 
 /// Lists that are kept from one outline to the next.
@@ -15,6 +15,7 @@ pub struct JoinRoom {
     pub(crate) counts: Vec<u32>,
     pub(crate) costs: Vec<u128>,
     pub(crate) nexts: Vec<u32>,
+    pub(crate) joined: Vec<JoinedRun>,
 }
 
 impl JoinRoom {
@@ -26,8 +27,35 @@ impl JoinRoom {
             counts: Vec::new(alloc),
             costs: Vec::new(alloc),
             nexts: Vec::new(alloc),
+            joined: Vec::new(alloc),
         }
     }
+}
+
+/// A run and the piece that it becomes.
+#[derive(Clone, Copy, Drop)]
+pub(crate) struct JoinedRun {
+    /// Where the run ends; 0 where none was found.
+    pub to: u32,
+    pub piece: Piece,
+}
+
+/// A list of so many places in which no run stands.
+pub(crate) fn without_runs(
+    mut list: Vec<JoinedRun>,
+    places: usize,
+) -> Result<Vec<JoinedRun>, NoMemory>
+    ensures places { IfOk result (λ list. length list.items ≡ places) }
+    ensures none { IfOk result (λ list. All (λ run. run.to ≡ 0) list.items) }
+{
+    let origin = Point { x: 0, y: 0 };
+    let piece = Piece::Corner {
+        at: origin,
+        end: origin,
+    };
+    list.clear();
+    list.resize(places, JoinedRun { to: 0, piece })?;
+    Ok(list)
 }
 
 /// A list of so many places, whatever stands there.

@@ -3,17 +3,17 @@
 //! The best way on from a piece goes by one run to a later piece, and on from there by the best way from that one. So
 //! the ways on are found from the end down, all that is asked of one in one go: how many runs it has, what they cost,
 //! and where the first of them ends.
-ghost use Rattle.std.specs.Prelude.{◌≡◌, ℕ, ◌+◌, ◌<◌, ◌≤◌, ◌^◌, ◌⊎◌, true, false, length, slice_index, slice_range, All, IfOk};
+ghost use Rattle.std.specs.Prelude.{◌≡◌, ℕ, ◌+◌, ◌<◌, ◌≤◌, ◌^◌, ◌⊎◌, true, false, length, slice_index, slice_range, All, IfOk, OnOk};
 ghost use Rattle.least_walk.specs.LeastWalk.{IsLeast, walk_from};
 ghost use Rattle.least_walk.specs.Inner.Suffix.{HasCosts, HasFewest, HasNexts, IsFewestFrom, IsLeastCost, IsLeastNext};
 ghost use Rattle.curve_join.specs.Inner.Bends.{IsWorkable};
 ghost use Rattle.curve_join.specs.Inner.Choice.{IsLastRun};
 ghost use Rattle.curve_join.specs.Choice.{MayBeOne, run_penalty};
 ghost use Rattle.curve_join.specs.Join.{GoesRound, first_bend, sense_at};
-ghost use Rattle.curve_join.specs.Inner.CutSearch.{AreLeastCosts, IsNotBehind, paid};
+ghost use Rattle.curve_join.specs.Inner.CutSearch.{AreJoinedRuns, AreLeastCosts, IsJoinedRun, IsNotBehind, paid};
 
 use crate::bend::Bend;
-use crate::room::{JoinRoom, with_places};
+use crate::room::{JoinRoom, JoinedRun, with_places, without_runs};
 use crate::run::{joined_round, round_count};
 use crate::runs::Runs;
 use crate::sense::Sense;
@@ -55,16 +55,20 @@ pub(crate) fn least_by_runs(
     runs: &Runs,
     room: &mut JoinRoom,
 ) -> Result<Walk, NoMemory>
-    ensures { IfOk result (λ walk. IsLeast (length runs.now.bends.items)
+    ensures least { IfOk result (λ walk. IsLeast (length runs.now.bends.items)
         (MayBeOne runs.now.tol runs.now.bends.items) (run_penalty runs.now.bends.items)
         (walk_from walk.at (length runs.now.bends.items))) }
+    ensures places { OnOk result (length room.new.joined.items ≡ length runs.now.bends.items + 1) }
+    ensures joined { OnOk result (AreJoinedRuns runs.now.bends.items room.new.joined.items) }
 {
     let places = runs.bends.len() + 1;
     let mut counts = with_places(replace(&mut room.counts, Vec::new(alloc)), places, 0)?;
     let mut costs = with_places(replace(&mut room.costs, Vec::new(alloc)), places, 0)?;
     let mut nexts = with_places(replace(&mut room.nexts, Vec::new(alloc)), places, 0)?;
-    fill_ways(runs, &mut counts, &mut costs, &mut nexts);
+    let mut joined = without_runs(replace(&mut room.joined, Vec::new(alloc)), places)?;
+    fill_ways(runs, &mut counts, &mut costs, &mut nexts, &mut joined);
     let walk = walk_by(alloc, runs, &counts, &costs, &nexts)?;
+    room.joined = joined;
     room.counts = counts;
     room.costs = costs;
     room.nexts = nexts;
@@ -72,22 +76,31 @@ pub(crate) fn least_by_runs(
 }
 
 /// Writes down the best way on from each piece.
-fn fill_ways(runs: &Runs, counts: &mut [u32], costs: &mut [u128], nexts: &mut [u32])
+fn fill_ways(
+    runs: &Runs,
+    counts: &mut [u32],
+    costs: &mut [u128],
+    nexts: &mut [u32],
+    joined: &mut [JoinedRun],
+)
     requires count_places { length counts.old ≡ length runs.now.bends.items + 1 }
     requires cost_places { length costs.old ≡ length runs.now.bends.items + 1 }
     requires next_places { length nexts.old ≡ length runs.now.bends.items + 1 }
+    requires joined_places { length joined.old ≡ length runs.now.bends.items + 1 }
+    requires none { All (λ run. run.to ≡ 0) joined.old }
     ensures counts { HasFewest (length runs.now.bends.items) (MayBeOne runs.now.tol runs.now.bends.items)
         0 counts.new }
     ensures costs { HasCosts (length runs.now.bends.items) (MayBeOne runs.now.tol runs.now.bends.items)
         (run_penalty runs.now.bends.items) 0 costs.new }
     ensures nexts { HasNexts (length runs.now.bends.items) (MayBeOne runs.now.tol runs.now.bends.items)
         (run_penalty runs.now.bends.items) 0 nexts.new }
+    ensures joined { AreJoinedRuns runs.now.bends.items joined.new }
 {
     let size = runs.bends.len();
     counts[size] = 0;
     costs[size] = 0;
     for from in (0..size).rev() {
-        let way = best_from(runs, from as u32, counts, costs);
+        let way = best_from(runs, from as u32, counts, costs, &mut joined[from]);
         counts[from] = way.count;
         costs[from] = way.cost;
         nexts[from] = way.next;
@@ -98,7 +111,13 @@ fn fill_ways(runs: &Runs, counts: &mut [u32], costs: &mut [u128], nexts: &mut [u
 //
 // The farthest run comes first: from there the fewest are left in most cases, and then the nearer ones are out by
 // their counts alone.
-fn best_from(runs: &Runs, from: u32, counts: &[u32], costs: &[u128]) -> WayOn
+fn best_from(
+    runs: &Runs,
+    from: u32,
+    counts: &[u32],
+    costs: &[u128],
+    joined: &mut JoinedRun,
+) -> WayOn
     requires from { from < length runs.now.bends.items }
     requires count_places { length counts.now ≡ length runs.now.bends.items + 1 }
     requires cost_places { length costs.now ≡ length runs.now.bends.items + 1 }
@@ -106,17 +125,19 @@ fn best_from(runs: &Runs, from: u32, counts: &[u32], costs: &[u128]) -> WayOn
         (from + 1) counts.now }
     requires costs { AreLeastCosts (length runs.now.bends.items)
         (MayBeOne runs.now.tol runs.now.bends.items) (run_penalty runs.now.bends.items) (from + 1) costs.now }
+    requires joined { IsJoinedRun runs.now.bends.items from joined.old }
     ensures count { IsFewestFrom (length runs.now.bends.items)
         (MayBeOne runs.now.tol runs.now.bends.items) from result.count }
     ensures cost { IsLeastCost (length runs.now.bends.items) (MayBeOne runs.now.tol runs.now.bends.items)
         (run_penalty runs.now.bends.items) from result.cost }
     ensures next { IsLeastNext (length runs.now.bends.items) (MayBeOne runs.now.tol runs.now.bends.items)
         (run_penalty runs.now.bends.items) from result.next }
+    ensures joined { IsJoinedRun runs.now.bends.items from joined.new }
 {
     let last = last_from(&runs.bends, from as usize);
     let mut best = way_by(counts, costs, from + 1);
     for to in (from + 2..last + 1).rev() {
-        best = better(runs, from, way_by(counts, costs, to), best);
+        best = better(runs, from, way_by(counts, costs, to), best, joined);
     }
     best
 }
@@ -150,10 +171,11 @@ fn way_by(counts: &[u32], costs: &[u128], to: u32) -> WayOn
     }
 }
 
-/// The way on by a run, of which `way` lacks the penalty, where it comes before the best one so far.
+/// The way on by a run, of which `way` lacks the penalty, where it comes before the best one so far; then the run
+/// becomes `joined`.
 //
 // What comes behind that one without the penalty already is out before the run is looked at.
-fn better(runs: &Runs, from: u32, way: WayOn, best: WayOn) -> WayOn
+fn better(runs: &Runs, from: u32, way: WayOn, best: WayOn, joined: &mut JoinedRun) -> WayOn
     requires from { from < length runs.now.bends.items }
     requires onwards { from + 1 < way.next }
     requires within { way.next ≤ length runs.now.bends.items }
@@ -162,17 +184,19 @@ fn better(runs: &Runs, from: u32, way: WayOn, best: WayOn) -> WayOn
         (first_bend (slice_range runs.now.bends.items from way.next)).arrives)
         (slice_range runs.now.bends.items from way.next) }
     requires small { way.cost < 2 ^ 88 }
+    requires joined { IsJoinedRun runs.now.bends.items from joined.old }
     ensures one { (result ≡ best) ⊎ (MayBeOne runs.now.tol runs.now.bends.items from way.next
         × (result ≡ paid (run_penalty runs.now.bends.items from way.next) way)) }
     ensures best { IsNotBehind result best }
     ensures run { MayBeOne runs.now.tol runs.now.bends.items from way.next
         → IsNotBehind result (paid (run_penalty runs.now.bends.items from way.next) way) }
+    ensures joined { IsJoinedRun runs.now.bends.items from joined.new }
 {
     if !way.is_before(best) {
         return best;
     }
     let limit = limit_of(way, best);
-    let Some((_, penalty)) = joined_round(runs.tol, &runs.run(from, way.next), limit) else {
+    let Some((piece, penalty)) = joined_round(runs.tol, &runs.run(from, way.next), limit) else {
         return best;
     };
     let way = WayOn {
@@ -180,7 +204,14 @@ fn better(runs: &Runs, from: u32, way: WayOn, best: WayOn) -> WayOn
         cost: way.cost + u128::from(penalty),
         next: way.next,
     };
-    if way.is_before(best) { way } else { best }
+    if !way.is_before(best) {
+        return best;
+    }
+    *joined = JoinedRun {
+        to: way.next,
+        piece,
+    };
+    way
 }
 
 /// The greatest penalty with which a way on may still come before another one.

@@ -1,6 +1,9 @@
 -- What the search for the best cut of an outline knows of the ways on from its pieces.
-use Rattle.std.specs.Prelude.{◌≡◌, ℕ, ◌+◌, ◌≤◌, List, slice_index}
+use Rattle.std.specs.Prelude.{◌≡◌, ℕ, ◌+◌, ◌<◌, ◌≤◌, List, length, slice_index, slice_index_or, slice_range}
 use Rattle.least_walk.specs.Inner.Suffix.{IsLeastCost}
+use Rattle.curve_join.specs.Join.{joined_piece}
+use Rattle.curve_join.specs.declared.bend.Bend.{Bend}
+use Rattle.curve_join.specs.declared.room.JoinedRun.{JoinedRun}
 use Rattle.curve_join.specs.declared.search.WayOn.{WayOn}
 
 -- the first way on doesn't come behind the second: by its number of runs, then by what they cost, then by where the
@@ -18,3 +21,11 @@ paid penalty way = record { count = way.count; cost = way.cost + penalty; next =
 abbrev pub AreLeastCosts : ℕ → (ℕ → ℕ → Type 0) → (ℕ → ℕ → ℕ) → ℕ → List ℕ → Type 0
 AreLeastCosts size is_allowed cost low costs = (k : ℕ) → low ≤ k → k ≤ size
     → IsLeastCost size is_allowed cost k (slice_index costs k)
+
+-- the run that begins here, if it has several pieces, becomes this piece
+abbrev pub IsJoinedRun : List Bend → ℕ → JoinedRun → Type 0
+IsJoinedRun bends i run = i + 1 < run.to → run.piece ≡ joined_piece (slice_range bends i run.to)
+
+-- so it is at each index
+abbrev pub AreJoinedRuns : List Bend → List JoinedRun → Type 0
+AreJoinedRuns bends runs = (k : ℕ) (d : JoinedRun) → k < length runs → IsJoinedRun bends k (slice_index_or runs k d)

@@ -36,12 +36,15 @@ loop-to-init c =
     let P : ℕ → Type 0 = λ m. best ≡ way_to (run_penalty bends) c.args.counts.now c.args.costs.now from m in
     subst P (sym e) (way_is best _ is.count (omega (arith, is.cost, alone (from + 1) refl)) is.next) in
     record {
-      way = (omega (arith, is.next), omega (arith, is.next, c.requires.from), inl is.next, next best.next is.next);
-      least = λ k above seen within allowed. elim seen [
-        | inl nearest ↦ subst (IsNotBehind best) (next k nearest) (up_to_itself best)
-        | inr far ↦
-            absurd (omega (arith, last.all runs.tol k allowed))
-      ];
+      best = record {
+        way = (omega (arith, is.next), omega (arith, is.next, c.requires.from), inl is.next, next best.next is.next);
+        least = λ k above seen within allowed. elim seen [
+          | inl nearest ↦ subst (IsNotBehind best) (next k nearest) (up_to_itself best)
+          | inr far ↦
+              absurd (omega (arith, last.all runs.tol k allowed))
+        ];
+      };
+      joined = c.requires.joined;
     }
 
 pub overflow_step-to : goal.overflow_step-to
@@ -101,30 +104,33 @@ loop-to-preserved c =
     let last = subst (λ b. IsLastRun b c.args.from c.last_from-last.result) c.deref.ensures.value c.last_from-last.ensures in
     let is = c.way_by.ensures in
     let one = c.better-best.ensures in
-    best_more (length bends) (MayBeOne runs.tol bends) (run_penalty bends) c.args.counts.now c.args.costs.now c.args.from (c.loop-to.to - 1) c.loop-to.to
-    c.way_by.result c.loop-to.best c.better-best.result (omega arith) (omega (arith, last.within)) (omega arith)
-    is.count is.cost is.next one.one one.best one.run c.loop-to.invariant
+    record {
+      best = best_more (length bends) (MayBeOne runs.tol bends) (run_penalty bends) c.args.counts.now c.args.costs.now c.args.from (c.loop-to.to - 1) c.loop-to.to
+          c.way_by.result c.loop-to.best c.better-best.result (omega arith) (omega (arith, last.within)) (omega arith)
+          is.count is.cost is.next one.one one.best one.run c.loop-to.invariant.best;
+      joined = one.joined;
+    }
 
 pub returns-clause-count : goal.returns-clause-count
 returns-clause-count c =
     let runs = c.args.runs.now in
     let bends = runs.bends.items in
     fewest_there (length bends) (MayBeOne runs.tol bends) (run_penalty bends) c.args.counts.now c.args.costs.now c.args.from c.loop-to.to c.loop-to.best
-    c.requires.from (omega arith) (omega arith) c.requires.fewest c.requires.costs c.loop-to.invariant
+    c.requires.from (omega arith) (omega arith) c.requires.fewest c.requires.costs c.loop-to.invariant.best
 
 pub returns-clause-cost : goal.returns-clause-cost
 returns-clause-cost c =
     let runs = c.args.runs.now in
     let bends = runs.bends.items in
     cost_there (length bends) (MayBeOne runs.tol bends) (run_penalty bends) c.args.counts.now c.args.costs.now c.args.from c.loop-to.to c.loop-to.best
-    c.requires.from (omega arith) (omega arith) c.requires.fewest c.requires.costs c.loop-to.invariant
+    c.requires.from (omega arith) (omega arith) c.requires.fewest c.requires.costs c.loop-to.invariant.best
 
 pub returns-clause-next : goal.returns-clause-next
 returns-clause-next c =
     let runs = c.args.runs.now in
     let bends = runs.bends.items in
     next_there (length bends) (MayBeOne runs.tol bends) (run_penalty bends) c.args.counts.now c.args.costs.now c.args.from c.loop-to.to c.loop-to.best
-    c.requires.from (omega arith) (omega arith) c.requires.fewest c.requires.costs c.loop-to.invariant
+    c.requires.from (omega arith) (omega arith) c.requires.fewest c.requires.costs c.loop-to.invariant.best
 
 pub last_from-last-requires-clause-small : goal.last_from-last-requires-clause-small
 last_from-last-requires-clause-small c = let P : List Bend → Type 0 = λ bends. All IsWorkable bends in

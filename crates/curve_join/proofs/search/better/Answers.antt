@@ -3,7 +3,7 @@ use Rattle.curve_join.specs.Inner.CutSearch.{IsNotBehind, paid}
 use Rattle.curve_join.specs.declared.search.WayOn.{WayOn}
 use Rattle.std.proofs.lemmas.Bool.{cases_lt}
 use Rattle.curve_join.specs.Inner.Costs.{joined_small}
-use Rattle.curve_join.specs.Join.{penalty_at}
+use Rattle.curve_join.specs.Join.{joined_piece, penalty_at}
 use Rattle.curve_join.proofs.Slices.{joinable, may_be_one, penalty_is, penalty_of}
 use Rattle.curve_join.proofs.search.better.Goals as goal
 
@@ -47,11 +47,11 @@ returns-in_default-clause-run c = λ may.
     subst (λ n. IsNotBehind c.args.best (paid n c.args.way)) (penalty_of c.args.runs.now.bends.items run c.args.from c.args.way.next c.run.ensures single)
     (c.limit_of-limit.ensures (penalty_at run) (joined_small tol c.args.runs.now.tolerance run joins) dear)
 
-pub returns-then-is_before-clause-run : goal.returns-then-is_before-clause-run
-returns-then-is_before-clause-run c = λ may. paid_same c.args.way _ _ (c.from.ensures ∙ penalty_is c.args.runs.now.bends.items c.run.result.bends.now c.args.from c.args.way.next c.run.ensures (not_single c.args.from c.args.way.next c.requires.onwards) _ c.in-Some.penalty c.in-Some.ensures.is)
+pub returns-clause-run : goal.returns-clause-run
+returns-clause-run c = λ may. paid_same c.args.way _ _ (c.from.ensures ∙ penalty_is c.args.runs.now.bends.items c.run.result.bends.now c.args.from c.args.way.next c.run.ensures (not_single c.args.from c.args.way.next c.requires.onwards) _ c.in-Some.penalty c.in-Some.ensures.is)
 
-pub returns-then-is_before-clause-one : goal.returns-then-is_before-clause-one
-returns-then-is_before-clause-one c =
+pub returns-clause-one : goal.returns-clause-one
+returns-clause-one c =
     inr (
       may_be_one c.args.runs.now.bends.items c.run.result.bends.now c.args.from c.args.way.next c.run.ensures (not_single c.args.from c.args.way.next c.requires.onwards) c.args.runs.now.tol c.requires.within c.in-Some.ensures.holds.0,
       ap (λ n. paid n c.args.way) (c.from.ensures ∙ penalty_is c.args.runs.now.bends.items c.run.result.bends.now c.args.from c.args.way.next c.run.ensures (not_single c.args.from c.args.way.next c.requires.onwards) _ c.in-Some.penalty c.in-Some.ensures.is),
@@ -63,8 +63,8 @@ returns-then-not-is_before-clause-best c = no_worse c.args.best
 pub returns-in_default-clause-best : goal.returns-in_default-clause-best
 returns-in_default-clause-best c = no_worse c.args.best
 
-pub returns-else-is_before-clause-best : goal.returns-else-is_before-clause-best
-returns-else-is_before-clause-best c = no_worse c.args.best
+pub returns-then-not-is_before-2-clause-best : goal.returns-then-not-is_before-2-clause-best
+returns-then-not-is_before-2-clause-best c = no_worse c.args.best
 
 pub returns-then-not-is_before-clause-one : goal.returns-then-not-is_before-clause-one
 returns-then-not-is_before-clause-one c = inl refl
@@ -75,13 +75,16 @@ joined_round-requires-clause-tol c = c.args.runs.now.tolerance
 pub returns-in_default-clause-one : goal.returns-in_default-clause-one
 returns-in_default-clause-one c = inl refl
 
-pub returns-then-is_before-clause-best : goal.returns-then-is_before-clause-best
-returns-then-is_before-clause-best c = c.if-is_before.ensures.before refl
+pub returns-clause-best : goal.returns-clause-best
+returns-clause-best c = c.if-not-is_before-2.ensures.before refl
 
-pub returns-else-is_before-clause-one : goal.returns-else-is_before-clause-one
-returns-else-is_before-clause-one c = inl refl
+pub returns-then-not-is_before-2-clause-one : goal.returns-then-not-is_before-2-clause-one
+returns-then-not-is_before-2-clause-one c = inl refl
 
-pub returns-else-is_before-clause-run : goal.returns-else-is_before-clause-run
-returns-else-is_before-clause-run c = λ may. subst (λ n. IsNotBehind c.args.best (paid n c.args.way))
+pub returns-then-not-is_before-2-clause-run : goal.returns-then-not-is_before-2-clause-run
+returns-then-not-is_before-2-clause-run c = λ may. subst (λ n. IsNotBehind c.args.best (paid n c.args.way))
     (c.from.ensures ∙ penalty_is c.args.runs.now.bends.items c.run.result.bends.now c.args.from c.args.way.next c.run.ensures (not_single c.args.from c.args.way.next c.requires.onwards) _ c.in-Some.penalty c.in-Some.ensures.is)
-    (c.if-is_before.ensures.not refl)
+    (c.if-not-is_before-2.ensures.not refl)
+
+pub returns-clause-joined : goal.returns-clause-joined
+returns-clause-joined c = λ onwards. ap (λ both. both.0) c.in-Some.ensures.is ∙ ap joined_piece c.run.ensures

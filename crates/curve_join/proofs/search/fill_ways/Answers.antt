@@ -1,12 +1,26 @@
-use Rattle.std.proofs.Common.{◌≡◌, ℕ, ◌+◌, ◌-◌, length, set, get_or, get_or-set_same, sym, subst, arith}
-use Rattle.std.proofs.lemmas.List.{length-set}
+use Rattle.std.proofs.Common.{◌≡◌, ℕ, ◌+◌, ◌-◌, List, inl, inr, length, set, get_or, get_or-set_same, sym, subst, arith}
+use Rattle.std.proofs.lemmas.Bool.{cases_eq}
+use Rattle.std.proofs.lemmas.List.{get_or-set_other, length-set}
 use Rattle.least_walk.specs.Inner.Suffix.{HasFewest, HasNexts, IsFewestFrom}
 use Rattle.least_walk.proofs.Filling.{nexts_more}
 use Rattle.least_walk.proofs.Onward.{cost_at_end}
 use Rattle.curve_join.proofs.Ways.{counts_more, none_left, spent_more}
 use Rattle.curve_join.specs.Choice.{MayBeOne, run_penalty}
-use Rattle.curve_join.specs.Inner.CutSearch.{AreLeastCosts}
+use Rattle.curve_join.specs.Inner.CutSearch.{AreJoinedRuns, AreLeastCosts, IsJoinedRun}
+use Rattle.curve_join.specs.declared.bend.Bend.{Bend}
+use Rattle.curve_join.specs.declared.room.JoinedRun.{JoinedRun}
 use Rattle.curve_join.proofs.search.fill_ways.Goals as goal
+
+-- one more run
+run_more : (bends : List Bend) (i : ℕ) (runs : List JoinedRun) (run : JoinedRun) → AreJoinedRuns bends runs → IsJoinedRun bends i run → AreJoinedRuns bends (set runs i run)
+run_more bends i runs run so_far one k d within =
+    let all = length-set runs i run in
+    elim (cases_eq i k) [
+      | inl here ↦
+          let P : ℕ → Type 0 = λ m. IsJoinedRun bends m (get_or (set runs i run) m d) in
+          subst P here (subst (IsJoinedRun bends i) (sym (get_or-set_same runs i run d (omega arith))) one)
+      | inr there ↦ subst (IsJoinedRun bends k) (sym (get_or-set_other runs i k run d (λ e. there (sym e)))) (so_far k d (omega arith))
+    ]
 
 -- from the end on no run is left, and nothing to pay
 pub loop-from-init : goal.loop-from-init
@@ -29,6 +43,7 @@ loop-from-init c =
           let nothing = subst (λ m. get_or costs m 0 ≡ 0) here (get_or-set_same c.args.costs.now size 0 0 (omega arith)) in
           cost_at_end (length bends) (MayBeOne runs.tol bends) (run_penalty bends) k (get_or costs k 0) (omega arith) nothing;
       nexts = λ k above below place. let none : ⊥ = omega arith in elim none [ ];
+      joined = λ k d within onwards. absurd (omega (arith, onwards, c.requires.none k d within));
     }
 
 pub loop-from-preserved : goal.loop-from-preserved
@@ -49,6 +64,7 @@ loop-from-preserved c =
       nexts = nexts_more (length bends) (MayBeOne runs.tol bends) (run_penalty bends) i c.loop-from.nexts c.best_from-way.result.next
           (omega (arith, c.loop-from.auto.nexts))
           (subst (λ n. HasNexts (length bends) (MayBeOne runs.tol bends) (run_penalty bends) n c.loop-from.nexts) low so_far.nexts) one.next;
+      joined = run_more bends i c.loop-from.joined c.best_from-way.new.joined so_far.joined one.joined;
     }
 
 pub overflow_step-from : goal.overflow_step-from

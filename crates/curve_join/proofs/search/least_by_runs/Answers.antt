@@ -1,11 +1,14 @@
 use Rattle.std.proofs.Common.{◌≡◌, ℕ, List, ◌++◌, length, take, sym, ap, ◌∙◌, subst, arith}
 use Rattle.std.proofs.Math.Seq.{take-append_seam}
 use Rattle.least_walk.specs.Inner.Suffix.{HasCosts, HasFewest, HasNexts}
+use Rattle.std.specs.List.{All}
 use Rattle.curve_join.specs.Choice.{MayBeOne, run_penalty}
+use Rattle.curve_join.specs.Inner.CutSearch.{AreJoinedRuns}
+use Rattle.curve_join.specs.declared.room.JoinedRun.{JoinedRun}
 use Rattle.curve_join.proofs.search.least_by_runs.Goals as goal
 
 -- what was written through a slice of a whole vector
-whole : (written rest : List ℕ) (len : ℕ) → len ≡ length written → take len (written ++ rest) ≡ written
+whole : {X : Type 0} (written rest : List X) (len : ℕ) → len ≡ length written → take len (written ++ rest) ≡ written
 whole written rest len all = ap (λ n. take n (written ++ rest)) all ∙ take-append_seam written rest
 
 pub walk_by-requires-clause-nexts : goal.walk_by-requires-clause-nexts
@@ -60,5 +63,24 @@ walk_by-requires-clause-costs c =
 pub overflow_add-places : goal.overflow_add-places
 overflow_add-places c = record { fits = omega (arith, c.len-places.ensures, c.args.runs.now.most, c.args.runs.now.bends.ok.0) }
 
-pub returns : goal.returns
-returns c = c.in_ok-walk.ensures.least
+pub returns-clause-least : goal.returns-clause-least
+returns-clause-least c = c.in_ok-walk.ensures.least
+
+pub fill_ways-requires-clause-joined_places : goal.fill_ways-requires-clause-joined_places
+fill_ways-requires-clause-joined_places c = omega (arith, c.deref_mut-4.ensures.len, c.in_ok-joined.ensures.places, c.len-places.ensures)
+
+pub fill_ways-requires-clause-none : goal.fill_ways-requires-clause-none
+fill_ways-requires-clause-none c =
+    let P : List JoinedRun → Type 0 = λ runs. All (λ run. run.to ≡ 0) runs in
+    subst P (sym c.deref_mut-4.ensures.value) c.in_ok-joined.ensures.none
+
+pub returns-clause-places : goal.returns-clause-places
+returns-clause-places c =
+    let all : c.in_ok-joined.joined.len ≡ length c.fill_ways.new.joined = omega (arith, c.deref_mut-4.ensures.len, c.fill_ways.auto.joined) in
+    ap length (whole c.fill_ways.new.joined _ _ all) ∙ omega (arith, all, c.deref_mut-4.ensures.len, c.in_ok-joined.ensures.places, c.len-places.ensures)
+
+pub returns-clause-joined : goal.returns-clause-joined
+returns-clause-joined c =
+    let all : c.in_ok-joined.joined.len ≡ length c.fill_ways.new.joined = omega (arith, c.deref_mut-4.ensures.len, c.fill_ways.auto.joined) in
+    let P : List JoinedRun → Type 0 = λ runs. AreJoinedRuns c.args.runs.now.bends.items runs in
+    subst P (sym (whole c.fill_ways.new.joined _ _ all)) c.fill_ways.ensures.joined
