@@ -130,3 +130,16 @@ in_page b row x y i right high same =
     let left : 4 ≤ x + i = omega arith in
     ap (black_in row) place ∙ same (x + i - 4)
     ∙ sym (ap (λ t. t && nat_le 4 y && b (x + i - 4) (y - 4)) (le-leb 4 (x + i) left) ∙ ap (λ t. t && b (x + i - 4) (y - 4)) (le-leb 4 y high))
+
+-- the image that shows a word's bits as a square with its lowest row in row 0
+abbrev pub word_image : ℕ → Image
+word_image pixels u v = is_one pixels (8 * v + u)
+
+pub word_square : (pixels : ℕ) (i j : ℕ) → i < 8 → j < 8 → is_one pixels (8 * j + i) ≡ behind (word_image pixels) 4 (4 + i) (4 + j)
+word_square pixels i j p q =
+    let right : 4 ≤ 4 + i = omega arith in
+    let high : 4 ≤ 4 + j = omega arith in
+    let place : 8 * j + i ≡ 8 * (4 + j - 4) + (4 + i - 4) = omega arith in
+    sym (ap (λ t. t && nat_le 4 (4 + j) && is_one pixels (8 * (4 + j - 4) + (4 + i - 4))) (le-leb 4 (4 + i) right)
+    ∙ ap (λ t. t && is_one pixels (8 * (4 + j - 4) + (4 + i - 4))) (le-leb 4 (4 + j) high)
+    ∙ ap (is_one pixels) (sym place))

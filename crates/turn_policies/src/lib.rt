@@ -13,5 +13,5 @@ pub mod rule;
 
 pub use edge::Edge;
 pub use heading::Dir;
-pub use majority::major;
-pub use rule::{turn, turned_at};
+pub use majority::{major, major_in};
+pub use rule::{asks_majority, goes_right, turn, turned_at};

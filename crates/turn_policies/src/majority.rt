@@ -33,14 +33,21 @@ pub fn major(page: &Bitmap, at: Point) -> bool
 }
 
 /// Whether black is in the majority around corner (x, y).
-//
-// Black alone is counted, by a mask for each ring, since a ring has 8r - 4 pixels, which is a lemma.
 pub(crate) fn major_at(page: &Bitmap, x: u32, y: u32) -> bool
     requires x { x ≤ 32767 }
     requires y { y ≤ 32767 }
     ensures { result ≡ major (image_of page.now) x y }
 {
-    let pixels = square(page, x, y);
+    major_in(square(page, x, y))
+}
+
+/// Whether black is in the majority around the corner at the middle of a square of 64 pixels: bits 0 to 7 are its
+/// lowest row from the left, bits 8 to 15 the next one, and so on.
+//
+// Black alone is counted, by a mask for each ring, since a ring has 8r - 4 pixels, which is a lemma.
+pub fn major_in(pixels: u64) -> bool
+    ensures { (b : Image) (x y : ℕ) → IsSquare pixels b x y → result ≡ major b x y }
+{
     for radius in 2..5 {
         let black = black_around(pixels, radius);
         let white = 8 * radius - 4 - black;

@@ -1,5 +1,6 @@
 //! The table of turns.
-ghost use Rattle.std.specs.Prelude.{◌≡◌, ◌≤◌, nat_abs};
+ghost use Rattle.std.specs.Prelude.{◌≡◌, ◌≤◌, nat_abs, Bool, false};
+ghost use Rattle.pt_core.specs.declared.path.Sign.{Sign};
 ghost use Rattle.bit_image.specs.Image.{south_west};
 ghost use Rattle.bit_image.specs.Page.{image_of};
 ghost use Rattle.turn_policies.specs.Boundary.{left_pixel, right_pixel, IsBoundary};
@@ -111,12 +112,32 @@ fn chooses_right(page: &Bitmap, x: u32, y: u32, policy: Policy, sign: Sign) -> b
     requires y { y ≤ 32767 }
     ensures { result ≡ goes_right policy sign (major (image_of page.now) x y) }
 {
+    let more = asks_majority(policy) && major_at(page, x, y);
+    goes_right(policy, sign, more)
+}
+
+/// Whether a policy asks for the colour in the majority.
+#[inline(always)]
+pub fn asks_majority(policy: Policy) -> bool
+    ensures { result ≡ false → (sign : Sign) (more other : Bool)
+        → goes_right policy sign more ≡ goes_right policy sign other }
+{
+    matches!(policy, Policy::Majority | Policy::Minority)
+}
+
+/// Whether a policy turns right where the pixels ahead leave a choice.
+///
+/// Where it doesn't ask for the majority, any `black_is_more` serves.
+#[inline(always)]
+pub fn goes_right(policy: Policy, sign: Sign, black_is_more: bool) -> bool
+    ensures { result ≡ goes_right policy sign black_is_more }
+{
     match policy {
         Policy::Left => false,
         Policy::Right => true,
         Policy::Black => matches!(sign, Sign::Plus),
         Policy::White => matches!(sign, Sign::Minus),
-        Policy::Majority => major_at(page, x, y),
-        Policy::Minority => !major_at(page, x, y),
+        Policy::Majority => black_is_more,
+        Policy::Minority => !black_is_more,
     }
 }
