@@ -89,39 +89,51 @@ eight_over row from i p over fits =
 
 -- ---- eight rows
 
--- the first j rows of a square are there
-abbrev pub IsSquareTo : ℕ → ℕ → Image → ℕ → ℕ → Type 0
-IsSquareTo j pixels b x y = (i k : ℕ) → i < 8 → k < 8 → is_one pixels (8 * k + i) ≡ nat_lt k j && behind b 4 (x + i) (y + k)
+-- the first j rows of a square of bits are there
+abbrev pub IsFilledTo : ℕ → ℕ → (ℕ → ℕ → Bool) → Type 0
+IsFilledTo j pixels f = (i k : ℕ) → i < 8 → k < 8 → is_one pixels (8 * k + i) ≡ nat_lt k j && f i k
 
-pub no_rows : (b : Image) (x y : ℕ) → IsSquareTo 0 0 b x y
-no_rows b x y = λ i k p q. is_one-zero (8 * k + i) ∙ sym (ap (λ t. t && behind b 4 (x + i) (y + k)) (le-ltb k 0 (omega arith)))
+pub none_filled : (f : ℕ → ℕ → Bool) → IsFilledTo 0 0 f
+none_filled f = λ i k p q. is_one-zero (8 * k + i) ∙ sym (ap (λ t. t && f i k) (le-ltb k 0 (omega arith)))
 
-pub next_row : (pixels row j : ℕ) (b : Image) (x y : ℕ) → j < 8 → row < 2 ^ 8 → IsSquareTo j pixels b x y → ((i : ℕ) → i < 8 → is_one row i ≡ behind b 4 (x + i) (y + j))
-    → IsSquareTo (j + 1) (bit_or pixels (row * 2 ^ (8 * j) % 2 ^ 64)) b x y
-next_row pixels row j b x y short small before here = λ i k p q.
+pub more_filled : (pixels row j : ℕ) (f : ℕ → ℕ → Bool) → j < 8 → row < 2 ^ 8 → IsFilledTo j pixels f → ((i : ℕ) → i < 8 → is_one row i ≡ f i j)
+    → IsFilledTo (j + 1) (bit_or pixels (row * 2 ^ (8 * j) % 2 ^ 64)) f
+more_filled pixels row j f short small before here = λ i k p q.
     let at : ℕ = 8 * k + i in
-    let pixel : Bool = behind b 4 (x + i) (y + k) in
     is_one-or pixels (row * 2 ^ (8 * j) % 2 ^ 64) at
     ∙ ap (λ t. t || is_one (row * 2 ^ (8 * j) % 2 ^ 64) at) (before i k p q)
     ∙ elim (cases_order k j) [
       | inl same ↦
           let bit : at - 8 * j ≡ i = omega arith in
-          let rows : y + j ≡ y + k = omega arith in
-          ap (λ t. t && pixel || is_one (row * 2 ^ (8 * j) % 2 ^ 64) at) (le-ltb k j (omega arith))
-          ∙ is_one-shl row (8 * j) at (omega arith) (omega arith) ∙ ap (is_one row) bit ∙ here i p ∙ ap (behind b 4 (x + i)) rows
-          ∙ sym (ap (λ t. t && pixel) (lt-ltb k (j + 1) (omega arith)))
+          ap (λ t. t && f i k || is_one (row * 2 ^ (8 * j) % 2 ^ 64) at) (le-ltb k j (omega arith))
+          ∙ is_one-shl row (8 * j) at (omega arith) (omega arith) ∙ ap (is_one row) bit ∙ here i p ∙ ap (f i) (sym same)
+          ∙ sym (ap (λ t. t && f i k) (lt-ltb k (j + 1) (omega arith)))
       | inr (inl below) ↦
-          ap (λ t. (nat_lt k j && pixel) || t) (is_one-shl_below row (8 * j) at (omega arith) (omega arith))
-          ∙ or_false (nat_lt k j && pixel)
-          ∙ ap (λ t. t && pixel) (lt-ltb k j below ∙ sym (lt-ltb k (j + 1) (omega arith)))
+          ap (λ t. (nat_lt k j && f i k) || t) (is_one-shl_below row (8 * j) at (omega arith) (omega arith))
+          ∙ or_false (nat_lt k j && f i k)
+          ∙ ap (λ t. t && f i k) (lt-ltb k j below ∙ sym (lt-ltb k (j + 1) (omega arith)))
       | inr (inr above) ↦
-          ap (λ t. t && pixel || is_one (row * 2 ^ (8 * j) % 2 ^ 64) at) (le-ltb k j (omega arith))
+          ap (λ t. t && f i k || is_one (row * 2 ^ (8 * j) % 2 ^ 64) at) (le-ltb k j (omega arith))
           ∙ is_one-shl row (8 * j) at (omega arith) (omega arith) ∙ no_bit row 8 (at - 8 * j) small (omega arith)
-          ∙ sym (ap (λ t. t && pixel) (le-ltb k (j + 1) (omega arith)))
+          ∙ sym (ap (λ t. t && f i k) (le-ltb k (j + 1) (omega arith)))
     ]
 
+pub all_filled : (pixels : ℕ) (f : ℕ → ℕ → Bool) → IsFilledTo 8 pixels f → (i j : ℕ) → i < 8 → j < 8 → is_one pixels (8 * j + i) ≡ f i j
+all_filled pixels f whole = λ i j p q. whole i j p q ∙ ap (λ t. t && f i j) (lt-ltb j 8 q)
+
+-- the first j rows of the pixels around a corner are there
+abbrev pub IsSquareTo : ℕ → ℕ → Image → ℕ → ℕ → Type 0
+IsSquareTo j pixels b x y = IsFilledTo j pixels (λ i k. behind b 4 (x + i) (y + k))
+
+pub no_rows : (b : Image) (x y : ℕ) → IsSquareTo 0 0 b x y
+no_rows b x y = none_filled (λ i k. behind b 4 (x + i) (y + k))
+
+pub next_row : (pixels row j : ℕ) (b : Image) (x y : ℕ) → j < 8 → row < 2 ^ 8 → IsSquareTo j pixels b x y → ((i : ℕ) → i < 8 → is_one row i ≡ behind b 4 (x + i) (y + j))
+    → IsSquareTo (j + 1) (bit_or pixels (row * 2 ^ (8 * j) % 2 ^ 64)) b x y
+next_row pixels row j b x y short small before here = more_filled pixels row j (λ i k. behind b 4 (x + i) (y + k)) short small before here
+
 pub all_rows : (pixels : ℕ) (b : Image) (x y : ℕ) → IsSquareTo 8 pixels b x y → (i j : ℕ) → i < 8 → j < 8 → is_one pixels (8 * j + i) ≡ behind b 4 (x + i) (y + j)
-all_rows pixels b x y whole = λ i j p q. whole i j p q ∙ ap (λ t. t && behind b 4 (x + i) (y + j)) (lt-ltb j 8 q)
+all_rows pixels b x y whole = all_filled pixels (λ i k. behind b 4 (x + i) (y + k)) whole
 
 -- a pixel that lies on the page
 pub in_page : (b : Image) (row : List ℕ) (x y i : ℕ) → 4 ≤ x → 4 ≤ y → ((u : ℕ) → black_in row u ≡ b u (y - 4)) → black_in row (x - 4 + i) ≡ behind b 4 (x + i) y
