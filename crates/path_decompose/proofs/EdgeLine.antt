@@ -56,7 +56,7 @@ lines_of-run b policy sign s (e ∷ es) h run =
     ap (λ w. lines_to (start_of w) (start_of e) (map start_of es)) run.0
     ∙ lines_to-run b policy sign e es s (subst (IsBoundary b) (sym run.0) h) run.1
 
-odd_by-map : {A B : Type 0} (f : B → Bool) (g : A → B) (xs : List A) → odd_by f (map g xs) ≡ odd_by (λ x. f (g x)) xs
+pub odd_by-map : {A B : Type 0} (f : B → Bool) (g : A → B) (xs : List A) → odd_by f (map g xs) ≡ odd_by (λ x. f (g x)) xs
 odd_by-map f g [] = refl
 odd_by-map f g (x ∷ xs) = ap (differ (f (g x))) (odd_by-map f g xs)
 

@@ -25,5 +25,8 @@ pub mod Rows
 pub mod Sides
 pub mod Area
 pub mod Noted
-pub mod Swept
+pub mod EdgeBits
+pub mod Taken
+pub mod EightPixels
+pub mod Bounded
 mod Examples

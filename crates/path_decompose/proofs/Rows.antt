@@ -34,7 +34,7 @@ upwards y a c b d same next =
     back : (y b d : ℕ) → d ≡ suc b → nat_eq (min b d) y ≡ differ (nat_lt y b) (nat_lt y d)
     back y b d e = grind (arith, nat_tests)
 
-next_natural : (a c : ℤ) → pos 0 ≤ℤ a → pos 0 ≤ℤ c → IsNextTo a c → (nat_abs a ≡ suc (nat_abs c)) ⊎ (nat_abs c ≡ suc (nat_abs a))
+pub next_natural : (a c : ℤ) → pos 0 ≤ℤ a → pos 0 ≤ℤ c → IsNextTo a c → (nat_abs a ≡ suc (nat_abs c)) ⊎ (nat_abs c ≡ suc (nat_abs a))
 next_natural (pos a) (pos c) ha hc (inl right) = inr (omega (arith, ints))
 next_natural (pos a) (pos c) ha hc (inr left) = inl (omega (arith, ints))
 next_natural (negsuc a) c ha hc next = absurd (omega (arith, ints))

@@ -1,4 +1,5 @@
 -- What inner contracts alone speak of: no promise rests on it.
+pub mod BoundaryBits
 pub mod Bounds
 pub mod Decomposition
 pub mod GridEdges

@@ -13,7 +13,7 @@ ghost use Rattle.path_decompose.specs.Inner.Start.{IsWhiteThrough, IsStart};
 ghost use Rattle.path_decompose.specs.AllPaths.{IsEvenOdd, IsEdgesOnce};
 ghost use Rattle.pt_core.specs.declared.path.Path.{Path};
 
-use crate::inversion::invert;
+use crate::edges::Edges;
 use crate::trail::Trail;
 use crate::walk::walk_round;
 use bit_image::Bitmap;
@@ -50,7 +50,7 @@ pub fn decompose(alloc: Global, page: &Bitmap, policy: Policy) -> Result<Vec<Pat
 /// with at most so many are speckles.
 ///
 /// Each speckle is dropped before the next path is looked for, so that a page of speckles takes no more
-/// room than its copy.
+/// room than its boundary edges.
 pub fn decompose_above(
     alloc: Global,
     page: &Bitmap,
@@ -80,9 +80,8 @@ pub fn decompose_above(
 
 /// The paths of a page above a limit, where there is one.
 //
-// What is left of the page has no border of white words around it, which would spare the walk the tests for the
-// page's sides: a model in C showed no difference on pages of text and dithered ones, and up to a quarter on a
-// checkerboard, at the price of a form of the page of its own.
+// What is left is held as boundary edges, which each path takes away, and not as a copy of the page that is inverted
+// inside it. So a path costs its length, however many pixels lie between its lines.
 fn found(
     alloc: Global,
     page: &Bitmap,
@@ -95,7 +94,7 @@ fn found(
         (λ paths. All (IsPathOn page.now.width page.now.height) paths.items) }
     ensures few { IfOk result (λ paths. length paths.items ≤ page.now.width * page.now.height) }
 {
-    let mut rest = page.copy(alloc)?;
+    let mut rest = Edges::of(alloc, page)?;
     let mut trail = Trail::new(alloc);
     let mut paths = Vec::new(alloc);
     let mut start = rest.first_black(rest.height() - 1);
@@ -142,11 +141,11 @@ fn is_above(area: u64, limit: Option<u32>) -> bool
     }
 }
 
-/// The sign of the path from the first black pixel, pixel (x, y), and the number of pixels inside, which are
-/// inverted in `rest`. The path itself is noted down.
+/// The sign of the path from the first black pixel, pixel (x, y), and the number of pixels inside. The path itself is
+/// noted down, and its edges are taken away from `rest`, which so is inverted inside it.
 fn next_path(
     page: &Bitmap,
-    rest: &mut Bitmap,
+    rest: &mut Edges,
     x: u32,
     y: u32,
     policy: Policy,
@@ -165,7 +164,7 @@ fn next_path(
     let _ = rest.width();
     let sign = sign_at(page, x, y);
     walk_round(rest, x, y, policy, sign, trail)?;
-    invert(rest, &trail.lines, x);
+    rest.take_away(&trail.points);
     Ok((sign, trail.up - trail.down))
 }
 
@@ -181,18 +180,18 @@ fn sign_at(page: &Bitmap, x: u32, y: u32) -> Sign
 }
 
 /// The first black pixel, where all is white up to pixel (x, y).
-fn start_after(page: &Bitmap, x: u32, y: u32) -> Option<(u32, u32)>
-    requires white { IsWhiteThrough (image_of page.now) page.now.width x y }
-    requires row { y < page.now.height }
-    requires column { x < page.now.width }
-    ensures start { IsStart (image_of page.now) result }
-    ensures fits { Fits (image_of page.now) page.now.width page.now.height }
+fn start_after(rest: &Edges, x: u32, y: u32) -> Option<(u32, u32)>
+    requires white { IsWhiteThrough (image_of rest.now) rest.now.width x y }
+    requires row { y < rest.now.height }
+    requires column { x < rest.now.width }
+    ensures start { IsStart (image_of rest.now) result }
+    ensures fits { Fits (image_of rest.now) rest.now.width rest.now.height }
 {
     // The sides are asked, so that the proof sees where a page's pixels lie.
-    let _ = page.width();
-    match page.first_black_in_row(x, y) {
+    let _ = rest.width();
+    match rest.first_black_in_row(x, y) {
         Some(column) => Some((column, y)),
-        None if y > 0 => page.first_black(y - 1),
+        None if y > 0 => rest.first_black(y - 1),
         None => None,
     }
 }

@@ -3,7 +3,8 @@
 //! A path starts at the leftmost black pixel of the uppermost row that has one, goes down that
 //! pixel's left side, and follows the edges between black and white pixels until it comes to its
 //! first edge again. The pixels inside are then inverted, and the next path starts from what is
-//! black now, until the page is white.
+//! black now, until the page is white. Nothing is inverted pixel by pixel: what is left is held as
+//! the edges between black and white pixels, and each path takes its own away.
 //!
 //! ```rust
 //! use path_decompose::decompose_above;
@@ -16,12 +17,15 @@
 //! ```
 #![tactic(auto)]
 
+mod corner;
 pub mod decomposition;
+mod edges;
 pub mod interior;
-mod inversion;
 pub mod laws;
 pub mod line;
 pub mod speckle;
+mod square;
+mod strips;
 mod trail;
 mod walk;
 

@@ -1,19 +1,18 @@
 //! The walk along a boundary, once round.
-ghost use Rattle.std.specs.Prelude.{◌≡◌, ◌≢◌, ℕ, ◌+◌, ◌++◌, ◌∷◌, [], IfOk, OnOk, count_by, MatchBool, ◌^◌, ◌<◌};
+ghost use Rattle.std.specs.Prelude.{◌≡◌, ◌≢◌, ℕ, ◌+◌, ◌++◌, ◌∷◌, [], IfOk, OnOk, MatchBool, ◌^◌, ◌<◌};
 ghost use Rattle.bit_image.specs.FirstBlack.{IsFirstBlack};
-ghost use Rattle.bit_image.specs.Image.{is_from};
 ghost use Rattle.bit_image.specs.Page.{image_of};
-ghost use Rattle.path_decompose.specs.declared.trail.Upright.{Upright};
-ghost use Rattle.path_decompose.specs.Inside.{is_odd, inside, black_count};
-ghost use Rattle.path_decompose.specs.Inner.Trail.{AreUprights, upright_of, column_up, column_down};
+ghost use Rattle.path_decompose.specs.Inside.{inside, black_count};
+ghost use Rattle.path_decompose.specs.Inner.Trail.{column_up, column_down};
 ghost use Rattle.path_decompose.specs.Walk.{first_edge, start_of, IsBoundaryWalk};
 ghost use Rattle.turn_policies.specs.Boundary.{IsBoundary};
 ghost use Rattle.turn_policies.specs.Turn.{next};
 
-use crate::trail::{Trail, Upright};
-use bit_image::Bitmap;
+use crate::corner::turned_at;
+use crate::edges::Edges;
+use crate::trail::Trail;
 use pt_core::{NoMemory, Point, Policy, Sign};
-use turn_policies::{Dir, Edge, turned_at};
+use turn_policies::{Dir, Edge};
 
 /// Walks once round the boundary that starts at the first black pixel, pixel (x, y), and notes it down.
 //
@@ -22,7 +21,7 @@ use turn_policies::{Dir, Edge, turned_at};
 // by step: a turn to the left keeps the pixel on the left, one to the right the pixel on the right, and straight on
 // both pixels are as they were. The columns are summed up here, where the heading is known.
 pub(crate) fn walk_round(
-    page: &Bitmap,
+    page: &Edges,
     x: u32,
     y: u32,
     policy: Policy,
@@ -32,13 +31,6 @@ pub(crate) fn walk_round(
     requires first { IsFirstBlack (image_of page.now) x y }
     ensures walk { OnOk result
         (IsBoundaryWalk (image_of page.now) policy sign x y trail.new.points.items) }
-
-    // Its upright lines lie on the page, and have what is inside between them.
-    ensures lines { OnOk result
-        (AreUprights page.now.width page.now.height trail.new.lines.items) }
-    ensures inside { OnOk result ((u v : ℕ)
-        → is_odd (count_by (λ (line : Upright). is_from line.x line.y u v) trail.new.lines.items)
-        ≡ inside trail.new.points.items u v) }
     ensures area { OnOk result
         (black_count (inside trail.new.points.items) page.now.width page.now.height + trail.new.down
         ≡ trail.new.up) }
@@ -62,7 +54,7 @@ pub(crate) fn walk_round(
 /// The edge that follows an edge of a boundary, which is noted down.
 #[inline(always)]
 fn step(
-    page: &Bitmap,
+    page: &Edges,
     edge: Edge,
     policy: Policy,
     sign: Sign,
@@ -75,8 +67,6 @@ fn step(
     ensures boundary { IfOk result (λ after. IsBoundary (image_of page.now) after) }
     ensures points { OnOk result
         (trail.new.points.items ≡ trail.old.points.items ++ start_of edge ∷ []) }
-    ensures lines { OnOk result
-        (trail.new.lines.items ≡ trail.old.lines.items ++ upright_of edge) }
     ensures up { OnOk result (trail.new.up ≡ trail.old.up + column_up edge) }
     ensures down { OnOk result (trail.new.down ≡ trail.old.down + column_down edge) }
 {
@@ -92,13 +82,11 @@ fn step(
     // branches was no faster.
     match heading {
         Dir::North => {
-            trail.lines.push(Upright { x, y })?;
             trail.up += u64::from(x);
             Ok(turned_at(page, x, y + 1, Dir::North, policy, sign))
         }
         Dir::East => Ok(turned_at(page, x + 1, y, Dir::East, policy, sign)),
         Dir::South => {
-            trail.lines.push(Upright { x, y: y - 1 })?;
             trail.down += u64::from(x);
             Ok(turned_at(page, x, y - 1, Dir::South, policy, sign))
         }

@@ -19,6 +19,13 @@ corner page is fits edge boundary =
     let on = edge_on (image_of page) page.width page.height fits edge boundary in
     (omega (arith, on.column, is.most_width), omega (arith, on.row, is.most_height))
 
+-- and it lies on the page
+within_page : (page : Page) → Fits (image_of page) page.width page.height → (edge : Edge) → IsBoundary (image_of page) edge
+    → (edge.x ≤ page.width) × (edge.y ≤ page.height)
+within_page page fits edge boundary =
+    let on = edge_on (image_of page) page.width page.height fits edge boundary in
+    (on.column, on.row)
+
 pub turned_at-requires-clause-y : goal.turned_at-requires-clause-y
 turned_at-requires-clause-y c =
     let page = c.args.page.now in
@@ -33,15 +40,15 @@ turned_at-requires-in-East-clause-x c =
     let column : suc c.args.edge.x ≤ page.width = subst (λ d. end_x c.args.edge.x d ≤ page.width) c.in-East.is on.end_column in
     omega (arith, column, c.width.ensures.page.most_width)
 
-pub returns-in_ok-push-in-North-clause-value : goal.returns-in_ok-push-in-North-clause-value
-returns-in_ok-push-in-North-clause-value c =
+pub returns-in-North-clause-value : goal.returns-in-North-clause-value
+returns-in-North-clause-value c =
     let row : c.args.edge.y + 1 ≡ suc c.args.edge.y = omega arith in
     next_is _ _ _ c.args.edge _ North c.args.edge.x (c.args.edge.y + 1) c.in-North.is refl row
     c.turned_at.ensures.x c.turned_at.ensures.y c.turned_at.ensures.heading
 
-pub returns-in_ok-push-in-North-clause-boundary : goal.returns-in_ok-push-in-North-clause-boundary
-returns-in_ok-push-in-North-clause-boundary c =
-    subst (IsBoundary (image_of c.args.page.now)) (sym (returns-in_ok-push-in-North-clause-value c)) (next_boundary _ _ _ _ c.requires.boundary)
+pub returns-in-North-clause-boundary : goal.returns-in-North-clause-boundary
+returns-in-North-clause-boundary c =
+    subst (IsBoundary (image_of c.args.page.now)) (sym (returns-in-North-clause-value c)) (next_boundary _ _ _ _ c.requires.boundary)
 
 pub returns-in-East-clause-value : goal.returns-in-East-clause-value
 returns-in-East-clause-value c =
@@ -53,15 +60,15 @@ pub returns-in-East-clause-boundary : goal.returns-in-East-clause-boundary
 returns-in-East-clause-boundary c =
     subst (IsBoundary (image_of c.args.page.now)) (sym (returns-in-East-clause-value c)) (next_boundary _ _ _ _ c.requires.boundary)
 
-pub returns-in_ok-push-in-South-clause-value : goal.returns-in_ok-push-in-South-clause-value
-returns-in_ok-push-in-South-clause-value c =
+pub returns-in-South-clause-value : goal.returns-in-South-clause-value
+returns-in-South-clause-value c =
     let row : c.args.edge.y - 1 ≡ pred c.args.edge.y = omega arith in
     next_is _ _ _ c.args.edge _ South c.args.edge.x (c.args.edge.y - 1) c.in-South.is refl row
     c.turned_at-in-South.ensures.x c.turned_at-in-South.ensures.y c.turned_at-in-South.ensures.heading
 
-pub returns-in_ok-push-in-South-clause-boundary : goal.returns-in_ok-push-in-South-clause-boundary
-returns-in_ok-push-in-South-clause-boundary c =
-    subst (IsBoundary (image_of c.args.page.now)) (sym (returns-in_ok-push-in-South-clause-value c)) (next_boundary _ _ _ _ c.requires.boundary)
+pub returns-in-South-clause-boundary : goal.returns-in-South-clause-boundary
+returns-in-South-clause-boundary c =
+    subst (IsBoundary (image_of c.args.page.now)) (sym (returns-in-South-clause-value c)) (next_boundary _ _ _ _ c.requires.boundary)
 
 pub returns-in-West-clause-value : goal.returns-in-West-clause-value
 returns-in-West-clause-value c =
@@ -75,22 +82,22 @@ returns-in-West-clause-boundary c =
 
 -- a corner of the page is met, and its numbers are small
 pub turned_at-requires-clause-x : goal.turned_at-requires-clause-x
-turned_at-requires-clause-x c = omega (arith, corner c.args.page.now c.width.ensures.page c.width.ensures.fits c.args.edge c.requires.boundary)
+turned_at-requires-clause-x c = omega (arith, within_page c.args.page.now c.width.ensures.fits c.args.edge c.requires.boundary)
 
 pub turned_at-requires-in-East-clause-y : goal.turned_at-requires-in-East-clause-y
-turned_at-requires-in-East-clause-y c = omega (arith, corner c.args.page.now c.width.ensures.page c.width.ensures.fits c.args.edge c.requires.boundary)
+turned_at-requires-in-East-clause-y c = omega (arith, within_page c.args.page.now c.width.ensures.fits c.args.edge c.requires.boundary)
 
 pub turned_at-requires-in-South-clause-x : goal.turned_at-requires-in-South-clause-x
-turned_at-requires-in-South-clause-x c = omega (arith, corner c.args.page.now c.width.ensures.page c.width.ensures.fits c.args.edge c.requires.boundary)
+turned_at-requires-in-South-clause-x c = omega (arith, within_page c.args.page.now c.width.ensures.fits c.args.edge c.requires.boundary)
 
 pub turned_at-requires-in-South-clause-y : goal.turned_at-requires-in-South-clause-y
-turned_at-requires-in-South-clause-y c = omega (arith, corner c.args.page.now c.width.ensures.page c.width.ensures.fits c.args.edge c.requires.boundary)
+turned_at-requires-in-South-clause-y c = omega (arith, within_page c.args.page.now c.width.ensures.fits c.args.edge c.requires.boundary)
 
 pub turned_at-requires-in-West-clause-x : goal.turned_at-requires-in-West-clause-x
-turned_at-requires-in-West-clause-x c = omega (arith, corner c.args.page.now c.width.ensures.page c.width.ensures.fits c.args.edge c.requires.boundary)
+turned_at-requires-in-West-clause-x c = omega (arith, within_page c.args.page.now c.width.ensures.fits c.args.edge c.requires.boundary)
 
 pub turned_at-requires-in-West-clause-y : goal.turned_at-requires-in-West-clause-y
-turned_at-requires-in-West-clause-y c = omega (arith, corner c.args.page.now c.width.ensures.page c.width.ensures.fits c.args.edge c.requires.boundary)
+turned_at-requires-in-West-clause-y c = omega (arith, within_page c.args.page.now c.width.ensures.fits c.args.edge c.requires.boundary)
 
 pub overflow_add-x : goal.overflow_add-x
 overflow_add-x c = omega (arith, corner c.args.page.now c.width.ensures.page c.width.ensures.fits c.args.edge c.requires.boundary)

@@ -9,7 +9,7 @@ use Rattle.path_decompose.proofs.walk.walk_round.Given as goal
 abbrev pub invariant-steps : goal.invariant-steps
 invariant-steps l =
     record {
-      noted : IsNoted (next (image_of l.page) l.policy l.sign) (first_edge l.x l.y) l.trail.points.items l.trail.lines.items l.trail.up l.trail.down l.here;
+      noted : IsNoted (next (image_of l.page) l.policy l.sign) (first_edge l.x l.y) l.trail.points.items l.trail.up l.trail.down l.here;
       boundary : IsBoundary (image_of l.page) l.here;
     }
 

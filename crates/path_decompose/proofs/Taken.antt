@@ -1,0 +1,260 @@
+-- The edges that a path's lines are, and what is left without them.
+use Rattle.std.proofs.Common.{◌≡◌, ℕ, zero, suc, ◌+◌, ◌-◌, ◌*◌, ◌/◌, ◌%◌, ◌^◌, ◌<◌, ◌≤◌, ℤ, pos, ◌≤ℤ◌, nat_abs, Bool, true, false, ◌&&◌, ◌⊎◌, cond, min, max, nat_eq, nat_le, List, [], ◌∷◌, All, length, get_or, count_by, w32, to_z, of_z, refl, ap, sym, subst, ◌∙◌, inl, inr, arith}
+use Rattle.std.proofs.Math.Nat.{mod-eq_of_lt, mod_self}
+use Rattle.std.proofs.lemmas.Int.{ints}
+use Rattle.std.proofs.lemmas.Nat.{mul-le}
+use Rattle.std.proofs.lemmas.Bool.{cases_lt, eq-eqb, ne_eqb}
+use Rattle.std.proofs.lemmas.Bool.Decides.{nat_tests}
+use Rattle.pt_core.specs.ClosedWalk.{origin, IsUnitStep, IsClosedWalk}
+use Rattle.pt_core.specs.declared.limits.TheConstants.{LONGEST_SIDE}
+use Rattle.pt_core.specs.declared.point.Point.{Point}
+use Rattle.pt_core.specs.declared.path.Sign.{Sign}
+use Rattle.pt_core.specs.declared.policy.Policy.{Policy}
+use Rattle.bit_image.specs.Image.{Image, Fits, differ}
+use Rattle.bit_image.specs.Page.{Page, SameSides, image_of, page_of}
+use Rattle.turn_policies.specs.Majority.{behind}
+use Rattle.turn_policies.specs.declared.edge.Edge.{Edge}
+use Rattle.turn_policies.specs.Turn.{next}
+use Rattle.path_decompose.specs.Bounds.{IsCornerOf}
+use Rattle.path_decompose.specs.Decomposition.{inverted}
+use Rattle.path_decompose.specs.GridEdges.{GridEdge, upright, level, same_line}
+use Rattle.path_decompose.specs.Inside.{line_at, line_between, lines_of, is_odd, inside}
+use Rattle.path_decompose.specs.Inner.BoundaryBits.{has_edge, changes, AreEdgesOf, bounded_image, AreEdges, same_edge, is_along, FitsStrips, AreWalked}
+use Rattle.path_decompose.specs.Walk.{first_edge}
+use Rattle.path_decompose.proofs.Bounded.{behind-left, behind-low, changes-down, changes-left, bounded_is, image_of-bounded}
+use Rattle.path_decompose.proofs.Beyond.{fits_differ}
+use Rattle.path_decompose.proofs.ClosedWalk.{closed_walk, corners}
+use Rattle.path_decompose.proofs.Cut.{is_edge-inside_edges}
+use Rattle.path_decompose.proofs.Differ.{differ_swap}
+use Rattle.path_decompose.proofs.EdgeLine.{line_of, inside_edges, odd_by-map}
+use Rattle.path_decompose.proofs.Parity.{odd_by, odd_by-same, is_odd-count}
+use Rattle.path_decompose.proofs.Round.{IsCircuit}
+use Rattle.path_decompose.proofs.Rows.{next_natural}
+use Rattle.path_decompose.proofs.Walked.{walk_circuit, walk_lines, walk_inside, walk_fits}
+
+-- ---- one line
+
+-- a coordinate is passed as it is
+pub word_back : (z : ℤ) → pos 0 ≤ℤ z → nat_abs z + 3 < 2 ^ 16 → to_z w32 (of_z w32 z) ≡ z
+word_back z low high = omega (arith, ints)
+
+spot_up : (a b d k u v : ℕ) → (b ≡ suc d) ⊎ (d ≡ suc b) → (c : ℕ) → a ≡ c → same_edge 0 (max a c + 3) (max b d + 3) k u v ≡ is_along k u v (line_at a b c d)
+spot_up a b d k u v next c same =
+    let column : max a c + 3 ≡ a + 3 = omega arith in
+    let row : max b d + 3 ≡ min b d + 4 = elim next [ inl down ↦ omega arith | inr up ↦ omega arith ] in
+    ap (λ n. same_edge 0 n (max b d + 3) k u v) column ∙ ap (λ n. same_edge 0 (a + 3) n k u v) row
+    ∙ sym (ap (λ t. is_along k u v (cond t (upright a (min b d)) (level (min a c) b))) (eq-eqb a c same))
+
+spot_level : (a b c d k u v : ℕ) → (a ≡ suc c) ⊎ (c ≡ suc a) → b ≡ d → same_edge 1 (max a c + 3) (max b d + 3) k u v ≡ is_along k u v (line_at a b c d)
+spot_level a b c d k u v next same =
+    let column : max a c + 3 ≡ min a c + 4 = elim next [ inl left ↦ omega arith | inr right ↦ omega arith ] in
+    let row : max b d + 3 ≡ b + 3 = omega arith in
+    let apart : nat_eq a c ≡ false = ne_eqb a c (λ e. elim next [ inl left ↦ omega arith | inr right ↦ omega arith ]) in
+    ap (λ n. same_edge 1 n (max b d + 3) k u v) column ∙ ap (λ n. same_edge 1 (min a c + 4) n k u v) row
+    ∙ sym (ap (λ t. is_along k u v (cond t (upright a (min b d)) (level (min a c) b))) apart)
+
+-- the edge of the kind that the two columns tell is that along the line
+pub spot_is : (rows size : ℕ) (p q : Point) (kind k u v : ℕ) → FitsStrips rows size p → FitsStrips rows size q → IsUnitStep p q → (nat_abs p.x ≡ nat_abs q.x → kind ≡ 0) → (nat_eq (nat_abs p.x) (nat_abs q.x) ≡ false → kind ≡ 1)
+    → same_edge kind (max (nat_abs p.x) (nat_abs q.x) + 3) (max (nat_abs p.y) (nat_abs q.y) + 3) k u v ≡ is_along k u v (line_between p q)
+spot_is rows size p q kind k u v hp hq (inr up) zero_is one_is =
+    let same : nat_abs p.x ≡ nat_abs q.x = ap nat_abs up.0 in
+    ap (λ n. same_edge n (max (nat_abs p.x) (nat_abs q.x) + 3) (max (nat_abs p.y) (nat_abs q.y) + 3) k u v) (zero_is same)
+    ∙ spot_up (nat_abs p.x) (nat_abs p.y) (nat_abs q.y) k u v (next_natural p.y q.y hp.above hq.above up.1) (nat_abs q.x) same
+spot_is rows size p q kind k u v hp hq (inl along) zero_is one_is =
+    let next = next_natural p.x q.x hp.right hq.right along.1 in
+    let apart : nat_eq (nat_abs p.x) (nat_abs q.x) ≡ false = ne_eqb (nat_abs p.x) (nat_abs q.x) (λ e. elim next [ inl left ↦ omega arith | inr right ↦ omega arith ]) in
+    ap (λ n. same_edge n (max (nat_abs p.x) (nat_abs q.x) + 3) (max (nat_abs p.y) (nat_abs q.y) + 3) k u v) (one_is apart)
+    ∙ spot_level (nat_abs p.x) (nat_abs p.y) (nat_abs q.x) (nat_abs q.y) k u v next (ap nat_abs along.0)
+
+-- ---- all lines
+
+pub step_at : (points : List Point) (k : ℕ) → IsClosedWalk points → suc k < length points → IsUnitStep (get_or points k origin) (get_or points (suc k) origin)
+step_at points k closed short =
+    subst (λ j. IsUnitStep (get_or points j origin) (get_or points (suc k) origin)) (mod-eq_of_lt {n = k} {m = length points} (omega arith))
+    (subst (λ j. IsUnitStep (get_or points (k % length points) origin) (get_or points j origin)) (mod-eq_of_lt {n = suc k} {m = length points} short) (closed.steps k))
+
+pub step_last : (points : List Point) (k : ℕ) → IsClosedWalk points → suc k ≡ length points → IsUnitStep (get_or points k origin) (get_or points 0 origin)
+step_last points k closed last =
+    subst (λ j. IsUnitStep (get_or points j origin) (get_or points 0 origin)) (mod-eq_of_lt {n = k} {m = length points} (omega arith))
+    (subst (λ j. IsUnitStep (get_or points (k % length points) origin) (get_or points j origin)) (ap (λ n. n % length points) last ∙ mod_self (length points)) (closed.steps k))
+
+-- a point of a list that is the path's
+pub rooms_at : (rows size kept : ℕ) (points list : List Point) (k : ℕ) (q : Point) → All (FitsStrips rows size) points → points ≡ list → kept ≡ size → k < length list → q ≡ get_or list k origin → FitsStrips rows kept q
+rooms_at rows size kept points list k q rooms same length_kept short at =
+    let there : FitsStrips rows size (get_or list k origin) = (subst (All (FitsStrips rows size)) same rooms) k origin short in
+    subst (λ n. FitsStrips rows n q) (sym length_kept) (subst (FitsStrips rows size) (sym at) there)
+
+pub step_from : (points list : List Point) (k : ℕ) (q : Point) → IsClosedWalk points → points ≡ list → suc k < length list → q ≡ get_or list k origin → IsUnitStep q (get_or list (suc k) origin)
+step_from points list k q closed same short at =
+    subst (λ p. IsUnitStep p (get_or list (suc k) origin)) (sym at) (step_at list k (subst IsClosedWalk same closed) short)
+
+pub step_to_first : (points list : List Point) (k : ℕ) (q : Point) → IsClosedWalk points → points ≡ list → suc k ≡ length list → q ≡ get_or list k origin → IsUnitStep q (get_or list 0 origin)
+step_to_first points list k q closed same last at =
+    subst (λ p. IsUnitStep p (get_or list 0 origin)) (sym at) (step_last list k (subst IsClosedWalk same closed) last)
+
+odd_by-none : {A : Type 0} (xs : List A) → odd_by (λ x. false) xs ≡ false
+odd_by-none [] = refl
+odd_by-none (x ∷ xs) = odd_by-none xs
+
+none_along : (k x y : ℕ) (es : List Edge) → ((l : GridEdge) → is_along k x y l ≡ false) → odd_by (λ e. is_along k x y (line_of e)) es ≡ false
+none_along k x y es none = odd_by-same (λ e. is_along k x y (line_of e)) (λ e. false) (λ e. none (line_of e)) es ∙ odd_by-none es
+
+up_out : (x y : ℕ) (l : GridEdge) → (x < 3) ⊎ (y < 4) → is_along 0 x y l ≡ false
+up_out x y (upright u v) (inl left) = grind (arith, nat_tests)
+up_out x y (upright u v) (inr low) = grind (arith, nat_tests)
+up_out x y (level u v) out = refl
+
+level_out : (x y : ℕ) (l : GridEdge) → (x < 4) ⊎ (y < 3) → is_along 1 x y l ≡ false
+level_out x y (level u v) (inl left) = grind (arith, nat_tests)
+level_out x y (level u v) (inr low) = grind (arith, nat_tests)
+level_out x y (upright u v) out = refl
+
+up_along : (x y : ℕ) (l : GridEdge) → same_line (upright x y) l ≡ is_along 0 (x + 3) (y + 4) l
+up_along x y (upright u v) = grind (arith, nat_tests)
+up_along x y (level u v) = refl
+
+level_along : (x y : ℕ) (l : GridEdge) → same_line (level x y) l ≡ is_along 1 (x + 4) (y + 3) l
+level_along x y (level u v) = grind (arith, nat_tests)
+level_along x y (upright u v) = refl
+
+-- the edges of a path's inside are those along its lines
+changes-inside : (b : Image) (policy : Policy) (sign : Sign) (s : Edge) (es : List Edge) → IsCircuit b policy sign s es → (k x y : ℕ) → k < 2
+    → changes (inside_edges es) k x y ≡ odd_by (λ e. is_along k x y (line_of e)) es
+changes-inside b policy sign s es c zero x y p =
+    let i : Image = inside_edges es in
+    elim (cases_lt x 3) [
+      | inl left ↦
+          ap (λ t. differ t (behind i 4 (suc x) y)) (behind-left i x y (omega arith)) ∙ behind-left i (suc x) y (omega arith)
+          ∙ sym (none_along 0 x y es (λ l. up_out x y l (inl left)))
+      | inr right ↦ elim (cases_lt y 4) [
+        | inl low ↦
+            ap (λ t. differ t (behind i 4 (suc x) y)) (behind-low i x y low) ∙ behind-low i (suc x) y low
+            ∙ sym (none_along 0 x y es (λ l. up_out x y l (inr low)))
+        | inr high ↦
+            let u : ℕ = x - 3 in
+            let v : ℕ = y - 4 in
+            let column : x ≡ u + 3 = omega arith in
+            let row : y ≡ suc v + 3 = omega arith in
+            let place : suc v + 3 ≡ v + 4 = omega arith in
+            ap (λ n. changes i 0 n y) column ∙ ap (changes i 0 (u + 3)) row
+            ∙ changes-down i u (suc v)
+            ∙ is_edge-inside_edges b policy sign s es c.boundary c.closes (upright u v)
+            ∙ odd_by-same (λ e. same_line (upright u v) (line_of e)) (λ e. is_along 0 (u + 3) (v + 4) (line_of e)) (λ e. up_along u v (line_of e)) es
+            ∙ sym (ap (λ n. odd_by (λ e. is_along 0 n y (line_of e)) es) column ∙ ap (λ n. odd_by (λ e. is_along 0 (u + 3) n (line_of e)) es) (row ∙ place))
+      ]
+    ]
+changes-inside b policy sign s es c (suc zero) x y p =
+    let i : Image = inside_edges es in
+    elim (cases_lt x 4) [
+      | inl left ↦
+          ap (λ t. differ t (behind i 4 x (suc y))) (behind-left i x y left) ∙ behind-left i x (suc y) left
+          ∙ sym (none_along 1 x y es (λ l. level_out x y l (inl left)))
+      | inr right ↦ elim (cases_lt y 3) [
+        | inl low ↦
+            ap (λ t. differ t (behind i 4 x (suc y))) (behind-low i x y (omega arith)) ∙ behind-low i x (suc y) (omega arith)
+            ∙ sym (none_along 1 x y es (λ l. level_out x y l (inr low)))
+        | inr high ↦
+            let u : ℕ = x - 4 in
+            let v : ℕ = y - 3 in
+            let column : x ≡ suc u + 3 = omega arith in
+            let row : y ≡ v + 3 = omega arith in
+            let place : suc u + 3 ≡ u + 4 = omega arith in
+            ap (λ n. changes i 1 n y) column ∙ ap (changes i 1 (suc u + 3)) row
+            ∙ changes-left i (suc u) v
+            ∙ is_edge-inside_edges b policy sign s es c.boundary c.closes (level u v)
+            ∙ odd_by-same (λ e. same_line (level u v) (line_of e)) (λ e. is_along 1 (u + 4) (v + 3) (line_of e)) (λ e. level_along u v (line_of e)) es
+            ∙ sym (ap (λ n. odd_by (λ e. is_along 1 n y (line_of e)) es) (column ∙ place) ∙ ap (λ n. odd_by (λ e. is_along 1 (u + 4) n (line_of e)) es) row)
+      ]
+    ]
+changes-inside b policy sign s es c (suc (suc k)) x y p = absurd (omega arith)
+
+-- ---- what is left
+
+behind-differ : (b i : Image) (x y : ℕ) → behind (λ u v. differ (b u v) (i u v)) 4 x y ≡ differ (behind b 4 x y) (behind i 4 x y)
+behind-differ b i x y = go (nat_le 4 x && nat_le 4 y) (b (x - 4) (y - 4)) (i (x - 4) (y - 4))
+  where
+    go : (t p q : Bool) → t && differ p q ≡ differ (t && p) (t && q)
+    go true p q = refl
+    go false p q = refl
+
+changes-differ : (b i : Image) (k x y : ℕ) → changes (λ u v. differ (b u v) (i u v)) k x y ≡ differ (changes b k x y) (changes i k x y)
+changes-differ b i zero x y =
+    ap (λ t. differ t (behind (λ u v. differ (b u v) (i u v)) 4 (suc x) y)) (behind-differ b i x y)
+    ∙ ap (differ (differ (behind b 4 x y) (behind i 4 x y))) (behind-differ b i (suc x) y)
+    ∙ differ_swap (behind b 4 x y) (behind i 4 x y) (behind b 4 (suc x) y) (behind i 4 (suc x) y)
+changes-differ b i (suc k) x y =
+    ap (λ t. differ t (behind (λ u v. differ (b u v) (i u v)) 4 x (suc y))) (behind-differ b i x y)
+    ∙ ap (differ (differ (behind b 4 x y) (behind i 4 x y))) (behind-differ b i x (suc y))
+    ∙ differ_swap (behind b 4 x y) (behind i 4 x y) (behind b 4 x (suc y)) (behind i 4 x (suc y))
+
+-- without the edges along a path's lines, those of the image inverted inside it are left
+pub edges_left : (b : Image) (rows : ℕ) (old new : List ℕ) (points : List Point) → AreWalked b points → AreEdgesOf b rows old
+    → ((k x y : ℕ) → k < 2 → has_edge rows new k x y ≡ differ (has_edge rows old k x y) (is_odd (count_by (is_along k x y) (lines_of points)))) → AreEdgesOf (inverted b points) rows new
+edges_left b rows old new points w edges flipped k x y p =
+    let c = walk_circuit b w.policy w.sign w.x w.y points w.first w.walk in
+    let es : List Edge = w.walk.edges in
+    let along : is_odd (count_by (is_along k x y) (lines_of points)) ≡ changes (inside points) k x y =
+    is_odd-count (is_along k x y) (lines_of points)
+    ∙ ap (odd_by (is_along k x y)) (walk_lines b w.policy w.sign w.x w.y points w.first w.walk)
+    ∙ odd_by-map (is_along k x y) line_of es
+    ∙ sym (changes-inside b w.policy w.sign (first_edge w.x w.y) es c k x y p)
+    ∙ ap (λ i. changes i k x y) (sym (walk_inside b w.policy w.sign w.x w.y points w.first w.walk)) in
+    flipped k x y p
+    ∙ ap (λ t. differ t (is_odd (count_by (is_along k x y) (lines_of points)))) (edges k x y p)
+    ∙ ap (differ (changes b k x y)) along
+    ∙ sym (changes-differ b (inside points) k x y)
+
+-- so the words are those of a page again
+pub left_page : (w h rows strips : ℕ) (old new : List ℕ) (page : Page) (points : List Point) → AreEdges w h rows strips old → page_of w h (bounded_image rows old) ≡ page → length new ≡ length old → AreWalked (image_of page) points
+    → ((k x y : ℕ) → k < 2 → has_edge rows new k x y ≡ differ (has_edge rows old k x y) (is_odd (count_by (is_along k x y) (lines_of points))))
+    → AreEdges w h rows strips new × SameSides page (page_of w h (bounded_image rows new)) × ((u v : ℕ) → image_of (page_of w h (bounded_image rows new)) u v ≡ inverted (image_of page) points u v)
+left_page w h rows strips old new page points a is size walked flipped =
+    let shown : image_of page ≡ bounded_image rows old = ap image_of (sym is) ∙ image_of-bounded w h (bounded_image rows old) a.fits in
+    let b : Image = image_of page in
+    let edges : AreEdgesOf b rows old = subst (λ i. AreEdgesOf i rows old) (sym shown) a.edges in
+    let left : AreEdgesOf (inverted b points) rows new = edges_left b rows old new points walked edges flipped in
+    let image : bounded_image rows new ≡ inverted b points = bounded_is (inverted b points) rows new left in
+    let fits : Fits b w h = subst (λ i. Fits i w h) (sym shown) a.fits in
+    let still : Fits (inverted b points) w h = fits_differ b (inside points) w h fits (walk_fits b walked.policy walked.sign walked.x walked.y points w h walked.first walked.walk fits) in
+    let fits_new : Fits (bounded_image rows new) w h = subst (λ i. Fits i w h) (sym image) still in (
+      record {
+        some_width = a.some_width;
+        most_width = a.most_width;
+        some_height = a.some_height;
+        most_height = a.most_height;
+        row_count = a.row_count;
+        strip_count = a.strip_count;
+        word_count = size ∙ a.word_count;
+        fits = fits_new;
+        edges = subst (λ i. AreEdgesOf i rows new) (sym image) left;
+      },
+      record { width = ap (λ (p : Page). p.width) is; height = ap (λ (p : Page). p.height) is },
+      λ u v. ap (λ i. i u v) (image_of-bounded w h (bounded_image rows new) fits_new ∙ image),
+    )
+
+-- a corner of the page has room
+room_of : (w h rows strips size : ℕ) (p : Point) → w ≤ LONGEST_SIDE → h ≤ LONGEST_SIDE → rows ≡ h + 8 → strips ≡ w / 64 + 2 → size ≡ 2 * (strips * rows) → IsCornerOf w h p → FitsStrips rows size p
+room_of w h rows strips size p narrow low row_count strip_count words corner =
+    let x : nat_abs p.x ≤ w = natural p.x w corner.from_left corner.to_right in
+    let y : nat_abs p.y ≤ h = natural p.y h corner.from_bottom corner.to_top in
+    let strip : (nat_abs p.x + 3) / 64 + 1 ≤ strips = omega arith in
+    let all : ((nat_abs p.x + 3) / 64 + 1) * rows ≤ strips * rows = mul-le ((nat_abs p.x + 3) / 64 + 1) rows strips rows strip (omega arith) in
+    record { right = corner.from_left; above = corner.from_bottom; column = omega arith; row = omega arith; height = omega arith; room = omega arith }
+  where
+    natural : (a : ℤ) (n : ℕ) → pos 0 ≤ℤ a → a ≤ℤ pos n → nat_abs a ≤ n
+    natural a n low high = omega (arith, ints)
+
+pub rooms : (w h rows strips : ℕ) (words : List ℕ) (b : Image) (points : List Point) → AreEdges w h rows strips words → Fits b w h → AreWalked b points → All (FitsStrips rows (length words)) points
+rooms w h rows strips words b points a fits walked =
+    let c = walk_circuit b walked.policy walked.sign walked.x walked.y points walked.first walked.walk in
+    let on : All (IsCornerOf w h) points = subst (All (IsCornerOf w h)) (sym walked.walk.starts) (corners b walked.policy walked.sign (first_edge walked.x walked.y) walked.walk.edges c w h fits) in
+    λ k d below. room_of w h rows strips (length words) (get_or points k d) a.most_width a.most_height a.row_count a.strip_count a.word_count (on k d below)
+
+pub walk_closed : (w h : ℕ) (b : Image) (points : List Point) → w ≤ LONGEST_SIDE → h ≤ LONGEST_SIDE → Fits b w h → AreWalked b points → IsClosedWalk points
+walk_closed w h b points narrow low fits walked =
+    let c = walk_circuit b walked.policy walked.sign walked.x walked.y points walked.first walked.walk in
+    subst IsClosedWalk (sym walked.walk.starts) (closed_walk b walked.policy walked.sign (first_edge walked.x walked.y) walked.walk.edges c w h fits narrow low)
+
+pub self_fits : (w h rows strips : ℕ) (words : List ℕ) (page : Page) → AreEdges w h rows strips words → page_of w h (bounded_image rows words) ≡ page → Fits (image_of page) w h
+self_fits w h rows strips words page a is =
+    subst (λ i. Fits i w h) (sym (ap image_of (sym is) ∙ image_of-bounded w h (bounded_image rows words) a.fits)) a.fits

@@ -1,0 +1,35 @@
+-- The kind is that of the line, and the greater column and row are where its edge stands.
+use Rattle.std.proofs.Common.{◌≡◌, ◌≢◌, ◌+◌, ◌∙◌, max, nat_abs, ap, sym, w32, to_z, of_z}
+use Rattle.std.proofs.lemmas.Bool.{eq-eqb, false≢true}
+use Rattle.bit_image.specs.Image.{differ}
+use Rattle.path_decompose.specs.Inner.BoundaryBits.{has_edge, same_edge}
+use Rattle.path_decompose.proofs.Taken.{word_back, spot_is}
+use Rattle.path_decompose.proofs.edges.flip_line.Goals as goal
+use Rattle.path_decompose.proofs.edges.flip_line.Goals.{then-x-end_x, else-x-end_x}
+
+pub returns-clause-edges : goal.returns-clause-edges
+returns-clause-edges c = λ k u v p.
+    let from = c.args.from in
+    let to = c.args.to in
+    let here = c.requires.from in
+    let there = c.requires.to in
+    let kind = c.if-x-end_x.kind in
+    let px = word_back from.x here.right here.column in
+    let qx = word_back to.x there.right there.column in
+    let py = word_back from.y here.above here.height in
+    let qy = word_back to.y there.above there.height in
+    let column : c.max.result ≡ max (nat_abs from.x) (nat_abs to.x) = c.max.ensures ∙ ap (λ z. max (nat_abs z) (nat_abs (to_z w32 (of_z w32 to.x)))) px ∙ ap (λ z. max (nat_abs from.x) (nat_abs z)) qx in
+    let row : c.max-2.result ≡ max (nat_abs from.y) (nat_abs to.y) = c.max-2.ensures ∙ ap (λ z. max (nat_abs z) (nat_abs (to_z w32 (of_z w32 to.y)))) py ∙ ap (λ z. max (nat_abs from.y) (nat_abs z)) qy in
+    c.flip.ensures.edges k u v p
+    ∙ ap (differ (has_edge c.args.rows c.args.words.now k u v))
+    (ap (λ n. same_edge kind (n + 3) (c.max-2.result + 3) k u v) column
+    ∙ ap (λ n. same_edge kind (max (nat_abs from.x) (nat_abs to.x) + 3) (n + 3) k u v) row
+    ∙ spot_is c.args.rows _ from to kind k u v here there c.requires.step
+    (λ e. elim c.if-x-end_x.branch [
+      | then-x-end_x w ↦ w.kind-is
+      | else-x-end_x w ↦ let apart : nat_abs from.x ≢ nat_abs to.x = let h = w.if-x-end_x.false in rw (px, qx) at h in absurd (apart e)
+    ])
+    (λ e. elim c.if-x-end_x.branch [
+      | then-x-end_x w ↦ let same : nat_abs from.x ≡ nat_abs to.x = let h = w.if-x-end_x.true in rw (px, qx) at h in absurd (false≢true (sym e ∙ eq-eqb (nat_abs from.x) (nat_abs to.x) same))
+      | else-x-end_x w ↦ w.kind-is
+    ]))

@@ -1,0 +1,86 @@
+-- The boundary edges that are left of a page, as bits of words. Edges of kind 0 go down from a corner, and edges of kind 1 go left.
+-- Corner (x, y) of the page stands in column x + 3 and row y + 3 here: before it is a margin, so that the square of pixels around each
+-- corner of the page has its place. Pixel (x, y) of that square is the one that `behind b 4` gives.
+use Rattle.std.specs.Prelude.{◌≡◌, ◌^◌, nat_abs, pos, ◌≤ℤ◌, ℕ, zero, suc, ◌+◌, ◌*◌, ◌/◌, ◌%◌, ◌≤◌, ◌<◌, Bool, false, ◌&&◌, nat_eq, nat_lt, List, ◌∷◌, length, slice_index_or}
+use Rattle.pt_core.specs.declared.limits.TheConstants.{LONGEST_SIDE}
+use Rattle.pt_core.specs.declared.path.Sign.{Sign}
+use Rattle.pt_core.specs.declared.point.Point.{Point}
+use Rattle.pt_core.specs.declared.policy.Policy.{Policy}
+use Rattle.bit_image.specs.FirstBlack.{IsFirstBlack}
+use Rattle.bit_image.specs.Image.{Image, Fits, differ}
+use Rattle.bit_image.specs.Words.{is_one}
+use Rattle.bit_image.specs.Inner.Words.{black_in}
+use Rattle.turn_policies.specs.Majority.{behind}
+use Rattle.path_decompose.specs.GridEdges.{GridEdge, upright, level}
+use Rattle.path_decompose.specs.Walk.{IsBoundaryWalk}
+
+-- where the word stands that has the edges of a kind in one row of a strip of 64 columns
+abbrev pub word_place : ℕ → ℕ → ℕ → ℕ → ℕ
+word_place rows kind strip y = 2 * (strip * rows + y) + kind
+
+-- the words have an edge of a kind in a column and a row, where each strip has so many rows
+unfoldable pub has_edge : ℕ → List ℕ → ℕ → ℕ → ℕ → Bool
+has_edge rows words kind x y =
+    nat_lt y rows && is_one (slice_index_or words (word_place rows kind (x / 64) y) 0) (x % 64)
+
+-- an image changes between a pixel and the next one in its row, or the one above it
+abbrev pub changes : Image → ℕ → ℕ → ℕ → Bool
+changes b zero x y = differ (behind b 4 x y) (behind b 4 (suc x) y)
+changes b (suc kind) x y = differ (behind b 4 x y) (behind b 4 x (suc y))
+
+-- the words have the edges of an image
+abbrev pub AreEdgesOf : Image → ℕ → List ℕ → Type 0
+AreEdgesOf b rows words = (kind x y : ℕ) → kind < 2 → has_edge rows words kind x y ≡ changes b kind x y
+
+-- a pixel is black where an odd number of edges stands on its left
+abbrev pub black_past : ℕ → List ℕ → ℕ → ℕ → Bool
+black_past rows words zero y = false
+black_past rows words (suc x) y = differ (black_past rows words x y) (has_edge rows words 0 x y)
+
+-- the image that the edges bound
+abbrev pub bounded_image : ℕ → List ℕ → Image
+bounded_image rows words x y = black_past rows words (x + 4) (y + 4)
+
+-- the words have all edges of an image that fits a page, with room for the squares around its corners
+pub record AreEdges (width height rows strips : ℕ) (words : List ℕ) : Type 0 where
+  pub some_width : 1 ≤ width
+  pub most_width : width ≤ LONGEST_SIDE
+  pub some_height : 1 ≤ height
+  pub most_height : height ≤ LONGEST_SIDE
+  pub row_count : rows ≡ height + 8
+  pub strip_count : strips ≡ width / 64 + 2
+  pub word_count : length words ≡ 2 * (strips * rows)
+  pub fits : Fits (bounded_image rows words) width height
+  pub edges : AreEdgesOf (bounded_image rows words) rows words
+
+-- two rows of words, one above the other, change between a pixel and the next one, or the one above it: 4 columns to the left
+abbrev pub changes_in : List ℕ → List ℕ → ℕ → ℕ → Bool
+changes_in below above zero x = differ (black_in (0 ∷ below) (x + 60)) (black_in (0 ∷ below) (x + 61))
+changes_in below above (suc kind) x = differ (black_in (0 ∷ below) (x + 60)) (black_in (0 ∷ above) (x + 60))
+
+-- two kinds, columns and rows are the same
+abbrev pub same_edge : ℕ → ℕ → ℕ → ℕ → ℕ → ℕ → Bool
+same_edge kind x y k u v = nat_eq kind k && (nat_eq x u && nat_eq y v)
+
+-- the edge of a kind in a column and a row lies along a line of the grid
+abbrev pub is_along : ℕ → ℕ → ℕ → GridEdge → Bool
+is_along k x y (upright u v) = same_edge 0 (u + 3) (v + 4) k x y
+is_along k x y (level u v) = same_edge 1 (u + 4) (v + 3) k x y
+
+-- words of this number have room for the edges of the corner at a point
+pub record FitsStrips (rows size : ℕ) (p : Point) : Type 0 where
+  pub right : pos 0 ≤ℤ p.x
+  pub above : pos 0 ≤ℤ p.y
+  pub column : nat_abs p.x + 3 < 2 ^ 16
+  pub row : nat_abs p.y + 3 < rows
+  pub height : nat_abs p.y + 3 < 2 ^ 16
+  pub room : 2 * (((nat_abs p.x + 3) / 64 + 1) * rows) ≤ size
+
+-- the points are those of a path that starts at the first black pixel, under some policy
+pub record AreWalked (b : Image) (points : List Point) : Type 0 where
+  pub policy : Policy
+  pub sign : Sign
+  pub x : ℕ
+  pub y : ℕ
+  pub first : IsFirstBlack b x y
+  pub walk : IsBoundaryWalk b policy sign x y points

@@ -1,0 +1,248 @@
+//! The boundary edges that are left of a page, and so the image that is left.
+ghost use Rattle.std.specs.Prelude.{◌≡◌, ◌≢◌, ℕ, suc, ◌+◌, ◌-◌, ◌*◌, ◌/◌, ◌≤◌, ◌<◌, ◌^◌, ◌&&◌, nat_le, true, false, length, IfOk, IsNone, IfSome, ◌↔◌, All, count_by};
+ghost use Rattle.bit_image.specs.FirstBlack.{IsFirstBlackFrom};
+ghost use Rattle.bit_image.specs.Image.{Fits, IsWhiteTo, differ, south_west};
+ghost use Rattle.bit_image.specs.Page.{IsPage, SameSides, image_of, page_of};
+ghost use Rattle.bit_image.specs.Inner.Words.{black_in};
+ghost use Rattle.turn_policies.specs.Inner.Square.{IsSquare};
+ghost use Rattle.path_decompose.specs.Inner.BoundaryBits.{has_edge, AreEdgesOf, AreWalked, FitsStrips, is_along};
+ghost use Rattle.path_decompose.specs.Decomposition.{inverted};
+ghost use Rattle.path_decompose.specs.Inside.{line_between, lines_of, is_odd};
+ghost use Rattle.pt_core.specs.ClosedWalk.{IsUnitStep, IsClosedWalk};
+
+use crate::square::relative_square;
+use crate::strips::{self, DOWN, LEFT, flip};
+use bit_image::Bitmap;
+use pt_core::{NoMemory, Point};
+use std::alloc::Global;
+use std::marker::Model;
+
+/// How many columns and rows without edges lie before those of a page's first corners.
+const MARGIN: u32 = 3;
+
+/// How many rows of corners the strips have beside the page's rows.
+const ROWS_BESIDE: usize = 8;
+
+/// How many strips there are beside those that the page's columns fill.
+const STRIPS_BESIDE: usize = 2;
+
+/// The boundary edges that are left of a page. They bound the image that is left: each has a black pixel on one side and
+/// a white one on the other.
+///
+/// Each corner has an edge that goes down and one that goes left. They stand in strips of 64 columns, with margins in
+/// which the square of pixels around each corner has its place, so that no step of a walk asks where the page ends.
+#[derive(Debug, Drop)]
+pub(crate) struct Edges {
+    width: u32,
+    height: u32,
+    rows: usize,
+    strips: usize,
+    words: Vec<u64>,
+}
+
+impl Model for Edges {
+    ghost use Rattle.bit_image.specs.Page.{Page, page_of};
+    ghost use Rattle.path_decompose.specs.Inner.BoundaryBits.{bounded_image, AreEdges};
+
+    ghost Value = { Page };
+
+    ghost view = { λ a. page_of a.width a.height (bounded_image a.rows a.words.items) };
+
+    ghost invariant = { λ a. AreEdges a.width a.height a.rows a.strips a.words.items };
+}
+
+impl Edges {
+    /// The boundary edges of a page.
+    pub(crate) fn of(alloc: Global, page: &Bitmap) -> Result<Edges, NoMemory>
+        ensures { IfOk result (λ edges. edges ≡ page.now) }
+    {
+        let (width, height) = (page.width(), page.height());
+        let rows = height as usize + ROWS_BESIDE;
+        let strips = width as usize / 64 + STRIPS_BESIDE;
+        let mut words = vec![in alloc; 0u64; 2 * (strips * rows)]?;
+        let white = vec![in alloc; 0u64; (width as usize + 63) / 64]?;
+        put_page(&mut words, rows, page, &white);
+        Ok(Edges {
+            width,
+            height,
+            rows,
+            strips,
+            words,
+        })
+    }
+
+    pub(crate) fn width(&self) -> u32
+        ensures value { result ≡ self.now.width }
+        ensures page { IsPage self.now }
+        ensures fits { Fits (image_of self.now) self.now.width self.now.height }
+    {
+        self.width
+    }
+
+    pub(crate) fn height(&self) -> u32
+        ensures value { result ≡ self.now.height }
+        ensures page { IsPage self.now }
+        ensures fits { Fits (image_of self.now) self.now.width self.now.height }
+    {
+        self.height
+    }
+
+    /// Whether an edge goes down from corner (x, y).
+    #[inline(always)]
+    pub(crate) fn goes_down(&self, x: u32, y: u32) -> bool
+        requires x { x ≤ self.now.width + 1 }
+        requires y { y ≤ self.now.height + 1 }
+        ensures { result ≡ differ (south_west (image_of self.now) x y) (south_west (image_of self.now) (suc x) y) }
+    {
+        strips::has_edge(&self.words, self.rows, DOWN, x + MARGIN, y + MARGIN)
+    }
+
+    /// Whether an edge goes left from corner (x, y).
+    #[inline(always)]
+    pub(crate) fn goes_left(&self, x: u32, y: u32) -> bool
+        requires x { x ≤ self.now.width + 1 }
+        requires y { y ≤ self.now.height + 1 }
+        ensures { result ≡ differ (south_west (image_of self.now) x y) (south_west (image_of self.now) x (suc y)) }
+    {
+        strips::has_edge(&self.words, self.rows, LEFT, x + MARGIN, y + MARGIN)
+    }
+
+    /// The square of 64 pixels with corner (x, y) at its middle, where it is known whether pixel (x, y) is black: bits 0
+    /// to 7 are its lowest row from the left, bits 8 to 15 the next one, and so on.
+    pub(crate) fn square(&self, x: u32, y: u32, black: bool) -> u64
+        requires x { x ≤ self.now.width }
+        requires y { y ≤ self.now.height }
+        requires pixel { black ≡ image_of self.now x y }
+        ensures { IsSquare result (image_of self.now) x y }
+    {
+        let square = relative_square(&self.words, self.rows, x, y);
+        let wrong = (square >> 36 & 1 == 1) != black;
+        if wrong { square ^ u64::MAX } else { square }
+    }
+
+    /// The first column from `x` on whose pixel in row `y` is black, where all is white on its left.
+    pub(crate) fn first_black_in_row(&self, x: u32, y: u32) -> Option<u32>
+        requires column { x < self.now.width }
+        requires row { y < self.now.height }
+        requires white { (u : ℕ) → u < x → image_of self.now u y ≡ false }
+        ensures none { IsNone result → (u : ℕ) → x ≤ u → image_of self.now u y ≡ false }
+        ensures black { IfSome result (λ column.
+            (x ≤ column) × (image_of self.now column y ≡ true)) }
+        ensures left { IfSome result (λ column.
+            (u : ℕ) → x ≤ u → u < column → image_of self.now u y ≡ false) }
+    {
+        // The width is touched, so that the proof sees that the sides are short.
+        let _ = &self.width;
+        let (x, y) = (x + MARGIN, y + 1 + MARGIN);
+        match strips::first_edge(&self.words, self.rows, self.strips, x, y) {
+            Some(column) => Some(column - MARGIN),
+            None => None,
+        }
+    }
+
+    /// The column and the row of the first black pixel of rows `from` down to 0.
+    ///
+    /// It is the leftmost one of the uppermost of these rows that has one.
+    pub(crate) fn first_black(&self, from: u32) -> Option<(u32, u32)>
+        requires { from < self.now.height }
+        ensures none { IsNone result ↔ IsWhiteTo (image_of self.now) from }
+        ensures first { IfSome result (λ place.
+            IsFirstBlackFrom (image_of self.now) from place.0 place.1) }
+    {
+        // The width is touched, so that the proof sees that `from` is within the longest side.
+        let _ = &self.width;
+        for y in (0..from + 1).rev() {
+            if let Some(x) = self.first_black_in_row(0, y) {
+                return Some((x, y));
+            }
+        }
+        None
+    }
+
+    /// Takes away the edges of a path. So the image that is left is inverted inside it.
+    pub(crate) fn take_away(&mut self, points: &[Point])
+        requires path { AreWalked (image_of self.old) points.now }
+        ensures sides { SameSides self.old self.new }
+        ensures pixels { (u v : ℕ)
+            → image_of self.new u v ≡ inverted (image_of self.old) points.now u v }
+    {
+        flip_path(&mut self.words, self.rows, points);
+    }
+}
+
+/// Flips the edges along the lines of a closed walk.
+fn flip_path(words: &mut [u64], rows: usize, points: &[Point])
+    requires rows { rows < 2 ^ 16 }
+    requires closed { IsClosedWalk points.now }
+    requires room { All (FitsStrips rows (length words.old)) points.now }
+    ensures length { length words.new ≡ length words.old }
+    ensures edges { (k u v : ℕ) → k < 2 → has_edge rows words.new k u v
+        ≡ differ (has_edge rows words.old k u v) (is_odd (count_by (is_along k u v) (lines_of points.now))) }
+{
+    if let Some((first, rest)) = points.split_first() {
+        let mut from = *first;
+        'corners: for to in rest {
+            flip_line(words, rows, from, *to);
+            from = *to;
+        }
+        flip_line(words, rows, from, *first);
+    }
+}
+
+/// Flips the edge along the line between two corners one step apart.
+//
+// A line up or down is the edge that goes down from its upper corner, and one along a row the edge that goes left from
+// its right corner.
+#[inline(always)]
+fn flip_line(words: &mut [u64], rows: usize, from: Point, to: Point)
+    requires rows { rows < 2 ^ 16 }
+    requires from { FitsStrips rows (length words.old) from }
+    requires to { FitsStrips rows (length words.old) to }
+    requires step { IsUnitStep from to }
+    ensures length { length words.new ≡ length words.old }
+    ensures edges { (k u v : ℕ) → k < 2 → has_edge rows words.new k u v
+        ≡ differ (has_edge rows words.old k u v) (is_along k u v (line_between from to)) }
+{
+    let (x, y) = (from.x as u32, from.y as u32);
+    let (end_x, end_y) = (to.x as u32, to.y as u32);
+    let kind = if x == end_x { DOWN } else { LEFT };
+    flip(
+        words,
+        rows,
+        kind,
+        x.max(end_x) + MARGIN,
+        y.max(end_y) + MARGIN,
+    );
+}
+
+/// Puts the edges of a page into words that have none.
+fn put_page(words: &mut [u64], rows: usize, page: &Bitmap, white: &[u64])
+    requires rows { rows ≡ page.now.height + 8 }
+    requires room { length words.old ≡ 2 * ((page.now.width / 64 + 2) * rows) }
+    requires count { length white.now ≡ (page.now.width + 63) / 64 }
+    requires white { (u : ℕ) → black_in white.now u ≡ false }
+    requires none { (k u v : ℕ) → k < 2 → has_edge rows words.old k u v ≡ false }
+    ensures length { length words.new ≡ length words.old }
+    ensures edges { AreEdgesOf (image_of page.now) rows words.new }
+{
+    for y in MARGIN..page.height() + 1 + MARGIN {
+        let (below, above) = (row_behind(page, y, white), row_behind(page, y + 1, white));
+        strips::put_row(words, rows, y as usize, below, above);
+    }
+}
+
+/// The row of pixels 4 rows below row `y`, which is white where the page has none.
+fn row_behind<'a>(page: &'a Bitmap, y: u32, white: &'a [u64]) -> &'a [u64]
+    requires count { length white.now ≡ (page.now.width + 63) / 64 }
+    requires white { (u : ℕ) → black_in white.now u ≡ false }
+    ensures count { length result.now ≡ (page.now.width + 63) / 64 }
+    ensures pixels { (u : ℕ) → black_in result.now u ≡ (nat_le 4 y && image_of page.now u (y - 4)) }
+{
+    // Below row 0 this goes round to the greatest numbers, above any page.
+    let row = y.wrapping_sub(4);
+    if row < page.height() {
+        page.row_words(row)
+    } else {
+        white
+    }
+}

@@ -1,0 +1,175 @@
+//! Bits for the edges around the corners of a page: strips of 64 columns, with a word for each row from the lowest up.
+//!
+//! A word has the edges that go down from 64 corners side by side, and the next word those that go left. The least
+//! significant bit is the leftmost one. So what lies above and below an edge is near it in memory too.
+ghost use Rattle.std.specs.Prelude.{◌≡◌, ◌≢◌, ◌⊎◌, IsNone, IfSome, true, ℕ, suc, ◌+◌, ◌-◌, ◌*◌, ◌/◌, ◌%◌, ◌^◌, ◌≤◌, ◌<◌, Bool, false, cond, ◌&&◌, nat_eq, [], ◌∷◌, length, slice_index_or};
+ghost use Rattle.bit_image.specs.Image.{differ};
+ghost use Rattle.bit_image.specs.Words.{is_one};
+ghost use Rattle.bit_image.specs.Inner.Words.{black_in};
+ghost use Rattle.path_decompose.specs.Inner.BoundaryBits.{word_place, has_edge, changes_in, same_edge};
+
+/// The kind of the edges that go down from a corner.
+pub(crate) const DOWN: usize = 0;
+
+/// The kind of the edges that go left from a corner.
+pub(crate) const LEFT: usize = 1;
+
+/// Where the word stands that has the edges of a kind in one row of a strip.
+#[inline(always)]
+fn word_place(rows: usize, kind: usize, strip: usize, y: usize) -> usize
+    requires kind { kind < 2 }
+    requires strip { strip < 2 ^ 16 }
+    requires rows { rows < 2 ^ 16 }
+    requires y { y < rows }
+    ensures { result ≡ word_place rows kind strip y }
+{
+    2 * (strip * rows + y) + kind
+}
+
+/// Whether there is an edge of a kind in a column and a row.
+#[inline(always)]
+pub(crate) fn has_edge(words: &[u64], rows: usize, kind: usize, x: u32, y: u32) -> bool
+    requires kind { kind < 2 }
+    requires rows { rows < 2 ^ 16 }
+    requires y { y < rows }
+    requires x { x < 2 ^ 16 }
+    requires room { 2 * ((x / 64 + 1) * rows) ≤ length words.now }
+    ensures { result ≡ has_edge rows words.now kind x y }
+{
+    words[word_place(rows, kind, x as usize / 64, y as usize)] >> (x % 64) & 1 == 1
+}
+
+/// Adds an edge of a kind, or takes it away where it is there.
+#[inline(always)]
+pub(crate) fn flip(words: &mut [u64], rows: usize, kind: usize, x: u32, y: u32)
+    requires kind { kind < 2 }
+    requires rows { rows < 2 ^ 16 }
+    requires y { y < rows }
+    requires x { x < 2 ^ 16 }
+    requires room { 2 * ((x / 64 + 1) * rows) ≤ length words.old }
+    ensures length { length words.new ≡ length words.old }
+    ensures edges { (k u v : ℕ) → k < 2 → has_edge rows words.new k u v
+        ≡ differ (has_edge rows words.old k u v) (same_edge kind x y k u v) }
+{
+    words[word_place(rows, kind, x as usize / 64, y as usize)] ^= 1u64 << (x % 64);
+}
+
+/// Puts the edges of a kind into one row of a strip that has none there.
+///
+/// Words that are 0 already aren't written, since memory that nobody wrote costs nothing.
+#[inline(always)]
+fn put(words: &mut [u64], rows: usize, kind: usize, strip: usize, y: usize, edges: u64)
+    requires kind { kind < 2 }
+    requires strip { strip < 2 ^ 16 }
+    requires rows { rows < 2 ^ 16 }
+    requires y { y < rows }
+    requires room { 2 * ((strip + 1) * rows) ≤ length words.old }
+    requires none { (u : ℕ) → u / 64 ≡ strip → has_edge rows words.old kind u y ≡ false }
+    ensures length { length words.new ≡ length words.old }
+    ensures edges { (k u v : ℕ) → k < 2 → has_edge rows words.new k u v
+        ≡ cond (same_edge kind strip y k (u / 64) v) (is_one edges (u % 64))
+        (has_edge rows words.old k u v) }
+{
+    if edges != 0 {
+        words[word_place(rows, kind, strip, y)] = edges;
+    }
+}
+
+/// Puts the edges along a row of pixels, and between it and the row above, into row `y` of the strips, which has none.
+pub(crate) fn put_row(words: &mut [u64], rows: usize, y: usize, below: &[u64], above: &[u64])
+    requires count { length above.now ≡ length below.now }
+    requires few { length below.now < 2 ^ 15 }
+    requires rows { rows < 2 ^ 16 }
+    requires y { y < rows }
+    requires room { 2 * ((length below.now + 1) * rows) ≤ length words.old }
+    requires none { (k u : ℕ) → k < 2 → has_edge rows words.old k u y ≡ false }
+    ensures length { length words.new ≡ length words.old }
+    ensures row { (k u : ℕ) → k < 2
+        → has_edge rows words.new k u y ≡ changes_in below.now above.now k u }
+    ensures others { (k u v : ℕ) → k < 2 → v ≢ y
+        → has_edge rows words.new k u v ≡ has_edge rows words.old k u v }
+{
+    for strip in 0..below.len() + 1 {
+        put_strip(words, rows, strip, y, below, above);
+    }
+}
+
+/// Puts the edges of one strip of such a row.
+#[inline(always)]
+fn put_strip(words: &mut [u64], rows: usize, strip: usize, y: usize, below: &[u64], above: &[u64])
+    requires count { length above.now ≡ length below.now }
+    requires strip { strip ≤ length below.now }
+    requires few { length below.now < 2 ^ 15 }
+    requires rows { rows < 2 ^ 16 }
+    requires y { y < rows }
+    requires room { 2 * ((strip + 1) * rows) ≤ length words.old }
+    requires none { (k u : ℕ) → k < 2 → u / 64 ≡ strip → has_edge rows words.old k u y ≡ false }
+    ensures length { length words.new ≡ length words.old }
+    ensures row { (k u : ℕ) → k < 2 → u / 64 ≡ strip
+        → has_edge rows words.new k u y ≡ changes_in below.now above.now k u }
+    ensures others { (k u v : ℕ) → k < 2 → (u / 64 ≢ strip) ⊎ (v ≢ y)
+        → has_edge rows words.new k u v ≡ has_edge rows words.old k u v }
+{
+    let pixels = pixels_behind(below, strip, 4);
+    let down = pixels ^ pixels_behind(below, strip, 3);
+    let left = pixels ^ pixels_behind(above, strip, 4);
+    put(words, rows, DOWN, strip, y, down);
+    put(words, rows, LEFT, strip, y, left);
+}
+
+/// The 64 pixels of a row that begin so many columns left of a strip.
+#[inline(always)]
+fn pixels_behind(row: &[u64], strip: usize, by: u32) -> u64
+    requires strip { strip ≤ length row.now }
+    requires some { 1 ≤ by }
+    requires most { by < 64 }
+    ensures { (i : ℕ) → i < 64 → is_one result i ≡ black_in (0 ∷ row.now) (64 * strip + 64 - by + i) }
+{
+    let before = if strip > 0 { row[strip - 1] } else { 0 };
+    let here = if strip < row.len() { row[strip] } else { 0 };
+    here << by | before >> (64 - by)
+}
+
+/// The first column from column `x` on with an edge that goes down in a row.
+pub(crate) fn first_edge(words: &[u64], rows: usize, strips: usize, x: u32, y: u32) -> Option<u32>
+    requires rows { rows < 2 ^ 16 }
+    requires strips { strips < 2 ^ 10 }
+    requires y { y < rows }
+    requires x { x / 64 < strips }
+    requires room { length words.now ≡ 2 * (strips * rows) }
+    ensures none { IsNone result → (u : ℕ) → x ≤ u → has_edge rows words.now 0 u y ≡ false }
+    ensures edge { IfSome result (λ column.
+        (x ≤ column) × (has_edge rows words.now 0 column y ≡ true)) }
+    ensures left { IfSome result (λ column. (u : ℕ) → x ≤ u → u < column
+        → has_edge rows words.now 0 u y ≡ false) }
+{
+    let first = x as usize / 64;
+    let word = words[word_place(rows, DOWN, first, y as usize)] & (u64::MAX << (x % 64));
+    if word != 0 {
+        return Some(64 * first as u32 + word.trailing_zeros());
+    }
+    for strip in first + 1..strips {
+        let word = words[word_place(rows, DOWN, strip, y as usize)];
+        if word != 0 {
+            return Some(64 * strip as u32 + word.trailing_zeros());
+        }
+    }
+    None
+}
+
+/// The edges that go down in 8 columns from column `x` on, in bits 0 to 7. What the other bits are isn't told.
+pub(crate) fn eight(words: &[u64], rows: usize, x: u32, y: u32) -> u64
+    requires rows { rows < 2 ^ 16 }
+    requires y { y < rows }
+    requires x { x < 2 ^ 16 }
+    requires room { 2 * ((x / 64 + 2) * rows) ≤ length words.now }
+    ensures { (i : ℕ) → i < 8 → is_one result i ≡ has_edge rows words.now 0 (x + i) y }
+{
+    let (strip, y) = (x as usize / 64, y as usize);
+    let first = words[word_place(rows, DOWN, strip, y)] >> (x % 64);
+    if x % 64 <= 56 {
+        first
+    } else {
+        first | words[word_place(rows, DOWN, strip + 1, y)] << (64 - x % 64)
+    }
+}
