@@ -10,6 +10,7 @@ const MOST_TURNS: u32 = 100_000_000;
 /// It holds its first call, whatever the page, until four calls have come, and gives up in the end.
 #[derive(Drop)]
 pub struct HoldsFirst {
+    most_turns: u32,
     calls: AtomicU64,
     // One added for each page, each in a byte of its own.
     pages: AtomicU64,
@@ -19,7 +20,17 @@ pub struct HoldsFirst {
 impl HoldsFirst {
     /// A gate that was never called.
     pub fn new() -> HoldsFirst {
+        HoldsFirst::for_turns(MOST_TURNS)
+    }
+
+    /// One that gives up at once, so that it holds no call.
+    pub fn open() -> HoldsFirst {
+        HoldsFirst::for_turns(0)
+    }
+
+    fn for_turns(most_turns: u32) -> HoldsFirst {
         HoldsFirst {
+            most_turns,
             calls: AtomicU64::new(0),
             pages: AtomicU64::new(0),
             met_limit: AtomicU64::new(0),
@@ -37,7 +48,7 @@ impl HoldsFirst {
     }
 
     fn hold(&self) {
-        for turn in 0..MOST_TURNS {
+        for turn in 0..self.most_turns {
             if self.calls.load(Ordering::SeqCst) >= 4 {
                 return;
             }
