@@ -1,19 +1,20 @@
 //! Runs over files in memory, and what is to come of them.
-ghost use Rattle.std.specs.Prelude.{◌≡◌, IfOk, string_bytes, true};
+ghost use Rattle.std.specs.Prelude.{◌≡◌, IfOk, is_some, true, false};
 
-use mem_outside::{InCall, MemInputs, MemOutputs, MemSink, NamedBytes, OutCall};
+use mem_outside::{InCall, MemInputs, MemOutputs, MemSink, OutCall};
+use page_samples::{HoldsFirst, listed, named, split};
 use potrace_main::run;
-use pt_core::{Gate, NoGate, NoMemory, Sink};
+use pt_core::{NoMemory, Sink};
 use std::alloc::Global;
 use std::process::Abort;
-use std::test::Fail;
 use std::thread::Threads;
 
 /// What a run is made of, and what is to come of it.
 #[derive(Clone, Copy)]
 pub struct Case<'a> {
-    /// The words, with a space between them.
+    /// The words, with a space between them, and those in front of them.
     pub words: &'a str,
+    pub in_front: &'static str,
     /// A file's name and its bytes.
     pub name: &'a str,
     pub input: &'a [u8],
@@ -41,6 +42,7 @@ pub struct Case<'a> {
 /// A run over an empty standard input where no call fails, which writes nothing and says nothing.
 pub const PLAIN: Case<'static> = Case {
     words: "",
+    in_front: "",
     name: "-",
     input: b"",
     other: None,
@@ -71,37 +73,60 @@ pub struct Done {
     pub errs: MemSink,
 }
 
+/// What a run is given, but for where its messages go.
+#[derive(Drop)]
+pub struct Outside {
+    pub words: Vec<String>,
+    pub inputs: MemInputs,
+    pub outs: MemOutputs,
+}
+
 impl<'a> Case<'a> {
     /// What the run did, or want of memory before it. Each page passes the gate.
-    pub fn done<R: Threads + Sync, G: Gate + Sync>(
+    pub fn done<R: Threads + Sync>(
         &self,
         rt: &R,
         alloc: Global,
-        gate: &G,
+        gate: &HoldsFirst,
     ) -> Result<Done, NoMemory> {
-        let unsaid = listed(alloc, self.unsaid)?;
-        let mut errs = MemSink::new(alloc, self.most_written.max(1), unsaid, 1000)?;
+        let mut errs = self.errs(alloc)?;
         let (status, outs) = self.done_saying(rt, alloc, gate, &mut errs)?;
         Ok(Done { status, outs, errs })
     }
 
     /// The status and the outputs of a run that says its messages to this sink.
-    pub fn done_saying<R: Threads + Sync, G: Gate + Sync, E: Sink>(
+    pub fn done_saying<R: Threads + Sync, E: Sink>(
         &self,
         rt: &R,
         alloc: Global,
-        gate: &G,
+        gate: &HoldsFirst,
         errs: &mut E,
     ) -> Result<(u8, MemOutputs), NoMemory>
         requires { E.is_ready errs.old ≡ true }
     {
-        let words = split(alloc, self.words)?;
-        let mut inputs = self.inputs(alloc)?;
-        let most = self.most_written.max(1);
-        let unwritten = listed(alloc, self.unwritten)?;
-        let mut outs = MemOutputs::new(alloc, most, unwritten, 65_537, self.room)?;
-        let status = run(rt, alloc, &words, &mut inputs, &mut outs, errs, gate);
-        Ok((status, outs))
+        let mut outside = self.outside(alloc)?;
+        let status = status_of(rt, alloc, &mut outside, errs, gate);
+        Ok((status, outside.outs))
+    }
+
+    /// What the run is given.
+    pub fn outside(&self, alloc: Global) -> Result<Outside, NoMemory>
+        ensures { IfOk result (λ outside. is_some outside.outs.documents.last_open ≡ false) }
+    {
+        let words = self.all_words(alloc)?;
+        let inputs = self.inputs(alloc)?;
+        let outs = self.outs(alloc)?;
+        Ok(Outside {
+            words,
+            inputs,
+            outs,
+        })
+    }
+
+    fn all_words(&self, alloc: Global) -> Result<Vec<String>, NoMemory> {
+        let mut words = split(alloc, self.in_front)?;
+        words.append(&mut split(alloc, self.words)?)?;
+        Ok(words)
     }
 
     fn inputs(&self, alloc: Global) -> Result<MemInputs, NoMemory> {
@@ -118,9 +143,28 @@ impl<'a> Case<'a> {
         }
     }
 
+    fn outs(&self, alloc: Global) -> Result<MemOutputs, NoMemory>
+        ensures { IfOk result (λ outs. is_some outs.documents.last_open ≡ false) }
+    {
+        let unwritten = listed(alloc, self.unwritten)?;
+        MemOutputs::new(
+            alloc,
+            self.most_written.max(1),
+            unwritten,
+            65_537,
+            self.room,
+        )
+    }
+
+    /// Where the messages go.
+    pub fn errs(&self, alloc: Global) -> Result<MemSink, NoMemory> {
+        let unsaid = listed(alloc, self.unsaid)?;
+        MemSink::new(alloc, self.most_written.max(1), unsaid, 1000)
+    }
+
     /// Runs, and looks at all that came of it.
-    pub fn check<R: Threads + Abort + Sync>(&self, rt: &R, alloc: Global) -> Result<(), Fail> {
-        let done = self.done(rt, alloc, &NoGate)?;
+    pub fn check<R: Threads + Abort + Sync>(&self, rt: &R, alloc: Global) -> Result<(), NoMemory> {
+        let done = self.done(rt, alloc, &HoldsFirst::open())?;
         self.expect(rt, &done);
         Ok(())
     }
@@ -130,43 +174,71 @@ impl<'a> Case<'a> {
         &self,
         rt: &R,
         alloc: Global,
-    ) -> Result<(), Fail> {
-        for workers in ["1", "2", "7", "64"] {
-            let words = format!(in alloc; "--workers {workers} {}", self.words)?;
-            Case {
-                words: &words,
-                ..*self
-            }
-            .check(rt, alloc)?;
+    ) -> Result<(), NoMemory> {
+        for in_front in ["--workers 1", "--workers 2", "--workers 7", "--workers 64"] {
+            Case { in_front, ..*self }.check(rt, alloc)?;
         }
         Ok(())
     }
 
     /// Looks at all that came of a run.
     pub fn expect(&self, rt: &impl Abort, done: &Done) {
-        assert_eq!(rt; done.errs.text(), self.said.as_bytes(), "{}", self.words);
-        self.expect_documents(rt, done.status, &done.outs);
+        assert_eq!(rt; self.amiss(done), "", "{} {}", self.in_front, self.words);
     }
 
-    /// Looks at how a run ended, and at its documents.
-    pub fn expect_documents(&self, rt: &impl Abort, status: u8, outs: &MemOutputs) {
-        let count = self.documents.len();
-        assert_eq!(rt;
-            (status, outs.count() as usize),
-            (self.status, count),
-            "{}",
-            self.words
-        );
-        for (i, (name, text)) in self.documents.iter().enumerate() {
-            let whole = !self.cut_off || i < count - 1;
-            assert_eq!(rt;
-                document_at(outs, i),
-                Some((name.as_bytes(), text.as_bytes(), whole)),
-                "{}",
-                self.words
-            );
+    /// What isn't as it is to come of a run; nothing where all is.
+    pub fn amiss(&self, done: &Done) -> &'static str {
+        if done.errs.text() == self.said.as_bytes() {
+            self.amiss_outside(done.status, &done.outs)
+        } else {
+            "messages"
         }
     }
+
+    /// The same, but for the messages.
+    pub fn amiss_outside(&self, status: u8, outs: &MemOutputs) -> &'static str {
+        if status != self.status {
+            "status"
+        } else if outs.count() as usize != self.documents.len() {
+            "number of documents"
+        } else if self.has_documents(outs) {
+            ""
+        } else {
+            "documents"
+        }
+    }
+
+    fn has_documents(&self, outs: &MemOutputs) -> bool {
+        for (i, (name, text)) in self.documents.iter().enumerate() {
+            let whole = !self.cut_off || i < self.documents.len() - 1;
+            if document_at(outs, i) != Some((name.as_bytes(), text.as_bytes(), whole)) {
+                return false;
+            }
+        }
+        true
+    }
+}
+
+/// How a run ended.
+fn status_of<R: Threads + Sync, E: Sink>(
+    rt: &R,
+    alloc: Global,
+    outside: &mut Outside,
+    errs: &mut E,
+    gate: &HoldsFirst,
+) -> u8
+    requires closed { is_some outside.old.outs.documents.last_open ≡ false }
+    requires ready { E.is_ready errs.old ≡ true }
+{
+    run(
+        rt,
+        alloc,
+        &outside.words,
+        &mut outside.inputs,
+        &mut outside.outs,
+        errs,
+        gate,
+    )
 }
 
 /// The name, the text and whether it is whole, of the document in this place.
@@ -179,43 +251,12 @@ pub fn document_at(outs: &MemOutputs, place: usize) -> Option<(&[u8], &[u8], boo
     }
 }
 
-/// One call or none.
-fn listed<T: Copy>(alloc: Global, call: Option<T>) -> Result<Vec<T>, NoMemory> {
-    let mut calls = Vec::new(alloc);
-    if let Some(call) = call {
-        calls.push(call)?;
-    }
-    Ok(calls)
-}
-
-/// A file of this name and these bytes.
-pub fn named(alloc: Global, name: &str, bytes: &[u8]) -> Result<NamedBytes, NoMemory>
-    ensures { IfOk result (λ file. string_bytes file.name ≡ name.now) }
-{
-    Ok(NamedBytes {
-        name: String::from_str(alloc, name)?,
-        bytes: Vec::from_slice(alloc, bytes)?,
-    })
-}
-
-/// The words of a line; an empty line has none, and two spaces have an empty word between them.
-pub fn split(alloc: Global, line: &str) -> Result<Vec<String>, NoMemory> {
-    let mut words = Vec::new(alloc);
-    if line.is_empty() {
-        return Ok(words);
-    }
-    for word in line.split(' ') {
-        words.push(String::from_str(alloc, word)?)?;
-    }
-    Ok(words)
-}
-
 /// Runs each case by 1, 2, 7 and 64 workers.
 pub fn check_all<R: Threads + Abort + Sync>(
     rt: &R,
     alloc: Global,
     cases: &[Case],
-) -> Result<(), Fail> {
+) -> Result<(), NoMemory> {
     for case in cases {
         case.check_by_all(rt, alloc)?;
     }
@@ -234,7 +275,7 @@ pub fn check_pages<R: Threads + Abort + Sync>(
     rt: &R,
     alloc: Global,
     pages: &[Page],
-) -> Result<(), Fail> {
+) -> Result<(), NoMemory> {
     for (words, input, documents) in pages {
         Case {
             words,

@@ -1,13 +1,13 @@
 //! Certificates of pages, and runs of their checker.
 
-use crate::tests::cases::{Case, PLAIN, Page, check_pages, named, split};
+use crate::tests::cases::{Case, Done, PLAIN, Page, check_pages};
 use crate::tests::pages::PAGES;
-use mem_outside::{MemInputs, MemOutputs, MemSink};
+use mem_outside::MemOutputs;
 use outline_check::{Verdict, check_proofs};
 use outline_check_run::check_run;
-use page_samples::numbered;
+use page_samples::{HoldsFirst, numbered};
 use page_trace::document;
-use pt_core::{Backend, NoGate, NoMemory, Policy, Settings};
+use pt_core::{Backend, NoMemory, Policy, Settings};
 use std::alloc::Global;
 use std::test::Fail;
 
@@ -29,27 +29,27 @@ const WRITTEN: &[Page] = &[
 ];
 
 #[test]
-fn certificates_of_pages(rt: HostRuntime) -> Result<(), Fail> {
+fn certificates_of_pages(rt: HostRuntime) -> Result<(), NoMemory> {
     check_pages(&rt, rt.alloc(), WRITTEN)
 }
 
-/// A word, standard input, the status, the document if there is one, and the message.
-const CHECKED: &[(&str, &str, u8, &[&str], &str)] = &[
-    ("", PIXEL, 0, &["right 1\n"], ""),
-    ("", PAIR, 0, &["right 1\n"], ""),
-    ("", "proofs 1 1 0\n", 0, &["right 0\n"], ""),
+/// Words, standard input, the status, the document if there is one, and the message.
+const CHECKED: &[(&str, &str, u8, &[(&str, &str)], &str)] = &[
+    ("", PIXEL, 0, &[("-", "right 1\n")], ""),
+    ("", PAIR, 0, &[("-", "right 1\n")], ""),
+    ("", "proofs 1 1 0\n", 0, &[("-", "right 0\n")], ""),
     (
         "",
         "proofs 1 1 1\npath 0,1 0,0 1,0 1,1\nat 0 1 2 3\nlabels 4:0 3:0 2:1 1:0 0:0\n",
         6,
-        &["wrong 1\n"],
+        &[("-", "wrong 1\n")],
         "",
     ),
     (
         "",
         "proofs 2 1 1\npath 0,1 0,0 1,0 2,0 2,1 1,1\nat 0 1 3 4\nlabels 3:294 3:0 2:147 2:0 1:0 1:0 0:0\n",
         6,
-        &["wrong 1\n"],
+        &[("-", "wrong 1\n")],
         "",
     ),
     ("", "", 2, &[], "outline_check: -: bad proofs\n"),
@@ -57,60 +57,47 @@ const CHECKED: &[(&str, &str, u8, &[&str], &str)] = &[
 ];
 
 #[test]
-fn runs_of_the_checker(rt: HostRuntime) -> Result<(), Fail> {
+fn runs_of_the_checker(rt: HostRuntime) -> Result<(), NoMemory> {
     for (words, input, status, documents, said) in CHECKED {
-        let same = ends_so(
-            rt.alloc(),
+        let case = Case {
             words,
-            input.as_bytes(),
-            *status,
+            input: input.as_bytes(),
+            status: *status,
             documents,
             said,
-        )?;
-        assert!(rt; same, "{input}");
+            ..PLAIN
+        };
+        let done = checked(rt.alloc(), &case)?;
+        assert_eq!(rt; case.amiss(&done), "", "{input}");
     }
     Ok(())
 }
 
-/// Whether a run of the checker over standard input in memory ends with this status, document and message.
-fn ends_so(
-    alloc: Global,
-    words: &str,
-    input: &[u8],
-    status: u8,
-    documents: &[&str],
-    said: &str,
-) -> Result<bool, NoMemory> {
-    let words = split(alloc, words)?;
-    let file = named(alloc, "-", input)?;
-    let mut inputs = MemInputs::new(vec![in alloc; file]?, 4096, Vec::new(alloc));
-    let mut outs = MemOutputs::new(alloc, 4096, Vec::new(alloc), 1, 100)?;
-    let mut errs = MemSink::new(alloc, 4096, Vec::new(alloc), 1000)?;
-    let found = check_run(alloc, &words, &mut inputs, &mut outs, &mut errs);
-    Ok(found == status && is_written(&outs, documents) && errs.text() == said.as_bytes())
-}
-
-/// Whether a whole document with this text was written to standard output and nothing else, or nothing at all.
-fn is_written(outs: &MemOutputs, documents: &[&str]) -> bool {
-    if documents.is_empty() {
-        return outs.count() == 0;
-    }
-    outs.count() == 1
-        && outs.name(0) == b"-".as_slice()
-        && outs.text(0) == documents[0].as_bytes()
-        && outs.whole(0)
+/// What a run of the checker did.
+fn checked(alloc: Global, case: &Case) -> Result<Done, NoMemory> {
+    let mut outside = case.outside(alloc)?;
+    let mut errs = case.errs(alloc)?;
+    let status = check_run(
+        alloc,
+        &outside.words,
+        &mut outside.inputs,
+        &mut outside.outs,
+        &mut errs,
+    );
+    let outs = outside.outs;
+    Ok(Done { status, outs, errs })
 }
 
 /// The certificates of all worked pages are right.
 #[test]
-fn worked_pages_are_right(rt: HostRuntime) -> Result<(), Fail> {
+fn worked_pages_are_right(rt: HostRuntime) -> Result<(), NoMemory> {
     for (_, input, _) in PAGES {
         let case = Case {
             words: "-b proofs -t 0",
             input,
             ..PLAIN
         };
-        let done = case.done(&rt, rt.alloc(), &NoGate)?;
+        let done = case.done(&rt, rt.alloc(), &HoldsFirst::open())?;
         let right = all_right(rt.alloc(), &done.outs)?;
         assert_eq!(rt; (done.status, right), (0, true), "{input:?}");
     }

@@ -30,7 +30,7 @@ fn shown(alloc: Global, done: &[Done]) -> Result<Vec<u8>, NoMemory> {
 }
 
 #[test]
-fn one_seat_draws_all_pages(rt: HostRuntime) -> Result<(), Fail> {
+fn one_seat_draws_all_pages(rt: HostRuntime) -> Result<(), NoMemory> {
     let (claims, mut seat) = with_one_seat(rt.alloc(), 3)?;
     let first = [claims.claim(&mut seat), claims.claim(&mut seat)];
     let last = [
@@ -43,7 +43,7 @@ fn one_seat_draws_all_pages(rt: HostRuntime) -> Result<(), Fail> {
 }
 
 #[test]
-fn a_seat_draws_no_page_where_there_is_none(rt: HostRuntime) -> Result<(), Fail> {
+fn a_seat_draws_no_page_where_there_is_none(rt: HostRuntime) -> Result<(), NoMemory> {
     let (claims, mut seat) = with_one_seat(rt.alloc(), 0)?;
     assert_eq!(rt; claims.claim(&mut seat), None);
     Ok(())

@@ -1,8 +1,8 @@
 //! Inputs that are cut off after every number of bytes, and pages with hostile headers.
 
 use crate::tests::cases::{Case, PIXEL, PLAIN, check_all};
-use pt_core::NoGate;
-use std::test::Fail;
+use page_samples::HoldsFirst;
+use pt_core::NoMemory;
 
 const LEFT: &str = "-b points -t 0";
 
@@ -59,7 +59,7 @@ const CUTS: &[Cut] = &[
 ];
 
 #[test]
-fn inputs_cut_after_each_byte(rt: HostRuntime) -> Result<(), Fail> {
+fn inputs_cut_after_each_byte(rt: HostRuntime) -> Result<(), NoMemory> {
     for (input, first, last, documents, status, said) in CUTS {
         for n in *first..=*last {
             Case {
@@ -122,7 +122,7 @@ const LONG: &[Long] = &[
 ];
 
 #[test]
-fn long_headers_and_white_rows(rt: HostRuntime) -> Result<(), Fail> {
+fn long_headers_and_white_rows(rt: HostRuntime) -> Result<(), NoMemory> {
     for (front, byte, times, back, documents, status, said) in LONG {
         let mut input = Vec::from_slice(rt.alloc(), front)?;
         input.extend_from_slice(&vec![in rt.alloc(); *byte; *times]?)?;
@@ -139,7 +139,7 @@ fn long_headers_and_white_rows(rt: HostRuntime) -> Result<(), Fail> {
             said,
             ..PLAIN
         };
-        wanted.expect(&rt, &case.done(&rt, rt.alloc(), &NoGate)?);
+        wanted.expect(&rt, &case.done(&rt, rt.alloc(), &HoldsFirst::open())?);
     }
     Ok(())
 }
@@ -206,6 +206,6 @@ const PICTURES: &[Case] = &[
 ];
 
 #[test]
-fn pictures_with_hostile_headers(rt: HostRuntime) -> Result<(), Fail> {
+fn pictures_with_hostile_headers(rt: HostRuntime) -> Result<(), NoMemory> {
     check_all(&rt, rt.alloc(), PICTURES)
 }

@@ -3,7 +3,7 @@
 //! A program apart from this one, with plain loops and fractions, worked the documents out.
 
 use crate::tests::cases::{Page, check_pages};
-use std::test::Fail;
+use pt_core::NoMemory;
 
 /// Its segment from (2,3) to (2,1) stands for (1,2), which is a whole pixel from the half-line.
 ///
@@ -128,6 +128,6 @@ const PAGES: &[Page] = &[
 ];
 
 #[test]
-fn distances(rt: HostRuntime) -> Result<(), Fail> {
+fn distances(rt: HostRuntime) -> Result<(), NoMemory> {
     check_pages(&rt, rt.alloc(), PAGES)
 }

@@ -2,7 +2,7 @@
 
 use crate::tests::cases::{Case, PIXEL, PLAIN, check_all};
 use mem_outside::{InCall, OutCall};
-use std::test::Fail;
+use pt_core::NoMemory;
 
 /// A stream of two pages and what is no page, by reads that end with the first page.
 const STREAM: Case<'static> = Case {
@@ -119,6 +119,6 @@ const RUNS: &[Case] = &[
 ];
 
 #[test]
-fn failing_devices(rt: HostRuntime) -> Result<(), Fail> {
+fn failing_devices(rt: HostRuntime) -> Result<(), NoMemory> {
     check_all(&rt, rt.alloc(), RUNS)
 }

@@ -2,7 +2,7 @@
 
 use crate::tests::cases::{Case, PIXEL, PLAIN, WHITE, check_all};
 use mem_outside::InCall;
-use std::test::Fail;
+use pt_core::NoMemory;
 
 const NO_OUTLINE: &str = "<?xml version=\"1.0\" standalone=\"no\"?>\n\
 <svg version=\"1.0\" xmlns=\"http://www.w3.org/2000/svg\" width=\"1pt\" height=\"1pt\" viewBox=\"0 0 10 10\">\n\
@@ -42,7 +42,7 @@ const NAMES: &[(&str, &str, &[(&str, &str)])] = &[
 ];
 
 #[test]
-fn names_of_documents(rt: HostRuntime) -> Result<(), Fail> {
+fn names_of_documents(rt: HostRuntime) -> Result<(), NoMemory> {
     for (words, name, documents) in NAMES {
         Case {
             words,
@@ -185,6 +185,6 @@ paths 36 segments 229 curves 217 bytes 7287\n",
 ];
 
 #[test]
-fn documents_of_files(rt: HostRuntime) -> Result<(), Fail> {
+fn documents_of_files(rt: HostRuntime) -> Result<(), NoMemory> {
     check_all(&rt, rt.alloc(), RUNS)
 }

@@ -1,9 +1,9 @@
 //! One picture in all formats, and a whole scan.
 
 use crate::tests::cases::{Case, PLAIN, Page, check_pages};
-use pt_core::NoGate;
+use page_samples::HoldsFirst;
+use pt_core::NoMemory;
 use std::alloc::Global;
-use std::test::Fail;
 
 /// Of two by two pixels, the upper left one and the lower right one are black.
 const SQUARES: &str = "points 2 2 2\n+ 1 0,2 0,1 1,1 1,2\n+ 1 1,1 1,0 2,0 2,1\n";
@@ -40,7 +40,7 @@ const NETPBM: &[Page] = &[
 ];
 
 #[test]
-fn netpbm(rt: HostRuntime) -> Result<(), Fail> {
+fn netpbm(rt: HostRuntime) -> Result<(), NoMemory> {
     check_pages(&rt, rt.alloc(), NETPBM)
 }
 
@@ -69,7 +69,7 @@ const HEADERS: &[(u8, bool)] = &[
 ];
 
 #[test]
-fn bmp(rt: HostRuntime) -> Result<(), Fail> {
+fn bmp(rt: HostRuntime) -> Result<(), NoMemory> {
     for (header, top_down) in HEADERS {
         for (bits, upper, lower) in ROWS {
             let input = drawn(rt.alloc(), *header, *bits, *top_down, upper, lower)?;
@@ -93,7 +93,7 @@ fn drawn(
     top_down: bool,
     upper: &[u8],
     lower: &[u8],
-) -> Result<Vec<u8>, Fail> {
+) -> Result<Vec<u8>, NoMemory> {
     let palette = colors(alloc, header, bits)?;
     let before = 14 + u16::from(header) + (palette.len() % 2000) as u16;
     let [low, high] = before.to_le_bytes();
@@ -123,7 +123,7 @@ fn drawn(
 }
 
 /// All colours that pixels of so many bits can name: black, white, and then black.
-fn colors(alloc: Global, header: u8, bits: u8) -> Result<Vec<u8>, Fail> {
+fn colors(alloc: Global, header: u8, bits: u8) -> Result<Vec<u8>, NoMemory> {
     let count = match bits {
         1 => 2,
         4 => 16,
@@ -142,7 +142,7 @@ fn colors(alloc: Global, header: u8, bits: u8) -> Result<Vec<u8>, Fail> {
 }
 
 /// A black page as a program for scans writes it.
-fn black_scan(alloc: Global) -> Result<Vec<u8>, Fail> {
+fn black_scan(alloc: Global) -> Result<Vec<u8>, NoMemory> {
     let head = b"P4\n# CREATOR: GIMP PNM Filter Version 1.1\n2480 3508\n";
     let mut scan = Vec::from_slice(alloc, head)?;
     scan.extend_from_slice(&vec![in alloc; 255u8; 1_087_480]?)?;
@@ -176,7 +176,7 @@ const SCANS: &[(&str, &str, &[(&str, &str)])] = &[
 ];
 
 #[test]
-fn a_black_scan(rt: HostRuntime) -> Result<(), Fail> {
+fn a_black_scan(rt: HostRuntime) -> Result<(), NoMemory> {
     let scan = black_scan(rt.alloc())?;
     for (words, name, documents) in SCANS {
         let wanted = Case {
@@ -190,7 +190,7 @@ fn a_black_scan(rt: HostRuntime) -> Result<(), Fail> {
             input: &scan,
             ..PLAIN
         };
-        wanted.expect(&rt, &case.done(&rt, rt.alloc(), &NoGate)?);
+        wanted.expect(&rt, &case.done(&rt, rt.alloc(), &HoldsFirst::open())?);
     }
     Ok(())
 }

@@ -3,7 +3,7 @@
 
 use crate::tests::cases::{Case, PIXEL, PLAIN, WHITE, check_all};
 use mem_outside::{InCall, OutCall};
-use std::test::Fail;
+use pt_core::NoMemory;
 
 /// The first file's pages end behind 8 and 17 bytes; that the rest is no page is decided behind 20. The second
 /// one's end behind 9 and 18 bytes; that no page follows is decided by the end, behind 19.
@@ -64,7 +64,7 @@ const READS: &[(u64, u64, &[(&str, &str)], &str)] = &[
 ];
 
 #[test]
-fn each_read_fails(rt: HostRuntime) -> Result<(), Fail> {
+fn each_read_fails(rt: HostRuntime) -> Result<(), NoMemory> {
     for (first, last, documents, said) in READS {
         for n in *first..=*last {
             Case {
@@ -156,7 +156,7 @@ const WRITES: &[Fault] = &[
 ];
 
 #[test]
-fn each_beginning_write_and_end_fails(rt: HostRuntime) -> Result<(), Fail> {
+fn each_beginning_write_and_end_fails(rt: HostRuntime) -> Result<(), NoMemory> {
     for (call, documents, cut_off, said) in WRITES {
         Case {
             unwritten: Some(*call),
@@ -315,6 +315,6 @@ const RUNS: &[Case] = &[
 ];
 
 #[test]
-fn openings_room_and_messages(rt: HostRuntime) -> Result<(), Fail> {
+fn openings_room_and_messages(rt: HostRuntime) -> Result<(), NoMemory> {
     check_all(&rt, rt.alloc(), RUNS)
 }

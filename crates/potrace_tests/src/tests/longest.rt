@@ -2,11 +2,16 @@
 
 use crate::tests::cases::{Case, PLAIN};
 use page_samples::round;
+use pt_core::NoMemory;
 use std::alloc::Global;
-use std::test::Fail;
 
 /// A raw page that is black but for one of its bytes.
-fn black(alloc: Global, width: usize, height: usize, other: (usize, u8)) -> Result<Vec<u8>, Fail> {
+fn black(
+    alloc: Global,
+    width: usize,
+    height: usize,
+    other: (usize, u8),
+) -> Result<Vec<u8>, NoMemory> {
     let mut bytes = Vec::from_slice(
         alloc,
         format!(in alloc; "P4 {width} {height}\n")?.as_bytes(),
@@ -19,7 +24,7 @@ fn black(alloc: Global, width: usize, height: usize, other: (usize, u8)) -> Resu
 }
 
 /// The line of the path round a whole page.
-fn line_round(alloc: Global, width: i32, height: i32) -> Result<String, Fail> {
+fn line_round(alloc: Global, width: i32, height: i32) -> Result<String, NoMemory> {
     let area = width.wrapping_mul(height);
     let mut line = format!(in alloc; "+ {area}")?;
     for point in round(alloc, width, height)? {
@@ -54,7 +59,7 @@ const PAGES: [(u32, u16, u16, (usize, u8), &str, &str); 4] = [
 ];
 
 #[test]
-fn paths_round_the_longest_pages(rt: HostRuntime) -> Result<(), Fail> {
+fn paths_round_the_longest_pages(rt: HostRuntime) -> Result<(), NoMemory> {
     for (most, width, height, other, first, last) in PAGES {
         let input = black(rt.alloc(), width.into(), height.into(), other)?;
         let mut text = String::from_str(rt.alloc(), first)?;
@@ -81,7 +86,7 @@ const BARS: [(&str, &str); 2] = [
 ];
 
 #[test]
-fn the_longest_bar(rt: HostRuntime) -> Result<(), Fail> {
+fn the_longest_bar(rt: HostRuntime) -> Result<(), NoMemory> {
     let input = black(rt.alloc(), 32767, 1, (9999, 0))?;
     for (words, document) in BARS {
         let text = String::from_str(rt.alloc(), document)?;

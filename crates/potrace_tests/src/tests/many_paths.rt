@@ -1,11 +1,11 @@
 //! Pages whose paths are as many, or as deep in one another, as such pages can have.
 
 use crate::tests::cases::{Case, PLAIN};
+use pt_core::NoMemory;
 use std::alloc::Global;
-use std::test::Fail;
 
 /// A raw page of 512 by 512 pixels, black where the column and the row, from below, add up to an even number.
-fn board(alloc: Global) -> Result<Vec<u8>, Fail> {
+fn board(alloc: Global) -> Result<Vec<u8>, NoMemory> {
     let mut bytes = Vec::from_slice(alloc, b"P4 512 512\n")?;
     for place in 0..512 * 64u32 {
         bytes.push(if place / 64 % 2 == 0 { 0x55 } else { 0xaa })?;
@@ -14,7 +14,7 @@ fn board(alloc: Global) -> Result<Vec<u8>, Fail> {
 }
 
 /// Each black pixel by itself, row after row from the top.
-fn board_text(alloc: Global) -> Result<String, Fail> {
+fn board_text(alloc: Global) -> Result<String, NoMemory> {
     let mut text = String::from_str(alloc, "points 512 512 131072\n")?;
     for place in 0..512 * 512u32 {
         let (left, top) = (place % 512, 512u32.saturating_sub(place / 512));
@@ -30,7 +30,7 @@ fn board_text(alloc: Global) -> Result<String, Fail> {
 }
 
 #[test]
-fn a_board_of_single_pixels(rt: HostRuntime) -> Result<(), Fail> {
+fn a_board_of_single_pixels(rt: HostRuntime) -> Result<(), NoMemory> {
     let input = board(rt.alloc())?;
     let text = board_text(rt.alloc())?;
     Case {
@@ -44,7 +44,7 @@ fn a_board_of_single_pixels(rt: HostRuntime) -> Result<(), Fail> {
 }
 
 /// A plain page of 255 by 255 pixels: squares around the middle pixel, which is white, black and white in turn.
-fn nest(alloc: Global) -> Result<Vec<u8>, Fail> {
+fn nest(alloc: Global) -> Result<Vec<u8>, NoMemory> {
     let mut bytes = Vec::from_slice(alloc, b"P1 255 255\n")?;
     for place in 0..255 * 255u32 {
         let (across, up) = ((place % 255).abs_diff(127), (place / 255).abs_diff(127));
@@ -54,7 +54,7 @@ fn nest(alloc: Global) -> Result<Vec<u8>, Fail> {
 }
 
 /// The square of each distance from the middle, the outermost first, with its four corners.
-fn nest_text(alloc: Global) -> Result<String, Fail> {
+fn nest_text(alloc: Global) -> Result<String, NoMemory> {
     let mut text = String::from_str(alloc, "polygons 255 255 128\n")?;
     for distance in (0..128u32).rev() {
         let sign = if distance % 2 == 1 { '+' } else { '-' };
@@ -68,7 +68,7 @@ fn nest_text(alloc: Global) -> Result<String, Fail> {
 }
 
 #[test]
-fn a_nest_of_squares(rt: HostRuntime) -> Result<(), Fail> {
+fn a_nest_of_squares(rt: HostRuntime) -> Result<(), NoMemory> {
     let input = nest(rt.alloc())?;
     let text = nest_text(rt.alloc())?;
     Case {

@@ -3,8 +3,8 @@
 //! With memory at hand this is met as it stands. It is meant to be run with one growth refused, whichever it is.
 
 use crate::tests::cases::{Case, Done, PIXEL, PIXEL_POLYGON, PLAIN, WHITE, document_at};
-use pt_core::NoGate;
-use std::test::Fail;
+use page_samples::HoldsFirst;
+use pt_core::NoMemory;
 
 const PAGE: &[u8] = b"P1 1 1 1\n";
 
@@ -98,7 +98,7 @@ const RUNS: &[(&str, &str, &[u8], &[Item])] = &[
 ];
 
 #[test]
-fn memory_refused(rt: HostRuntime) -> Result<(), Fail> {
+fn memory_refused(rt: HostRuntime) -> Result<(), NoMemory> {
     for (words, name, input, items) in RUNS {
         let case = Case {
             words,
@@ -108,7 +108,7 @@ fn memory_refused(rt: HostRuntime) -> Result<(), Fail> {
             ..PLAIN
         };
         // What the run is made of may be refused too.
-        if let Ok(done) = case.done(&rt, rt.alloc(), &NoGate) {
+        if let Ok(done) = case.done(&rt, rt.alloc(), &HoldsFirst::open()) {
             assert!(rt; is_answer(&done, items), "{words}");
         }
     }

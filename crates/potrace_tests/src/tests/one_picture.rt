@@ -2,7 +2,7 @@
 //! corners and the middles of its sides, from the middle before the first corner on, in the same order in all four.
 
 use crate::tests::cases::{Page, check_pages};
-use std::test::Fail;
+use pt_core::NoMemory;
 
 // ###
 // #.#
@@ -263,6 +263,6 @@ const PAGES: &[Page] = &[
 ];
 
 #[test]
-fn one_picture_in_all_drawings(rt: HostRuntime) -> Result<(), Fail> {
+fn one_picture_in_all_drawings(rt: HostRuntime) -> Result<(), NoMemory> {
     check_pages(&rt, rt.alloc(), PAGES)
 }

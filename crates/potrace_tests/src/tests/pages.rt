@@ -1,7 +1,7 @@
 //! Worked pages.
 
 use crate::tests::cases::{Case, PIXEL, PIXEL_POLYGON, PLAIN, Page, WHITE, check_all, check_pages};
-use std::test::Fail;
+use pt_core::NoMemory;
 
 const PAIR: &str = "points 2 1 1\n+ 2 0,1 0,0 1,0 2,0 2,1 1,1\n";
 
@@ -314,7 +314,7 @@ pub const PAGES: &[Page] = &[
 ];
 
 #[test]
-fn worked_pages(rt: HostRuntime) -> Result<(), Fail> {
+fn worked_pages(rt: HostRuntime) -> Result<(), NoMemory> {
     check_pages(&rt, rt.alloc(), PAGES)
 }
 
@@ -343,6 +343,6 @@ const STREAMS: &[Case] = &[
 ];
 
 #[test]
-fn pages_of_a_stream(rt: HostRuntime) -> Result<(), Fail> {
+fn pages_of_a_stream(rt: HostRuntime) -> Result<(), NoMemory> {
     check_all(&rt, rt.alloc(), STREAMS)
 }

@@ -2,7 +2,7 @@
 
 use crate::tests::cases::{Case, PLAIN, check_all};
 use mem_outside::{InCall, OutCall};
-use std::test::Fail;
+use pt_core::NoMemory;
 
 /// Two pages of 8 by 8 black pixels, of 15 bytes each.
 const PAGES: &[u8] =
@@ -145,11 +145,11 @@ const FAILING: &[Case] = &[
 ];
 
 #[test]
-fn one_document_for_a_file(rt: HostRuntime) -> Result<(), Fail> {
+fn one_document_for_a_file(rt: HostRuntime) -> Result<(), NoMemory> {
     check_all(&rt, rt.alloc(), RUNS)
 }
 
 #[test]
-fn documents_left_open(rt: HostRuntime) -> Result<(), Fail> {
+fn documents_left_open(rt: HostRuntime) -> Result<(), NoMemory> {
     check_all(&rt, rt.alloc(), FAILING)
 }

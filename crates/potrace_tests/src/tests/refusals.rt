@@ -1,7 +1,7 @@
 //! What is refused: pages, and words.
 
 use crate::tests::cases::{Case, PLAIN};
-use std::test::Fail;
+use pt_core::NoMemory;
 
 const LEFT: &str = "-b points -z left -t 0";
 
@@ -50,7 +50,7 @@ const REFUSALS: &[(&str, &[u8], u8, &str)] = &[
 ];
 
 #[test]
-fn refusals(rt: HostRuntime) -> Result<(), Fail> {
+fn refusals(rt: HostRuntime) -> Result<(), NoMemory> {
     for (words, input, status, said) in REFUSALS {
         Case {
             words,

@@ -2,15 +2,15 @@
 
 use crate::tests::cases::{Case, PIXEL, PLAIN, WHITE};
 use mem_outside::MemSink;
+use page_samples::HoldsFirst;
 use pt_base::ErrSink;
-use pt_core::{NoGate, NoMemory};
+use pt_core::NoMemory;
 use run_output::{BAD_WORDS, TRACER, words_of};
 use std::alloc::Global;
 use std::env::{Env, FillError};
 use std::fmt::Display;
 use std::io::{self, ErrorKind};
 use std::process::Abort;
-use std::test::Fail;
 
 /// What a program was started with: its name and its words, as bytes.
 #[derive(Clone, Copy)]
@@ -94,7 +94,7 @@ fn start(
     words: &[&[u8]],
     found: &str,
     said: &str,
-) -> Result<(), Fail> {
+) -> Result<(), NoMemory> {
     let mut errs = MemSink::new(alloc, 4096, Vec::new(alloc), 1000)?;
     let started = (Started { words }, alloc);
     let text = match words_of(&started, TRACER, BAD_WORDS, &mut errs) {
@@ -106,7 +106,7 @@ fn start(
 }
 
 #[test]
-fn words_are_text(rt: HostRuntime) -> Result<(), Fail> {
+fn words_are_text(rt: HostRuntime) -> Result<(), NoMemory> {
     for (words, found, said) in STARTED {
         start(&rt, rt.alloc(), words, found, said)?;
     }
@@ -154,12 +154,12 @@ const SAYING: &[Case] = &[
 ];
 
 #[test]
-fn closed_standard_error_changes_nothing_else(rt: HostRuntime) -> Result<(), Fail> {
+fn closed_standard_error_changes_nothing_else(rt: HostRuntime) -> Result<(), NoMemory> {
     for case in SAYING {
         case.check(&rt, rt.alloc())?;
         let mut errs = ErrSink::new(Closed);
-        let (status, outs) = case.done_saying(&rt, rt.alloc(), &NoGate, &mut errs)?;
-        case.expect_documents(&rt, status, &outs);
+        let (status, outs) = case.done_saying(&rt, rt.alloc(), &HoldsFirst::open(), &mut errs)?;
+        assert_eq!(rt; case.amiss_outside(status, &outs), "", "{}", case.words);
     }
     Ok(())
 }

@@ -1,11 +1,10 @@
 //! What words ask for: which of them `clap` takes how, and which values are in their ranges.
 
-use crate::tests::cases::split;
+use page_samples::split;
 use potrace_words::{Ask, WordFault, settings_of};
-use pt_core::{Backend, Policy, Settings};
+use pt_core::{Backend, NoMemory, Policy, Settings};
 use run_output::Name;
 use std::alloc::Global;
-use std::test::Fail;
 
 /// The settings where no word says otherwise.
 const DEFAULTS: Settings = Settings {
@@ -240,7 +239,7 @@ const LINES: &[(&str, &str)] = &[
 ];
 
 #[test]
-fn lines_of_words(rt: HostRuntime) -> Result<(), Fail> {
+fn lines_of_words(rt: HostRuntime) -> Result<(), NoMemory> {
     for (line, asked) in LINES {
         let words = split(rt.alloc(), line)?;
         let text = told(rt.alloc(), &words)?;
@@ -250,7 +249,7 @@ fn lines_of_words(rt: HostRuntime) -> Result<(), Fail> {
 }
 
 /// What the words ask for.
-fn told(alloc: Global, words: &[String]) -> Result<String, Fail> {
+fn told(alloc: Global, words: &[String]) -> Result<String, NoMemory> {
     let text = match settings_of(alloc, words) {
         Ok(ask) => shown(alloc, &ask)?,
         Err(WordFault::Bad) => String::from_str(alloc, "Bad")?,
@@ -259,7 +258,7 @@ fn told(alloc: Global, words: &[String]) -> Result<String, Fail> {
     Ok(text)
 }
 
-fn shown(alloc: Global, ask: &Ask) -> Result<String, Fail> {
+fn shown(alloc: Global, ask: &Ask) -> Result<String, NoMemory> {
     let mut text = String::new(alloc);
     match ask {
         Ask::Help => text.push_str("Help")?,
@@ -292,14 +291,14 @@ fn put_settings(
     text: &mut String,
     settings: &Settings,
     workers: u32,
-) -> Result<(), Fail> {
+) -> Result<(), NoMemory> {
     put_values(alloc, text, settings)?;
     put_flags(text, settings)?;
     put_number(alloc, text, "workers", workers, DEFAULT_WORKERS)
 }
 
 /// The values that aren't the defaults.
-fn put_values(alloc: Global, text: &mut String, settings: &Settings) -> Result<(), Fail> {
+fn put_values(alloc: Global, text: &mut String, settings: &Settings) -> Result<(), NoMemory> {
     if settings.backend != DEFAULTS.backend {
         text.push_str(format!(in alloc; "{:?} ", settings.backend)?.as_str())?;
     }
@@ -320,7 +319,7 @@ fn put_number(
     name: &str,
     number: u32,
     default: u32,
-) -> Result<(), Fail> {
+) -> Result<(), NoMemory> {
     if number != default {
         let word = format!(in alloc; "{name}{number} ")?;
         text.push_str(&word)?;
@@ -329,7 +328,7 @@ fn put_number(
 }
 
 /// The flags that are set.
-fn put_flags(text: &mut String, settings: &Settings) -> Result<(), Fail> {
+fn put_flags(text: &mut String, settings: &Settings) -> Result<(), NoMemory> {
     for (name, set) in [
         ("n ", settings.long_curve),
         ("i ", settings.invert),
@@ -344,7 +343,7 @@ fn put_flags(text: &mut String, settings: &Settings) -> Result<(), Fail> {
 }
 
 /// The names with a space between them.
-fn put_names(text: &mut String, names: &[Name]) -> Result<(), Fail> {
+fn put_names(text: &mut String, names: &[Name]) -> Result<(), NoMemory> {
     for (i, name) in names.iter().enumerate() {
         if i > 0 {
             text.push_str(" ")?;
@@ -355,7 +354,7 @@ fn put_names(text: &mut String, names: &[Name]) -> Result<(), Fail> {
 }
 
 /// The output's name behind `>`, where there is one.
-fn put_output(text: &mut String, output: &Option<Name>) -> Result<(), Fail> {
+fn put_output(text: &mut String, output: &Option<Name>) -> Result<(), NoMemory> {
     if let Some(name) = output {
         text.push_str(" > ")?;
         text.push_str(name.as_str())?;

@@ -2,10 +2,9 @@
 
 use crate::tests::cases::{Case, Done, PIXEL, PLAIN, document_at};
 use page_samples::HoldsFirst;
-use pt_core::NoGate;
+use pt_core::NoMemory;
 use std::alloc::Global;
 use std::process::Abort;
-use std::test::Fail;
 
 const FOUR_PAGES: Case<'static> = Case {
     words: "-b points -t 0 --workers 2",
@@ -17,7 +16,7 @@ const FOUR_PAGES: Case<'static> = Case {
 // While one worker is held with its page, the other has to trace the other three: one thread, or two with two pages
 // each, would wait in vain.
 #[test]
-fn a_worker_that_is_done_takes_a_further_page(rt: HostRuntime) -> Result<(), Fail> {
+fn a_worker_that_is_done_takes_a_further_page(rt: HostRuntime) -> Result<(), NoMemory> {
     let gate = HoldsFirst::new();
     let done = FOUR_PAGES.done(&rt, rt.alloc(), &gate)?;
     FOUR_PAGES.expect(&rt, &done);
@@ -26,7 +25,7 @@ fn a_worker_that_is_done_takes_a_further_page(rt: HostRuntime) -> Result<(), Fai
 }
 
 /// A page more than a run may have.
-fn too_many_pages(alloc: Global) -> Result<Vec<u8>, Fail> {
+fn too_many_pages(alloc: Global) -> Result<Vec<u8>, NoMemory> {
     let mut input = Vec::new(alloc);
     for _ in 0..65_537 {
         input.extend_from_slice(b"P1 1 1 1\n")?;
@@ -60,7 +59,7 @@ const WORKERS: [&str; 4] = [
 ];
 
 #[test]
-fn pages_up_to_the_limit_by_any_number_of_workers(rt: HostRuntime) -> Result<(), Fail> {
+fn pages_up_to_the_limit_by_any_number_of_workers(rt: HostRuntime) -> Result<(), NoMemory> {
     let input = too_many_pages(rt.alloc())?;
     for words in WORKERS {
         let case = Case {
@@ -68,7 +67,7 @@ fn pages_up_to_the_limit_by_any_number_of_workers(rt: HostRuntime) -> Result<(),
             input: &input,
             ..PLAIN
         };
-        let done = case.done(&rt, rt.alloc(), &NoGate)?;
+        let done = case.done(&rt, rt.alloc(), &HoldsFirst::open())?;
         expect_limit(&rt, words, &done);
     }
     Ok(())
