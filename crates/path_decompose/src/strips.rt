@@ -56,7 +56,7 @@ pub(crate) fn flip(words: &mut [u64], rows: usize, kind: usize, x: u32, y: u32)
 
 /// Puts the edges of a kind into one row of a strip that has none there.
 ///
-/// Words that are 0 already aren't written, since memory that nobody wrote costs nothing.
+/// Most words stay 0, as they are already: these are not written.
 #[inline(always)]
 fn put(words: &mut [u64], rows: usize, kind: usize, strip: usize, y: usize, edges: u64)
     requires kind { kind < 2 }
