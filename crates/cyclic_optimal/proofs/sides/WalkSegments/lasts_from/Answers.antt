@@ -1,5 +1,5 @@
 use Rattle.std.proofs.Common.{arith, refl}
-use Rattle.polygon_optimal.proofs.Reaching.{lasts_more}
+use Rattle.cyclic_optimal.proofs.Longest.{lasts_more}
 use Rattle.cyclic_optimal.specs.Inner.First.{turned_to}
 use Rattle.cyclic_optimal.proofs.Turned.{turned_is}
 use Rattle.cyclic_optimal.proofs.sides.WalkSegments.lasts_from.Goals as goal
