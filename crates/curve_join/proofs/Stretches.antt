@@ -6,10 +6,9 @@ use Rattle.std.proofs.Math.Decide.{dec_lt}
 use Rattle.std.specs.Prelude.{unsigned_abs}
 use Rattle.pt_core.proofs.Terms.{Term, same_value}
 use Rattle.pt_core.proofs.Terms.Term.{num, plus, times}
-use Rattle.curve_join.proofs.Crossing.{least_found}
+use Rattle.curve_join.proofs.Nearest.{IsNearer}
 use Rattle.curve_join.specs.Inner.Cubic.{AreWithin}
 use Rattle.curve_join.specs.Cubic.{quadratic}
-use Rattle.curve_join.specs.Least.{IsFirstLeast}
 use Rattle.curve_join.specs.Inner.Halves.{IsHalf, IsFirstHalf, IsSecondHalf, middle_value}
 use Rattle.curve_join.specs.declared.touch.Stretch.{Stretch}
 
@@ -177,44 +176,35 @@ module _ (a b c : ℤ) (s : Stretch) (is : IsStretch 64 a b c s) where
 
 -- ---- of two numbers, the one with the lesser size
 
-abbrev pub IsNearer : ℕ → ℕ → ℕ → ℕ → ℕ → ℕ → Type 0
-IsNearer u m v n p k = (n < m → (p ≡ v) × (k ≡ n)) × (m ≤ n → (p ≡ u) × (k ≡ m))
+-- a number, and what a function is there
+pub record Sized (f : ℕ → ℕ) : Type 0 where
+  pub at : ℕ
+  pub size : ℕ
+  pub is : size ≡ f at
 
-module _ (f : ℕ → ℕ) (u m v n p k : ℕ) (em : m ≡ f u) (en : n ≡ f v) (nearer : IsNearer u m v n p k) where
-  pub is_second : f v < f u → p ≡ v
-  is_second h = (nearer.0 (omega arith)).0
-
-  pub is_first : f u ≤ f v → p ≡ u
-  is_first h = (nearer.1 (omega arith)).0
+module _ (f : ℕ → ℕ) (u v : Sized f) (p k : ℕ)
+    (second : v.size < u.size → (p ≡ v.at) × (k ≡ v.size)) (first : u.size ≤ v.size → (p ≡ u.at) × (k ≡ u.size)) where
+  pub nearer : IsNearer f u.at v.at p
+  nearer =
+      let eu = u.is in
+      let ev = v.is in
+      record { second = λ h. (second (omega arith)).0; first = λ h. (first (omega arith)).0 }
 
   pub its_size : k ≡ f p
-  its_size = elim (dec_lt n m) [
-    | yes l ↦ let h = nearer.0 l in h.1 ∙ en ∙ ap f (sym h.0)
-    | no g ↦ let h = nearer.1 (omega arith) in h.1 ∙ em ∙ ap f (sym h.0)
+  its_size = elim (dec_lt v.size u.size) [
+    | yes l ↦ let h = second l in h.1 ∙ v.is ∙ ap f (sym h.0)
+    | no g ↦ let h = first (omega arith) in h.1 ∙ u.is ∙ ap f (sym h.0)
   ]
 
-start_size : (a b c : ℤ) → 4096 * unsigned_abs a ≡ unsigned_abs (quadratic 0 a b c)
-start_size a b c = omega (arith, ints)
+  abbrev pub taken : Sized f
+  taken = record { at = p; size = k; is = its_size }
 
-end_size : (a b c : ℤ) → 4096 * unsigned_abs c ≡ unsigned_abs (quadratic 64 a b c)
-end_size a b c = omega (arith, ints)
+-- the sizes of a quadratic at its ends
+pub start_size : (a b c : ℤ) (n : ℕ) → n ≡ unsigned_abs a → 4096 * n ≡ unsigned_abs (quadratic 0 a b c)
+start_size a b c n e = omega (arith, ints)
 
-pub found : (a b c : ℤ) → pos 0 <ℤ a → c <ℤ pos 0 → (low m n i j p k q l r s : ℕ) → low < 64
-    → pos 0 <ℤ quadratic low a b c → quadratic (low + 1) a b c ≤ℤ pos 0
-    → m ≡ unsigned_abs (quadratic low a b c) → n ≡ unsigned_abs (quadratic (low + 1) a b c)
-    → i ≡ unsigned_abs a → j ≡ unsigned_abs c
-    → IsNearer 0 (4096 * i) low m p k → IsNearer (low + 1) n 64 (4096 * j) q l → IsNearer p k q l r s
-    → IsFirstLeast (λ u. unsigned_abs (quadratic u a b c)) 64 r
-found a b c ha hc low m n i j p k q l r s within last next em en ei ej first second both =
-    let f : ℕ → ℕ = λ u. unsigned_abs (quadratic u a b c) in
-    let e0 : 4096 * i ≡ f 0 = ap (λ v. 4096 * v) ei ∙ start_size a b c in
-    let e64 : 4096 * j ≡ f 64 = ap (λ v. 4096 * v) ej ∙ end_size a b c in
-    let ek = its_size f 0 (4096 * i) low m p k e0 em first in
-    let el = its_size f (low + 1) n 64 (4096 * j) q l en e64 second in
-    least_found a b c ha hc low p q r within last next
-    (is_second f 0 (4096 * i) low m p k e0 em first) (is_first f 0 (4096 * i) low m p k e0 em first)
-    (is_second f (low + 1) n 64 (4096 * j) q l en e64 second) (is_first f (low + 1) n 64 (4096 * j) q l en e64 second)
-    (is_second f p k q l r s ek el both) (is_first f p k q l r s ek el both)
+pub end_size : (a b c : ℤ) (n : ℕ) → n ≡ unsigned_abs c → 4096 * n ≡ unsigned_abs (quadratic 64 a b c)
+end_size a b c n e = omega (arith, ints)
 
 -- ---- the numbers that fit
 
