@@ -77,19 +77,33 @@ pub record IsBestTo (size : ℕ) (is_allowed : ℕ → ℕ → Type 0) (cost : �
   pub way : IsWay size is_allowed cost counts costs i best
   pub least : (k : ℕ) → i < k → (k ≡ i + 1) ⊎ (to ≤ k) → k ≤ size → is_allowed i k → IsNotBehind best (way_to cost counts costs i k)
 
+-- a way on by a run that ends at k, without that run's penalty
+pub record EndsAt (counts costs : List ℕ) (k : ℕ) (way : WayOn) : Type 0 where
+  pub count : way.count ≡ slice_index counts k + 1
+  pub cost : way.cost ≡ slice_index costs k
+  pub next : way.next ≡ k
+
+-- the better of the best way on so far and of this one, if its run is allowed, with the penalty
+pub record IsBetter (is_allowed : ℕ → ℕ → Type 0) (cost : ℕ → ℕ → ℕ) (i : ℕ) (way so_far better : WayOn) : Type 0 where
+  pub one : (better ≡ so_far) ⊎ (is_allowed i way.next × (better ≡ paid (cost i way.next) way))
+  pub best : IsNotBehind better so_far
+  pub run : is_allowed i way.next → IsNotBehind better (paid (cost i way.next) way)
+
 module _ (size : ℕ) (is_allowed : ℕ → ℕ → Type 0) (cost : ℕ → ℕ → ℕ) where
   -- one more step
   pub best_more : (counts costs : List ℕ) (i k to : ℕ) (way best better : WayOn) → i < k → k ≤ size → k + 1 ≡ to
-      → way.count ≡ slice_index counts k + 1 → way.cost ≡ slice_index costs k → way.next ≡ k
-      → (better ≡ best) ⊎ (is_allowed i way.next × (better ≡ paid (cost i way.next) way)) → IsNotBehind better best
-      → (is_allowed i way.next → IsNotBehind better (paid (cost i way.next) way))
+      → EndsAt counts costs k way → IsBetter is_allowed cost i way best better
       → IsBestTo size is_allowed cost counts costs i to best → IsBestTo size is_allowed cost counts costs i k better
-  best_more counts costs i k to way best better above within next count_is cost_is next_is one before run so_far =
+  best_more counts costs i k to way best better above within next ends is so_far =
+      let count_is = ends.count in
+      let cost_is = ends.cost in
+      let next_is = ends.next in
+      let before = is.best in
       let there : paid (cost i way.next) way ≡ way_to cost counts costs i k =
       way_is (paid (cost i way.next) way) (way_to cost counts costs i k) count_is (omega (arith, cost_is, ap (cost i) next_is)) next_is in
       let P : WayOn → Type 0 = IsWay size is_allowed cost counts costs i in
       record {
-        way = elim one [
+        way = elim is.one [
           | inl same ↦ subst P (sym same) so_far.way
           | inr taken ↦ subst P (sym (taken.1 ∙ there)) (above, within, subst (is_allowed i) next_is taken.0, refl)
         ];
@@ -100,7 +114,7 @@ module _ (size : ℕ) (is_allowed : ℕ → ℕ → Type 0) (cost : ℕ → ℕ 
             | no near ↦
                 let here : k ≡ j = omega arith in
                 let Q : ℕ → Type 0 = λ m. IsNotBehind better (way_to cost counts costs i m) in
-                subst Q here (subst (IsNotBehind better) there (run (subst (is_allowed i) (sym (next_is ∙ here)) allowed)))
+                subst Q here (subst (IsNotBehind better) there (is.run (subst (is_allowed i) (sym (next_is ∙ here)) allowed)))
           ]
         ];
       }

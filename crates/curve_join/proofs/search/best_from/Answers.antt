@@ -107,7 +107,7 @@ loop-to-preserved c =
     record {
       best = best_more (length bends) (MayBeOne runs.tol bends) (run_penalty bends) c.args.counts.now c.args.costs.now c.args.from (c.loop-to.to - 1) c.loop-to.to
           c.way_by.result c.loop-to.best c.better-best.result (omega arith) (omega (arith, last.within)) (omega arith)
-          is.count is.cost is.next one.one one.best one.run c.loop-to.invariant.best;
+          (record { count = is.count; cost = is.cost; next = is.next }) (record { one = one.one; best = one.best; run = one.run }) c.loop-to.invariant.best;
       joined = one.joined;
     }
 
