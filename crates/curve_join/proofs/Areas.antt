@@ -16,7 +16,7 @@ use Rattle.pt_core.specs.Outlines.{end_of}
 use Rattle.pt_core.specs.declared.piece.Piece.TheVariants.{Corner}
 use Rattle.pt_core.specs.declared.point.Point.{Point}
 use Rattle.curve_join.proofs.Cutting.{bends_at, length-bends_of, slice_at}
-use Rattle.curve_join.proofs.Fitting.{cross_most, long_back, product_most, sum_most, within_far}
+use Rattle.curve_join.proofs.Fitting.{cross_most, difference_most, long_back, product_most, sum_most, within_far}
 use Rattle.curve_join.proofs.Meetings.{way_within}
 use Rattle.curve_join.proofs.Running.{total_more}
 use Rattle.curve_join.specs.Inner.Areas.{AreLinked, area_up_to, areas_of}
@@ -62,11 +62,14 @@ up_to_most bends k small most =
 
 -- the difference of two areas, in 128 bits
 module _ (a b : ℤ) (ha : unsigned_abs a ≤ 2 ^ 100) (hb : unsigned_abs b ≤ 2 ^ 100) where
+  difference_small : unsigned_abs (a -ℤ b) ≤ 2 ^ 101
+  difference_small = omega (arith, difference_most a b (2 ^ 100) (2 ^ 100) ha hb)
+
   pub difference_is : to_z w128 (of_z w128 (to_z w128 (of_z w128 a) -ℤ to_z w128 (of_z w128 b))) ≡ a -ℤ b
-  difference_is = rw (long_back a (omega arith), long_back b (omega arith), long_back (a -ℤ b) (omega (arith, ints))) refl
+  difference_is = (let small = difference_small in rw (long_back a (omega arith), long_back b (omega arith), long_back (a -ℤ b) (omega arith)) refl)
 
   pub difference_fits : FitsSigned w128 (to_z w128 (of_z w128 a) -ℤ to_z w128 (of_z w128 b))
-  difference_fits = rw (long_back a (omega arith), long_back b (omega arith)) (fits_signed_from_abs w128 (a -ℤ b) (omega (arith, ints)))
+  difference_fits = (let small = difference_small in rw (long_back a (omega arith), long_back b (omega arith)) (fits_signed_from_abs w128 (a -ℤ b) (omega arith)))
 
 -- the area so far, and the next share
 module _ (start : Point) (placed : IsPlaced (2 ^ 26) start) (run : List Bend) (small : All IsWorkable run) (most : length run ≤ 2 ^ 31) (i : ℕ) (d : Bend) (h : i < length run)
@@ -77,19 +80,20 @@ module _ (start : Point) (placed : IsPlaced (2 ^ 26) start) (run : List Bend) (s
   next_small : unsigned_abs x ≤ 22 * 2 ^ 58
   next_small = rw ex (share_small start placed (get_or run i d) (small i d h))
 
+  sum_small : unsigned_abs (t +ℤ x) < 2 ^ 127
+  sum_small = omega (arith, sum_most t x (2 ^ 94) (22 * 2 ^ 58) before_small next_small)
+
+  next_back : to_z w128 (of_z w128 x) ≡ x
+  next_back = long_back x (omega (arith, next_small))
+
   pub area_so_far : to_z w128 (of_z w128 (t +ℤ to_z w128 (of_z w128 x))) ≡ total_area start (take (i + 1) run)
   area_so_far =
-      let a = before_small in
-      let b = next_small in
-      rw (long_back x (omega arith), long_back (t +ℤ x) (omega (arith, ints))) (
+      rw (next_back, long_back (t +ℤ x) sum_small) (
       ap (λ z. z +ℤ x) et ∙ ap (λ z. total_area start (take i run) +ℤ z) ex ∙ sym (total_more start run i d h)
       )
 
   pub area_fits : FitsSigned w128 (t +ℤ to_z w128 (of_z w128 x))
-  area_fits =
-      let a = before_small in
-      let b = next_small in
-      rw (long_back x (omega arith)) (fits_signed_from_abs w128 (t +ℤ x) (omega (arith, ints)))
+  area_fits = rw next_back (fits_signed_from_abs w128 (t +ℤ x) sum_small)
 
 -- the cross product of the ways from one place, by those from the origin
 cross_from : Point → Point → Point → Term
@@ -187,25 +191,25 @@ module _ (bends : List Bend) (linked : AreLinked bends) (small : All IsWorkable 
   y_small = rw ey (up_to_most bends i small most)
 
   between_small : unsigned_abs (x -ℤ y) ≤ 2 ^ 100
-  between_small = (let a = x_small in let b = y_small in omega (arith, ints))
+  between_small = omega (arith, difference_most x y (2 ^ 94) (2 ^ 94) x_small y_small)
+
+  all_small : unsigned_abs ((x -ℤ y) -ℤ t) < 2 ^ 127
+  all_small = omega (arith, difference_most (x -ℤ y) t (2 ^ 100) (10 * 2 ^ 58) between_small ht)
 
   between_is : to_z w128 (of_z w128 (to_z w128 (of_z w128 x) -ℤ to_z w128 (of_z w128 y))) ≡ x -ℤ y
-  between_is = difference_is x y (let a = x_small in omega arith) (let b = y_small in omega arith)
+  between_is = difference_is x y (omega (arith, x_small)) (omega (arith, y_small))
 
   pub between_fits : FitsSigned w128 (to_z w128 (of_z w128 x) -ℤ to_z w128 (of_z w128 y))
-  between_fits = difference_fits x y (let a = x_small in omega arith) (let b = y_small in omega arith)
+  between_fits = difference_fits x y (omega (arith, x_small)) (omega (arith, y_small))
 
   pub area_fits_too : FitsSigned w128 (to_z w128 (of_z w128 (to_z w128 (of_z w128 x) -ℤ to_z w128 (of_z w128 y))) -ℤ to_z w128 (of_z w128 t))
-  area_fits_too = rw (between_is, long_back t (omega arith)) (
-      fits_signed_from_abs w128 ((x -ℤ y) -ℤ t) (let a = x_small in let b = y_small in omega (arith, ints))
-      )
+  area_fits_too = rw (between_is, long_back t (omega arith)) (fits_signed_from_abs w128 ((x -ℤ y) -ℤ t) all_small)
 
   pub area_worked : i < j → j ≤ length bends
       → t ≡ pos 10 *ℤ vector_cross (way_of origin (get_or bends i no_bend).start) (way_of origin (get_or bends (j - 1) no_bend).end)
       → to_z w128 (of_z w128 (to_z w128 (of_z w128 (to_z w128 (of_z w128 x) -ℤ to_z w128 (of_z w128 y))) -ℤ to_z w128 (of_z w128 t))) ≡ area_at (slice_range bends i j)
   area_worked above within et =
-      let size : unsigned_abs ((x -ℤ y) -ℤ t) < 2 ^ 127 = (let a = x_small in let b = y_small in omega (arith, ints)) in
-      rw (between_is, long_back t (omega arith), long_back ((x -ℤ y) -ℤ t) size) (
+      rw (between_is, long_back t (omega arith), long_back ((x -ℤ y) -ℤ t) all_small) (
       ap (λ z. (z -ℤ y) -ℤ t) ex ∙ ap (λ z. (area_up_to bends j -ℤ z) -ℤ t) ey ∙ ap (λ z. (area_up_to bends j -ℤ area_up_to bends i) -ℤ z) et
       ∙ sym (area_told bends linked i j above within)
       )

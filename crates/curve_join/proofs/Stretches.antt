@@ -85,20 +85,28 @@ twice_both m y z w e h k = omega (arith, ints)
 all_four : (m : ℕ) (x y z w : ℤ) → w ≡ (x +ℤ y) +ℤ (y +ℤ z) → unsigned_abs x ≤ m → unsigned_abs y ≤ m → unsigned_abs z ≤ m → unsigned_abs w ≤ 4 * m
 all_four m x y z w e h k l = omega (arith, ints)
 
+-- the place of a half among all, and the signs at its ends
+first_parts : (l r n k : ℕ) → l + r + 1 ≡ n → k ≡ 2 * l → k + (2 * r + 1) + 1 ≡ 2 * n
+first_parts l r n k e h = omega arith
+
+second_parts : (l r n k : ℕ) → l + r + 1 ≡ n → k ≡ 2 * l + 1 → k + 2 * r + 1 ≡ 2 * n
+second_parts l r n k e h = omega arith
+
+still_above : (z w : ℤ) → w ≡ pos 4 *ℤ z → pos 0 <ℤ z → pos 0 <ℤ w
+still_above z w e h = omega (arith, ints)
+
+still_below : (z w : ℤ) → w ≡ pos 4 *ℤ z → z ≤ℤ pos 0 → w ≤ℤ pos 0
+still_below z w e h = omega (arith, ints)
+
 square_twice : (n m : ℕ) → m ≤ 4 * (2 ^ 49 * (n * n)) → m ≤ 2 ^ 49 * (2 * n * (2 * n))
 square_twice n m h = omega arith
 
 module _ (n : ℕ) (a b c : ℤ) (s half : Stretch) (is : IsStretch n a b c s) where
   first : middle_value s ≤ℤ pos 0 → IsFirstHalf s half → IsStretch (2 * n) a b c half
   first low h =
-      let parts = is.parts in
-      let last = h.last in
-      let above = is.above in
-      let e = h.start in
-      let f = h.end in
       record {
         rest = 2 * is.rest + 1;
-        parts = omega arith;
+        parts = first_parts s.last is.rest n half.last is.parts h.last;
         start = h.start ∙ ap (λ z. pos 4 *ℤ z) is.start ∙ start_twice s.last is.rest a b c ∙ ap (λ k. start_by k (2 * is.rest + 1) a b c) (sym h.last);
         between = h.between ∙ sum_is _ _ _ _ is.start is.between ∙ first_between s.last is.rest a b c ∙ ap (λ k. between_by k (2 * is.rest + 1) a b c) (sym h.last);
         end = h.end ∙ middle_is s _ _ _ is.start is.between is.end ∙ first_end s.last is.rest a b c ∙ ap (λ k. end_by k (2 * is.rest + 1) a b c) (sym h.last);
@@ -107,20 +115,15 @@ module _ (n : ℕ) (a b c : ℤ) (s half : Stretch) (is : IsStretch n a b c s) w
           b = square_twice n _ (twice_both _ s.start s.between half.between h.between is.small.a is.small.b);
           c = square_twice n _ (all_four _ s.start s.between s.end half.end h.end is.small.a is.small.b is.small.c);
         };
-        above = omega (arith, ints);
-        below = omega (arith, ints);
+        above = still_above s.start half.start h.start is.above;
+        below = subst (λ z. z ≤ℤ pos 0) (sym h.end) low;
       }
 
   second : pos 0 <ℤ middle_value s → IsSecondHalf s half → IsStretch (2 * n) a b c half
   second high h =
-      let parts = is.parts in
-      let last = h.last in
-      let below = is.below in
-      let e = h.start in
-      let f = h.end in
       record {
         rest = 2 * is.rest;
-        parts = omega arith;
+        parts = second_parts s.last is.rest n half.last is.parts h.last;
         start = h.start ∙ middle_is s _ _ _ is.start is.between is.end ∙ second_start s.last is.rest a b c ∙ ap (λ k. start_by k (2 * is.rest) a b c) (sym h.last);
         between = h.between ∙ sum_is _ _ _ _ is.between is.end ∙ second_between s.last is.rest a b c ∙ ap (λ k. between_by k (2 * is.rest) a b c) (sym h.last);
         end = h.end ∙ ap (λ z. pos 4 *ℤ z) is.end ∙ end_twice s.last is.rest a b c ∙ ap (λ k. end_by k (2 * is.rest) a b c) (sym h.last);
@@ -129,8 +132,8 @@ module _ (n : ℕ) (a b c : ℤ) (s half : Stretch) (is : IsStretch n a b c s) w
           b = square_twice n _ (twice_both _ s.between s.end half.between h.between is.small.b is.small.c);
           c = square_twice n _ (four_times _ s.end half.end h.end is.small.c);
         };
-        above = omega (arith, ints);
-        below = omega (arith, ints);
+        above = subst (λ z. pos 0 <ℤ z) (sym h.start) high;
+        below = still_below s.end half.end h.end is.below;
       }
 
   pub halved : IsHalf s half → IsStretch (2 * n) a b c half
@@ -140,38 +143,53 @@ module _ (n : ℕ) (a b c : ℤ) (s half : Stretch) (is : IsStretch n a b c s) w
   ]
 
 -- the whole
+start_whole : (l : ℕ) (a b c : ℤ) → l ≡ 0 → a ≡ start_by l 0 a b c
+start_whole l a b c none = omega (arith, ints) ∙ ap (λ k. start_by k 0 a b c) (sym none)
+
+between_whole : (l : ℕ) (a b c : ℤ) → l ≡ 0 → b ≡ between_by l 0 a b c
+between_whole l a b c none = omega (arith, ints) ∙ ap (λ k. between_by k 0 a b c) (sym none)
+
+end_whole : (l : ℕ) (a b c : ℤ) → l ≡ 0 → c ≡ end_by l 0 a b c
+end_whole l a b c none = omega (arith, ints) ∙ ap (λ k. end_by k 0 a b c) (sym none)
+
+one_part : (l : ℕ) → l ≡ 0 → l + 0 + 1 ≡ 1
+one_part l none = omega arith
+
 pub whole : (a b c : ℤ) (s : Stretch) → s.last ≡ 0 → s.start ≡ a → s.between ≡ b → s.end ≡ c → AreWithin (2 ^ 49) a b c
     → pos 0 <ℤ a → c ≤ℤ pos 0 → IsStretch 1 a b c s
-whole a b c s none ea eb ec h above below =
-    let ha = h.a in
-    let hb = h.b in
-    let hc = h.c in
-    record {
-      rest = 0;
-      parts = omega arith;
-      start = ea ∙ omega (arith, ints) ∙ ap (λ k. start_by k 0 a b c) (sym none);
-      between = eb ∙ omega (arith, ints) ∙ ap (λ k. between_by k 0 a b c) (sym none);
-      end = ec ∙ omega (arith, ints) ∙ ap (λ k. end_by k 0 a b c) (sym none);
-      small = record { a = omega (arith, ints); b = omega (arith, ints); c = omega (arith, ints) };
-      above = omega (arith, ints);
-      below = omega (arith, ints);
-    }
+whole a b c s none ea eb ec h above below = record {
+  rest = 0;
+  parts = one_part s.last none;
+  start = ea ∙ start_whole s.last a b c none;
+  between = eb ∙ between_whole s.last a b c none;
+  end = ec ∙ end_whole s.last a b c none;
+  small = record { a = rw ea h.a; b = rw eb h.b; c = rw ec h.c };
+  above = rw ea above;
+  below = rw ec below;
+}
 
 -- one of 64 stretches: where it begins and where it ends
+one_of : (l r : ℕ) → l + r + 1 ≡ 64 → l < 64
+one_of l r e = omega arith
+
+rest_from : (l r : ℕ) → l + r + 1 ≡ 64 → r + 1 ≡ 64 - l
+rest_from l r e = omega arith
+
+rest_behind : (l r : ℕ) → l + r + 1 ≡ 64 → r ≡ 64 - (l + 1)
+rest_behind l r e = omega arith
+
 module _ (a b c : ℤ) (s : Stretch) (is : IsStretch 64 a b c s) where
   pub last_below : s.last < 64
-  last_below = let p = is.parts in omega arith
+  last_below = one_of s.last is.rest is.parts
 
   pub start_is : s.start ≡ quadratic s.last a b c
   start_is =
-      let p = is.parts in
-      let e : is.rest + 1 ≡ 64 - s.last = omega arith in
+      let e = rest_from s.last is.rest is.parts in
       is.start ∙ ap (λ n. (pos (n * n) *ℤ a +ℤ pos (2 * s.last * n) *ℤ b) +ℤ pos (s.last * s.last) *ℤ c) e
 
   pub end_is : s.end ≡ quadratic (s.last + 1) a b c
   end_is =
-      let p = is.parts in
-      let e : is.rest ≡ 64 - (s.last + 1) = omega arith in
+      let e = rest_behind s.last is.rest is.parts in
       is.end ∙ ap (λ n. (pos (n * n) *ℤ a +ℤ pos (2 * (s.last + 1) * n) *ℤ b) +ℤ pos ((s.last + 1) * (s.last + 1)) *ℤ c) e
 
 -- ---- of two numbers, the one with the lesser size
