@@ -5,7 +5,7 @@ use lib.Signed.{le_z}
 use Rattle.curve_join.specs.Vector.{towards}
 use Rattle.curve_join.specs.declared.sense.Sense.{Sense}
 use Rattle.curve_join.specs.declared.sense.Sense.TheVariants.{Left, Right}
-use Rattle.curve_join.proofs.Fitting.{back, size_back, within_far}
+use Rattle.curve_join.proofs.Fitting.{back, size_counted, within_far}
 use Rattle.curve_join.proofs.run.goes_round.Goals as goal
 
 -- a number that the code counts in a sense
@@ -57,7 +57,7 @@ pub returns-then-not-bend-clause-not : goal.returns-then-not-bend-clause-not
 returns-then-not-bend-clause-not c = λ e is. cc (c.if-not-bend.true, is.curve)
 
 pub towards-requires : goal.towards-requires
-towards-requires c = size_back c.args.bend.now.turn (2 ^ 62) (omega (arith, c.requires.small.turn)) (omega arith)
+towards-requires c = size_counted c.args.bend.now.turn c.requires.small.turn
 
 pub returns-then-towards-le0-clause-round : goal.returns-then-towards-le0-clause-round
 returns-then-towards-le0-clause-round c = λ e. absurd (cc e)
@@ -72,4 +72,4 @@ pub cross-requires-clause-long : goal.cross-requires-clause-long
 cross-requires-clause-long c = within_far c.args.bend.now.leaves c.requires.small.leaves
 
 pub towards-requires-2 : goal.towards-requires-2
-towards-requires-2 c = size_back c.cross.result (2 ^ 62) (omega (arith, c.cross.ensures.most)) (omega arith)
+towards-requires-2 c = size_counted c.cross.result c.cross.ensures.most
