@@ -1,4 +1,4 @@
-use Rattle.std.proofs.Common.{◌+◌, to_z}
+use Rattle.std.proofs.Common.{◌+◌, to_z, arith}
 use mir.Syntax.{w128}
 use Rattle.pt_core.specs.ClosedWalk.{origin}
 use Rattle.curve_join.proofs.Areas.{area_fits, area_so_far, at_origin}
@@ -22,3 +22,15 @@ loop-bend-preserved c =
           c.loop-bend.invariant.areas total c.in_ok-push-2.ensures.items;
       total = total;
     }
+
+pub offset_bounds-bends-bend-index : goal.offset_bounds-bends-bend-index
+offset_bounds-bends-bend-index c = record { fits = omega (arith, c.loop-bend-test.true, c.requires.most) }
+
+pub bounds-bends-bend-index : goal.bounds-bends-bend-index
+bounds-bends-bend-index c = c.loop-bend-test.true
+
+pub area_share-total-requires-clause-start : goal.area_share-total-requires-clause-start
+area_share-total-requires-clause-start c = at_origin
+
+pub area_share-total-requires-clause-small : goal.area_share-total-requires-clause-small
+area_share-total-requires-clause-small c = c.requires.small _ _ c.loop-bend-test.true
