@@ -210,6 +210,17 @@ row_changes b below above (suc k) u y p here next =
     ap (λ t. differ t (black_in (0 ∷ above) (u + 60))) (front_row b below u y here)
     ∙ ap (differ (behind b 4 u y)) (front_row b above u (suc y) next)
 
+-- between two white rows there are no edges
+behind-white : (b : Image) (x y : ℕ) → ((u : ℕ) → nat_le 4 y && b u (y - 4) ≡ false) → behind b 4 x y ≡ false
+behind-white b x y white = elim (cases_lt x 4) [
+  | inl left ↦ behind-left b x y left
+  | inr right ↦ ap (λ t. t && nat_le 4 y && b (x - 4) (y - 4)) (le-leb 4 x right) ∙ white (x - 4)
+]
+
+pub changes-white : (b : Image) (k x y : ℕ) → ((u : ℕ) → nat_le 4 y && b u (y - 4) ≡ false) → ((u : ℕ) → nat_le 4 (suc y) && b u (suc y - 4) ≡ false) → changes b k x y ≡ false
+changes-white b zero x y here next = ap (λ t. differ t (behind b 4 (suc x) y)) (behind-white b x y here) ∙ behind-white b (suc x) y here
+changes-white b (suc k) x y here next = ap (λ t. differ t (behind b 4 x (suc y))) (behind-white b x y here) ∙ behind-white b x (suc y) next
+
 -- words of 0 have no edges and no pixels
 abbrev pub zeros : ℕ → List ℕ
 zeros n = replicate n 0

@@ -163,14 +163,6 @@ or_false false = refl
 
 -- ---- a row of pixels
 
-pub front_at : (row : List ℕ) (strip : ℕ) → 0 < strip → get_or (0 ∷ row) strip 0 ≡ get_or row (strip - 1) 0
-front_at row zero p = absurd (omega arith)
-front_at row (suc n) p = ap (λ m. get_or row m 0) (let same : n ≡ suc n - 1 = omega arith in same)
-
-pub front_fits : (row : List ℕ) (strip : ℕ) → ((k : ℕ) → get_or row k 0 < 2 ^ 64) → get_or (0 ∷ row) strip 0 < 2 ^ 64
-front_fits row zero fits = omega arith
-front_fits row (suc n) fits = fits n
-
 -- 64 pixels that are in two words
 pub two_words : (row : List ℕ) (strip before here by i : ℕ) → 1 ≤ by → by < 64 → before < 2 ^ 64 → before ≡ get_or (0 ∷ row) strip 0 → here ≡ get_or row strip 0 → i < 64
     → is_one (bit_or (here * 2 ^ by % 2 ^ 64) (before / 2 ^ (64 - by))) i ≡ black_in (0 ∷ row) (64 * strip + 64 - by + i)

@@ -9,6 +9,7 @@ use Rattle.pt_core.specs.declared.point.Point.{Point}
 use Rattle.pt_core.specs.declared.limits.TheConstants.{LONGEST_SIDE}
 use Rattle.bit_image.specs.Image.{Image, Fits}
 use Rattle.bit_image.specs.Page.{Page, IsPage, image_of}
+use Rattle.bit_image.proofs.Pages.{Fits-page}
 use Rattle.path_decompose.specs.Bounds.{IsCornerOf}
 use Rattle.path_decompose.specs.Inner.Bounds.{IsPathOn}
 use Rattle.path_decompose.specs.Decomposition.{inverted, IsNextPath, IsDecomposed, IsDecomposition}
@@ -38,8 +39,7 @@ paths_on page policy b (path ∷ paths) width height d fits w h =
     All-cons (IsPathOn width height) path paths (path_on page policy b path width height d.0 fits w h)
     (paths_on page policy (inverted b path.points) paths width height d.1 (fits_inverted page policy b path width height d.0 fits) w h)
 
--- the paths of a page, of which a copy is known to be one
-pub page_paths_on : (page copy : Page) (policy : Policy) (paths : List Path) → copy ≡ page → IsPage copy → Fits (image_of copy) copy.width copy.height → IsDecomposition page policy paths → All (IsPathOn page.width page.height) paths
-page_paths_on page copy policy paths same is_page fits d =
-    let page_is : IsPage page = subst IsPage same is_page in
-    paths_on page policy (image_of page) paths page.width page.height d (subst (λ p. Fits (image_of p) p.width p.height) same fits) page_is.most_width page_is.most_height
+-- the paths of a page
+pub page_paths_on : (page : Page) (policy : Policy) (paths : List Path) → IsPage page → IsDecomposition page policy paths → All (IsPathOn page.width page.height) paths
+page_paths_on page policy paths is_page d =
+    paths_on page policy (image_of page) paths page.width page.height d (Fits-page page is_page) is_page.most_width is_page.most_height

@@ -80,8 +80,7 @@ pub fn decompose_above(
 
 /// The paths of a page above a limit, where there is one.
 //
-// What is left is held as boundary edges, which each path takes away, and not as a copy of the page that is inverted
-// inside it. So a path costs its length, however many pixels lie between its lines.
+// A white page has none, and takes no room for edges.
 fn found(
     alloc: Global,
     page: &Bitmap,
@@ -94,10 +93,37 @@ fn found(
         (λ paths. All (IsPathOn page.now.width page.now.height) paths.items) }
     ensures few { IfOk result (λ paths. length paths.items ≤ page.now.width * page.now.height) }
 {
+    match page.first_black(page.height() - 1) {
+        Some((x, y)) => found_from(alloc, page, x, y, policy, limit),
+        None => Ok(Vec::new(alloc)),
+    }
+}
+
+/// The same of a page whose first black pixel is pixel (x, y).
+//
+// What is left is held as boundary edges, which each path takes away, and not as a copy of the page that is inverted
+// inside it. So a path costs its length, however many pixels lie between its lines.
+fn found_from(
+    alloc: Global,
+    page: &Bitmap,
+    x: u32,
+    y: u32,
+    policy: Policy,
+    limit: Option<u32>,
+) -> Result<Vec<Path>, NoMemory>
+    requires first { IsFirstBlack (image_of page.now) x y }
+    ensures found { IfOk result (λ paths. (all : List Path) × IsDecomposition page.now policy all
+        × (paths.items ≡ above limit all)) }
+    ensures on_page { IfOk result
+        (λ paths. All (IsPathOn page.now.width page.now.height) paths.items) }
+    ensures few { IfOk result (λ paths. length paths.items ≤ page.now.width * page.now.height) }
+{
+    // The width is asked, so that the proof sees that a page's pixels lie on it.
+    let _ = page.width();
     let mut rest = Edges::of(alloc, page)?;
     let mut trail = Trail::new(alloc);
     let mut paths = Vec::new(alloc);
-    let mut start = rest.first_black(rest.height() - 1);
+    let mut start = Some((x, y));
     'paths: while let Some((x, y)) = start {
         let (sign, area) = next_path(page, &mut rest, x, y, policy, &mut trail)?;
         push_above(alloc, &mut paths, sign, area, &trail.points, limit)?;

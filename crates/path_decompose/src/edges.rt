@@ -79,14 +79,6 @@ impl Edges {
         self.width
     }
 
-    pub(crate) fn height(&self) -> u32
-        ensures value { result ≡ self.now.height }
-        ensures page { IsPage self.now }
-        ensures fits { Fits (image_of self.now) self.now.width self.now.height }
-    {
-        self.height
-    }
-
     /// Whether an edge goes down from corner (x, y).
     #[inline(always)]
     pub(crate) fn goes_down(&self, x: u32, y: u32) -> bool
@@ -225,9 +217,15 @@ fn put_page(words: &mut [u64], rows: usize, page: &Bitmap, white: &[u64])
     ensures length { length words.new ≡ length words.old }
     ensures edges { AreEdgesOf (image_of page.now) rows words.new }
 {
+    // Between two white rows there are no edges: most pages of text have many such rows.
+    let mut below_is_white = true;
     for y in MARGIN..page.height() + 1 + MARGIN {
-        let (below, above) = (row_behind(page, y, white), row_behind(page, y + 1, white));
-        strips::put_row(words, rows, y as usize, below, above);
+        let above = row_behind(page, y + 1, white);
+        let above_is_white = strips::is_white(above);
+        if !(below_is_white && above_is_white) {
+            strips::put_row(words, rows, y as usize, row_behind(page, y, white), above);
+        }
+        below_is_white = above_is_white;
     }
 }
 

@@ -2,11 +2,11 @@
 //!
 //! A word has the edges that go down from 64 corners side by side, and the next word those that go left. The least
 //! significant bit is the leftmost one. So what lies above and below an edge is near it in memory too.
-ghost use Rattle.std.specs.Prelude.{◌≡◌, ◌≢◌, ◌⊎◌, IsNone, IfSome, true, ℕ, suc, ◌+◌, ◌-◌, ◌*◌, ◌/◌, ◌%◌, ◌^◌, ◌≤◌, ◌<◌, Bool, false, cond, ◌&&◌, nat_eq, [], ◌∷◌, length, slice_index_or};
+ghost use Rattle.std.specs.Prelude.{◌≡◌, ◌≢◌, ◌⊎◌, IsNone, IfSome, true, ℕ, suc, ◌+◌, ◌-◌, ◌*◌, ◌/◌, ◌%◌, ◌^◌, ◌≤◌, ◌<◌, Bool, false, cond, ◌&&◌, nat_eq, List, ◌∷◌, length, slice_index_or};
 ghost use Rattle.bit_image.specs.Image.{differ};
 ghost use Rattle.bit_image.specs.Words.{is_one};
 ghost use Rattle.bit_image.specs.Inner.Words.{black_in};
-ghost use Rattle.path_decompose.specs.Inner.BoundaryBits.{word_place, has_edge, changes_in, same_edge};
+ghost use Rattle.path_decompose.specs.Inner.BoundaryBits.{word_place, has_edge, AreStripWords, changes_in, same_edge};
 
 /// The kind of the edges that go down from a corner.
 pub(crate) const DOWN: usize = 0;
@@ -89,45 +89,68 @@ pub(crate) fn put_row(words: &mut [u64], rows: usize, y: usize, below: &[u64], a
     ensures others { (k u v : ℕ) → k < 2 → v ≢ y
         → has_edge rows words.new k u v ≡ has_edge rows words.old k u v }
 {
-    for strip in 0..below.len() + 1 {
-        put_strip(words, rows, strip, y, below, above);
+    // The words of the strip on the left, which this one's edges need too, are kept and not read again.
+    let mut before = (0, 0);
+    for strip in 0..below.len() {
+        let here = (below[strip], above[strip]);
+        put_strip(words, rows, strip, y, before, here);
+        before = here;
     }
+    put_strip(words, rows, below.len(), y, before, (0, 0));
 }
 
-/// Puts the edges of one strip of such a row.
+/// Puts the edges of one strip of such a row, whose words are those of the row below and of the one above, after the
+/// words of the strip on the left.
 #[inline(always)]
-fn put_strip(words: &mut [u64], rows: usize, strip: usize, y: usize, below: &[u64], above: &[u64])
-    requires count { length above.now ≡ length below.now }
-    requires strip { strip ≤ length below.now }
-    requires few { length below.now < 2 ^ 15 }
+fn put_strip(
+    words: &mut [u64],
+    rows: usize,
+    strip: usize,
+    y: usize,
+    before: (u64, u64),
+    here: (u64, u64),
+)
+    requires strip { strip < 2 ^ 16 }
     requires rows { rows < 2 ^ 16 }
     requires y { y < rows }
     requires room { 2 * ((strip + 1) * rows) ≤ length words.old }
     requires none { (k u : ℕ) → k < 2 → u / 64 ≡ strip → has_edge rows words.old k u y ≡ false }
     ensures length { length words.new ≡ length words.old }
-    ensures row { (k u : ℕ) → k < 2 → u / 64 ≡ strip
-        → has_edge rows words.new k u y ≡ changes_in below.now above.now k u }
+    ensures row { (below above : List ℕ)
+        → AreStripWords below strip before.0 here.0 → AreStripWords above strip before.1 here.1
+        → (k u : ℕ) → k < 2 → u / 64 ≡ strip
+        → has_edge rows words.new k u y ≡ changes_in below above k u }
     ensures others { (k u v : ℕ) → k < 2 → (u / 64 ≢ strip) ⊎ (v ≢ y)
         → has_edge rows words.new k u v ≡ has_edge rows words.old k u v }
 {
-    let pixels = pixels_behind(below, strip, 4);
-    let down = pixels ^ pixels_behind(below, strip, 3);
-    let left = pixels ^ pixels_behind(above, strip, 4);
+    let pixels = pixels_behind(before.0, here.0, 4);
+    let down = pixels ^ pixels_behind(before.0, here.0, 3);
+    let left = pixels ^ pixels_behind(before.1, here.1, 4);
     put(words, rows, DOWN, strip, y, down);
     put(words, rows, LEFT, strip, y, left);
 }
 
-/// The 64 pixels of a row that begin so many columns left of a strip.
+/// The 64 pixels that begin so many columns left of a strip, by its word and the one before it.
 #[inline(always)]
-fn pixels_behind(row: &[u64], strip: usize, by: u32) -> u64
-    requires strip { strip ≤ length row.now }
+fn pixels_behind(before: u64, here: u64, by: u32) -> u64
     requires some { 1 ≤ by }
     requires most { by < 64 }
-    ensures { (i : ℕ) → i < 64 → is_one result i ≡ black_in (0 ∷ row.now) (64 * strip + 64 - by + i) }
+    ensures { (row : List ℕ) (strip : ℕ) → AreStripWords row strip before here
+        → (i : ℕ) → i < 64 → is_one result i ≡ black_in (0 ∷ row) (64 * strip + 64 - by + i) }
 {
-    let before = if strip > 0 { row[strip - 1] } else { 0 };
-    let here = if strip < row.len() { row[strip] } else { 0 };
     here << by | before >> (64 - by)
+}
+
+/// Whether all pixels of a row are white.
+pub(crate) fn is_white(row: &[u64]) -> bool
+    ensures { result ≡ true → (u : ℕ) → black_in row.now u ≡ false }
+{
+    for word in row {
+        if *word != 0 {
+            return false;
+        }
+    }
+    true
 }
 
 /// The first column from column `x` on with an edge that goes down in a row.

@@ -53,6 +53,11 @@ pub record AreEdges (width height rows strips : ℕ) (words : List ℕ) : Type 0
   pub fits : Fits (bounded_image rows words) width height
   pub edges : AreEdgesOf (bounded_image rows words) rows words
 
+-- the word of a row in a strip, and the word before it
+pub record AreStripWords (row : List ℕ) (strip before here : ℕ) : Type 0 where
+  pub left : before ≡ slice_index_or (0 ∷ row) strip 0
+  pub word : here ≡ slice_index_or row strip 0
+
 -- two rows of words, one above the other, change between a pixel and the next one, or the one above it: 4 columns to the left
 abbrev pub changes_in : List ℕ → List ℕ → ℕ → ℕ → Bool
 changes_in below above zero x = differ (black_in (0 ∷ below) (x + 60)) (black_in (0 ∷ below) (x + 61))

@@ -1,27 +1,44 @@
--- One row more is put, and the others stay.
-use Rattle.std.proofs.Common.{◌≡◌, ℕ, ◌-◌, ◌&&◌, nat_le, ◌∙◌, ap, subst, inl, inr, arith, add-one}
+-- One row more is put, or it stays without edges between two white rows, and the others stay.
+use Rattle.std.proofs.Common.{◌≡◌, ℕ, suc, ◌-◌, ◌&&◌, nat_le, ◌∙◌, ap, sym, subst, inl, inr, arith, add-one}
 use Rattle.std.proofs.lemmas.Bool.{cases_order}
 use Rattle.bit_image.specs.Page.{image_of}
 use Rattle.bit_image.specs.Inner.Words.{black_in}
 use Rattle.path_decompose.specs.Inner.BoundaryBits.{has_edge, changes}
-use Rattle.path_decompose.proofs.Bounded.{row_changes}
+use Rattle.path_decompose.proofs.Bounded.{row_changes, changes-white}
 use Rattle.path_decompose.proofs.edges.put_page.Goals as goal
+use Rattle.path_decompose.proofs.edges.put_page.Goals.{then-not-above_is_white, else-not-above_is_white}
 
 pub loop-y-preserved : goal.loop-y-preserved
 loop-y-preserved c =
     let y = c.loop-y.y in
     let b = image_of c.args.page.now in
     let next = c.row_behind-above.result.now in
+    let edges = has_edge c.args.rows in
+    let over : (u : ℕ) → black_in next u ≡ nat_le 4 (suc y) && b u (suc y - 4) = subst (λ n. (w : ℕ) → black_in next w ≡ nat_le 4 n && b w (n - 4)) (add-one y) c.row_behind-above.ensures.pixels in
     record {
       rows_so_far = λ k u v p below. elim (cases_order v y) [
-        | inl here ↦
-            ap (has_edge c.args.rows c.put_row.new.words k u) here
-            ∙ c.put_row.ensures.row k u p
-            ∙ row_changes b c.row_behind-below.result.now next k u y p c.row_behind-below.ensures.pixels
-            (subst (λ n. (w : ℕ) → black_in next w ≡ nat_le 4 n && b w (n - 4)) (add-one y) c.row_behind-above.ensures.pixels)
-            ∙ ap (changes b k u) (omega (arith, here))
-        | inr (inl before) ↦ c.put_row.ensures.others k u v p (λ e. omega arith) ∙ c.loop-y.invariant.rows_so_far k u v p before
+        | inl here ↦ elim c.if-not-above_is_white.branch [
+          | then-not-above_is_white w ↦
+              ap (λ ws. edges ws k u v) w.words-is
+              ∙ ap (edges w.put_row.new.words k u) here
+              ∙ w.put_row.ensures.row k u p
+              ∙ row_changes b w.row_behind.result.now next k u y p w.row_behind.ensures.pixels over
+              ∙ ap (changes b k u) (omega (arith, here))
+          | else-not-above_is_white w ↦
+              let both = w.if-not-above_is_white.false in
+              ap (λ ws. edges ws k u v) w.words-is
+              ∙ c.loop-y.invariant.rest k u v p (omega (arith, here))
+              ∙ sym (ap (changes b k u) here ∙ changes-white b k u y (c.loop-y.invariant.white both.0) (λ n. sym (over n) ∙ c.is_white-above_is_white.ensures both.1 n))
+        ]
+        | inr (inl before) ↦ elim c.if-not-above_is_white.branch [
+          | then-not-above_is_white w ↦ ap (λ ws. edges ws k u v) w.words-is ∙ w.put_row.ensures.others k u v p (λ e. omega arith) ∙ c.loop-y.invariant.rows_so_far k u v p before
+          | else-not-above_is_white w ↦ ap (λ ws. edges ws k u v) w.words-is ∙ c.loop-y.invariant.rows_so_far k u v p before
+        ]
         | inr (inr after) ↦ absurd (omega arith)
       ];
-      rest = λ k u v p after. c.put_row.ensures.others k u v p (λ e. omega arith) ∙ c.loop-y.invariant.rest k u v p (omega arith);
+      rest = λ k u v p after. elim c.if-not-above_is_white.branch [
+        | then-not-above_is_white w ↦ ap (λ ws. edges ws k u v) w.words-is ∙ w.put_row.ensures.others k u v p (λ e. omega arith) ∙ c.loop-y.invariant.rest k u v p (omega arith)
+        | else-not-above_is_white w ↦ ap (λ ws. edges ws k u v) w.words-is ∙ c.loop-y.invariant.rest k u v p (omega arith)
+      ];
+      white = λ white u. sym (c.row_behind-above.ensures.pixels u) ∙ c.is_white-above_is_white.ensures white u;
     }

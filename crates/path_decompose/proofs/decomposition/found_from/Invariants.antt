@@ -4,7 +4,7 @@ use Rattle.bit_image.specs.Page.{SameSides, image_of}
 use Rattle.path_decompose.specs.Inner.Start.{IsStart}
 use Rattle.path_decompose.proofs.Above.{IsAboveTo}
 use Rattle.path_decompose.proofs.Scan.{places_left}
-use Rattle.path_decompose.proofs.decomposition.found.Given as goal
+use Rattle.path_decompose.proofs.decomposition.found_from.Given as goal
 
 abbrev pub invariant-paths : goal.invariant-paths
 invariant-paths l =
