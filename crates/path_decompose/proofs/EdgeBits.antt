@@ -50,6 +50,12 @@ place_inside rows strip y kind size low p room =
     let fits : strip * rows + rows ≤ (strip + 1) * rows = row_fits strip rows (strip + 1) rows (omega arith) (omega arith) in
     omega arith
 
+-- the room for all strips is room for each
+pub strip_room : (rows strips strip size : ℕ) → strip < strips → size ≡ 2 * (strips * rows) → 2 * ((strip + 1) * rows) ≤ size
+strip_room rows strips strip size below is =
+    let fits : (strip + 1) * rows ≤ strips * rows = mul-le (strip + 1) rows strips rows (omega arith) (omega arith) in
+    omega arith
+
 -- a word that is written whole
 pub has_edge-set : (rows : ℕ) (words : List ℕ) (kind strip y at word : ℕ) → y < rows → kind < 2 → at ≡ word_place rows kind strip y → at < length words
     → (k u v : ℕ) → k < 2 → has_edge rows (set words at word) k u v ≡ cond (same_edge kind strip y k (u / 64) v) (is_one word (u % 64)) (has_edge rows words k u v)

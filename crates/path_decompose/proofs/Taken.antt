@@ -38,6 +38,17 @@ use Rattle.path_decompose.proofs.Walked.{walk_circuit, walk_lines, walk_inside, 
 pub word_back : (z : ℤ) → pos 0 ≤ℤ z → nat_abs z + 3 < 2 ^ 16 → to_z w32 (of_z w32 z) ≡ z
 word_back z low high = omega (arith, ints)
 
+pub greater_is : (a b : ℤ) → pos 0 ≤ℤ a → nat_abs a + 3 < 2 ^ 16 → pos 0 ≤ℤ b → nat_abs b + 3 < 2 ^ 16 → max (nat_abs (to_z w32 (of_z w32 a))) (nat_abs (to_z w32 (of_z w32 b))) ≡ max (nat_abs a) (nat_abs b)
+greater_is a b low_a high_a low_b high_b =
+    ap (λ z. max (nat_abs z) (nat_abs (to_z w32 (of_z w32 b)))) (word_back a low_a high_a) ∙ ap (λ z. max (nat_abs a) (nat_abs z)) (word_back b low_b high_b)
+
+-- there is room for the greater column of two corners
+pub greater_room : (rows size : ℕ) (p q : Point) → FitsStrips rows size p → FitsStrips rows size q → 2 * (((max (nat_abs p.x) (nat_abs q.x) + 3) / 64 + 1) * rows) ≤ size
+greater_room rows size p q hp hq = elim (cases_lt (nat_abs p.x) (nat_abs q.x)) [
+  | inl less ↦ let right : nat_abs q.x ≡ max (nat_abs p.x) (nat_abs q.x) = omega arith in subst (λ n. 2 * (((n + 3) / 64 + 1) * rows) ≤ size) right hq.room
+  | inr more ↦ let left : nat_abs p.x ≡ max (nat_abs p.x) (nat_abs q.x) = omega arith in subst (λ n. 2 * (((n + 3) / 64 + 1) * rows) ≤ size) left hp.room
+]
+
 spot_up : (a b d k u v : ℕ) → (b ≡ suc d) ⊎ (d ≡ suc b) → (c : ℕ) → a ≡ c → same_edge 0 (max a c + 3) (max b d + 3) k u v ≡ is_along k u v (line_at a b c d)
 spot_up a b d k u v next c same =
     let column : max a c + 3 ≡ a + 3 = omega arith in

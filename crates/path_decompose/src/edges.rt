@@ -236,10 +236,9 @@ fn row_behind<'a>(page: &'a Bitmap, y: u32, white: &'a [u64]) -> &'a [u64]
     ensures count { length result.now ≡ (page.now.width + 63) / 64 }
     ensures pixels { (u : ℕ) → black_in result.now u ≡ (nat_le 4 y && image_of page.now u (y - 4)) }
 {
-    // Below row 0 this goes round to the greatest numbers, above any page.
-    let row = y.wrapping_sub(4);
-    if row < page.height() {
-        page.row_words(row)
+    let height = page.height();
+    if y >= 4 && y - 4 < height {
+        page.row_words(y - 4)
     } else {
         white
     }

@@ -21,7 +21,8 @@ fn word_place(rows: usize, kind: usize, strip: usize, y: usize) -> usize
     requires strip { strip < 2 ^ 16 }
     requires rows { rows < 2 ^ 16 }
     requires y { y < rows }
-    ensures { result ≡ word_place rows kind strip y }
+    ensures value { result ≡ word_place rows kind strip y }
+    ensures inside { (size : ℕ) → 2 * ((strip + 1) * rows) ≤ size → result < size }
 {
     2 * (strip * rows + y) + kind
 }

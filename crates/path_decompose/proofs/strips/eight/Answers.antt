@@ -5,9 +5,9 @@ use Rattle.path_decompose.proofs.strips.eight.Goals as goal
 
 pub returns-then-x-le56 : goal.returns-then-x-le56
 returns-then-x-le56 c = λ i p.
-    eight_within c.args.rows c.args.words.now c.args.x c.args.y c.word_place.result i c.requires.y p (omega arith) c.word_place.ensures
+    eight_within c.args.rows c.args.words.now c.args.x c.args.y c.word_place.result i c.requires.y p (omega arith) c.word_place.ensures.value
 
 pub returns-else-x-le56 : goal.returns-else-x-le56
 returns-else-x-le56 c = λ i p.
     eight_over c.args.rows c.args.words.now c.args.x c.args.y c.word_place.result c.word_place-else-x-le56.result i c.requires.y p (omega arith) (c.type_inv.words c.word_place.result).fits
-    c.word_place.ensures c.word_place-else-x-le56.ensures
+    c.word_place.ensures.value c.word_place-else-x-le56.ensures.value

@@ -1,42 +1,42 @@
 -- The first word without the bits before the column, and the words of the strips behind it.
-use Rattle.std.proofs.Common.{◌*◌, ◌/◌, ◌%◌, ◌-◌, ◌∙◌, refl, ap, inl, inr, arith}
+use Rattle.std.proofs.Common.{◌*◌, ◌/◌, ◌%◌, ◌-◌, ◌∙◌, length, refl, ap, inl, inr, arith}
 use Rattle.std.proofs.lemmas.Bool.{cases_lt}
 use Rattle.bit_image.specs.Words.{is_one}
 use Rattle.bit_image.proofs.Bits.{is_one-zero}
-use Rattle.path_decompose.proofs.EdgeBits.{lowest_from, lowest_whole, none_from, edge_found, edge_none, has_edge-past}
+use Rattle.path_decompose.proofs.EdgeBits.{lowest_from, lowest_whole, none_from, edge_found, edge_none, has_edge-past, strip_room}
 use Rattle.path_decompose.proofs.strips.first_edge.Goals as goal
 
 pub returns-then-word-ne0-clause-edge : goal.returns-then-word-ne0-clause-edge
 returns-then-word-ne0-clause-edge c =
     let x = c.args.x in
-    let found = edge_found c.args.rows c.args.words.now (x / 64) (x % 64) _ c.args.y c.word_place.result c.requires.y c.word_place.ensures
+    let found = edge_found c.args.rows c.args.words.now (x / 64) (x % 64) _ c.args.y c.word_place.result c.requires.y c.word_place.ensures.value
     (lowest_from _ (x % 64) _ refl (omega arith) (omega arith) (c.type_inv.words c.word_place.result).fits) in
     (omega (arith, found.0), found.1)
 
 pub returns-then-word-ne0-clause-left : goal.returns-then-word-ne0-clause-left
 returns-then-word-ne0-clause-left c = λ u right left.
     let x = c.args.x in
-    let found = edge_found c.args.rows c.args.words.now (x / 64) (x % 64) _ c.args.y c.word_place.result c.requires.y c.word_place.ensures
+    let found = edge_found c.args.rows c.args.words.now (x / 64) (x % 64) _ c.args.y c.word_place.result c.requires.y c.word_place.ensures.value
     (lowest_from _ (x % 64) _ refl (omega arith) (omega arith) (c.type_inv.words c.word_place.result).fits) in
     found.2 u (omega arith) left
 
 pub loop-strip-init : goal.loop-strip-init
 loop-strip-init c = λ u right left.
     let x = c.args.x in
-    edge_none c.args.rows c.args.words.now (x / 64) c.args.y c.word_place.result u c.requires.y c.word_place.ensures (omega arith) (omega arith)
+    edge_none c.args.rows c.args.words.now (x / 64) c.args.y c.word_place.result u c.requires.y c.word_place.ensures.value (omega arith) (omega arith)
     (none_from _ (x % 64) _ (u - 64 * (x / 64)) refl (omega arith) c.if-word-ne0.false (omega arith) (omega arith))
 
 pub returns-then-word-ne0-2-clause-edge : goal.returns-then-word-ne0-2-clause-edge
 returns-then-word-ne0-2-clause-edge c =
     let place = c.word_place-in-loop-strip in
-    let found = edge_found c.args.rows c.args.words.now c.loop-strip.strip 0 _ c.args.y place.result c.requires.y place.ensures
+    let found = edge_found c.args.rows c.args.words.now c.loop-strip.strip 0 _ c.args.y place.result c.requires.y place.ensures.value
     (lowest_whole _ (omega arith) (c.type_inv.words place.result).fits) in
     (omega (arith, found.0), found.1)
 
 pub returns-then-word-ne0-2-clause-left : goal.returns-then-word-ne0-2-clause-left
 returns-then-word-ne0-2-clause-left c = λ u right left.
     let place = c.word_place-in-loop-strip in
-    let found = edge_found c.args.rows c.args.words.now c.loop-strip.strip 0 _ c.args.y place.result c.requires.y place.ensures
+    let found = edge_found c.args.rows c.args.words.now c.loop-strip.strip 0 _ c.args.y place.result c.requires.y place.ensures.value
     (lowest_whole _ (omega arith) (c.type_inv.words place.result).fits) in
     elim (cases_lt u (64 * c.loop-strip.strip)) [
       | inl before ↦ c.loop-strip.invariant u right before
@@ -50,7 +50,7 @@ loop-strip-preserved c = λ u right left.
     elim (cases_lt u (64 * strip)) [
       | inl before ↦ c.loop-strip.invariant u right before
       | inr here ↦
-          edge_none c.args.rows c.args.words.now strip c.args.y place.result u c.requires.y place.ensures here (omega arith)
+          edge_none c.args.rows c.args.words.now strip c.args.y place.result u c.requires.y place.ensures.value here (omega arith)
           (ap (λ n. is_one n (u - 64 * strip)) c.if-word-ne0-2.false ∙ is_one-zero (u - 64 * strip))
     ]
 
@@ -59,3 +59,12 @@ returns-clause-none c = λ _ u right. elim (cases_lt u (64 * c.loop-strip.strip)
   | inl before ↦ c.loop-strip.invariant u right before
   | inr past ↦ has_edge-past c.args.rows c.args.strips c.args.words.now 0 u c.args.y c.requires.room (omega arith)
 ]
+
+pub bounds-words-word_place : goal.bounds-words-word_place
+bounds-words-word_place c =
+    c.word_place.ensures.inside (length c.args.words.now) (strip_room c.args.rows c.args.strips (c.args.x / 64) (length c.args.words.now) c.requires.x c.requires.room)
+
+pub bounds-words-word_place-in-loop-strip : goal.bounds-words-word_place-in-loop-strip
+bounds-words-word_place-in-loop-strip c =
+    c.word_place-in-loop-strip.ensures.inside (length c.args.words.now)
+    (strip_room c.args.rows c.args.strips c.loop-strip.strip (length c.args.words.now) (omega arith) c.requires.room)

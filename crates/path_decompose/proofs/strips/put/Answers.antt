@@ -1,17 +1,16 @@
 -- A word of 0 is there already.
-use Rattle.std.proofs.Common.{◌≡◌, ◌∙◌, ◌/◌, ◌%◌, ◌<◌, length, subst, sym, ap, inl, inr, nat_eq, ◌&&◌}
+use Rattle.std.proofs.Common.{◌≡◌, ◌∙◌, ◌/◌, ◌%◌, length, sym, ap, inl, inr, nat_eq, ◌&&◌}
 use Rattle.std.proofs.lemmas.Bool.{cases_Bool, cond-true, cond-false, and_parts, eqb-true}
 use Rattle.bit_image.specs.Words.{is_one}
 use Rattle.bit_image.proofs.Bits.{is_one-zero}
 use Rattle.path_decompose.specs.Inner.BoundaryBits.{has_edge, same_edge}
-use Rattle.path_decompose.proofs.EdgeBits.{has_edge-set, place_inside}
+use Rattle.path_decompose.proofs.EdgeBits.{has_edge-set}
 use Rattle.path_decompose.proofs.strips.put.Goals as goal
 
 pub returns-then-edges-ne0-clause-edges : goal.returns-then-edges-ne0-clause-edges
 returns-then-edges-ne0-clause-edges c = λ k u v p.
-    has_edge-set c.args.rows c.args.words.now c.args.kind c.args.strip c.args.y c.word_place.result c.args.edges c.requires.y c.requires.kind c.word_place.ensures
-    (subst (λ n. n < length c.args.words.now) (sym c.word_place.ensures)
-    (place_inside c.args.rows c.args.strip c.args.y c.args.kind (length c.args.words.now) c.requires.y c.requires.kind c.requires.room))
+    has_edge-set c.args.rows c.args.words.now c.args.kind c.args.strip c.args.y c.word_place.result c.args.edges c.requires.y c.requires.kind c.word_place.ensures.value
+    (c.word_place.ensures.inside (length c.args.words.now) c.requires.room)
     k u v p
 
 pub returns-else-edges-ne0-clause-edges : goal.returns-else-edges-ne0-clause-edges
