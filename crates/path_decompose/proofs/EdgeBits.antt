@@ -16,7 +16,7 @@ use Rattle.bit_image.proofs.Turned.{is_one-or, is_one-shr, is_one-shl, is_one-sh
 use Rattle.path_decompose.specs.Inner.BoundaryBits.{word_place, has_edge, changes_in, same_edge}
 use Rattle.path_decompose.proofs.Differ.{differ-false}
 
-no_bit : (n k i : ℕ) → n < 2 ^ k → k ≤ i → is_one n i ≡ false
+pub no_bit : (n k i : ℕ) → n < 2 ^ k → k ≤ i → is_one n i ≡ false
 unfolding is_one
 no_bit n k i p q = ap (λ b. nat_eq b 1) (bit_at_above n k i p q)
 
@@ -163,7 +163,7 @@ has_edge-flip rows words kind x y at low p place inside k u v q =
     here true b false e h = cc
     here false b c e h = cc
 
-or_false : (b : Bool) → b || false ≡ b
+pub or_false : (b : Bool) → b || false ≡ b
 or_false true = refl
 or_false false = refl
 

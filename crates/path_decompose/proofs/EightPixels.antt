@@ -1,9 +1,8 @@
 -- Eight pixels side by side, told by the edges between them.
-use Rattle.std.proofs.Common.{◌≡◌, ℕ, zero, suc, ◌+◌, ◌-◌, ◌*◌, ◌%◌, ◌^◌, ◌<◌, ◌≤◌, Bool, true, false, ◌&&◌, ◌||◌, nat_eq, nat_le, List, refl, ap, sym, ◌∙◌, inl, inr, arith}
+use Rattle.std.proofs.Common.{◌≡◌, ℕ, zero, suc, ◌+◌, ◌-◌, ◌*◌, ◌%◌, ◌^◌, ◌<◌, ◌≤◌, Bool, true, false, ◌&&◌, ◌||◌, nat_le, List, refl, ap, sym, ◌∙◌, inl, inr, arith}
 use mir.Val.{bool_byte}
 use Rattle.std.specs.Int.RustNames.{bit_and, bit_or, bit_xor}
 use Rattle.std.proofs.lemmas.Bool.{cases_lt, le-leb, lt-leb}
-use Rattle.std.proofs.lemmas.Nat.Bits.{bit_at_above}
 use Rattle.bit_image.specs.Image.{Image, differ}
 use Rattle.bit_image.specs.Words.{is_one}
 use Rattle.bit_image.proofs.Bits.{is_one-xor, is_one-and, is_one-mask, is_one-zero, within-inside, and_true}
@@ -12,20 +11,13 @@ use Rattle.turn_policies.specs.Majority.{behind}
 use Rattle.path_decompose.specs.Inner.BoundaryBits.{has_edge, AreEdgesOf}
 use Rattle.path_decompose.proofs.Differ.{differ-false, differ_link, differ_same, differ_assoc}
 use Rattle.path_decompose.proofs.Bounded.{behind-pixel}
-
-or_false : (b : Bool) → b || false ≡ b
-or_false true = refl
-or_false false = refl
+use Rattle.path_decompose.proofs.EdgeBits.{no_bit, or_false}
 
 turned : (a b : Bool) → differ a b ≡ differ b a
 turned true true = refl
 turned true false = refl
 turned false true = refl
 turned false false = refl
-
-no_bit : (n k i : ℕ) → n < 2 ^ k → k ≤ i → is_one n i ≡ false
-unfolding is_one
-no_bit n k i p q = ap (λ b. nat_eq b 1) (bit_at_above n k i p q)
 
 bit_of : (t : Bool) → is_one (bool_byte t) 0 ≡ t
 unfolding is_one

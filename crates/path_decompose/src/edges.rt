@@ -5,7 +5,7 @@ ghost use Rattle.bit_image.specs.Image.{Fits, IsWhiteTo, differ, south_west};
 ghost use Rattle.bit_image.specs.Page.{IsPage, SameSides, image_of, page_of};
 ghost use Rattle.bit_image.specs.Inner.Words.{black_in};
 ghost use Rattle.turn_policies.specs.Inner.Square.{IsSquare};
-ghost use Rattle.path_decompose.specs.Inner.BoundaryBits.{has_edge, AreEdgesOf, AreWalked, FitsStrips, is_along};
+ghost use Rattle.path_decompose.specs.Inner.BoundaryBits.{has_edge, changes, AreEdgesOf, AreWalked, FitsStrips, is_along};
 ghost use Rattle.path_decompose.specs.Decomposition.{inverted};
 ghost use Rattle.path_decompose.specs.Inside.{line_between, lines_of, is_odd};
 ghost use Rattle.pt_core.specs.ClosedWalk.{IsUnitStep, IsClosedWalk};
@@ -86,7 +86,7 @@ impl Edges {
         requires y { y ≤ self.now.height + 1 }
         ensures { result ≡ differ (south_west (image_of self.now) x y) (south_west (image_of self.now) (suc x) y) }
     {
-        strips::has_edge(&self.words, self.rows, DOWN, x + MARGIN, y + MARGIN)
+        self.has_edge(DOWN, x, y)
     }
 
     /// Whether an edge goes left from corner (x, y).
@@ -96,7 +96,18 @@ impl Edges {
         requires y { y ≤ self.now.height + 1 }
         ensures { result ≡ differ (south_west (image_of self.now) x y) (south_west (image_of self.now) x (suc y)) }
     {
-        strips::has_edge(&self.words, self.rows, LEFT, x + MARGIN, y + MARGIN)
+        self.has_edge(LEFT, x, y)
+    }
+
+    /// Whether corner (x, y) has an edge of a kind.
+    #[inline(always)]
+    fn has_edge(&self, kind: usize, x: u32, y: u32) -> bool
+        requires kind { kind < 2 }
+        requires x { x ≤ self.now.width + 1 }
+        requires y { y ≤ self.now.height + 1 }
+        ensures { result ≡ changes (image_of self.now) kind (x + 3) (y + 3) }
+    {
+        strips::has_edge(&self.words, self.rows, kind, x + MARGIN, y + MARGIN)
     }
 
     /// The square of 64 pixels with corner (x, y) at its middle, where it is known whether pixel (x, y) is black: bits 0
