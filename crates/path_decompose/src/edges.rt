@@ -105,7 +105,7 @@ impl Edges {
         requires kind { kind < 2 }
         requires x { x ≤ self.now.width + 1 }
         requires y { y ≤ self.now.height + 1 }
-        ensures { result ≡ changes (image_of self.now) kind (x + 3) (y + 3) }
+        ensures { result ≡ changes (image_of self.now) kind (x + MARGIN) (y + MARGIN) }
     {
         strips::has_edge(&self.words, self.rows, kind, x + MARGIN, y + MARGIN)
     }
@@ -220,8 +220,8 @@ fn flip_line(words: &mut [u64], rows: usize, from: Point, to: Point)
 
 /// Puts the edges of a page into words that have none.
 fn put_page(words: &mut [u64], rows: usize, page: &Bitmap, white: &[u64])
-    requires rows { rows ≡ page.now.height + 8 }
-    requires room { length words.old ≡ 2 * ((page.now.width / 64 + 2) * rows) }
+    requires rows { rows ≡ page.now.height + ROWS_BESIDE }
+    requires room { length words.old ≡ 2 * ((page.now.width / 64 + STRIPS_BESIDE) * rows) }
     requires count { length white.now ≡ (page.now.width + 63) / 64 }
     requires white { (u : ℕ) → black_in white.now u ≡ false }
     requires none { (k u v : ℕ) → k < 2 → has_edge rows words.old k u v ≡ false }

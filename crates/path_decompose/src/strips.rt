@@ -161,11 +161,11 @@ pub(crate) fn first_edge(words: &[u64], rows: usize, strips: usize, x: u32, y: u
     requires y { y < rows }
     requires x { x / 64 < strips }
     requires room { length words.now ≡ 2 * (strips * rows) }
-    ensures none { IsNone result → (u : ℕ) → x ≤ u → has_edge rows words.now 0 u y ≡ false }
+    ensures none { IsNone result → (u : ℕ) → x ≤ u → has_edge rows words.now DOWN u y ≡ false }
     ensures edge { IfSome result (λ column.
-        (x ≤ column) × (has_edge rows words.now 0 column y ≡ true)) }
+        (x ≤ column) × (has_edge rows words.now DOWN column y ≡ true)) }
     ensures left { IfSome result (λ column. (u : ℕ) → x ≤ u → u < column
-        → has_edge rows words.now 0 u y ≡ false) }
+        → has_edge rows words.now DOWN u y ≡ false) }
 {
     let first = x as usize / 64;
     let word = words[word_place(rows, DOWN, first, y as usize)] & (u64::MAX << (x % 64));
@@ -187,7 +187,7 @@ pub(crate) fn eight(words: &[u64], rows: usize, x: u32, y: u32) -> u64
     requires y { y < rows }
     requires x { x < 2 ^ 16 }
     requires room { 2 * ((x / 64 + 2) * rows) ≤ length words.now }
-    ensures { (i : ℕ) → i < 8 → is_one result i ≡ has_edge rows words.now 0 (x + i) y }
+    ensures { (i : ℕ) → i < 8 → is_one result i ≡ has_edge rows words.now DOWN (x + i) y }
 {
     let (strip, y) = (x as usize / 64, y as usize);
     let first = words[word_place(rows, DOWN, strip, y)] >> (x % 64);

@@ -1,6 +1,6 @@
--- The boundary edges that are left of a page, as bits of words. Edges of kind 0 go down from a corner, and edges of kind 1 go left.
--- Corner (x, y) of the page stands in column x + 3 and row y + 3 here: before it is a margin, so that the square of pixels around each
--- corner of the page has its place. Pixel (x, y) of that square is the one that `behind b 4` gives.
+-- The boundary edges that are left of a page, as bits of words. Edges of the kind DOWN go down from a corner, and those of LEFT go left.
+-- Corner (x, y) of the page stands in column x + MARGIN and row y + MARGIN here, so that the square of pixels around each corner of the
+-- page has its place. Pixel (x, y) of that square is the one that `behind b 4` gives.
 use Rattle.std.specs.Prelude.{◌≡◌, ◌^◌, nat_abs, pos, ◌≤ℤ◌, ℕ, zero, suc, ◌+◌, ◌*◌, ◌/◌, ◌%◌, ◌≤◌, ◌<◌, Bool, false, ◌&&◌, nat_eq, nat_lt, List, ◌∷◌, length, slice_index_or}
 use Rattle.pt_core.specs.declared.limits.TheConstants.{LONGEST_SIDE}
 use Rattle.pt_core.specs.declared.path.Sign.{Sign}
@@ -11,6 +11,8 @@ use Rattle.bit_image.specs.Image.{Image, Fits, differ}
 use Rattle.bit_image.specs.Words.{is_one}
 use Rattle.bit_image.specs.Inner.Words.{black_in}
 use Rattle.turn_policies.specs.Majority.{behind}
+use Rattle.path_decompose.specs.declared.edges.TheConstants.{MARGIN, ROWS_BESIDE, STRIPS_BESIDE}
+use Rattle.path_decompose.specs.declared.strips.TheConstants.{DOWN, LEFT}
 use Rattle.path_decompose.specs.GridEdges.{GridEdge, upright, level}
 use Rattle.path_decompose.specs.Walk.{IsBoundaryWalk}
 
@@ -35,11 +37,11 @@ AreEdgesOf b rows words = (kind x y : ℕ) → kind < 2 → has_edge rows words 
 -- a pixel is black where an odd number of edges stands on its left
 abbrev pub black_past : ℕ → List ℕ → ℕ → ℕ → Bool
 black_past rows words zero y = false
-black_past rows words (suc x) y = differ (black_past rows words x y) (has_edge rows words 0 x y)
+black_past rows words (suc x) y = differ (black_past rows words x y) (has_edge rows words DOWN x y)
 
 -- the image that the edges bound
 abbrev pub bounded_image : ℕ → List ℕ → Image
-bounded_image rows words x y = black_past rows words (x + 4) (y + 4)
+bounded_image rows words x y = black_past rows words (x + (MARGIN + 1)) (y + (MARGIN + 1))
 
 -- the words have all edges of an image that fits a page, with room for the squares around its corners
 pub record AreEdges (width height rows strips : ℕ) (words : List ℕ) : Type 0 where
@@ -47,8 +49,8 @@ pub record AreEdges (width height rows strips : ℕ) (words : List ℕ) : Type 0
   pub most_width : width ≤ LONGEST_SIDE
   pub some_height : 1 ≤ height
   pub most_height : height ≤ LONGEST_SIDE
-  pub row_count : rows ≡ height + 8
-  pub strip_count : strips ≡ width / 64 + 2
+  pub row_count : rows ≡ height + ROWS_BESIDE
+  pub strip_count : strips ≡ width / 64 + STRIPS_BESIDE
   pub word_count : length words ≡ 2 * (strips * rows)
   pub fits : Fits (bounded_image rows words) width height
   pub edges : AreEdgesOf (bounded_image rows words) rows words
@@ -69,17 +71,17 @@ same_edge kind x y k u v = nat_eq kind k && (nat_eq x u && nat_eq y v)
 
 -- the edge of a kind in a column and a row lies along a line of the grid
 abbrev pub is_along : ℕ → ℕ → ℕ → GridEdge → Bool
-is_along k x y (upright u v) = same_edge 0 (u + 3) (v + 4) k x y
-is_along k x y (level u v) = same_edge 1 (u + 4) (v + 3) k x y
+is_along k x y (upright u v) = same_edge DOWN (u + MARGIN) (v + (MARGIN + 1)) k x y
+is_along k x y (level u v) = same_edge LEFT (u + (MARGIN + 1)) (v + MARGIN) k x y
 
 -- words of this number have room for the edges of the corner at a point
 pub record FitsStrips (rows size : ℕ) (p : Point) : Type 0 where
   pub right : pos 0 ≤ℤ p.x
   pub above : pos 0 ≤ℤ p.y
-  pub column : nat_abs p.x + 3 < 2 ^ 16
-  pub row : nat_abs p.y + 3 < rows
-  pub height : nat_abs p.y + 3 < 2 ^ 16
-  pub room : 2 * (((nat_abs p.x + 3) / 64 + 1) * rows) ≤ size
+  pub column : nat_abs p.x + MARGIN < 2 ^ 16
+  pub row : nat_abs p.y + MARGIN < rows
+  pub height : nat_abs p.y + MARGIN < 2 ^ 16
+  pub room : 2 * (((nat_abs p.x + MARGIN) / 64 + 1) * rows) ≤ size
 
 -- the points are those of a path that starts at the first black pixel, under some policy
 pub record AreWalked (b : Image) (points : List Point) : Type 0 where
