@@ -43,19 +43,19 @@ row_most page radius y reliefs bright white below wide raised x =
       | inr past ↦ rw (get_or_past reliefs x 0 (omega (arith, wide, past))) (omega arith)
     ]
 
--- a column of the page above and below a row of the larger page
-pub column_is : (page : Gray) (f : Filtering) (times y p : ℕ) (upper lower : List ℕ) → Follows page f → 1 ≤ f.pairs → f.pairs ≡ after_of times y + 1
-    → p ≡ distance_behind times y → upper ≡ f.upper → lower ≡ f.lower → (x : ℕ) → x < f.width
-    → mix (2 * times) p (get_or upper x 0) (get_or lower x 0) ≡ mixed_column page f.radius times y x
-column_is page f times y p upper lower follows some pairs part up low x within =
-    let u : f.pairs - 1 ≡ after_of times y = omega (arith, pairs) in
-    let above : get_or upper x 0 ≡ raised_of page f.radius x (before_within page.height (after_of times y))
-    = ap (λ l. get_or l x 0) up ∙ follows.upper some x within ∙ ap (λ k. raised_of page f.radius x (before_within f.height k)) u
-    ∙ ap (λ h. raised_of page f.radius x (before_within h (after_of times y))) (sym follows.holds.height) in
-    let below : get_or lower x 0 ≡ raised_of page f.radius x (before_within page.height (after_of times y + 1))
-    = ap (λ l. get_or l x 0) low ∙ follows.lower some x within ∙ ap (λ k. raised_of page f.radius x (before_within f.height k)) pairs
-    ∙ ap (λ h. raised_of page f.radius x (before_within h (after_of times y + 1))) (sym follows.holds.height) in
-    λ i. mix (2 * times) (part i) (above i) (below i)
+module _ (page : Gray) (f : Filtering) (times y : ℕ) (follows : Follows page f) (pairs : f.pairs ≡ after_of times y + 1) where
+  -- a column of the page above and below a row of the larger page
+  pub column_is : (p : ℕ) (upper lower : List ℕ) → p ≡ distance_behind times y → upper ≡ f.upper → lower ≡ f.lower → (x : ℕ) → x < f.width
+      → mix (2 * times) p (get_or upper x 0) (get_or lower x 0) ≡ mixed_column page f.radius times y x
+  column_is p upper lower part up low x within =
+      let u : f.pairs - 1 ≡ after_of times y = omega (arith, pairs) in
+      let above : get_or upper x 0 ≡ raised_of page f.radius x (before_within page.height (after_of times y))
+      = ap (λ l. get_or l x 0) up ∙ follows.upper (omega (arith, pairs)) x within ∙ ap (λ k. raised_of page f.radius x (before_within f.height k)) u
+      ∙ ap (λ h. raised_of page f.radius x (before_within h (after_of times y))) (sym follows.holds.height) in
+      let below : get_or lower x 0 ≡ raised_of page f.radius x (before_within page.height (after_of times y + 1))
+      = ap (λ l. get_or l x 0) low ∙ follows.lower (omega (arith, pairs)) x within ∙ ap (λ k. raised_of page f.radius x (before_within f.height k)) pairs
+      ∙ ap (λ h. raised_of page f.radius x (before_within h (after_of times y + 1))) (sym follows.holds.height) in
+      λ i. mix (2 * times) (part i) (above i) (below i)
 
 padded_same : (width : ℕ) (black other : ℕ → Bool) → ((X : ℕ) → X < width → black X ≡ other X) → (X : ℕ) → padded width black X ≡ padded width other X
 padded_same width black other same X =

@@ -28,26 +28,36 @@ apart n j t some before near same =
           omega (arith, p, q, same, back, before)
     ]
 
-slot_other : (n low taken : ℕ) (ring : List (List ℕ)) (s : List ℕ) → 1 ≤ n → taken < low + n → (j : ℕ) → low ≤ j → j < taken
-    → get_or (set ring (taken % n) s) (j % n) [] ≡ get_or ring (j % n) []
-slot_other n low taken ring s some near j from less =
-    get_or-set_other ring (taken % n) (j % n) s [] (λ e. apart n j taken some less (omega (arith, near, from)) e)
+-- a ring of n slots, in which row j stands in slot j % n, takes a row where fewer than n are held
+module _ (n low taken : ℕ) (ring : List (List ℕ)) (s : List ℕ) (some : 1 ≤ n) (len : length ring ≡ n) (near : taken < low + n) where
+  slot_other : (j : ℕ) → low ≤ j → j < taken → get_or (set ring (taken % n) s) (j % n) [] ≡ get_or ring (j % n) []
+  slot_other j from less = get_or-set_other ring (taken % n) (j % n) s [] (λ e. apart n j taken some less (omega (arith, near, from)) e)
 
-slot_same : (n taken : ℕ) (ring : List (List ℕ)) (s : List ℕ) → 1 ≤ n → length ring ≡ n → get_or (set ring (taken % n) s) (taken % n) [] ≡ s
-slot_same n taken ring s some len = get_or-set_same ring (taken % n) s [] (rw len (mod_below taken n some))
+  slot_same : get_or (set ring (taken % n) s) (taken % n) [] ≡ s
+  slot_same = get_or-set_same ring (taken % n) s [] (rw len (mod_below taken n some))
 
--- one row more is held
-pub held_next : (n low taken width : ℕ) (ring : List (List ℕ)) (sample : ℕ → ℕ → ℕ) (s : List ℕ) → 1 ≤ n → length ring ≡ n → taken < low + n
-    → ((j : ℕ) → low ≤ j → j < taken → (x : ℕ) → x < width → get_or (get_or ring (j % n) []) x 0 ≡ sample x j)
-    → ((x : ℕ) → x < width → get_or s x 0 ≡ sample x taken)
-    → (j : ℕ) → low ≤ j → j < taken + 1 → (x : ℕ) → x < width → get_or (get_or (set ring (taken % n) s) (j % n) []) x 0 ≡ sample x j
-held_next n low taken width ring sample s some len near held here j from to x within =
-    elim (cases_lt j taken) [
-      | inl less ↦ ap (λ (r : List ℕ). get_or r x 0) (slot_other n low taken ring s some near j from less) ∙ held j from less x within
-      | inr more ↦
-          let is : j ≡ taken = omega (arith, more, to) in
-          rw is (ap (λ (r : List ℕ). get_or r x 0) (slot_same n taken ring s some len) ∙ here x within)
-    ]
+  -- what holds of each row that is held, and of the one that comes, holds of the rows that are held then
+  pub rows_next : (P : ℕ → List ℕ → Type 0) → ((j : ℕ) → low ≤ j → j < taken → P j (get_or ring (j % n) [])) → P taken s
+      → (j : ℕ) → low ≤ j → j < taken + 1 → P j (get_or (set ring (taken % n) s) (j % n) [])
+  rows_next P held here j from to =
+      elim (cases_lt j taken) [
+        | inl less ↦ subst (P j) (sym (slot_other j from less)) (held j from less)
+        | inr more ↦
+            let is : taken ≡ j = omega (arith, more, to) in
+            subst (λ k. P k (get_or (set ring (taken % n) s) (k % n) [])) is (subst (P taken) (sym slot_same) here)
+      ]
+
+  -- the columns' sums with it
+  pub sums_next : low ≤ taken → (x : ℕ)
+      → sum_between (λ j. get_or (get_or ring (j % n) []) x 0) low taken + get_or s x 0
+      ≡ sum_between (λ j. get_or (get_or (set ring (taken % n) s) (j % n) []) x 0) low (taken + 1)
+  sums_next order x =
+      let new : ℕ → ℕ = λ j. get_or (get_or (set ring (taken % n) s) (j % n) []) x 0 in
+      let before : sum_between new low taken ≡ sum_between (λ j. get_or (get_or ring (j % n) []) x 0) low taken
+      = sum-same new (λ j. get_or (get_or ring (j % n) []) x 0) low taken (λ j from to. ap (λ (r : List ℕ). get_or r x 0) (slot_other j from to)) in
+      let here : new taken ≡ get_or s x 0 = ap (λ (r : List ℕ). get_or r x 0) slot_same in
+      let one : taken + 1 ≡ suc taken = omega arith in
+      sym (ap (sum_between new low) one ∙ sum-grown new low taken order ∙ ap (λ k. k + new taken) before ∙ ap (λ k. sum_between (λ j. get_or (get_or ring (j % n) []) x 0) low taken + k) here)
 
 -- the slots keep their width
 pub slot_next : (n i width : ℕ) (ring : List (List ℕ)) (s : List ℕ) → i < length ring
@@ -58,30 +68,6 @@ slot_next n i width ring s within widths same k h =
       | inl is ↦ rw is (ap length (get_or-set_same ring i s [] within) ∙ same)
       | inr isnt ↦ ap length (get_or-set_other ring i k s [] isnt) ∙ widths k h
     ]
-
--- a sample of a row that comes, which is lowered to white, and of those in the other slots
-pub bright_next : (n low taken most : ℕ) (ring : List (List ℕ)) (s : List ℕ) → 1 ≤ n → length ring ≡ n → taken < low + n
-    → ((j : ℕ) → low ≤ j → j < taken → (x : ℕ) → get_or (get_or ring (j % n) []) x 0 ≤ most) → ((x : ℕ) → get_or s x 0 ≤ most)
-    → (j : ℕ) → low ≤ j → j < taken + 1 → (x : ℕ) → get_or (get_or (set ring (taken % n) s) (j % n) []) x 0 ≤ most
-bright_next n low taken most ring s some len near bright here j from to x =
-    elim (cases_lt j taken) [
-      | inl less ↦ rw (slot_other n low taken ring s some near j from less) (bright j from less x)
-      | inr more ↦
-          let is : j ≡ taken = omega (arith, more, to) in
-          rw (is, slot_same n taken ring s some len) (here x)
-    ]
-
--- the columns' sums with it
-pub sums_next : (n low taken : ℕ) (ring : List (List ℕ)) (s : List ℕ) → 1 ≤ n → length ring ≡ n → low ≤ taken → taken < low + n → (x : ℕ)
-    → sum_between (λ j. get_or (get_or ring (j % n) []) x 0) low taken + get_or s x 0
-    ≡ sum_between (λ j. get_or (get_or (set ring (taken % n) s) (j % n) []) x 0) low (taken + 1)
-sums_next n low taken ring s some len order near x =
-    let new : ℕ → ℕ = λ j. get_or (get_or (set ring (taken % n) s) (j % n) []) x 0 in
-    let before : sum_between new low taken ≡ sum_between (λ j. get_or (get_or ring (j % n) []) x 0) low taken
-    = sum-same new (λ j. get_or (get_or ring (j % n) []) x 0) low taken (λ j from to. ap (λ (r : List ℕ). get_or r x 0) (slot_other n low taken ring s some near j from to)) in
-    let here : new taken ≡ get_or s x 0 = ap (λ (r : List ℕ). get_or r x 0) (slot_same n taken ring s some len) in
-    let one : taken + 1 ≡ suc taken = omega arith in
-    sym (ap (sum_between new low) one ∙ sum-grown new low taken order ∙ ap (λ k. k + new taken) before ∙ ap (λ k. sum_between (λ j. get_or (get_or ring (j % n) []) x 0) low taken + k) here)
 
 -- an item, whatever would stand in its place if there were none
 pub slot_is : (ring : List (List ℕ)) (i : ℕ) (s : List ℕ) → i < length ring → s ≡ get_or ring i s → s ≡ get_or ring i []
@@ -186,31 +172,34 @@ four F p q r s = λ i. F (p i) (q i) (r i) (s i)
 abbrev raised_with : ℕ → ℕ → ℕ → ℕ → ℕ → ℕ
 raised_with radius sample sum area maxval = if nat_eq radius 0 then 256 * sample + 128 * maxval else raised_by sample sum area maxval
 
-pub row_raised : (page : Gray) (f : Inside) → IsLaidOut f → RingHolds page f → f.pairs < f.height
-    → f.taken ≡ min f.height (f.pairs + f.radius + 1) → (x : ℕ) → x < f.width → (s columns : List ℕ) (v rows : ℕ)
-    → s ≡ get_or f.ring.items (f.pairs % (2 * f.radius + 1)) [] → columns ≡ f.columns.items → rows ≡ f.taken - (f.pairs - f.radius)
-    → v ≡ (if nat_eq f.radius 0 then 256 * get_or s x 0 + 128 * f.maxval
-    else raised_by (get_or s x 0) (sum_between (λ a. get_or columns a 0) (box_from f.radius x) (box_end f.radius (length columns) x))
-    (box_count f.radius (length columns) x * rows) f.maxval)
-    → v ≡ raised_of page f.radius x f.pairs
-row_raised page f laid holds due ready x within s columns v rows is same count value =
-    let wide : length columns ≡ page.width = ap length same ∙ laid.room.columns ∙ sym holds.width in
-    let sample : get_or s x 0 ≡ page.sample x f.pairs
-    = ap (λ l. get_or l x 0) is ∙ holds.held f.pairs (omega arith) (omega (arith, ready)) x within in
-    let column : (a : ℕ) → box_from f.radius x ≤ a → a < box_end f.radius (length columns) x → get_or columns a 0 ≡ column_sum page f.radius f.pairs a
-    = λ a l r.
-    let inside : a < f.width = omega (arith, wide, holds.width, r) in
-    let low : first_held f ≡ box_from f.radius f.pairs = omega (arith, due) in
-    let end : f.taken ≡ box_end f.radius page.height f.pairs = omega (arith, ready, holds.height) in
-    ap (λ l. get_or l a 0) same ∙ sums_are page f laid holds a inside ∙ ap (λ k. sum_between (page.sample a) k f.taken) low
-    ∙ ap (λ k. sum_between (page.sample a) (box_from f.radius f.pairs) k) end in
-    let sum : sum_between (λ a. get_or columns a 0) (box_from f.radius x) (box_end f.radius (length columns) x) ≡ box_sum page f.radius x f.pairs
-    = sum-same (λ a. get_or columns a 0) (column_sum page f.radius f.pairs) (box_from f.radius x) (box_end f.radius (length columns) x) column
-    ∙ ap (λ n. sum_between (column_sum page f.radius f.pairs) (box_from f.radius x) (box_end f.radius n x)) wide in
-    let high : rows ≡ box_count f.radius page.height f.pairs = omega (arith, count, ready, holds.height) in
-    let area : box_count f.radius (length columns) x * rows ≡ box_area page f.radius x f.pairs
-    = ap (λ n. box_count f.radius n x * rows) wide ∙ ap (λ n. box_count f.radius page.width x * n) high in
-    value ∙ four (raised_with f.radius) sample sum area (sym holds.maxval)
+-- a relief was worked out from row s of the ring and from the columns' sums
+pub record IsRaisedFrom (f : Inside) (x : ℕ) (s columns : List ℕ) (rows v : ℕ) : Type 0 where
+  pub row_is : s ≡ held_row f f.pairs
+  pub columns_are : columns ≡ f.columns.items
+  pub rows_are : rows ≡ f.taken - (f.pairs - f.radius)
+  pub value_is : v ≡ raised_with f.radius (get_or s x 0) (sum_between (λ a. get_or columns a 0) (box_from f.radius x) (box_end f.radius (length columns) x))
+      (box_count f.radius (length columns) x * rows) f.maxval
+
+module _ (page : Gray) (f : Inside) (laid : IsLaidOut f) (holds : RingHolds page f) (due : f.pairs < f.height) (ready : f.taken ≡ min f.height (f.pairs + f.radius + 1)) where
+  pub row_raised : (x : ℕ) → x < f.width → (s columns : List ℕ) (rows v : ℕ) → IsRaisedFrom f x s columns rows v → v ≡ raised_of page f.radius x f.pairs
+  row_raised x within s columns rows v from =
+      let wide : length columns ≡ page.width = ap length from.columns_are ∙ laid.room.columns ∙ sym holds.width in
+      let sample : get_or s x 0 ≡ page.sample x f.pairs
+      = ap (λ l. get_or l x 0) from.row_is ∙ holds.held f.pairs (omega arith) (omega (arith, ready)) x within in
+      let column : (a : ℕ) → box_from f.radius x ≤ a → a < box_end f.radius (length columns) x → get_or columns a 0 ≡ column_sum page f.radius f.pairs a
+      = λ a l r.
+      let inside : a < f.width = omega (arith, wide, holds.width, r) in
+      let low : first_held f ≡ box_from f.radius f.pairs = omega (arith, due) in
+      let end : f.taken ≡ box_end f.radius page.height f.pairs = omega (arith, ready, holds.height) in
+      ap (λ l. get_or l a 0) from.columns_are ∙ sums_are page f laid holds a inside ∙ ap (λ k. sum_between (page.sample a) k f.taken) low
+      ∙ ap (λ k. sum_between (page.sample a) (box_from f.radius f.pairs) k) end in
+      let sum : sum_between (λ a. get_or columns a 0) (box_from f.radius x) (box_end f.radius (length columns) x) ≡ box_sum page f.radius x f.pairs
+      = sum-same (λ a. get_or columns a 0) (column_sum page f.radius f.pairs) (box_from f.radius x) (box_end f.radius (length columns) x) column
+      ∙ ap (λ n. sum_between (column_sum page f.radius f.pairs) (box_from f.radius x) (box_end f.radius n x)) wide in
+      let high : rows ≡ box_count f.radius page.height f.pairs = omega (arith, from.rows_are, ready, holds.height) in
+      let area : box_count f.radius (length columns) x * rows ≡ box_area page f.radius x f.pairs
+      = ap (λ n. box_count f.radius n x * rows) wide ∙ ap (λ n. box_count f.radius page.width x * n) high in
+      from.value_is ∙ four (raised_with f.radius) sample sum area (sym holds.maxval)
 
 -- a column's sum, and the sample of it that goes
 pub first_goes : (f : Inside) → IsLaidOut f → f.pairs < f.height → f.radius ≤ f.pairs → f.taken ≡ min f.height (f.pairs + f.radius + 1) → (x : ℕ) → x < f.width → (s : List ℕ)

@@ -28,7 +28,6 @@ returns-clause-row c = λ page old.
     let room = c.self.invariant.room in
     let follows : Follows page (filtering_of f) = subst (λ (v : Filtering). Follows page v) (sym c.self.view_is) old in
     let ready : f.pairs ≡ after_of f.times c.args.y + 1 = subst (λ (v : Filtering). v.pairs ≡ after_of v.times c.args.y + 1) (sym c.self.view_is) c.requires.ready in
-    let some : 1 ≤ f.pairs = omega (arith, ready) in
     let wide : length c.deref.result.now ≡ f.width = ap length c.deref.ensures.value ∙ room.upper in
     let page_wide : page.width ≡ f.width = follows.holds.width in
     let size : length c.mix_row.new.mixed ≡ f.mixed.len = c.mix_row.ensures.same_room ∙ c.deref_mut.ensures.len in
@@ -38,7 +37,7 @@ returns-clause-row c = λ page old.
     = λ u h.
     let value = c.mix_row.ensures.value u (omega (arith, h, page_wide, mixed_wide, c.mix_row.ensures.same_room)) in
     let same : before_within (length c.deref.result.now) u ≡ before_within page.width u = omega (arith, wide, page_wide) in
-    value ∙ column_is page (filtering_of f) f.times c.args.y c.of-place.result.part c.deref.result.now c.deref-2.result.now follows some ready
+    value ∙ column_is page (filtering_of f) f.times c.args.y follows ready c.of-place.result.part c.deref.result.now c.deref-2.result.now
     c.of-place.ensures.part c.deref.ensures.value c.deref-2.ensures.value (before_within (length c.deref.result.now) u) (omega (arith, wide, room.setup.some_columns))
     ∙ ap (λ x. mixed_column page f.radius f.times c.args.y x) same in
     let all : f.times * (page.width + 2) ≡ f.times * f.width + 2 * f.times = rw page_wide (omega arith) in

@@ -1,4 +1,4 @@
-use Rattle.std.proofs.Common.{◌≡◌, ◌+◌, ◌*◌, ◌≤◌, ◌<◌, length, get_or, min, ◌-◌, ◌%◌, set, refl, arith, ap, sym, ◌∙◌, subst, inl, inr}
+use Rattle.std.proofs.Common.{◌≡◌, ℕ, ◌+◌, ◌*◌, ◌≤◌, ◌<◌, length, get_or, min, ◌-◌, ◌%◌, set, refl, arith, ap, sym, ◌∙◌, subst, inl, inr}
 use Rattle.std.proofs.lemmas.Nat.{mul-le, mod_below}
 use Rattle.std.proofs.lemmas.Bool.{cases_lt}
 use Rattle.std.proofs.lemmas.List.{length-set, with_items_is, get_or_past}
@@ -6,7 +6,7 @@ use Rattle.mkbitmap.specs.Filtering.{Filtering}
 use Rattle.mkbitmap.specs.Follows.{Follows, IsRow}
 use Rattle.mkbitmap.specs.Inner.Layout.{first_held, filtering_of}
 use Rattle.mkbitmap.specs.declared.limits.TheConstants.{GREATEST_MAXVAL, LONGEST_BOX}
-use Rattle.mkbitmap.proofs.Following.{bright_next, has_slot, held_next, holds_of, ring_of, slot_is, slot_next, sums_next, sums_small}
+use Rattle.mkbitmap.proofs.Following.{has_slot, holds_of, ring_of, rows_next, slot_is, slot_next, sums_next, sums_small}
 use Rattle.mkbitmap.proofs.filter.Filter.take.Goals as goal
 
 pub keep-requires-clause-small : goal.keep-requires-clause-small
@@ -47,14 +47,14 @@ invariant_of-self c =
         low = omega (arith, room.low);
         room = omega (arith, free);
       };
-      bright = rw slots (bright_next (2 * f.radius + 1) (first_held f) f.taken f.maxval f.ring.items c.keep.new.self (omega arith) room.slots free laid.bright
+      bright = rw slots (rows_next (2 * f.radius + 1) (first_held f) f.taken f.ring.items c.keep.new.self (omega arith) room.slots free (λ j r. (x : ℕ) → get_or r x 0 ≤ f.maxval) laid.bright
           (λ x. elim (cases_lt x f.width) [
             | inl within ↦ rw (c.keep.ensures.kept x (omega (arith, within, whole))) (omega arith)
             | inr past ↦ rw (get_or_past c.keep.new.self x 0 (omega (arith, wide, past))) (omega arith)
           ]));
       sums = λ x within.
           let item : get_or c.deref_mut.result.now x 0 ≡ get_or f.columns.items x 0 = ap (λ l. get_or l x 0) c.deref_mut.ensures.value in
-          let next = sums_next (2 * f.radius + 1) (first_held f) f.taken f.ring.items c.keep.new.self (omega arith) room.slots room.low free x in
+          let next = sums_next (2 * f.radius + 1) (first_held f) f.taken f.ring.items c.keep.new.self (omega arith) room.slots free room.low x in
           ap (λ l. get_or l x 0) (with_items_is f.columns c.keep.new.columns columns) ∙ c.keep.ensures.sums x (omega (arith, within, whole))
           ∙ rw slots (omega (arith, item, laid.sums x within, c.keep.ensures.kept x (omega (arith, within, whole)), next));
       upper = laid.upper;
@@ -74,7 +74,8 @@ returns-clause-follows c = λ page follows row.
     let slots : c.len.result ≡ 2 * f.radius + 1 = c.len.ensures ∙ f.ring.ok.0 ∙ room.slots in
     record {
       holds = holds_of page _ (2 * f.radius + 1) (first_held f) (set f.ring.items (f.taken % c.len.result) c.keep.new.self) refl (omega (arith, room.low)) ring.width ring.height ring.maxval ring.bright
-          (rw slots (held_next (2 * f.radius + 1) (first_held f) f.taken f.width f.ring.items page.sample c.keep.new.self (omega arith) room.slots (has_slot f room wanted) ring.held
+          (rw slots (rows_next (2 * f.radius + 1) (first_held f) f.taken f.ring.items c.keep.new.self (omega arith) room.slots (has_slot f room wanted)
+          (λ j r. (x : ℕ) → x < f.width → get_or r x 0 ≡ page.sample x j) ring.held
           (λ x within. c.keep.ensures.kept x (omega (arith, within, whole)) ∙ ap (λ w. min (get_or c.args.row.now x 0) w) (sym ring.maxval) ∙ sym (here.sample x (omega (arith, within, ring.width))))));
       upper = before.upper;
       lower = before.lower;
