@@ -39,7 +39,7 @@ points-init c =
 pub returns-in_err-next-clause-none : goal.returns-in_err-next-clause-none
 returns-in_err-next-clause-none c =
     if_none c.from_residual-in_err-next.result
-    (no_loop_without_point c.args.text.now c.args.at c.args.page.now c.width.ensures.page.most_width c.width.ensures.page.most_height c.points.page c.in_ok-first.first.value c.points.last c.points.end c.points.count c.points.invariant
+    (no_loop_without_point c.args.text.now c.args.at c.args.page.now c.width.ensures.page.most_width c.width.ensures.page.most_height c.points.invariant
     (at_sides (NoPoint (drop c.points.end c.args.text.now)) _ _ c.width.result c.height.result c.width.ensures.value c.height.ensures.value c.in_err-next.ensures.none)
     (λ there. let yes = c.has_byte.ensures.1 there in let no = c.points-test.true in absurd (cc)))
 
@@ -54,27 +54,29 @@ mark_step-requires-clause-to c =
 
 pub returns-then-not-mark_step-clause-none : goal.returns-then-not-mark_step-clause-none
 returns-then-not-mark_step-clause-none c =
-    no_loop_by_step c.args.text.now c.args.at c.args.page.now c.width.ensures.page.most_width c.width.ensures.page.most_height c.points.page c.in_ok-first.first.value c.points.last c.points.end c.points.count c.points.invariant c.in_ok-next.next.value c.in_ok-next.next.end
+    no_loop_by_step c.args.text.now c.args.at c.args.page.now c.width.ensures.page.most_width c.width.ensures.page.most_height c.points.invariant c.in_ok-next.next.value c.in_ok-next.next.end
     (at_sides (PointAt (drop c.points.end c.args.text.now) c.in_ok-next.next.value (drop c.in_ok-next.next.end c.args.text.now)) _ _ c.width.result c.height.result c.width.ensures.value c.height.ensures.value c.in_ok-next.ensures.some) c.if-not-mark_step.ensures.step
 
 pub points-preserved : goal.points-preserved
 points-preserved c =
-    next_read c.args.text.now c.args.at c.args.page.now c.width.ensures.page.most_width c.width.ensures.page.most_height c.points.page c.mark_step.new.page c.in_ok-first.first.value c.points.last c.in_ok-next.next.value c.points.end c.in_ok-next.next.end c.points.count c.points.invariant
+    next_read c.args.text.now c.args.at c.args.page.now c.width.ensures.page.most_width c.width.ensures.page.most_height c.points.invariant
+    c.mark_step.new.page c.in_ok-next.next.value c.in_ok-next.next.end
     (at_sides (PointAt (drop c.points.end c.args.text.now) c.in_ok-next.next.value (drop c.in_ok-next.next.end c.args.text.now)) _ _ c.width.result c.height.result c.width.ensures.value c.height.ensures.value c.in_ok-next.ensures.some) c.in_ok-next.ensures.ends.0 c.in_ok-next.ensures.ends.1
-    c.if-not-mark_step.ensures.step c.if-not-mark_step.ensures.sides c.if-not-mark_step.ensures.marked
+    (record { step = c.if-not-mark_step.ensures.step; sides = c.if-not-mark_step.ensures.sides; marked = c.if-not-mark_step.ensures.marked })
 
 pub returns-then-not-makes_loop-clause-none : goal.returns-then-not-makes_loop-clause-none
 returns-then-not-makes_loop-clause-none c =
-    no_loop_of_few c.args.text.now c.args.at c.args.page.now c.width.ensures.page.most_width c.width.ensures.page.most_height c.points.page c.in_ok-first.first.value c.points.last c.points.end c.points.count c.points.invariant (c.has_byte.ensures.0 c.points-test.false) c.if-not-makes_loop.ensures
+    no_loop_of_few c.args.text.now c.args.at c.args.page.now c.width.ensures.page.most_width c.width.ensures.page.most_height c.points.invariant (c.has_byte.ensures.0 c.points-test.false) c.if-not-makes_loop.ensures
 
 pub mark_step-requires-2-clause-from : goal.mark_step-requires-2-clause-from
 mark_step-requires-2-clause-from c = at_same (λ w h. IsCornerOf w h c.points.last) c.args.page.now c.points.page c.points.invariant.sides (last_is_corner c.points.invariant)
 
 pub returns-then-not-mark_step-2-clause-none : goal.returns-then-not-mark_step-2-clause-none
 returns-then-not-mark_step-2-clause-none c =
-    no_loop_open c.args.text.now c.args.at c.args.page.now c.width.ensures.page.most_width c.width.ensures.page.most_height c.points.page c.in_ok-first.first.value c.points.last c.points.end c.points.count c.points.invariant (c.has_byte.ensures.0 c.points-test.false) c.if-not-mark_step-2.ensures.step
+    no_loop_open c.args.text.now c.args.at c.args.page.now c.width.ensures.page.most_width c.width.ensures.page.most_height c.points.invariant (c.has_byte.ensures.0 c.points-test.false) c.if-not-mark_step-2.ensures.step
 
 pub returns-clause-some : goal.returns-clause-some
 returns-clause-some c =
-    loop_read c.args.text.now c.args.at c.args.page.now c.width.ensures.page.most_width c.width.ensures.page.most_height c.points.page _ c.in_ok-first.first.value c.points.last c.points.end c.points.count c.points.invariant
-    (c.has_byte.ensures.0 c.points-test.false) c.if-not-makes_loop.ensures c.if-not-mark_step-2.ensures.step c.if-not-mark_step-2.ensures.marked
+    loop_read c.args.text.now c.args.at c.args.page.now c.width.ensures.page.most_width c.width.ensures.page.most_height c.points.invariant _
+    (c.has_byte.ensures.0 c.points-test.false) c.if-not-makes_loop.ensures
+    (record { step = c.if-not-mark_step-2.ensures.step; sides = c.if-not-mark_step-2.ensures.sides; marked = c.if-not-mark_step-2.ensures.marked })
