@@ -113,11 +113,6 @@ none_written b entries texts a e = record { before = []; split = refl; carried =
 pub entries_from : (entries : List Given) (i : ℕ) (this here : Given) → i < length entries → here ≡ get_or entries i here → here ≡ this → drop i entries ≡ this ∷ drop (i + 1) entries
 entries_from entries i this here within is e = drop_more entries i here within ∙ ap (λ (x : Given). x ∷ drop (i + 1) entries) (sym is ∙ e)
 
--- the entry at this place is a page, so there is a text for it
-text_left : (b : Binding) (entries : List Given) (texts : List (Vec ℕ Global)) (i n : ℕ) (a c : Sinks) (name : _) (before : ℕ) → drop i entries ≡ entry.Page name before ∷ drop (i + 1) entries
-    → AreWritten b entries texts i n a c → n < length texts
-text_left b entries texts i n a c name before from w = omega (arith, w.left, ap pages_among from)
-
 -- the next items begin with the part that is this page
 page_next : (b : Binding) (entries : List Given) (texts : List (Vec ℕ Global)) (i n : ℕ) (name : _) (before : ℕ) (text : Vec ℕ Global) → drop i entries ≡ entry.Page name before ∷ drop (i + 1) entries
     → n < length texts → text ≡ get_or texts n text
@@ -130,70 +125,12 @@ page_next b entries texts i n name before text from some at =
 item_more : (all before next rest : List Item) (item : Item) → all ≡ before ++ next → next ≡ item ∷ rest → all ≡ (before ++ item ∷ []) ++ rest
 item_more all before next rest item split e = split ∙ ap (λ l. before ++ l) e ∙ sym (append_assoc before (item ∷ []) rest)
 
-pub item_written : (b : Binding) (entries : List Given) (texts : List (Vec ℕ Global)) (i n m : ℕ) (x y z : Sinks) (item : Item) → (w : AreWritten b entries texts i n x y)
-    → items_by b (drop i entries) (drop n texts) ≡ item ∷ items_by b (drop (i + 1) entries) (drop m texts) → length texts ≡ m + pages_among (drop (i + 1) entries)
-    → AreCarriedOut (item ∷ []) [] y z → AreWritten b entries texts (i + 1) m x z
-item_written b entries texts i n m x y z item w next left done = record {
-  before = w.before ++ item ∷ [];
-  split = item_more _ w.before _ _ item w.split next;
-  carried = carried_on w.before (item ∷ []) [] x y z w.carried done;
-  left = left;
-}
-
--- a part at this place is cut off
-pub item_cut : (b : Binding) (entries : List Given) (texts : List (Vec ℕ Global)) (i n m : ℕ) (x y z : Sinks) (item : Item) → (w : AreWritten b entries texts i n x y)
-    → items_by b (drop i entries) (drop n texts) ≡ item ∷ items_by b (drop (i + 1) entries) (drop m texts)
-    → IsUnwritten (item ∷ []) y z → IsUnwritten (items_by b entries texts) x z
-item_cut b entries texts i n m x y z item w next cut =
-    let rest = items_by b (drop (i + 1) entries) (drop m texts) in
-    let more : IsUnwritten (item ∷ rest) y z = record {
-      before = cut.before;
-      part = cut.part;
-      after = cut.after ++ rest;
-      split = ap (λ l. l ++ rest) cut.split ∙ append_assoc cut.before (Write cut.part ∷ cut.after) rest;
-      goes_on = cut.goes_on;
-      cut_off = cut.cut_off;
-      broke = cut.broke;
-      messages = cut.messages;
-    } in
-    subst (λ l. IsUnwritten l x z) (sym (w.split ∙ ap (λ l. w.before ++ l) next)) (ended_on status.Unwritten w.before (item ∷ rest) x y z w.carried more)
-
--- a page at this place
-pub page_written : (b : Binding) (entries : List Given) (texts : List (Vec ℕ Global)) (i n : ℕ) (x y z : Sinks) (name : _) (before : ℕ) (text : Vec ℕ Global)
-    → drop i entries ≡ entry.Page name before ∷ drop (i + 1) entries → text ≡ get_or texts n text → AreWritten b entries texts i n x y
-    → AreCarriedOut (Write (page_part b (string_bytes name) before text.items) ∷ []) [] y z → AreWritten b entries texts (i + 1) (n + 1) x z
-page_written b entries texts i n x y z name before text from at w done =
-    item_written b entries texts i n (n + 1) x y z (Write (page_part b (string_bytes name) before text.items)) w
-    (page_next b entries texts i n name before text from (text_left b entries texts i n x y name before from w) at) (omega (arith, w.left, ap pages_among from)) done
-
-pub page_cut : (b : Binding) (entries : List Given) (texts : List (Vec ℕ Global)) (i n : ℕ) (x y z : Sinks) (name : _) (before : ℕ) (text : Vec ℕ Global)
-    → drop i entries ≡ entry.Page name before ∷ drop (i + 1) entries → text ≡ get_or texts n text → AreWritten b entries texts i n x y
-    → IsUnwritten (Write (page_part b (string_bytes name) before text.items) ∷ []) y z → IsUnwritten (items_by b entries texts) x z
-page_cut b entries texts i n x y z name before text from at w cut =
-    item_cut b entries texts i n (n + 1) x y z (Write (page_part b (string_bytes name) before text.items)) w
-    (page_next b entries texts i n name before text from (text_left b entries texts i n x y name before from w) at) cut
-
 -- a message was said behind a part
 pub said_with : (name : List ℕ) (pages : ℕ) (message : List ℕ) (x y z : Sinks) → AreCarriedOut (Write (end_part name pages []) ∷ []) [] x y
     → IsSaying y z → IsMessage message y.errs z.errs → AreCarriedOut (Write (end_part name pages (message ∷ [])) ∷ []) [] x z
 said_with name pages message x y z done same said =
     let both = carried_on (Write (end_part name pages []) ∷ []) (Note message ∷ []) [] x y z done (note_said message y z same said) in
     record { goes_on = both.goes_on; documents = both.documents; went = both.went; opened = both.opened; messages = both.messages }
-
--- the message at this place is said
-pub message_written : (b : Binding) (entries : List Given) (texts : List (Vec ℕ Global)) (i n : ℕ) (x y z : Sinks) (name : _) (count : ℕ)
-    → drop i entries ≡ entry.Trailing name count ∷ drop (i + 1) entries → AreWritten b entries texts i n x y
-    → IsSaying y z → IsMessage (trailing_line (string_bytes name) count) y.errs z.errs → AreWritten b entries texts (i + 1) n x z
-message_written b entries texts i n x y z name count from w same said =
-    item_written b entries texts i n n x y z (Note (trailing_line (string_bytes name) count)) w
-    (ap (λ (l : List Given). items_by b l (drop n texts)) from) (omega (arith, w.left, ap pages_among from)) (note_said _ y z same said)
-
--- all entries are carried out
-pub all_written : (b : Binding) (entries : List Given) (texts : List (Vec ℕ Global)) (i n : ℕ) (x y : Sinks) → length entries ≤ i → AreWritten b entries texts i n x y
-    → AreCarriedOut (items_by b entries texts) [] x y
-all_written b entries texts i n x y most w =
-    let none = ap (λ (l : List Given). items_by b l (drop n texts)) (drop_all i entries most) in
-    subst (λ l. AreCarriedOut l [] x y) (sym (w.split ∙ ap (λ l. w.before ++ l) none ∙ append-nil w.before)) w.carried
 
 -- a page's part goes by the name of its document
 pub name_of_page : (b : Binding) (name : List ℕ) (before : ℕ) (text : List ℕ) → (page_part b name before text).name ≡ name
@@ -205,16 +142,74 @@ pub turn_at : (b : Binding) (is_open : Bool) (entries : List Given) (i : ℕ) (t
     → AreInOrder b is_open (this ∷ drop (i + 1) entries)
 turn_at b is_open entries i this from turn = subst (AreInOrder b is_open) from turn
 
--- the end of a document at this place
-pub end_written : (b : Binding) (entries : List Given) (texts : List (Vec ℕ Global)) (i n : ℕ) (x y z : Sinks) (this : Given) (item : Item)
-    → drop i entries ≡ this ∷ drop (i + 1) entries → items_by b (this ∷ drop (i + 1) entries) (drop n texts) ≡ item ∷ items_by b (drop (i + 1) entries) (drop n texts)
-    → pages_among (this ∷ drop (i + 1) entries) ≡ pages_among (drop (i + 1) entries) → AreWritten b entries texts i n x y
-    → AreCarriedOut (item ∷ []) [] y z → AreWritten b entries texts (i + 1) n x z
-end_written b entries texts i n x y z this item from is count w done =
-    item_written b entries texts i n n x y z item w (ap (λ (l : List Given). items_by b l (drop n texts)) from ∙ is) (omega (arith, w.left, ap pages_among from, count)) done
+module _ {b : Binding} {entries : List Given} {texts : List (Vec ℕ Global)} {i n : ℕ} {x y : Sinks} (w : AreWritten b entries texts i n x y) where
+  -- the entry at this place is a page, so there is a text for it
+  text_left : (name : _) (before : ℕ) → drop i entries ≡ entry.Page name before ∷ drop (i + 1) entries → n < length texts
+  text_left name before from = omega (arith, w.left, ap pages_among from)
 
-pub end_cut : (b : Binding) (entries : List Given) (texts : List (Vec ℕ Global)) (i n : ℕ) (x y z : Sinks) (this : Given) (item : Item)
-    → drop i entries ≡ this ∷ drop (i + 1) entries → items_by b (this ∷ drop (i + 1) entries) (drop n texts) ≡ item ∷ items_by b (drop (i + 1) entries) (drop n texts)
-    → AreWritten b entries texts i n x y → IsUnwritten (item ∷ []) y z → IsUnwritten (items_by b entries texts) x z
-end_cut b entries texts i n x y z this item from is w cut =
-    item_cut b entries texts i n n x y z item w (ap (λ (l : List Given). items_by b l (drop n texts)) from ∙ is) cut
+  -- the item at this place is carried out
+  pub item_written : (m : ℕ) (z : Sinks) (item : Item) → items_by b (drop i entries) (drop n texts) ≡ item ∷ items_by b (drop (i + 1) entries) (drop m texts)
+      → length texts ≡ m + pages_among (drop (i + 1) entries) → AreCarriedOut (item ∷ []) [] y z → AreWritten b entries texts (i + 1) m x z
+  item_written m z item next left done = record {
+    before = w.before ++ item ∷ [];
+    split = item_more _ w.before _ _ item w.split next;
+    carried = carried_on w.before (item ∷ []) [] x y z w.carried done;
+    left = left;
+  }
+
+  -- a part at this place is cut off
+  pub item_cut : (m : ℕ) (z : Sinks) (item : Item) → items_by b (drop i entries) (drop n texts) ≡ item ∷ items_by b (drop (i + 1) entries) (drop m texts)
+      → IsUnwritten (item ∷ []) y z → IsUnwritten (items_by b entries texts) x z
+  item_cut m z item next cut =
+      let rest = items_by b (drop (i + 1) entries) (drop m texts) in
+      let more : IsUnwritten (item ∷ rest) y z = record {
+        before = cut.before;
+        part = cut.part;
+        after = cut.after ++ rest;
+        split = ap (λ l. l ++ rest) cut.split ∙ append_assoc cut.before (Write cut.part ∷ cut.after) rest;
+        goes_on = cut.goes_on;
+        cut_off = cut.cut_off;
+        broke = cut.broke;
+        messages = cut.messages;
+      } in
+      subst (λ l. IsUnwritten l x z) (sym (w.split ∙ ap (λ l. w.before ++ l) next)) (ended_on status.Unwritten w.before (item ∷ rest) x y z w.carried more)
+
+  -- a page at this place
+  pub page_written : (z : Sinks) (name : _) (before : ℕ) (text : Vec ℕ Global) → drop i entries ≡ entry.Page name before ∷ drop (i + 1) entries
+      → text ≡ get_or texts n text → AreCarriedOut (Write (page_part b (string_bytes name) before text.items) ∷ []) [] y z
+      → AreWritten b entries texts (i + 1) (n + 1) x z
+  page_written z name before text from at done =
+      item_written (n + 1) z (Write (page_part b (string_bytes name) before text.items))
+      (page_next b entries texts i n name before text from (text_left name before from) at) (omega (arith, w.left, ap pages_among from)) done
+
+  pub page_cut : (z : Sinks) (name : _) (before : ℕ) (text : Vec ℕ Global) → drop i entries ≡ entry.Page name before ∷ drop (i + 1) entries
+      → text ≡ get_or texts n text → IsUnwritten (Write (page_part b (string_bytes name) before text.items) ∷ []) y z → IsUnwritten (items_by b entries texts) x z
+  page_cut z name before text from at cut =
+      item_cut (n + 1) z (Write (page_part b (string_bytes name) before text.items))
+      (page_next b entries texts i n name before text from (text_left name before from) at) cut
+
+  -- the message at this place is said
+  pub message_written : (z : Sinks) (name : _) (count : ℕ) → drop i entries ≡ entry.Trailing name count ∷ drop (i + 1) entries
+      → IsSaying y z → IsMessage (trailing_line (string_bytes name) count) y.errs z.errs → AreWritten b entries texts (i + 1) n x z
+  message_written z name count from same said =
+      item_written n z (Note (trailing_line (string_bytes name) count))
+      (ap (λ (l : List Given). items_by b l (drop n texts)) from) (omega (arith, w.left, ap pages_among from)) (note_said _ y z same said)
+
+  -- the end of a document at this place
+  pub end_written : (z : Sinks) (this : Given) (item : Item) → drop i entries ≡ this ∷ drop (i + 1) entries
+      → items_by b (this ∷ drop (i + 1) entries) (drop n texts) ≡ item ∷ items_by b (drop (i + 1) entries) (drop n texts)
+      → pages_among (this ∷ drop (i + 1) entries) ≡ pages_among (drop (i + 1) entries)
+      → AreCarriedOut (item ∷ []) [] y z → AreWritten b entries texts (i + 1) n x z
+  end_written z this item from is count done =
+      item_written n z item (ap (λ (l : List Given). items_by b l (drop n texts)) from ∙ is) (omega (arith, w.left, ap pages_among from, count)) done
+
+  pub end_cut : (z : Sinks) (this : Given) (item : Item) → drop i entries ≡ this ∷ drop (i + 1) entries
+      → items_by b (this ∷ drop (i + 1) entries) (drop n texts) ≡ item ∷ items_by b (drop (i + 1) entries) (drop n texts)
+      → IsUnwritten (item ∷ []) y z → IsUnwritten (items_by b entries texts) x z
+  end_cut z this item from is cut = item_cut n z item (ap (λ (l : List Given). items_by b l (drop n texts)) from ∙ is) cut
+
+  -- all entries are carried out
+  pub all_written : length entries ≤ i → AreCarriedOut (items_by b entries texts) [] x y
+  all_written most =
+      let none = ap (λ (l : List Given). items_by b l (drop n texts)) (drop_all i entries most) in
+      subst (λ l. AreCarriedOut l [] x y) (sym (w.split ∙ ap (λ l. w.before ++ l) none ∙ append-nil w.before)) w.carried

@@ -21,21 +21,20 @@ loop-entry-init g c = record {
 pub returns-in_err-write_page-in-Page-clause-written : goal.returns-in_err-write_page-in-Page-clause-written
 returns-in_err-write_page-in-Page-clause-written g c =
     let from = entries_from c.args.entries.now c.loop-entry.entry-index _ c.entry-item.result c.loop-entry-test.true c.entry-item.is c.in-Page.is in
-    cut_off_at c.from_residual.result _ _ _ c.from_residual.ensures.0 (page_cut c.args.binding c.args.entries.now c.args.texts.now c.loop-entry.entry-index c.loop-entry.done _ _ _ c.in-Page.name c.in-Page.before c.index-texts-done.result
-    from c.index-texts-done.is c.loop-entry.invariant.written
-    (rw (c.deref.ensures, c.deref-in-Page.ensures.value) at c.in_err-write_page-in-Page.ensures.written))
+    cut_off_at c.from_residual.result _ _ _ c.from_residual.ensures.0 (page_cut c.loop-entry.invariant.written _ c.in-Page.name c.in-Page.before c.index-texts-done.result
+    from c.index-texts-done.is (rw (c.deref.ensures, c.deref-in-Page.ensures.value) at c.in_err-write_page-in-Page.ensures.written))
 
 -- the end of a document is cut off
 pub returns-in_err-write_end-in-End-clause-written : goal.returns-in_err-write_end-in-End-clause-written
 returns-in_err-write_end-in-End-clause-written g c =
     let from = entries_from c.args.entries.now c.loop-entry.entry-index _ c.entry-item.result c.loop-entry-test.true c.entry-item.is c.in-End.is in
-    cut_off_at c.from_residual-in_err-write_end-in-End.result _ _ _ c.from_residual-in_err-write_end-in-End.ensures.0 (end_cut c.args.binding c.args.entries.now c.args.texts.now c.loop-entry.entry-index c.loop-entry.done _ _ _ _ _ from refl c.loop-entry.invariant.written
+    cut_off_at c.from_residual-in_err-write_end-in-End.result _ _ _ c.from_residual-in_err-write_end-in-End.ensures.0 (end_cut c.loop-entry.invariant.written _ _ _ from refl
     (rw (c.deref-in-End.ensures) at c.in_err-write_end-in-End.ensures.written []))
 
 pub returns-in_err-write_end-in-EndTrailing-clause-written : goal.returns-in_err-write_end-in-EndTrailing-clause-written
 returns-in_err-write_end-in-EndTrailing-clause-written g c =
     let from = entries_from c.args.entries.now c.loop-entry.entry-index _ c.entry-item.result c.loop-entry-test.true c.entry-item.is c.in-EndTrailing.is in
-    cut_off_at c.from_residual-in_err-write_end-in-EndTrailing.result _ _ _ c.from_residual-in_err-write_end-in-EndTrailing.ensures.0 (end_cut c.args.binding c.args.entries.now c.args.texts.now c.loop-entry.entry-index c.loop-entry.done _ _ _ _ _ from refl c.loop-entry.invariant.written
+    cut_off_at c.from_residual-in_err-write_end-in-EndTrailing.result _ _ _ c.from_residual-in_err-write_end-in-EndTrailing.ensures.0 (end_cut c.loop-entry.invariant.written _ _ _ from refl
     (rw (c.deref-in-EndTrailing.ensures) at c.in_err-write_end-in-EndTrailing.ensures.written (trailing_line (string_bytes c.in-EndTrailing.file) c.in-EndTrailing.pages ∷ [])))
 
 -- one entry more
@@ -48,8 +47,8 @@ loop-entry-preserved g c = elim c.match-entry.branch [
       let before = c.loop-entry.invariant.keeps in
       let more = w.write_page.ensures.keeps in
       rw (w.desk-is, w.done-is) (record {
-        written = page_written b c.args.entries.now c.args.texts.now c.loop-entry.entry-index c.loop-entry.done _ _ _ w.in-Page.name w.in-Page.before w.index-texts-done.result
-            from w.index-texts-done.is c.loop-entry.invariant.written (rw (w.deref.ensures, w.deref-in-Page.ensures.value) at w.in_ok-write_page-in-Page.ensures.written);
+        written = page_written c.loop-entry.invariant.written _ w.in-Page.name w.in-Page.before w.index-texts-done.result
+            from w.index-texts-done.is (rw (w.deref.ensures, w.deref-in-Page.ensures.value) at w.in_ok-write_page-in-Page.ensures.written);
         turn = subst (λ o. AreInOrder b o (drop (c.loop-entry.entry-index + 1) c.args.entries.now)) (sym (w.in_ok-write_page-in-Page.ensures.written.opened ∙ open_behind_page b _ _ _)) turn.1;
         keeps = keeps_on g.O.Sink g.E.Sink c.args.desk.now c.loop-entry.desk _ before more;
       })
@@ -60,7 +59,7 @@ loop-entry-preserved g c = elim c.match-entry.branch [
       let before = c.loop-entry.invariant.keeps in
       let more = w.write_end.ensures.keeps in
       rw (w.desk-is, w.done-is) (record {
-        written = end_written b c.args.entries.now c.args.texts.now c.loop-entry.entry-index c.loop-entry.done _ _ _ _ _ from refl refl c.loop-entry.invariant.written
+        written = end_written c.loop-entry.invariant.written _ _ _ from refl refl
             (rw (w.deref-in-End.ensures) at w.in_ok-write_end-in-End.ensures.written);
         turn = subst (λ o. AreInOrder b o (drop (c.loop-entry.entry-index + 1) c.args.entries.now)) (sym w.in_ok-write_end-in-End.ensures.written.opened) turn.1;
         keeps = keeps_on g.O.Sink g.E.Sink c.args.desk.now c.loop-entry.desk _ before more;
@@ -72,7 +71,7 @@ loop-entry-preserved g c = elim c.match-entry.branch [
       let before = c.loop-entry.invariant.keeps in
       let more = w.write_end-in-EndTrailing.ensures.keeps in
       rw (w.desk-is, w.done-is) (record {
-        written = end_written b c.args.entries.now c.args.texts.now c.loop-entry.entry-index c.loop-entry.done _ _ _ _ _ from refl refl c.loop-entry.invariant.written
+        written = end_written c.loop-entry.invariant.written _ _ _ from refl refl
             (said_with _ _ _ _ _ _ (rw (w.deref-in-EndTrailing.ensures) at w.in_ok-write_end-in-EndTrailing.ensures.written) (record { outs = refl; opened = refl })
             (rw (w.deref-in-EndTrailing-2.ensures, w.from.ensures) at w.say_trailing.ensures.says));
         turn = subst (λ o. AreInOrder b o (drop (c.loop-entry.entry-index + 1) c.args.entries.now)) (sym w.in_ok-write_end-in-EndTrailing.ensures.written.opened) turn.1;
@@ -84,8 +83,8 @@ loop-entry-preserved g c = elim c.match-entry.branch [
       let turn = turn_at b _ c.args.entries.now c.loop-entry.entry-index _ from c.loop-entry.invariant.turn in
       let before = c.loop-entry.invariant.keeps in
       rw (w.desk-is, w.done-is) (record {
-        written = message_written b c.args.entries.now c.args.texts.now c.loop-entry.entry-index c.loop-entry.done _ _ _ w.in-Trailing.name w.in-Trailing.pages
-            from c.loop-entry.invariant.written (record { outs = refl; opened = refl })
+        written = message_written c.loop-entry.invariant.written _ w.in-Trailing.name w.in-Trailing.pages
+            from (record { outs = refl; opened = refl })
             (rw (w.deref-in-Trailing.ensures, w.from-in-Trailing.ensures) at w.say_trailing-in-Trailing.ensures.says);
         turn = turn;
         keeps = record { outs = before.outs; errs = before.errs; ready = w.say_trailing-in-Trailing.ensures.stays_ready; never_falls = before.never_falls };
