@@ -1,5 +1,5 @@
 -- The byte at a place of a text.
-use Rattle.std.proofs.Common.{◌≡◌, ℕ, ◌+◌, ◌<◌, ◌≤◌, inl, inr, drop, List, ◌∷◌, length, length-drop, get_or, ap, sym, ◌∙◌, arith}
+use Rattle.std.proofs.Common.{◌≡◌, ℕ, ◌+◌, ◌<◌, inl, inr, drop, List, ◌∷◌, length, length-drop, get_or, ap, sym, ◌∙◌, arith}
 use Rattle.std.proofs.lemmas.List.{get_or-drop, get_or_past, drop_more}
 use Rattle.std.proofs.lemmas.Bool.{cases_lt}
 
