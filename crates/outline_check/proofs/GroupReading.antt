@@ -12,7 +12,7 @@ use Rattle.list_reader.specs.Inner.SidesLines.{IsSidesLine}
 use Rattle.outline_check.specs.Texts.{IsShortLabel, IsProofs}
 use Rattle.list_reader.proofs.LineReading.{one_some_line}
 use Rattle.list_reader.proofs.PairReading.{points_are_entries, indices_are_entries}
-use Rattle.list_reader.proofs.SidesReading.{cancel}
+use Rattle.list_reader.proofs.SidesReading.{Behind, cancel}
 use Rattle.outline_check.proofs.LabelReading.{labels_are_entries}
 
 -- what follows the first line, and the second
@@ -28,6 +28,12 @@ points_bytes c rest = flat_map point_text c.points ++ 10 ∷ (codes "at" ++ indi
 pub group_bytes : (c : Certified) (rest : List ℕ) → certified_text c ++ rest ≡ codes "path" ++ points_bytes c rest
 group_bytes c rest = simp append_assoc
 
+-- a line was read at the front, and this is what follows it
+pub record ReadLine (A : Type 0) (text : A → List ℕ) (IsIn : A → Type 0) (bytes : List ℕ) : Type 0 where
+  pub values : List A
+  pub after : List ℕ
+  pub is : IsSomeLine A text IsIn bytes values after
+
 module _ (width height : ℕ) (wide : width < 2 ^ 64) (high : height < 2 ^ 64) where
   abbrev PointsLine : List ℕ → List Point → List ℕ → Type 0
   PointsLine = IsSomeLine Point point_text (IsInPage width height)
@@ -38,77 +44,93 @@ module _ (width height : ℕ) (wide : width < 2 ^ 64) (high : height < 2 ^ 64) w
   abbrev LabelsLine : List ℕ → List Label → List ℕ → Type 0
   LabelsLine = IsSomeLine Label label_text IsShortLabel
 
+  abbrev ReadPoints : List ℕ → Type 0
+  ReadPoints = ReadLine Point point_text (IsInPage width height)
+
+  abbrev ReadIndices : List ℕ → Type 0
+  ReadIndices = ReadLine ℕ index_text IsIndex
+
+  abbrev ReadLabels : List ℕ → Type 0
+  ReadLabels = ReadLine Label label_text IsShortLabel
+
+  -- what was read at the front of a path's text, step by step
   module _ (bytes : List ℕ) (c : Certified) (rest : List ℕ) (group : IsGroup width height bytes c rest) where
     pub begins : bytes ≡ codes "path" ++ points_bytes c rest
     begins = group.is ∙ group_bytes c rest
 
-    pub first_line : (b1 : List ℕ) → bytes ≡ codes "path" ++ b1 → PointsLine b1 c.points (codes "at" ++ indices_bytes c rest)
-    first_line b1 is = record {
-      line = record { is = cancel (codes "path") b1 (points_bytes c rest) (sym is ∙ begins); all = group.inside.points };
+    pub first_line : (path : Behind (codes "path") bytes) → PointsLine path.after c.points (codes "at" ++ indices_bytes c rest)
+    first_line path = record {
+      line = record { is = cancel (codes "path") path.after (points_bytes c rest) (sym path.is ∙ begins); all = group.inside.points };
       some = group.inside.some_point;
     }
 
-    module _ (b1 : List ℕ) (at_b1 : bytes ≡ codes "path" ++ b1) (xs : List Point) (b2 : List ℕ) (points : PointsLine b1 xs b2) where
-      pub after_points : (xs ≡ c.points) × (b2 ≡ codes "at" ++ indices_bytes c rest)
+    module _ (path : Behind (codes "path") bytes) (points : ReadPoints path.after) where
+      pub after_points : (points.values ≡ c.points) × (points.after ≡ codes "at" ++ indices_bytes c rest)
       after_points =
-          one_some_line Point point_text (IsInPage width height) (points_are_entries width height wide high) b1 xs c.points b2
-          (codes "at" ++ indices_bytes c rest) points (first_line b1 at_b1)
+          one_some_line Point point_text (IsInPage width height) (points_are_entries width height wide high) path.after points.values c.points points.after
+          (codes "at" ++ indices_bytes c rest) points.is (first_line path)
 
-      pub second_line : (b3 : List ℕ) → b2 ≡ codes "at" ++ b3 → IndicesLine b3 c.at (codes "labels" ++ labels_bytes c rest)
-      second_line b3 is = record {
-        line = record { is = cancel (codes "at") b3 (indices_bytes c rest) (sym is ∙ after_points.1); all = group.inside.at };
+      pub second_line : (at : Behind (codes "at") points.after) → IndicesLine at.after c.at (codes "labels" ++ labels_bytes c rest)
+      second_line at = record {
+        line = record { is = cancel (codes "at") at.after (indices_bytes c rest) (sym at.is ∙ after_points.1); all = group.inside.at };
         some = group.inside.some_index;
       }
 
-      module _ (b3 : List ℕ) (at_b3 : b2 ≡ codes "at" ++ b3) (is : List ℕ) (b4 : List ℕ) (indices : IndicesLine b3 is b4) where
-        pub after_indices : (is ≡ c.at) × (b4 ≡ codes "labels" ++ labels_bytes c rest)
+      module _ (at : Behind (codes "at") points.after) (indices : ReadIndices at.after) where
+        pub after_indices : (indices.values ≡ c.at) × (indices.after ≡ codes "labels" ++ labels_bytes c rest)
         after_indices =
-            one_some_line ℕ index_text IsIndex indices_are_entries b3 is c.at b4 (codes "labels" ++ labels_bytes c rest) indices (second_line b3 at_b3)
+            one_some_line ℕ index_text IsIndex indices_are_entries at.after indices.values c.at indices.after (codes "labels" ++ labels_bytes c rest) indices.is (second_line at)
 
-        pub third_line : (b5 : List ℕ) → b4 ≡ codes "labels" ++ b5 → LabelsLine b5 c.labels rest
-        third_line b5 same = record {
-          line = record { is = cancel (codes "labels") b5 (labels_bytes c rest) (sym same ∙ after_indices.1); all = group.inside.labels };
+        pub third_line : (marks : Behind (codes "labels") indices.after) → LabelsLine marks.after c.labels rest
+        third_line marks = record {
+          line = record { is = cancel (codes "labels") marks.after (labels_bytes c rest) (sym marks.is ∙ after_indices.1); all = group.inside.labels };
           some = group.inside.some_label;
         }
 
-        pub after_labels : (b5 : List ℕ) → b4 ≡ codes "labels" ++ b5 → (ls : List Label) (b6 : List ℕ) → LabelsLine b5 ls b6 → (ls ≡ c.labels) × (b6 ≡ rest)
-        after_labels b5 same ls b6 labels = one_some_line Label label_text IsShortLabel labels_are_entries b5 ls c.labels b6 rest labels (third_line b5 same)
+        pub after_labels : (marks : Behind (codes "labels") indices.after) (labels : ReadLabels marks.after) → (labels.values ≡ c.labels) × (labels.after ≡ rest)
+        after_labels marks labels =
+            one_some_line Label label_text IsShortLabel labels_are_entries marks.after labels.values c.labels labels.after rest labels.is (third_line marks)
 
   -- three lines make a group
-  pub group_of_lines : (bytes b1 b2 b3 b4 b5 b6 : List ℕ) (xs : List Point) (is : List ℕ) (ls : List Label)
-      → bytes ≡ codes "path" ++ b1 → PointsLine b1 xs b2 → b2 ≡ codes "at" ++ b3 → IndicesLine b3 is b4 → b4 ≡ codes "labels" ++ b5 → LabelsLine b5 ls b6
-      → IsGroup width height bytes (record { points = xs; at = is; labels = ls }) b6
-  group_of_lines bytes b1 b2 b3 b4 b5 b6 xs is ls e1 points e2 indices e3 labels =
-      let c : Certified = record { points = xs; at = is; labels = ls } in
-      let third : b4 ≡ codes "labels" ++ labels_bytes c b6 = e3 ∙ ap (λ l. codes "labels" ++ l) labels.line.is in
-      let second : b2 ≡ codes "at" ++ indices_bytes c b6 = e2 ∙ ap (λ l. codes "at" ++ l) (indices.line.is ∙ ap (λ l. flat_map index_text is ++ 10 ∷ l) third) in
-      let first : bytes ≡ codes "path" ++ points_bytes c b6 = e1 ∙ ap (λ l. codes "path" ++ l) (points.line.is ∙ ap (λ l. flat_map point_text xs ++ 10 ∷ l) second) in
+  pub group_of_lines : (bytes : List ℕ) (path : Behind (codes "path") bytes) (points : ReadPoints path.after) (at : Behind (codes "at") points.after) (indices : ReadIndices at.after)
+      (marks : Behind (codes "labels") indices.after) (labels : ReadLabels marks.after)
+      → IsGroup width height bytes (record { points = points.values; at = indices.values; labels = labels.values }) labels.after
+  group_of_lines bytes path points at indices marks labels =
+      let c : Certified = record { points = points.values; at = indices.values; labels = labels.values } in
+      let rest = labels.after in
+      let third : indices.after ≡ codes "labels" ++ labels_bytes c rest = marks.is ∙ ap (λ l. codes "labels" ++ l) labels.is.line.is in
+      let second : points.after ≡ codes "at" ++ indices_bytes c rest
+      = at.is ∙ ap (λ l. codes "at" ++ l) (indices.is.line.is ∙ ap (λ l. flat_map index_text indices.values ++ 10 ∷ l) third) in
+      let first : bytes ≡ codes "path" ++ points_bytes c rest
+      = path.is ∙ ap (λ l. codes "path" ++ l) (points.is.line.is ∙ ap (λ l. flat_map point_text points.values ++ 10 ∷ l) second) in
       record {
-        is = first ∙ sym (group_bytes c b6);
+        is = first ∙ sym (group_bytes c rest);
         inside = record {
-          some_point = points.some;
-          points = points.line.all;
-          some_index = indices.some;
-          at = indices.line.all;
-          some_label = labels.some;
-          labels = labels.line.all;
+          some_point = points.is.some;
+          points = points.is.line.all;
+          some_index = indices.is.some;
+          at = indices.is.line.all;
+          some_label = labels.is.some;
+          labels = labels.is.line.all;
         };
       }
 
   -- a text begins with one group
   pub one_group : (bytes : List ℕ) (c d : Certified) (r s : List ℕ) → IsGroup width height bytes c r → IsGroup width height bytes d s → (c ≡ d) × (r ≡ s)
   one_group bytes c d r s a b =
-      let first = first_line bytes c r a (points_bytes c r) (begins bytes c r a) in
-      let e1 = begins bytes c r a in
-      let points = after_points bytes d s b (points_bytes c r) e1 c.points (codes "at" ++ indices_bytes c r) first in
-      let second = second_line bytes c r a (points_bytes c r) e1 c.points (codes "at" ++ indices_bytes c r) first (indices_bytes c r) refl in
-      let indices = after_indices bytes d s b (points_bytes c r) e1 c.points (codes "at" ++ indices_bytes c r) first (indices_bytes c r) refl c.at (codes "labels" ++ labels_bytes c r) second in
-      let third = third_line bytes c r a (points_bytes c r) e1 c.points (codes "at" ++ indices_bytes c r) first (indices_bytes c r) refl c.at (codes "labels" ++ labels_bytes c r) second (labels_bytes c r) refl in
-      let labels = after_labels bytes d s b (points_bytes c r) e1 c.points (codes "at" ++ indices_bytes c r) first (indices_bytes c r) refl c.at (codes "labels" ++ labels_bytes c r) second (labels_bytes c r) refl c.labels r third in
+      let path : Behind (codes "path") bytes = record { after = points_bytes c r; is = begins bytes c r a } in
+      let points : ReadPoints path.after = record { values = c.points; after = codes "at" ++ indices_bytes c r; is = first_line bytes c r a path } in
+      let at : Behind (codes "at") points.after = record { after = indices_bytes c r; is = refl } in
+      let indices : ReadIndices at.after = record { values = c.at; after = codes "labels" ++ labels_bytes c r; is = second_line bytes c r a path points at } in
+      let marks : Behind (codes "labels") indices.after = record { after = labels_bytes c r; is = refl } in
+      let labels : ReadLabels marks.after = record { values = c.labels; after = r; is = third_line bytes c r a path points at indices marks } in
+      let same_points = after_points bytes d s b path points in
+      let same_indices = after_indices bytes d s b path points at indices in
+      let same_labels = after_labels bytes d s b path points at indices marks labels in
       let F : List Point → Certified = λ xs. record { points = xs; at = c.at; labels = c.labels } in
       let G : List ℕ → Certified = λ is. record { points = d.points; at = is; labels = c.labels } in
       let H : List Label → Certified = λ ls. record { points = d.points; at = d.at; labels = ls } in
-      (ap F points.0 ∙ ap G indices.0 ∙ ap H labels.0, labels.1)
+      (ap F same_points.0 ∙ ap G same_indices.0 ∙ ap H same_labels.0, same_labels.1)
 
 -- a certificates' text begins with its first line
 pub head_of : (text : List ℕ) (w h : ℕ) (paths : List Certified) → IsProofs text w h paths

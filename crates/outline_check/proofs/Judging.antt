@@ -87,7 +87,7 @@ module _ (width height : ℕ) (wide : width < 2 ^ 64) (high : height < 2 ^ 64) w
   }
 
   -- the paths of any text that begins with this line
-  module _ (text : List ℕ) (count : ℕ) (bytes : List ℕ) (head : IsSidesLine (codes "proofs ") text width height count bytes) where
+  module _ {text : List ℕ} {count : ℕ} {bytes : List ℕ} (head : IsSidesLine (codes "proofs ") text width height count bytes) where
     paths_of : (w h : ℕ) (paths : List Certified) → IsProofs text w h paths
         → (count ≡ length paths) × (bytes ≡ flat_map certified_text paths ++ []) × All (AreInRanges width height) paths
     paths_of w h paths proofs =
@@ -96,39 +96,39 @@ module _ (width height : ℕ) (wide : width < 2 ^ 64) (high : height < 2 ^ 64) w
         let Q : ℕ → Type 0 = λ n. All (AreInRanges width n) paths in
         (one.2, one.3 ∙ sym (append-nil (flat_map certified_text paths)), subst Q (sym one.1) (subst P (sym one.0) proofs.in_range))
 
-    -- where a path is missing, the text is none
-    pub judging_breaks : (here : List ℕ) (k : ℕ) (wrong : Option ℕ) → IsJudging width height bytes here k wrong → k < count
-        → ((c : Certified) (rest : List ℕ) → IsGroup width height here c rest → ⊥)
-        → (w h : ℕ) (paths : List Certified) → IsProofs text w h paths → ⊥
-    judging_breaks here k wrong so_far short none w h paths proofs =
-        let (len, same, inside) = paths_of w h paths proofs in
-        parts_break Certified certified_text (AreInRanges width height) one_here bytes here so_far.paths so_far.read none paths [] inside same
-        (omega (arith, len, so_far.count))
+    module _ {here : List ℕ} {k : ℕ} {wrong : Option ℕ} (so_far : IsJudging width height bytes here k wrong) where
+      -- where a path is missing, the text is none
+      pub judging_breaks : k < count
+          → ((c : Certified) (rest : List ℕ) → IsGroup width height here c rest → ⊥)
+          → (w h : ℕ) (paths : List Certified) → IsProofs text w h paths → ⊥
+      judging_breaks short none w h paths proofs =
+          let (len, same, inside) = paths_of w h paths proofs in
+          parts_break Certified certified_text (AreInRanges width height) one_here bytes here so_far.paths so_far.read none paths [] inside same
+          (omega (arith, len, so_far.count))
 
-    -- where something follows the last path, the text is none
-    pub judging_trails : (here : List ℕ) (k : ℕ) (wrong : Option ℕ) → IsJudging width height bytes here k wrong → k ≡ count → 0 < length here
-        → (w h : ℕ) (paths : List Certified) → IsProofs text w h paths → ⊥
-    judging_trails here k wrong so_far all some w h paths proofs =
-        let (len, same, inside) = paths_of w h paths proofs in
-        let none = parts_end Certified certified_text (AreInRanges width height) one_here bytes here so_far.paths so_far.read paths [] inside same
-        (omega (arith, len, so_far.count)) in
-        omega (arith, ap length none)
+      -- where something follows the last path, the text is none
+      pub judging_trails : k ≡ count → 0 < length here
+          → (w h : ℕ) (paths : List Certified) → IsProofs text w h paths → ⊥
+      judging_trails all some w h paths proofs =
+          let (len, same, inside) = paths_of w h paths proofs in
+          let none = parts_end Certified certified_text (AreInRanges width height) one_here bytes here so_far.paths so_far.read paths [] inside same
+          (omega (arith, len, so_far.count)) in
+          omega (arith, ap length none)
 
-    -- the text is these paths
-    pub judging_ends : (here : List ℕ) (k : ℕ) (wrong : Option ℕ) (so_far : IsJudging width height bytes here k wrong) → k ≡ count → here ≡ []
-        → IsProofs text width height so_far.paths
-    judging_ends here k wrong so_far all none =
-        let read = so_far.read in
-        let texts : bytes ≡ flat_map certified_text so_far.paths = read.is ∙ ap (λ l. flat_map certified_text so_far.paths ++ l) none ∙ append-nil (flat_map certified_text so_far.paths) in
-        let len : count ≡ length so_far.paths = omega (arith, so_far.count) in
-        record {
-          is = head.is
-              ∙ ap (λ l. codes "proofs " ++ (decimal width ++ (codes " " ++ (decimal height ++ (codes " " ++ (decimal count ++ (codes "\n" ++ l))))))) texts
-              ∙ ap (λ n. codes "proofs " ++ (decimal width ++ (codes " " ++ (decimal height ++ (codes " " ++ (decimal n ++ (codes "\n" ++ flat_map certified_text so_far.paths))))))) len;
-          some_width = head.some_width;
-          wide = head.wide;
-          some_height = head.some_height;
-          high = head.high;
-          few = (let few = head.few in omega arith);
-          in_range = read.all;
-        }
+      -- the text is these paths
+      pub judging_ends : k ≡ count → here ≡ [] → IsProofs text width height so_far.paths
+      judging_ends all none =
+          let read = so_far.read in
+          let texts : bytes ≡ flat_map certified_text so_far.paths = read.is ∙ ap (λ l. flat_map certified_text so_far.paths ++ l) none ∙ append-nil (flat_map certified_text so_far.paths) in
+          let len : count ≡ length so_far.paths = omega (arith, so_far.count) in
+          record {
+            is = head.is
+                ∙ ap (λ l. codes "proofs " ++ (decimal width ++ (codes " " ++ (decimal height ++ (codes " " ++ (decimal count ++ (codes "\n" ++ l))))))) texts
+                ∙ ap (λ n. codes "proofs " ++ (decimal width ++ (codes " " ++ (decimal height ++ (codes " " ++ (decimal n ++ (codes "\n" ++ flat_map certified_text so_far.paths))))))) len;
+            some_width = head.some_width;
+            wide = head.wide;
+            some_height = head.some_height;
+            high = head.high;
+            few = (let few = head.few in omega arith);
+            in_range = read.all;
+          }

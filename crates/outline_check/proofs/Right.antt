@@ -63,6 +63,13 @@ module _ (is_allowed : ℕ → ℕ → Type 0) (cost : ℕ → ℕ → ℕ) wher
       least = λ k allowed. subst (IsUpTo a) (sym (by_same k allowed)) (right.least k allowed);
     }
 
+-- a point's label was set to the right one, and those of later points stay
+pub record IsLabelled (size : ℕ) (lasts : List ℕ) (cost : ℕ → ℕ → ℕ) (labels more : List Label) (i : ℕ) (label : Label) : Type 0 where
+  pub right : IsRight (IsUpToLast lasts) cost labels i label
+  pub places : length more ≡ size + 1
+  pub here : label_at more i ≡ label
+  pub same : (k : ℕ) → i < k → k ≤ size → label_at more k ≡ label_at labels k
+
 module _ (size : ℕ) (lasts : List ℕ) (leads : (i : ℕ) → i < size → LeadsOn size i (slice_index lasts i))
     (rising : AreRising size lasts) (cost : ℕ → ℕ → ℕ) where
   -- at the end nothing is left
@@ -89,9 +96,7 @@ module _ (size : ℕ) (lasts : List ℕ) (leads : (i : ℕ) → i < size → Lea
 
   module _ (cheap : (i j : ℕ) → i < size → IsUpToLast lasts i j → cost i j < 2 ^ 56)
       (labels more : List Label) (i : ℕ) (below : i < size) (known : AreRightDownTo size (IsUpToLast lasts) cost (i + 1) labels)
-      (label : Label) (right : IsRight (IsUpToLast lasts) cost labels i label)
-      (places : length more ≡ size + 1) (here : label_at more i ≡ label)
-      (same : (k : ℕ) → i < k → k ≤ size → label_at more k ≡ label_at labels k) where
+      (label : Label) (set : IsLabelled size lasts cost labels more i label) where
     within : (k j : ℕ) → k < size → IsUpToLast lasts k j → j ≤ size
     within k j inside up = omega (arith, (leads k inside).within, up.1)
 
@@ -99,24 +104,24 @@ module _ (size : ℕ) (lasts : List ℕ) (leads : (i : ℕ) → i < size → Lea
     each_more k above inside =
         elim (cases_eq k i) [
           | inl first ↦ subst (λ n. IsRight (IsUpToLast lasts) cost more n (label_at more n)) (sym first)
-              (subst (IsRight (IsUpToLast lasts) cost more i) (sym here)
-              (right_same (IsUpToLast lasts) cost labels more i (λ j up. same j up.0 (within i j below up)) label right))
+              (subst (IsRight (IsUpToLast lasts) cost more i) (sym set.here)
+              (right_same (IsUpToLast lasts) cost labels more i (λ j up. set.same j up.0 (within i j below up)) label set.right))
           | inr later ↦
               let onwards : i < k = omega arith in
-              subst (IsRight (IsUpToLast lasts) cost more k) (sym (same k onwards (omega arith)))
+              subst (IsRight (IsUpToLast lasts) cost more k) (sym (set.same k onwards (omega arith)))
               (right_same (IsUpToLast lasts) cost labels more k
-              (λ j up. same j (omega (arith, up.0)) (within k j inside up))
+              (λ j up. set.same j (omega (arith, up.0)) (within k j inside up))
               (label_at labels k) (known.each k (omega arith) inside))
         ]
 
     -- the label is one more than that of the next point at most
     here_most : (k : ℕ) → i < k → k ≤ size → (label_at labels k).count ≤ label.count
     here_most k onwards inside =
-        let up = right.leads.allowed in
-        let j = right.next in
+        let up = set.right.leads.allowed in
+        let j = set.right.next in
         let j_within = within i j below up in
         let first = known.falling (i + 1) k (omega arith) (omega arith) inside in
-        let count : label.count ≡ (label_at labels j).count + 1 = ap (λ (l : Label). l.count) right.leads.by_step in
+        let count : label.count ≡ (label_at labels j).count + 1 = ap (λ (l : Label). l.count) set.right.leads.by_step in
         elim (cases_lt (i + 1) j) [
           | inl beyond ↦
               let inner : i + 1 < size = omega arith in
@@ -131,10 +136,10 @@ module _ (size : ℕ) (lasts : List ℕ) (leads : (i : ℕ) → i < size → Lea
         ]
 
     count_here : (label_at more i).count ≡ label.count
-    count_here = ap (λ (l : Label). l.count) here
+    count_here = ap (λ (l : Label). l.count) set.here
 
     count_same : (k : ℕ) → i < k → k ≤ size → (label_at more k).count ≡ (label_at labels k).count
-    count_same k above inside = ap (λ (l : Label). l.count) (same k above inside)
+    count_same k above inside = ap (λ (l : Label). l.count) (set.same k above inside)
 
     falling_more : (j k : ℕ) → i ≤ j → j ≤ k → k ≤ size → (label_at more k).count ≤ (label_at more j).count
     falling_more j k above onwards inside =
@@ -161,14 +166,14 @@ module _ (size : ℕ) (lasts : List ℕ) (leads : (i : ℕ) → i < size → Lea
     few_more k above inside =
         elim (cases_eq k i) [
           | inl first ↦
-              let up = right.leads.allowed in
+              let up = set.right.leads.allowed in
               omega (
                 arith,
                 up.0,
                 ap (λ n. (label_at more n).count) first,
                 count_here,
-                ap (λ (l : Label). l.count) right.leads.by_step,
-                known.few right.next (omega (arith, up.0)) (within i right.next below up),
+                ap (λ (l : Label). l.count) set.right.leads.by_step,
+                known.few set.right.next (omega (arith, up.0)) (within i set.right.next below up),
               )
           | inr later ↦ omega (arith, count_same k (omega arith) inside, known.few k (omega arith) inside)
         ]
@@ -177,22 +182,22 @@ module _ (size : ℕ) (lasts : List ℕ) (leads : (i : ℕ) → i < size → Lea
     small_more k above inside =
         elim (cases_eq k i) [
           | inl first ↦
-              let up = right.leads.allowed in
+              let up = set.right.leads.allowed in
               omega (
                 arith,
                 ap (λ n. (label_at more n).count) first,
                 ap (λ n. (label_at more n).cost) first,
                 count_here,
-                ap (λ (l : Label). l.cost) here,
-                ap (λ (l : Label). l.count) right.leads.by_step,
-                ap (λ (l : Label). l.cost) right.leads.by_step,
-                cheap i right.next below up,
-                known.small right.next (omega (arith, up.0)) (within i right.next below up),
+                ap (λ (l : Label). l.cost) set.here,
+                ap (λ (l : Label). l.count) set.right.leads.by_step,
+                ap (λ (l : Label). l.cost) set.right.leads.by_step,
+                cheap i set.right.next below up,
+                known.small set.right.next (omega (arith, up.0)) (within i set.right.next below up),
               )
           | inr later ↦ omega (
             arith,
             count_same k (omega arith) inside,
-            ap (λ (l : Label). l.cost) (same k (omega arith) inside),
+            ap (λ (l : Label). l.cost) (set.same k (omega arith) inside),
             known.small k (omega arith) inside,
           )
         ]
@@ -200,8 +205,8 @@ module _ (size : ℕ) (lasts : List ℕ) (leads : (i : ℕ) → i < size → Lea
     -- one more label
     pub known_more : AreRightDownTo size (IsUpToLast lasts) cost i more
     known_more = record {
-      places = places;
-      last = same size below (omega arith) ∙ known.last;
+      places = set.places;
+      last = set.same size below (omega arith) ∙ known.last;
       each = each_more;
       falling = falling_more;
       few = few_more;

@@ -23,9 +23,12 @@ loop-from-preserved c =
     let more = set labels i label in
     record {
       known = known_more size lasts s.onwards s.rising (penalty_of s.moments) (λ i j below up. penalty_most s.moments s.on_page i j)
-          labels more i below known label c.before-stage.ensures.label
-          (omega (arith, length-set labels i label, known.places)) (get_or-set_same labels i label no_label room)
-          (λ k above within. get_or-set_other labels i k label no_label (λ same. let no : ⊥ = omega arith in no));
+          labels more i below known label (record {
+            right = c.before-stage.ensures.label;
+            places = omega (arith, length-set labels i label, known.places);
+            here = get_or-set_same labels i label no_label room;
+            same = λ k above within. get_or-set_other labels i k label no_label (λ same. let no : ⊥ = omega arith in no);
+          });
       begin = λ inside. begin_same size lasts s.onwards s.rising (penalty_of s.moments) labels i below known more c.before-stage.result.begin
           (λ k above within. get_or-set_other labels i k label no_label (λ same. let no : ⊥ = omega arith in no)) c.before-stage.ensures.begin;
     }
