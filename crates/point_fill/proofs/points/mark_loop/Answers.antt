@@ -66,14 +66,16 @@ points-preserved c =
 
 pub returns-then-not-makes_loop-clause-none : goal.returns-then-not-makes_loop-clause-none
 returns-then-not-makes_loop-clause-none c =
-    no_loop_of_few c.args.text.now c.args.at c.args.page.now c.width.ensures.page.most_width c.width.ensures.page.most_height c.points.invariant (c.has_byte.ensures.0 c.points-test.false) c.if-not-makes_loop.ensures
+    no_loop_of_few c.args.text.now c.args.at c.args.page.now c.width.ensures.page.most_width c.width.ensures.page.most_height c.points.invariant
+    (c.has_byte.ensures.0 c.points-test.false) c.if-not-makes_loop.ensures
 
 pub mark_step-requires-2-clause-from : goal.mark_step-requires-2-clause-from
 mark_step-requires-2-clause-from c = at_same (λ w h. IsCornerOf w h c.points.last) c.args.page.now c.points.page c.points.invariant.sides (last_is_corner c.points.invariant)
 
 pub returns-then-not-mark_step-2-clause-none : goal.returns-then-not-mark_step-2-clause-none
 returns-then-not-mark_step-2-clause-none c =
-    no_loop_open c.args.text.now c.args.at c.args.page.now c.width.ensures.page.most_width c.width.ensures.page.most_height c.points.invariant (c.has_byte.ensures.0 c.points-test.false) c.if-not-mark_step-2.ensures.step
+    no_loop_open c.args.text.now c.args.at c.args.page.now c.width.ensures.page.most_width c.width.ensures.page.most_height c.points.invariant
+    (c.has_byte.ensures.0 c.points-test.false) c.if-not-mark_step-2.ensures.step
 
 pub returns-clause-some : goal.returns-clause-some
 returns-clause-some c =

@@ -43,7 +43,12 @@ invariant_of-self c =
     let wide : length c.raise_row.new.relief ≡ f.width = size ∙ f.lower.ok.0 ∙ room.lower in
     let raised : (x : ℕ) → x < f.width → get_or c.raise_row.new.relief x 0 ≡ raised_of (held_page f) f.radius x f.pairs = λ x within.
     row_raised (held_page f) f laid (holds_itself f laid) due ready x within c.samples.result.now c.deref.result.now (f.taken - c.saturating_sub.result) (get_or c.raise_row.new.relief x 0)
-    (record { row_is = is; columns_are = c.deref.ensures.value; rows_are = omega (arith, c.saturating_sub.ensures); value_is = c.raise_row.ensures.value x (rw c.deref.ensures.value (omega (arith, within, room.columns))) }) in
+    (record {
+      row_is = is;
+      columns_are = c.deref.ensures.value;
+      rows_are = omega (arith, c.saturating_sub.ensures);
+      value_is = c.raise_row.ensures.value x (rw c.deref.ensures.value (omega (arith, within, room.columns)));
+    }) in
     record {
       room = record {
         setup = room.setup;
@@ -83,6 +88,11 @@ returns-clause-lower c = λ page old.
       λ x within.
           ap (λ (l : List ℕ). get_or l x 0) (with_items_is f.lower c.raise_row.new.relief size)
           ∙ row_raised page f laid (ring_of page f laid holds) due ready x within c.samples.result.now c.deref.result.now (f.taken - c.saturating_sub.result) (get_or c.raise_row.new.relief x 0)
-          (record { row_is = is; columns_are = c.deref.ensures.value; rows_are = omega (arith, c.saturating_sub.ensures); value_is = c.raise_row.ensures.value x (rw c.deref.ensures.value (omega (arith, within, laid.room.columns))) })
+          (record {
+            row_is = is;
+            columns_are = c.deref.ensures.value;
+            rows_are = omega (arith, c.saturating_sub.ensures);
+            value_is = c.raise_row.ensures.value x (rw c.deref.ensures.value (omega (arith, within, laid.room.columns)));
+          })
           ∙ ap (raised_of page f.radius x) (sym pairs),
     )
