@@ -17,55 +17,54 @@ use Rattle.run_output.specs.Made.{Past, most_pages, page_name}
 use Rattle.run_output.specs.Parts.{page_part}
 use Rattle.run_output.specs.declared.status.Status.{Status}
 use Rattle.run_output.specs.declared.status.Status.TheVariants as status
-use Rattle.page_batches.specs.Held.{AreHeld, Held}
+use Rattle.page_batches.specs.Held.{AreHeld}
 use Rattle.page_batches.specs.Inner.Held.{Holds, pages_held}
 use Rattle.page_batches.specs.Items.{Item}
 use Rattle.page_batches.specs.Inner.ItemsDone.{IsIdle}
 use Rattle.page_batches.specs.ItemsDone.{HasEnded}
-use Rattle.run_output.specs.Told.{Sinks}
 use Rattle.page_batches.proofs.Holding.{all_held, ended_behind, holds_on, pages_in-page}
 use Rattle.file_documents.specs.FileItems.{page_item}
 use Rattle.file_documents.specs.Manner.{Manner}
 use Rattle.file_documents.specs.Outcome.{BeginsSettled, LeavesBehind, ReadsNear, is_later}
 use Rattle.file_documents.specs.Inner.Outcome.{BeginsWith}
-use Rattle.file_documents.specs.Inner.Progress.{AreConverted, EndsBy, Halts, HasUnread, IsInBatch, ReadsPage, RunsOutIn, Settles, TakesNeeded, Converts, ahead, text_items}
+use Rattle.file_documents.specs.Inner.Progress.{AreConverted, Converts, EndsBy, HasUnread, IsInBatch, ReadsPage, RunsOutIn, Settles, TakesNeeded, ahead, text_items}
 use Rattle.file_documents.specs.declared.pages.PagesEnd.{PagesEnd}
 use Rattle.file_documents.specs.declared.pages.PagesEnd.TheVariants as why
 use Rattle.file_documents.proofs.LastBatch.{batch_out}
 use Rattle.file_documents.proofs.OnePass.{batch_halts}
 use Rattle.file_documents.proofs.Paging.{AreConverted-more, BeginsSettled-more, BeginsWith-more, LeavesBehind-more}
 use Rattle.file_documents.proofs.Reading.{first_taken, unread-with_read}
+use Rattle.file_documents.proofs.Standing.{HaltsAt, Standing}
 
--- the first k pages were read; of what was held before and their documents, which have these texts, the first
--- are carried out, and the others are held; the reader stands behind the pages
-pub record IsConverted (size : ℕ) (manner : Manner) (base : List ℕ) (past : Past) (bytes : Option (List ℕ)) (reader : Reader) (files : Option Files) (held held_now : List Held) (old new : Sinks) (k : ℕ) : Type 0 where
+-- from the one standing to the other the first k pages were read; of what was held before and their documents, which have
+-- these texts, the first are carried out, and the others are held; the reader stands behind the pages
+pub record IsConverted (size : ℕ) (manner : Manner) (base : List ℕ) (from now : Standing) (reader : Reader) (k : ℕ) : Type 0 where
   pub raws : List Raw
   pub texts : List (List ℕ)
   pub taken : List ℕ
   pub count : k ≡ length raws
   pub converted : AreConverted manner raws texts
-  pub begins : IfSome bytes (λ all. (left : List ℕ) × (ahead reader files ≡ Some left) × BeginsWith false all raws left)
-  pub told : IfSome bytes (λ all. (rest : List ℕ) × (all ≡ taken ++ rest) × (unread files ≡ Some rest))
+  pub begins : IfSome (unread from.source.files) (λ all. (left : List ℕ) × (ahead reader now.source.files ≡ Some left) × BeginsWith false all raws left)
+  pub told : IfSome (unread from.source.files) (λ all. (rest : List ℕ) × (all ≡ taken ++ rest) × (unread now.source.files ≡ Some rest))
   pub settled : reader.ended ≡ false → (tail : List ℕ) → BeginsSettled false (taken ++ tail) raws (reader_ahead reader tail)
-  pub near : IfSome bytes (λ all. (behind : List ℕ) × (rest : List ℕ) × LeavesBehind false all raws behind × (unread files ≡ Some rest) × (length behind ≤ length rest + 65536))
-  pub holds : (first : List Item) → AreHeld manner.binding manner.belongs held first → Holds manner.binding size manner.belongs (first ++ text_items manner base past 0 texts) held_now old new
+  pub near : IfSome (unread from.source.files) (λ all. (behind : List ℕ) × (rest : List ℕ) × LeavesBehind false all raws behind × (unread now.source.files ≡ Some rest) × (length behind ≤ length rest + 65536))
+  pub holds : (first : List Item) → AreHeld manner.binding manner.belongs from.held first → Holds manner.binding size manner.belongs (first ++ text_items manner base from.made 0 texts) now.held from.sinks now.sinks
   pub counted : reader.pages ≡ k
   pub going_on : reader.over ≡ false
 
 -- nothing is converted yet
-pub none_converted : (size : ℕ) (manner : Manner) (base : List ℕ) (past : Past) (files : Option Files) (held : List Held) (a : Sinks)
-    → IsConverted size manner base past (unread files) at_start files held held a a 0
-none_converted size manner base past files held a = record {
+pub none_converted : (size : ℕ) (manner : Manner) (base : List ℕ) (from : Standing) → IsConverted size manner base from from at_start 0
+none_converted size manner base from = record {
   raws = [];
   texts = [];
   taken = [];
   count = refl;
   converted = tt;
-  begins = at_first (unread files);
-  told = all_left (unread files);
+  begins = at_first (unread from.source.files);
+  told = all_left (unread from.source.files);
   settled = λ _ tail. refl;
-  near = all_near (unread files);
-  holds = λ first are. rw (append-nil first) (all_held manner.binding size manner.belongs held first a are);
+  near = all_near (unread from.source.files);
+  holds = λ first are. rw (append-nil first) (all_held manner.binding size manner.belongs from.held first from.sinks are);
   counted = refl;
   going_on = refl;
 } where
@@ -204,30 +203,6 @@ items_more manner base past first texts text k count =
     append_assoc first (text_items manner base past 0 texts) (page_item manner base past k text ∷ [])
     ∙ ap (λ l. first ++ l) (sym (text_items-more manner base past 0 k texts text (omega (arith, count))))
 
--- one page more is read, and what has to be done of its document is held or carried out
-pub one_more : (size : ℕ) (manner : Manner) (base : List ℕ) (past : Past) (bytes : Option (List ℕ)) (old new : Reader) (before after : Option Files) (held mid_held held_now : List Held) (a b c : Sinks) (k : ℕ) (page : Pixels) (text : List ℕ)
-    → IsConverted size manner base past bytes old before held mid_held a b k → ReadsPage manner old before page new after → manner.belongs page text
-    → ((left : List Item) → AreHeld manner.binding manner.belongs mid_held left → Holds manner.binding size manner.belongs (left ++ page_item manner base past k text ∷ []) held_now b c)
-    → IsConverted size manner base past bytes new after held held_now a c (k + 1)
-one_more size manner base past bytes old new before after held mid_held held_now a b c k page text t p is_text holds =
-    let later = later_is old t.raws k t.counted t.count in
-    let doc = page_item manner base past k text in
-    record {
-      raws = t.raws ++ p.raw ∷ [];
-      texts = t.texts ++ text ∷ [];
-      taken = t.taken ++ p.more;
-      count = rw length-append (omega (arith, t.count));
-      converted = AreConverted-more manner t.raws t.texts p.raw text t.converted (subst (λ pixels. manner.belongs pixels text) p.shows is_text);
-      begins = begins_more bytes (ahead old before) (ahead new after) t.raws p.raw p.used (reader_is_later old) later t.begins p.told;
-      told = told_more bytes before after t.taken p.more old.ended new.ended p.moves t.told;
-      settled = settled_more manner t.taken old new before after page t.raws later t.settled p;
-      near = near_more manner bytes old new before after page t.raws later t.begins p;
-      holds = λ first are. subst (λ l. Holds manner.binding size manner.belongs l held_now a c) (items_more manner base past first t.texts text k (t.count ∙ converted_length manner t.raws t.texts t.converted))
-          (holds_on manner.binding size manner.belongs (first ++ text_items manner base past 0 t.texts) (doc ∷ []) mid_held held_now a b c (t.holds first are) holds);
-      counted = omega (arith, p.counted, t.counted);
-      going_on = p.going_on;
-    }
-
 -- the bytes begin with the pages
 just_begins : (bytes rest : Option (List ℕ)) (raws : List Raw) → IfSome bytes (λ all. (left : List ℕ) × (rest ≡ Some left) × BeginsWith false all raws left)
     → IfSome bytes (λ all. (left : List ℕ) × BeginsWith false all raws left)
@@ -239,66 +214,103 @@ no_less : (raws : List Raw) (raw : Raw) → raws ++ raw ∷ [] ≢ []
 no_less [] raw = λ e. cc
 no_less (first ∷ raws) raw = λ e. cc
 
--- one page more is read, and what was held with it couldn't be carried out
-pub halted : (s : Status) (size : ℕ) (manner : Manner) (base : List ℕ) (past : Past) (start : Option Files) (old new : Reader) (before after : Option Files) (held mid_held : List Held) (a b c : Sinks) (k : ℕ) (page : Pixels) (text : List ℕ)
-    → IsConverted size manner base past (unread start) old before held mid_held a b k → ReadsPage manner old before page new after → manner.belongs page text
-    → ((left : List Item) → AreHeld manner.binding manner.belongs mid_held left → HasEnded s (left ++ page_item manner base past k text ∷ []) b c)
-    → k + past.pages < most_pages → (s ≡ status.Unwritten → pages_held mid_held + 1 ≡ size) → pages_held mid_held < size → IsIdle s b c → Halts s size manner base past start after held a c
-halted s size manner base past start old new before after held mid_held a b c k page text t p is_text ended few full waits idle =
-    let doc = page_item manner base past k text in
-    let later = later_is old t.raws k t.counted t.count in
-    let begins = begins_more (unread start) (ahead old before) (ahead new after) t.raws p.raw p.used (reader_is_later old) later t.begins p.told in
-    record {
-      raws = t.raws ++ p.raw ∷ [];
-      texts = t.texts ++ text ∷ [];
-      few = rw length-append (omega (arith, t.count, few));
-      converted = AreConverted-more manner t.raws t.texts p.raw text t.converted (subst (λ pixels. manner.belongs pixels text) p.shows is_text);
-      begins = just_begins (unread start) (ahead new after) (t.raws ++ p.raw ∷ []) begins;
-      some = no_less t.raws p.raw;
-      near = near_more manner (unread start) old new before after page t.raws later t.begins p;
-      in_batch = λ is first are. subst (λ l. IsInBatch size l a c) (items_more manner base past first t.texts text k (t.count ∙ converted_length manner t.raws t.texts t.converted))
-          (batch_halts size manner (first ++ text_items manner base past 0 t.texts) (page_part manner.binding (page_name manner.binding base past.made k) k text) mid_held a b c
-          (pages_in-page manner.binding (page_name manner.binding base past.made k) k text) (t.holds first are)
-          (λ left held. subst (λ v. HasEnded v (left ++ doc ∷ []) b c) is (ended left held)) (full is));
-      in_memory = λ is first are. subst (λ l. RunsOutIn size l a c) (items_more manner base past first t.texts text k (t.count ∙ converted_length manner t.raws t.texts t.converted))
-          (batch_out size manner (first ++ text_items manner base past 0 t.texts) (doc ∷ []) mid_held a b c (t.holds first are) (idle is)
-          (let one = pages_in-page manner.binding (page_name manner.binding base past.made k) k text in omega (arith, one, waits)));
-      ended = λ first are. subst (λ l. HasEnded s l a c) (items_more manner base past first t.texts text k (t.count ∙ converted_length manner t.raws t.texts t.converted))
-          (ended_behind s manner.binding size manner.belongs (first ++ text_items manner base past 0 t.texts) (doc ∷ []) mid_held a b c (t.holds first are) ended);
-    }
+-- behind the first k pages
+module _ {size : ℕ} {manner : Manner} {base : List ℕ} (from now : Standing) {reader : Reader} {k : ℕ} (t : IsConverted size manner base from now reader k) where
+  -- the bytes of the file, where they are told
+  abbrev bytes : Option (List ℕ)
+  bytes = unread from.source.files
 
--- a read failed behind the pages that were read
-unread_more : (size : ℕ) (manner : Manner) (base : List ℕ) (past : Past) (start : Option Files) (reader after : Reader) (files now : Option Files) (held held_now : List Held) (a b : Sinks) (k : ℕ)
-    → (t : IsConverted size manner base past (unread start) reader files held held_now a b k) → ReadFails reader files after now → HasUnread t.raws start now
-unread_more size manner base past start reader after files now held held_now a b k t fails =
-    let was : reader.ended ≡ false = still_going reader.ended after.ended (λ e. (fails.moves.stopped e).1) fails.going_on in
-    record {
-      taken = t.taken ++ fails.more;
-      stops = record {
-        left = reader_ahead reader fails.more;
-        pages = t.settled was fails.more;
-        by_end = ap (λ l. is_by_end (page_at l (reader_ahead reader fails.more))) (sym (later_is reader t.raws k t.counted t.count)) ∙ fails.by_end;
-      };
-      told = told_more (unread start) files now t.taken fails.more reader.ended after.ended fails.moves t.told;
-    }
+  -- the item of a page that comes next
+  abbrev next_item : List ℕ → Item
+  next_item text = page_item manner base from.made k text
 
--- no page more is read
-pub no_more : (size : ℕ) (manner : Manner) (base : List ℕ) (past : Past) (start : Option Files) (reader after : Reader) (files files_now : Option Files) (held held_now : List Held) (a b : Sinks) (k : ℕ) (end : PagesEnd)
-    → IsConverted size manner base past (unread start) reader files held held_now a b k
-    → EndsBy (reader_is_later reader) (ahead reader files) end → (end ≡ why.Fault fault.ReadFault → ReadFails reader files after files_now) → TakesNeeded reader files after files_now
-    → k + past.pages ≤ most_pages → (end ≡ why.TooMany → most_pages ≤ k + past.pages)
-    → Converts size manner base past start files_now held held_now a b k end
-no_more size manner base past start reader after files files_now held held_now a b k end t ends fails takes few full = record {
-  raws = t.raws;
-  texts = t.texts;
-  count = t.count;
-  few = few;
-  converted = t.converted;
-  rest = ahead reader files;
-  begins = t.begins;
-  ends = subst (λ l. EndsBy l (ahead reader files) end) (later_is reader t.raws k t.counted t.count) ends;
-  full = full;
-  unread = λ e. unread_more size manner base past start reader after files files_now held held_now a b k t (fails e);
-  near = near_end (unread start) reader after files files_now t.taken t.raws (later_is reader t.raws k t.counted t.count) t.near t.told t.settled takes;
-  holds = t.holds;
-}
+  later : reader_is_later reader ≡ is_later false t.raws
+  later = later_is reader t.raws k t.counted t.count
+
+  -- the items of the pages, and of one more
+  items_on : (first : List Item) (text : List ℕ)
+      → (first ++ text_items manner base from.made 0 t.texts) ++ next_item text ∷ [] ≡ first ++ text_items manner base from.made 0 (t.texts ++ text ∷ [])
+  items_on first text = items_more manner base from.made first t.texts text k (t.count ∙ converted_length manner t.raws t.texts t.converted)
+
+  -- one page more is read, and what has to be done of its document is held or carried out
+  pub one_more : (next : Standing) (after : Reader) (page : Pixels) (text : List ℕ)
+      → ReadsPage manner reader now.source.files page after next.source.files → manner.belongs page text
+      → ((left : List Item) → AreHeld manner.binding manner.belongs now.held left → Holds manner.binding size manner.belongs (left ++ next_item text ∷ []) next.held now.sinks next.sinks)
+      → IsConverted size manner base from next after (k + 1)
+  one_more next after page text p is_text holds = record {
+    raws = t.raws ++ p.raw ∷ [];
+    texts = t.texts ++ text ∷ [];
+    taken = t.taken ++ p.more;
+    count = rw length-append (omega (arith, t.count));
+    converted = AreConverted-more manner t.raws t.texts p.raw text t.converted (subst (λ pixels. manner.belongs pixels text) p.shows is_text);
+    begins = begins_more bytes (ahead reader now.source.files) (ahead after next.source.files) t.raws p.raw p.used (reader_is_later reader) later t.begins p.told;
+    told = told_more bytes now.source.files next.source.files t.taken p.more reader.ended after.ended p.moves t.told;
+    settled = settled_more manner t.taken reader after now.source.files next.source.files page t.raws later t.settled p;
+    near = near_more manner bytes reader after now.source.files next.source.files page t.raws later t.begins p;
+    holds = λ first are. subst (λ l. Holds manner.binding size manner.belongs l next.held from.sinks next.sinks) (items_on first text)
+        (holds_on manner.binding size manner.belongs (first ++ text_items manner base from.made 0 t.texts) (next_item text ∷ []) now.held next.held from.sinks now.sinks next.sinks (t.holds first are) holds);
+    counted = omega (arith, p.counted, t.counted);
+    going_on = p.going_on;
+  }
+
+  -- one page more is read, and what was held with it couldn't be carried out
+  pub halted : (s : Status) (next : Standing) (after : Reader) (page : Pixels) (text : List ℕ)
+      → ReadsPage manner reader now.source.files page after next.source.files → manner.belongs page text
+      → ((left : List Item) → AreHeld manner.binding manner.belongs now.held left → HasEnded s (left ++ next_item text ∷ []) now.sinks next.sinks)
+      → k + from.made.pages < most_pages → (s ≡ status.Unwritten → pages_held now.held + 1 ≡ size) → pages_held now.held < size → IsIdle s now.sinks next.sinks
+      → HaltsAt s size manner base from from.source next
+  halted s next after page text p is_text ended few full waits idle =
+      let part = page_part manner.binding (page_name manner.binding base from.made.made k) k text in
+      let one = pages_in-page manner.binding (page_name manner.binding base from.made.made k) k text in
+      let begins = begins_more bytes (ahead reader now.source.files) (ahead after next.source.files) t.raws p.raw p.used (reader_is_later reader) later t.begins p.told in
+      record {
+        raws = t.raws ++ p.raw ∷ [];
+        texts = t.texts ++ text ∷ [];
+        few = rw length-append (omega (arith, t.count, few));
+        converted = AreConverted-more manner t.raws t.texts p.raw text t.converted (subst (λ pixels. manner.belongs pixels text) p.shows is_text);
+        begins = just_begins bytes (ahead after next.source.files) (t.raws ++ p.raw ∷ []) begins;
+        some = no_less t.raws p.raw;
+        near = near_more manner bytes reader after now.source.files next.source.files page t.raws later t.begins p;
+        in_batch = λ is first are. subst (λ l. IsInBatch size l from.sinks next.sinks) (items_on first text)
+            (batch_halts size manner (first ++ text_items manner base from.made 0 t.texts) part now.held from.sinks now.sinks next.sinks one (t.holds first are)
+            (λ left held. subst (λ v. HasEnded v (left ++ next_item text ∷ []) now.sinks next.sinks) is (ended left held)) (full is));
+        in_memory = λ is first are. subst (λ l. RunsOutIn size l from.sinks next.sinks) (items_on first text)
+            (batch_out size manner (first ++ text_items manner base from.made 0 t.texts) (next_item text ∷ []) now.held from.sinks now.sinks next.sinks (t.holds first are) (idle is)
+            (omega (arith, one, waits)));
+        ended = λ first are. subst (λ l. HasEnded s l from.sinks next.sinks) (items_on first text)
+            (ended_behind s manner.binding size manner.belongs (first ++ text_items manner base from.made 0 t.texts) (next_item text ∷ []) now.held from.sinks now.sinks next.sinks (t.holds first are) ended);
+      }
+
+  -- a read failed behind the pages that were read
+  unread_more : (after : Reader) (files : Option Files) → ReadFails reader now.source.files after files → HasUnread t.raws from.source.files files
+  unread_more after files fails =
+      let was : reader.ended ≡ false = still_going reader.ended after.ended (λ e. (fails.moves.stopped e).1) fails.going_on in
+      record {
+        taken = t.taken ++ fails.more;
+        stops = record {
+          left = reader_ahead reader fails.more;
+          pages = t.settled was fails.more;
+          by_end = ap (λ l. is_by_end (page_at l (reader_ahead reader fails.more))) (sym later) ∙ fails.by_end;
+        };
+        told = told_more bytes now.source.files files t.taken fails.more reader.ended after.ended fails.moves t.told;
+      }
+
+  -- no page more is read, and nothing of what is held is carried out
+  pub no_more : (after : Reader) (files : Option Files) (end : PagesEnd) → EndsBy (reader_is_later reader) (ahead reader now.source.files) end
+      → (end ≡ why.Fault fault.ReadFault → ReadFails reader now.source.files after files) → TakesNeeded reader now.source.files after files
+      → k + from.made.pages ≤ most_pages → (end ≡ why.TooMany → most_pages ≤ k + from.made.pages)
+      → Converts size manner base from.made from.source.files files from.held now.held from.sinks now.sinks k end
+  no_more after files end ends fails takes few full = record {
+    raws = t.raws;
+    texts = t.texts;
+    count = t.count;
+    few = few;
+    converted = t.converted;
+    rest = ahead reader now.source.files;
+    begins = t.begins;
+    ends = subst (λ l. EndsBy l (ahead reader now.source.files) end) later ends;
+    full = full;
+    unread = λ e. unread_more after files (fails e);
+    near = near_end bytes reader after now.source.files files t.taken t.raws later t.near t.told t.settled takes;
+    holds = t.holds;
+  }

@@ -21,50 +21,53 @@ use Rattle.run_output.specs.Names.{next_name}
 use Rattle.run_output.specs.Made.{Past, most_pages, past_file}
 use Rattle.run_output.specs.declared.status.Status.{Status}
 use Rattle.run_output.specs.declared.status.Status.TheVariants as status
-use Rattle.page_batches.specs.Held.{AreHeld, Held}
+use Rattle.page_batches.specs.Held.{AreHeld}
 use Rattle.page_batches.specs.Inner.Held.{Holds}
 use Rattle.page_batches.specs.Items.{Item, end_items}
 use Rattle.page_batches.specs.Items.Item.{Refuse}
 use Rattle.page_batches.specs.ItemsDone.{HasEnded}
 use Rattle.page_batches.specs.Inner.ItemsDone.{IsHalt}
-use Rattle.run_output.specs.Told.{Sinks}
+use Rattle.run_output.specs.Told.{Sinks, Source}
 use Rattle.page_batches.proofs.Carrying.{ended_more}
 use Rattle.page_batches.proofs.Holding.{holds_on}
 use Rattle.file_documents.specs.FileItems.{AreItems, ArePageItems, FileEnds, HoldsPages, Nothing, PagesAlone, Rest, told_contents, too_many}
 use Rattle.file_documents.specs.Manner.{HasTexts, Manner, base_by}
 use Rattle.file_documents.specs.Inner.Outcome.{BeginsWith}
 use Rattle.file_documents.specs.Outcome.{is_later}
-use Rattle.file_documents.specs.Inner.Progress.{AreConverted, EndsWith, Halts, Converts, ConvertsFile, end_message, items_at_end, status_of, text_items}
+use Rattle.file_documents.specs.Inner.Progress.{AreConverted, EndsWith, end_message, items_at_end, status_of, text_items}
 use Rattle.file_documents.specs.declared.pages.PagesEnd.{PagesEnd}
 use Rattle.file_documents.specs.declared.pages.PagesEnd.TheVariants as why
 use Rattle.file_documents.proofs.Exists.{AreShown, file_pages_found, items_found, pages_found}
 use Rattle.file_documents.proofs.Paging.{pages_on}
+use Rattle.file_documents.proofs.Standing.{ConvertsFileTo, ConvertsTo, HaltsAt, OpensFile, Standing}
 
--- the items of a file are those of its first pages and what follows those
-pub first_pages : (manner : Manner) (name base : List ℕ) (Behind : ℕ → Rest) (raws more : List Raw) (texts : List (List ℕ)) (pages k : ℕ) (past : Past) (after : List Item)
-    → AreConverted manner raws texts → k ≡ pages + length raws → k + past.pages ≤ most_pages
-    → ArePageItems manner name base Behind more k past after → ArePageItems manner name base Behind (raws ++ more) pages past (text_items manner base past pages texts ++ after)
-first_pages manner name base Behind [] more [] pages k past after t count few h =
-    let P : ℕ → Type 0 = λ n. ArePageItems manner name base Behind more n past after in subst P (omega (arith, count)) h
-first_pages manner name base Behind (raw ∷ raws) more (text ∷ texts) pages k past after t count few h =
-    inl (
-      omega (arith, count, few),
-      (
-        text,
-        text_items manner base past (suc pages) texts ++ after,
-        t.0,
-        refl,
-        first_pages manner name base Behind raws more texts (suc pages) k past after t.1 (omega (arith, count)) few h,
-      ),
-    )
-first_pages manner name base Behind [] more (text ∷ texts) pages k past after t count few h = absurd t
-first_pages manner name base Behind (raw ∷ raws) more [] pages k past after t count few h = absurd t
+-- behind k pages of a file, these items follow
+module _ (manner : Manner) (name base : List ℕ) (Behind : ℕ → Rest) (more : List Raw) (k : ℕ) (past : Past) (after : List Item)
+    (follow : ArePageItems manner name base Behind more k past after) (few : k + past.pages ≤ most_pages) where
+  -- the items of the file are those of its first pages and these
+  pub first_pages : (raws : List Raw) (texts : List (List ℕ)) (pages : ℕ) → AreConverted manner raws texts → k ≡ pages + length raws
+      → ArePageItems manner name base Behind (raws ++ more) pages past (text_items manner base past pages texts ++ after)
+  first_pages [] [] pages t count =
+      let P : ℕ → Type 0 = λ n. ArePageItems manner name base Behind more n past after in subst P (omega (arith, count)) follow
+  first_pages (raw ∷ raws) (text ∷ texts) pages t count =
+      inl (
+        omega (arith, count, few),
+        (
+          text,
+          text_items manner base past (suc pages) texts ++ after,
+          t.0,
+          refl,
+          first_pages raws texts (suc pages) t.1 (omega (arith, count)),
+        ),
+      )
+  first_pages [] (text ∷ texts) pages t count = absurd t
+  first_pages (raw ∷ raws) [] pages t count = absurd t
 
 -- the items of a file with these pages alone
 pub pages_alone : (manner : Manner) (name base : List ℕ) (past : Past) (raws : List Raw) (texts : List (List ℕ)) → AreConverted manner raws texts → length raws + past.pages ≤ most_pages
     → ArePageItems manner name base PagesAlone raws 0 past (text_items manner base past 0 texts)
 pages_alone manner name base past raws texts converted few =
-    let items = first_pages manner name base PagesAlone raws [] texts 0 (length raws) past [] converted (omega arith) few refl in
+    let items = first_pages manner name base PagesAlone [] (length raws) past [] refl few raws texts 0 converted (omega arith) in
     subst (λ (rs : List Raw). ArePageItems manner name base PagesAlone rs 0 past (text_items manner base past 0 texts)) (append-nil raws)
     (subst (λ (l : List Item). ArePageItems manner name base PagesAlone (raws ++ []) 0 past l) (append-nil (text_items manner base past 0 texts)) items)
 
@@ -138,35 +141,30 @@ pub record HasRead (contents : Option Contents) (manner : Manner) (name : List �
   pub rest : Option (List ℕ)
   pub holds : (more : List Raw) (ending : FileEnd) → IfSome rest (λ left. FilePages (is_later false raws) left more ending) → HoldsPages contents name (raws ++ more) ending
 
-abbrev pub read_by_converting : (size : ℕ) (contents : Option Contents) (manner : Manner) (name base : List ℕ) (past : Past) (start now : Option Files) (held held_now : List Held) (a b : Sinks) (k : ℕ) (end : PagesEnd)
-    → HasBytes contents name (unread start) → Converts size manner base past start now held held_now a b k end → HasRead contents manner name past
-read_by_converting size contents manner name base past start now held held_now a b k end has t = record {
+abbrev pub read_by_converting : (size : ℕ) (contents : Option Contents) (manner : Manner) (name base : List ℕ) (from : Standing) (start : Source) (to : Standing) (k : ℕ) (end : PagesEnd)
+    → HasBytes contents name (unread start.files) → ConvertsTo size manner base from start to k end → HasRead contents manner name from.made
+read_by_converting size contents manner name base from start to k end has t = record {
   raws = t.raws;
   texts = t.texts;
   few = omega (arith, t.count, t.few);
   converted = t.converted;
   rest = t.rest;
-  holds = λ more ending pages. holds_pages contents name (unread start) t.rest t.raws more ending has t.begins pages;
+  holds = λ more ending pages. holds_pages contents name (unread start.files) t.rest t.raws more ending has t.begins pages;
 }
 
 -- the same base name, spelled otherwise
-pub converted_named : (size : ℕ) (manner : Manner) (base other : List ℕ) (past : Past) (start now : Option Files) (held held_now : List Held) (a b : Sinks) (k : ℕ) (end : PagesEnd) → base ≡ other
-    → Converts size manner base past start now held held_now a b k end → Converts size manner other past start now held held_now a b k end
-converted_named size manner base other past start now held held_now a b k end same t = subst (λ (name : List ℕ). Converts size manner name past start now held held_now a b k end) same t
+pub converted_named : (size : ℕ) (manner : Manner) (base other : List ℕ) (from : Standing) (start : Source) (to : Standing) (k : ℕ) (end : PagesEnd) → base ≡ other
+    → ConvertsTo size manner base from start to k end → ConvertsTo size manner other from start to k end
+converted_named size manner base other from start to k end same t = subst (λ (name : List ℕ). ConvertsTo size manner name from start to k end) same t
 
-pub halts_named : (s : Status) (size : ℕ) (manner : Manner) (base other : List ℕ) (past : Past) (start now : Option Files) (held : List Held) (a b : Sinks) → base ≡ other
-    → Halts s size manner base past start now held a b → Halts s size manner other past start now held a b
-halts_named s size manner base other past start now held a b same t = subst (λ (name : List ℕ). Halts s size manner name past start now held a b) same t
+pub halts_named : (s : Status) (size : ℕ) (manner : Manner) (base other : List ℕ) (from : Standing) (start : Source) (to : Standing) → base ≡ other
+    → HaltsAt s size manner base from start to → HaltsAt s size manner other from start to
+halts_named s size manner base other from start to same t = subst (λ (name : List ℕ). HaltsAt s size manner name from start to) same t
 
--- the reading halted at a document that couldn't be written
-pub halts_unwritten : (s : Status) (size : ℕ) (manner : Manner) (base : List ℕ) (past : Past) (start now : Option Files) (held : List Held) (a b : Sinks) → s ≡ status.Unwritten
-    → Halts s size manner base past start now held a b → Halts status.Unwritten size manner base past start now held a b
-halts_unwritten s size manner base past start now held a b is t = subst (λ (v : Status). Halts v size manner base past start now held a b) is t
-
--- or where memory ran out
-pub halts_out : (s : Status) (size : ℕ) (manner : Manner) (base : List ℕ) (past : Past) (start now : Option Files) (held : List Held) (a b : Sinks) → s ≡ status.OutOfMemory
-    → Halts s size manner base past start now held a b → Halts status.OutOfMemory size manner base past start now held a b
-halts_out s size manner base past start now held a b is t = subst (λ (v : Status). Halts v size manner base past start now held a b) is t
+-- and the same status
+pub halts_as : (s other : Status) (size : ℕ) (manner : Manner) (base : List ℕ) (from : Standing) (start : Source) (to : Standing) → s ≡ other
+    → HaltsAt s size manner base from start to → HaltsAt other size manner base from start to
+halts_as s other size manner base from start to is t = subst (λ (v : Status). HaltsAt v size manner base from start to) is t
 
 -- the same where the reading halted
 pub record IsBehind (contents : Option Contents) (name : List ℕ) (raws : List Raw) : Type 0 where
@@ -180,10 +178,10 @@ behind_pages (Some contents) name all raws (bytes, held, is) begins =
     let (left, b) = subst (λ (o : Option (List ℕ)). IfSome o (λ bs. (left : List ℕ) × BeginsWith false bs raws left)) is begins in
     record { rest = Some left; holds = λ more ending pages. (bytes, held, pages_on false bytes raws left more ending b pages) }
 
-abbrev pub read_by_halting : (size : ℕ) (contents : Option Contents) (s : Status) (manner : Manner) (name base : List ℕ) (past : Past) (start now : Option Files) (held : List Held) (a b : Sinks)
-    → HasBytes contents name (unread start) → Halts s size manner base past start now held a b → HasRead contents manner name past
-read_by_halting size contents s manner name base past start now held a b has t =
-    let behind = behind_pages contents name (unread start) t.raws has t.begins in
+abbrev pub read_by_halting : (s : Status) (size : ℕ) (contents : Option Contents) (manner : Manner) (name base : List ℕ) (from : Standing) (start : Source) (to : Standing)
+    → HasBytes contents name (unread start.files) → HaltsAt s size manner base from start to → HasRead contents manner name from.made
+read_by_halting s size contents manner name base from start to has t =
+    let behind = behind_pages contents name (unread start.files) t.raws has t.begins in
     record { raws = t.raws; texts = t.texts; few = t.few; converted = t.converted; rest = behind.rest; holds = behind.holds }
 
 module _ (contents : Option Contents) (manner : Manner) (name : List ℕ) (past : Past) where
@@ -200,7 +198,7 @@ module _ (contents : Option Contents) (manner : Manner) (name : List ℕ) (past 
     r.raws ++ more,
     ending,
     r.holds more ending pages,
-    first_pages manner name base (FileEnds manner name base ending F) r.raws more r.texts 0 k past after r.converted (omega (arith, count)) (let few = r.few in omega (arith, count, few)) follow,
+    first_pages manner name base (FileEnds manner name base ending F) more k past after follow (let few = r.few in omega (arith, count, few)) r.raws r.texts 0 r.converted (omega (arith, count)),
   )
 
   -- the items of the file and of those behind it, behind the first ones, as far as the status says
@@ -233,82 +231,97 @@ module _ (contents : Option Contents) (manner : Manner) (name : List ℕ) (past 
         subst (λ l. HasEnded s l a c) (append_assoc first (text_items manner base past 0 r.texts) after) (ended_more s which (first ++ text_items manner base past 0 r.texts) after a c ended),
       )
 
-  module _ (size : ℕ) (start now : Option Files) (k : ℕ) (held held_mid : List Held) (a b : Sinks) (has : HasBytes contents name (unread start)) where
-    -- its pages were read, and the reading ended so
-    abbrev ConvertedTo : PagesEnd → Type 0
-    ConvertedTo end = Converts size manner base past start now held held_mid a b k end
+-- the file was opened, and these are its bytes, where they are told
+pub opened_bytes_of : (name : List ℕ) (old start : Source) → OpensFile name old start → HasBytes (told_contents old.files) name (unread start.files)
+opened_bytes_of name old start opens = has_bytes old.files start.files name opens.file opens.there
 
-    abbrev read_of : (end : PagesEnd) → ConvertedTo end → HasRead contents manner name past
-    read_of end t = read_by_converting size contents manner name base past start now held held_mid a b k end has t
+-- the file was opened, and k pages of it were read
+module _ (size : ℕ) (manner : Manner) (name : List ℕ) (from : Standing) (start : Source) (to : Standing) (opens : OpensFile name from.source start) (k : ℕ) where
+  abbrev told : Option Contents
+  told = told_contents from.source.files
 
-    -- what was made behind the file
-    abbrev behind_file : Past
-    behind_file = past_file manner.binding base k past
+  abbrev its_base : List ℕ
+  its_base = base_by manner name
 
-    -- its end's items, and none behind them
-    ends_alone : (messages : List (List ℕ))
-        → (rest : List Item) × (end_items manner.binding (next_name base past.made) k messages ≡ end_items manner.binding (next_name base past.made) k messages ++ rest)
-        × EndsWith behind_file behind_file rest
-    ends_alone messages = ([], sym (append-nil (end_items manner.binding (next_name base past.made) k messages)), (refl, refl))
+  -- the reading ended so
+  abbrev ConvertedTo : PagesEnd → Type 0
+  ConvertedTo end = ConvertsTo size manner its_base from start to k end
 
-    -- the items of the file, where the run goes on behind it
-    items_of : (end : PagesEnd) (t : ConvertedTo end) → status_of end ≡ status.Done
-        → (raws : List Raw) × (ending : FileEnd) × HoldsPages contents name raws ending
-        × ArePageItems manner name base (FileEnds manner name base ending (EndsWith behind_file)) raws 0 past (text_items manner base past 0 t.texts ++ items_at_end manner name base past end k)
-    items_of why.End t done =
-        listed (EndsWith behind_file) (read_of why.End t) k t.count [] End (items_at_end manner name base past why.End k) (pages_end _ End t.rest t.ends) (ends_alone [])
-    items_of why.Trailing t done =
-        listed (EndsWith behind_file) (read_of why.Trailing t) k t.count [] Trailing (items_at_end manner name base past why.Trailing k) (pages_end _ Trailing t.rest t.ends)
-        (ends_alone (trailing_line name k ∷ []))
-    items_of why.TooMany t done = absurd (let no : status.Refused ≡ status.Done = done in cc)
-    items_of (why.Fault fault.ReadFault) t done = absurd (let no : status.Unread ≡ status.Done = done in cc)
-    items_of (why.Fault fault.NoMemory) t done = absurd (let no : status.OutOfMemory ≡ status.Done = done in cc)
-    items_of (why.Fault f) t done = absurd (let no : status.Refused ≡ status.Done = done in cc)
+  abbrev pub read_of : (end : PagesEnd) → ConvertedTo end → HasRead told manner name from.made
+  read_of end t = read_by_converting size told manner name its_base from start to k end (opened_bytes_of name from.source start opens) t
 
-    -- and its pages
-    pub pages_of : (end : PagesEnd) (t : ConvertedTo end) → status_of end ≡ status.Done → (ending : FileEnd) × HoldsPages contents name t.raws ending
-    pages_of why.End t done = (End, all_read (read_of why.End t) End (pages_end _ End t.rest t.ends))
-    pages_of why.Trailing t done = (Trailing, all_read (read_of why.Trailing t) Trailing (pages_end _ Trailing t.rest t.ends))
-    pages_of why.TooMany t done = absurd (let no : status.Refused ≡ status.Done = done in cc)
-    pages_of (why.Fault fault.ReadFault) t done = absurd (let no : status.Unread ≡ status.Done = done in cc)
-    pages_of (why.Fault fault.NoMemory) t done = absurd (let no : status.OutOfMemory ≡ status.Done = done in cc)
-    pages_of (why.Fault f) t done = absurd (let no : status.Refused ≡ status.Done = done in cc)
+  -- the items of its pages, and of its end
+  abbrev items_to : (end : PagesEnd) → ConvertedTo end → List Item
+  items_to end t = text_items manner its_base from.made 0 t.texts ++ items_at_end manner name its_base from.made end k
 
-    -- the run goes on behind the file, whose items are those of its pages and of its end
-    pub file_goes_on : (end : PagesEnd) (t : ConvertedTo end) (held_now : List Held) (c : Sinks)
-        → ((left : List Item) → AreHeld manner.binding manner.belongs held_mid left
-        → Holds manner.binding size manner.belongs (left ++ items_at_end manner name base past end k) held_now b c) → status_of end ≡ status.Done
-        → (file : ConvertsFile size contents manner name past behind_file held held_now a c)
-        × (file.items ≡ text_items manner base past 0 t.texts ++ items_at_end manner name base past end k)
-    file_goes_on end t held_now c behind done =
-        let last = items_at_end manner name base past end k in (
-          record {
-            items = text_items manner base past 0 t.texts ++ last;
-            are = inr (items_of end t done);
-            holds = λ first are. subst (λ l. Holds manner.binding size manner.belongs l held_now a c) (append_assoc first (text_items manner base past 0 t.texts) last)
-                (holds_on manner.binding size manner.belongs (first ++ text_items manner base past 0 t.texts) last held_mid held_now a b c (t.holds first are) behind);
-          },
-          refl,
-        )
+  -- what was made behind the file
+  abbrev behind_file : Past
+  behind_file = past_file manner.binding its_base k from.made
 
-    -- its pages, and a refusal
-    abbrev AreRefused : List (List ℕ) → List (List ℕ) → List ℕ → Type 0
-    AreRefused names texts message = AreItems contents manner Nothing (name ∷ names) past (text_items manner base past 0 texts ++ Refuse message ∷ [])
+  -- its end's items, and none behind them
+  ends_alone : (messages : List (List ℕ))
+      → (rest : List Item) × (end_items manner.binding (next_name its_base from.made.made) k messages ≡ end_items manner.binding (next_name its_base from.made.made) k messages ++ rest)
+      × EndsWith behind_file behind_file rest
+  ends_alone messages = ([], sym (append-nil (end_items manner.binding (next_name its_base from.made.made) k messages)), (refl, refl))
 
-    pub refused_items : (f : InFault) → status_of (why.Fault f) ≡ status.Refused → (names : List (List ℕ)) (t : ConvertedTo (why.Fault f))
-        → AreRefused names t.texts (end_message name (why.Fault f) k)
-    refused_items f is names t =
-        let (kind, cause) = refusal f is in
-        let later = is_later false t.raws in
-        let here = subst (λ c. IfSome t.rest (λ bytes. IfSays c (λ ending. front later bytes ≡ Ends ending))) cause t.ends in
-        let message = page_line name (k + 1) (kind_text kind) in
-        let same : page_line name (k + 1) (fault_text f) ≡ message = ap (page_line name (k + 1)) (fault_text-kind f kind cause) in
-        subst (AreRefused names t.texts) (sym same)
-        (inr (listed (Behind names) (read_of (why.Fault f) t) k t.count [] (Refused kind) (Refuse message ∷ []) (pages_end _ (Refused kind) t.rest here) refl))
+  -- the items of the file, where the run goes on behind it
+  items_of : (end : PagesEnd) (t : ConvertedTo end) → status_of end ≡ status.Done
+      → (raws : List Raw) × (ending : FileEnd) × HoldsPages told name raws ending
+      × ArePageItems manner name its_base (FileEnds manner name its_base ending (EndsWith behind_file)) raws 0 from.made (items_to end t)
+  items_of why.End t done =
+      listed told manner name from.made (EndsWith behind_file) (read_of why.End t) k t.count [] End (items_at_end manner name its_base from.made why.End k) (pages_end _ End t.rest t.ends) (ends_alone [])
+  items_of why.Trailing t done =
+      listed told manner name from.made (EndsWith behind_file) (read_of why.Trailing t) k t.count [] Trailing (items_at_end manner name its_base from.made why.Trailing k) (pages_end _ Trailing t.rest t.ends)
+      (ends_alone (trailing_line name k ∷ []))
+  items_of why.TooMany t done = absurd (let no : status.Refused ≡ status.Done = done in cc)
+  items_of (why.Fault fault.ReadFault) t done = absurd (let no : status.Unread ≡ status.Done = done in cc)
+  items_of (why.Fault fault.NoMemory) t done = absurd (let no : status.OutOfMemory ≡ status.Done = done in cc)
+  items_of (why.Fault f) t done = absurd (let no : status.Refused ≡ status.Done = done in cc)
 
-    pub full_items : (names : List (List ℕ)) (t : ConvertedTo why.TooMany) → AreRefused names t.texts (end_message name why.TooMany k)
-    full_items names t =
-        let (raw, used, here) = t.ends in
-        let page = page_found manner raw used (is_later false t.raws) t.rest here in
-        let message = page_line name (k + 1) too_many in
-        inr (listed (Behind names) (read_of why.TooMany t) k t.count (raw ∷ page.raws) page.ending (Refuse message ∷ []) page.pages (inr (t.full refl, refl)))
+  -- and its pages
+  pub pages_of : (end : PagesEnd) (t : ConvertedTo end) → status_of end ≡ status.Done → (ending : FileEnd) × HoldsPages told name t.raws ending
+  pages_of why.End t done = (End, all_read told manner name from.made (read_of why.End t) End (pages_end _ End t.rest t.ends))
+  pages_of why.Trailing t done = (Trailing, all_read told manner name from.made (read_of why.Trailing t) Trailing (pages_end _ Trailing t.rest t.ends))
+  pages_of why.TooMany t done = absurd (let no : status.Refused ≡ status.Done = done in cc)
+  pages_of (why.Fault fault.ReadFault) t done = absurd (let no : status.Unread ≡ status.Done = done in cc)
+  pages_of (why.Fault fault.NoMemory) t done = absurd (let no : status.OutOfMemory ≡ status.Done = done in cc)
+  pages_of (why.Fault f) t done = absurd (let no : status.Refused ≡ status.Done = done in cc)
+
+  -- the run goes on behind the file, whose items are those of its pages and of its end
+  pub file_goes_on : (end : PagesEnd) (t : ConvertedTo end) (next : Standing) → next.made ≡ behind_file
+      → ((left : List Item) → AreHeld manner.binding manner.belongs to.held left
+      → Holds manner.binding size manner.belongs (left ++ items_at_end manner name its_base from.made end k) next.held to.sinks next.sinks) → status_of end ≡ status.Done
+      → (file : ConvertsFileTo size told manner name from next) × (file.items ≡ items_to end t)
+  file_goes_on end t next made behind done =
+      let texts = text_items manner its_base from.made 0 t.texts in
+      let last = items_at_end manner name its_base from.made end k in (
+        record {
+          items = texts ++ last;
+          are = subst (λ (m : Past). AreItems told manner (EndsWith m) (name ∷ []) from.made (texts ++ last)) (sym made) (inr (items_of end t done));
+          holds = λ first are. subst (λ l. Holds manner.binding size manner.belongs l next.held from.sinks next.sinks) (append_assoc first texts last)
+              (holds_on manner.binding size manner.belongs (first ++ texts) last to.held next.held from.sinks to.sinks next.sinks (t.holds first are) behind);
+        },
+        refl,
+      )
+
+  -- its pages, and a refusal
+  abbrev AreRefused : List (List ℕ) → List (List ℕ) → List ℕ → Type 0
+  AreRefused names texts message = AreItems told manner Nothing (name ∷ names) from.made (text_items manner its_base from.made 0 texts ++ Refuse message ∷ [])
+
+  pub refused_items : (f : InFault) → status_of (why.Fault f) ≡ status.Refused → (names : List (List ℕ)) (t : ConvertedTo (why.Fault f))
+      → AreRefused names t.texts (end_message name (why.Fault f) k)
+  refused_items f is names t =
+      let (kind, cause) = refusal f is in
+      let later = is_later false t.raws in
+      let here = subst (λ c. IfSome t.rest (λ bytes. IfSays c (λ ending. front later bytes ≡ Ends ending))) cause t.ends in
+      let message = page_line name (k + 1) (kind_text kind) in
+      let same : page_line name (k + 1) (fault_text f) ≡ message = ap (page_line name (k + 1)) (fault_text-kind f kind cause) in
+      subst (AreRefused names t.texts) (sym same)
+      (inr (listed told manner name from.made (AreItems told manner Nothing names) (read_of (why.Fault f) t) k t.count [] (Refused kind) (Refuse message ∷ []) (pages_end _ (Refused kind) t.rest here) refl))
+
+  pub full_items : (names : List (List ℕ)) (t : ConvertedTo why.TooMany) → AreRefused names t.texts (end_message name why.TooMany k)
+  full_items names t =
+      let (raw, used, here) = t.ends in
+      let page = page_found manner raw used (is_later false t.raws) t.rest here in
+      let message = page_line name (k + 1) too_many in
+      inr (listed told manner name from.made (AreItems told manner Nothing names) (read_of why.TooMany t) k t.count (raw ∷ page.raws) page.ending (Refuse message ∷ []) page.pages (inr (t.full refl, refl)))

@@ -1,6 +1,7 @@
 pub mod Closing
 pub mod Counting
 pub mod Differing
+pub mod DoneFiles
 pub mod Ending
 pub mod Exists
 pub mod Filing
@@ -11,9 +12,11 @@ pub mod LastBatch
 pub mod Losing
 pub mod Keeping
 pub mod OneItems
+pub mod OpenedFile
 pub mod Paging
 pub mod Passing
 pub mod Reading
 pub mod Running
+pub mod Standing
 pub mod Converting
 pub mod OneEnd

@@ -153,17 +153,18 @@ files_end_so status.Unread manner names source source_now old now (inl u) read w
         end_behind u.before (Missing u.name ∷ []) old now refl u.done,
       )
 
-told_end_so : (contents : Contents) (s : Status) (manner : Manner) (names : List (List ℕ)) (source source_now : Source) (old now : Sinks) → IsOutcome s manner names source source_now old now
-    → IsUndisturbed contents s source source_now old now → AreEndedSo (Some contents) manner names s old now
-told_end_so contents s manner names source source_now old now outcome calm =
-    subst (λ (c : Option Contents). AreEndedSo c manner names s old now) calm.told
-    (files_end_so s manner names source source_now old now outcome calm.read calm.written calm.memory)
+module _ (manner : Manner) (single : HasOneText manner) (contents : Contents) (names : List (List ℕ)) where
+  told_end_so : (s : Status) (source source_now : Source) (old now : Sinks) → IsOutcome s manner names source source_now old now
+      → IsUndisturbed contents s source source_now old now → AreEndedSo (Some contents) manner names s old now
+  told_end_so s source source_now old now outcome calm =
+      subst (λ (c : Option Contents). AreEndedSo c manner names s old now) calm.told
+      (files_end_so s manner names source source_now old now outcome calm.read calm.written calm.memory)
 
-pub outcomes_alike : (manner : Manner) → HasOneText manner → (contents : Contents) (names : List (List ℕ)) (s t : Status) (source source_now other other_now : Source) (old now before after : Sinks)
-    → IsOutcome s manner names source source_now old now → IsOutcome t manner names other other_now before after
-    → IsUndisturbed contents s source source_now old now → IsUndisturbed contents t other other_now before after → EndAlike s t old now before after
-outcomes_alike manner single contents names s t source source_now other other_now old now before after one two calm quiet =
-    let these = told_end_so contents s manner names source source_now old now one calm in
-    let those = told_end_so contents t manner names other other_now before after two quiet in
-    let same : these.0 ≡ those.0 = one_list contents manner single Nothing (λ past a b is are. is ∙ sym are) names no_past these.0 those.0 these.1 those.1 in
-    end_alike those.0 s t old now before after (subst (λ (l : List Item). IsEndOf l s old now) same these.2) those.2
+  pub outcomes_alike : (s t : Status) (source source_now other other_now : Source) (old now before after : Sinks)
+      → IsOutcome s manner names source source_now old now → IsOutcome t manner names other other_now before after
+      → IsUndisturbed contents s source source_now old now → IsUndisturbed contents t other other_now before after → EndAlike s t old now before after
+  outcomes_alike s t source source_now other other_now old now before after one two calm quiet =
+      let these = told_end_so s source source_now old now one calm in
+      let those = told_end_so t other other_now before after two quiet in
+      let same : these.0 ≡ those.0 = one_list contents manner single Nothing (λ past a b is are. is ∙ sym are) names no_past these.0 those.0 these.1 those.1 in
+      end_alike those.0 s t old now before after (subst (λ (l : List Item). IsEndOf l s old now) same these.2) those.2

@@ -4,18 +4,18 @@ use Rattle.std.proofs.lemmas.Nat.{div_below, le-div}
 use Rattle.pt_core.specs.Counts.{Rose}
 use Rattle.page_batches.specs.Held.{AreHeld, Held}
 use Rattle.page_batches.specs.Inner.Held.{Holds, pages_held}
-use Rattle.run_output.specs.Made.{Past}
 use Rattle.run_output.specs.Parts.{Part}
 use Rattle.page_batches.specs.Items.{Item, page_count, pages_in}
 use Rattle.page_batches.specs.Items.Item.{Write}
 use Rattle.page_batches.specs.ItemsDone.{IsUnwritten}
-use Rattle.run_output.specs.Told.{Sinks, Source}
+use Rattle.run_output.specs.Told.{Sinks}
 use Rattle.page_batches.proofs.Carrying.{unwritten_as, unwritten_more, unwritten_on}
 use Rattle.page_batches.proofs.Holding.{page_count-append, page_count-held, split_on}
 use Rattle.file_documents.specs.Manner.{Manner}
-use Rattle.file_documents.specs.OnePass.{IfReadsTo, IsOnePassBehind, batch_end}
+use Rattle.file_documents.specs.OnePass.{IfReadsTo, batch_end}
 use Rattle.file_documents.specs.Order.{AreAllItems, Order}
 use Rattle.file_documents.specs.Inner.Progress.{IsInBatch, IsInPart}
+use Rattle.file_documents.proofs.Standing.{IsOnePassAt, Standing}
 
 -- the items in front of one are among those in front of the last one
 before_last : (read before after : List Item) (last item : Item) → read ++ last ∷ [] ≡ before ++ item ∷ after → page_count before ≤ page_count read
@@ -89,35 +89,35 @@ part_halts size manner read held a b c h behind few =
     let held_is = page_count-held manner.binding manner.belongs held h.left h.are_held in
     record { unwritten = w; batches = h.batches; behind = omega (arith, before, h.whole); most = omega (arith, all, held_is, h.whole, few) }
 
-module _ (size : ℕ) (some : 0 < size) (first : List Item) (order : Order) (past : Past) (source source_now : Source) (a c : Sinks) where
+module _ (size : ℕ) (some : 0 < size) (first : List Item) (order : Order) (from to : Standing) where
   abbrev Passes : Type 0
-  Passes = IsOnePassBehind size first order past source source_now a c
+  Passes = IsOnePassAt size first order from to
 
   -- the run ended within items that fill no batch, and no document is behind them
-  pub pass_of_part : (read last items : List Item) → AreAllItems order past items → IsInPart size read a c
+  pub pass_of_part : (read last items : List Item) → AreAllItems order from.made items → IsInPart size read from.sinks to.sinks
       → first ++ items ≡ read ++ last → page_count last ≡ 0 → Passes
   pass_of_part read last items are p split none =
-      let (v, e) = unwritten_more read last a c p.unwritten in
-      let (w, d) = unwritten_as (first ++ items) (read ++ last) a c split v in
+      let (v, e) = unwritten_more read last from.sinks to.sinks p.unwritten in
+      let (w, d) = unwritten_as (first ++ items) (read ++ last) from.sinks to.sinks split v in
       let before : page_count w.before ≡ page_count p.unwritten.before = ap page_count (d ∙ e) in
       let all = ap page_count split ∙ page_count-append read last in
       let least = batch_end_least size (page_count w.before) p.batches some (omega (arith, before, p.behind)) in
       record { items = items; are = are; unwritten = w; no_farther = λ steady enough. absurd (omega (arith, enough, least, all, none, p.most)) }
 
   -- an input failed
-  pub pass_of_rise : (read more items : List Item) → AreAllItems order past items → IsUnwritten read a c
-      → first ++ items ≡ read ++ more → Rose source.faults source_now.faults → Passes
+  pub pass_of_rise : (read more items : List Item) → AreAllItems order from.made items → IsUnwritten read from.sinks to.sinks
+      → first ++ items ≡ read ++ more → Rose from.source.faults to.source.faults → Passes
   pass_of_rise read more items are u split rose =
-      let (v, e) = unwritten_more read more a c u in
-      let (w, d) = unwritten_as (first ++ items) (read ++ more) a c split v in
+      let (v, e) = unwritten_more read more from.sinks to.sinks u in
+      let (w, d) = unwritten_as (first ++ items) (read ++ more) from.sinks to.sinks split v in
       record { items = items; are = are; unwritten = w; no_farther = λ steady enough. absurd (steady rose) }
 
   -- the run ended with a whole batch
-  pub pass_of_batch : (read more items : List Item) → AreAllItems order past items → (p : IsInBatch size read a c)
-      → first ++ items ≡ read ++ more → IfReadsTo (page_count read) first order past source source_now → Passes
+  pub pass_of_batch : (read more items : List Item) → AreAllItems order from.made items → (p : IsInBatch size read from.sinks to.sinks)
+      → first ++ items ≡ read ++ more → IfReadsTo (page_count read) first order from.made from.source to.source → Passes
   pass_of_batch read more items are p split reads =
-      let (v, e) = unwritten_more read more a c p.unwritten in
-      let (w, d) = unwritten_as (first ++ items) (read ++ more) a c split v in
+      let (v, e) = unwritten_more read more from.sinks to.sinks p.unwritten in
+      let (w, d) = unwritten_as (first ++ items) (read ++ more) from.sinks to.sinks split v in
       let before : page_count w.before ≡ page_count p.unwritten.before = ap page_count (d ∙ e) in
       let is = batch_end_is size (page_count w.before) p.batches some (omega (arith, before, p.behind)) (omega (arith, before, p.within, p.full)) in
       let same : page_count read ≡ batch_end size (page_count w.before) = omega (arith, is, p.full) in
@@ -125,5 +125,5 @@ module _ (size : ℕ) (some : 0 < size) (first : List Item) (order : Order) (pas
         items = items;
         are = are;
         unwritten = w;
-        no_farther = λ steady enough. subst (λ n. IfReadsTo n first order past source source_now) same reads;
+        no_farther = λ steady enough. subst (λ n. IfReadsTo n first order from.made from.source to.source) same reads;
       }

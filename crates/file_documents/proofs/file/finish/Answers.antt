@@ -17,7 +17,7 @@ use Rattle.file_documents.proofs.file.finish.Goals.{in-Fault, in-TooMany}
 -- the end is held
 pub returns-in-End-clause-ended : goal.returns-in-End-clause-ended
 returns-in-End-clause-ended g c =
-    end_held_or_out c.hold_end.result (2 * c.args.task.now.plan.workers) (manner_of g.J.PageJob c.args.task.now) c.args.name.now c.args.base.now c.args.made.now c.args.converted.end c.args.converted.pages c.args.batch.now c.hold_end.new.batch
+    end_held_or_out (2 * c.args.task.now.plan.workers) (manner_of g.J.PageJob c.args.task.now) c.args.name.now c.args.base.now c.args.made.now c.args.converted.end c.args.converted.pages c.hold_end.result c.args.batch.now c.hold_end.new.batch
     (sinks_at g.O.Sink g.E.Sink c.args.desk.now) (sinks_at g.O.Sink g.E.Sink c.hold_end.new.desk)
     (rw c.in-End.is c.hold_end.ensures.held)
 
@@ -27,7 +27,7 @@ returns-in-End-clause-because g c = goes_on_or_out c.hold_end.result _ _ _ c.arg
 -- and so is the message
 pub returns-in-Trailing-clause-ended : goal.returns-in-Trailing-clause-ended
 returns-in-Trailing-clause-ended g c =
-    end_held_or_out c.hold_end-in-Trailing.result (2 * c.args.task.now.plan.workers) (manner_of g.J.PageJob c.args.task.now) c.args.name.now c.args.base.now c.args.made.now c.args.converted.end c.args.converted.pages c.args.batch.now c.hold_end-in-Trailing.new.batch
+    end_held_or_out (2 * c.args.task.now.plan.workers) (manner_of g.J.PageJob c.args.task.now) c.args.name.now c.args.base.now c.args.made.now c.args.converted.end c.args.converted.pages c.hold_end-in-Trailing.result c.args.batch.now c.hold_end-in-Trailing.new.batch
     (sinks_at g.O.Sink g.E.Sink c.args.desk.now) (sinks_at g.O.Sink g.E.Sink c.hold_end-in-Trailing.new.desk)
     (rw c.in-Trailing.is c.hold_end-in-Trailing.ensures.held)
 

@@ -1,4 +1,4 @@
-use Rattle.std.proofs.Common.{◌≡◌, ◌∙◌, ◌*◌, [], length, inl, refl, sym, arith}
+use Rattle.std.proofs.Common.{◌∙◌, ◌*◌, [], inl, refl, sym, arith}
 use Rattle.std.proofs.lemmas.List.{take_all}
 use Rattle.run_output.specs.Made.{no_past}
 use Rattle.page_batches.specs.Inner.Desks.{sinks_at}
@@ -13,39 +13,40 @@ use Rattle.file_documents.proofs.Counting.{input_from}
 use Rattle.file_documents.proofs.Differing.{done_not_out, done_not_unwritten, out_not_unwritten}
 use Rattle.file_documents.proofs.Ending.{ends_at_once, halts_in, input_of_halt}
 use Rattle.file_documents.proofs.Losing.{lose_none}
-use Rattle.file_documents.proofs.Running.{all_done, ends_after, ends_in, loses_after, loses_in, none_begun, none_done, one_done, one_near, openings_more, opens_to, passes_after, passes_in}
+use Rattle.file_documents.proofs.Running.{all_done, ends_after, ends_in, loses_after, loses_in, none_begun, one_done, one_near, opens_to, passes_after, passes_in}
+use Rattle.file_documents.proofs.DoneFiles.{none_done, files_run}
+use Rattle.file_documents.proofs.Standing.{standing_at}
 use Rattle.file_documents.proofs.files.convert_files.Goals as goal
 
 -- no file is done yet
 pub loop-name-init : goal.loop-name-init
-loop-name-init g c = record {
-  done = rw (c.new-made.ensures, c.new-batch.ensures) (none_done (2 * c.args.task.now.plan.workers) (told_contents (g.I.Inputs.files c.args.inputs.now)) (manner_of g.J.PageJob c.args.task.now) (sinks_at g.O.Sink g.E.Sink c.args.desk.now));
-  within = omega arith;
-  going = record { waits = rw c.new-batch.ensures (record { few = some_room c.args.task.now.plan.workers c.args.task.now.plan.some_worker; turn = tt; next = c.requires.closed ∙ sym (none_begun c.args.task.now.plan.binding) }); ready = c.requires.ready };
-  openings = (let most = g.met.I.Inputs.openings_counted c.args.inputs.now in omega (arith, most));
-  opened = inl (refl, refl);
-  near = tt;
-  contents = refl;
-  input = refl;
-  keeps = record { outs = refl; errs = refl; ready = c.requires.ready; never_falls = same_count (g.O.Sink.faults c.args.desk.now.outs.now) };
-}
+loop-name-init g c =
+    let run = files_run g.J.PageJob c.args.task.now c.args.names.now (source_of g.I.Inputs c.args.inputs.now) (sinks_at g.O.Sink g.E.Sink c.args.desk.now) in
+    record {
+      done = rw (c.new-made.ensures, c.new-batch.ensures) (none_done run (let most = g.met.I.Inputs.openings_counted c.args.inputs.now in omega (arith, most)));
+      within = omega arith;
+      going = record { waits = rw c.new-batch.ensures (record { few = some_room c.args.task.now.plan.workers c.args.task.now.plan.some_worker; turn = tt; next = c.requires.closed ∙ sym (none_begun c.args.task.now.plan.binding) }); ready = c.requires.ready };
+      opened = inl (refl, refl);
+      near = tt;
+      contents = refl;
+      keeps = record { outs = refl; errs = refl; ready = c.requires.ready; never_falls = same_count (g.O.Sink.faults c.args.desk.now.outs.now) };
+    }
 
 -- one file more is done
 pub loop-name-preserved : goal.loop-name-preserved
 loop-name-preserved g c =
+    let run = files_run g.J.PageJob c.args.task.now c.args.names.now (source_of g.I.Inputs c.args.inputs.now) (sinks_at g.O.Sink g.E.Sink c.args.desk.now) in
+    let here = standing_at g.I.Inputs g.O.Sink g.E.Sink c.loop-name.made c.loop-name.batch c.loop-name.inputs c.loop-name.desk in
+    let next = standing_at g.I.Inputs g.O.Sink g.E.Sink c.convert_file-converted.new.made c.convert_file-converted.new.batch c.convert_file-converted.new.inputs c.convert_file-converted.new.desk in
     let file = rw (c.loop-name.invariant.contents, c.as_str.ensures) at c.in-Ok-converted.ensures.converted in
     let asked = rw c.as_str.ensures at c.convert_file-converted.ensures.asked in
     record {
-      done = one_done (2 * c.args.task.now.plan.workers) (told_contents (g.I.Inputs.files c.args.inputs.now)) (manner_of g.J.PageJob c.args.task.now) c.args.names.now c.loop-name.name-index c.name-item.result c.loop-name.made c.convert_file-converted.new.made c.loop-name.batch c.convert_file-converted.new.batch
-          (sinks_at g.O.Sink g.E.Sink c.args.desk.now) (sinks_at g.O.Sink g.E.Sink c.loop-name.desk) (sinks_at g.O.Sink g.E.Sink c.convert_file-converted.new.desk) c.loop-name-test.true c.name-item.is c.loop-name.invariant.done file.0;
+      done = one_done run c.loop-name.name-index c.name-item.result c.loop-name-test.true c.name-item.is here c.loop-name.invariant.done next file.0 asked.one_more c.in-Ok-converted.ensures.input;
       within = omega (arith, c.loop-name-test.true);
       going = c.in-Ok-converted.ensures.going;
-      openings = openings_more (g.I.Inputs.openings c.args.inputs.now) c.loop-name.name-index (g.I.Inputs.openings c.loop-name.inputs) (g.I.Inputs.openings c.convert_file-converted.new.inputs) c.loop-name.invariant.openings asked.one_more;
-      opened = opens_to c.args.names.now c.loop-name.name-index c.name-item.result
-          (source_of g.I.Inputs c.args.inputs.now) (source_of g.I.Inputs c.loop-name.inputs) (source_of g.I.Inputs c.convert_file-converted.new.inputs) c.loop-name-test.true c.name-item.is c.loop-name.invariant.openings asked.one_more asked.named;
-      near = one_near (told_contents (g.I.Inputs.files c.args.inputs.now)) c.args.names.now c.loop-name.name-index c.name-item.result (source_of g.I.Inputs c.convert_file-converted.new.inputs) c.loop-name-test.true c.name-item.is file.1;
+      opened = opens_to run c.loop-name.name-index c.name-item.result c.loop-name-test.true c.name-item.is here c.loop-name.invariant.done next.source asked;
+      near = one_near run c.loop-name.name-index c.name-item.result c.loop-name-test.true c.name-item.is here c.loop-name.invariant.done next.source file.1;
       contents = asked.contents ∙ c.loop-name.invariant.contents;
-      input = c.in-Ok-converted.ensures.input ∙ c.loop-name.invariant.input;
       keeps = keeps_on g.O.Sink g.E.Sink c.args.desk.now c.loop-name.desk c.convert_file-converted.new.desk c.loop-name.invariant.keeps c.convert_file-converted.ensures.keeps;
     }
 
@@ -67,57 +68,54 @@ returns-in_default g c = record {
 -- the run ends in a file
 pub returns-in-Err : goal.returns-in-Err
 returns-in-Err g c =
+    let run = files_run g.J.PageJob c.args.task.now c.args.names.now (source_of g.I.Inputs c.args.inputs.now) (sinks_at g.O.Sink g.E.Sink c.args.desk.now) in
+    let here = standing_at g.I.Inputs g.O.Sink g.E.Sink c.loop-name.made c.loop-name.batch c.loop-name.inputs c.loop-name.desk in
+    let next = standing_at g.I.Inputs g.O.Sink g.E.Sink c.convert_file-converted.new.made c.convert_file-converted.new.batch c.convert_file-converted.new.inputs c.convert_file-converted.new.desk in
     let ends = rw (c.loop-name.invariant.contents, c.as_str.ensures) at c.in-Err.ensures.converted in
     let asked = rw c.as_str.ensures at c.convert_file-converted.ensures.asked in
+    let done = c.loop-name.invariant.done in
     record {
-      outcome = ends_in c.in-Err.status (2 * c.args.task.now.plan.workers) (told_contents (g.I.Inputs.files c.args.inputs.now)) (manner_of g.J.PageJob c.args.task.now) c.args.names.now c.loop-name.name-index c.name-item.result c.loop-name.made c.loop-name.batch (source_of g.I.Inputs c.args.inputs.now) (source_of g.I.Inputs c.loop-name.inputs) (source_of g.I.Inputs c.convert_file-converted.new.inputs)
-          (sinks_at g.O.Sink g.E.Sink c.args.desk.now) (sinks_at g.O.Sink g.E.Sink c.loop-name.desk) (sinks_at g.O.Sink g.E.Sink c.convert_file-converted.new.desk) c.loop-name-test.true c.name-item.is c.loop-name.invariant.done
-          c.loop-name.invariant.openings c.loop-name.invariant.input (λ back first are. (ends back first are).0);
-      opened = opens_to c.args.names.now c.loop-name.name-index c.name-item.result
-          (source_of g.I.Inputs c.args.inputs.now) (source_of g.I.Inputs c.loop-name.inputs) (source_of g.I.Inputs c.convert_file-converted.new.inputs) c.loop-name-test.true c.name-item.is c.loop-name.invariant.openings asked.one_more asked.named;
+      outcome = ends_in run c.loop-name.name-index c.name-item.result c.loop-name-test.true c.name-item.is here done c.in-Err.status next (λ back first are. (ends back first are).0);
+      opened = opens_to run c.loop-name.name-index c.name-item.result c.loop-name-test.true c.name-item.is here done next.source asked;
       one_pass = λ is.
-          passes_in (2 * c.args.task.now.plan.workers) (some_room c.args.task.now.plan.workers c.args.task.now.plan.some_worker) (told_contents (g.I.Inputs.files c.args.inputs.now)) (manner_of g.J.PageJob c.args.task.now) c.args.names.now c.loop-name.name-index c.name-item.result c.loop-name.made c.loop-name.batch (source_of g.I.Inputs c.args.inputs.now) (source_of g.I.Inputs c.loop-name.inputs) (source_of g.I.Inputs c.convert_file-converted.new.inputs)
-          (sinks_at g.O.Sink g.E.Sink c.args.desk.now) (sinks_at g.O.Sink g.E.Sink c.loop-name.desk) (sinks_at g.O.Sink g.E.Sink c.convert_file-converted.new.desk)
-          c.loop-name-test.true c.name-item.is c.loop-name.invariant.done c.loop-name.invariant.openings c.loop-name.invariant.input (λ back first are. (ends back first are).1 is);
-      one_batch = λ is.
-          loses_in (2 * c.args.task.now.plan.workers) (told_contents (g.I.Inputs.files c.args.inputs.now)) (manner_of g.J.PageJob c.args.task.now) c.args.names.now c.loop-name.name-index c.name-item.result c.loop-name.made c.loop-name.batch (source_of g.I.Inputs c.args.inputs.now) (source_of g.I.Inputs c.loop-name.inputs) (source_of g.I.Inputs c.convert_file-converted.new.inputs)
-          (sinks_at g.O.Sink g.E.Sink c.args.desk.now) (sinks_at g.O.Sink g.E.Sink c.loop-name.desk) (sinks_at g.O.Sink g.E.Sink c.convert_file-converted.new.desk)
-          c.loop-name-test.true c.name-item.is c.loop-name.invariant.done c.loop-name.invariant.openings (λ back first are. (ends back first are).2 is);
-      input = input_from c.in-Err.status (g.I.Inputs.faults c.args.inputs.now) (g.I.Inputs.faults c.loop-name.inputs) (g.I.Inputs.faults c.convert_file-converted.new.inputs) c.loop-name.invariant.input c.in-Err.ensures.input;
+          passes_in run c.loop-name.name-index c.name-item.result c.loop-name-test.true c.name-item.is here done
+          (some_room c.args.task.now.plan.workers c.args.task.now.plan.some_worker) next (λ back first are. (ends back first are).1 is);
+      one_batch = λ is. loses_in run c.loop-name.name-index c.name-item.result c.loop-name-test.true c.name-item.is here done next (λ back first are. (ends back first are).2 is);
+      input = input_from c.in-Err.status run.source.faults here.source.faults next.source.faults done.faults c.in-Err.ensures.input;
       keeps = keeps_on g.O.Sink g.E.Sink c.args.desk.now c.loop-name.desk c.convert_file-converted.new.desk c.loop-name.invariant.keeps c.convert_file-converted.ensures.keeps;
     }
 
 -- all files are done, and what is held then is carried out
 pub returns-in-Ok-carry_out : goal.returns-in-Ok-carry_out
 returns-in-Ok-carry_out g c =
-    let all : c.loop-name.name-index ≡ length c.args.names.now = omega (arith, c.loop-name.invariant.within, c.loop-name-test.false) in
+    let run = files_run g.J.PageJob c.args.task.now c.args.names.now (source_of g.I.Inputs c.args.inputs.now) (sinks_at g.O.Sink g.E.Sink c.args.desk.now) in
+    let here = standing_at g.I.Inputs g.O.Sink g.E.Sink c.loop-name.made c.loop-name.batch c.loop-name.inputs c.loop-name.desk in
+    let done = rw (take_all c.loop-name.name-index c.args.names.now c.loop-name-test.false) at c.loop-name.invariant.done in
     record {
-      outcome = all_done (2 * c.args.task.now.plan.workers) (told_contents (g.I.Inputs.files c.args.inputs.now)) (manner_of g.J.PageJob c.args.task.now) c.args.names.now c.loop-name.made c.loop-name.batch (source_of g.I.Inputs c.args.inputs.now) (source_of g.I.Inputs c.loop-name.inputs) (sinks_at g.O.Sink g.E.Sink c.args.desk.now) (sinks_at g.O.Sink g.E.Sink c.loop-name.desk) (sinks_at g.O.Sink g.E.Sink c.carry_out.new.desk)
-          (rw (take_all c.loop-name.name-index c.args.names.now c.loop-name-test.false) at c.loop-name.invariant.done) c.in-Ok-carry_out.ensures.ended (rw all at c.loop-name.invariant.openings)
+      outcome = all_done run here done (sinks_at g.O.Sink g.E.Sink c.carry_out.new.desk) c.in-Ok-carry_out.ensures.ended
           (rw (take_all c.loop-name.name-index c.args.names.now c.loop-name-test.false) at c.loop-name.invariant.near);
       opened = c.loop-name.invariant.opened;
       one_pass = λ is. absurd (done_not_unwritten is);
       one_batch = λ is. absurd (done_not_out is);
-      input = c.loop-name.invariant.input;
+      input = done.faults;
       keeps = keeps_on g.O.Sink g.E.Sink c.args.desk.now c.loop-name.desk c.carry_out.new.desk c.loop-name.invariant.keeps c.carry_out.ensures.keeps;
     }
 
 -- or it isn't
 pub returns : goal.returns
 returns g c =
+    let run = files_run g.J.PageJob c.args.task.now c.args.names.now (source_of g.I.Inputs c.args.inputs.now) (sinks_at g.O.Sink g.E.Sink c.args.desk.now) in
+    let here = standing_at g.I.Inputs g.O.Sink g.E.Sink c.loop-name.made c.loop-name.batch c.loop-name.inputs c.loop-name.desk in
     let done = rw (take_all c.loop-name.name-index c.args.names.now c.loop-name-test.false) at c.loop-name.invariant.done in
     let which = halts_in c.in-Err-carry_out.status _ _ _ _ _ c.in-Err-carry_out.ensures.left in
+    let after = sinks_at g.O.Sink g.E.Sink c.carry_out.new.desk in
+    let few = c.loop-name.invariant.going.waits.few in
     record {
-      outcome = ends_after c.in-Err-carry_out.status which (2 * c.args.task.now.plan.workers) (told_contents (g.I.Inputs.files c.args.inputs.now)) (manner_of g.J.PageJob c.args.task.now) c.args.names.now c.loop-name.made c.loop-name.batch (source_of g.I.Inputs c.args.inputs.now) (source_of g.I.Inputs c.loop-name.inputs)
-          (sinks_at g.O.Sink g.E.Sink c.args.desk.now) (sinks_at g.O.Sink g.E.Sink c.loop-name.desk) (sinks_at g.O.Sink g.E.Sink c.carry_out.new.desk) done c.in-Err-carry_out.ensures.ended;
+      outcome = ends_after run here done c.in-Err-carry_out.status which after c.in-Err-carry_out.ensures.ended;
       opened = c.loop-name.invariant.opened;
-      one_pass = λ is.
-          passes_after (2 * c.args.task.now.plan.workers) (some_room c.args.task.now.plan.workers c.args.task.now.plan.some_worker) (told_contents (g.I.Inputs.files c.args.inputs.now)) (manner_of g.J.PageJob c.args.task.now) c.args.names.now c.loop-name.made c.loop-name.batch (source_of g.I.Inputs c.args.inputs.now) (source_of g.I.Inputs c.loop-name.inputs)
-          (sinks_at g.O.Sink g.E.Sink c.args.desk.now) (sinks_at g.O.Sink g.E.Sink c.loop-name.desk) (sinks_at g.O.Sink g.E.Sink c.carry_out.new.desk) done c.loop-name.invariant.going.waits.few (rw is at c.in-Err-carry_out.ensures.ended);
-      one_batch = λ is.
-          loses_after (2 * c.args.task.now.plan.workers) (told_contents (g.I.Inputs.files c.args.inputs.now)) (manner_of g.J.PageJob c.args.task.now) c.args.names.now c.loop-name.made c.loop-name.batch (source_of g.I.Inputs c.args.inputs.now) (source_of g.I.Inputs c.loop-name.inputs)
-          (sinks_at g.O.Sink g.E.Sink c.args.desk.now) (sinks_at g.O.Sink g.E.Sink c.loop-name.desk) (sinks_at g.O.Sink g.E.Sink c.carry_out.new.desk) done c.loop-name.invariant.going.waits.few (c.in-Err-carry_out.ensures.idle is)
+      one_pass = λ is. passes_after run here done (some_room c.args.task.now.plan.workers c.args.task.now.plan.some_worker) after few (rw is at c.in-Err-carry_out.ensures.ended);
+      one_batch = λ is. loses_after run here done after few (c.in-Err-carry_out.ensures.idle is)
           (rw (take_all c.loop-name.name-index c.args.names.now c.loop-name-test.false) at c.loop-name.invariant.near);
-      input = input_of_halt c.in-Err-carry_out.status which (g.I.Inputs.faults c.args.inputs.now) (g.I.Inputs.faults c.loop-name.inputs);
+      input = input_of_halt c.in-Err-carry_out.status which run.source.faults here.source.faults;
       keeps = keeps_on g.O.Sink g.E.Sink c.args.desk.now c.loop-name.desk c.carry_out.new.desk c.loop-name.invariant.keeps c.carry_out.ensures.keeps;
     }

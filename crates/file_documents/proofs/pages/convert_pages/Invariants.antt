@@ -1,11 +1,11 @@
 use Rattle.std.proofs.Common.{◌≡◌, ◌≤◌, ◌*◌, ◌-◌, true}
-use Rattle.pt_core.specs.Files.{unread}
 use Rattle.bitmap_input.specs.Reading.{AtEnd}
-use Rattle.page_batches.specs.Inner.Desks.{Keeps, sinks_at}
+use Rattle.page_batches.specs.Inner.Desks.{Keeps}
 use Rattle.run_output.specs.Told.{source_of}
 use Rattle.file_documents.specs.Inner.Progress.{CanHold, OpensNoFile}
 use Rattle.file_documents.specs.Inner.Tasks.{manner_of}
 use Rattle.file_documents.proofs.Converting.{IsConverted}
+use Rattle.file_documents.proofs.Standing.{standing_at}
 use Rattle.file_documents.proofs.pages.convert_pages.Given as goal
 
 -- the first pages are read, and what was held and their documents are carried out or held
@@ -16,8 +16,8 @@ invariant-loop-pages g l =
     let errs = g.E.Sink in
     record {
       most : l.pages ≤ l.room;
-      converted : IsConverted (2 * l.task.plan.workers) (manner_of g.J.PageJob l.task) l.base l.made (unread (inputs.files l.fn.inputs)) l.reader (inputs.files l.inputs) l.fn.batch l.batch
-          (sinks_at outs errs l.fn.desk) (sinks_at outs errs l.desk) l.pages;
+      converted : IsConverted (2 * l.task.plan.workers) (manner_of g.J.PageJob l.task) l.base (standing_at inputs outs errs l.made l.fn.batch l.fn.inputs l.fn.desk)
+          (standing_at inputs outs errs l.made l.batch l.inputs l.desk) l.reader l.pages;
       going : CanHold outs errs l.task.plan.binding (2 * l.task.plan.workers) l.pages l.desk l.batch;
       opened : inputs.is_opened l.inputs ≡ true;
       at_end : l.reader.ended ≡ true → AtEnd (inputs.files l.inputs);
