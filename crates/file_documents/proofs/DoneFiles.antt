@@ -57,6 +57,7 @@ pub record AreDone (run : FilesRun) (front : List (List ℕ)) (here : Standing) 
   pub openings : here.source.openings ≡ min (run.source.openings + length front) last_count
   pub faults : here.source.faults ≡ run.source.faults
 
+-- no file is done yet
 pub none_done : (run : FilesRun) → run.source.openings ≡ min (run.source.openings + 0) last_count → AreDone run [] (run_begin run)
 none_done run openings =
     record { items = []; are = (refl, refl); holds = all_held run.manner.binding run.size run.manner.belongs [] [] run.sinks refl; openings = openings; faults = refl }
@@ -66,11 +67,12 @@ if_some : {A : Type 0} (o : Option A) (P Q : A → Type 0) → ((a : A) → P a 
 if_some None P Q so h = tt
 if_some (Some a) P Q so h = so a h
 
--- what is held behind files in front counts among all
+-- the items of the files in front, and then others
 module _ (run : FilesRun) (front : List (List ℕ)) (here : Standing) (done : AreDone run front here) where
   abbrev told : Option Contents
   told = told_contents run.source.files
 
+  -- the run goes on behind them
   pub goes_on : GoesOn done.items
   goes_on = holds_goes_on run.manner.binding run.size run.manner.belongs done.items here.held run.sinks here.sinks done.holds
 
@@ -82,15 +84,18 @@ module _ (run : FilesRun) (front : List (List ℕ)) (here : Standing) (done : Ar
   read_more : (after : List Item) → done.holds.done ++ (done.holds.left ++ after) ≡ done.items ++ after
   read_more after = sym (append_assoc done.holds.done done.holds.left after) ∙ ap (λ l. l ++ after) (sym done.holds.split)
 
+  -- and how many pages there are
   counted : (after : List Item) → page_count (done.items ++ after) ≡ done.holds.batches * run.size + page_count (done.holds.left ++ after)
   counted after =
       ap page_count (sym (read_more after)) ∙ page_count-append done.holds.done (done.holds.left ++ after) ∙ ap (λ n. n + page_count (done.holds.left ++ after)) done.holds.whole
 
-  pub carried : (after : List Item) (last : List (List ℕ)) (c : Sinks) → AreCarriedOut (done.holds.left ++ after) last here.sinks c → AreCarriedOut (done.items ++ after) last run.sinks c
+  -- what is carried out behind what is held is so behind all
+  carried : (after : List Item) (last : List (List ℕ)) (c : Sinks) → AreCarriedOut (done.holds.left ++ after) last here.sinks c → AreCarriedOut (done.items ++ after) last run.sinks c
   carried after last c out =
       subst (λ l. AreCarriedOut l last run.sinks c) (read_more after) (carried_on done.holds.done (done.holds.left ++ after) last run.sinks here.sinks c done.holds.carried out)
 
-  pub ended : (s : Status) (after : List Item) (c : Sinks) → HasEnded s (done.holds.left ++ after) here.sinks c → HasEnded s (done.items ++ after) run.sinks c
+  -- and so is how the run ended
+  ended : (s : Status) (after : List Item) (c : Sinks) → HasEnded s (done.holds.left ++ after) here.sinks c → HasEnded s (done.items ++ after) run.sinks c
   ended s after c end =
       subst (λ l. HasEnded s l run.sinks c) (read_more after) (ended_on s done.holds.done (done.holds.left ++ after) run.sinks here.sinks c done.holds.carried end)
 

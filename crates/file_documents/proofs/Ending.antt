@@ -1,5 +1,5 @@
 -- How a run ends in a file.
-use Rattle.std.proofs.Common.{◌≡◌, ◌≢◌, ◌⊎◌, ℕ, ◌+◌, Bool, false, List, [], ◌∷◌, ◌++◌, Option, None, Some, IfSome, option_map, Err, inl, inr, refl, sym, ◌∙◌, ap, subst, append-nil, append_assoc}
+use Rattle.std.proofs.Common.{◌≡◌, ◌≢◌, ◌⊎◌, ℕ, Bool, false, List, [], ◌∷◌, ◌++◌, Option, None, Some, IfSome, option_map, Err, inl, inr, refl, sym, ◌∙◌, ap, subst, append-nil, append_assoc}
 use Rattle.std.specs.FinMap.{get}
 use Rattle.pt_core.specs.Counts.{Rose, next_count}
 use Rattle.pt_core.specs.Files.{Contents, Files, Lacks, Opened, unread, unread_of, with_file}
@@ -7,7 +7,6 @@ use Rattle.pt_core.specs.declared.fault.OpenFault.{OpenFault}
 use Rattle.pt_core.specs.declared.fault.OpenFault.TheVariants as opening
 use Rattle.bitmap_input.specs.declared.fault.InFault.{InFault}
 use Rattle.bitmap_input.specs.Raw.{Raw}
-use Rattle.bitmap_input.specs.Reading.Cause.{Device}
 use Rattle.run_output.specs.Messages.{not_opened, out_of_memory}
 use Rattle.run_output.specs.Made.{Past}
 use Rattle.run_output.specs.declared.status.Status.{Status}

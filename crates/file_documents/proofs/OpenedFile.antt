@@ -20,12 +20,21 @@ use Rattle.file_documents.specs.FileItems.{AreItems, Nothing, told_contents}
 use Rattle.file_documents.specs.Manner.{HasTexts, Manner, base_by}
 use Rattle.file_documents.specs.Order.{order_of}
 use Rattle.file_documents.specs.Outcome.{EndsNear, HoldsBytes, IsOpenedAt, IsUnread, opened_name}
-use Rattle.file_documents.specs.Inner.Progress.{EndsWithFile, OpensNoFile, end_message, status_of, text_items}
+use Rattle.file_documents.specs.Inner.Progress.{AsksFor, EndsWithFile, OpensNoFile, end_message, status_of, text_items}
 use Rattle.file_documents.specs.declared.pages.PagesEnd.{PagesEnd}
 use Rattle.file_documents.specs.declared.pages.PagesEnd.TheVariants as why
 use Rattle.file_documents.proofs.Ending.{at_first, name-opened, near_opened, opened_as, outcome_of_halt}
 use Rattle.file_documents.proofs.Filing.{file_halts, full_items, has_bytes, opened_bytes_of, pages_alone, pages_of, read_by_halting, read_of, refused_items, HasRead}
+use Rattle.file_documents.proofs.Reading.{contents_through, name-with_file}
 use Rattle.file_documents.proofs.Standing.{ConvertsTo, HaltsAt, IsOutcomeAt, OpensFile, Standing}
+
+-- it was asked for
+pub asks_opened : (name : List ℕ) (old start now : Source) → start.files ≡ with_file old.files name → start.openings ≡ next_count old.openings → OpensNoFile start now → AsksFor name old now
+asks_opened name old start now file one stays = record {
+  one_more = stays.openings ∙ one;
+  named = rw (stays.name, file) (name-with_file old.files name);
+  contents = contents_through old.files start.files now.files name file stays.contents;
+}
 
 -- what is left of the opened file, where that is told
 record HasLeft (told now : Option Files) (name taken : List ℕ) : Type 0 where

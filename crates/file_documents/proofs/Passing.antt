@@ -57,6 +57,14 @@ pub pages_go_on : (manner : Manner) (base : List ℕ) (past : Past) (pages : ℕ
 pages_go_on manner base past pages [] = tt
 pages_go_on manner base past pages (text ∷ texts) = pages_go_on manner base past (suc pages) texts
 
+-- where the end of the pages is to be said, and the run ended as one that can't write, a document of these items couldn't be
+-- written
+unwritten_of : (name : List ℕ) (k : ℕ) (end : PagesEnd) (items : List Item) (a b : Sinks) → EndsWithFile name end k status.Unwritten items a b
+    → (status_of end ≡ status.Refused) ⊎ (status_of end ≡ status.Unread) → IsUnwritten items a b
+unwritten_of name k end items a b (inl (is, going, memory, done)) (inl refused) = absurd (let no : status.Unwritten ≡ status.Refused = is ∙ refused in cc)
+unwritten_of name k end items a b (inl (is, going, memory, done)) (inr late) = absurd (let no : status.Unwritten ≡ status.Unread = is ∙ late in cc)
+unwritten_of name k end items a b (inr (halt, ended)) which = ended
+
 -- the file was opened, and then bytes were taken of it
 module _ (size : ℕ) (some : 0 < size) (manner : Manner) (can : HasTexts manner) (name : List ℕ) (from : Standing) (start : Source) (to : Standing)
     (opens : OpensFile name from.source start) (stays : OpensNoFile start to.source) where
@@ -73,13 +81,6 @@ module _ (size : ℕ) (some : 0 < size) (manner : Manner) (can : HasTexts manner
   abbrev Passes : List Item → List (List ℕ) → Sinks → Type 0
   Passes first names c = IsOnePassAt size first (order_of manner (name ∷ names) from.source) from (record to { sinks = c })
 
-  -- where the run can't go on behind the pages, and an end that is said isn't told, a document of what is held couldn't be written
-  unwritten : (k : ℕ) (end : PagesEnd) (items : List Item) (a b : Sinks) → EndsWithFile name end k status.Unwritten items a b
-      → (status_of end ≡ status.Refused) ⊎ (status_of end ≡ status.Unread) → IsUnwritten items a b
-  unwritten k end items a b (inl (is, going, memory, done)) (inl refused) = absurd (let no : status.Unwritten ≡ status.Refused = is ∙ refused in cc)
-  unwritten k end items a b (inl (is, going, memory, done)) (inr late) = absurd (let no : status.Unwritten ≡ status.Unread = is ∙ late in cc)
-  unwritten k end items a b (inr (halt, ended)) which = ended
-
   -- the run ends with the pages of the file, and a document of what is held then couldn't be written
   pub pass_ended : (k : ℕ) (end : PagesEnd) → (end ≡ why.Fault fault.ReadFault → Rose from.source.faults to.source.faults) → ConvertsTo size manner base from start to k end → (c : Sinks)
       → pages_held to.held < size → ((left : List Item) → AreHeld manner.binding manner.belongs to.held left → EndsWithFile name end k status.Unwritten left to.sinks c)
@@ -91,7 +92,7 @@ module _ (size : ℕ) (some : 0 < size) (manner : Manner) (can : HasTexts manner
         → ((left : List Item) → AreHeld manner.binding manner.belongs to.held left → EndsWithFile name e k status.Unwritten left to.sinks c)
         → (status_of e ≡ status.Refused) ⊎ (status_of e ≡ status.Unread) → IsInPart size (first ++ texts_of t.texts) from.sinks c
     part e t ends which =
-        part_halts size manner (first ++ texts_of t.texts) to.held from.sinks to.sinks c (t.holds first are) (λ left held. unwritten k e left to.sinks c (ends left held) which) few
+        part_halts size manner (first ++ texts_of t.texts) to.held from.sinks to.sinks c (t.holds first are) (λ left held. unwritten_of name k e left to.sinks c (ends left held) which) few
 
     split : (texts : List (List ℕ)) (after : List Item) → first ++ (texts_of texts ++ after) ≡ (first ++ texts_of texts) ++ after
     split texts after = sym (append_assoc first (texts_of texts) after)

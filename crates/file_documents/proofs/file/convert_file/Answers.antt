@@ -17,9 +17,9 @@ use Rattle.file_documents.proofs.Ending.{ends_at_once, ends_behind, input_count,
 use Rattle.file_documents.proofs.Filing.{converted_named, file_goes_on, halts_as, halts_named}
 use Rattle.file_documents.proofs.Finishing.{end_named}
 use Rattle.file_documents.proofs.Losing.{lose_at_start, lose_behind, lose_ended, lose_halted, lose_unopened}
-use Rattle.file_documents.proofs.OpenedFile.{file_ends, file_halted, file_near}
+use Rattle.file_documents.proofs.OpenedFile.{asks_opened, file_ends, file_halted, file_near}
 use Rattle.file_documents.proofs.Passing.{pass_ended, pass_halted, pass_unopened}
-use Rattle.file_documents.proofs.Reading.{contents_through, contents_unopened, name-with_file, no_name}
+use Rattle.file_documents.proofs.Reading.{contents_unopened, no_name}
 use Rattle.file_documents.proofs.Standing.{standing_at, OpensFile}
 use Rattle.file_documents.proofs.file.convert_file.Goals as goal
 
@@ -65,11 +65,9 @@ returns-in_default-clause-converted g c = λ names first are.
     )
 
 pub returns-in_default-clause-asked : goal.returns-in_default-clause-asked
-returns-in_default-clause-asked g c = record {
-  one_more = c.in-Ok.ensures.one_more;
-  named = rw c.in-Ok.ensures.file (name-with_file (g.I.Inputs.files c.args.inputs.now) c.args.name.now);
-  contents = contents_through (g.I.Inputs.files c.args.inputs.now) (g.I.Inputs.files c.open.new.self) (g.I.Inputs.files c.open.new.self) c.args.name.now c.in-Ok.ensures.file refl;
-}
+returns-in_default-clause-asked g c =
+    asks_opened c.args.name.now (source_of g.I.Inputs c.args.inputs.now) (source_of g.I.Inputs c.open.new.self) (source_of g.I.Inputs c.open.new.self)
+    c.in-Ok.ensures.file c.in-Ok.ensures.one_more (record { openings = refl; name = refl; contents = refl })
 
 -- the run ends within the file's pages
 pub returns-in-Err-convert_pages-clause-converted : goal.returns-in-Err-convert_pages-clause-converted
@@ -92,11 +90,9 @@ returns-in-Err-convert_pages-clause-converted g c = λ names first are.
     )
 
 pub returns-in-Err-convert_pages-clause-asked : goal.returns-in-Err-convert_pages-clause-asked
-returns-in-Err-convert_pages-clause-asked g c = record {
-  one_more = c.convert_pages.ensures.stays.openings ∙ c.in-Ok.ensures.one_more;
-  named = rw (c.convert_pages.ensures.stays.name, c.in-Ok.ensures.file) (name-with_file (g.I.Inputs.files c.args.inputs.now) c.args.name.now);
-  contents = contents_through (g.I.Inputs.files c.args.inputs.now) (g.I.Inputs.files c.open.new.self) (g.I.Inputs.files c.convert_pages.new.inputs) c.args.name.now c.in-Ok.ensures.file c.convert_pages.ensures.stays.contents;
-}
+returns-in-Err-convert_pages-clause-asked g c =
+    asks_opened c.args.name.now (source_of g.I.Inputs c.args.inputs.now) (source_of g.I.Inputs c.open.new.self) (source_of g.I.Inputs c.convert_pages.new.inputs)
+    c.in-Ok.ensures.file c.in-Ok.ensures.one_more c.convert_pages.ensures.stays
 
 pub returns-in-Err-convert_pages-clause-input : goal.returns-in-Err-convert_pages-clause-input
 returns-in-Err-convert_pages-clause-input g c = input_of_halt c.in-Err-convert_pages.status c.in-Err-convert_pages.ensures.converted.0 (g.I.Inputs.faults c.args.inputs.now) (g.I.Inputs.faults c.convert_pages.new.inputs)
@@ -125,11 +121,9 @@ returns-in-Err-finish-clause-converted g c = λ names first are.
     )
 
 pub returns-in-Err-finish-clause-asked : goal.returns-in-Err-finish-clause-asked
-returns-in-Err-finish-clause-asked g c = record {
-  one_more = c.convert_pages.ensures.stays.openings ∙ c.in-Ok.ensures.one_more;
-  named = rw (c.convert_pages.ensures.stays.name, c.in-Ok.ensures.file) (name-with_file (g.I.Inputs.files c.args.inputs.now) c.args.name.now);
-  contents = contents_through (g.I.Inputs.files c.args.inputs.now) (g.I.Inputs.files c.open.new.self) (g.I.Inputs.files c.convert_pages.new.inputs) c.args.name.now c.in-Ok.ensures.file c.convert_pages.ensures.stays.contents;
-}
+returns-in-Err-finish-clause-asked g c =
+    asks_opened c.args.name.now (source_of g.I.Inputs c.args.inputs.now) (source_of g.I.Inputs c.open.new.self) (source_of g.I.Inputs c.convert_pages.new.inputs)
+    c.in-Ok.ensures.file c.in-Ok.ensures.one_more c.convert_pages.ensures.stays
 
 pub returns-in-Err-finish-clause-input : goal.returns-in-Err-finish-clause-input
 returns-in-Err-finish-clause-input g c =
@@ -161,11 +155,9 @@ returns-in-Ok-add-clause-converted g c =
     )
 
 pub returns-in-Ok-add-clause-asked : goal.returns-in-Ok-add-clause-asked
-returns-in-Ok-add-clause-asked g c = record {
-  one_more = c.convert_pages.ensures.stays.openings ∙ c.in-Ok.ensures.one_more;
-  named = rw (c.convert_pages.ensures.stays.name, c.in-Ok.ensures.file) (name-with_file (g.I.Inputs.files c.args.inputs.now) c.args.name.now);
-  contents = contents_through (g.I.Inputs.files c.args.inputs.now) (g.I.Inputs.files c.open.new.self) (g.I.Inputs.files c.convert_pages.new.inputs) c.args.name.now c.in-Ok.ensures.file c.convert_pages.ensures.stays.contents;
-}
+returns-in-Ok-add-clause-asked g c =
+    asks_opened c.args.name.now (source_of g.I.Inputs c.args.inputs.now) (source_of g.I.Inputs c.open.new.self) (source_of g.I.Inputs c.convert_pages.new.inputs)
+    c.in-Ok.ensures.file c.in-Ok.ensures.one_more c.convert_pages.ensures.stays
 
 pub returns-in-Ok-add-clause-input : goal.returns-in-Ok-add-clause-input
 returns-in-Ok-add-clause-input g c =
@@ -201,11 +193,9 @@ returns-in-Err-add-clause-converted g c = λ names first are.
     )
 
 pub returns-in-Err-add-clause-asked : goal.returns-in-Err-add-clause-asked
-returns-in-Err-add-clause-asked g c = record {
-  one_more = c.convert_pages.ensures.stays.openings ∙ c.in-Ok.ensures.one_more;
-  named = rw (c.convert_pages.ensures.stays.name, c.in-Ok.ensures.file) (name-with_file (g.I.Inputs.files c.args.inputs.now) c.args.name.now);
-  contents = contents_through (g.I.Inputs.files c.args.inputs.now) (g.I.Inputs.files c.open.new.self) (g.I.Inputs.files c.convert_pages.new.inputs) c.args.name.now c.in-Ok.ensures.file c.convert_pages.ensures.stays.contents;
-}
+returns-in-Err-add-clause-asked g c =
+    asks_opened c.args.name.now (source_of g.I.Inputs c.args.inputs.now) (source_of g.I.Inputs c.open.new.self) (source_of g.I.Inputs c.convert_pages.new.inputs)
+    c.in-Ok.ensures.file c.in-Ok.ensures.one_more c.convert_pages.ensures.stays
 
 pub returns-in-Err-add-clause-keeps : goal.returns-in-Err-add-clause-keeps
 returns-in-Err-add-clause-keeps g c =
