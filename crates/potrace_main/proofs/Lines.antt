@@ -29,35 +29,37 @@ text_before (line ∷ batch) lines =
     ∙ sym (append_assoc line.items (flat_map (λ line. line.items) batch) (concat lines))
     ∙ ap (λ (text : List ℕ). text ++ concat lines) (sym (flat_map-cons (λ line. line.items) line batch))
 
+-- with the lines of the pages that are left behind it, the text is that of the demo
+abbrev pub IsBegun : Settings → ℕ → ℕ → ℕ → List ℕ → Type 0
+IsBegun settings n left s text = (rest : List (List ℕ)) → AllZip (IsDemoLine settings) (pages_from left s) rest → IsDemoText n settings (text ++ concat rest)
+
+-- these are the next pages from one number of the generator on, and their lines
+pub record IsBatch (settings : Settings) (count s t : ℕ) (pages : List Page) (lines : List (Vec ℕ)) : Type 0 where
+  pub made : (more : ℕ) → pages_from (count + more) s ≡ pages ++ pages_from more t
+  pub each : AllZip (λ page line. IsDemoLine settings page line.items) pages lines
+
 -- the lines of a batch are appended
-pub one_batch : (settings : Settings) (n left count s t : ℕ) (pages batch : List Page) (lent lines : List (Vec ℕ)) (text longer : List ℕ)
-    → count ≤ left → pages ≡ batch → lent ≡ lines
-    → ((more : ℕ) → pages_from (count + more) s ≡ batch ++ pages_from more t)
-    → AllZip (λ page line. IsDemoLine settings page line.items) pages lines
-    → longer ≡ text ++ flat_map (λ line. line.items) lent
-    → ((rest : List (List ℕ)) → AllZip (IsDemoLine settings) (pages_from left s) rest → IsDemoText n settings (text ++ concat rest))
-    → (rest : List (List ℕ)) → AllZip (IsDemoLine settings) (pages_from (left - count) t) rest → IsDemoText n settings (longer ++ concat rest)
-one_batch settings n left count s t pages batch lent lines text longer few same same_lines made each is so_far rest are =
+pub one_batch : (settings : Settings) (n left count s t : ℕ) (pages : List Page) (lines : List (Vec ℕ)) (text longer : List ℕ)
+    → count ≤ left → IsBatch settings count s t pages lines → longer ≡ text ++ flat_map (λ line. line.items) lines
+    → IsBegun settings n left s text → IsBegun settings n (left - count) t longer
+one_batch settings n left count s t pages lines text longer few batch is so_far rest are =
     let split : count + (left - count) ≡ left = omega (arith, few) in
     let ahead : pages ++ pages_from (left - count) t ≡ pages_from left s =
-    ap (λ (p : List Page). p ++ pages_from (left - count) t) same ∙ sym (made (left - count)) ∙ ap (λ (k : ℕ). pages_from k s) split in
+    sym (batch.made (left - count)) ∙ ap (λ (k : ℕ). pages_from k s) split in
     let joined : text ++ concat (items_before lines rest) ≡ longer ++ concat rest =
     ap (λ (more : List ℕ). text ++ more) (text_before lines rest)
     ∙ sym (append_assoc text (flat_map (λ line. line.items) lines) (concat rest))
-    ∙ ap (λ (some : List (Vec ℕ)). (text ++ flat_map (λ line. line.items) some) ++ concat rest) (sym same_lines)
     ∙ ap (λ (more : List ℕ). more ++ concat rest) (sym is) in
-    let both = lines_before settings pages (pages_from (left - count) t) lines rest each are in
+    let both = lines_before settings pages (pages_from (left - count) t) lines rest batch.each are in
     subst (λ (whole : List ℕ). IsDemoText n settings whole) joined
     (so_far (items_before lines rest) (subst (λ (all : List Page). AllZip (IsDemoLine settings) all (items_before lines rest)) ahead both))
 
 -- no page is left
-pub no_batch : (settings : Settings) (n left s : ℕ) (text : List ℕ) → left ≤ 0
-    → ((rest : List (List ℕ)) → AllZip (IsDemoLine settings) (pages_from left s) rest → IsDemoText n settings (text ++ concat rest))
-    → IsDemoText n settings text
+pub no_batch : (settings : Settings) (n left s : ℕ) (text : List ℕ) → left ≤ 0 → IsBegun settings n left s text → IsDemoText n settings text
 unfolding pages_from
 no_batch settings n zero s text none so_far = subst (λ (whole : List ℕ). IsDemoText n settings whole) (append-nil text) (so_far [] tt)
 no_batch settings n (suc left) s text none so_far = absurd (omega (arith, none))
 
 -- no page is traced
-pub none_traced : (settings : Settings) (n : ℕ) (rest : List (List ℕ)) → AllZip (IsDemoLine settings) (pages_from n n) rest → IsDemoText n settings ([] ++ concat rest)
+pub none_traced : (settings : Settings) (n : ℕ) → IsBegun settings n n n []
 none_traced settings n rest are = record { lines = rest; each = are; joined = refl }

@@ -6,9 +6,9 @@ pub loop-left-preserved : goal.loop-left-preserved
 loop-left-preserved g c = record {
   fits = omega arith;
   text = one_batch c.args.settings c.args.pages c.loop-left.left c.min-count.result c.loop-left.generator c.next_pages.new.generator
-      c.deref.result.now c.in_ok-batch.batch.items c.deref-in-loop-left.result.now c.in_ok-lines.lines.items c.loop-left.text.items c.put_lines.new.text.items
-      (omega arith) c.deref.ensures.value c.deref-in-loop-left.ensures.value c.in_ok-batch.ensures.pages c.in_ok-lines.ensures.texts
-      c.in_ok-put_lines.ensures c.loop-left.invariant.text;
+      c.in_ok-batch.batch.items c.in_ok-lines.lines.items c.loop-left.text.items c.put_lines.new.text.items (omega arith)
+      (record { made = c.in_ok-batch.ensures.pages; each = rw c.deref.ensures.value at c.in_ok-lines.ensures.texts })
+      (rw c.deref-in-loop-left.ensures.value at c.in_ok-put_lines.ensures) c.loop-left.invariant.text;
 }
 
 pub returns : goal.returns
