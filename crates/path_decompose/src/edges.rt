@@ -31,7 +31,7 @@ const STRIPS_BESIDE: usize = 2;
 ///
 /// Each corner has an edge that goes down and one that goes left. They stand in strips of 64 columns, with margins in
 /// which the square of pixels around each corner has its place, so that no step of a walk asks where the page ends.
-#[derive(Debug, Drop)]
+#[derive(Drop)]
 pub(crate) struct Edges {
     width: u32,
     height: u32,

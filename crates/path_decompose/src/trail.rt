@@ -5,7 +5,7 @@ use pt_core::Point;
 use std::alloc::Global;
 
 /// What is noted down of a walk along a boundary. A trail serves for one walk after another.
-#[derive(Debug, Drop)]
+#[derive(Drop)]
 pub(crate) struct Trail {
     /// The corners where its edges begin.
     pub points: Vec<Point>,

@@ -1,11 +1,13 @@
 -- Each heading's end, which lies on the page, and the turn there.
-use Rattle.std.proofs.Common.{◌≡◌, ◌-◌, ◌+◌, ◌≤◌, suc, pred, refl, sym, subst, arith}
+use Rattle.std.proofs.Common.{◌≡◌, ℕ, zero, ◌-◌, ◌+◌, ◌≤◌, suc, pred, true, false, refl, sym, subst, arith, add-one}
 use Rattle.std.proofs.lemmas.Int.{ints}
+use Rattle.std.proofs.lemmas.Bool.{false≢true}
 use Rattle.pt_core.specs.declared.limits.TheConstants.{LONGEST_SIDE}
-use Rattle.bit_image.specs.Image.{Fits}
+use Rattle.bit_image.specs.Image.{Image, Fits, south_west}
 use Rattle.bit_image.specs.Page.{Page, IsPage, image_of}
-use Rattle.turn_policies.specs.Boundary.{IsBoundary}
+use Rattle.turn_policies.specs.Boundary.{IsBoundary, left_pixel, right_pixel}
 use Rattle.turn_policies.specs.declared.edge.Edge.{Edge}
+use Rattle.turn_policies.specs.declared.heading.Dir.{Dir}
 use Rattle.turn_policies.specs.declared.heading.Dir.TheVariants.{North, East, South, West}
 use Rattle.turn_policies.specs.Heading.{end_x, end_y}
 use Rattle.turn_policies.proofs.Turning.{next_boundary, next_is}
@@ -25,6 +27,33 @@ within_page : (page : Page) → Fits (image_of page) page.width page.height → 
 within_page page fits edge boundary =
     let on = edge_on (image_of page) page.width page.height fits edge boundary in
     (on.column, on.row)
+
+-- black lies left of the end too, and white on its right
+black_behind : (page : Page) (edge : Edge) (heading : Dir) → edge.heading ≡ heading → IsBoundary (image_of page) edge → left_pixel (south_west (image_of page)) edge.x edge.y heading ≡ true
+black_behind page edge heading is boundary = subst (λ d. left_pixel (south_west (image_of page)) edge.x edge.y d ≡ true) is boundary.black_left
+
+white_behind : (page : Page) (edge : Edge) (heading : Dir) → edge.heading ≡ heading → IsBoundary (image_of page) edge → right_pixel (south_west (image_of page)) edge.x edge.y heading ≡ false
+white_behind page edge heading is boundary = subst (λ d. right_pixel (south_west (image_of page)) edge.x edge.y d ≡ false) is boundary.white_right
+
+-- a black pixel's upper right corner is none at the page's left or lower side
+past_sides : (b : Image) (x y : ℕ) → south_west b x y ≡ true → (1 ≤ x) × (1 ≤ y)
+past_sides b zero y black = absurd (false≢true black)
+past_sides b (suc x) zero black = absurd (false≢true black)
+past_sides b (suc x) (suc y) black = (omega arith, omega arith)
+
+pub overflow_sub-y : goal.overflow_sub-y
+overflow_sub-y c = omega (arith, past_sides (image_of c.args.page.now) (suc c.args.edge.x) c.args.edge.y (black_behind c.args.page.now c.args.edge South c.in-South.is c.requires.boundary))
+
+pub overflow_sub-x : goal.overflow_sub-x
+overflow_sub-x c = omega (arith, past_sides (image_of c.args.page.now) c.args.edge.x c.args.edge.y (black_behind c.args.page.now c.args.edge West c.in-West.is c.requires.boundary))
+
+pub turned_at-requires-clause-black_left : goal.turned_at-requires-clause-black_left
+turned_at-requires-clause-black_left c =
+    subst (λ n. south_west (image_of c.args.page.now) c.args.edge.x n ≡ true) (sym (add-one c.args.edge.y)) (black_behind c.args.page.now c.args.edge North c.in-North.is c.requires.boundary)
+
+pub turned_at-requires-clause-white_right : goal.turned_at-requires-clause-white_right
+turned_at-requires-clause-white_right c =
+    subst (λ n. south_west (image_of c.args.page.now) (suc c.args.edge.x) n ≡ false) (sym (add-one c.args.edge.y)) (white_behind c.args.page.now c.args.edge North c.in-North.is c.requires.boundary)
 
 pub turned_at-requires-clause-y : goal.turned_at-requires-clause-y
 turned_at-requires-clause-y c =
