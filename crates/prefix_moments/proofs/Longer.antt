@@ -1,15 +1,14 @@
 -- A segment with one point more.
-use Rattle.std.proofs.Common.{◌≡◌, ℕ, suc, ◌+◌, ◌-◌, ◌*◌, ◌<◌, ◌≤◌, ◌^◌, w64, to_z, of_z, ℤ, pos, ◌+ℤ◌, ◌-ℤ◌, ◌*ℤ◌, List, sym, ap, ◌∙◌, arith}
-use Rattle.std.proofs.lemmas.Int.{ints, int_wrap_fits, fits_signed_from_abs}
+use Rattle.std.proofs.Common.{◌≡◌, ℕ, suc, ◌+◌, ◌-◌, ◌*◌, ◌<◌, ◌≤◌, ◌^◌, w32, w64, to_z, of_z, ℤ, ◌+ℤ◌, ◌*ℤ◌, List, sym, ap, ◌∙◌, arith}
+use Rattle.std.proofs.lemmas.Int.{ints, int_wrap_fits, to_z-of_z, fits_signed_from_abs}
 use Rattle.std.specs.Int.{int_wrap}
 use Rattle.std.specs.Prelude.{unsigned_abs}
 use Rattle.pt_core.specs.declared.point.Point.{Point}
 use Rattle.pt_core.specs.declared.limits.TheConstants.{LONGEST_SIDE, MOST_STEPS}
 use Rattle.pt_core.specs.OnPage.{AreOnPage}
-use Rattle.pt_core.proofs.Sizes.{product_most}
-use Rattle.pt_core.proofs.Terms.{num, plus, less, times, same_value}
+use Rattle.pt_core.proofs.Sizes.{back, product_most}
 use Rattle.prefix_moments.specs.Sums.{sum_of, sum_over, sums_of, rightward_of, above_of, spread_of}
-use Rattle.prefix_moments.specs.Inner.Table.{spread_from}
+use Rattle.prefix_moments.specs.Inner.Table.{spread_by}
 use Rattle.prefix_moments.proofs.Rows.{spread_of_is}
 use Rattle.prefix_moments.proofs.Summing.{sum_most}
 
@@ -44,30 +43,31 @@ xy_most points on_page i j short = products_most (rightward_of points i) (above_
 pub yy_most : (points : List Point) → AreOnPage points → (i j : ℕ) → j - i ≤ MOST_STEPS → unsigned_abs ((sums_of points i j).yy) < 2 ^ 62
 yy_most points on_page i j short = products_most (above_of points i) (above_of points i) (above_most points on_page i) (above_most points on_page i) i j short
 
-pub grown_is : (f g : ℕ → ℤ) (i j : ℕ) (s a b r : ℤ) → i < j → to_z w64 (of_z w64 s) ≡ sum_over i j (λ k. f k *ℤ g k)
-    → to_z w64 (of_z w64 a) ≡ f (j + 1) → to_z w64 (of_z w64 b) ≡ g (j + 1)
-    → r ≡ to_z w64 (of_z w64 s) +ℤ to_z w64 (of_z w64 a) *ℤ to_z w64 (of_z w64 b) → r ≡ sum_over i (j + 1) (λ k. f k *ℤ g k)
-grown_is f g i j s a b r onwards es ea eb er = er ∙ rw (es, ea, eb) (sym (one_more (λ k. f k *ℤ g k) i j onwards))
+-- a number of 32 bits comes back from its bits
+pub short_back : (a : ℤ) → unsigned_abs a < 2 ^ 31 → to_z w32 (of_z w32 a) ≡ a
+short_back a h = to_z-of_z w32 a (fits_signed_from_abs w32 a h)
 
--- from the first point itself nothing has to be taken away
-from_none : (xx xy yy p q : ℤ)
-    → ((q *ℤ (q *ℤ xx -ℤ (p *ℤ xy) *ℤ pos 2)) +ℤ (p *ℤ p) *ℤ yy) +ℤ pos 0 *ℤ (pos 0 *ℤ pos 0 -ℤ (q *ℤ pos 0 -ℤ p *ℤ pos 0) *ℤ pos 2)
-    ≡ ((q *ℤ q) *ℤ xx -ℤ pos 2 *ℤ ((p *ℤ q) *ℤ xy)) +ℤ (p *ℤ p) *ℤ yy
-from_none xx xy yy p q =
-    let by = λ (a : ℤ) (b : ℤ). times (num a) (num b) in
-    let zero = num (pos 0) in
-    same_value
-    (plus
-    (plus (times (num q) (less (by q xx) (times (by p xy) (num (pos 2))))) (times (by p p) (num yy)))
-    (times zero (less (times zero zero) (times (less (times (num q) zero) (times (num p) zero)) (num (pos 2))))))
-    (plus (less (times (by q q) (num xx)) (times (num (pos 2)) (times (by p q) (num xy)))) (times (by p p) (num yy)))
-    (omega arith)
+-- so do a segment's sums
+pub sum_back : (z s : ℤ) → z ≡ s → unsigned_abs s < 2 ^ 62 → to_z w64 (of_z w64 z) ≡ s
+sum_back z s is most = (let here : unsigned_abs z ≡ unsigned_abs s = ap unsigned_abs is in back z (omega arith)) ∙ is
 
--- the sum of the squared cross products is what is left of it in 64 bits, where it is small
-pub grown_total : (points : List Point) (i j : ℕ) (xx xy yy right above t : ℤ)
+-- and how far its last point lies from the first one
+pub offset_back : (z s : ℤ) → z ≡ s → unsigned_abs s ≤ LONGEST_SIDE → to_z w32 (of_z w32 z) ≡ s
+offset_back z s is most = (let here : unsigned_abs z ≡ unsigned_abs s = ap unsigned_abs is in short_back z (omega arith)) ∙ is
+
+-- a sum with the product of one more point's offsets is that of the longer segment
+pub grown_is : (f g : ℕ → ℤ) (i j : ℕ) (s a b p : ℤ) → i < j → to_z w64 (of_z w64 s) ≡ sum_over i j (λ k. f k *ℤ g k)
+    → a ≡ f (j + 1) → b ≡ g (j + 1) → p ≡ a *ℤ b → unsigned_abs p ≤ LONGEST_SIDE * LONGEST_SIDE
+    → to_z w64 (of_z w64 s) +ℤ to_z w64 (of_z w64 p) ≡ sum_over i (j + 1) (λ k. f k *ℤ g k)
+grown_is f g i j s a b p onwards es ea eb ep most =
+    rw (es, back p (omega arith), ep, ea, eb) (sym (one_more (λ k. f k *ℤ g k) i j onwards))
+
+-- the sum of the squared cross products by the sums of a segment
+pub grown_spread : (points : List Point) (i j : ℕ) (xx xy yy right above : ℤ)
     → xx ≡ (sums_of points i j).xx → xy ≡ (sums_of points i j).xy → yy ≡ (sums_of points i j).yy
-    → right ≡ rightward_of points i j → above ≡ above_of points i j → unsigned_abs (spread_of points i j) < 2 ^ 48
-    → t ≡ int_wrap w64 (spread_from (record { x = pos 0; y = pos 0; xx = xx; xy = xy; yy = yy }) (pos 0) right above (pos 0)) → t ≡ spread_of points i j
-grown_total points i j xx xy yy right above t exx exy eyy er ea small et =
-    et ∙ ap (int_wrap w64) (from_none xx xy yy right above ∙ rw (exx, exy, eyy, er, ea) (spread_of_is points i j))
-    ∙ int_wrap_fits w64 (spread_of points i j) (fits_signed_from_abs w64 (spread_of points i j) (omega arith))
+    → right ≡ rightward_of points i j → above ≡ above_of points i j → spread_by xx xy yy right above ≡ spread_of points i j
+grown_spread points i j xx xy yy right above exx exy eyy er ea = rw (exx, exy, eyy, er, ea) (spread_of_is points i j)
+
+-- a small number is what is left of it in 64 bits
+pub wrapped_back : (s t : ℤ) → unsigned_abs s < 2 ^ 48 → t ≡ int_wrap w64 s → t ≡ s
+wrapped_back s t small et = et ∙ int_wrap_fits w64 s (fits_signed_from_abs w64 s (omega arith))

@@ -231,10 +231,15 @@ points_of_table points (p ∷ rows) t =
     (λ m h. ap (λ n. slice_index_or points n origin) (let e : m ≡ 0 + m = omega arith in sym (mod-eq_of_lt h) ∙ ap (λ n. n % length points) e))
 
 -- the place of a point between its rows
-pub place_is : (points : List Point) (rows : List Prefix) → IsTable points rows → (k m : ℕ) (a b : Prefix) → m ≡ k % length points
-    → a ≡ get_or rows m a → b ≡ get_or rows (m + 1) b → point_between a b ≡ point_at points k
-place_is points rows t k m a b em ea eb =
-    let within : m < length points = rw em (mod-lt k t.some) in
-    let is_a = row_is points rows t m a (omega arith) ea in
-    let is_b = row_is points rows t (m + 1) b (omega arith) eb in
-    rw (is_a, is_b, add-one) (between_rows (point_at points) t.on_page m) ∙ ap (λ n. slice_index_or points n origin) (mod-eq_of_lt within ∙ em)
+pub place_is : (points : List Point) (rows : List Prefix) → IsTable points rows → (k : ℕ) (a b : Prefix) → k < length points
+    → a ≡ get_or rows k a → b ≡ get_or rows (k + 1) b → point_between a b ≡ point_at points k
+place_is points rows t k a b within ea eb =
+    let is_a = row_is points rows t k a (omega arith) ea in
+    let is_b = row_is points rows t (k + 1) b (omega arith) eb in
+    rw (is_a, is_b, add-one) (between_rows (point_at points) t.on_page k)
+
+-- a point's number in the first lap stands for the same point
+pub same_place : (points : List Point) (k m : ℕ) → 0 < length points → m ≡ k % length points → point_at points m ≡ point_at points k
+same_place points k m some em =
+    let within : m < length points = rw em (mod-lt k some) in
+    ap (λ n. slice_index_or points n origin) (mod-eq_of_lt within ∙ em)

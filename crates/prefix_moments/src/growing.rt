@@ -1,14 +1,15 @@
 //! A segment that is made longer point by point.
-ghost use Rattle.std.specs.Prelude.{◌≡◌, ℕ, ◌+◌, ◌-◌, ◌*◌, ◌/◌, ◌<◌, ◌≤◌, ◌^◌, ◌+ℤ◌, ◌*ℤ◌, unsigned_abs, length, IfSome, IfNone};
+ghost use Rattle.std.specs.Prelude.{◌≡◌, ℕ, ◌+◌, ◌-◌, ◌*◌, ◌/◌, ◌<◌, ◌≤◌, ◌^◌, ◌+ℤ◌, ◌-ℤ◌, ◌*ℤ◌, ◌≤ℤ◌, pos, true, false, unsigned_abs, length, IfSome, IfNone};
+ghost use Rattle.std.specs.Int.{int_wrap, w64};
 ghost use Rattle.pt_core.specs.ClosedWalk.{point_at};
 ghost use Rattle.pt_core.specs.OnPage.{AreOnPage, IsOnPage};
 ghost use Rattle.pt_core.specs.declared.limits.TheConstants.{LONGEST_SIDE, MOST_STEPS};
+ghost use Rattle.prefix_moments.specs.Inner.Table.{spread_by};
 ghost use Rattle.prefix_moments.specs.Sums.{above_of, rightward_of, spread_of, sums_of, IsPenalty};
 
-use crate::moments::{Moments, between};
-use crate::raw::{RawSums, wrapped_spread};
-use crate::start::root_below;
-use pt_core::Point;
+use crate::moments::Moments;
+use crate::start::{is_reached, mean_root};
+use pt_core::{LONGEST_SIDE, MOST_STEPS, Point};
 
 /// A segment from one point of a path, for whoever asks for it with each longer one in a row: a point more is three
 /// products, where the sums over any segment are looked up in two rows and taken to its first point by ten.
@@ -21,8 +22,8 @@ pub struct Growing<'a> {
     pub to: u32,
     first: Point,
     /// How far the last point lies to the right of the first one, and above it.
-    right: i64,
-    above: i64,
+    right: i32,
+    above: i32,
     /// The sums of the squares of such offsets, of all of its points, and of their products.
     xx: i64,
     xy: i64,
@@ -61,8 +62,8 @@ impl<'a> Growing<'a> {
             from,
             to,
             first,
-            right: between(first.x, last.x),
-            above: between(first.y, last.y),
+            right: offset(first.x, last.x),
+            above: offset(first.y, last.y),
             xx: sums.xx,
             xy: sums.xy,
             yy: sums.yy,
@@ -79,9 +80,36 @@ impl<'a> Growing<'a> {
         ensures from { result.from ≡ self.entry.from }
         ensures to { result.to ≡ self.entry.to + 1 }
     {
-        let last = self.moments.place(self.to + 1);
-        let right = between(self.first.x, last.x);
-        let above = between(self.first.y, last.y);
+        self.with(self.moments.place(self.to + 1))
+    }
+
+    /// The same, where the first lap has that point: its place is looked up without a test.
+    #[inline(always)]
+    pub fn longer_in_lap(self) -> Growing<'a>
+        requires number { self.to + 1 < 2 ^ 32 }
+        requires steps { self.to - self.from < MOST_STEPS }
+        requires lap { self.to + 1 < length self.moments.now }
+        ensures moments { result.moments.now ≡ self.entry.moments.now }
+        ensures from { result.from ≡ self.entry.from }
+        ensures to { result.to ≡ self.entry.to + 1 }
+    {
+        self.with(self.moments.place_in_lap(self.to as usize + 1))
+    }
+
+    /// The same, by the place of that point.
+    #[inline(always)]
+    fn with(self, last: Point) -> Growing<'a>
+        requires number { self.to + 1 < 2 ^ 32 }
+        requires steps { self.to - self.from < MOST_STEPS }
+        requires lap { self.to - self.from < length self.moments.now }
+        requires last { last ≡ point_at self.moments.now (self.to + 1) }
+        requires on_page { IsOnPage last }
+        ensures moments { result.moments.now ≡ self.entry.moments.now }
+        ensures from { result.from ≡ self.entry.from }
+        ensures to { result.to ≡ self.entry.to + 1 }
+    {
+        let right = offset(self.first.x, last.x);
+        let above = offset(self.first.y, last.y);
         Growing {
             moments: self.moments,
             from: self.from,
@@ -89,10 +117,33 @@ impl<'a> Growing<'a> {
             first: self.first,
             right,
             above,
-            xx: with_product(self.xx, right, right),
-            xy: with_product(self.xy, right, above),
-            yy: with_product(self.yy, above, above),
+            xx: sum_with(self.xx, square(right)),
+            xy: sum_with(self.xy, product(right, above)),
+            yy: sum_with(self.yy, square(above)),
         }
+    }
+
+    /// Whether its penalty is as large as a limit, where the squared cross products together are as small as those of
+    /// a possible segment. No root is taken.
+    #[inline(always)]
+    pub fn reaches(&self, limit: u64) -> bool
+        requires small { unsigned_abs (spread_of self.now.moments.now self.now.from self.now.to) < 2 ^ 48 }
+        requires limit { limit ≤ 2 ^ 24 }
+        ensures reached { result ≡ true → (penalty : ℕ)
+            → IsPenalty self.now.moments.now self.now.from self.now.to penalty → limit ≤ penalty }
+        ensures below { result ≡ false → (penalty : ℕ)
+            → IsPenalty self.now.moments.now self.now.from self.now.to penalty → penalty < limit }
+    {
+        is_reached(self.total(), self.count(), limit)
+    }
+
+    /// Its penalty, where these are as small.
+    #[inline(always)]
+    pub fn penalty(&self) -> u64
+        requires small { unsigned_abs (spread_of self.now.moments.now self.now.from self.now.to) < 2 ^ 48 }
+        ensures { IsPenalty self.now.moments.now self.now.from self.now.to result }
+    {
+        mean_root(self.total(), self.count())
     }
 
     /// Its penalty, where it is below a limit and the squared cross products together are as small as those of a
@@ -106,7 +157,19 @@ impl<'a> Growing<'a> {
         ensures none { IfNone result ((penalty : ℕ)
             → IsPenalty self.now.moments.now self.now.from self.now.to penalty → limit ≤ penalty) }
     {
-        root_below(self.total(), u64::from(self.to - self.from + 1), limit)
+        if self.reaches(limit) {
+            return None;
+        }
+        Some(self.penalty())
+    }
+
+    /// The number of its points.
+    #[inline(always)]
+    fn count(&self) -> u64
+        ensures value { result ≡ self.now.to - self.now.from + 1 }
+        ensures few { result ≤ MOST_STEPS + 1 }
+    {
+        u64::from(self.to - self.from + 1)
     }
 
     /// The sum of the squared cross products of its points.
@@ -116,24 +179,66 @@ impl<'a> Growing<'a> {
         ensures value { result ≡ unsigned_abs (spread_of self.now.moments.now self.now.from self.now.to) }
         ensures most { result < 2 ^ 48 }
     {
-        let sums = RawSums {
-            x: 0,
-            y: 0,
-            xx: self.xx,
-            xy: self.xy,
-            yy: self.yy,
-        };
-        wrapped_spread(sums, 0, self.right, self.above, 0) as u64
+        wrapped_spread(self.xx, self.xy, self.yy, self.right, self.above) as u64
     }
+}
+
+/// How far one coordinate lies from another.
+#[inline(always)]
+fn offset(from: i32, to: i32) -> i32
+    requires from_low { pos 0 ≤ℤ from }
+    requires from_high { from ≤ℤ pos LONGEST_SIDE }
+    requires to_low { pos 0 ≤ℤ to }
+    requires to_high { to ≤ℤ pos LONGEST_SIDE }
+    ensures value { result ≡ to -ℤ from }
+    ensures most { unsigned_abs result ≤ LONGEST_SIDE }
+{
+    to - from
+}
+
+/// The product of two offsets. It fits in 32 bits.
+#[inline(always)]
+fn product(a: i32, b: i32) -> i64
+    requires a { unsigned_abs a ≤ LONGEST_SIDE }
+    requires b { unsigned_abs b ≤ LONGEST_SIDE }
+    ensures value { result ≡ a *ℤ b }
+    ensures most { unsigned_abs result ≤ LONGEST_SIDE * LONGEST_SIDE }
+{
+    i64::from(a * b)
+}
+
+/// An offset's square.
+//
+// It is never negative, and a number without a sign is made longer at no cost.
+#[inline(always)]
+fn square(a: i32) -> i64
+    requires { unsigned_abs a ≤ LONGEST_SIDE }
+    ensures value { result ≡ a *ℤ a }
+    ensures most { unsigned_abs result ≤ LONGEST_SIDE * LONGEST_SIDE }
+{
+    i64::from((a * a) as u32)
 }
 
 /// A sum of products of offsets and one more of them.
 #[inline(always)]
-fn with_product(sum: i64, a: i64, b: i64) -> i64
+fn sum_with(sum: i64, product: i64) -> i64
     requires sum { unsigned_abs sum < 2 ^ 62 }
-    requires a { unsigned_abs a ≤ LONGEST_SIDE }
-    requires b { unsigned_abs b ≤ LONGEST_SIDE }
-    ensures { result ≡ sum +ℤ a *ℤ b }
+    requires product { unsigned_abs product ≤ LONGEST_SIDE * LONGEST_SIDE }
+    ensures { result ≡ sum +ℤ product }
 {
-    sum + a * b
+    sum + product
+}
+
+/// The sum of the squared cross products of some offsets with the last of them, as much of it as fits in 64 bits.
+#[inline(always)]
+fn wrapped_spread(xx: i64, xy: i64, yy: i64, right: i32, above: i32) -> i64
+    requires right { unsigned_abs right ≤ LONGEST_SIDE }
+    requires above { unsigned_abs above ≤ LONGEST_SIDE }
+    ensures { result ≡ int_wrap w64 (spread_by xx xy yy right above) }
+{
+    let mixed = product(right, above).wrapping_mul(xy);
+    let squares = square(above).wrapping_mul(xx);
+    squares
+        .wrapping_sub(2i64.wrapping_mul(mixed))
+        .wrapping_add(square(right).wrapping_mul(yy))
 }

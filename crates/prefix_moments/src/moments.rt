@@ -63,8 +63,17 @@ impl Moments {
         ensures value { result ≡ point_at self.now k }
         ensures on_page { IsOnPage result }
     {
-        let at = in_lap(k as usize, self.rows.len() - 1);
-        self.rows[at].point_before(self.rows[at + 1])
+        self.place_in_lap(in_lap(k as usize, self.rows.len() - 1))
+    }
+
+    /// The same of a point in the first lap.
+    #[inline(always)]
+    pub(crate) fn place_in_lap(&self, k: usize) -> Point
+        requires { k < length self.now }
+        ensures value { result ≡ point_at self.now k }
+        ensures on_page { IsOnPage result }
+    {
+        self.rows[k].point_before(self.rows[k + 1])
     }
 
     /// The coordinates' own sums over the points from number `i` to number `j`.

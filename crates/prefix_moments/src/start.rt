@@ -137,7 +137,19 @@ pub(crate) fn root_below(total: u64, count: u64, limit: u64) -> Option<u64>
     if is_reached(total, count, limit) {
         return None;
     }
-    Some(isqrt(u128::from(65536 * total / count)))
+    Some(mean_root(total, count))
+}
+
+/// The root of 65536 times the mean of `count` numbers.
+//
+// It isn't inlined: where few roots are taken, a loop keeps its registers.
+#[inline(never)]
+pub(crate) fn mean_root(total: u64, count: u64) -> u64
+    requires total { total < 2 ^ 48 }
+    requires some { 0 < count }
+    ensures { IsRoot (65536 * total / count) result }
+{
+    isqrt(u128::from(65536 * total / count))
 }
 
 /// Whether that root reaches a limit: by squares, without a division.

@@ -1,6 +1,5 @@
-use Rattle.std.proofs.Common.{◌*◌, sym, ◌∙◌, subst}
+use Rattle.std.proofs.Common.{◌*◌, sym, ◌∙◌}
 use Rattle.std.proofs.lemmas.Bool.{false≢true}
-use Rattle.pt_core.specs.Root.{IsRoot}
 use Rattle.prefix_moments.proofs.Totals.{limit_missed, limit_reached}
 use Rattle.prefix_moments.proofs.start.root_below.Goals as goal
 
@@ -10,6 +9,5 @@ returns-then-is_reached-clause-none c = λ root is.
 
 pub returns-clause-below : goal.returns-clause-below
 returns-clause-below c =
-    limit_missed (65536 * c.args.total) c.args.count c.args.limit c.isqrt.result c.requires.some
-    (λ reached. false≢true (sym c.if-is_reached.false ∙ c.is_reached.ensures.1 reached))
-    (subst (λ n. IsRoot n c.isqrt.result) c.from.ensures c.isqrt.ensures.root)
+    limit_missed (65536 * c.args.total) c.args.count c.args.limit c.mean_root.result c.requires.some
+    (λ reached. false≢true (sym c.if-is_reached.false ∙ c.is_reached.ensures.1 reached)) c.mean_root.ensures
