@@ -1,6 +1,6 @@
 -- The fewest segments to the end, where the longest segments rise.
-use Rattle.std.proofs.Common.{◌≡◌, ℕ, zero, suc, ◌+◌, ◌-◌, ◌<◌, ◌≤◌, List, [], length, refl, sym, ◌∙◌, subst, ap, set, get_or-set_same, inl, inr, arith}
-use Rattle.std.proofs.lemmas.List.{get_or-replicate, get_or-set_other, length-replicate, length-set}
+use Rattle.std.proofs.Common.{◌≡◌, ℕ, zero, suc, ◌+◌, ◌-◌, ◌<◌, ◌≤◌, List, [], length, refl, sym, ◌∙◌, subst, ap, set, get_or, get_or-set_same, inl, inr, arith}
+use Rattle.std.proofs.lemmas.List.{get_or_default, get_or-replicate, get_or-set_other, length-replicate, length-set}
 use Rattle.std.proofs.lemmas.Bool.{cases_eq, cases_lt}
 use Rattle.std.specs.Prelude.{slice_index}
 use Rattle.least_walk.specs.Inner.Suffix.{HasFewest, IsFewestFrom}
@@ -108,29 +108,43 @@ module _ (size : ℕ) (lasts : List ℕ) (leads : (i : ℕ) → i < size → Lea
   counts_falling = let e : size - size ≡ 0 = omega arith in
       subst (λ n. AreFalling size n (counts_of size lasts)) e (counts_after_are size (omega arith)).1
 
-  -- what is known of all points
-  module _ (counts : List ℕ) (fewest : HasFewest size (IsUpToLast lasts) 0 counts) (falling : AreFalling size 0 counts) where
-    from_here : (i : ℕ) → HasFewest size (IsUpToLast lasts) i counts
-    from_here i k above within = fewest k (omega arith) within
+-- what is known of how far the segments of a path reach, and of the fewest segments from each point to the end
+pub record AreCounted (size : ℕ) (lasts counts : List ℕ) : Type 0 where
+  pub leads : (i : ℕ) → i < size → LeadsOn size i (slice_index lasts i)
+  pub rising : AreRising size lasts
+  pub fewest : HasFewest size (IsUpToLast lasts) 0 counts
+  pub falling : AreFalling size 0 counts
 
-    pub next_most : (i : ℕ) → i < size → slice_index counts i ≤ slice_index counts (i + 1) + 1
-    next_most i below =
-        let on = leads i below in
-        count_bound size (IsUpToLast lasts) counts i below (from_here i) (i + 1) (omega arith) (omega arith) (omega arith, omega (arith, on.beyond))
+pub counted : (size : ℕ) (lasts : List ℕ) → ((i : ℕ) → i < size → LeadsOn size i (slice_index lasts i)) → AreRising size lasts
+    → AreCounted size lasts (counts_of size lasts)
+counted size lasts leads rising = record {
+  leads = leads;
+  rising = rising;
+  fewest = counts_fewest size lasts leads rising;
+  falling = counts_falling size lasts leads rising;
+}
 
-    -- the longest segment leaves one fewer
-    pub last_keeps : (i : ℕ) → i < size → slice_index counts (slice_index lasts i) + 1 ≡ slice_index counts i
-    last_keeps i below =
-        let on = leads i below in
-        let bound = count_bound size (IsUpToLast lasts) counts i below (from_here i) (slice_index lasts i) on.beyond on.within (on.beyond, omega arith) in
-        let (j, onwards, within, allowed, keeps) = some_fewest size (IsUpToLast lasts) counts i below (from_here i) in
-        omega (arith, falling j (slice_index lasts i) (omega arith) allowed.1 on.within)
+-- where the longest segment from a point leads, which was looked up
+pub last_of : (lasts : List ℕ) (from last : ℕ) → from < length lasts → last ≡ get_or lasts from last → last ≡ slice_index lasts from
+last_of lasts from last there is = is ∙ get_or_default lasts from last 0 there
 
-    pub some_left : (i : ℕ) → i < size → 0 < slice_index counts i
-    some_left i below = omega (arith, last_keeps i below)
+module _ (size : ℕ) (lasts counts : List ℕ) (known : AreCounted size lasts counts) where
+  from_here : (i : ℕ) → HasFewest size (IsUpToLast lasts) i counts
+  from_here i k above within = known.fewest k (omega arith) within
 
-    pub none_left : slice_index counts size ≡ 0
-    none_left = omega (arith, fewest_below size (IsUpToLast lasts) size (slice_index counts size) (fewest size (omega arith) (omega arith)))
+  -- the longest segment leaves one fewer
+  pub last_keeps : (i : ℕ) → i < size → slice_index counts (slice_index lasts i) + 1 ≡ slice_index counts i
+  last_keeps i below =
+      let on = known.leads i below in
+      let bound = count_bound size (IsUpToLast lasts) counts i below (from_here i) (slice_index lasts i) on.beyond on.within (on.beyond, omega arith) in
+      let (j, onwards, within, allowed, keeps) = some_fewest size (IsUpToLast lasts) counts i below (from_here i) in
+      omega (arith, known.falling j (slice_index lasts i) (omega arith) allowed.1 on.within)
 
-    pub before_end : (i : ℕ) → i ≤ size → 0 < slice_index counts i → i < size
-    before_end i within some = omega (arith, fewest_below size (IsUpToLast lasts) i (slice_index counts i) (fewest i (omega arith) within))
+  pub some_left : (i : ℕ) → i < size → 0 < slice_index counts i
+  some_left i below = omega (arith, last_keeps i below)
+
+  pub none_left : slice_index counts size ≡ 0
+  none_left = omega (arith, fewest_below size (IsUpToLast lasts) size (slice_index counts size) (known.fewest size (omega arith) (omega arith)))
+
+  pub before_end : (i : ℕ) → i ≤ size → 0 < slice_index counts i → i < size
+  before_end i within some = omega (arith, fewest_below size (IsUpToLast lasts) i (slice_index counts i) (known.fewest i (omega arith) within))

@@ -4,10 +4,8 @@ use Rattle.std.proofs.lemmas.Bool.{cases_lt}
 use Rattle.std.proofs.Math.ListN.{get_or-append}
 use Rattle.std.proofs.Math.Seq.{get_or-append_seam}
 use Rattle.std.specs.Prelude.{slice_index}
-use Rattle.least_walk.specs.Inner.Suffix.{HasFewest}
-use Rattle.polygon_optimal.specs.Inner.Lasts.{AreRising, IsUpToLast, LeadsOn}
-use Rattle.polygon_optimal.specs.Inner.Search.{AreFalling, AreFarthest}
-use Rattle.polygon_optimal.proofs.Counting.{before_end, last_keeps, none_left, some_left}
+use Rattle.polygon_optimal.specs.Inner.Search.{AreFarthest}
+use Rattle.polygon_optimal.proofs.Counting.{AreCounted, before_end, last_keeps, none_left, some_left}
 
 -- an index of a list, and the one that is appended
 early : (xs : List ℕ) (x c : ℕ) → c < length xs → slice_index (xs ++ x ∷ []) c ≡ slice_index xs c
@@ -33,9 +31,7 @@ written_none size lasts counts written none =
           );
     })
 
-module _ (size : ℕ) (lasts : List ℕ) (leads : (i : ℕ) → i < size → LeadsOn size i (slice_index lasts i))
-    (rising : AreRising size lasts) (counts : List ℕ) (fewest : HasFewest size (IsUpToLast lasts) 0 counts)
-    (falling : AreFalling size 0 counts) (c : ℕ) (written : List ℕ) (at : ℕ) (are : AreWritten size lasts counts c written at) where
+module _ (size : ℕ) (lasts counts : List ℕ) (known : AreCounted size lasts counts) (c : ℕ) (written : List ℕ) (at : ℕ) (are : AreWritten size lasts counts c written at) where
   abbrev now : List ℕ
   now = written ++ at ∷ []
 
@@ -53,19 +49,19 @@ module _ (size : ℕ) (lasts : List ℕ) (leads : (i : ℕ) → i < size → Lea
 
   -- before the end segments are left
   pub more_left : at < size → c < slice_index counts 0
-  more_left below = omega (arith, at_left, some_left size lasts leads rising counts fewest falling at below)
+  more_left below = omega (arith, at_left, some_left size lasts counts known at below)
 
   -- at the end none is
   pub all_left : size ≤ at → c ≡ slice_index counts 0
   all_left end =
       let last : at ≡ size = omega (arith, at_within) in
-      let none : slice_index counts at ≡ 0 = subst (λ n. slice_index counts n ≡ 0) (sym last) (none_left size lasts leads rising counts fewest falling) in
+      let none : slice_index counts at ≡ 0 = subst (λ n. slice_index counts n ≡ 0) (sym last) (none_left size lasts counts known) in
       omega (arith, at_left)
 
   module _ (more : c < slice_index counts 0) where
     -- the longest segment leads on from the next one
     pub at_below : at < size
-    at_below = before_end size lasts leads rising counts fewest falling at at_within (omega (arith, at_left))
+    at_below = before_end size lasts counts known at at_within (omega (arith, at_left))
 
     abbrev new : List ℕ
     new = now ++ slice_index lasts at ∷ []
@@ -92,7 +88,7 @@ module _ (size : ℕ) (lasts : List ℕ) (leads : (i : ℕ) → i < size → Lea
             | inl earlier ↦ omega (arith, before d (omega arith), are.within d (omega arith))
             | inr last ↦
                 let is : d ≡ c + 1 = omega arith in
-                omega (arith, ap (slice_index new) is, there, (leads at at_below).within)
+                omega (arith, ap (slice_index new) is, there, (known.leads at at_below).within)
           ];
           left = λ d few. elim (cases_lt d (c + 1)) [
             | inl earlier ↦ ap (λ n. slice_index counts n + d) (before d (omega arith)) ∙ are.left d (omega arith)
@@ -100,6 +96,6 @@ module _ (size : ℕ) (lasts : List ℕ) (leads : (i : ℕ) → i < size → Lea
                 let is : d ≡ c + 1 = omega arith in
                 let P : ℕ → Type 0 = λ n. slice_index counts (slice_index new n) + n ≡ slice_index counts 0 in
                 subst P (sym is)
-                (omega (arith, ap (slice_index counts) there, last_keeps size lasts leads rising counts fewest falling at at_below, at_left))
+                (omega (arith, ap (slice_index counts) there, last_keeps size lasts counts known at at_below, at_left))
           ];
         })

@@ -10,5 +10,6 @@ pub mod Rising
 pub mod Scanning
 pub mod Slots
 pub mod Small
+pub mod Stepping
 pub mod Vertices
 mod Examples

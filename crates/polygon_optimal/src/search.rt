@@ -333,6 +333,8 @@ fn cheaper_in_few(
 }
 
 /// The same, by one segment that grows from point to point.
+//
+// Only the walk's end is a point of its second lap. So what is said of laps isn't asked at each point.
 #[inline(never)]
 fn cheaper_in_many(
     segments: &Segments,
@@ -353,9 +355,14 @@ fn cheaper_in_many(
 {
     let mut segment = Growing::between(segments.moments, start.from, begin);
     let mut cheapest = cheaper_by(segments, &segment, costs[slot(begin as usize)], best);
-    for to in begin + 1..end {
-        segment = segment.longer();
+    for to in begin + 1..end.min(segments.lasts.len() as u32) {
+        segment = segment.longer_in_lap();
         cheapest = cheaper_by(segments, &segment, costs[slot(to as usize)], cheapest);
+    }
+    if segment.to + 1 < end {
+        segment = segment.longer();
+        let rest = costs[slot(segment.to as usize)];
+        cheapest = cheaper_by(segments, &segment, rest, cheapest);
     }
     cheapest
 }
@@ -375,12 +382,12 @@ fn cheaper_by(segments: &Segments, segment: &Growing, rest: u64, best: Onward) -
         return best;
     }
     let limit = (best.cost - rest).min(1 << 24);
-    match segment.penalty_below(limit) {
-        Some(penalty) => Onward {
-            cost: penalty + rest,
-            next: segment.to,
-        },
-        None => best,
+    if segment.reaches(limit) {
+        return best;
+    }
+    Onward {
+        cost: segment.penalty() + rest,
+        next: segment.to,
     }
 }
 

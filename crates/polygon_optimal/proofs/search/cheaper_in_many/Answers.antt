@@ -1,5 +1,6 @@
-use Rattle.std.proofs.Common.{◌≡◌, ℕ, ◌+◌, ◌<◌, ◌≤◌, List, ap, ◌∙◌, subst, arith}
+use Rattle.std.proofs.Common.{◌≡◌, ℕ, ◌+◌, ◌<◌, ◌≤◌, List, length, ap, ◌∙◌, subst, arith}
 use Rattle.std.specs.Prelude.{slice_index}
+use Rattle.pt_core.specs.declared.point.Point.{Point}
 use Rattle.polygon_optimal.specs.Polygon.{penalty_of}
 use Rattle.polygon_optimal.specs.Inner.Search.{IsCheaperIn, slot_of}
 use Rattle.polygon_optimal.specs.declared.search.Onward.{Onward}
@@ -28,6 +29,7 @@ loop-to-init c =
       moments = is.moments;
       from = is.from;
       to = ap (λ n. n + 1) is.to;
+      within = omega (arith, c.requires.some);
       tried = tried_by (penalty_of s.moments.now) costs from begin begin c.between-segment.result.from c.between-segment.result.to c.slot.result
           c.args.best c.args.best c.cheaper_by-cheapest.result (omega arith) is.from is.to c.slot.ensures
           c.cheaper_by-cheapest.ensures.cheaper c.cheaper_by-cheapest.ensures.same
@@ -40,24 +42,35 @@ loop-to-preserved c =
     let from : ℕ = c.args.start.now.from in
     let to : ℕ = c.loop-to.to in
     let so_far = c.loop-to.invariant in
-    let is = c.longer-segment.ensures in
-    let here : c.longer-segment.result.to ≡ to = is.to ∙ so_far.to in
+    let is = c.longer_in_lap-segment.ensures in
+    let here : c.longer_in_lap-segment.result.to ≡ to = is.to ∙ so_far.to in
     record {
       moments = is.moments ∙ so_far.moments;
       from = is.from ∙ so_far.from;
       to = ap (λ n. n + 1) here;
-      tried = tried_by (penalty_of s.moments.now) c.args.costs.now from c.args.begin to c.longer-segment.result.from c.longer-segment.result.to
+      within = omega (arith, c.loop-to-test.true, c.min-to-end.ensures);
+      tried = tried_by (penalty_of s.moments.now) c.args.costs.now from c.args.begin to c.longer_in_lap-segment.result.from c.longer_in_lap-segment.result.to
           c.slot-in-loop-to.result c.args.best c.loop-to.cheapest c.cheaper_by-cheapest-in-loop-to.result (omega arith)
           (is.from ∙ so_far.from) here c.slot-in-loop-to.ensures
           c.cheaper_by-cheapest-in-loop-to.ensures.cheaper c.cheaper_by-cheapest-in-loop-to.ensures.same so_far.tried;
     }
 
-pub returns : goal.returns
-returns c =
+-- the last one is the walk's end
+pub returns-then-segment-end : goal.returns-then-segment-end
+returns-then-segment-end c =
     let s = c.args.segments.now in
     let from : ℕ = c.args.start.now.from in
+    let to : ℕ = c.loop-to.to in
     let costs = c.args.costs.now in
-    let whole : c.loop-to.to ≡ c.args.end =
-    omega (arith, c.loop-to.auto.to-end (omega (arith, c.requires.some)), c.loop-to-test.false) in
-    subst (λ n. IsCheaperIn (λ k. penalty_of s.moments.now from k + slice_index costs (slot_of k)) c.args.begin n c.args.best c.loop-to.cheapest)
-    whole c.loop-to.invariant.tried
+    let so_far = c.loop-to.invariant in
+    let is = c.longer-segment.ensures in
+    let here : c.longer-segment.result.to ≡ to = is.to ∙ so_far.to in
+    let Q : List Point → Type 0 = λ points. from < length points in
+    let on = s.onwards from (subst Q c.requires.start c.args.start.now.point) in
+    let end : to + 1 ≡ c.args.end =
+    omega (arith, so_far.to, so_far.within, c.if-segment-end.true, c.loop-to-test.false, c.min-to-end.ensures, c.len.ensures, s.places, c.requires.ends, on.within) in
+    subst (λ n. IsCheaperIn (λ k. penalty_of s.moments.now from k + slice_index costs (slot_of k)) c.args.begin n c.args.best c.cheaper_by-cheapest-then-segment-end.result) end
+    (tried_by (penalty_of s.moments.now) costs from c.args.begin to c.longer-segment.result.from c.longer-segment.result.to
+    c.slot-then-segment-end.result c.args.best c.loop-to.cheapest c.cheaper_by-cheapest-then-segment-end.result (omega arith)
+    (is.from ∙ so_far.from) here (c.slot-then-segment-end.ensures ∙ ap (λ n. slot_of n) here)
+    c.cheaper_by-cheapest-then-segment-end.ensures.cheaper c.cheaper_by-cheapest-then-segment-end.ensures.same so_far.tried)

@@ -1,4 +1,4 @@
-use Rattle.std.proofs.Common.{◌≡◌, ◌+◌}
+use Rattle.std.proofs.Common.{◌≡◌, ◌+◌, ◌≤◌}
 use Rattle.std.specs.Prelude.{slice_index}
 use Rattle.polygon_optimal.specs.Polygon.{penalty_of}
 use Rattle.polygon_optimal.specs.Inner.Search.{IsCheaperIn, slot_of}
@@ -9,5 +9,6 @@ invariant-loop-to l = record {
   moments : l.segment.moments.now ≡ l.segments.moments.now;
   from : l.segment.from ≡ l.start.from;
   to : l.segment.to + 1 ≡ l.to;
+  within : l.to ≤ l.end;
   tried : IsCheaperIn (λ k. penalty_of l.segments.moments.now l.start.from k + slice_index l.costs (slot_of k)) l.begin l.to l.fn.best l.cheapest;
 }

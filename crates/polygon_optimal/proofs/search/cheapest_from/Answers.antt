@@ -1,17 +1,13 @@
-use Rattle.std.proofs.Common.{◌≡◌, ℕ, ◌+◌, ◌<◌, ◌≤◌, List, length, get_or, sym, ap, ◌∙◌, subst, arith}
-use Rattle.std.proofs.lemmas.List.{get_or_default}
+use Rattle.std.proofs.Common.{◌≡◌, ℕ, ◌+◌, ◌<◌, ◌≤◌, List, length, get_or, sym, ap, subst, arith}
 use Rattle.std.specs.Prelude.{◌^◌, slice_index, unsigned_abs}
 use Rattle.pt_core.specs.declared.point.Point.{Point}
 use Rattle.prefix_moments.specs.Sums.{IsPenalty, spread_of}
 use Rattle.polygon_optimal.specs.Inner.OnePenalty.{penalty_is_one}
 use Rattle.polygon_optimal.specs.Polygon.{penalty_of}
 use Rattle.polygon_optimal.specs.Inner.Search.{HasCheapest, slot_of}
+use Rattle.polygon_optimal.proofs.Counting.{last_of}
 use Rattle.polygon_optimal.proofs.Scanning.{cheapest_of_all}
 use Rattle.polygon_optimal.proofs.search.cheapest_from.Goals as goal
-
--- how far a segment from there may lead
-last_of : (lasts : List ℕ) (from last : ℕ) → from < length lasts → last ≡ get_or lasts from last → last ≡ slice_index lasts from
-last_of lasts from last there is = is ∙ get_or_default lasts from last 0 there
 
 -- what the segment costs
 penalty_from : (points ps : List Point) (from i to penalty : ℕ) → ps ≡ points → i ≡ from → IsPenalty ps i to penalty → penalty ≡ penalty_of points from to

@@ -1,4 +1,4 @@
-use Rattle.std.proofs.Common.{◌≡◌, length, ap, sym, ◌∙◌, subst, arith}
+use Rattle.std.proofs.Common.{◌≡◌, ℕ, List, length, ap, sym, ◌∙◌, subst, arith}
 use Rattle.std.proofs.lemmas.List.{length-set}
 use Rattle.least_walk.specs.Inner.MarkedPlaces.{IsPlace}
 use Rattle.least_walk.specs.Inner.Suffix.{HasNexts, IsLeastCost}
@@ -6,7 +6,7 @@ use Rattle.least_walk.proofs.Places.{place_at_start}
 use Rattle.polygon_optimal.specs.Inner.Lasts.{IsUpToLast}
 use Rattle.polygon_optimal.specs.Polygon.{penalty_of}
 use Rattle.polygon_optimal.specs.Inner.Search.{AreKept, BeginsWindow, counts_of, slot_of}
-use Rattle.polygon_optimal.proofs.Counting.{counts_falling, counts_fewest}
+use Rattle.polygon_optimal.proofs.Counting.{counted}
 use Rattle.polygon_optimal.proofs.Opening.{begins_at_end, begins_at_start}
 use Rattle.polygon_optimal.proofs.Slots.{kept_at_end}
 use Rattle.polygon_optimal.proofs.search.fill_costs.Goals as goal
@@ -18,31 +18,31 @@ loop-window-init c =
     let size = length s.moments.now in
     let lasts = s.lasts.items in
     let counts = counts_of size lasts in
-    let fewest = counts_fewest size lasts s.onwards s.rising in
-    let falling = counts_falling size lasts s.onwards s.rising in
+    let known = counted size lasts s.onwards s.rising in
     let end : c.len-size.result ≡ size = omega (arith, s.places) in
     record {
       slots = λ k most. omega (arith, c.requires.slots k most, length-set c.args.costs.now c.slot.result 0);
-      begin = begins_at_end size lasts s.onwards s.rising counts fewest falling c.args.farthest.now c.requires.windows _ _ (omega (arith, c.requires.windows.count)) end;
+      begin = begins_at_end size lasts counts known _ _ (omega (arith, c.requires.windows.count)) end;
       costs = kept_at_end size (IsUpToLast lasts) (penalty_of s.moments.now) c.args.costs.now c.len-size.result c.slot.result end
           (c.slot.ensures ∙ ap (λ n. slot_of n) end) (omega (arith, c.slot.ensures, c.requires.slots c.len-size.result (omega arith)));
       nexts = λ k above below place. absurd (omega arith);
     }
 
+begun : (size : ℕ) (counts : List ℕ) (window begin : ℕ) → window ≡ 0 → BeginsWindow size counts window begin → begin ≡ 0
+begun size counts window begin first opens =
+    begins_at_start size counts begin (subst (λ n. BeginsWindow size counts n begin) first opens)
+
+-- at last the first window is done, which begins at the first point
 pub returns-clause-cost : goal.returns-clause-cost
 returns-clause-cost c =
     let s = c.args.segments.now in
     let size = length s.moments.now in
     let lasts = s.lasts.items in
     let counts = counts_of size lasts in
-    let fewest = counts_fewest size lasts s.onwards s.rising in
-    let falling = counts_falling size lasts s.onwards s.rising in
-    let first : c.loop-window.window ≡ 0 = omega arith in
-    let opens = c.loop-window.invariant.begin in
-    let start : c.loop-window.begin ≡ 0 = begins_at_start size lasts s.onwards s.rising counts fewest falling c.args.farthest.now c.requires.windows c.loop-window.begin
-    (subst (λ n. BeginsWindow size counts n c.loop-window.begin) first opens) in
+    let known = counted size lasts s.onwards s.rising in
+    let start = begun size counts c.loop-window.window c.loop-window.begin (omega arith) c.loop-window.invariant.begin in
     let all = subst (λ n. AreKept size (IsUpToLast lasts) (penalty_of s.moments.now) n c.loop-window.costs) start c.loop-window.invariant.costs in
-    let place : IsPlace size (IsUpToLast lasts) 0 = (0, place_at_start size (IsUpToLast lasts) counts fewest) in
+    let place : IsPlace size (IsUpToLast lasts) 0 = (0, place_at_start size (IsUpToLast lasts) counts known.fewest) in
     subst (IsLeastCost size (IsUpToLast lasts) (penalty_of s.moments.now) 0) (sym (all.kept 0 (omega arith) (omega arith) (omega arith)))
     (all.are 0 (omega arith) (omega arith) place)
 
@@ -51,11 +51,5 @@ returns-clause-nexts c =
     let s = c.args.segments.now in
     let size = length s.moments.now in
     let lasts = s.lasts.items in
-    let counts = counts_of size lasts in
-    let fewest = counts_fewest size lasts s.onwards s.rising in
-    let falling = counts_falling size lasts s.onwards s.rising in
-    let first : c.loop-window.window ≡ 0 = omega arith in
-    let opens = c.loop-window.invariant.begin in
-    let start : c.loop-window.begin ≡ 0 = begins_at_start size lasts s.onwards s.rising counts fewest falling c.args.farthest.now c.requires.windows c.loop-window.begin
-    (subst (λ n. BeginsWindow size counts n c.loop-window.begin) first opens) in
+    let start = begun size (counts_of size lasts) c.loop-window.window c.loop-window.begin (omega arith) c.loop-window.invariant.begin in
     subst (λ n. HasNexts size (IsUpToLast lasts) (penalty_of s.moments.now) n c.loop-window.nexts) start c.loop-window.invariant.nexts
