@@ -41,6 +41,7 @@
 pub mod laws;
 pub mod memo;
 pub mod optimal;
+mod room;
 mod search;
 pub mod segments;
 

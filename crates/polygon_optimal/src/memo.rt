@@ -1,14 +1,17 @@
 //! What was found of other walks.
+use crate::room::SearchRoom;
 use prefix_moments::Roots;
 use pt_core::NoMemory;
 use std::alloc::Global;
 use straight_paths::Memo;
 
-/// What was found of the polygons of other walks: how many of the next few steps are straight, and roots.
+/// What was found of the polygons of other walks: how many of the next few steps are straight, and roots. It also keeps
+/// the lists that a search takes.
 #[derive(Drop)]
 pub struct PolygonMemo {
     pub(crate) reach: Memo,
     pub(crate) roots: Roots,
+    pub(crate) room: SearchRoom,
 }
 
 impl PolygonMemo {
@@ -16,7 +19,11 @@ impl PolygonMemo {
     pub fn new(alloc: Global) -> Result<PolygonMemo, NoMemory> {
         let reach = Memo::new(alloc)?;
         let roots = Roots::new(alloc)?;
-        Ok(PolygonMemo { reach, roots })
+        Ok(PolygonMemo {
+            reach,
+            roots,
+            room: SearchRoom::new(alloc),
+        })
     }
 
     /// It keeps roots, and nothing of the steps.
@@ -25,6 +32,7 @@ impl PolygonMemo {
         Ok(PolygonMemo {
             reach: Memo::none(alloc),
             roots,
+            room: SearchRoom::new(alloc),
         })
     }
 
@@ -33,6 +41,7 @@ impl PolygonMemo {
         PolygonMemo {
             reach: Memo::none(alloc),
             roots: Roots::none(alloc),
+            room: SearchRoom::new(alloc),
         }
     }
 }

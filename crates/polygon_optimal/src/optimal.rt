@@ -6,6 +6,7 @@ ghost use Rattle.polygon_optimal.specs.Inner.Lasts.{HasLasts};
 ghost use Rattle.polygon_optimal.specs.Polygon.{IsBestPolygon, total_penalty};
 
 use crate::memo::PolygonMemo;
+use crate::room::SearchRoom;
 use crate::search::least_by_windows;
 use crate::segments::{Segments, lasts};
 use prefix_moments::{Moments, Roots};
@@ -36,7 +37,13 @@ pub fn polygon_with_moments(
     ensures cost { IfOk result (λ both. both.0.cost ≡ total_penalty points.now both.0.at) }
     ensures moments { IfOk result (λ both. both.1 ≡ points.now) }
 {
-    measured(alloc, points, memo, &mut Roots::none(alloc))
+    measured(
+        alloc,
+        points,
+        memo,
+        &mut Roots::none(alloc),
+        &mut SearchRoom::new(alloc),
+    )
 }
 
 /// The same, also by the roots that were taken for other walks.
@@ -51,7 +58,13 @@ pub fn polygon_by(
     ensures cost { IfOk result (λ both. both.0.cost ≡ total_penalty points.now both.0.at) }
     ensures moments { IfOk result (λ both. both.1 ≡ points.now) }
 {
-    measured(alloc, points, &mut memo.reach, &mut memo.roots)
+    measured(
+        alloc,
+        points,
+        &mut memo.reach,
+        &mut memo.roots,
+        &mut memo.room,
+    )
 }
 
 /// The best polygon, where it is known already where the walk's longest segments lead.
@@ -67,7 +80,13 @@ pub fn polygon_by_lasts(
     ensures cost { IfOk result (λ polygon. polygon.cost ≡ total_penalty points.now polygon.at) }
 {
     let moments = Moments::of(alloc, points)?;
-    polygon_of(alloc, &moments, lasts, &mut Roots::none(alloc))
+    polygon_of(
+        alloc,
+        &moments,
+        lasts,
+        &mut Roots::none(alloc),
+        &mut SearchRoom::new(alloc),
+    )
 }
 
 /// The same, by what was found of how far segments reach, and by roots.
@@ -79,6 +98,7 @@ fn measured(
     points: &[Point],
     memo: &mut Memo,
     roots: &mut Roots,
+    room: &mut SearchRoom,
 ) -> Result<(Polygon, Moments), NoMemory>
     requires closed { IsClosedWalk points.now }
     requires on_page { AreOnPage points.now }
@@ -88,7 +108,7 @@ fn measured(
 {
     let lasts = lasts(alloc, points, memo)?;
     let moments = Moments::of(alloc, points)?;
-    let polygon = polygon_of(alloc, &moments, lasts, roots)?;
+    let polygon = polygon_of(alloc, &moments, lasts, roots, room)?;
     Ok((polygon, moments))
 }
 
@@ -98,6 +118,7 @@ fn polygon_of(
     moments: &Moments,
     lasts: Vec<u32>,
     roots: &mut Roots,
+    room: &mut SearchRoom,
 ) -> Result<Polygon, NoMemory>
     requires closed { IsClosedWalk moments.now }
     requires on_page { AreOnPage moments.now }
@@ -106,7 +127,8 @@ fn polygon_of(
     ensures cost { IfOk result (λ polygon. polygon.cost ≡ total_penalty moments.now polygon.at) }
 {
     let segments = Segments::of(moments, lasts);
-    let walk = least_by_windows(alloc, &segments, roots)?;
+    let walk = least_by_windows(alloc, &segments, roots, room)?;
+    room.give_back_long(alloc);
     Ok(Polygon {
         at: walk.at,
         cost: walk.cost,

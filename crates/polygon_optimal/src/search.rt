@@ -10,13 +10,14 @@
 //!                                             Each ends with the farthest, and begins where the next
 //!                                             window is reached.
 //! ```
-ghost use Rattle.std.specs.Prelude.{◌≡◌, ℕ, ◌+◌, ◌-◌, ◌^◌, ◌<◌, ◌≤◌, length, slice_index, IfOk};
+ghost use Rattle.std.specs.Prelude.{◌≡◌, ℕ, ◌+◌, ◌-◌, ◌^◌, ◌<◌, ◌≤◌, length, slice_index, IfOk, OnOk};
 ghost use Rattle.least_walk.specs.LeastWalk.{IsLeast, walk_from, step_count, total_cost};
 ghost use Rattle.least_walk.specs.Inner.Suffix.{HasNexts, IsFewestFrom, IsLeastCost};
 ghost use Rattle.polygon_optimal.specs.Inner.Lasts.{IsUpToLast};
 ghost use Rattle.polygon_optimal.specs.Polygon.{penalty_of};
 ghost use Rattle.polygon_optimal.specs.Inner.Search.{AreKept, AreWindowEnds, BeginsWindow, HasCheapest, HasSlots, IsCheaperIn, counts_of, slot_of};
 
+use crate::room::{SearchRoom, make_places};
 use crate::segments::Segments;
 use least_walk::Walk;
 use prefix_moments::{Growing, Roots, Start};
@@ -30,9 +31,6 @@ const SLOTS: usize = 1 << 16;
 /// A window of at least so many points is gone through by one segment that grows from point to point. A narrower one
 /// costs less where each of its segments is looked up by itself.
 const WIDE: u32 = 8;
-
-/// Longest segments mostly have as many steps as this.
-const FEW_STEPS: usize = 4;
 
 /// A segment to go on by.
 //
@@ -60,6 +58,7 @@ pub(crate) fn least_by_windows(
     alloc: Global,
     segments: &Segments,
     roots: &mut Roots,
+    room: &mut SearchRoom,
 ) -> Result<Walk, NoMemory>
     ensures least { IfOk result (λ walk. IsLeast (length segments.now.moments.now)
         (IsUpToLast segments.now.lasts.items) (penalty_of segments.now.moments.now)
@@ -72,12 +71,18 @@ pub(crate) fn least_by_windows(
         (walk_from walk.at (length segments.now.moments.now))) }
 {
     let places = segments.lasts.len() + 1;
-    let mut costs = vec![in alloc; 0u64; places.min(SLOTS)]?;
-    let mut nexts = vec![in alloc; 0u32; places]?;
-    let farthest = farthest(alloc, segments)?;
-    fill_costs(segments, &farthest, &mut costs, &mut nexts, roots);
-    let count = (farthest.len() - 1) as u32;
-    walk_along(alloc, segments, count, costs[0], &nexts)
+    make_places(&mut room.costs, places.min(SLOTS), 0u64)?;
+    make_places(&mut room.nexts, places, 0u32)?;
+    fill_farthest(segments, &mut room.farthest)?;
+    fill_costs(
+        segments,
+        &room.farthest,
+        &mut room.costs,
+        &mut room.nexts,
+        roots,
+    );
+    let count = (room.farthest.len() - 1) as u32;
+    walk_along(alloc, segments, count, room.costs[0], &room.nexts)
 }
 
 /// The walk that begins at 0 and goes on by `nexts`, where the whole of it has so many segments and costs so much.
@@ -88,7 +93,7 @@ fn walk_along(
     cost: u64,
     nexts: &[u32],
 ) -> Result<Walk, NoMemory>
-    requires next_places { length nexts.now ≡ length segments.now.moments.now + 1 }
+    requires next_places { length segments.now.moments.now + 1 ≤ length nexts.now }
     requires count { IsFewestFrom (length segments.now.moments.now) (IsUpToLast segments.now.lasts.items) 0 count }
     requires cost { IsLeastCost (length segments.now.moments.now)
         (IsUpToLast segments.now.lasts.items) (penalty_of segments.now.moments.now) 0 cost }
@@ -118,19 +123,19 @@ fn walk_along(
     })
 }
 
-/// The farthest points that one segment reaches, two segments, and so on to the end.
-fn farthest(alloc: Global, segments: &Segments) -> Result<Vec<u32>, NoMemory>
-    ensures { IfOk result (λ farthest. AreWindowEnds (length segments.now.moments.now) segments.now.lasts.items farthest.items) }
+/// Writes down the farthest points that one segment reaches, two segments, and so on to the end.
+fn fill_farthest(segments: &Segments, farthest: &mut Vec<u32>) -> Result<(), NoMemory>
+    ensures { OnOk result (AreWindowEnds (length segments.now.moments.now) segments.now.lasts.items farthest.new.items) }
 {
     let size = segments.lasts.len() as u32;
-    let mut farthest = Vec::with_capacity(alloc, segments.lasts.len() / FEW_STEPS + 2)?;
+    farthest.clear();
     let mut at = 0;
     while at < size {
         farthest.push(at)?;
         at = segments.lasts[at as usize];
     }
     farthest.push(at)?;
-    Ok(farthest)
+    Ok(())
 }
 
 /// Where the cost of the best way from this point is kept.
@@ -157,7 +162,7 @@ fn fill_costs(
     roots: &mut Roots,
 )
     requires slots { HasSlots (length segments.now.moments.now) costs.old }
-    requires next_places { length nexts.old ≡ length segments.now.moments.now + 1 }
+    requires next_places { length segments.now.moments.now + 1 ≤ length nexts.old }
     requires windows { AreWindowEnds (length segments.now.moments.now) segments.now.lasts.items farthest.now }
     ensures cost { IsLeastCost (length segments.now.moments.now)
         (IsUpToLast segments.now.lasts.items) (penalty_of segments.now.moments.now)
@@ -185,7 +190,7 @@ fn fill_window(
     roots: &mut Roots,
 ) -> u32
     requires slots { HasSlots (length segments.now.moments.now) costs.old }
-    requires next_places { length nexts.old ≡ length segments.now.moments.now + 1 }
+    requires next_places { length segments.now.moments.now + 1 ≤ length nexts.old }
     requires windows { AreWindowEnds (length segments.now.moments.now) segments.now.lasts.items farthest.now }
     requires window { window + 1 < length farthest.now }
     requires begin { BeginsWindow (length segments.now.moments.now)

@@ -25,7 +25,7 @@ overflow_cast-count c =
     let size = length s.moments.now in
     let counts = counts_of size s.lasts.items in
     let fewest = counts_fewest size s.lasts.items s.onwards s.rising 0 (omega arith) (omega arith) in
-    omega (arith, s.few, c.len.ensures, c.in_ok-farthest.ensures.count, fewest_below size (IsUpToLast s.lasts.items) 0 (slice_index counts 0) fewest)
+    omega (arith, s.few, c.len.ensures, c.in_ok-fill_farthest.ensures.count, fewest_below size (IsUpToLast s.lasts.items) 0 (slice_index counts 0) fewest)
 
 pub walk_along-requires-clause-count : goal.walk_along-requires-clause-count
 walk_along-requires-clause-count c =
@@ -33,19 +33,19 @@ walk_along-requires-clause-count c =
     let size = length s.moments.now in
     let counts = counts_of size s.lasts.items in
     let fewest = counts_fewest size s.lasts.items s.onwards s.rising 0 (omega arith) (omega arith) in
-    let same : slice_index counts 0 ≡ c.len.result - 1 = omega (arith, c.len.ensures, c.in_ok-farthest.ensures.count) in
+    let same : slice_index counts 0 ≡ c.len.result - 1 = omega (arith, c.len.ensures, c.in_ok-fill_farthest.ensures.count) in
     subst (IsFewestFrom size (IsUpToLast s.lasts.items) 0) same fewest
 
 -- the lists have a place for each point, and one more
 pub fill_costs-requires-clause-next_places : goal.fill_costs-requires-clause-next_places
-fill_costs-requires-clause-next_places c = omega (arith, c.deref_mut-2.ensures.len, c.in_ok-nexts.ensures.len, c.len-places.ensures, c.args.segments.now.places)
+fill_costs-requires-clause-next_places c = omega (arith, c.deref_mut-2.ensures.len, c.in_ok-make_places-2.ensures, c.len-places.ensures, c.args.segments.now.places)
 
 pub walk_along-requires-clause-next_places : goal.walk_along-requires-clause-next_places
-walk_along-requires-clause-next_places c = omega (arith, c.deref-2.ensures.len, c.in_ok-nexts.ensures.len, c.len-places.ensures, c.args.segments.now.places)
+walk_along-requires-clause-next_places c = omega (arith, c.deref-2.ensures.len, c.fill_costs.auto.nexts, c.deref_mut-2.ensures.len, c.in_ok-make_places-2.ensures, c.len-places.ensures, c.args.segments.now.places)
 
 pub overflow_add-places : goal.overflow_add-places
 overflow_add-places c = omega (arith, c.len-places.ensures, c.args.segments.now.places, c.args.segments.now.few)
 
 pub fill_costs-requires-clause-slots : goal.fill_costs-requires-clause-slots
 fill_costs-requires-clause-slots c = λ k most.
-    omega (arith, c.deref_mut.ensures.len, c.in_ok-costs.ensures.len, c.min.ensures, c.len-places.ensures, c.args.segments.now.places)
+    omega (arith, c.deref_mut.ensures.len, c.in_ok-make_places.ensures, c.min.ensures, c.len-places.ensures, c.args.segments.now.places)

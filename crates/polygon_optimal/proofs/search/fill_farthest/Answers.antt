@@ -3,15 +3,15 @@ use Rattle.std.specs.Prelude.{slice_index}
 use Rattle.polygon_optimal.specs.Inner.Search.{AreFarthest, counts_of}
 use Rattle.polygon_optimal.proofs.Counting.{counted, last_of}
 use Rattle.polygon_optimal.proofs.Greedy.{AreWritten, all_left, more_left, written_more, written_none}
-use Rattle.polygon_optimal.proofs.search.farthest.Goals as goal
+use Rattle.polygon_optimal.proofs.search.fill_farthest.Goals as goal
 
 pub loop-at-init : goal.loop-at-init
 loop-at-init c =
     let s = c.args.segments.now in
     let size = length s.moments.now in
     let lasts = s.lasts.items in
-    let items = c.in_ok-farthest.farthest.items in
-    let none = c.in_ok-farthest.ensures.items in
+    let items = c.clear.new.self.items in
+    let none = c.clear.ensures.items in
     let zero : length items ≡ 0 = ap length none in
     subst (λ n. AreWritten size lasts (counts_of size lasts) n items 0) (sym zero) (written_none size lasts (counts_of size lasts) items none)
 

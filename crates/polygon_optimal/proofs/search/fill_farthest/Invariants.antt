@@ -1,7 +1,7 @@
 use Rattle.std.proofs.Common.{◌-◌, length}
 use Rattle.polygon_optimal.specs.Inner.Search.{counts_of}
 use Rattle.polygon_optimal.proofs.Greedy.{AreWritten}
-use Rattle.polygon_optimal.proofs.search.farthest.Given as goal
+use Rattle.polygon_optimal.proofs.search.fill_farthest.Given as goal
 
 abbrev pub invariant-loop-at : goal.invariant-loop-at
 invariant-loop-at l =

@@ -1,0 +1,51 @@
+//! Room for the lists that a search takes.
+ghost use Rattle.std.specs.Prelude.{◌≤◌, length, OnOk};
+
+use pt_core::NoMemory;
+use std::alloc::Global;
+
+/// From so many points on, a walk's lists are given back after its search: they would be held beside all that is made of
+/// the walk later.
+const LONG: usize = 1 << 16;
+
+/// Lists that are kept from one walk to the next, whatever stands in them.
+//
+// A page of text has thousands of short walks, and to make three lists for each took a part of their search.
+#[derive(Drop)]
+pub(crate) struct SearchRoom {
+    pub(crate) costs: Vec<u64>,
+    pub(crate) nexts: Vec<u32>,
+    pub(crate) farthest: Vec<u32>,
+}
+
+impl SearchRoom {
+    /// No room yet: it grows as walks ask for it.
+    pub(crate) fn new(alloc: Global) -> SearchRoom {
+        SearchRoom {
+            costs: Vec::new(alloc),
+            nexts: Vec::new(alloc),
+            farthest: Vec::new(alloc),
+        }
+    }
+
+    /// Gives the lists back, where they were made for a long walk.
+    pub(crate) fn give_back_long(&mut self, alloc: Global) {
+        if self.nexts.len() > LONG {
+            *self = SearchRoom::new(alloc);
+        }
+    }
+}
+
+/// Makes a list at least so long.
+pub(crate) fn make_places<T: Copy + Drop>(
+    list: &mut Vec<T>,
+    places: usize,
+    value: T,
+) -> Result<(), NoMemory>
+    ensures { OnOk result (places ≤ length list.new.items) }
+{
+    if list.len() < places {
+        list.resize(places, value)?;
+    }
+    Ok(())
+}
