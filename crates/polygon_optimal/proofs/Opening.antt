@@ -28,13 +28,13 @@ module _ (size : ℕ) (lasts counts : List ℕ) (known : AreCounted size lasts c
       }
 
 -- the points of a window are looked for, of which the next one begins here
-pub record AreWindows (size : ℕ) (lasts counts farthest : List ℕ) (window begin : ℕ) : Type 0 where
+pub record HasNextWindow (size : ℕ) (lasts counts farthest : List ℕ) (window begin : ℕ) : Type 0 where
   pub known : AreCounted size lasts counts
   pub are : AreFarthest size lasts counts (slice_index counts 0) farthest
   pub next : window < slice_index counts 0
   pub opens : BeginsWindow size counts (window + 1) begin
 
-module _ (size : ℕ) (lasts counts farthest : List ℕ) (window begin : ℕ) (w : AreWindows size lasts counts farthest window begin) where
+module _ (size : ℕ) (lasts counts farthest : List ℕ) (window begin : ℕ) (w : HasNextWindow size lasts counts farthest window begin) where
   abbrev far : ℕ
   far = slice_index farthest window
 

@@ -8,13 +8,13 @@ use Rattle.polygon_optimal.specs.Inner.Lasts.{AreRising, IsUpToLast, LeadsOn}
 use Rattle.polygon_optimal.specs.Inner.Search.{AreKept, AreWindowEnds, BeginsWindow, HasCheapest, counts_of, slot_of}
 use Rattle.polygon_optimal.proofs.Counting.{AreCounted, counted}
 use Rattle.polygon_optimal.proofs.Leasts.{AreCheap, IsBeforeWindow, best_onward, costs_small}
-use Rattle.polygon_optimal.proofs.Opening.{AreWindows, left_here, vertex_here, opens_at, far_reaches}
+use Rattle.polygon_optimal.proofs.Opening.{HasNextWindow, left_here, vertex_here, opens_at, far_reaches}
 use Rattle.polygon_optimal.proofs.Slots.{cheapest_same}
 
 -- what a call for one window is given
 pub windows : (size : ℕ) (lasts farthest : List ℕ) (window begin : ℕ) → ((i : ℕ) → i < size → LeadsOn size i (slice_index lasts i))
     → AreRising size lasts → AreWindowEnds size lasts farthest → window + 1 < length farthest
-    → BeginsWindow size (counts_of size lasts) (window + 1) begin → AreWindows size lasts (counts_of size lasts) farthest window begin
+    → BeginsWindow size (counts_of size lasts) (window + 1) begin → HasNextWindow size lasts (counts_of size lasts) farthest window begin
 windows size lasts farthest window begin leads rising are room opens = record {
   known = counted size lasts leads rising;
   are = are;
@@ -23,15 +23,15 @@ windows size lasts farthest window begin leads rising are room opens = record {
 }
 
 -- the next point down belongs to the window
-pub record IsNext (size : ℕ) (lasts counts : List ℕ) (first begin : ℕ) : Type 0 where
+pub record IsNextDown (size : ℕ) (lasts counts : List ℕ) (first begin : ℕ) : Type 0 where
   pub low : first ≡ first - 1 + 1
   pub left : slice_index counts (first - 1) ≡ slice_index counts begin + 1
   pub here : IsBeforeWindow size lasts counts (first - 1) begin
 
-module _ (size : ℕ) (lasts counts farthest : List ℕ) (window begin : ℕ) (w : AreWindows size lasts counts farthest window begin)
+module _ (size : ℕ) (lasts counts farthest : List ℕ) (window begin : ℕ) (w : HasNextWindow size lasts counts farthest window begin)
     (first : ℕ) (some : 0 < first) (near : first ≤ slice_index farthest window + 1) where
   -- where its longest segment reaches the next one
-  pub next_down : begin ≤ slice_index lasts (first - 1) → IsNext size lasts counts first begin
+  pub next_down : begin ≤ slice_index lasts (first - 1) → IsNextDown size lasts counts first begin
   next_down reaches =
       let i_near : first - 1 ≤ slice_index farthest window = omega arith in
       record {
