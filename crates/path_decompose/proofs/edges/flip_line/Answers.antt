@@ -1,6 +1,7 @@
 -- The kind is that of the line, and the greater column and row are where its edge stands.
 use Rattle.std.proofs.Common.{◌≡◌, ◌≢◌, ◌+◌, ◌*◌, ◌/◌, ◌≤◌, ◌∙◌, max, nat_abs, length, ap, sym, subst, arith}
 use Rattle.std.proofs.lemmas.Bool.{eq-eqb, false≢true}
+use Rattle.std.proofs.lemmas.Int.{ints}
 use Rattle.bit_image.specs.Image.{differ}
 use Rattle.path_decompose.specs.Inner.BoundaryBits.{has_edge, same_edge}
 use Rattle.path_decompose.proofs.Taken.{word_back, greater_is, greater_room, spot_is}
@@ -68,3 +69,15 @@ flip-requires-clause-room c =
     let there = c.requires.to in
     let column = c.max.ensures ∙ greater_is c.args.from.x c.args.to.x here.right here.column there.right there.column in
     subst (λ n. 2 * (((n + 3) / 64 + 1) * rows) ≤ size) (sym column) (greater_room rows size c.args.from c.args.to here there)
+
+pub overflow_cast-x : goal.overflow_cast-x
+overflow_cast-x c = omega (arith, ints, c.requires.from.right)
+
+pub overflow_cast-y : goal.overflow_cast-y
+overflow_cast-y c = omega (arith, ints, c.requires.from.above)
+
+pub overflow_cast-end_x : goal.overflow_cast-end_x
+overflow_cast-end_x c = omega (arith, ints, c.requires.to.right)
+
+pub overflow_cast-end_y : goal.overflow_cast-end_y
+overflow_cast-end_y c = omega (arith, ints, c.requires.to.above)

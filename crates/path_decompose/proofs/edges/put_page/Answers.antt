@@ -1,6 +1,7 @@
 -- One row more is put, or it stays without edges between two white rows, and the others stay.
-use Rattle.std.proofs.Common.{◌≡◌, ℕ, suc, ◌-◌, ◌&&◌, nat_le, ◌∙◌, ap, sym, subst, inl, inr, arith, add-one}
+use Rattle.std.proofs.Common.{◌≡◌, ℕ, suc, ◌+◌, ◌-◌, ◌*◌, ◌/◌, ◌≤◌, ◌&&◌, length, nat_le, ◌∙◌, ap, sym, subst, inl, inr, arith, add-one}
 use Rattle.std.proofs.lemmas.Bool.{cases_order}
+use Rattle.std.proofs.lemmas.Nat.{mul-le}
 use Rattle.bit_image.specs.Page.{image_of}
 use Rattle.bit_image.specs.Inner.Words.{black_in}
 use Rattle.path_decompose.specs.Inner.BoundaryBits.{has_edge, changes}
@@ -42,3 +43,11 @@ loop-y-preserved c =
       ];
       white = λ white u. sym (c.row_behind-above.ensures.pixels u) ∙ c.is_white-above_is_white.ensures white u;
     }
+
+pub put_row-requires-clause-room : goal.put_row-requires-clause-room
+put_row-requires-clause-room c =
+    let rows = c.args.rows in
+    let width = c.args.page.now.width in
+    let fits : ((width + 63) / 64 + 1) * rows ≤ (width / 64 + 2) * rows = mul-le ((width + 63) / 64 + 1) rows (width / 64 + 2) rows (omega arith) (omega arith) in
+    let size : length c.loop-y.words ≡ 2 * ((width / 64 + 2) * rows) = c.loop-y.auto.words ∙ c.requires.room in
+    subst (λ n. 2 * ((n + 1) * rows) ≤ length c.loop-y.words) (sym c.row_behind.ensures.count) (omega (arith, fits, size))
