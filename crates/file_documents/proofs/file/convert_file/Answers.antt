@@ -128,7 +128,10 @@ returns-in-Err-finish-clause-asked g c =
 pub returns-in-Err-finish-clause-input : goal.returns-in-Err-finish-clause-input
 returns-in-Err-finish-clause-input g c =
     let end = c.in-Ok-convert_pages.converted.end in
-    input_count c.in-Err-finish.status end (g.I.Inputs.faults c.args.inputs.now) (g.I.Inputs.faults c.convert_pages.new.inputs) c.in-Err-finish.ensures.because.which (input_by end (g.I.Inputs.faults c.args.inputs.now) (g.I.Inputs.faults c.convert_pages.new.inputs) (faults_from end (g.I.Inputs.faults c.args.inputs.now) (g.I.Inputs.faults c.open.new.self) (g.I.Inputs.faults c.convert_pages.new.inputs) c.in-Ok.ensures.steady c.in-Ok-convert_pages.ensures.input))
+    let old = g.I.Inputs.faults c.args.inputs.now in
+    let now = g.I.Inputs.faults c.convert_pages.new.inputs in
+    let faults = faults_from end old (g.I.Inputs.faults c.open.new.self) now c.in-Ok.ensures.steady c.in-Ok-convert_pages.ensures.input in
+    input_count c.in-Err-finish.status end old now c.in-Err-finish.ensures.because.which (input_by end old now faults)
 
 pub returns-in-Err-finish-clause-keeps : goal.returns-in-Err-finish-clause-keeps
 returns-in-Err-finish-clause-keeps g c = keeps_on g.O.Sink g.E.Sink c.args.desk.now c.convert_pages.new.desk c.finish.new.desk c.convert_pages.ensures.keeps c.finish.ensures.keeps
@@ -162,8 +165,10 @@ returns-in-Ok-add-clause-asked g c =
 pub returns-in-Ok-add-clause-input : goal.returns-in-Ok-add-clause-input
 returns-in-Ok-add-clause-input g c =
     let end = c.in-Ok-convert_pages.converted.end in
-    let count = input_by end (g.I.Inputs.faults c.args.inputs.now) (g.I.Inputs.faults c.convert_pages.new.inputs) (faults_from end (g.I.Inputs.faults c.args.inputs.now) (g.I.Inputs.faults c.open.new.self) (g.I.Inputs.faults c.convert_pages.new.inputs) c.in-Ok.ensures.steady c.in-Ok-convert_pages.ensures.input) in
-    subst (λ s. InputCount s (g.I.Inputs.faults c.args.inputs.now) (g.I.Inputs.faults c.convert_pages.new.inputs)) c.in-Ok-finish.ensures.because count
+    let old = g.I.Inputs.faults c.args.inputs.now in
+    let now = g.I.Inputs.faults c.convert_pages.new.inputs in
+    let faults = faults_from end old (g.I.Inputs.faults c.open.new.self) now c.in-Ok.ensures.steady c.in-Ok-convert_pages.ensures.input in
+    subst (λ s. InputCount s old now) c.in-Ok-finish.ensures.because (input_by end old now faults)
 
 pub returns-in-Ok-add-clause-keeps : goal.returns-in-Ok-add-clause-keeps
 returns-in-Ok-add-clause-keeps g c = keeps_on g.O.Sink g.E.Sink c.args.desk.now c.convert_pages.new.desk c.finish.new.desk c.convert_pages.ensures.keeps c.finish.ensures.keeps
