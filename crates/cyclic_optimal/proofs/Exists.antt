@@ -1,5 +1,5 @@
 -- A closed walk has a least cyclic polygon.
-use Rattle.std.proofs.Common.{◌≡◌, ℕ, zero, suc, ◌+◌, ◌-◌, ◌<◌, ◌≤◌, List, [], ◌∷◌, ◌++◌, length, length-append, take, drop, refl, ap, sym, ◌∙◌, subst, inl, inr, arith}
+use Rattle.std.proofs.Common.{◌≡◌, ℕ, zero, suc, ◌+◌, ◌-◌, ◌<◌, ◌≤◌, List, [], ◌∷◌, ◌++◌, length, length-append, refl, ap, sym, ◌∙◌, subst, inl, inr, arith}
 use Rattle.std.proofs.lemmas.Bool.{cases_lt, cases_order}
 use Rattle.std.proofs.lemmas.List.{length-map}
 use Rattle.std.proofs.lemmas.List.Elements.{All-head}
@@ -8,20 +8,19 @@ use Rattle.pt_core.specs.declared.point.Point.{Point}
 use Rattle.straight_paths.specs.Straight.{IsPossible}
 use Rattle.straight_paths.proofs.Decided.{is_possible}
 use Rattle.straight_paths.proofs.Far.{step_possible}
-use Rattle.least_walk.specs.LeastWalk.{total_cost, IsLeast, IsWalk}
-use Rattle.least_walk.specs.LeastWalk.IsBefore.{by_steps, by_cost}
+use Rattle.std.specs.declared.cmp.Ordering.TheVariants.{Less}
+use Rattle.least_walk.specs.LeastWalk.{step_count, total_cost, IsBefore, IsLeast, IsWalk}
+use Rattle.least_walk.specs.LeastWalk.IsBefore.{by_steps, by_cost, by_list}
 use Rattle.least_walk.specs.Inner.Suffix.{WalksOn}
+use Rattle.least_walk.proofs.Before.{slice_cmp-cons}
 use Rattle.least_walk.proofs.Going.{goes_below, length-steps_from}
 use Rattle.least_walk.proofs.Exists.{least_found}
 use Rattle.least_walk.proofs.Walks.{goes_from_walk, walk_from_goes}
 use Rattle.polygon_optimal.specs.Polygon.{penalty_of}
-use Rattle.polygon_optimal.proofs.Exists.{best_found}
-use Rattle.cyclic_optimal.specs.Cyclic.{IsCyclicPolygon, IsLeastCyclic, round_penalty}
-use Rattle.cyclic_optimal.specs.Inner.First.{IsFirstVertex}
+use Rattle.cyclic_optimal.specs.Cyclic.{IsCyclicPolygon, IsLeastCyclic, once_round, round_penalty}
+use Rattle.cyclic_optimal.proofs.Lists.{cons_above, lists_moved, order_of}
 use Rattle.cyclic_optimal.proofs.Ways.{on_by, goes_moved, goes_back, cost_moved}
-use Rattle.cyclic_optimal.proofs.Rounds.{from_round, round_of}
-use Rattle.cyclic_optimal.proofs.Turned.{turned_is, closed_turned}
-use Rattle.cyclic_optimal.proofs.Final.{least_cyclic}
+use Rattle.cyclic_optimal.proofs.Rounds.{FromRound, from_round, round_of}
 
 module _ (points : List Point) (closed : IsClosedWalk points) where
   abbrev Way : ℕ → List ℕ → Type 0
@@ -36,6 +35,7 @@ module _ (points : List Point) (closed : IsClosedWalk points) where
     goes : Way s way
     fewest : (r : List ℕ) → Way s r → length way ≤ length r
     cheapest : (r : List ℕ) → Way s r → length r ≡ length way → pays s way ≤ pays s r
+    lowest : (r : List ℕ) → Way s r → length r ≡ length way → pays s r ≡ pays s way → ¬ (order_of r way ≡ Less)
 
   module _ (s : ℕ) where
     abbrev may : ℕ → ℕ → Type 0
@@ -88,6 +88,19 @@ module _ (points : List Point) (closed : IsClosedWalk points) where
                     (omega (arith, paid, paid_q))))
                 | inr most ↦ most
               ]);
+          lowest = λ r way tied as_dear lower.
+              (let (q, same, walk, paid_q) = inwards r way in
+              least.none_before (0 ∷ q) walk (by_list
+              (omega (
+                arith,
+                length-steps_from 0 q,
+                length-steps_from 0 rest,
+                ap length same,
+                length-map q (λ k. k + s),
+                length-map rest (λ k. k + s),
+              ))
+              (sym paid_q ∙ as_dear ∙ paid)
+              (slice_cmp-cons 0 q rest ∙ sym (lists_moved s q rest) ∙ ap (λ l. order_of l (on_by s rest)) (sym same) ∙ lower)));
         } where
           inwards : (r : List ℕ) → Way s r → (q : List ℕ) × (r ≡ on_by s q) × IsWalk (length points) may (0 ∷ q) × (pays s r ≡ total_cost costs (0 ∷ q))
           inwards r way =
@@ -122,6 +135,7 @@ module _ (points : List Point) (closed : IsClosedWalk points) where
     fewest : (s : ℕ) (r : List ℕ) → s < t → Way s r → length way ≤ length r
     cheapest : (s : ℕ) (r : List ℕ) → s < t → Way s r → length r ≡ length way → pays start way ≤ pays s r
     earliest : (s : ℕ) (r : List ℕ) → s < start → Way s r → length r ≡ length way → pays start way < pays s r
+    lowest : (r : List ℕ) → Way start r → length r ≡ length way → pays start r ≡ pays start way → ¬ (order_of r way ≡ Less)
 
   best_first : BestBelow 1
   best_first =
@@ -138,6 +152,7 @@ module _ (points : List Point) (closed : IsClosedWalk points) where
             let less = b.cheapest r (here s r low way) tied in
             omega (arith, ap (λ m. pays m r) is));
         earliest = λ s r low. (let no : ⊥ = omega arith in elim no [ ]);
+        lowest = b.lowest;
       }
 
   -- one more start, which is no better
@@ -160,6 +175,7 @@ module _ (points : List Point) (closed : IsClosedWalk points) where
           omega (arith, ap (λ m. pays m r) is)
     ];
     earliest = so_far.earliest;
+    lowest = so_far.lowest;
   }
 
   -- and one that is better
@@ -182,6 +198,7 @@ module _ (points : List Point) (closed : IsClosedWalk points) where
           omega (arith, ap (λ m. pays m r) is)
     ];
     earliest = λ s r low way tied. dearer s r low way tied;
+    lowest = b.lowest;
   }
 
   best_more : (t : ℕ) → BestBelow t → BestBelow (t + 1)
@@ -210,55 +227,102 @@ module _ (points : List Point) (closed : IsClosedWalk points) where
   round_length : (i : ℕ) (others : List ℕ) → length (others ++ (i + length points) ∷ []) ≡ length (i ∷ others)
   round_length i others = omega (arith, length-append others ((i + length points) ∷ []))
 
-  first_found : IsFirstVertex points all_starts.start
-  first_found =
-      let b = all_starts in
-      let begun = from_round points b.start b.way b.below b.goes in
+  abbrev f : ℕ
+  f = all_starts.start
+
+  begun : FromRound points f all_starts.way
+  begun = from_round points f all_starts.way all_starts.below all_starts.goes
+
+  abbrev others : List ℕ
+  others = begun.others
+
+  -- the polygon begins at the start
+  begins : begun.crosses.at - length points ≡ f
+  begins =
       let i : ℕ = begun.crosses.at - length points in
-      let round = round_of points i begun.others begun.polygon in
-      let room = goes_below (b.start + length points) (IsPossible points) begun.crosses.at begun.crosses.after begun.crosses.goes in
-      let here : i ≡ b.start = elim (cases_lt i b.start) [
+      let room = goes_below (f + length points) (IsPossible points) begun.crosses.at begun.crosses.after begun.crosses.goes in
+      elim (cases_lt i f) [
         | inl before ↦
-            let dear = b.earliest i (begun.others ++ (i + length points) ∷ []) before round (round_length i begun.others ∙ begun.count) in
+            let round = round_of points i others begun.polygon in
+            let dear = all_starts.earliest i (others ++ (i + length points) ∷ []) before round (round_length i others ∙ begun.count) in
             absurd (omega (arith, begun.cost))
         | inr not_before ↦ omega arith
-      ] in
-      let polygon : IsCyclicPolygon points (b.start ∷ begun.others) = subst (λ m. IsCyclicPolygon points (m ∷ begun.others)) here begun.polygon in
-      let paid : round_penalty points (b.start ∷ begun.others) ≡ pays b.start b.way
-      = ap (λ m. round_penalty points (m ∷ begun.others)) (sym here) ∙ begun.cost in
-      record {
-        others = begun.others;
-        is_polygon = polygon;
-        fewest = few begun.others begun.count;
-        cheapest = cheap begun.others begun.count paid;
-        earliest = λ j rest other tied as_dear. elim (cases_lt j b.start) [
-          | inl before ↦
-              let dear = b.earliest j (rest ++ (j + length points) ∷ []) before (round_of points j rest other) (round_length j rest ∙ tied ∙ begun.count) in
-              absurd (omega (arith, paid))
-          | inr not_before ↦ not_before
-        ];
-      } where
-        few : (others : List ℕ) → length (all_starts.start ∷ others) ≡ length all_starts.way
-            → (at : List ℕ) → IsCyclicPolygon points at → length (all_starts.start ∷ others) ≤ length at
-        few others count [] polygon = absurd (omega (arith, polygon.some))
-        few others count (j ∷ rest) polygon =
-            let low = All-head (λ k. k < length points) j rest polygon.within in
-            omega (arith, round_length j rest, all_starts.fewest j (rest ++ (j + length points) ∷ []) low (round_of points j rest polygon))
+      ]
 
-        cheap : (others : List ℕ) → length (all_starts.start ∷ others) ≡ length all_starts.way
-            → round_penalty points (all_starts.start ∷ others) ≡ pays all_starts.start all_starts.way
-            → (at : List ℕ) → IsCyclicPolygon points at → length at ≡ length (all_starts.start ∷ others)
-            → round_penalty points (all_starts.start ∷ others) ≤ round_penalty points at
-        cheap others count paid [] polygon tied = absurd (omega (arith, polygon.some))
-        cheap others count paid (j ∷ rest) polygon tied =
-            let low = All-head (λ k. k < length points) j rest polygon.within in
-            omega (arith, all_starts.cheapest j (rest ++ (j + length points) ∷ []) low (round_of points j rest polygon) (round_length j rest ∙ tied ∙ count))
+  polygon : IsCyclicPolygon points (f ∷ others)
+  polygon = subst (λ m. IsCyclicPolygon points (m ∷ others)) begins begun.polygon
+
+  paid : round_penalty points (f ∷ others) ≡ pays f all_starts.way
+  paid = ap (λ m. round_penalty points (m ∷ others)) (sym begins) ∙ begun.cost
+
+  -- and has no point past the path's end
+  none_after : (v : ℕ) (r : List ℕ) → f + length points ≤ v → WalksOn (f + length points) (IsPossible points) v r → r ≡ []
+  none_after v [] past goes = refl
+  none_after v (j ∷ r) past goes = let room = goes_below (f + length points) (IsPossible points) j r goes.2 in absurd (omega (arith, goes.0))
+
+  one_behind : (i : ℕ) (rest before behind : List ℕ) → length behind ≡ 1 → i ∷ rest ≡ behind ++ before → rest ≡ before
+  one_behind i rest before [] one is = absurd (omega arith)
+  one_behind i rest before (x ∷ []) one is = cc
+  one_behind i rest before (x ∷ y ∷ behind) one is = absurd (omega arith)
+
+  way_is : all_starts.way ≡ others ++ (f + length points) ∷ []
+  way_is =
+      let c = begun.crosses in
+      let at : c.at ≡ f + length points = omega (arith, begins, c.above) in
+      let none = none_after c.at c.after (omega arith) c.goes in
+      let l = begun.list in
+      let one : length l.behind ≡ 1
+      = omega (arith, length-map l.behind (λ k. k + length points), ap length begun.splits.1, ap length none) in
+      let rest = one_behind (c.at - length points) others l.before l.behind one l.list in
+      c.is
+      ∙ ap (λ (l : List ℕ). c.before ++ c.at ∷ l) none
+      ∙ ap (λ m. c.before ++ m ∷ []) at
+      ∙ ap (λ (l : List ℕ). l ++ (f + length points) ∷ []) (sym (rest ∙ begun.splits.0))
+
+  round_steps : (j : ℕ) (o : List ℕ) → step_count (once_round (length points) (j ∷ o)) ≡ length (j ∷ o)
+  round_steps j o = length-steps_from j (o ++ (j + length points) ∷ []) ∙ round_length j o
+
+  none_before : (other : List ℕ) → IsCyclicPolygon points other
+      → ¬ IsBefore (penalty_of points) (once_round (length points) other) (once_round (length points) (f ∷ others))
+  none_before [] other before = absurd (omega (arith, other.some))
+  none_before (j ∷ o) other before =
+      let low = All-head (λ k. k < length points) j o other.within in
+      let round = round_of points j o other in
+      let count = round_length j o in
+      let tally : length (f ∷ others) ≡ length all_starts.way = begun.count in
+      by before low round count tally where
+        by : IsBefore (penalty_of points) (once_round (length points) (j ∷ o)) (once_round (length points) (f ∷ others))
+            → j < length points → Way j (o ++ (j + length points) ∷ []) → length (o ++ (j + length points) ∷ []) ≡ length (j ∷ o)
+            → length (f ∷ others) ≡ length all_starts.way → ⊥
+        by (by_steps fewer) low round count tally =
+            omega (arith, round_steps j o, round_steps f others, all_starts.fewest j (o ++ (j + length points) ∷ []) low round)
+        by (by_cost tied cheaper) low round count tally =
+            omega (
+              arith,
+              paid,
+              all_starts.cheapest j (o ++ (j + length points) ∷ []) low round (omega (arith, round_steps j o, round_steps f others)),
+            )
+        by (by_list tied as_dear lower) low round count tally =
+            let same_count : length (o ++ (j + length points) ∷ []) ≡ length all_starts.way = omega (arith, round_steps j o, round_steps f others) in
+            elim (cases_lt j f) [
+              | inl before ↦ omega (arith, paid, all_starts.earliest j (o ++ (j + length points) ∷ []) before round same_count)
+              | inr not_before ↦ elim (cases_lt f j) [
+                | inl later ↦ absurd (let high = cons_above j f (o ++ (j + length points) ∷ []) (others ++ (f + length points) ∷ []) later in cc)
+                | inr not_later ↦
+                    let e : j ≡ f = omega arith in
+                    let way : Way f (o ++ (j + length points) ∷ []) = subst (λ m. Way m (o ++ (j + length points) ∷ [])) e round in
+                    let pay : pays f (o ++ (j + length points) ∷ []) ≡ pays f all_starts.way
+                    = ap (λ m. pays m (o ++ (j + length points) ∷ [])) (sym e) ∙ as_dear ∙ paid in
+                    all_starts.lowest (o ++ (j + length points) ∷ []) way same_count pay
+                    (ap (order_of (o ++ (j + length points) ∷ [])) way_is
+                    ∙ sym (slice_cmp-cons f (o ++ (j + length points) ∷ []) (others ++ (f + length points) ∷ []))
+                    ∙ ap (λ m. order_of (m ∷ o ++ (j + length points) ∷ []) (f ∷ others ++ (f + length points) ∷ [])) (sym e)
+                    ∙ lower)
+              ]
+            ]
+
+  found_round : (at : List ℕ) × IsLeastCyclic points at
+  found_round = (f ∷ others, record { is_polygon = polygon; none_before = none_before })
 
 pub least_found_round : (points : List Point) → IsClosedWalk points → (at : List ℕ) × IsLeastCyclic points at
-least_found_round points closed =
-    let f : ℕ = (all_starts points closed).start in
-    let below = (all_starts points closed).below in
-    let turned = drop f points ++ take f points in
-    let is = turned_is points turned f below refl in
-    let (at, best) = best_found turned (closed_turned turned points f is closed) in
-    (on_by f at, least_cyclic turned points f is below (first_found points closed) at best)
+least_found_round points closed = found_round points closed

@@ -1,5 +1,5 @@
 -- Fronts, one by one from the end.
-use Rattle.std.proofs.Common.{◌≡◌, ℕ, ◌+◌, ◌-◌, ◌^◌, ◌<◌, ◌≤◌, List, [], ◌∷◌, ◌++◌, length, length-append, ap, sym, ◌∙◌, subst, inl, inr, arith}
+use Rattle.std.proofs.Common.{◌≡◌, ℕ, ◌+◌, ◌-◌, ◌^◌, ◌<◌, ◌≤◌, List, [], ◌∷◌, ◌++◌, get_or, length, length-append, ap, sym, ◌∙◌, subst, inl, inr, arith}
 use Rattle.std.proofs.Math.ListN.{get_or-append}
 use Rattle.std.proofs.Math.Seq.{get_or-append_seam}
 use Rattle.std.proofs.lemmas.Bool.{cases_eq, cases_lt}
@@ -7,12 +7,11 @@ use Rattle.std.specs.Prelude.{slice_index}
 use Rattle.pt_core.specs.declared.point.Point.{Point}
 use Rattle.straight_paths.specs.Straight.{IsPossible}
 use Rattle.least_walk.specs.LeastWalk.{total_cost}
-use Rattle.least_walk.specs.Inner.Suffix.{IsFewestFrom, WalksOn}
-use Rattle.least_walk.proofs.Going.{goes_below, total_cost-cons}
+use Rattle.least_walk.specs.Inner.Suffix.{WalksOn}
+use Rattle.least_walk.proofs.Going.{fewest_below, goes_below, total_cost-cons}
 use Rattle.pt_core.specs.OnPage.{AreOnPage}
-use Rattle.cyclic_optimal.specs.Inner.Fronts.{IsBestFrom, IsFrontOf, IsLeastBy, IsLeastVia, worth_of}
+use Rattle.cyclic_optimal.specs.Inner.Fronts.{AreFrontsOf, IsFrontAt, IsFrontOf, IsLeastBy, IsLeastVia, worth_of}
 use Rattle.cyclic_optimal.specs.declared.fronts.TheConstants.{NONE}
-use Rattle.cyclic_optimal.specs.declared.first.Best.{Best}
 use Rattle.cyclic_optimal.specs.declared.fronts.Front.{Front}
 use Rattle.cyclic_optimal.proofs.Worth.{ways_count}
 
@@ -180,40 +179,103 @@ module _ (points : List Point) where
       let (r, goes, counted, costs) = by.some below in
       omega (arith, ways_count points on_page end j r small goes)
 
-  -- the least way of the fewest segments is the best one
-  pub best_by_least : AreOnPage points → (start count : ℕ) (best : Best) → best.count ≡ count → start + length points < 2 ^ 33 → count ≤ 2 ^ 31
-      → IsFewestFrom (start + length points) (IsPossible points) start count
-      → IsLeastBy points (start + length points) count start best.worth → IsBestFrom points start best
-  best_by_least on_page start count best counts small few fewest by =
-      let bound = by.bound fewest.rest fewest.goes_on fewest.count in
-      let most = ways_count points on_page (start + length points) start fewest.rest small fewest.goes_on in
-      let (way, goes, counted, costs) = by.some (omega (arith, fewest.count)) in
-      record {
-        way = way;
-        goes = goes;
-        count = omega arith;
-        worth = costs;
-        fewest = λ r goes. (let least = fewest.none_fewer r goes in omega arith);
-        least = λ r goes tied. by.bound r goes (omega arith);
-      }
+  -- the last front has the best way from the start
+  module _ (on_page : AreOnPage points) (few : length points ≤ 2 ^ 31) (start : ℕ) (below : start < length points) (fronts : List Front)
+      (are : AreFrontsOf points start (start + length points) fronts) (whole : Front) (is : whole ≡ get_or fronts (length fronts - 1) whole) where
+    at_start : IsFrontAt points (start + length points) (slice_index are.tops (length fronts - 1 - (length fronts - 1))) (length fronts - 1) whole
+    at_start =
+        subst (IsFrontAt points (start + length points) (slice_index are.tops (length fronts - 1 - (length fronts - 1))) (length fronts - 1)) (sym is)
+        (are.each (length fronts - 1) whole (omega (arith, are.some)))
 
-  -- the first front has the best way from the start
-  module _ (on_page : AreOnPage points) (start count value : ℕ) (front : Front) (is : IsFrontOf points front)
-      (end : front.end ≡ start + length points) (small : start + length points < 2 ^ 33) (left : front.left ≡ count) (few : count ≤ 2 ^ 31)
-      (top : start < front.low + length front.least.items)
-      (fewest : IsFewestFrom (start + length points) (IsPossible points) start count) where
-    at_end : WalksOn front.end (IsPossible points) start fewest.rest
-    at_end = subst (λ e. WalksOn e (IsPossible points) start fewest.rest) (sym end) fewest.goes_on
+    pub starts_under : start < whole.low + length whole.least.items
+    starts_under =
+        let z : length fronts - 1 - (length fronts - 1) ≡ 0 = omega arith in
+        omega (arith, at_start.above, ap (slice_index are.tops) z, are.are.first)
 
-    pub start_in : front.low ≤ start
-    start_in = elim (cases_lt start front.low) [
-      | inl early ↦ absurd (is.below start fewest.rest early at_end (omega (arith, fewest.count)))
+    pub starts_in : whole.low ≤ start
+    starts_in = elim (cases_lt start whole.low) [
+      | inl early ↦
+          let P : ℕ → Type 0 = λ e. WalksOn e (IsPossible points) start are.fewest.rest in
+          absurd (at_start.is.below start are.fewest.rest early (subst P (sym at_start.ends) are.fewest.goes_on) (omega (arith, at_start.count, are.fewest.count)))
       | inr late ↦ late
     ]
 
-    pub best_is : (best : Best) → best.count ≡ count → best.worth ≡ slice_index front.least.items (start - front.low) → IsBestFrom points start best
-    best_is best counts worth =
-        let by = front_at front start best.worth is start_in top worth in
-        let P : ℕ → Type 0 = λ e. IsLeastBy points e front.left start best.worth in
-        let Q : ℕ → Type 0 = λ n. IsLeastBy points (start + length points) n start best.worth in
-        best_by_least on_page start count best counts small few fewest (subst Q left (subst P end by))
+    module _ (worth : ℕ) (value : worth ≡ slice_index whole.least.items (start - whole.low)) where
+      pub best_least : IsLeastBy points (start + length points) (length fronts - 1) start worth
+      best_least =
+          let P : ℕ → Type 0 = λ e. IsLeastBy points e whole.left start worth in
+          let Q : ℕ → Type 0 = λ n. IsLeastBy points (start + length points) n start worth in
+          subst Q at_start.count (subst P at_start.ends (front_at whole start worth at_start.is starts_in starts_under value))
+
+      pub best_small : worth < NONE
+      best_small =
+          let most = ways_count points on_page (start + length points) start are.fewest.rest (omega arith) are.fewest.goes_on in
+          let short = fewest_below (start + length points) (IsPossible points) start (length fronts - 1) are.fewest in
+          omega (arith, best_least.bound are.fewest.rest are.fewest.goes_on are.fewest.count, are.fewest.count)
+
+  -- a least way from a point goes on to one of a front's
+  pub record LeadsOn (later : Front) (i rest : ℕ) : Type 0 where
+    pub to : ℕ
+    pub possible : IsPossible points i to
+    pub above : later.low ≤ to
+    pub under : to < later.low + length later.least.items
+    pub sum : worth_of points i to + slice_index later.least.items (to - later.low) ≡ rest
+
+  pub leads_on : (later : Front) (i rest : ℕ) → IsFrontOf points later → IsLeastBy points later.end (later.left + 1) i rest → rest < NONE
+      → ((j : ℕ) → IsPossible points i j → j ≤ later.end → j < later.low + length later.least.items) → LeadsOn later i rest
+  leads_on later i rest is by small reached =
+      let (r, goes, counted, costs) = by.some small in
+      leads r goes counted costs where
+        leads : (r : List ℕ) → WalksOn later.end (IsPossible points) i r → length r ≡ later.left + 1 → total_cost (worth_of points) (i ∷ r) ≡ rest
+            → LeadsOn later i rest
+        leads [] goes counted costs = absurd (omega arith)
+        leads (j ∷ r) goes counted costs =
+            let room = goes_below later.end (IsPossible points) j r goes.2 in
+            let above : later.low ≤ j = elim (cases_lt j later.low) [
+              | inl early ↦ absurd (is.below j r early goes.2 (omega arith))
+              | inr late ↦ late
+            ] in
+            let under = reached j goes.1 (omega arith) in
+            let here = is.each j above under in
+            let least = here.bound r goes.2 (omega arith) in
+            let pays = total_cost-cons (worth_of points) i j r in
+            let (s, goes_on, tally, cost) = here.some (omega arith) in
+            let all = by.bound (j ∷ s) (goes.0, goes.1, goes_on) (omega arith) in
+            let pays_on = total_cost-cons (worth_of points) i j s in
+            record { to = j; possible = goes.1; above = above; under = under; sum = omega arith }
+
+  -- no way by another segment counts as little
+  pub not_by : (later : Front) (i j rest : ℕ) (r : List ℕ) → IsFrontOf points later → IsLeastBy points later.end (later.left + 1) i rest
+      → rest < NONE → IsPossible points i j → later.low ≤ j → j < later.low + length later.least.items
+      → ¬ (worth_of points i j + slice_index later.least.items (j - later.low) ≡ rest)
+      → WalksOn later.end (IsPossible points) j r → length r ≡ later.left → rest < total_cost (worth_of points) (i ∷ j ∷ r)
+  not_by later i j rest r is by small possible above under other goes counted =
+      let here = is.each j above under in
+      let most = here.bound r goes counted in
+      let pays = total_cost-cons (worth_of points) i j r in
+      elim (cases_lt (slice_index later.least.items (j - later.low)) NONE) [
+        | inl some ↦
+            let (s, goes_on, tally, cost) = here.some some in
+            let all = by.bound (j ∷ s) (possible.rises, possible, goes_on) (omega arith) in
+            let pays_on = total_cost-cons (worth_of points) i j s in
+            elim (cases_eq (worth_of points i j + slice_index later.least.items (j - later.low)) rest) [
+              | inl same ↦ absurd (other same)
+              | inr apart ↦ omega arith
+            ]
+        | inr none ↦ omega arith
+      ]
+
+-- one more front behind the others
+pub fronts_more : (P : ℕ → Front → Type 0) (fronts more : List Front) (front : Front) → more ≡ fronts ++ front ∷ []
+    → ((left : ℕ) (d : Front) → left < length fronts → P left (get_or fronts left d)) → P (length fronts) front
+    → (left : ℕ) (d : Front) → left < length more → P left (get_or more left d)
+fronts_more P fronts more front is each last left d below =
+    let value = ap (λ l. get_or l left d) is in
+    let size = length-append fronts (front ∷ []) in
+    elim (cases_lt left (length fronts)) [
+      | inl earlier ↦ subst (P left) (sym (value ∙ get_or-append fronts (front ∷ []) d left earlier)) (each left d earlier)
+      | inr late ↦
+          let e : left ≡ length fronts = omega (arith, ap length is) in
+          let Q : ℕ → Type 0 = λ n. P n front in
+          subst (P left) (sym (value ∙ ap (λ n. get_or (fronts ++ front ∷ []) n d) e ∙ get_or-append_seam fronts front [] d)) (subst Q (sym e) last)
+    ]

@@ -1,8 +1,7 @@
 -- Each cyclic polygon has a vertex in the window after a point, and the best way from there begins the best one.
-use Rattle.std.proofs.Common.{◌≡◌, ℕ, ◌+◌, ◌-◌, ◌*◌, ◌%◌, ◌^◌, ◌<◌, ◌≤◌, List, [], ◌∷◌, ◌++◌, length, length-append, append_assoc, refl, ap, sym, ◌∙◌, subst, inl, inr, arith}
+use Rattle.std.proofs.Common.{◌≡◌, ℕ, ◌+◌, ◌*◌, ◌^◌, ◌<◌, ◌≤◌, List, [], ◌∷◌, ◌++◌, length, length-append, append_assoc, refl, ap, sym, ◌∙◌, subst, inl, inr, arith}
 use Rattle.std.specs.List.{All}
 use Rattle.std.proofs.lemmas.Bool.{cases_lt}
-use Rattle.std.proofs.lemmas.Nat.{mod-mul-add}
 use Rattle.std.proofs.lemmas.List.{append_cancel_right, length-map}
 use Rattle.std.proofs.lemmas.List.Elements.{All-head, All-tail}
 use Rattle.pt_core.specs.declared.point.Point.{Point}
@@ -12,11 +11,9 @@ use Rattle.least_walk.specs.Inner.Suffix.{WalksOn}
 use Rattle.least_walk.proofs.Going.{goes_below}
 use Rattle.polygon_optimal.specs.Polygon.{penalty_of}
 use Rattle.cyclic_optimal.specs.Cyclic.{IsCyclicPolygon, round_penalty}
-use Rattle.cyclic_optimal.specs.Inner.First.{IsFirstVertex}
-use Rattle.cyclic_optimal.specs.Inner.Fronts.{IsBestAmong, worth_of}
-use Rattle.cyclic_optimal.specs.declared.first.Best.{Best}
+use Rattle.cyclic_optimal.specs.Inner.Fronts.{IsListOf, worth_of}
 use Rattle.cyclic_optimal.proofs.Ways.{on_by, goes_to_last, goes_moved, goes_anew, cost_anew}
-use Rattle.cyclic_optimal.proofs.Rounds.{Crosses, FromRound, crossing, from_round, round_of, may_lap, may_back, pen_lap}
+use Rattle.cyclic_optimal.proofs.Rounds.{Crosses, crossing, round_of, may_lap, may_back, pen_lap}
 use Rattle.cyclic_optimal.proofs.Steps.{possible_from}
 use Rattle.cyclic_optimal.proofs.Worth.{worth_round}
 
@@ -38,6 +35,7 @@ module _ (points : List Point) where
     pub goes : WalksOn (start + length points) (IsPossible points) start way
     pub count : length way ≡ length (i ∷ others)
     pub worth : total_cost (worth_of points) (start ∷ way) ≡ round_penalty points (i ∷ others) * 2 ^ 32 + i
+    pub list : IsListOf (length points) way (i ∷ others)
 
   module _ (k : ℕ) (low : k < length points) (within : (j : ℕ) → IsPossible points k j → j < length points)
       (i : ℕ) (others : List ℕ) (polygon : IsCyclicPolygon points (i ∷ others)) where
@@ -74,6 +72,7 @@ module _ (points : List Point) where
           goes = round_goes;
           count = round_count;
           worth = omega (arith, crossed);
+          list = record { before = others; behind = i ∷ []; is = refl; early = others_low; list = refl };
         } where
           -- the round's only step past the end leads to the first vertex again
           same_at : (c : Crosses (IsPossible points) (i + n) n i round) → c.at ≡ i + n
@@ -138,6 +137,13 @@ module _ (points : List Point) where
             ap (λ l. total_cost (penalty_of points) (c.at ∷ l)) regrouped,
             ap (λ l. total_cost (penalty_of points) (i ∷ l)) whole,
           );
+          list = record {
+            before = t;
+            behind = i ∷ first;
+            is = regrouped;
+            early = t_low;
+            list = ap (λ (l : List ℕ). i ∷ l) (same ∙ sym (append_assoc c.before (c.at ∷ []) t));
+          };
         }
 
     pub through : Through k i others
@@ -145,74 +151,3 @@ module _ (points : List Point) where
       | inl later ↦ from_first later
       | inr before ↦ from_later before
     ]
-
-  -- what the best way from the window counts tells where the least cyclic polygon begins
-  module _ (k last : ℕ) (low : k < length points) (within : (j : ℕ) → IsPossible points k j → j < length points)
-      (farthest : (j : ℕ) → IsPossible points k j → j ≤ last) (few : length points ≤ 2 ^ 31) (small : last < length points)
-      (best : Best) (among : IsBestAmong points (k + 1) (last + 1) best) where
-    start_low : among.start < length points
-    start_low = omega (arith, among.under)
-
-    found : FromRound points among.start among.way
-    found = from_round points among.start among.way start_low among.goes
-
-    abbrev first : ℕ
-    first = found.crosses.at - length points
-
-    worth_is : best.worth ≡ round_penalty points (first ∷ found.others) * 2 ^ 32 + first
-    worth_is =
-        let c = found.crosses in
-        omega (
-          arith,
-          among.worth,
-          found.cost,
-          worth_round points (among.start + length points) among.start c.before c.at c.after start_low c.below c.above c.goes,
-          ap (λ l. total_cost (worth_of points) (among.start ∷ l)) c.is,
-          ap (λ l. total_cost (penalty_of points) (among.start ∷ l)) c.is,
-        )
-
-    first_small : first < length points
-    first_small = All-head (λ j. j < length points) first found.others found.polygon.within
-
-    first_is : best.worth % 2 ^ 32 ≡ first
-    first_is =
-        let e = worth_is in
-        ap (λ m. m % 2 ^ 32) e ∙ mod-mul-add (round_penalty points (first ∷ found.others)) (2 ^ 32) first (omega (arith, first_small))
-
-    fewest : (at : List ℕ) → IsCyclicPolygon points at → length (first ∷ found.others) ≤ length at
-    fewest [] polygon = absurd (omega (arith, polygon.some))
-    fewest (i ∷ others) polygon =
-        let by = through k low within i others polygon in
-        let least = among.fewest by.start by.way (omega (arith, by.above)) (omega (arith, farthest by.start by.reached)) by.goes in
-        omega (arith, by.count, found.count, among.count)
-
-    cheapest : (i : ℕ) (others : List ℕ) → IsCyclicPolygon points (i ∷ others) → length (i ∷ others) ≡ length (first ∷ found.others)
-        → round_penalty points (first ∷ found.others) * 2 ^ 32 + first ≤ round_penalty points (i ∷ others) * 2 ^ 32 + i
-    cheapest i others polygon tied =
-        let by = through k low within i others polygon in
-        let least = among.least by.start by.way (omega (arith, by.above)) (omega (arith, farthest by.start by.reached)) by.goes
-        (omega (arith, by.count, found.count, among.count)) in
-        omega (arith, by.worth, worth_is)
-
-    cheapest_list : (at : List ℕ) → IsCyclicPolygon points at → length at ≡ length (first ∷ found.others)
-        → round_penalty points (first ∷ found.others) ≤ round_penalty points at
-    cheapest_list [] polygon tied = absurd (omega (arith, polygon.some))
-    cheapest_list (i ∷ others) polygon tied =
-        let less = cheapest i others polygon tied in
-        let i_small = All-head (λ j. j < length points) i others polygon.within in
-        omega (arith, first_small)
-
-    is_first : IsFirstVertex points first
-    is_first = record {
-      others = found.others;
-      is_polygon = found.polygon;
-      fewest = fewest;
-      cheapest = cheapest_list;
-      earliest = λ i rest polygon tied as_dear. (let less = cheapest i rest polygon tied in omega arith);
-    }
-
-    pub first_found : IsFirstVertex points (best.worth % 2 ^ 32)
-    first_found = subst (IsFirstVertex points) (sym first_is) is_first
-
-    pub first_below : best.worth % 2 ^ 32 < length points
-    first_below = omega (arith, first_is, first_small)

@@ -1,3 +1,2 @@
 -- What inner contracts alone speak of: no promise rests on it.
-pub mod First
 pub mod Fronts

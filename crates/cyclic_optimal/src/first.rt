@@ -1,55 +1,36 @@
-//! Where the least cyclic polygon begins.
+//! The best of the ways once round from several points.
 //!
 //! No segment from point k or before reaches past the longest one from k. So each cyclic polygon has a vertex among
 //! the points after k up to there, the window after k, and it is enough to look at the ways once round from these few
 //! points.
-ghost use Rattle.std.specs.Prelude.{◌≡◌, ℕ, ◌+◌, ◌<◌, ◌≤◌, length, IfOk};
-ghost use Rattle.pt_core.specs.ClosedWalk.{IsClosedWalk};
-ghost use Rattle.pt_core.specs.OnPage.{AreOnPage};
+ghost use Rattle.std.specs.Prelude.{◌≡◌, ℕ, ◌+◌, ◌/◌, ◌<◌, ◌≤◌, ◌^◌, ◌↔◌, true, length, IfOk};
+ghost use Rattle.std.specs.Ordering.{nat_cmp};
+ghost use Rattle.std.specs.Cmp.Lexicographic.{slice_cmp};
+ghost use Rattle.std.specs.declared.cmp.Ordering.TheVariants.{Less};
 ghost use Rattle.straight_paths.specs.Straight.{IsPossible};
 ghost use Rattle.least_walk.specs.Inner.Suffix.{IsFewestFrom};
-ghost use Rattle.polygon_optimal.specs.Inner.Lasts.{HasLasts};
-ghost use Rattle.cyclic_optimal.specs.Inner.First.{IsFirstVertex, turned_to};
-ghost use Rattle.cyclic_optimal.specs.Inner.Fronts.{IsBestAmong, IsBestFrom};
+ghost use Rattle.cyclic_optimal.specs.Cyclic.{IsLeastCyclic, round_penalty};
+ghost use Rattle.cyclic_optimal.specs.Inner.Fronts.{IsBestAmong};
 
-use crate::fronts::{best_by, tops};
+use crate::fronts::{fronts_by, tops};
 use crate::leaps::{all_leaps, nexts};
+use crate::round::{Best, best_round};
 use crate::sides::WalkSegments;
 use crate::windows::{narrowest, sparsest};
-use prefix_moments::Moments;
-use pt_core::{NoMemory, Point};
+use pt_core::NoMemory;
 use std::alloc::Global;
+use std::cmp::Ordering;
 
 /// A window of at most so many points is looked through as it stands. There is one behind each corner.
 const FEW: usize = 8;
 
-/// The number of segments of a way once round, and what they count: 2^32 times their penalties together, and the
-/// number of the first of its points after the path's end.
-#[derive(Clone, Copy)]
-pub(crate) struct Best {
-    pub count: usize,
-    pub worth: u128,
-}
-
-/// The first vertex of the least cyclic polygon, and where the longest segments of the path lead that begins there.
-//
-// The price: sums are made twice.
-pub(crate) fn first_vertex(
-    alloc: Global,
-    points: &[Point],
-    moments: &Moments,
-) -> Result<(u32, Vec<u32>), NoMemory>
-    requires closed { IsClosedWalk points.now }
-    requires on_page { AreOnPage points.now }
-    requires moments { moments.now ≡ points.now }
-    ensures first { IfOk result (λ both. IsFirstVertex points.now both.0) }
-    ensures point { IfOk result (λ both. both.0 < length points.now) }
-    ensures lasts { IfOk result (λ both. HasLasts (turned_to both.0 points.now) both.1.items) }
+/// The least cyclic polygon.
+pub(crate) fn least_polygon(alloc: Global, sides: &WalkSegments) -> Result<Best, NoMemory>
+    ensures least { IfOk result (λ best. IsLeastCyclic sides.now.moments.now best.at.items) }
+    ensures cost { IfOk result (λ best. best.worth / 2 ^ 32 ≡ round_penalty sides.now.moments.now best.at.items) }
 {
-    let sides = WalkSegments::of(alloc, points, moments)?;
-    let point = window(alloc, &sides)?;
-    let first = first_after(alloc, &sides, point)?;
-    Ok((first, sides.lasts_from(alloc, first as usize)?))
+    let point = window(alloc, sides)?;
+    best_after(alloc, sides, point)
 }
 
 /// The point behind which a vertex of each cyclic polygon is looked for.
@@ -89,20 +70,20 @@ fn nexts_round(alloc: Global, sides: &WalkSegments, narrow: usize) -> Result<Vec
     nexts(alloc, &all_leaps(alloc, sides, count.saturating_sub(1))?)
 }
 
-/// The first vertex of the least cyclic polygon, by the window after this point.
-fn first_after(alloc: Global, sides: &WalkSegments, point: usize) -> Result<u32, NoMemory>
+/// The least cyclic polygon, by the window after this point.
+fn best_after(alloc: Global, sides: &WalkSegments, point: usize) -> Result<Best, NoMemory>
     requires point { point < length sides.now.moments.now }
     requires within { (j : ℕ) → IsPossible sides.now.moments.now point j
         → j < length sides.now.moments.now }
-    ensures first { IfOk result (IsFirstVertex sides.now.moments.now) }
-    ensures point { IfOk result (λ first. first < length sides.now.moments.now) }
+    ensures least { IfOk result (λ best. IsLeastCyclic sides.now.moments.now best.at.items) }
+    ensures cost { IfOk result (λ best. best.worth / 2 ^ 32 ≡ round_penalty sides.now.moments.now best.at.items) }
 {
     let best = best_among(alloc, sides, point + 1, sides.last(point) + 1)?;
-    Ok((best.worth % (1 << 32)) as u32)
+    Ok(best)
 }
 
 /// The best way once round from one of the points from `low` to before `high`.
-fn best_among(
+pub(crate) fn best_among(
     alloc: Global,
     sides: &WalkSegments,
     low: usize,
@@ -117,13 +98,14 @@ fn best_among(
     let mut best = Best {
         count: fewest + 1,
         worth: 0,
+        at: Vec::new(alloc),
     };
     let mut kept = Vec::new(alloc);
     for start in (low..high).rev() {
         let ways = tops(alloc, sides, start)?;
         if ways.len() <= fewest + 1 {
-            let (next, fronts) = best_by(alloc, sides, start, &ways, kept)?;
-            kept = fronts;
+            kept = fronts_by(alloc, sides, start, &ways, &kept)?;
+            let next = best_round(alloc, sides, start, &kept)?;
             best = better(best, next);
         }
     }
@@ -149,16 +131,31 @@ fn fewest_among(
     Ok(fewest)
 }
 
-/// The one of fewer segments, or of as many that count less; of two that tie the former.
+/// The one of fewer segments, or of as many that count less, or the lower list of two that tie in both; of two that are
+/// the same the former.
 fn better(best: Best, next: Best) -> Best
     ensures fewer { next.count < best.count → result ≡ next }
     ensures more { best.count < next.count → result ≡ best }
     ensures lower { next.count ≡ best.count → next.worth < best.worth → result ≡ next }
-    ensures kept { next.count ≡ best.count → best.worth ≤ next.worth → result ≡ best }
+    ensures higher { next.count ≡ best.count → best.worth < next.worth → result ≡ best }
+    ensures first { next.count ≡ best.count → next.worth ≡ best.worth
+        → slice_cmp nat_cmp next.at.items best.at.items ≡ Less → result ≡ next }
+    ensures kept { next.count ≡ best.count → next.worth ≡ best.worth
+        → ¬ (slice_cmp nat_cmp next.at.items best.at.items ≡ Less) → result ≡ best }
 {
-    if next.count < best.count || (next.count == best.count && next.worth < best.worth) {
+    if next.count < best.count
+        || (next.count == best.count && next.worth < best.worth)
+        || (next.count == best.count && next.worth == best.worth && is_lower(&next.at, &best.at))
+    {
         next
     } else {
         best
     }
+}
+
+/// Whether the first list is lexicographically lower.
+fn is_lower(next: &[u32], best: &[u32]) -> bool
+    ensures { result ≡ true ↔ (slice_cmp nat_cmp next.now best.now ≡ Less) }
+{
+    next.cmp(best) == Ordering::Less
 }

@@ -8,10 +8,9 @@
 ghost use Rattle.std.specs.Prelude.{◌≡◌, ℕ, ◌+◌, ◌-◌, ◌*◌, ◌<◌, ◌≤◌, ◌^◌, All, length, IfOk, IfSome};
 ghost use Rattle.straight_paths.specs.Straight.{IsPossible};
 ghost use Rattle.least_walk.specs.Inner.Suffix.{IsFewestFrom};
-ghost use Rattle.cyclic_optimal.specs.Inner.Fronts.{AreTops, IsBestFrom, IsFrontOf, IsInLap, IsLeastBy, IsLeastVia, worth_of};
+ghost use Rattle.cyclic_optimal.specs.Inner.Fronts.{AreFrontsOf, AreTops, IsFrontOf, IsInLap, IsLeastBy, IsLeastVia, worth_of};
 
-use crate::first::Best;
-use crate::merged::worth_by;
+use crate::merged::earlier_by;
 use crate::sides::WalkSegments;
 use prefix_moments::Growing;
 use pt_core::NoMemory;
@@ -28,11 +27,11 @@ const FEW: usize = 3;
 
 /// A segment to go on by.
 #[derive(Clone, Copy)]
-struct Onward {
+pub(crate) struct Onward {
     /// What the least way by it counts, or `NONE`.
-    least: u128,
-    /// Where it leads: a guess for the next point, of which nothing is proved.
-    next: usize,
+    pub least: u128,
+    /// Where it leads.
+    pub next: usize,
 }
 
 /// Points in a row, and what the least way of so many segments from each of them to the end counts.
@@ -72,28 +71,25 @@ pub(crate) fn tops(
     Ok(tops)
 }
 
-/// The best way once round from this point, by the fronts of a later one; and the fronts to go on with.
+/// The fronts of all ways once round from this point, from their end back to it, by those of a later one.
 //
 // From the last front back to the first: for each point the least of all segments to the next front.
-//
-// Ways to two ends a lap on mostly go through the same points from a few segments before these on. So their fronts
-// differ by a constant there, and in all earlier fronts too: what was found of the later start tells the rest.
-pub(crate) fn best_by(
+pub(crate) fn fronts_by(
     alloc: Global,
     sides: &WalkSegments,
     start: usize,
     tops: &[usize],
-    kept: Vec<Front>,
-) -> Result<(Best, Vec<Front>), NoMemory>
+    kept: &[Front],
+) -> Result<Vec<Front>, NoMemory>
     requires start { start < length sides.now.moments.now }
     requires some { 1 ≤ length tops.now }
     requires tops { AreTops sides.now.moments.now start (start + length sides.now.moments.now)
         (length tops.now - 1) tops.now }
     requires fewest { IsFewestFrom (start + length sides.now.moments.now)
         (IsPossible sides.now.moments.now) start (length tops.now - 1) }
-    requires kept { All (IsFrontOf sides.now.moments.now) kept.items }
-    ensures best { IfOk result (λ both. IsBestFrom sides.now.moments.now start both.0) }
-    ensures fronts { IfOk result (λ both. All (IsFrontOf sides.now.moments.now) both.1.items) }
+    requires kept { All (IsFrontOf sides.now.moments.now) kept.now }
+    ensures { IfOk result (λ fronts. AreFrontsOf sides.now.moments.now start
+        (start + length sides.now.moments.now) fronts.items) }
 {
     let count = tops.len() - 1;
     let end = start + sides.size;
@@ -105,20 +101,16 @@ pub(crate) fn best_by(
         least: vec![in alloc; 0u128; 1]?,
     };
     for c in (0..count).rev() {
-        let next = earlier(alloc, sides, tops[c], &front)?;
-        if let Some(worth) = worth_by(&next, &kept, start, count) {
-            return Ok((Best { count, worth }, kept));
-        }
+        let next = earlier_by(alloc, sides, tops[c], &front, kept)?;
         fronts.push(front)?;
         front = next;
     }
-    let worth = front.least[start - front.low];
     fronts.push(front)?;
-    Ok((Best { count, worth }, fronts))
+    Ok(fronts)
 }
 
 /// The front before this one, up to `top`.
-fn earlier(
+pub(crate) fn earlier(
     alloc: Global,
     sides: &WalkSegments,
     top: usize,
@@ -166,6 +158,8 @@ fn lowest(sides: &WalkSegments, top: usize, goal: usize) -> usize
 }
 
 /// The segment by which the least way from this point goes on to the next front.
+//
+// Where it leads is a guess for the next point, of which nothing is proved.
 fn cheapest(sides: &WalkSegments, i: usize, later: &Front, guess: usize) -> Onward
     requires point { i < 2 * length sides.now.moments.now }
     requires end { later.now.end < 2 ^ 33 }

@@ -4,9 +4,7 @@ ghost use Rattle.pt_core.specs.ClosedWalk.{IsClosedWalk};
 ghost use Rattle.pt_core.specs.OnPage.{AreOnPage};
 ghost use Rattle.straight_paths.specs.Straight.{IsPossible};
 ghost use Rattle.prefix_moments.specs.Sums.{spread_of};
-ghost use Rattle.polygon_optimal.specs.Inner.Lasts.{HasLasts, IsLast};
 ghost use Rattle.polygon_optimal.specs.Polygon.{penalty_of};
-ghost use Rattle.cyclic_optimal.specs.Inner.First.{turned_to};
 ghost use Rattle.cyclic_optimal.specs.Inner.Fronts.{IsInLap, IsLongest, past, worth_of};
 
 use prefix_moments::{Growing, Moments};
@@ -59,27 +57,6 @@ impl<'a> WalkSegments<'a> {
         } else {
             i + self.reach.far((i - self.size) as u32) as usize
         }
-    }
-
-    /// Where the longest segments of the path lead that begins at this point; they end where it does.
-    pub(crate) fn lasts_from(&self, alloc: Global, first: usize) -> Result<Vec<u32>, NoMemory>
-        requires { first < length self.now.moments.now }
-        ensures { IfOk result (λ lasts. HasLasts (turned_to first self.now.moments.now) lasts.items) }
-    {
-        let mut lasts = Vec::with_capacity(alloc, self.size)?;
-        for i in 0..self.size {
-            lasts.push(self.last_from(first, i))?;
-        }
-        Ok(lasts)
-    }
-
-    /// The same of the longest one from point `i` of that path.
-    fn last_from(&self, first: usize, i: usize) -> u32
-        requires first { first < length self.now.moments.now }
-        requires point { i < length self.now.moments.now }
-        ensures { IsLast (turned_to first self.now.moments.now) i result }
-    {
-        (self.last(first + i) - first).min(self.size) as u32
     }
 
     /// The segment from point `i`, in the first lap or in the second, to point `j`.

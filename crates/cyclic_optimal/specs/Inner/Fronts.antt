@@ -1,12 +1,16 @@
 -- What the search for the first vertex of the least cyclic polygon knows of ways round a path.
-use Rattle.std.specs.Prelude.{◌≡◌, ℕ, ◌+◌, ◌-◌, ◌*◌, ◌<◌, ◌≤◌, ◌^◌, cond, nat_lt, List, ◌∷◌, length, slice_index}
+use Rattle.std.specs.Prelude.{◌≡◌, ℕ, ◌+◌, ◌-◌, ◌*◌, ◌<◌, ◌≤◌, ◌^◌, All, cond, nat_lt, List, ◌∷◌, ◌++◌, get_or, length, map, slice_index}
+use Rattle.std.specs.Ordering.{nat_cmp}
+use Rattle.std.specs.Cmp.Lexicographic.{slice_cmp}
+use Rattle.std.specs.declared.cmp.Ordering.TheVariants.{Less}
 use Rattle.pt_core.specs.declared.point.Point.{Point}
 use Rattle.straight_paths.specs.Straight.{IsPossible}
 use Rattle.least_walk.specs.LeastWalk.{total_cost}
-use Rattle.least_walk.specs.Inner.Suffix.{WalksOn}
+use Rattle.least_walk.specs.Inner.Suffix.{IsFewestFrom, WalksOn}
 use Rattle.polygon_optimal.specs.Polygon.{penalty_of}
-use Rattle.cyclic_optimal.specs.declared.first.Best.{Best}
 use Rattle.cyclic_optimal.specs.declared.fronts.Front.{Front}
+use Rattle.cyclic_optimal.specs.declared.fronts.Onward.{Onward}
+use Rattle.cyclic_optimal.specs.declared.round.Best.{Best}
 use Rattle.cyclic_optimal.specs.declared.fronts.TheConstants.{MOST, NONE}
 
 -- the longest possible segment from point i leads to point `last`
@@ -48,11 +52,10 @@ pub record IsMoved (front other : Front) : Type 0 where
   pub each : (k : ℕ) → k < length front.least.items → (slice_index front.least.items k < MOST) × (slice_index other.least.items k < MOST)
       × (slice_index front.least.items k + slice_index other.least.items 0 ≡ slice_index other.least.items k + slice_index front.least.items 0)
 
--- a way from point s leads to one of a front's points or before them, where so many segments of `count` are left
-pub record LeadsInto (points : List Point) (s count : ℕ) (front : Front) : Type 0 where
-  pub left : front.left ≤ count
-  pub within : (j : ℕ) (way : List ℕ) → WalksOn j (IsPossible points) s way → length way + front.left ≡ count
-      → j < front.low + length front.least.items
+-- what the first points count more and less than this; or `NONE`, where this is too much
+pub record IsMovedTo (more less least moved : ℕ) : Type 0 where
+  pub told : least < 2 * MOST → less ≤ least + more → moved + less ≡ least + more
+  pub none : 2 * MOST ≤ least → moved ≡ NONE
 
 -- the same of the ways from point i whose first segment leads to below `to`
 pub record IsLeastVia (points : List Point) (end count i to least : ℕ) : Type 0 where
@@ -70,15 +73,65 @@ pub record AreTops (points : List Point) (start end count : ℕ) (tops : List �
   pub onwards : (c i j : ℕ) → c < count → i ≤ slice_index tops c → IsPossible points i j → j ≤ end
       → j ≤ slice_index tops (c + 1)
 
--- some way once round from point s has these numbers; none has fewer segments, or as many and counts less
+-- a front to one end from whose points so many segments are left, up to point `top` or beyond
+pub record IsFrontAt (points : List Point) (end top left : ℕ) (front : Front) : Type 0 where
+  pub is : IsFrontOf points front
+  pub ends : front.end ≡ end
+  pub count : front.left ≡ left
+  pub above : top < front.low + length front.least.items
+  pub few : front.low + length front.least.items ≤ 2 ^ 33
+
+-- the fronts of all ways from a point to `end`, by how many segments are left: each goes up to the farthest point
+pub record AreFrontsOf (points : List Point) (start end : ℕ) (fronts : List Front) : Type 0 where
+  pub some : 1 ≤ length fronts
+  pub tops : List ℕ
+  pub are : AreTops points start end (length fronts - 1) tops
+  pub fewest : IsFewestFrom end (IsPossible points) start (length fronts - 1)
+  pub each : (left : ℕ) (d : Front) → left < length fronts
+      → IsFrontAt points end (slice_index tops (length fronts - 1 - left)) left (get_or fronts left d)
+
+-- of the ways of so many segments from point i to `end` that count so much it is the lowest list
+pub record IsFirstWay (points : List Point) (end count i worth : ℕ) (way : List ℕ) : Type 0 where
+  pub goes : WalksOn end (IsPossible points) i way
+  pub counted : length way ≡ count
+  pub costs : total_cost (worth_of points) (i ∷ way) ≡ worth
+  pub lowest : (r : List ℕ) → WalksOn end (IsPossible points) i r → length r ≡ count → total_cost (worth_of points) (i ∷ r) ≡ worth
+      → ¬ (slice_cmp nat_cmp r way ≡ Less)
+
+-- the shortest segment from point i by which such a way begins, and what it counts from there
+pub record IsFirstOnward (points : List Point) (end left i rest : ℕ) (onward : Onward) : Type 0 where
+  pub possible : IsPossible points i onward.next
+  pub least : IsLeastBy points end left onward.next onward.least
+  pub sum : worth_of points i onward.next + onward.least ≡ rest
+  pub before : (j : ℕ) (r : List ℕ) → j < onward.next → IsPossible points i j → WalksOn end (IsPossible points) j r → length r ≡ left
+      → rest < total_cost (worth_of points) (i ∷ j ∷ r)
+
+-- the number in the first lap of a point in the first lap or in the second
+abbrev pub lap_of : ℕ → ℕ → ℕ
+lap_of size j = cond (nat_lt j size) j (j - size)
+
+-- a way's points as a list that begins with the first one past the path's end
+pub record IsListOf (size : ℕ) (way at : List ℕ) : Type 0 where
+  pub before : List ℕ
+  pub behind : List ℕ
+  pub is : way ≡ before ++ map (λ k. k + size) behind
+  pub early : All (λ k. k < size) before
+  pub list : at ≡ behind ++ before
+
+-- some way once round from point s has these numbers and this list; none has fewer segments, or as many and counts less,
+-- or ties in both and is a lower list
 pub record IsBestFrom (points : List Point) (s : ℕ) (best : Best) : Type 0 where
   pub way : List ℕ
   pub goes : WalksOn (s + length points) (IsPossible points) s way
   pub count : length way ≡ best.count
   pub worth : total_cost (worth_of points) (s ∷ way) ≡ best.worth
+  pub list : IsListOf (length points) way best.at.items
   pub fewest : (r : List ℕ) → WalksOn (s + length points) (IsPossible points) s r → best.count ≤ length r
   pub least : (r : List ℕ) → WalksOn (s + length points) (IsPossible points) s r → length r ≡ best.count
       → best.worth ≤ total_cost (worth_of points) (s ∷ r)
+  pub lowest : (r at : List ℕ) → WalksOn (s + length points) (IsPossible points) s r → length r ≡ best.count
+      → total_cost (worth_of points) (s ∷ r) ≡ best.worth → IsListOf (length points) r at
+      → ¬ (slice_cmp nat_cmp at best.at.items ≡ Less)
 
 -- the same over all points from `low` to before `high`
 pub record IsBestAmong (points : List Point) (low high : ℕ) (best : Best) : Type 0 where
@@ -89,7 +142,11 @@ pub record IsBestAmong (points : List Point) (low high : ℕ) (best : Best) : Ty
   pub goes : WalksOn (start + length points) (IsPossible points) start way
   pub count : length way ≡ best.count
   pub worth : total_cost (worth_of points) (start ∷ way) ≡ best.worth
+  pub list : IsListOf (length points) way best.at.items
   pub fewest : (s : ℕ) (r : List ℕ) → low ≤ s → s < high → WalksOn (s + length points) (IsPossible points) s r
       → best.count ≤ length r
   pub least : (s : ℕ) (r : List ℕ) → low ≤ s → s < high → WalksOn (s + length points) (IsPossible points) s r
       → length r ≡ best.count → best.worth ≤ total_cost (worth_of points) (s ∷ r)
+  pub lowest : (s : ℕ) (r at : List ℕ) → low ≤ s → s < high → WalksOn (s + length points) (IsPossible points) s r
+      → length r ≡ best.count → total_cost (worth_of points) (s ∷ r) ≡ best.worth → IsListOf (length points) r at
+      → ¬ (slice_cmp nat_cmp at best.at.items ≡ Less)
