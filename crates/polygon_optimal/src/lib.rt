@@ -46,5 +46,5 @@ mod search;
 pub mod segments;
 
 pub use memo::PolygonMemo;
-pub use optimal::{polygon, polygon_by, polygon_by_lasts, polygon_with_moments};
+pub use optimal::{polygon, polygon_by, polygon_with_moments};
 pub use segments::lasts;

@@ -67,29 +67,7 @@ pub fn polygon_by(
     )
 }
 
-/// The best polygon, where it is known already where the walk's longest segments lead.
-pub fn polygon_by_lasts(
-    alloc: Global,
-    points: &[Point],
-    lasts: Vec<u32>,
-) -> Result<Polygon, NoMemory>
-    requires closed { IsClosedWalk points.now }
-    requires on_page { AreOnPage points.now }
-    requires lasts { HasLasts points.now lasts.items }
-    ensures best { IfOk result (λ polygon. IsBestPolygon points.now polygon.at) }
-    ensures cost { IfOk result (λ polygon. polygon.cost ≡ total_penalty points.now polygon.at) }
-{
-    let moments = Moments::of(alloc, points)?;
-    polygon_of(
-        alloc,
-        &moments,
-        lasts,
-        &mut Roots::none(alloc),
-        &mut SearchRoom::new(alloc),
-    )
-}
-
-/// The same, by what was found of how far segments reach, and by roots.
+/// The same, by what was found of how far segments reach, by roots, and in the lists that a search takes.
 //
 // How far segments reach is measured before the points are summed up: the one takes 24 bytes a point, of which 20 are
 // given back, the other 32, which stay. In the other order a spiral of walls took a fifth more memory.
