@@ -120,7 +120,7 @@ module _ (cost_by : ℕ → ℕ) where
 
     pub cheapest_of_all : (end : ℕ) (nearer best onward : Onward) → to < end
         → IsCheaperIn cost_by begin to (guessed (cost + 1)) nearer
-        → (nearer.cost ≤ cost → best ≡ nearer) → (cost < nearer.cost → best ≡ guessed cost)
+        → (nearer.cost ≤ cost → best ≡ nearer) × (cost < nearer.cost → best ≡ guessed cost)
         → IsCheaperIn cost_by (to + 1) end best onward → HasCheapest cost_by begin end onward
-    cheapest_of_all end nearer best onward room near taken kept far =
-        with_farther end best onward room (nearer_or_guessed nearer best near taken kept) far
+    cheapest_of_all end nearer best onward room near chosen far =
+        with_farther end best onward room (nearer_or_guessed nearer best near chosen.0 chosen.1) far

@@ -37,7 +37,7 @@ returns c =
     let R : ℕ → Type 0 = λ end. HasCheapest cost_by c.args.begin (end + 1) c.cheaper_in.result in
     subst R last
     (cheapest_of_all cost_by c.args.begin to cost onwards is (c.index-last.result.now + 1) c.cheaper_in-nearer.result c.lower.result c.cheaper_in.result
-    room near c.lower.ensures.nearer c.lower.ensures.tried far)
+    room near (c.lower.ensures.nearer, c.lower.ensures.tried) far)
 
 -- of the segment that is tried
 pub cheaper_in-nearer-requires-clause-start : goal.cheaper_in-nearer-requires-clause-start
