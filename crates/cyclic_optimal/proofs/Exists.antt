@@ -18,7 +18,7 @@ use Rattle.least_walk.proofs.Exists.{least_found}
 use Rattle.least_walk.proofs.Walks.{goes_from_walk, walk_from_goes}
 use Rattle.polygon_optimal.specs.Polygon.{penalty_of}
 use Rattle.cyclic_optimal.specs.Cyclic.{IsCyclicPolygon, IsLeastCyclic, once_round, round_penalty}
-use Rattle.cyclic_optimal.proofs.Lists.{cons_above, lists_moved, order_of}
+use Rattle.cyclic_optimal.proofs.Lists.{cons_above, lists_moved, list_order}
 use Rattle.cyclic_optimal.proofs.Ways.{on_by, goes_moved, goes_back, cost_moved}
 use Rattle.cyclic_optimal.proofs.Rounds.{FromRound, from_round, round_of}
 
@@ -35,7 +35,7 @@ module _ (points : List Point) (closed : IsClosedWalk points) where
     goes : Way s way
     fewest : (r : List ℕ) → Way s r → length way ≤ length r
     cheapest : (r : List ℕ) → Way s r → length r ≡ length way → pays s way ≤ pays s r
-    lowest : (r : List ℕ) → Way s r → length r ≡ length way → pays s r ≡ pays s way → ¬ (order_of r way ≡ Less)
+    lowest : (r : List ℕ) → Way s r → length r ≡ length way → pays s r ≡ pays s way → ¬ (list_order r way ≡ Less)
 
   module _ (s : ℕ) where
     abbrev may : ℕ → ℕ → Type 0
@@ -100,7 +100,7 @@ module _ (points : List Point) (closed : IsClosedWalk points) where
                 length-map rest (λ k. k + s),
               ))
               (sym paid_q ∙ as_dear ∙ paid)
-              (slice_cmp-cons 0 q rest ∙ sym (lists_moved s q rest) ∙ ap (λ l. order_of l (on_by s rest)) (sym same) ∙ lower)));
+              (slice_cmp-cons 0 q rest ∙ sym (lists_moved s q rest) ∙ ap (λ l. list_order l (on_by s rest)) (sym same) ∙ lower)));
         } where
           inwards : (r : List ℕ) → Way s r → (q : List ℕ) × (r ≡ on_by s q) × IsWalk (length points) may (0 ∷ q) × (pays s r ≡ total_cost costs (0 ∷ q))
           inwards r way =
@@ -135,7 +135,7 @@ module _ (points : List Point) (closed : IsClosedWalk points) where
     fewest : (s : ℕ) (r : List ℕ) → s < t → Way s r → length way ≤ length r
     cheapest : (s : ℕ) (r : List ℕ) → s < t → Way s r → length r ≡ length way → pays start way ≤ pays s r
     earliest : (s : ℕ) (r : List ℕ) → s < start → Way s r → length r ≡ length way → pays start way < pays s r
-    lowest : (r : List ℕ) → Way start r → length r ≡ length way → pays start r ≡ pays start way → ¬ (order_of r way ≡ Less)
+    lowest : (r : List ℕ) → Way start r → length r ≡ length way → pays start r ≡ pays start way → ¬ (list_order r way ≡ Less)
 
   best_first : BestBelow 1
   best_first =
@@ -314,9 +314,9 @@ module _ (points : List Point) (closed : IsClosedWalk points) where
                     let pay : pays f (o ++ (j + length points) ∷ []) ≡ pays f all_starts.way
                     = ap (λ m. pays m (o ++ (j + length points) ∷ [])) (sym e) ∙ as_dear ∙ paid in
                     all_starts.lowest (o ++ (j + length points) ∷ []) way same_count pay
-                    (ap (order_of (o ++ (j + length points) ∷ [])) way_is
+                    (ap (list_order (o ++ (j + length points) ∷ [])) way_is
                     ∙ sym (slice_cmp-cons f (o ++ (j + length points) ∷ []) (others ++ (f + length points) ∷ []))
-                    ∙ ap (λ m. order_of (m ∷ o ++ (j + length points) ∷ []) (f ∷ others ++ (f + length points) ∷ [])) (sym e)
+                    ∙ ap (λ m. list_order (m ∷ o ++ (j + length points) ∷ []) (f ∷ others ++ (f + length points) ∷ [])) (sym e)
                     ∙ lower)
               ]
             ]

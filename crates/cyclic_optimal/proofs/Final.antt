@@ -14,7 +14,7 @@ use Rattle.polygon_optimal.specs.Polygon.{penalty_of}
 use Rattle.cyclic_optimal.specs.Cyclic.{IsCyclicPolygon, IsLeastCyclic, once_round, round_penalty}
 use Rattle.cyclic_optimal.specs.Inner.Fronts.{IsBestAmong, worth_of}
 use Rattle.cyclic_optimal.specs.declared.round.Best.{Best}
-use Rattle.cyclic_optimal.proofs.Lists.{cons_above, not_lower_both, not_lower_nothing, one_list, order_of}
+use Rattle.cyclic_optimal.proofs.Lists.{cons_above, not_lower_both, not_lower_nothing, one_list, list_order}
 use Rattle.cyclic_optimal.proofs.Rounds.{FromRound, from_round}
 use Rattle.cyclic_optimal.proofs.Through.{through}
 use Rattle.cyclic_optimal.proofs.Worth.{worth_round}
@@ -71,14 +71,14 @@ module _ (points : List Point) (k last : ℕ) (low : k < length points) (within 
 
   -- one that ties in all and begins at the same point isn't a lower list
   not_lower : (i : ℕ) (o : List ℕ) → IsCyclicPolygon points (i ∷ o) → length (i ∷ o) ≡ length (first ∷ others)
-      → round_penalty points (i ∷ o) ≡ round_penalty points (first ∷ others) → ¬ (order_of (i ∷ o) (first ∷ others) ≡ Less)
+      → round_penalty points (i ∷ o) ≡ round_penalty points (first ∷ others) → ¬ (list_order (i ∷ o) (first ∷ others) ≡ Less)
   not_lower i o polygon tied as_dear =
       elim (cases_lt first i) [
         | inl later ↦ λ lower. absurd (let high = cons_above i first o others later in cc)
         | inr near ↦
             let less = cheapest i o polygon tied in
             let by = through points k low within i o polygon in
-            let P : List ℕ → Type 0 = λ l. ¬ (order_of (i ∷ o) l ≡ Less) in
+            let P : List ℕ → Type 0 = λ l. ¬ (list_order (i ∷ o) l ≡ Less) in
             subst P list_is
             (among.lowest by.start by.way (i ∷ o) (omega (arith, by.above)) (omega (arith, farthest by.start by.reached)) by.goes
             (omega (arith, by.count, found.count, among.count)) (omega (arith, by.worth, worth_is)) by.list)
@@ -102,9 +102,9 @@ module _ (points : List Point) (k last : ℕ) (low : k < length points) (within 
             absurd (let high = cons_above i first (o ++ (i + length points) ∷ []) (others ++ (first + length points) ∷ []) later in cc)
         | inr near ↦
             let same : i ≡ first = omega arith in
-            let ends : ¬ (order_of ((i + length points) ∷ []) ((first + length points) ∷ []) ≡ Less)
+            let ends : ¬ (list_order ((i + length points) ∷ []) ((first + length points) ∷ []) ≡ Less)
             = λ less. not_lower_nothing [] (sym (slice_cmp-cons (first + length points) [] [])
-            ∙ subst (λ m. order_of ((m + length points) ∷ []) ((first + length points) ∷ []) ≡ Less) same less) in
+            ∙ subst (λ m. list_order ((m + length points) ∷ []) ((first + length points) ∷ []) ≡ Less) same less) in
             not_lower_both (i ∷ o) (first ∷ others) ((i + length points) ∷ []) ((first + length points) ∷ []) count
             (not_lower i o polygon count as_dear) ends lower
       ]

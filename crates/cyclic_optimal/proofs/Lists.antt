@@ -20,21 +20,21 @@ use Rattle.cyclic_optimal.specs.Inner.Fronts.{IsListOf, lap_of}
 use Rattle.cyclic_optimal.proofs.Ways.{on_by}
 
 -- the order of lists of numbers
-abbrev pub order_of : List ℕ → List ℕ → Ordering
-order_of = slice_cmp nat_cmp
+abbrev pub list_order : List ℕ → List ℕ → Ordering
+list_order = slice_cmp nat_cmp
 
 nat_cmp_below : (m n : ℕ) → m < n → nat_cmp m n ≡ Less
 nat_cmp_below m n below = grind (arith, nat_tests)
 
-cons_below : (x y : ℕ) (a c : List ℕ) → x < y → order_of (x ∷ a) (y ∷ c) ≡ Less
+cons_below : (x y : ℕ) (a c : List ℕ) → x < y → list_order (x ∷ a) (y ∷ c) ≡ Less
 cons_below x y a c below = rw (nat_cmp_below x y below) refl
 
 -- the list with the greater head is the greater one
-pub cons_above : (x y : ℕ) (a c : List ℕ) → y < x → order_of (x ∷ a) (y ∷ c) ≡ Greater
+pub cons_above : (x y : ℕ) (a c : List ℕ) → y < x → list_order (x ∷ a) (y ∷ c) ≡ Greater
 cons_above x y a c above = rw (nat_cmp_above x y above) refl
 
 -- a list that is lower stays so before others
-pub lower_first : (a c b d : List ℕ) → length a ≡ length c → order_of a c ≡ Less → order_of (a ++ b) (c ++ d) ≡ Less
+pub lower_first : (a c b d : List ℕ) → length a ≡ length c → list_order a c ≡ Less → list_order (a ++ b) (c ++ d) ≡ Less
 lower_first [] [] b d len lower = absurd (let no = lower in cc)
 lower_first [] (y ∷ c) b d len lower = absurd (omega arith)
 lower_first (x ∷ a) [] b d len lower = absurd (omega arith)
@@ -45,21 +45,21 @@ lower_first (x ∷ a) (y ∷ c) b d len lower =
         | inl above ↦ absurd (let high = cons_above x y a c above in cc)
         | inr not_above ↦
             let e : x ≡ y = omega arith in
-            let P : ℕ → Type 0 = λ m. order_of (m ∷ a) (y ∷ c) ≡ Less in
-            let Q : ℕ → Type 0 = λ m. order_of (m ∷ a ++ b) (y ∷ c ++ d) ≡ Less in
+            let P : ℕ → Type 0 = λ m. list_order (m ∷ a) (y ∷ c) ≡ Less in
+            let Q : ℕ → Type 0 = λ m. list_order (m ∷ a ++ b) (y ∷ c ++ d) ≡ Less in
             let rest = lower_first a c b d (omega arith) (sym (slice_cmp-cons y a c) ∙ subst P e lower) in
             subst Q (sym e) (slice_cmp-cons y (a ++ b) (c ++ d) ∙ rest)
       ]
     ]
 
 -- and behind the same
-pub lower_behind : (a b d : List ℕ) → order_of b d ≡ Less → order_of (a ++ b) (a ++ d) ≡ Less
+pub lower_behind : (a b d : List ℕ) → list_order b d ≡ Less → list_order (a ++ b) (a ++ d) ≡ Less
 lower_behind [] b d lower = lower
 lower_behind (x ∷ a) b d lower = slice_cmp-cons x (a ++ b) (a ++ d) ∙ lower_behind a b d lower
 
 -- where neither part is lower, the whole isn't
-pub not_lower_both : (a c b d : List ℕ) → length a ≡ length c → ¬ (order_of a c ≡ Less) → ¬ (order_of b d ≡ Less)
-    → ¬ (order_of (a ++ b) (c ++ d) ≡ Less)
+pub not_lower_both : (a c b d : List ℕ) → length a ≡ length c → ¬ (list_order a c ≡ Less) → ¬ (list_order b d ≡ Less)
+    → ¬ (list_order (a ++ b) (c ++ d) ≡ Less)
 not_lower_both [] [] b d len first second lower = second lower
 not_lower_both [] (y ∷ c) b d len first second lower = omega arith
 not_lower_both (x ∷ a) [] b d len first second lower = omega arith
@@ -70,29 +70,29 @@ not_lower_both (x ∷ a) (y ∷ c) b d len first second lower =
         | inl above ↦ absurd (let high = cons_above x y (a ++ b) (c ++ d) above in cc)
         | inr not_above ↦
             let e : x ≡ y = omega arith in
-            let P : ℕ → Type 0 = λ m. order_of (m ∷ a) (y ∷ c) ≡ Less in
-            let Q : ℕ → Type 0 = λ m. order_of (m ∷ a ++ b) (y ∷ c ++ d) ≡ Less in
+            let P : ℕ → Type 0 = λ m. list_order (m ∷ a) (y ∷ c) ≡ Less in
+            let Q : ℕ → Type 0 = λ m. list_order (m ∷ a ++ b) (y ∷ c ++ d) ≡ Less in
             not_lower_both a c b d (omega arith) (λ l. first (subst P (sym e) (slice_cmp-cons y a c ∙ l))) second
             (sym (slice_cmp-cons y (a ++ b) (c ++ d)) ∙ subst Q e lower)
       ]
     ]
 
 -- no list is lower than the one of nothing, nor than itself
-pub not_lower_nothing : (a : List ℕ) → ¬ (order_of a [] ≡ Less)
+pub not_lower_nothing : (a : List ℕ) → ¬ (list_order a [] ≡ Less)
 not_lower_nothing [] lower = let no = lower in cc
 not_lower_nothing (x ∷ a) lower = let no = lower in cc
 
 -- of three lists none is lower than the third, if the second isn't and it isn't lower than the second
-chain_by : (a b c : List ℕ) (r : Ordering) → order_of a b ≡ r → ¬ (order_of a b ≡ Less) → ¬ (order_of b c ≡ Less) → ¬ (order_of a c ≡ Less)
+chain_by : (a b c : List ℕ) (r : Ordering) → list_order a b ≡ r → ¬ (list_order a b ≡ Less) → ¬ (list_order b c ≡ Less) → ¬ (list_order a c ≡ Less)
 chain_by a b c Less is first second lower = first is
 chain_by a b c Equal is first second lower = second (sym (nat_list_cmp_total.congr a b c is) ∙ lower)
 chain_by a b c Greater is first second lower =
     second (nat_list_cmp_total.trans b a c (nat_list_cmp_total.antisymm b a ∙ ap ordering_reverse is) lower)
 
-pub not_lower_chain : (a b c : List ℕ) → ¬ (order_of a b ≡ Less) → ¬ (order_of b c ≡ Less) → ¬ (order_of a c ≡ Less)
-not_lower_chain a b c = chain_by a b c (order_of a b) refl
+pub not_lower_chain : (a b c : List ℕ) → ¬ (list_order a b ≡ Less) → ¬ (list_order b c ≡ Less) → ¬ (list_order a c ≡ Less)
+not_lower_chain a b c = chain_by a b c (list_order a b) refl
 
-pub lower_chain : (a b c : List ℕ) → order_of a b ≡ Less → order_of b c ≡ Less → order_of a c ≡ Less
+pub lower_chain : (a b c : List ℕ) → list_order a b ≡ Less → list_order b c ≡ Less → list_order a c ≡ Less
 lower_chain a b c first second = nat_list_cmp_total.trans a b c first second
 
 -- numbers moved on keep their order
@@ -100,7 +100,7 @@ cmp_moved : (f a b : ℕ) → nat_cmp (a + f) (b + f) ≡ nat_cmp a b
 cmp_moved f a b = grind (arith, nat_tests)
 
 -- and so do lists of them
-pub lists_moved : (f : ℕ) (xs ys : List ℕ) → order_of (on_by f xs) (on_by f ys) ≡ order_of xs ys
+pub lists_moved : (f : ℕ) (xs ys : List ℕ) → list_order (on_by f xs) (on_by f ys) ≡ list_order xs ys
 lists_moved f xs ys =
     lex_map (λ k. k + f) nat_cmp xs ys
     ∙ ap (λ c. slice_cmp c xs ys) (fun_ext (λ a. fun_ext (λ b. cmp_moved f a b)))

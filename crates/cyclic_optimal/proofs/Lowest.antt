@@ -15,7 +15,7 @@ use Rattle.cyclic_optimal.specs.Inner.Fronts.{AreFrontsOf, AreTops, IsFirstOnwar
 use Rattle.cyclic_optimal.specs.declared.fronts.Front.{Front}
 use Rattle.cyclic_optimal.specs.declared.fronts.Onward.{Onward}
 use Rattle.cyclic_optimal.specs.declared.fronts.TheConstants.{NONE}
-use Rattle.cyclic_optimal.proofs.Lists.{cons_above, lists_moved, lower_behind, lower_first, not_lower_both, one_list, order_of}
+use Rattle.cyclic_optimal.proofs.Lists.{cons_above, lists_moved, lower_behind, lower_first, not_lower_both, one_list, list_order}
 use Rattle.cyclic_optimal.proofs.Rounds.{FromRound, from_round}
 use Rattle.cyclic_optimal.proofs.Ways.{cost_both, goes_both, on_by}
 use Rattle.cyclic_optimal.proofs.Worth.{worth_round}
@@ -26,7 +26,7 @@ module _ (points : List Point) where
   way_none end i rest by small =
       let (r, goes, counted, costs) = by.some small in
       at r goes counted costs where
-        lowest : (r : List ℕ) → length r ≡ 0 → ¬ (order_of r [] ≡ Less)
+        lowest : (r : List ℕ) → length r ≡ 0 → ¬ (list_order r [] ≡ Less)
         lowest [] counted lower = let no = lower in cc
         lowest (j ∷ r) counted lower = omega arith
 
@@ -44,7 +44,7 @@ module _ (points : List Point) where
     lowest = lowest;
   } where
     lowest : (r : List ℕ) → WalksOn end (IsPossible points) i r → length r ≡ left + 1 → total_cost (worth_of points) (i ∷ r) ≡ rest
-        → ¬ (order_of r (onward.next ∷ way) ≡ Less)
+        → ¬ (list_order r (onward.next ∷ way) ≡ Less)
     lowest [] goes counted costs lower = omega arith
     lowest (j ∷ r) goes counted costs lower =
         elim (cases_lt j onward.next) [
@@ -55,7 +55,7 @@ module _ (points : List Point) where
                 let e : j ≡ onward.next = omega arith in
                 let pays = total_cost-cons (worth_of points) i j r in
                 let P : ℕ → Type 0 = λ m. WalksOn end (IsPossible points) m r in
-                let Q : ℕ → Type 0 = λ m. order_of (m ∷ r) (onward.next ∷ way) ≡ Less in
+                let Q : ℕ → Type 0 = λ m. list_order (m ∷ r) (onward.next ∷ way) ≡ Less in
                 is.lowest r (subst P e goes.2) (omega arith)
                 (omega (arith, first.sum, ap (worth_of points i) e, ap (λ m. total_cost (worth_of points) (m ∷ r)) e))
                 (sym (slice_cmp-cons onward.next r way) ∙ subst Q e lower)
@@ -203,9 +203,9 @@ module _ (points : List Point) (s count worth : ℕ) (low : s < length points) (
   here = passes way first.goes first.counted first.costs
 
   pub lowest_list : (r other : List ℕ) → WalksOn end (IsPossible points) s r → length r ≡ count → cost (s ∷ r) ≡ worth → IsListOf n r other
-      → ¬ (order_of other at ≡ Less)
+      → ¬ (list_order other at ≡ Less)
   lowest_list r other goes tally costs lists = apart (passes r goes tally costs) where
-    apart : Passes r → ¬ (order_of other at ≡ Less)
+    apart : Passes r → ¬ (list_order other at ≡ Less)
     apart there =
         let a = here.round.crosses in
         let b = there.round.crosses in
@@ -241,25 +241,25 @@ module _ (points : List Point) (s count worth : ℕ) (low : s < length points) (
         let pays_there = ap (λ l. total_cost (worth_of points) (s ∷ l)) parts_there in
         let pays_one : cost (s ∷ fore ++ b.after) ≡ worth = omega (arith, here.costs, there.costs) in
         let pays_two : cost (s ∷ fore_there ++ a.after) ≡ worth = omega (arith, here.costs, there.costs) in
-        let S : List ℕ → Type 0 = λ l. ¬ (order_of (fore ++ b.after) l ≡ Less) in
-        let T : List ℕ → Type 0 = λ l. ¬ (order_of (fore_there ++ a.after) l ≡ Less) in
+        let S : List ℕ → Type 0 = λ l. ¬ (list_order (fore ++ b.after) l ≡ Less) in
+        let T : List ℕ → Type 0 = λ l. ¬ (list_order (fore_there ++ a.after) l ≡ Less) in
         let not_one = subst S parts (first.lowest (fore ++ b.after) one count_one pays_one) in
         let not_two = subst T parts (first.lowest (fore_there ++ a.after) two count_two pays_two) in
-        let not_behind : ¬ (order_of b.after a.after ≡ Less) = λ lower. not_one (lower_behind fore b.after a.after lower) in
-        let not_fore : ¬ (order_of fore_there fore ≡ Less) = λ lower. not_two (lower_first fore_there fore a.after a.after long lower) in
+        let not_behind : ¬ (list_order b.after a.after ≡ Less) = λ lower. not_one (lower_behind fore b.after a.after lower) in
+        let not_fore : ¬ (list_order fore_there fore ≡ Less) = λ lower. not_two (lower_first fore_there fore a.after a.after long lower) in
         let long_before : length b.before ≡ length a.before = omega (arith, length-append a.before (v ∷ []), length-append b.before (v ∷ [])) in
-        let not_before : ¬ (order_of b.before a.before ≡ Less) = λ lower. not_fore (lower_first b.before a.before (v ∷ []) (v ∷ []) long_before lower) in
+        let not_before : ¬ (list_order b.before a.before ≡ Less) = λ lower. not_fore (lower_first b.before a.before (v ∷ []) (v ∷ []) long_before lower) in
         let f = here.round.list in
         let g = there.round.list in
         let at_here : at ≡ f.behind ++ a.before
         = one_list n way at ((here.round.crosses.at - n) ∷ here.round.others) list f ∙ f.list ∙ ap (λ (l : List ℕ). f.behind ++ l) here.round.splits.0 in
         let at_there : other ≡ g.behind ++ b.before
         = one_list n r other ((there.round.crosses.at - n) ∷ there.round.others) lists g ∙ g.list ∙ ap (λ (l : List ℕ). g.behind ++ l) there.round.splits.0 in
-        let order : order_of g.behind f.behind ≡ order_of b.after a.after
+        let order : list_order g.behind f.behind ≡ list_order b.after a.after
         = sym (lists_moved n g.behind f.behind)
-        ∙ ap (λ l. order_of l (on_by n f.behind)) there.round.splits.1
-        ∙ ap (order_of (b.at ∷ b.after)) here.round.splits.1
-        ∙ ap (λ m. order_of (m ∷ b.after) (v ∷ a.after)) same
+        ∙ ap (λ l. list_order l (on_by n f.behind)) there.round.splits.1
+        ∙ ap (list_order (b.at ∷ b.after)) here.round.splits.1
+        ∙ ap (λ m. list_order (m ∷ b.after) (v ∷ a.after)) same
         ∙ slice_cmp-cons v b.after a.after in
         let long_behind : length g.behind ≡ length f.behind
         = omega (
@@ -274,4 +274,4 @@ module _ (points : List Point) (s count worth : ℕ) (low : s < length points) (
           there.tally,
         ) in
         let whole = not_lower_both g.behind f.behind b.before a.before long_behind (λ lower. not_behind (sym order ∙ lower)) not_before in
-        λ lower. whole (ap (λ l. order_of l (f.behind ++ a.before)) (sym at_there) ∙ ap (order_of other) (sym at_here) ∙ lower)
+        λ lower. whole (ap (λ l. list_order l (f.behind ++ a.before)) (sym at_there) ∙ ap (list_order other) (sym at_here) ∙ lower)

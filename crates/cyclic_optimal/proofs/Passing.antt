@@ -20,7 +20,7 @@ at_end points e i [] goes none = goes
 at_end points e i (j ∷ r) goes none = absurd (omega arith)
 
 -- a front that is another one moved, and the front before the other one
-pub record IsTold (points : List Point) (top : ℕ) (later other before : Front) : Type 0 where
+pub record AreToldOn (points : List Point) (top : ℕ) (later other before : Front) : Type 0 where
   pub is_later : IsFrontOf points later
   pub is_other : IsFrontOf points other
   pub is_before : IsFrontOf points before
@@ -33,7 +33,7 @@ pub record IsTold (points : List Point) (top : ℕ) (later other before : Front)
   pub few : later.low + length later.least.items ≤ 2 ^ 33
   pub reached : (i j : ℕ) → i ≤ top → IsPossible points i j → j ≤ later.end → j < later.low + length later.least.items
 
-module _ (points : List Point) (on_page : AreOnPage points) (top : ℕ) (later other before : Front) (is : IsTold points top later other before) where
+module _ (points : List Point) (on_page : AreOnPage points) (top : ℕ) (later other before : Front) (is : AreToldOn points top later other before) where
   -- what the least ways from a point count, to the one end and to the other
   abbrev here : ℕ → ℕ
   here j = slice_index later.least.items (j - later.low)

@@ -9,7 +9,7 @@ use Rattle.least_walk.specs.LeastWalk.{total_cost}
 use Rattle.least_walk.specs.Inner.Suffix.{IsFewestFrom, WalksOn}
 use Rattle.cyclic_optimal.specs.Inner.Fronts.{IsBestAmong, IsBestFrom, IsListOf, worth_of}
 use Rattle.cyclic_optimal.specs.declared.round.Best.{Best}
-use Rattle.cyclic_optimal.proofs.Lists.{lower_chain, not_lower_chain, not_lower_nothing, order_of}
+use Rattle.cyclic_optimal.proofs.Lists.{lower_chain, not_lower_chain, not_lower_nothing, list_order}
 
 module _ (points : List Point) where
   -- the fewest segments from one more point
@@ -45,7 +45,7 @@ module _ (points : List Point) where
         → length r ≡ best.count → best.worth ≤ total_cost (worth_of points) (s ∷ r)
     pub lowest : (s : ℕ) (r at : List ℕ) → low ≤ s → s < high → WalksOn (s + length points) (IsPossible points) s r
         → length r ≡ best.count → total_cost (worth_of points) (s ∷ r) ≡ best.worth → IsListOf (length points) r at
-        → ¬ (order_of at best.at.items ≡ Less)
+        → ¬ (list_order at best.at.items ≡ Less)
 
   -- of the points that were looked at it is the best one; or none of so few segments was found
   pub record IsBestSoFar (fewest low high : ℕ) (best : Best) : Type 0 where
@@ -88,7 +88,7 @@ module _ (points : List Point) where
       least : (r : List ℕ) → WalksOn (s + length points) (IsPossible points) s r → length r ≡ best.count
           → best.worth ≤ total_cost (worth_of points) (s ∷ r)
       lowest : (r at : List ℕ) → WalksOn (s + length points) (IsPossible points) s r → length r ≡ best.count
-          → total_cost (worth_of points) (s ∷ r) ≡ best.worth → IsListOf (length points) r at → ¬ (order_of at best.at.items ≡ Less)
+          → total_cost (worth_of points) (s ∷ r) ≡ best.worth → IsListOf (length points) r at → ¬ (list_order at best.at.items ≡ Less)
 
     -- the points behind this one, and this one
     least_on : (best : Best) → IsLeastAmong (s + 1) high best → IsNoneHere best → IsLeastAmong s high best
@@ -134,7 +134,7 @@ module _ (points : List Point) where
             least = λ r goes counted. omega (arith, so_far.most, is.none_fewer r goes, so_far.nothing (omega (arith, so_far.most, is.none_fewer r goes)));
             lowest = λ r at goes counted costs lists lower.
                 (let none = so_far.no_list (omega (arith, so_far.most, is.none_fewer r goes)) in
-                not_lower_nothing at (subst (λ (l : List ℕ). order_of at l ≡ Less) none lower));
+                not_lower_nothing at (subst (λ (l : List ℕ). list_order at l ≡ Less) none lower));
           })
 
       taken : (next : Best) → next.count ≤ fewest → IsBestFrom points s next → IsLeastAmong (s + 1) high next
@@ -186,7 +186,7 @@ module _ (points : List Point) where
             })
 
         -- they tie, and the next one is the lower list
-        next_lower : next.count ≡ best.count → next.worth ≡ best.worth → order_of next.at.items best.at.items ≡ Less → IsBestSoFar fewest s high next
+        next_lower : next.count ≡ best.count → next.worth ≡ best.worth → list_order next.at.items best.at.items ≡ Less → IsBestSoFar fewest s high next
         next_lower tied as_dear first =
             taken next small from (record {
               fewest = λ t r a b goes. (let least = so_far.least.fewest t r a b goes in omega arith);
@@ -196,7 +196,7 @@ module _ (points : List Point) where
             })
 
         -- they tie, and it isn't
-        before_lower : next.count ≡ best.count → next.worth ≡ best.worth → ¬ (order_of next.at.items best.at.items ≡ Less) → IsBestSoFar fewest s high best
+        before_lower : next.count ≡ best.count → next.worth ≡ best.worth → ¬ (list_order next.at.items best.at.items ≡ Less) → IsBestSoFar fewest s high best
         before_lower tied as_dear not_first =
             kept (record {
               fewest = λ r goes. (let least = from.fewest r goes in omega arith);
@@ -207,22 +207,22 @@ module _ (points : List Point) where
 
         -- the lists decide where all else ties
         chosen_by : next.count ≡ best.count → next.worth ≡ best.worth
-            → (order_of next.at.items best.at.items ≡ Less → chosen ≡ next) → (¬ (order_of next.at.items best.at.items ≡ Less) → chosen ≡ best)
-            → (r : Ordering) → order_of next.at.items best.at.items ≡ r → IsBestSoFar fewest s high chosen
+            → (list_order next.at.items best.at.items ≡ Less → chosen ≡ next) → (¬ (list_order next.at.items best.at.items ≡ Less) → chosen ≡ best)
+            → (r : Ordering) → list_order next.at.items best.at.items ≡ r → IsBestSoFar fewest s high chosen
         chosen_by tied as_dear first kept Less is = subst (IsBestSoFar fewest s high) (sym (first is)) (next_lower tied as_dear is)
         chosen_by tied as_dear first kept Equal is =
-            let not_first : ¬ (order_of next.at.items best.at.items ≡ Less) = λ lower. (let both = sym is ∙ lower in cc) in
+            let not_first : ¬ (list_order next.at.items best.at.items ≡ Less) = λ lower. (let both = sym is ∙ lower in cc) in
             subst (IsBestSoFar fewest s high) (sym (kept not_first)) (before_lower tied as_dear not_first)
         chosen_by tied as_dear first kept Greater is =
-            let not_first : ¬ (order_of next.at.items best.at.items ≡ Less) = λ lower. (let both = sym is ∙ lower in cc) in
+            let not_first : ¬ (list_order next.at.items best.at.items ≡ Less) = λ lower. (let both = sym is ∙ lower in cc) in
             subst (IsBestSoFar fewest s high) (sym (kept not_first)) (before_lower tied as_dear not_first)
 
         pub so_far_better : (next.count < best.count → chosen ≡ next)
             → (best.count < next.count → chosen ≡ best)
             → (next.count ≡ best.count → next.worth < best.worth → chosen ≡ next)
             → (next.count ≡ best.count → best.worth < next.worth → chosen ≡ best)
-            → (next.count ≡ best.count → next.worth ≡ best.worth → order_of next.at.items best.at.items ≡ Less → chosen ≡ next)
-            → (next.count ≡ best.count → next.worth ≡ best.worth → ¬ (order_of next.at.items best.at.items ≡ Less) → chosen ≡ best)
+            → (next.count ≡ best.count → next.worth ≡ best.worth → list_order next.at.items best.at.items ≡ Less → chosen ≡ next)
+            → (next.count ≡ best.count → next.worth ≡ best.worth → ¬ (list_order next.at.items best.at.items ≡ Less) → chosen ≡ best)
             → IsBestSoFar fewest s high chosen
         so_far_better fewer more lower higher first kept =
             elim (cases_lt next.count best.count) [
@@ -237,7 +237,7 @@ module _ (points : List Point) where
                         | inl dear ↦ subst (IsBestSoFar fewest s high) (sym (higher tied dear)) (before_better (λ _. dear) (omega arith))
                         | inr not_dear ↦
                             let as_dear : next.worth ≡ best.worth = omega arith in
-                            chosen_by tied as_dear (first tied as_dear) (kept tied as_dear) (order_of next.at.items best.at.items) refl
+                            chosen_by tied as_dear (first tied as_dear) (kept tied as_dear) (list_order next.at.items best.at.items) refl
                       ]
                     ]
               ]

@@ -2,7 +2,7 @@ use Rattle.std.proofs.Common.{◌+◌, refl, sym, subst, arith}
 use Rattle.std.specs.Prelude.{IfOk, Result, Ok, Err}
 use Rattle.cyclic_optimal.specs.Inner.Fronts.{IsFrontOf, IsMoved}
 use Rattle.cyclic_optimal.specs.declared.fronts.Front.{Front}
-use Rattle.cyclic_optimal.proofs.Passing.{IsTold, front_told}
+use Rattle.cyclic_optimal.proofs.Passing.{AreToldOn, front_told}
 use Rattle.cyclic_optimal.proofs.merged.earlier_by.Goals as goal
 
 -- what follows from all that holds of a front that is there
@@ -22,7 +22,7 @@ returns-then-is_moved-clause-front c =
     let is = c.if-is_before.ensures in
     let is_other : IsFrontOf points other = subst (IsFrontOf points) (sym c.index-kept-later.is) (c.requires.kept later.left other (omega (arith, c.if-later-kept.true))) in
     let is_before : IsFrontOf points before = subst (IsFrontOf points) (sym c.index-kept-later-then-later-kept.is) (c.requires.kept (later.left + 1) before (omega (arith, c.if-later-kept.true))) in
-    let told : IsTold points c.args.top later other before = record {
+    let told : AreToldOn points c.args.top later other before = record {
       is_later = c.requires.front;
       is_other = is_other;
       is_before = is_before;
