@@ -1,5 +1,5 @@
 -- Outlines that aren't joined lie on their page, but for half a pixel.
-use Rattle.std.proofs.Common.{◌≡◌, ◌⊎◌, inl, inr, ℕ, ◌+◌, ◌*◌, ◌%◌, ◌<◌, ◌≤◌, ℤ, pos, negsuc, neg_ℤ, ◌+ℤ◌, ◌-ℤ◌, ◌*ℤ◌, ◌≤ℤ◌, ◌<ℤ◌, unsigned_abs, Bool, true, false, List, [], ◌∷◌, length, zip, refl, sym, ◌∙◌, subst, arith}
+use Rattle.std.proofs.Common.{◌≡◌, ◌⊎◌, inl, inr, ℕ, ◌+◌, ◌*◌, ◌%◌, ◌<◌, ◌≤◌, ℤ, pos, negsuc, neg_ℤ, ◌+ℤ◌, ◌-ℤ◌, ◌*ℤ◌, ◌≤ℤ◌, ◌<ℤ◌, unsigned_abs, Bool, true, false, List, [], ◌∷◌, length, zip, sym, ◌∙◌, subst, arith}
 use Rattle.std.proofs.lemmas.Int.{ints, by_lt_z}
 use Rattle.std.proofs.lemmas.Bool.{cases_lt}
 use Rattle.std.proofs.lemmas.List.{get_or_past}
@@ -21,7 +21,6 @@ use Rattle.pt_core.proofs.Rounding.{floor_is}
 use Rattle.pt_core.proofs.Terms.{same_value}
 use Rattle.pt_core.proofs.Terms.Term.{num, plus, less, times, opposite}
 use Rattle.bit_image.specs.Page.{IsPage, Page}
-use Rattle.bit_image.proofs.Pages.{Fits-page}
 use Rattle.path_decompose.specs.Bounds.{IsCornerOf}
 use Rattle.path_decompose.specs.Inner.Bounds.{IsPathOn}
 use Rattle.path_decompose.proofs.PathOn.{page_paths_on}
@@ -225,7 +224,7 @@ pub trace_on : (page : Page) (settings : Settings) (trace : Trace) → IsPage pa
     → All (All (OfPoints (IsAlmostOnPage 512 page.width page.height))) trace.outlines
 trace_on page settings trace is_page is none =
     let paths = is.polygons.paths in
-    let all = page_paths_on page page settings.policy paths.all refl is_page (Fits-page page is_page) paths.decomposed in
+    let all = page_paths_on page settings.policy paths.all is_page paths.decomposed in
     let kept = all_kept settings.turd (IsPathOn page.width page.height) paths.all trace.paths paths.no_speckles all in
     lists_on page.width page.height settings (zip trace.paths trace.polygons) trace.vertices trace.outlines none
     (zipped_on page.width page.height trace.paths trace.polygons kept) is.vertices is.outlines

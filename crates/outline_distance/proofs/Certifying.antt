@@ -1,5 +1,5 @@
 -- The certificates of a page are right.
-use Rattle.std.proofs.Common.{◌≡◌, ℕ, ◌*◌, ◌<◌, ◌≤◌, ◌^◌, Bool, true, false, cond, List, [], ◌∷◌, All, length, ap, sym, subst, refl, suc, arith}
+use Rattle.std.proofs.Common.{◌≡◌, ℕ, ◌*◌, ◌<◌, ◌≤◌, ◌^◌, Bool, true, false, cond, List, [], ◌∷◌, All, length, ap, sym, subst, suc, arith}
 use Rattle.std.specs.Prelude.{nat_lt}
 use Rattle.std.proofs.lemmas.Nat.{mul-le}
 use Rattle.pt_core.specs.declared.limits.TheConstants.{LONGEST_SIDE}
@@ -9,7 +9,6 @@ use Rattle.pt_core.specs.declared.settings.Backend.TheVariants.{Proofs}
 use Rattle.pt_core.specs.declared.settings.Settings.{Settings}
 use Rattle.pt_core.specs.declared.trace.Trace.{Trace}
 use Rattle.bit_image.specs.Page.{IsPage, Page}
-use Rattle.bit_image.proofs.Pages.{Fits-page}
 use Rattle.path_decompose.specs.Decomposition.{kept}
 use Rattle.path_decompose.specs.Inner.Bounds.{IsPathOn}
 use Rattle.path_decompose.proofs.PathOn.{page_paths_on}
@@ -43,7 +42,7 @@ few_kept page settings paths is_page are =
 kept_on : (page : Page) (settings : Settings) (paths : List Path) → IsPage page → ArePaths page settings paths → All (IsPathOn page.width page.height) paths
 kept_on page settings paths is_page are =
     all_kept settings.turd (IsPathOn page.width page.height) are.all paths are.no_speckles
-    (page_paths_on page page settings.policy are.all refl is_page (Fits-page page is_page) are.decomposed)
+    (page_paths_on page settings.policy are.all is_page are.decomposed)
 
 certified : (page : Page) (settings : Settings) (trace : Trace) (text : List ℕ) → IsPage page → settings.cyclic ≡ false → HasPolygons page settings trace → IsPrinted trace text
     → IsVerdict text (Right (length trace.paths))

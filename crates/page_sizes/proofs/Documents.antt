@@ -1,5 +1,5 @@
 -- How long the documents of pages are.
-use Rattle.std.proofs.Common.{◌≡◌, ℕ, ◌+◌, ◌*◌, ◌≤◌, List, All, length, nat_lt, sum_by, ap, refl, subst, sym, ◌∙◌, arith}
+use Rattle.std.proofs.Common.{◌≡◌, ℕ, ◌+◌, ◌*◌, ◌≤◌, List, All, length, nat_lt, sum_by, ap, subst, sym, ◌∙◌, arith}
 use Rattle.std.proofs.lemmas.List.Elements.{All-filter}
 use Rattle.pt_core.specs.ClosedWalk.{IsClosedWalk}
 use Rattle.pt_core.specs.declared.path.Path.{Path}
@@ -8,7 +8,6 @@ use Rattle.pt_core.specs.declared.settings.Backend.TheVariants.{Dxf, Eps, GeoJso
 use Rattle.pt_core.specs.declared.settings.Settings.{Settings}
 use Rattle.pt_core.specs.declared.trace.Trace.{Trace}
 use Rattle.bit_image.specs.Page.{IsPage, Page}
-use Rattle.bit_image.proofs.Pages.{Fits-page}
 use Rattle.path_decompose.proofs.PathOn.{page_paths_on}
 use Rattle.page_trace.specs.Document.{IsDocumentUnder}
 use Rattle.page_trace.specs.Trace.{ArePaths, HasPolygons, IsTrace}
@@ -31,7 +30,7 @@ kept_closed : (page : Page) (settings : Settings) (paths : List Path) → IsPage
 kept_closed page settings paths is_page are =
     subst (All (λ (p : Path). IsClosedWalk p.points)) (sym are.no_speckles)
     (All-filter (λ path. nat_lt settings.turd path.area) (λ (p : Path). IsClosedWalk p.points) are.all
-    (λ k d short. (page_paths_on page page settings.policy are.all refl is_page (Fits-page page is_page) are.decomposed k d short).closed))
+    (λ k d short. (page_paths_on page settings.policy are.all is_page are.decomposed k d short).closed))
 
 listed : (page : Page) (settings : Settings) (trace : Trace) → IsPage page → HasPolygons page settings trace → CanBeListed settings trace
 listed page settings trace is_page has = record {

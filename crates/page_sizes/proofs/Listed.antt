@@ -15,7 +15,6 @@ use Rattle.pt_core.specs.declared.policy.Policy.{Policy}
 use Rattle.pt_base.specs.PointsText.{path_text, point_text, points_text, sign_text}
 use Rattle.bit_image.specs.Image.{Image}
 use Rattle.bit_image.specs.Page.{IsPage, Page, image_of}
-use Rattle.bit_image.proofs.Pages.{Fits-page}
 use Rattle.turn_policies.specs.Majority.{count_below}
 use Rattle.path_decompose.specs.Bounds.{IsCornerOf}
 use Rattle.path_decompose.specs.Decomposition.{IsDecomposed, IsDecomposition, inverted}
@@ -46,7 +45,7 @@ areas_small page policy b (path ∷ paths) wide high d =
 
 pub small_paths : (page : Page) (policy : Policy) (paths : List Path) → IsPage page → IsDecomposition page policy paths → All (IsSmallPath page.width page.height) paths
 small_paths page policy paths is_page d = λ k path short.
-    let on = page_paths_on page page policy paths refl is_page (Fits-page page is_page) d k path short in
+    let on = page_paths_on page policy paths is_page d k path short in
     record {
       least = on.closed.least;
       corners = on.on_page;

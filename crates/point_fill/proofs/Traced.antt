@@ -142,7 +142,7 @@ pub traced : (page : Page) (policy : Policy) (all : List Path) → IsPage page �
 traced page policy all is_page d =
     let w : ℕ = page.width in
     let h : ℕ = page.height in
-    let on : All (IsPathOn w h) all = page_paths_on page page policy all refl is_page (Fits-page page is_page) d in
+    let on : All (IsPathOn w h) all = page_paths_on page policy all is_page d in
     let area : All (λ path. path.area ≡ black_count (inside path.points) w h) all = areas page policy (image_of page) all d in
     let most : w * h ≤ LONGEST_SIDE * LONGEST_SIDE = mul-le w h LONGEST_SIDE LONGEST_SIDE (omega (arith, is_page.most_width)) (omega (arith, is_page.most_height)) in
     let count : length all ≤ w * h = few_paths page policy all is_page d in
