@@ -4,8 +4,8 @@ ghost use Rattle.mkbitmap.specs.Enlarged.{before_within, mix};
 ghost use Rattle.mkbitmap.specs.Inner.Enlarged.{dark};
 ghost use Rattle.mkbitmap.specs.Inner.Packing.{bit, byte_of};
 ghost use Rattle.mkbitmap.specs.Packing.{padded};
-ghost use Rattle.mkbitmap.specs.Inner.CentrePlace.{IsPlaceOf};
-ghost use Rattle.mkbitmap.specs.declared.limits.TheConstants.{GREATEST_RELIEF, GREATEST_TIMES};
+ghost use Rattle.mkbitmap.specs.Inner.CentrePlace.{CanEnlarge, IsPlaceOf};
+ghost use Rattle.mkbitmap.specs.declared.limits.TheConstants.{GREATEST_RELIEF};
 ghost use Rattle.pt_core.specs.declared.limits.TheConstants.{LONGEST_SIDE};
 ghost use Rattle.bit_image.specs.PbmText.{row_text};
 
@@ -44,8 +44,7 @@ pub(crate) struct CentrePlace {
 impl CentrePlace {
     /// The place of a column or of a row of the larger page.
     pub(crate) fn of(times: u32, column: u32) -> CentrePlace
-        requires least { 1 ≤ times }
-        requires most { times ≤ GREATEST_TIMES }
+        requires times { CanEnlarge times }
         requires column { column ≤ LONGEST_SIDE }
         ensures { IsPlaceOf times column result }
     {
@@ -58,8 +57,7 @@ impl CentrePlace {
 
     /// The place of the next one.
     fn next(self, times: u32) -> CentrePlace
-        requires least { 1 ≤ times }
-        requires most { times ≤ GREATEST_TIMES }
+        requires times { CanEnlarge times }
         requires after { self.after ≤ 65536 }
         requires part { self.part < 2 * times }
         ensures { (X : ℕ) → IsPlaceOf times X self → IsPlaceOf times (X + 1) result }
@@ -93,8 +91,7 @@ fn is_dark(mixed: &[u32], after: u32, part: u32, whole: u32, limit: u64) -> bool
 
 /// What the pixel in a column adds to its byte. The row has no pixels from `end` on.
 fn pixel(mixed: &[u32], place: CentrePlace, times: u32, limit: u64, x: u32, end: u32) -> u32
-    requires least { 1 ≤ times }
-    requires most { times ≤ GREATEST_TIMES }
+    requires times { CanEnlarge times }
     requires place { IsPlaceOf times x place }
     requires columns { end + 2 * times ≤ times * length mixed.now }
     ensures value { result ≡ bit (padded end (dark mixed.now times limit) x) }
@@ -110,8 +107,7 @@ fn pixel(mixed: &[u32], place: CentrePlace, times: u32, limit: u64, x: u32, end:
 /// Eight pixels of a row of the larger page as a byte, from a column on. The row has no pixels from
 /// `end` on.
 fn byte_at(mixed: &[u32], times: u32, limit: u64, column: u32, end: u32) -> u8
-    requires least { 1 ≤ times }
-    requires most { times ≤ GREATEST_TIMES }
+    requires times { CanEnlarge times }
     requires column { column ≤ LONGEST_SIDE }
     requires columns { end + 2 * times ≤ times * length mixed.now }
     ensures { result ≡ byte_of (padded end (dark mixed.now times limit)) column }
@@ -127,8 +123,7 @@ fn byte_at(mixed: &[u32], times: u32, limit: u64, column: u32, end: u32) -> u8
 
 /// A row of the larger page, packed.
 pub(crate) fn pack_row(mixed: &[u32], times: u32, limit: u64, end: u32, row: &mut [u8])
-    requires least { 1 ≤ times }
-    requires most { times ≤ GREATEST_TIMES }
+    requires times { CanEnlarge times }
     requires end { end ≤ LONGEST_SIDE }
     requires columns { end + 2 * times ≤ times * length mixed.now }
     requires room { length row.old ≡ (end + 7) / 8 }
