@@ -2,7 +2,7 @@
 //!
 //! A word has the edges that go down from 64 corners side by side, and the next word those that go left. The least
 //! significant bit is the leftmost one. So what lies above and below an edge is near it in memory too.
-ghost use Rattle.std.specs.Prelude.{◌≡◌, ◌≢◌, ◌⊎◌, IsNone, IfSome, true, ℕ, suc, ◌+◌, ◌-◌, ◌*◌, ◌/◌, ◌%◌, ◌^◌, ◌≤◌, ◌<◌, Bool, false, cond, ◌&&◌, nat_eq, List, ◌∷◌, length, slice_index_or};
+ghost use Rattle.std.specs.Prelude.{◌≡◌, ◌≢◌, ◌⊎◌, ◌↔◌, IsNone, IfSome, IsTrue, true, ℕ, suc, ◌+◌, ◌-◌, ◌*◌, ◌/◌, ◌%◌, ◌^◌, ◌≤◌, ◌<◌, Bool, false, cond, ◌&&◌, nat_eq, List, ◌∷◌, length, slice_index_or};
 ghost use Rattle.bit_image.specs.Image.{differ};
 ghost use Rattle.bit_image.specs.Words.{is_one};
 ghost use Rattle.bit_image.specs.Inner.Words.{black_in};
@@ -144,7 +144,7 @@ fn pixels_behind(before: u64, here: u64, by: u32) -> u64
 
 /// Whether all pixels of a row are white.
 pub(crate) fn is_white(row: &[u64]) -> bool
-    ensures { result ≡ true → (u : ℕ) → black_in row.now u ≡ false }
+    ensures { IsTrue result ↔ ((u : ℕ) → black_in row.now u ≡ false) }
 {
     for word in row {
         if *word != 0 {

@@ -1,4 +1,4 @@
--- What the search for the first vertex of the least cyclic polygon knows of ways round a path.
+-- What the search for the least cyclic polygon knows of ways round a path.
 use Rattle.std.specs.Prelude.{◌≡◌, ℕ, ◌+◌, ◌-◌, ◌*◌, ◌<◌, ◌≤◌, ◌^◌, All, cond, nat_lt, List, ◌∷◌, ◌++◌, get_or, length, map, slice_index}
 use Rattle.std.specs.Ordering.{nat_cmp}
 use Rattle.std.specs.Cmp.Lexicographic.{slice_cmp}

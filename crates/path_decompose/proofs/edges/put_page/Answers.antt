@@ -29,7 +29,7 @@ loop-y-preserved c =
               let both = w.if-not-above_is_white.false in
               ap (λ ws. edges ws k u v) w.words-is
               ∙ c.loop-y.invariant.rest k u v p (omega (arith, here))
-              ∙ sym (ap (changes b k u) here ∙ changes-white b k u y (c.loop-y.invariant.white both.0) (λ n. sym (over n) ∙ c.is_white-above_is_white.ensures both.1 n))
+              ∙ sym (ap (changes b k u) here ∙ changes-white b k u y (c.loop-y.invariant.white both.0) (λ n. sym (over n) ∙ c.is_white-above_is_white.ensures.0 both.1 n))
         ]
         | inr (inl before) ↦ elim c.if-not-above_is_white.branch [
           | then-not-above_is_white w ↦ ap (λ ws. edges ws k u v) w.words-is ∙ w.put_row.ensures.others k u v p (λ e. omega arith) ∙ c.loop-y.invariant.rows_so_far k u v p before
@@ -41,7 +41,7 @@ loop-y-preserved c =
         | then-not-above_is_white w ↦ ap (λ ws. edges ws k u v) w.words-is ∙ w.put_row.ensures.others k u v p (λ e. omega arith) ∙ c.loop-y.invariant.rest k u v p (omega arith)
         | else-not-above_is_white w ↦ ap (λ ws. edges ws k u v) w.words-is ∙ c.loop-y.invariant.rest k u v p (omega arith)
       ];
-      white = λ white u. sym (c.row_behind-above.ensures.pixels u) ∙ c.is_white-above_is_white.ensures white u;
+      white = λ white u. sym (c.row_behind-above.ensures.pixels u) ∙ c.is_white-above_is_white.ensures.0 white u;
     }
 
 pub put_row-requires-clause-room : goal.put_row-requires-clause-room
