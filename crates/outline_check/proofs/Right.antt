@@ -94,7 +94,7 @@ module _ (size : ℕ) (lasts : List ℕ) (leads : (i : ℕ) → i < size → Lea
         );
   }
 
-  module _ (cheap : (i j : ℕ) → i < size → IsUpToLast lasts i j → cost i j < 2 ^ 56)
+  module _ (cheap : (i j : ℕ) → i < size → IsUpToLast lasts i j → cost i j < 2 ^ 24)
       (labels more : List Label) (i : ℕ) (below : i < size) (known : AreRightDownTo size (IsUpToLast lasts) cost (i + 1) labels)
       (label : Label) (set : IsLabelled size lasts cost labels more i label) where
     within : (k j : ℕ) → k < size → IsUpToLast lasts k j → j ≤ size
@@ -178,7 +178,7 @@ module _ (size : ℕ) (lasts : List ℕ) (leads : (i : ℕ) → i < size → Lea
           | inr later ↦ omega (arith, count_same k (omega arith) inside, known.few k (omega arith) inside)
         ]
 
-    small_more : (k : ℕ) → i ≤ k → k ≤ size → (label_at more k).cost ≤ (label_at more k).count * 2 ^ 56
+    small_more : (k : ℕ) → i ≤ k → k ≤ size → (label_at more k).cost ≤ (label_at more k).count * 2 ^ 24
     small_more k above inside =
         elim (cases_eq k i) [
           | inl first ↦

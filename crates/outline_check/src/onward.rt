@@ -22,10 +22,15 @@ use prefix_moments::{Growing, Start};
 /// costs less where each of its segments is looked up by itself.
 const WIDE: u32 = 8;
 
-/// A label, and the point that it comes from.
+/// A segment to go on by.
+//
+// What it costs has 64 bits, where a label has 128, since a text may say anything: the labels of the points after
+// it are right, and so none costs more than its segments times 2^24.
 #[derive(Clone, Copy)]
 struct Onward {
-    label: Label,
+    /// What the segment costs, with all that is left from where it leads.
+    cost: u64,
+    /// Where the segment leads.
     next: u32,
 }
 
@@ -45,10 +50,8 @@ struct Window<'a> {
     ghost ordered: { begin ≤ last },
     ghost reached: { last ≤ slice_index segments.now.lasts.items start.from },
     ghost places: { length labels.now ≡ length segments.now.moments + 1 },
-    ghost few: { (k : ℕ) → start.from < k → k ≤ length segments.now.moments
-        → (label_at labels.now k).count + k ≤ length segments.now.moments },
     ghost small: { (k : ℕ) → start.from < k → k ≤ length segments.now.moments
-        → (label_at labels.now k).cost ≤ (label_at labels.now k).count * 2 ^ 56 },
+        → (label_at labels.now k).cost < 2 ^ 56 },
 }
 
 /// The first point from which on the labels are known.
@@ -88,12 +91,7 @@ impl Stage {
         ensures begin { IsWindowBegin (length segments.now.moments) segments.now.lasts.items labels.now from result.begin }
     {
         let begin = begin_from(segments, labels, from, self.begin);
-        let onward = label_from(segments, labels, from, begin, self.next);
-        Stage {
-            label: onward.label,
-            begin,
-            next: onward.next,
-        }
+        stage_from(segments, labels, from, begin, self.next)
     }
 }
 
@@ -115,27 +113,28 @@ fn begin_from(segments: &CheckedSegments, labels: &[Label], from: u32, later: u3
     }
 }
 
-/// The right label of a point whose window begins here.
+/// What is known of a point whose window begins here.
 //
 // The segment to where the label of the next point comes from is mostly the best here too, or nearly. So it
 // comes first, and hardly any of the others is better: they are refused without a root. Long straight sides have
 // narrow windows, since all their points reach the same corner. A certificate of a page of text takes 2.5 times as
 // long as its polygons, of a spiral of walls 2.7 times, of a nest of squares 3.9 times; to check it takes less than
 // to make it.
-fn label_from(
+fn stage_from(
     segments: &CheckedSegments,
     labels: &[Label],
     from: u32,
     begin: u32,
     guess: u32,
-) -> Onward
+) -> Stage
     requires from { from < length segments.now.moments }
     requires known { AreRightDownTo (length segments.now.moments)
         (IsUpToLast segments.now.lasts.items) (penalty_of segments.now.moments)
         (from + 1) labels.now }
     requires begin { IsWindowBegin (length segments.now.moments) segments.now.lasts.items labels.now from begin }
-    ensures { IsRight (IsUpToLast segments.now.lasts.items) (penalty_of segments.now.moments)
+    ensures label { IsRight (IsUpToLast segments.now.lasts.items) (penalty_of segments.now.moments)
         labels.now from result.label }
+    ensures begin { result.begin ≡ begin }
 {
     let last = segments.lasts[from as usize];
     let start = Start::at(&segments.moments, from);
@@ -148,17 +147,28 @@ fn label_from(
     };
     let to = guess.max(begin).min(last);
     let tried = by_segment(&window, to);
-    cheapest_of(&window, tried)
+    let best = cheapest_of(&window, tried);
+    let label = Label {
+        count: labels[last as usize].count + 1,
+        cost: u128::from(best.cost),
+    };
+    Stage {
+        label,
+        begin,
+        next: best.next,
+    }
 }
 
-/// The cheapest label by the segments into the window, one of which was tried.
+/// The cheapest of the segments into the window, one of which was tried.
 fn cheapest_of(window: &Window, tried: Onward) -> Onward
     requires { IsCheapestBefore (penalty_of window.now.segments.now.moments) window.now.labels.now
         window.now.start.from window.now.begin window.now.last window.now.begin tried }
     ensures { IsCheapestBefore (penalty_of window.now.segments.now.moments) window.now.labels.now
         window.now.start.from window.now.begin window.now.last (window.now.last + 1) result }
 {
-    if window.last - window.begin < WIDE {
+    if window.begin == window.last {
+        tried
+    } else if window.last - window.begin < WIDE {
         cheapest_of_few(window, tried)
     } else {
         cheapest_of_many(window, tried)
@@ -180,89 +190,101 @@ fn cheapest_of_few(window: &Window, tried: Onward) -> Onward
 }
 
 /// The same, by one segment that grows from point to point.
+//
+// Only the walk's end is a point of its second lap. So what is said of laps isn't asked at each point, and the labels
+// of the others are gone through without looking one up.
+#[inline(never)]
 fn cheapest_of_many(window: &Window, tried: Onward) -> Onward
-    requires { IsCheapestBefore (penalty_of window.now.segments.now.moments) window.now.labels.now
+    requires wide { window.now.begin < window.now.last }
+    requires tried { IsCheapestBefore (penalty_of window.now.segments.now.moments) window.now.labels.now
         window.now.start.from window.now.begin window.now.last window.now.begin tried }
     ensures { IsCheapestBefore (penalty_of window.now.segments.now.moments) window.now.labels.now
         window.now.start.from window.now.begin window.now.last (window.now.last + 1) result }
 {
     let mut segment = Growing::between(&window.segments.moments, window.start.from, window.begin);
-    let mut best = cheaper_by(window, &segment, tried);
-    while segment.to < window.last {
+    let mut best = cheaper_by(window, &segment, rest(window, window.begin), tried);
+    let end = (window.last as usize + 1).min(window.segments.size());
+    let others = &window.labels[window.begin as usize + 1..end];
+    for label in others {
+        segment = segment.longer_in_lap();
+        best = cheaper_by(window, &segment, label.cost as u64, best);
+    }
+    if segment.to < window.last {
         segment = segment.longer();
-        best = cheaper_by(window, &segment, best);
+        best = cheaper_by(window, &segment, rest(window, window.last), best);
     }
     best
 }
 
-/// The label by the segment to this point.
+/// What all that is left from this point on costs.
+fn rest(window: &Window, to: u32) -> u64
+    requires above { window.now.begin ≤ to }
+    requires near { to ≤ window.now.last }
+    ensures value { result ≡ (label_at window.now.labels.now to).cost }
+    ensures small { result < 2 ^ 56 }
+{
+    window.labels[to as usize].cost as u64
+}
+
+/// The segment to this point.
 fn by_segment(window: &Window, to: u32) -> Onward
     requires above { window.now.begin ≤ to }
     requires near { to ≤ window.now.last }
     ensures { result ≡ onward_by (penalty_of window.now.segments.now.moments) window.now.labels.now window.now.start.from to }
 {
-    by_penalty(window, to, window.start.penalty(to))
-}
-
-/// The same, where the segment's penalty is known.
-#[inline(always)]
-fn by_penalty(window: &Window, to: u32, penalty: u64) -> Onward
-    requires above { window.now.begin ≤ to }
-    requires near { to ≤ window.now.last }
-    ensures { (cost : ℕ → ℕ → ℕ) → penalty ≡ cost window.now.start.from to
-        → result ≡ onward_by cost window.now.labels.now window.now.start.from to }
-{
-    let label = window.labels[to as usize];
     Onward {
-        label: Label {
-            count: label.count + 1,
-            cost: label.cost + u128::from(penalty),
-        },
+        cost: rest(window, to) + window.start.penalty(to),
         next: to,
     }
 }
 
-/// The label by the segment to this point, where it is cheaper than `best`.
+/// The segment to this point, where it is cheaper than `best`.
 //
 // Where the rest alone isn't cheaper, the segment isn't looked at.
 fn cheaper(window: &Window, to: u32, best: Onward) -> Onward
     requires above { window.now.begin ≤ to }
     requires near { to ≤ window.now.last }
-    ensures cheaper { (label_by (penalty_of window.now.segments.now.moments) window.now.labels.now window.now.start.from to).cost < best.label.cost
+    ensures cheaper { (label_by (penalty_of window.now.segments.now.moments) window.now.labels.now window.now.start.from to).cost < best.cost
         → result ≡ onward_by (penalty_of window.now.segments.now.moments) window.now.labels.now window.now.start.from to }
-    ensures same { best.label.cost ≤ (label_by (penalty_of window.now.segments.now.moments) window.now.labels.now window.now.start.from to).cost
+    ensures same { best.cost ≤ (label_by (penalty_of window.now.segments.now.moments) window.now.labels.now window.now.start.from to).cost
         → result ≡ best }
 {
-    let label = window.labels[to as usize];
-    if best.label.cost <= label.cost {
+    let rest = rest(window, to);
+    if best.cost <= rest {
         return best;
     }
-    let limit = (best.label.cost - label.cost).min(1 << 24) as u64;
+    let limit = (best.cost - rest).min(1 << 24);
     match window.start.penalty_below(to, limit) {
-        Some(penalty) => by_penalty(window, to, penalty),
+        Some(penalty) => Onward {
+            cost: rest + penalty,
+            next: to,
+        },
         None => best,
     }
 }
 
-/// The label by this segment, where it is cheaper than `best`.
+/// This segment, from whose end the rest costs so much, where it is cheaper than `best`.
 #[inline(always)]
-fn cheaper_by(window: &Window, segment: &Growing, best: Onward) -> Onward
+fn cheaper_by(window: &Window, segment: &Growing, rest: u64, best: Onward) -> Onward
     requires segment { segment.now.moments.now ≡ window.now.segments.now.moments }
     requires from { segment.now.from ≡ window.now.start.from }
     requires above { window.now.begin ≤ segment.now.to }
     requires near { segment.now.to ≤ window.now.last }
-    ensures cheaper { (label_by (penalty_of window.now.segments.now.moments) window.now.labels.now window.now.start.from segment.now.to).cost < best.label.cost
+    requires rest { rest ≡ (label_at window.now.labels.now segment.now.to).cost }
+    ensures cheaper { (label_by (penalty_of window.now.segments.now.moments) window.now.labels.now window.now.start.from segment.now.to).cost < best.cost
         → result ≡ onward_by (penalty_of window.now.segments.now.moments) window.now.labels.now window.now.start.from segment.now.to }
-    ensures same { best.label.cost ≤ (label_by (penalty_of window.now.segments.now.moments) window.now.labels.now window.now.start.from segment.now.to).cost
+    ensures same { best.cost ≤ (label_by (penalty_of window.now.segments.now.moments) window.now.labels.now window.now.start.from segment.now.to).cost
         → result ≡ best }
 {
-    let label = window.labels[segment.to as usize];
-    if best.label.cost <= label.cost {
+    if best.cost <= rest {
         return best;
     }
-    let limit = (best.label.cost - label.cost).min(1 << 24) as u64;
-    match segment.penalty_below(limit) {
-        Some(penalty) => by_penalty(window, segment.to, penalty),
-        None => best,
+    let limit = (best.cost - rest).min(1 << 24);
+    if segment.reaches(limit) {
+        return best;
+    }
+    Onward {
+        cost: rest + segment.penalty(),
+        next: segment.to,
     }
 }

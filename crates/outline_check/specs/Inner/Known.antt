@@ -10,7 +10,7 @@ pub record AreRightDownTo (size : ℕ) (is_allowed : ℕ → ℕ → Type 0) (co
   pub each : (k : ℕ) → low ≤ k → k < size → IsRight is_allowed cost labels k (label_at labels k)
   pub falling : (j k : ℕ) → low ≤ j → j ≤ k → k ≤ size → (label_at labels k).count ≤ (label_at labels j).count
   pub few : (k : ℕ) → low ≤ k → k ≤ size → (label_at labels k).count + k ≤ size
-  pub small : (k : ℕ) → low ≤ k → k ≤ size → (label_at labels k).cost ≤ (label_at labels k).count * 2 ^ 56
+  pub small : (k : ℕ) → low ≤ k → k ≤ size → (label_at labels k).cost ≤ (label_at labels k).count * 2 ^ 24
 
 -- the first point after i that has as few segments left as the farthest that a segment from i reaches
 pub record IsWindowBegin (size : ℕ) (lasts : List ℕ) (labels : List Label) (i begin : ℕ) : Type 0 where

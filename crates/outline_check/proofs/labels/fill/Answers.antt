@@ -1,7 +1,6 @@
 use Rattle.std.proofs.Common.{◌≡◌, ℕ, ◌+◌, ◌-◌, ◌<◌, length, set, get_or-set_same, subst, arith}
 use Rattle.std.proofs.lemmas.List.{get_or-set_other, length-set}
 use Rattle.polygon_optimal.specs.Inner.Lasts.{IsUpToLast}
-use Rattle.polygon_optimal.specs.Inner.OnePenalty.{penalty_most}
 use Rattle.polygon_optimal.specs.Polygon.{penalty_of}
 use Rattle.outline_check.specs.Labels.{no_label}
 use Rattle.outline_check.specs.Inner.Known.{AreRightDownTo}
@@ -22,7 +21,7 @@ loop-from-preserved c =
     let room : i < length labels = omega (arith, known.places) in
     let more = set labels i label in
     record {
-      known = known_more size lasts s.onwards s.rising (penalty_of s.moments) (λ i j below up. penalty_most s.moments s.on_page i j)
+      known = known_more size lasts s.onwards s.rising (penalty_of s.moments) s.cheap
           labels more i below known label (record {
             right = c.before-stage.ensures.label;
             places = omega (arith, length-set labels i label, known.places);

@@ -12,4 +12,5 @@ returns c =
     let P : List Point → Type 0 = λ points. IsPenalty points from c.args.to c.penalty.result in
     let is : c.penalty.result ≡ penalty_of points from c.args.to =
     penalty_is_one points from c.args.to c.penalty.result (subst P c.args.window.now.one_walk c.penalty.ensures) in
-    c.by_penalty.ensures (penalty_of points) is
+    let rest = c.rest.ensures.value in
+    cc

@@ -1,61 +1,106 @@
-use Rattle.std.proofs.Common.{◌≡◌, ℕ, ◌+◌, ◌<◌, ◌≤◌, List, ◌∙◌, sym, subst, arith}
+use Rattle.std.proofs.Common.{◌≡◌, ℕ, ◌+◌, ◌<◌, ◌-◌, ◌≤◌, List, length, slice_range, get_or, drop, ap, ◌∙◌, sym, subst, arith}
+use Rattle.std.proofs.lemmas.List.{length-take}
+use Rattle.pt_core.specs.declared.point.Point.{Point}
 use Rattle.polygon_optimal.specs.Polygon.{penalty_of}
 use Rattle.outline_check.specs.declared.label.Label.{Label}
 use Rattle.outline_check.specs.declared.onward.Onward.{Onward}
-use Rattle.outline_check.specs.Labels.{label_by}
+use Rattle.outline_check.specs.Labels.{label_at, label_by, no_label}
 use Rattle.outline_check.specs.Inner.LabelPoints.{IsCheapestBefore, onward_by}
-use Rattle.outline_check.proofs.Trying.{tried_more}
+use Rattle.outline_check.proofs.Trying.{label_in, last_is_next, tried_more}
 use Rattle.outline_check.proofs.onward.cheapest_of_many.Goals as goal
 
 module _ (cost : ℕ → ℕ → ℕ) (labels : List Label) (from begin last to : ℕ) (room : begin ≤ to) (near : to ≤ last) where
   -- one more segment, whose numbers are known by other names
   tried_by : (j : ℕ) (so_far best : Onward) → j ≡ to
-      → ((label_by cost labels from j).cost < so_far.label.cost → best ≡ onward_by cost labels from j)
-      → (so_far.label.cost ≤ (label_by cost labels from j).cost → best ≡ so_far)
+      → ((label_by cost labels from j).cost < so_far.cost → best ≡ onward_by cost labels from j)
+      → (so_far.cost ≤ (label_by cost labels from j).cost → best ≡ so_far)
       → IsCheapestBefore cost labels from begin last to so_far
       → IsCheapestBefore cost labels from begin last (j + 1) best
   tried_by j so_far best ej taken kept is =
       subst (λ n. IsCheapestBefore cost labels from begin last (n + 1) best) (sym ej)
       (tried_more cost labels from begin last to so_far best room near (rw ej at taken) (rw ej at kept) is)
 
-pub loop-segment-init : goal.loop-segment-init
-loop-segment-init c =
+pub loop-label-init : goal.loop-label-init
+loop-label-init c =
     let begin : ℕ = c.args.window.now.begin in
     let is = c.between-segment.ensures in
     record {
       moments = is.moments;
       from = is.from;
-      within = omega (arith, is.to, c.args.window.now.ordered);
-      above = omega (arith, is.to);
+      to = omega (arith, is.to);
       tried = tried_by (penalty_of c.args.window.now.segments.now.moments) c.args.window.now.labels.now c.args.window.now.start.from
           begin c.args.window.now.last begin (omega arith) c.args.window.now.ordered
           c.between-segment.result.to c.args.tried c.cheaper_by-best.result is.to
-          c.cheaper_by-best.ensures.cheaper c.cheaper_by-best.ensures.same c.requires;
+          c.cheaper_by-best.ensures.cheaper c.cheaper_by-best.ensures.same c.requires.tried;
     }
 
-pub loop-segment-preserved : goal.loop-segment-preserved
-loop-segment-preserved c =
-    let so_far = c.loop-segment.invariant in
-    let is = c.longer-segment.ensures in
-    let to : ℕ = c.loop-segment.segment.to + 1 in
-    let near : to ≤ c.args.window.now.last = omega (arith, c.loop-segment-test.true) in
+pub loop-label-preserved : goal.loop-label-preserved
+loop-label-preserved c =
+    let window = c.args.window.now in
+    let so_far = c.loop-label.invariant in
+    let is = c.longer_in_lap-segment.ensures in
+    let to : ℕ = c.loop-label.segment.to + 1 in
+    let near : to ≤ window.last = omega (arith) in
     record {
       moments = is.moments ∙ so_far.moments;
       from = is.from ∙ so_far.from;
-      within = omega (arith, is.to, near);
-      above = omega (arith, is.to, so_far.above);
-      tried = tried_by (penalty_of c.args.window.now.segments.now.moments) c.args.window.now.labels.now c.args.window.now.start.from
-          c.args.window.now.begin c.args.window.now.last to (omega (arith, so_far.above)) near
-          c.longer-segment.result.to c.loop-segment.best c.cheaper_by-best-in-loop-segment.result
-          is.to c.cheaper_by-best-in-loop-segment.ensures.cheaper c.cheaper_by-best-in-loop-segment.ensures.same so_far.tried;
+      to = omega (arith, is.to, so_far.to);
+      tried = tried_by (penalty_of window.segments.now.moments) window.labels.now window.start.from
+          window.begin window.last to (omega (arith, so_far.to)) near
+          c.longer_in_lap-segment.result.to c.loop-label.best c.cheaper_by-best-in-loop-label.result
+          is.to c.cheaper_by-best-in-loop-label.ensures.cheaper c.cheaper_by-best-in-loop-label.ensures.same so_far.tried;
     }
 
-pub returns : goal.returns
-returns c =
-    let is = c.loop-segment.invariant.tried in
-    record {
-      above = is.above;
-      near = is.near;
-      by_step = is.by_step;
-      cheapest = λ j above below. is.cheapest j above (omega (arith, c.loop-segment-test.false));
-    }
+-- the labels of the points in between are looked up in a row
+cost_in : (labels : List Label) (i j k : ℕ) → k < length (slice_range labels i j) → (get_or (slice_range labels i j) k no_label).cost ≡ (label_at labels (i + k)).cost
+cost_in labels i j k h = ap (λ (l : Label). l.cost) (label_in labels i j k h)
+
+pub overflow_cast-label : goal.overflow_cast-label
+overflow_cast-label c =
+    let window = c.args.window.now in
+    let index = c.loop-label.label-index in
+    let end = c.min-end.result in
+    let length_most = length-take (end - (window.begin + 1)) (drop (window.begin + 1) window.labels.now) in
+    let same = cost_in window.labels.now (window.begin + 1) end index c.loop-label-test.true in
+    let within : window.begin + 1 + index ≤ length window.segments.now.moments = omega (arith, length_most, c.loop-label-test.true, c.min-end.ensures, c.size.ensures) in
+    omega (arith, same, window.small (window.begin + 1 + index) (omega (arith, window.onwards)) within)
+
+pub cheaper_by-best-requires-in-loop-label-clause-rest : goal.cheaper_by-best-requires-in-loop-label-clause-rest
+cheaper_by-best-requires-in-loop-label-clause-rest c =
+    let window = c.args.window.now in
+    let labels = window.labels.now in
+    let here : window.begin + 1 + c.loop-label.label-index ≡ c.longer_in_lap-segment.result.to = omega (arith, c.longer_in_lap-segment.ensures.to, c.loop-label.invariant.to) in
+    cost_in labels (window.begin + 1) c.min-end.result c.loop-label.label-index c.loop-label-test.true ∙ ap (λ n. (label_at labels n).cost) here
+
+-- the last one is the walk's end
+pub cheaper_by-best-requires-then-segment-window-clause-rest : goal.cheaper_by-best-requires-then-segment-window-clause-rest
+cheaper_by-best-requires-then-segment-window-clause-rest c =
+    let window = c.args.window.now in
+    let labels = window.labels.now in
+    let points = window.segments.now.moments in
+    let P : List Point → Type 0 = λ points. window.start.from < length points in
+    let on = window.segments.now.onwards window.start.from (subst P window.one_walk window.start.point) in
+    let end = last_is_next labels window.begin window.last (length points) c.min-end.result c.loop-label.label-index c.loop-label.segment.to
+    c.requires.wide (omega (arith, window.reached, on.within)) (omega (arith, window.places)) (omega (arith, c.min-end.ensures, c.size.ensures))
+    c.loop-label-test.false c.loop-label.auto.label-index-end c.loop-label.invariant.to c.if-segment-window.true in
+    let here : window.last ≡ c.longer-segment.result.to = omega (arith, end, c.longer-segment.ensures.to) in
+    c.rest-then-segment-window.ensures.value ∙ ap (λ n. (label_at labels n).cost) here
+
+pub returns-then-segment-window : goal.returns-then-segment-window
+returns-then-segment-window c =
+    let window = c.args.window.now in
+    let labels = window.labels.now in
+    let points = window.segments.now.moments in
+    let P : List Point → Type 0 = λ points. window.start.from < length points in
+    let on = window.segments.now.onwards window.start.from (subst P window.one_walk window.start.point) in
+    let end = last_is_next labels window.begin window.last (length points) c.min-end.result c.loop-label.label-index c.loop-label.segment.to
+    c.requires.wide (omega (arith, window.reached, on.within)) (omega (arith, window.places)) (omega (arith, c.min-end.ensures, c.size.ensures))
+    c.loop-label-test.false c.loop-label.auto.label-index-end c.loop-label.invariant.to c.if-segment-window.true in
+    let so_far = c.loop-label.invariant in
+    let is = c.longer-segment.ensures in
+    let to : ℕ = c.loop-label.segment.to + 1 in
+    let there : c.longer-segment.result.to ≡ window.last = omega (arith, end, is.to) in
+    subst (λ n. IsCheapestBefore (penalty_of points) labels window.start.from window.begin window.last (n + 1) c.cheaper_by-best-then-segment-window.result) there
+    (tried_by (penalty_of points) labels window.start.from window.begin window.last to (omega (arith, so_far.to)) (omega (arith, end))
+    c.longer-segment.result.to c.loop-label.best c.cheaper_by-best-then-segment-window.result is.to
+    c.cheaper_by-best-then-segment-window.ensures.cheaper c.cheaper_by-best-then-segment-window.ensures.same so_far.tried)
