@@ -1,6 +1,5 @@
 use Rattle.std.proofs.Common.{◌≡◌, ℕ, ◌+◌, ◌<◌, ◌-◌, ◌≤◌, List, length, slice_range, get_or, drop, ap, ◌∙◌, sym, subst, arith}
 use Rattle.std.proofs.lemmas.List.{length-take}
-use Rattle.pt_core.specs.declared.point.Point.{Point}
 use Rattle.polygon_optimal.specs.Polygon.{penalty_of}
 use Rattle.outline_check.specs.declared.label.Label.{Label}
 use Rattle.outline_check.specs.declared.onward.Onward.{Onward}
@@ -77,12 +76,8 @@ pub cheaper_by-best-requires-then-segment-window-clause-rest : goal.cheaper_by-b
 cheaper_by-best-requires-then-segment-window-clause-rest c =
     let window = c.args.window.now in
     let labels = window.labels.now in
-    let points = window.segments.now.moments in
-    let P : List Point → Type 0 = λ points. window.start.from < length points in
-    let on = window.segments.now.onwards window.start.from (subst P window.one_walk window.start.point) in
-    let end = last_is_next labels window.begin window.last (length points) c.min-end.result c.loop-label.label-index c.loop-label.segment.to
-    c.requires.wide (omega (arith, window.reached, on.within)) (omega (arith, window.places)) (omega (arith, c.min-end.ensures, c.size.ensures))
-    c.loop-label-test.false c.loop-label.auto.label-index-end c.loop-label.invariant.to c.if-segment-window.true in
+    let end = last_is_next window c.size.result c.min-end.result c.loop-label.label-index c.loop-label.segment.to c.size.ensures c.requires.wide
+    (omega (arith, c.min-end.ensures)) c.loop-label-test.false c.loop-label.auto.label-index-end c.loop-label.invariant.to c.if-segment-window.true in
     let here : window.last ≡ c.longer-segment.result.to = omega (arith, end, c.longer-segment.ensures.to) in
     c.rest-then-segment-window.ensures.value ∙ ap (λ n. (label_at labels n).cost) here
 
@@ -90,17 +85,13 @@ pub returns-then-segment-window : goal.returns-then-segment-window
 returns-then-segment-window c =
     let window = c.args.window.now in
     let labels = window.labels.now in
-    let points = window.segments.now.moments in
-    let P : List Point → Type 0 = λ points. window.start.from < length points in
-    let on = window.segments.now.onwards window.start.from (subst P window.one_walk window.start.point) in
-    let end = last_is_next labels window.begin window.last (length points) c.min-end.result c.loop-label.label-index c.loop-label.segment.to
-    c.requires.wide (omega (arith, window.reached, on.within)) (omega (arith, window.places)) (omega (arith, c.min-end.ensures, c.size.ensures))
-    c.loop-label-test.false c.loop-label.auto.label-index-end c.loop-label.invariant.to c.if-segment-window.true in
+    let end = last_is_next window c.size.result c.min-end.result c.loop-label.label-index c.loop-label.segment.to c.size.ensures c.requires.wide
+    (omega (arith, c.min-end.ensures)) c.loop-label-test.false c.loop-label.auto.label-index-end c.loop-label.invariant.to c.if-segment-window.true in
     let so_far = c.loop-label.invariant in
     let is = c.longer-segment.ensures in
     let to : ℕ = c.loop-label.segment.to + 1 in
     let there : c.longer-segment.result.to ≡ window.last = omega (arith, end, is.to) in
-    subst (λ n. IsCheapestBefore (penalty_of points) labels window.start.from window.begin window.last (n + 1) c.cheaper_by-best-then-segment-window.result) there
-    (tried_by (penalty_of points) labels window.start.from window.begin window.last to (omega (arith, so_far.to)) (omega (arith, end))
+    subst (λ n. IsCheapestBefore (penalty_of window.segments.now.moments) labels window.start.from window.begin window.last (n + 1) c.cheaper_by-best-then-segment-window.result) there
+    (tried_by (penalty_of window.segments.now.moments) labels window.start.from window.begin window.last to (omega (arith, so_far.to)) (omega (arith, end))
     c.longer-segment.result.to c.loop-label.best c.cheaper_by-best-then-segment-window.result is.to
     c.cheaper_by-best-then-segment-window.ensures.cheaper c.cheaper_by-best-then-segment-window.ensures.same so_far.tried)
