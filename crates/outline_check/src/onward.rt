@@ -176,6 +176,9 @@ fn cheapest_of(window: &Window, tried: Onward) -> Onward
 }
 
 /// The same, where each segment is looked up by itself.
+//
+// It isn't inlined, so its loop keeps its registers.
+#[inline(never)]
 fn cheapest_of_few(window: &Window, tried: Onward) -> Onward
     requires { IsCheapestBefore (penalty_of window.now.segments.now.moments) window.now.labels.now
         window.now.start.from window.now.begin window.now.last window.now.begin tried }
