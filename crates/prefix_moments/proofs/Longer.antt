@@ -1,6 +1,6 @@
 -- A segment with one point more.
-use Rattle.std.proofs.Common.{◌≡◌, ℕ, suc, ◌+◌, ◌-◌, ◌*◌, ◌<◌, ◌≤◌, ◌^◌, w32, w64, to_z, of_z, ℤ, ◌+ℤ◌, ◌*ℤ◌, List, sym, ap, ◌∙◌, arith}
-use Rattle.std.proofs.lemmas.Int.{ints, int_wrap_fits, to_z-of_z, fits_signed_from_abs}
+use Rattle.std.proofs.Common.{◌≡◌, ℕ, suc, ◌+◌, ◌-◌, ◌*◌, ◌<◌, ◌≤◌, ◌^◌, w64, to_z, of_z, ℤ, ◌+ℤ◌, ◌*ℤ◌, List, sym, ap, ◌∙◌, arith}
+use Rattle.std.proofs.lemmas.Int.{ints, int_wrap_fits, fits_signed_from_abs}
 use Rattle.std.specs.Int.{int_wrap}
 use Rattle.std.specs.Prelude.{unsigned_abs}
 use Rattle.pt_core.specs.declared.point.Point.{Point}
@@ -43,17 +43,13 @@ xy_most points on_page i j short = products_most (rightward_of points i) (above_
 pub yy_most : (points : List Point) → AreOnPage points → (i j : ℕ) → j - i ≤ MOST_STEPS → unsigned_abs ((sums_of points i j).yy) < 2 ^ 62
 yy_most points on_page i j short = products_most (above_of points i) (above_of points i) (above_most points on_page i) (above_most points on_page i) i j short
 
--- a number of 32 bits comes back from its bits
-pub short_back : (a : ℤ) → unsigned_abs a < 2 ^ 31 → to_z w32 (of_z w32 a) ≡ a
-short_back a h = to_z-of_z w32 a (fits_signed_from_abs w32 a h)
-
--- so do a segment's sums
+-- a segment's sums come back from their bits
 pub sum_back : (z s : ℤ) → z ≡ s → unsigned_abs s < 2 ^ 62 → to_z w64 (of_z w64 z) ≡ s
 sum_back z s is most = (let here : unsigned_abs z ≡ unsigned_abs s = ap unsigned_abs is in back z (omega arith)) ∙ is
 
--- and how far its last point lies from the first one
-pub offset_back : (z s : ℤ) → z ≡ s → unsigned_abs s ≤ LONGEST_SIDE → to_z w32 (of_z w32 z) ≡ s
-offset_back z s is most = (let here : unsigned_abs z ≡ unsigned_abs s = ap unsigned_abs is in short_back z (omega arith)) ∙ is
+-- and so does how far its last point lies from the first one
+pub offset_back : (z s : ℤ) → z ≡ s → unsigned_abs s ≤ LONGEST_SIDE → to_z w64 (of_z w64 z) ≡ s
+offset_back z s is most = sum_back z s is (omega arith)
 
 -- a sum with the product of one more point's offsets is that of the longer segment
 pub grown_is : (f g : ℕ → ℤ) (i j : ℕ) (s a b p : ℤ) → i < j → to_z w64 (of_z w64 s) ≡ sum_over i j (λ k. f k *ℤ g k)

@@ -7,7 +7,8 @@ ghost use Rattle.pt_core.specs.declared.limits.TheConstants.{LONGEST_SIDE, MOST_
 ghost use Rattle.prefix_moments.specs.Inner.Table.{spread_by};
 ghost use Rattle.prefix_moments.specs.Sums.{above_of, rightward_of, spread_of, sums_of, IsPenalty};
 
-use crate::moments::Moments;
+use crate::moments::{Moments, between};
+use crate::raw::offset_product;
 use crate::start::{is_reached, mean_root};
 use pt_core::{LONGEST_SIDE, MOST_STEPS, Point};
 
@@ -21,9 +22,11 @@ pub struct Growing<'a> {
     /// And of its last one.
     pub to: u32,
     first: Point,
+    /// The number of its points.
+    count: u64,
     /// How far the last point lies to the right of the first one, and above it.
-    right: i32,
-    above: i32,
+    right: i64,
+    above: i64,
     /// The sums of the squares of such offsets, of all of its points, and of their products.
     xx: i64,
     xy: i64,
@@ -35,6 +38,7 @@ pub struct Growing<'a> {
     ghost on_page: { AreOnPage moments.now },
     ghost first_on_page: { IsOnPage first },
     ghost first_is: { first ≡ point_at moments.now from },
+    ghost count_is: { count ≡ to - from + 1 },
     ghost right_is: { right ≡ rightward_of moments.now from to },
     ghost above_is: { above ≡ above_of moments.now from to },
     ghost xx_is: { xx ≡ (sums_of moments.now from to).xx },
@@ -62,8 +66,9 @@ impl<'a> Growing<'a> {
             from,
             to,
             first,
-            right: offset(first.x, last.x),
-            above: offset(first.y, last.y),
+            count: u64::from(to - from + 1),
+            right: between(first.x, last.x),
+            above: between(first.y, last.y),
             xx: sums.xx,
             xy: sums.xy,
             yy: sums.yy,
@@ -80,7 +85,7 @@ impl<'a> Growing<'a> {
         ensures from { result.from ≡ self.entry.from }
         ensures to { result.to ≡ self.entry.to + 1 }
     {
-        self.with(self.moments.place(self.to + 1))
+        self.longer_by(self.moments.place(self.to + 1))
     }
 
     /// The same, where the first lap has that point: its place is looked up without a test.
@@ -93,12 +98,12 @@ impl<'a> Growing<'a> {
         ensures from { result.from ≡ self.entry.from }
         ensures to { result.to ≡ self.entry.to + 1 }
     {
-        self.with(self.moments.place_in_lap(self.to as usize + 1))
+        self.longer_by(self.moments.place_in_lap(self.to as usize + 1))
     }
 
     /// The same, by the place of that point.
     #[inline(always)]
-    fn with(self, last: Point) -> Growing<'a>
+    pub fn longer_by(self, last: Point) -> Growing<'a>
         requires number { self.to + 1 < 2 ^ 32 }
         requires steps { self.to - self.from < MOST_STEPS }
         requires lap { self.to - self.from < length self.moments.now }
@@ -108,18 +113,19 @@ impl<'a> Growing<'a> {
         ensures from { result.from ≡ self.entry.from }
         ensures to { result.to ≡ self.entry.to + 1 }
     {
-        let right = offset(self.first.x, last.x);
-        let above = offset(self.first.y, last.y);
+        let right = between(self.first.x, last.x);
+        let above = between(self.first.y, last.y);
         Growing {
             moments: self.moments,
             from: self.from,
             to: self.to + 1,
             first: self.first,
+            count: self.count + 1,
             right,
             above,
-            xx: sum_with(self.xx, square(right)),
-            xy: sum_with(self.xy, product(right, above)),
-            yy: sum_with(self.yy, square(above)),
+            xx: sum_with(self.xx, offset_product(right, right)),
+            xy: sum_with(self.xy, offset_product(right, above)),
+            yy: sum_with(self.yy, offset_product(above, above)),
         }
     }
 
@@ -169,7 +175,7 @@ impl<'a> Growing<'a> {
         ensures value { result ≡ self.now.to - self.now.from + 1 }
         ensures few { result ≤ MOST_STEPS + 1 }
     {
-        u64::from(self.to - self.from + 1)
+        self.count
     }
 
     /// The sum of the squared cross products of its points.
@@ -181,42 +187,6 @@ impl<'a> Growing<'a> {
     {
         wrapped_spread(self.xx, self.xy, self.yy, self.right, self.above) as u64
     }
-}
-
-/// How far one coordinate lies from another.
-#[inline(always)]
-fn offset(from: i32, to: i32) -> i32
-    requires from_low { pos 0 ≤ℤ from }
-    requires from_high { from ≤ℤ pos LONGEST_SIDE }
-    requires to_low { pos 0 ≤ℤ to }
-    requires to_high { to ≤ℤ pos LONGEST_SIDE }
-    ensures value { result ≡ to -ℤ from }
-    ensures most { unsigned_abs result ≤ LONGEST_SIDE }
-{
-    to - from
-}
-
-/// The product of two offsets. It fits in 32 bits.
-#[inline(always)]
-fn product(a: i32, b: i32) -> i64
-    requires a { unsigned_abs a ≤ LONGEST_SIDE }
-    requires b { unsigned_abs b ≤ LONGEST_SIDE }
-    ensures value { result ≡ a *ℤ b }
-    ensures most { unsigned_abs result ≤ LONGEST_SIDE * LONGEST_SIDE }
-{
-    i64::from(a * b)
-}
-
-/// An offset's square.
-//
-// It is never negative, and a number without a sign is made longer at no cost.
-#[inline(always)]
-fn square(a: i32) -> i64
-    requires { unsigned_abs a ≤ LONGEST_SIDE }
-    ensures value { result ≡ a *ℤ a }
-    ensures most { unsigned_abs result ≤ LONGEST_SIDE * LONGEST_SIDE }
-{
-    i64::from((a * a) as u32)
 }
 
 /// A sum of products of offsets and one more of them.
@@ -231,14 +201,14 @@ fn sum_with(sum: i64, product: i64) -> i64
 
 /// The sum of the squared cross products of some offsets with the last of them, as much of it as fits in 64 bits.
 #[inline(always)]
-fn wrapped_spread(xx: i64, xy: i64, yy: i64, right: i32, above: i32) -> i64
+fn wrapped_spread(xx: i64, xy: i64, yy: i64, right: i64, above: i64) -> i64
     requires right { unsigned_abs right ≤ LONGEST_SIDE }
     requires above { unsigned_abs above ≤ LONGEST_SIDE }
     ensures { result ≡ int_wrap w64 (spread_by xx xy yy right above) }
 {
-    let mixed = product(right, above).wrapping_mul(xy);
-    let squares = square(above).wrapping_mul(xx);
+    let mixed = offset_product(right, above).wrapping_mul(xy);
+    let squares = offset_product(above, above).wrapping_mul(xx);
     squares
         .wrapping_sub(2i64.wrapping_mul(mixed))
-        .wrapping_add(square(right).wrapping_mul(yy))
+        .wrapping_add(offset_product(right, right).wrapping_mul(yy))
 }

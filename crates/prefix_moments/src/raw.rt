@@ -95,7 +95,8 @@ pub(crate) fn crossed(x: i64, y: i64, right: i64, above: i64) -> i64
 }
 
 /// The product of two offsets of one point.
-fn offset_product(a: i64, b: i64) -> i64
+#[inline(always)]
+pub(crate) fn offset_product(a: i64, b: i64) -> i64
     requires a { unsigned_abs a ≤ LONGEST_SIDE }
     requires b { unsigned_abs b ≤ LONGEST_SIDE }
     ensures value { result ≡ a *ℤ b }

@@ -3,7 +3,7 @@ use Rattle.std.proofs.lemmas.Int.{to_z-of_z}
 use Rattle.std.specs.Int.RustNames.{FitsSigned}
 use Rattle.std.proofs.Common.{w64}
 use Rattle.prefix_moments.specs.declared.sums.Sums.{Sums}
-use Rattle.prefix_moments.proofs.Longer.{short_back}
+use Rattle.pt_core.proofs.Sizes.{back}
 use Rattle.prefix_moments.proofs.Totals.{right_is, above_is}
 use Rattle.prefix_moments.proofs.growing.Growing.between.Goals as goal
 
@@ -26,10 +26,11 @@ invariant_of-result c =
       on_page = c.requires.on_page;
       first_on_page = first.on_page;
       first_is = first.value;
-      right_is = short_back c.offset.result (omega (arith, c.offset.ensures.most))
-          ∙ right_is points i j c.place-first.result c.place-last.result c.offset.result first.on_page last.on_page first.value last.value c.offset.ensures.value;
-      above_is = short_back c.offset-2.result (omega (arith, c.offset-2.ensures.most))
-          ∙ above_is points i j c.place-first.result c.place-last.result c.offset-2.result first.on_page last.on_page first.value last.value c.offset-2.ensures.value;
+      count_is = omega (arith, c.requires.onwards);
+      right_is = back c.between.result (omega (arith, c.between.ensures.most))
+          ∙ right_is points i j c.place-first.result c.place-last.result c.between.result first.on_page last.on_page first.value last.value c.between.ensures.value;
+      above_is = back c.between-2.result (omega (arith, c.between-2.ensures.most))
+          ∙ above_is points i j c.place-first.result c.place-last.result c.between-2.result first.on_page last.on_page first.value last.value c.between-2.ensures.value;
       xx_is = to_z-of_z w64 s.xx xx ∙ ap (λ (s : Sums). s.xx) c.sums-sums.ensures;
       xy_is = to_z-of_z w64 s.xy xy ∙ ap (λ (s : Sums). s.xy) c.sums-sums.ensures;
       yy_is = to_z-of_z w64 s.yy yy ∙ ap (λ (s : Sums). s.yy) c.sums-sums.ensures;
