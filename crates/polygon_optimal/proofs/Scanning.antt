@@ -1,8 +1,9 @@
 -- The cheapest of several segments, while they are tried.
-use Rattle.std.proofs.Common.{◌≡◌, ℕ, ◌+◌, ◌<◌, ◌≤◌, refl, ap, sym, subst, inl, inr, arith}
+use Rattle.std.proofs.Common.{◌≡◌, ℕ, ◌+◌, ◌<◌, ◌≤◌, List, refl, ap, sym, subst, inl, inr, arith}
 use Rattle.std.proofs.lemmas.Bool.{cases_eq, cases_lt}
 use Rattle.polygon_optimal.specs.declared.search.Onward.{Onward}
-use Rattle.polygon_optimal.specs.Inner.Search.{HasCheapest, IsCheaperIn}
+use Rattle.std.specs.Prelude.{slice_index}
+use Rattle.polygon_optimal.specs.Inner.Search.{HasCheapest, IsCheaperIn, slot_of}
 use Rattle.polygon_optimal.specs.Inner.Search.IsCheaperIn.{found, none}
 
 module _ (cost_by : ℕ → ℕ) where
@@ -124,3 +125,15 @@ module _ (cost_by : ℕ → ℕ) where
         → IsCheaperIn cost_by (to + 1) end best onward → HasCheapest cost_by begin end onward
     cheapest_of_all end nearer best onward room near chosen far =
         with_farther end best onward room (nearer_or_guessed nearer best near chosen.0 chosen.1) far
+
+-- one more segment, whose numbers are known by other names
+pub tried_by : (cost_by : ℕ → ℕ) (begin to j worth : ℕ) (best so_far onward : Onward) → begin ≤ to → j ≡ to → worth ≡ cost_by to
+    → (worth < so_far.cost → (onward.cost ≡ worth) × (onward.next ≡ j)) → (so_far.cost ≤ worth → onward ≡ so_far)
+    → IsCheaperIn cost_by begin to best so_far → IsCheaperIn cost_by begin (to + 1) best onward
+tried_by cost_by begin to j worth best so_far onward room ej ew taken kept is =
+    tried_more cost_by begin to best so_far onward room (rw (ej, ew) at taken) (rw ew at kept) is
+
+-- what it costs with the rest of the way
+pub worth_is : (penalty : ℕ → ℕ → ℕ) (costs : List ℕ) (from to i j slot : ℕ) → i ≡ from → j ≡ to → slot ≡ slot_of to
+    → penalty i j + slice_index costs slot ≡ penalty from to + slice_index costs (slot_of to)
+worth_is penalty costs from to i j slot ei ej es = rw (ei, ej, es) refl

@@ -86,25 +86,27 @@ fn measured(
 {
     let lasts = lasts(alloc, points, memo)?;
     let moments = Moments::of(alloc, points)?;
-    let polygon = polygon_of(alloc, &moments, lasts, roots, room)?;
+    let polygon = polygon_of(alloc, points, &moments, lasts, roots, room)?;
     Ok((polygon, moments))
 }
 
 /// The best polygon of a walk that is summed up, where its longest segments lead to these points.
 fn polygon_of(
     alloc: Global,
+    points: &[Point],
     moments: &Moments,
     lasts: Vec<u32>,
     roots: &mut Roots,
     room: &mut SearchRoom,
 ) -> Result<Polygon, NoMemory>
+    requires points { points.now ≡ moments.now }
     requires closed { IsClosedWalk moments.now }
     requires on_page { AreOnPage moments.now }
     requires lasts { HasLasts moments.now lasts.items }
     ensures best { IfOk result (λ polygon. IsBestPolygon moments.now polygon.at) }
     ensures cost { IfOk result (λ polygon. polygon.cost ≡ total_penalty moments.now polygon.at) }
 {
-    let segments = Segments::of(moments, lasts);
+    let segments = Segments::of(moments, points, lasts);
     let walk = least_by_windows(alloc, &segments, roots, room)?;
     room.give_back_long(alloc);
     Ok(Polygon {

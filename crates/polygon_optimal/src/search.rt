@@ -351,23 +351,49 @@ fn cheaper_in_many(
 ) -> Onward
     requires start { start.now.moments.now ≡ segments.now.moments.now }
     requires onwards { start.now.from < begin }
-    requires some { begin < end }
+    requires several { begin + 1 < end }
     requires ends { end ≤ slice_index segments.now.lasts.items start.now.from + 1 }
     requires slots { HasSlots (length segments.now.moments.now) costs.now }
     ensures { IsCheaperIn
         (λ k. penalty_of segments.now.moments.now start.now.from k + slice_index costs.now (slot_of k))
         begin end best result }
 {
-    let mut segment = Growing::between(segments.moments, start.from, begin);
-    let mut cheapest = cheaper_by(segments, &segment, costs[slot(begin as usize)], best);
-    for to in begin + 1..end.min(segments.lasts.len() as u32) {
-        segment = segment.longer_in_lap();
-        cheapest = cheaper_by(segments, &segment, costs[slot(to as usize)], cheapest);
+    let segment = Growing::between(segments.moments, start.from, begin);
+    let stop = end.min(segments.lasts.len() as u32);
+    let nearer = cheaper_in_lap(segments, &segment, stop, costs, best);
+    if stop == end {
+        return nearer;
     }
-    if segment.to + 1 < end {
-        segment = segment.longer();
-        let rest = costs[slot(segment.to as usize)];
-        cheapest = cheaper_by(segments, &segment, rest, cheapest);
+    let whole = Growing::between(segments.moments, start.from, stop);
+    cheaper_by(segments, &whole, costs[slot(stop as usize)], nearer)
+}
+
+/// The cheapest segment to one of the points of the first lap from a segment's end to before `stop`, and of several the
+/// shortest; or `best`, where none of them is cheaper.
+//
+// It isn't inlined, so the loop has the registers for itself.
+#[inline(never)]
+fn cheaper_in_lap(
+    segments: &Segments,
+    segment: &Growing,
+    stop: u32,
+    costs: &[u64],
+    best: Onward,
+) -> Onward
+    requires segment { segment.now.moments.now ≡ segments.now.moments.now }
+    requires some { segment.now.to < stop }
+    requires ends { stop ≤ slice_index segments.now.lasts.items segment.now.from + 1 }
+    requires lap { stop ≤ length segments.now.moments.now }
+    requires slots { HasSlots (length segments.now.moments.now) costs.now }
+    ensures { IsCheaperIn
+        (λ k. penalty_of segments.now.moments.now segment.now.from k + slice_index costs.now (slot_of k))
+        segment.now.to stop best result }
+{
+    let mut grown = *segment;
+    let mut cheapest = cheaper_by(segments, segment, costs[slot(segment.to as usize)], best);
+    for to in segment.to + 1..stop {
+        grown = grown.longer_by(segments.points[to as usize]);
+        cheapest = cheaper_by(segments, &grown, costs[slot(to as usize)], cheapest);
     }
     cheapest
 }

@@ -19,8 +19,11 @@ use straight_paths::{Memo, Reach};
 #[derive(Drop)]
 pub(crate) struct Segments<'a> {
     pub(crate) moments: &'a Moments,
+    /// The walk's points. To look one up there takes less than by the sums.
+    pub(crate) points: &'a [Point],
     /// For each point, where the longest segment from it leads.
     pub(crate) lasts: Vec<u32>,
+    ghost same: { points.now ≡ moments.now },
     ghost some: { 1 ≤ length moments.now },
     ghost few: { length moments.now ≤ 2 ^ 31 },
     ghost on_page: { AreOnPage moments.now },
@@ -36,14 +39,19 @@ pub(crate) struct Segments<'a> {
 
 impl<'a> Segments<'a> {
     /// The segments of a closed walk on a page that is summed up, whose longest ones lead to these points.
-    pub(crate) fn of(moments: &'a Moments, lasts: Vec<u32>) -> Segments<'a>
+    pub(crate) fn of(moments: &'a Moments, points: &'a [Point], lasts: Vec<u32>) -> Segments<'a>
+        requires points { points.now ≡ moments.now }
         requires closed { IsClosedWalk moments.now }
         requires on_page { AreOnPage moments.now }
         requires lasts { HasLasts moments.now lasts.items }
         ensures points { result.moments.now ≡ moments.now }
         ensures lasts { HasLasts moments.now result.lasts.items }
     {
-        Segments { moments, lasts }
+        Segments {
+            moments,
+            points,
+            lasts,
+        }
     }
 }
 

@@ -7,6 +7,9 @@ use Rattle.polygon_optimal.specs.Polygon.{IsBestPolygon, total_penalty}
 use Rattle.polygon_optimal.proofs.optimal.measured.Goals as goal
 
 -- the sums are those of the points
+pub polygon_of-requires-clause-points : goal.polygon_of-requires-clause-points
+polygon_of-requires-clause-points c = sym c.in_ok-moments.ensures
+
 pub polygon_of-requires-clause-closed : goal.polygon_of-requires-clause-closed
 polygon_of-requires-clause-closed c = subst IsClosedWalk (sym c.in_ok-moments.ensures) c.requires.closed
 

@@ -11,6 +11,7 @@ invariant_of-result c =
     let closed = c.requires.closed in
     let has = c.requires.lasts in
     record {
+      same = c.requires.points;
       some = omega (arith, closed.least);
       few = omega (arith, closed.most);
       on_page = c.requires.on_page;
