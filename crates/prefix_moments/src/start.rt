@@ -142,7 +142,9 @@ pub(crate) fn root_below(total: u64, count: u64, limit: u64) -> Option<u64>
 
 /// The root of 65536 times the mean of `count` numbers.
 //
-// It isn't inlined: where few roots are taken, a loop keeps its registers.
+// It isn't inlined: where few roots are taken, a loop keeps its registers. And it is said to be called seldom, so what is
+// kept in memory for a call is written down beside it and not in the loop.
+#[cold]
 #[inline(never)]
 pub(crate) fn mean_root(total: u64, count: u64) -> u64
     requires total { total < 2 ^ 48 }
