@@ -1,15 +1,20 @@
 //! How far what is straight from each point reaches, by the walk taken backwards.
-ghost use Rattle.std.specs.Prelude.{◌≡◌, ◌⊎◌, ◌+◌, ◌<◌, ◌≤◌, length, IfOk};
+ghost use Rattle.std.specs.Prelude.{◌≡◌, ◌⊎◌, ◌+◌, ◌<◌, ◌≤◌, length, IfOk, IfSome, None, Some};
 ghost use Rattle.straight_paths.specs.Inner.Cones.{IsClear};
-ghost use Rattle.straight_paths.specs.Straight.{path_from};
+ghost use Rattle.pt_core.specs.ClosedWalk.{point_at};
+ghost use Rattle.straight_paths.specs.Straight.{path_from, vector_of};
+ghost use Rattle.straight_paths.specs.Inner.Strips.{TakesStep};
 ghost use Rattle.straight_paths.specs.Inner.Sweeps.{AreEndsFrom, IsEnough, IsSeen, IsSweep, IsTold};
 ghost use Rattle.straight_paths.specs.Inner.Tables.{IsWordTable};
 ghost use Rattle.straight_paths.specs.Inner.Tails.{AreStraight, last_of, limit_of};
 
 use crate::first::clear_steps;
+use crate::strip::Strip;
 use crate::sweep::{Seen, Sweep};
 use crate::table::Table;
+use crate::tail::Tail;
 use crate::track::Track;
+use crate::vector::Vector;
 use crate::word::direction;
 use pt_core::NoMemory;
 use std::alloc::Global;
@@ -201,7 +206,7 @@ struct Hold {
 
 /// Writes down how many steps are straight, from a strip on, as far as it holds the points.
 //
-// What is straight is kept beside the loop here, and not in a sweep that is made anew for each point: to move that
+// What is straight is kept beside the loops here, and not in a sweep that is made anew for each point: to move that
 // took longer than all that is asked of a strip.
 fn held_on(
     track: &Track,
@@ -218,19 +223,124 @@ fn held_on(
     ensures ends { AreEndsFrom track.now last lap result.index steps.new }
 {
     let mut hold = Hold { index: from, seen };
+    if seen.is_along() {
+        return held_by_runs(track, last, lap, hold, steps);
+    }
     while hold.index > lap {
-        let index = hold.index - 1;
-        let step = track.step(index);
-        let Some(earlier) = hold.seen.by_strip(track, index, last, step) else {
+        let Some(earlier) = held_back(track, last, lap, hold, steps) else {
             return hold;
         };
-        steps[index - lap] = (earlier.tail.end - index) as u32;
-        hold = Hold {
-            index,
-            seen: earlier,
-        };
+        hold = earlier;
     }
     hold
+}
+
+/// The same by the straight runs along a row or a column.
+//
+// Where the strip goes another way no run is asked for: it would be a step long, or the strip would be left.
+fn held_by_runs(track: &Track, last: usize, lap: usize, start: Hold, steps: &mut [u32]) -> Hold
+    requires seen { IsSeen track.now last start.index start.seen }
+    requires ends { AreEndsFrom track.now last lap start.index steps.old }
+    ensures index { result.index ≤ start.index }
+    ensures seen { IsSeen track.now last result.index result.seen }
+    ensures ends { AreEndsFrom track.now last lap result.index steps.new }
+{
+    let mut hold = start;
+    while hold.index > lap {
+        let Some(earlier) = held_back(track, last, lap, hold, steps) else {
+            return hold;
+        };
+        hold = held_along(track, last, lap, earlier, steps);
+    }
+    hold
+}
+
+/// Writes down how many steps are straight from one index earlier, if the strip holds that point too.
+#[inline(always)]
+fn held_back(track: &Track, last: usize, lap: usize, hold: Hold, steps: &mut [u32]) -> Option<Hold>
+    requires more { lap < hold.index }
+    requires seen { IsSeen track.now last hold.index hold.seen }
+    requires ends { AreEndsFrom track.now last lap hold.index steps.old }
+    ensures index { IfSome result (λ earlier. earlier.index + 1 ≡ hold.index) }
+    ensures seen { IfSome result (λ earlier. IsSeen track.now last earlier.index earlier.seen) }
+    ensures ends { IfSome result (λ earlier. AreEndsFrom track.now last lap earlier.index steps.new) }
+    ensures none { (result ≡ None) → steps.new ≡ steps.old }
+{
+    let index = hold.index - 1;
+    let seen = hold.seen.by_strip(track, index, last, track.step(index))?;
+    steps[index - lap] = (seen.tail.end - index) as u32;
+    Some(Hold { index, seen })
+}
+
+/// Writes down how many steps are straight from the earlier points of a straight run, if the strip stays as it is along it.
+fn held_along(track: &Track, last: usize, lap: usize, hold: Hold, steps: &mut [u32]) -> Hold
+    requires before { hold.index < last }
+    requires seen { IsSeen track.now last hold.index hold.seen }
+    requires ends { AreEndsFrom track.now last lap hold.index steps.old }
+    ensures index { result.index ≤ hold.index }
+    ensures seen { IsSeen track.now last result.index result.seen }
+    ensures ends { AreEndsFrom track.now last lap result.index steps.new }
+{
+    let step = track.step(hold.index);
+    match hold.seen.strip {
+        Some(strip) => {
+            if strip.runs_on(step) {
+                run_back(
+                    track,
+                    last,
+                    lap,
+                    hold.index,
+                    hold.seen.tail,
+                    strip,
+                    step,
+                    steps,
+                )
+            } else {
+                hold
+            }
+        }
+        None => hold,
+    }
+}
+
+/// The same for a strip that stays as it is where such steps come before.
+//
+// Along the run one direction is taken sooner, and the others as late as before. So nothing ends sooner but by the limit, and
+// where the steps are taken is told once for the whole run.
+fn run_back(
+    track: &Track,
+    last: usize,
+    lap: usize,
+    from: usize,
+    tail: Tail,
+    strip: Strip,
+    step: Vector,
+    steps: &mut [u32],
+) -> Hold
+    requires step { step ≡ vector_of (point_at track.now from) (point_at track.now (from + 1)) }
+    requires keeps { TakesStep strip step strip }
+    requires seen { IsSeen track.now last from (record { tail = tail; strip = Some strip }) }
+    requires ends { AreEndsFrom track.now last lap from steps.old }
+    ensures index { result.index ≤ from }
+    ensures seen { IsSeen track.now last result.index result.seen }
+    ensures ends { AreEndsFrom track.now last lap result.index steps.new }
+{
+    let limit = track.limit();
+    let mut index = from;
+    let mut end = tail.end;
+    while index > lap && track.step(index - 1).is_same(step) {
+        index -= 1;
+        end = min(end, index + limit);
+        steps[index - lap] = (end - index) as u32;
+    }
+    let ahead = tail.ahead.sooner(step, index);
+    Hold {
+        index,
+        seen: Seen {
+            tail: Tail { end, ahead },
+            strip: Some(strip),
+        },
+    }
 }
 
 /// How many steps of the second lap matter: no straight subpath from its first point is so long, or they are as

@@ -1,9 +1,10 @@
 -- Strips of the plane that are as broad as a line drawn in pixels: from one border to the other the cross product
 -- with the strip's way grows by what the way goes along rows and columns together (Reveillès' standard digital lines,
 -- 1991, with both borders).
-use Rattle.std.specs.Prelude.{◌≡◌, ℕ, ◌≤◌, ◌^◌, ℤ, pos, negsuc, neg_ℤ, ◌+ℤ◌, ◌-ℤ◌, ◌*ℤ◌, ◌≤ℤ◌, ◌<ℤ◌}
+use Rattle.std.specs.Prelude.{◌≡◌, ℕ, suc, ◌+◌, ◌≤◌, ◌^◌, ℤ, pos, negsuc, neg_ℤ, ◌+ℤ◌, ◌-ℤ◌, ◌*ℤ◌, ◌≤ℤ◌, ◌<ℤ◌}
 use Rattle.pt_core.specs.declared.point.Point.{Point}
 use Rattle.straight_paths.specs.Cones.{cross_of}
+use Rattle.straight_paths.specs.Corners.{step_from}
 use Rattle.straight_paths.specs.Inner.Cones.{IsShort}
 use Rattle.straight_paths.specs.Inner.Tails.{way_along}
 use Rattle.straight_paths.specs.Inner.Wedges.{IsQuarter, far_of}
@@ -63,6 +64,11 @@ pub record StaysIn (strip : Strip) (path : ℕ → Point) (count : ℕ) : Type 0
 pub record HoldsPath (strip : Strip) (path : ℕ → Point) (count : ℕ) : Type 0 where
   pub is_strip : IsStrip strip
   pub stays : StaysIn strip path count
+
+-- a path that begins by this step and then stays in the one strip stays in the other one from its start on
+abbrev pub TakesStep : Strip → Vector → Strip → Type 0
+TakesStep later step strip = (path : ℕ → Point) (count : ℕ) → step ≡ step_from path 0
+    → StaysIn later (λ k. path (suc k)) count → StaysIn strip path (count + 1)
 
 -- 0 alone
 abbrev pub no_span : Span

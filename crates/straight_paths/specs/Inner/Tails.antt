@@ -1,5 +1,5 @@
 -- What is straight from an index on, within two laps of a closed path.
-use Rattle.std.specs.Prelude.{◌≡◌, ◌⊎◌, ℕ, ◌+◌, ◌-◌, ◌<◌, ◌≤◌, min, List, length, slice_index}
+use Rattle.std.specs.Prelude.{◌≡◌, ◌≢◌, ◌⊎◌, ℕ, ◌+◌, ◌-◌, ◌<◌, ◌≤◌, ℤ, pos, negsuc, min, List, length, slice_index}
 use Rattle.pt_core.specs.declared.point.Point.{Point}
 use Rattle.straight_paths.specs.Straight.{vector_of, Takes, IsStraight, path_from, east, north, west, south}
 use Rattle.straight_paths.specs.Inner.Cones.{IsClear}
@@ -70,6 +70,18 @@ pub record IsAhead (points : List Point) (at : ℕ) (ahead : Ahead) : Type 0 whe
   pub north : IsNext points ahead.last at north ahead.north
   pub west : IsNext points ahead.last at west ahead.west
   pub south : IsNext points ahead.last at south ahead.south
+
+-- the index where the step goes so far, and else the later one
+abbrev pub IsIndexOf : ℤ → ℤ → ℕ → ℕ → ℕ → Type 0
+IsIndexOf goes wanted here later index = ((goes ≡ wanted) × (index ≡ here)) ⊎ ((goes ≢ wanted) × (index ≡ later))
+
+-- where each direction is taken next, if this step is taken at an earlier index
+pub record IsSooner (ahead : Ahead) (step : Vector) (here : ℕ) (sooner : Ahead) : Type 0 where
+  pub east : IsIndexOf step.x (pos 1) here ahead.east sooner.east
+  pub north : IsIndexOf step.y (pos 1) here ahead.north sooner.north
+  pub west : IsIndexOf step.x (negsuc 0) here ahead.west sooner.west
+  pub south : IsIndexOf step.y (negsuc 0) here ahead.south sooner.south
+  pub same_last : sooner.last ≡ ahead.last
 
 -- of the subpaths from `at`, up to the limit and the last index that was looked at, exactly those are straight
 -- that end by the tail's end

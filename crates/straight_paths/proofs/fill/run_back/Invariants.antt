@@ -1,0 +1,16 @@
+use Rattle.std.proofs.Common.{◌≤◌}
+use Rattle.straight_paths.specs.Inner.Sweeps.{AreEndsFrom}
+use Rattle.straight_paths.proofs.Runs.{IsSeenAlong}
+use Rattle.straight_paths.proofs.fill.run_back.Given as goal
+
+-- the points from the index on are done
+abbrev pub invariant-loop-index : goal.invariant-loop-index
+invariant-loop-index l = record {
+  index : l.index ≤ l.from;
+  least : l.index ≤ l.end;
+  along : IsSeenAlong l.track l.last l.strip l.tail.ahead l.step l.end l.index;
+  ends : AreEndsFrom l.track l.last l.lap l.index l.steps;
+}
+
+abbrev pub decreases-loop-index : goal.decreases-loop-index
+decreases-loop-index l = l.index
