@@ -37,7 +37,7 @@ struct Onward {
 /// The window of a point, among whose points a segment from there has to lead to one.
 #[derive(Clone, Copy)]
 struct Window<'a> {
-    segments: &'a CheckedSegments,
+    segments: &'a CheckedSegments<'a>,
     /// Those of the points after `start` are right.
     labels: &'a [Label],
     start: Start<'a>,
@@ -117,9 +117,7 @@ fn begin_from(segments: &CheckedSegments, labels: &[Label], from: u32, later: u3
 //
 // The segment to where the label of the next point comes from is mostly the best here too, or nearly. So it
 // comes first, and hardly any of the others is better: they are refused without a root. Long straight sides have
-// narrow windows, since all their points reach the same corner. A certificate of a page of text takes 2.5 times as
-// long as its polygons, of a spiral of walls 2.7 times, of a nest of squares 3.9 times; to check it takes less than
-// to make it.
+// narrow windows, since all their points reach the same corner.
 fn stage_from(
     segments: &CheckedSegments,
     labels: &[Label],
@@ -194,8 +192,8 @@ fn cheapest_of_few(window: &Window, tried: Onward) -> Onward
 
 /// The same, by one segment that grows from point to point.
 //
-// Only the walk's end is a point of its second lap. So what is said of laps isn't asked at each point, and the labels
-// of the others are gone through without looking one up.
+// Only the walk's end is a point of its second lap. So what is said of laps isn't asked at each point: the others stand
+// in the walk's list, and their labels are gone through without looking one up.
 #[inline(never)]
 fn cheapest_of_many(window: &Window, tried: Onward) -> Onward
     requires wide { window.now.begin < window.now.last }
@@ -209,7 +207,7 @@ fn cheapest_of_many(window: &Window, tried: Onward) -> Onward
     let end = (window.last as usize + 1).min(window.segments.size());
     let others = &window.labels[window.begin as usize + 1..end];
     for label in others {
-        segment = segment.longer_in_lap();
+        segment = segment.longer_by(window.segments.points[segment.to as usize + 1]);
         best = cheaper_by(window, &segment, label.cost as u64, best);
     }
     if segment.to < window.last {

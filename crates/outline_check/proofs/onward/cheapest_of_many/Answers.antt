@@ -1,8 +1,13 @@
-use Rattle.std.proofs.Common.{◌≡◌, ℕ, ◌+◌, ◌<◌, ◌-◌, ◌≤◌, List, length, slice_range, get_or, drop, ap, ◌∙◌, sym, subst, arith}
+use Rattle.std.proofs.Common.{◌≡◌, ℕ, ◌+◌, ◌<◌, ◌-◌, ◌≤◌, min, List, length, slice_range, get_or, drop, ap, ◌∙◌, sym, subst, arith}
+use Rattle.std.proofs.Math.Nat.{mod-eq_of_lt}
 use Rattle.std.proofs.lemmas.List.{length-take}
+use Rattle.std.specs.Prelude.{slice_index_or}
+use Rattle.pt_core.specs.ClosedWalk.{point_at, origin}
+use Rattle.pt_core.specs.OnPage.{IsOnPage}
 use Rattle.polygon_optimal.specs.Polygon.{penalty_of}
 use Rattle.outline_check.specs.declared.label.Label.{Label}
 use Rattle.outline_check.specs.declared.onward.Onward.{Onward}
+use Rattle.outline_check.specs.declared.onward.Window.{Window}
 use Rattle.outline_check.specs.Labels.{label_at, label_by, no_label}
 use Rattle.outline_check.specs.Inner.LabelPoints.{IsCheapestBefore, onward_by}
 use Rattle.outline_check.proofs.Trying.{label_in, last_is_next, tried_more}
@@ -37,7 +42,7 @@ pub loop-label-preserved : goal.loop-label-preserved
 loop-label-preserved c =
     let window = c.args.window.now in
     let so_far = c.loop-label.invariant in
-    let is = c.longer_in_lap-segment.ensures in
+    let is = c.longer_by-segment.ensures in
     let to : ℕ = c.loop-label.segment.to + 1 in
     let near : to ≤ window.last = omega (arith) in
     record {
@@ -46,7 +51,7 @@ loop-label-preserved c =
       to = omega (arith, is.to, so_far.to);
       tried = tried_by (penalty_of window.segments.now.moments) window.labels.now window.start.from
           window.begin window.last to (omega (arith, so_far.to)) near
-          c.longer_in_lap-segment.result.to c.loop-label.best c.cheaper_by-best-in-loop-label.result
+          c.longer_by-segment.result.to c.loop-label.best c.cheaper_by-best-in-loop-label.result
           is.to c.cheaper_by-best-in-loop-label.ensures.cheaper c.cheaper_by-best-in-loop-label.ensures.same so_far.tried;
     }
 
@@ -54,22 +59,42 @@ loop-label-preserved c =
 cost_in : (labels : List Label) (i j k : ℕ) → k < length (slice_range labels i j) → (get_or (slice_range labels i j) k no_label).cost ≡ (label_at labels (i + k)).cost
 cost_in labels i j k h = ap (λ (l : Label). l.cost) (label_in labels i j k h)
 
+-- and each is that of a point of the first lap
+in_lap : (labels : List Label) (begin end last size index : ℕ) → end ≡ min (last + 1) size → index < length (slice_range labels (begin + 1) end)
+    → begin + 1 + index < size
+in_lap labels begin end last size index is below = omega (arith, length-take (end - (begin + 1)) (drop (begin + 1) labels), is, below)
+
 pub overflow_cast-label : goal.overflow_cast-label
 overflow_cast-label c =
     let window = c.args.window.now in
     let index = c.loop-label.label-index in
     let end = c.min-end.result in
-    let length_most = length-take (end - (window.begin + 1)) (drop (window.begin + 1) window.labels.now) in
     let same = cost_in window.labels.now (window.begin + 1) end index c.loop-label-test.true in
-    let within : window.begin + 1 + index ≤ length window.segments.now.moments = omega (arith, length_most, c.loop-label-test.true, c.min-end.ensures, c.size.ensures) in
-    omega (arith, same, window.small (window.begin + 1 + index) (omega (arith, window.onwards)) within)
+    let within = in_lap window.labels.now window.begin end window.last c.size.result index c.min-end.ensures c.loop-label-test.true in
+    omega (arith, same, window.small (window.begin + 1 + index) (omega (arith, window.onwards)) (omega (arith, within, c.size.ensures)))
 
-pub cheaper_by-best-requires-in-loop-label-clause-rest : goal.cheaper_by-best-requires-in-loop-label-clause-rest
-cheaper_by-best-requires-in-loop-label-clause-rest c =
+-- so the point after those that were tried is looked up in the list
+next_is : (window : Window) (end size index to : ℕ) → end ≡ min (window.last + 1) size → size ≡ length window.segments.now.moments
+    → index < length (slice_range window.labels.now (window.begin + 1) end) → to ≡ window.begin + index
+    → slice_index_or window.segments.now.points.now (to + 1) origin ≡ point_at window.segments.now.moments (to + 1)
+next_is window end size index to is all below here =
+    let s = window.segments.now in
+    let within = in_lap window.labels.now window.begin end window.last size index is below in
+    ap (λ l. slice_index_or l (to + 1) origin) s.same ∙ ap (λ n. slice_index_or s.moments n origin) (sym (mod-eq_of_lt (omega (arith, within, all, here))))
+
+pub longer_by-segment-requires-clause-last : goal.longer_by-segment-requires-clause-last
+longer_by-segment-requires-clause-last c =
+    let so_far = c.loop-label.invariant in
+    next_is c.args.window.now c.min-end.result c.size.result c.loop-label.label-index c.loop-label.segment.to
+    c.min-end.ensures c.size.ensures c.loop-label-test.true so_far.to
+    ∙ ap (λ points. point_at points (c.loop-label.segment.to + 1)) (sym so_far.moments)
+
+pub longer_by-segment-requires-clause-on_page : goal.longer_by-segment-requires-clause-on_page
+longer_by-segment-requires-clause-on_page c =
     let window = c.args.window.now in
-    let labels = window.labels.now in
-    let here : window.begin + 1 + c.loop-label.label-index ≡ c.longer_in_lap-segment.result.to = omega (arith, c.longer_in_lap-segment.ensures.to, c.loop-label.invariant.to) in
-    cost_in labels (window.begin + 1) c.min-end.result c.loop-label.label-index c.loop-label-test.true ∙ ap (λ n. (label_at labels n).cost) here
+    let to : ℕ = c.loop-label.segment.to in
+    let is = next_is window c.min-end.result c.size.result c.loop-label.label-index to c.min-end.ensures c.size.ensures c.loop-label-test.true c.loop-label.invariant.to in
+    subst IsOnPage (sym is) (window.segments.now.on_page (to + 1))
 
 -- the last one is the walk's end
 pub cheaper_by-best-requires-then-segment-window-clause-rest : goal.cheaper_by-best-requires-then-segment-window-clause-rest
