@@ -173,7 +173,7 @@ fn cheapest_of(window: &Window, tried: Onward) -> Onward
     }
 }
 
-/// The same, where each segment is looked up by itself.
+/// The same, where each segment is looked up by itself, and the one that was tried isn't looked up again.
 //
 // It isn't inlined, so its loop keeps its registers.
 #[inline(never)]
@@ -185,7 +185,9 @@ fn cheapest_of_few(window: &Window, tried: Onward) -> Onward
 {
     let mut best = tried;
     for k in window.begin..window.last + 1 {
-        best = cheaper(window, k, best);
+        if k != tried.next {
+            best = cheaper(window, k, best);
+        }
     }
     best
 }
