@@ -88,19 +88,6 @@ impl<'a> Growing<'a> {
         self.longer_by(self.moments.place(self.to + 1))
     }
 
-    /// The same, where the first lap has that point: its place is looked up without a test.
-    #[inline(always)]
-    pub fn longer_in_lap(self) -> Growing<'a>
-        requires number { self.to + 1 < 2 ^ 32 }
-        requires steps { self.to - self.from < MOST_STEPS }
-        requires lap { self.to + 1 < length self.moments.now }
-        ensures moments { result.moments.now ≡ self.entry.moments.now }
-        ensures from { result.from ≡ self.entry.from }
-        ensures to { result.to ≡ self.entry.to + 1 }
-    {
-        self.longer_by(self.moments.place_in_lap(self.to as usize + 1))
-    }
-
     /// The same, by the place of that point.
     #[inline(always)]
     pub fn longer_by(self, last: Point) -> Growing<'a>
