@@ -327,17 +327,17 @@ fn run_back(
 {
     let limit = track.limit();
     let mut index = from;
-    let mut end = tail.end;
     while index > lap && track.step(index - 1).is_same(step) {
         index -= 1;
-        end = min(end, index + limit);
-        steps[index - lap] = (end - index) as u32;
+        steps[index - lap] = min(tail.end - index, limit) as u32;
     }
-    let ahead = tail.ahead.sooner(step, index);
     Hold {
         index,
         seen: Seen {
-            tail: Tail { end, ahead },
+            tail: Tail {
+                end: min(tail.end, index + limit),
+                ahead: tail.ahead.sooner(step, index),
+            },
             strip: Some(strip),
         },
     }

@@ -1,5 +1,6 @@
-use Rattle.std.proofs.Common.{◌≤◌}
+use Rattle.std.proofs.Common.{◌+◌, ◌≤◌, min}
 use Rattle.straight_paths.specs.Inner.Sweeps.{AreEndsFrom}
+use Rattle.straight_paths.specs.Inner.Tails.{limit_of}
 use Rattle.straight_paths.proofs.Runs.{IsSeenAlong}
 use Rattle.straight_paths.proofs.fill.run_back.Given as goal
 
@@ -7,8 +8,7 @@ use Rattle.straight_paths.proofs.fill.run_back.Given as goal
 abbrev pub invariant-loop-index : goal.invariant-loop-index
 invariant-loop-index l = record {
   index : l.index ≤ l.from;
-  least : l.index ≤ l.end;
-  along : IsSeenAlong l.track l.last l.strip l.tail.ahead l.step l.end l.index;
+  along : IsSeenAlong l.track l.last l.strip l.tail.ahead l.step (min l.tail.end (l.index + limit_of l.track)) l.index;
   ends : AreEndsFrom l.track l.last l.lap l.index l.steps;
 }
 
