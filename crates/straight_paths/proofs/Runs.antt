@@ -15,6 +15,7 @@ use Rattle.straight_paths.proofs.Ends.{clear_seen, tail_earlier, to_all}
 use Rattle.straight_paths.proofs.Staying.{stays_clear, stays_earlier, stays_shorter}
 use Rattle.straight_paths.proofs.Windows.{end_of_seen, seen_earlier}
 
+-- a tail that ends there, and a strip
 abbrev pub seen_by : Strip → ℕ → Ahead → Seen
 seen_by strip end ahead = record { tail = record { end = end; ahead = ahead }; strip = Some strip }
 

@@ -1,7 +1,7 @@
 //! How far what is straight from each point reaches, by the walk taken backwards.
 ghost use Rattle.std.specs.Prelude.{◌≡◌, ◌⊎◌, ◌+◌, ◌<◌, ◌≤◌, length, IfOk, IfSome, None, Some};
-ghost use Rattle.straight_paths.specs.Inner.Cones.{IsClear};
 ghost use Rattle.pt_core.specs.ClosedWalk.{point_at};
+ghost use Rattle.straight_paths.specs.Inner.Cones.{IsClear};
 ghost use Rattle.straight_paths.specs.Straight.{path_from, vector_of};
 ghost use Rattle.straight_paths.specs.Inner.Strips.{TakesStep};
 ghost use Rattle.straight_paths.specs.Inner.Sweeps.{AreEndsFrom, IsEnough, IsSeen, IsSweep, IsTold};
@@ -237,7 +237,7 @@ fn held_on(
 
 /// The same by the straight runs along a row or a column.
 //
-// Where the strip goes another way no run is asked for: it would be a step long, or the strip would be left.
+// A strip that goes another way has its borders shifted by each step, so none of its runs can be taken as a whole.
 fn held_by_runs(track: &Track, last: usize, lap: usize, start: Hold, steps: &mut [u32]) -> Hold
     requires seen { IsSeen track.now last start.index start.seen }
     requires ends { AreEndsFrom track.now last lap start.index steps.old }

@@ -71,7 +71,7 @@ pub record IsAhead (points : List Point) (at : ℕ) (ahead : Ahead) : Type 0 whe
   pub west : IsNext points ahead.last at west ahead.west
   pub south : IsNext points ahead.last at south ahead.south
 
--- the index where the step goes so far, and else the later one
+-- it is this index where the step goes as far as is wanted, and else the later one
 abbrev pub IsIndexOf : ℤ → ℤ → ℕ → ℕ → ℕ → Type 0
 IsIndexOf goes wanted here later index = ((goes ≡ wanted) × (index ≡ here)) ⊎ ((goes ≢ wanted) × (index ≡ later))
 
