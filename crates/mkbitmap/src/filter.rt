@@ -8,6 +8,7 @@ ghost use Rattle.mkbitmap.specs.declared.limits.TheConstants.{GREATEST_LEVEL, GR
 ghost use Rattle.bit_image.specs.PbmText.{row_text};
 ghost use Rattle.mkbitmap.specs.Filtering.{HasGone, Filtering};
 ghost use Rattle.mkbitmap.specs.Follows.{HoldsRows, AreRaised, Follows, IsRow};
+ghost use Rattle.mkbitmap.specs.Inner.Layout.{IsRowDue, StepsOn};
 
 use crate::enlarge::{CentrePlace, mix_row, pack_row};
 use crate::relief::raise_row;
@@ -206,9 +207,7 @@ impl Filter {
 
     /// Makes the reliefs of the next row, raised, in the place of the lower ones.
     fn raise(&mut self)
-        requires due { self.old.pairs < self.old.height }
-        requires ready { self.old.taken
-            ≡ min self.old.height (self.old.pairs + self.old.radius + 1) }
+        requires { IsRowDue self.old }
         ensures lower { (page : Gray) → HoldsRows page self.old
             → HoldsRows page self.new × AreRaised page self.new self.new.lower self.old.pairs }
         ensures upper { self.new.upper ≡ self.old.upper }
@@ -229,9 +228,7 @@ impl Filter {
 
     /// Lets the first row go that the next boxes don't have.
     fn let_go(&mut self)
-        requires due { self.old.pairs < self.old.height }
-        requires ready { self.old.taken
-            ≡ min self.old.height (self.old.pairs + self.old.radius + 1) }
+        requires { IsRowDue self.old }
         ensures holds { (page : Gray) → HoldsRows page self.old → HoldsRows page self.new }
         ensures upper { self.new.upper ≡ self.old.upper }
         ensures lower { self.new.lower ≡ self.old.lower }
@@ -259,12 +256,9 @@ impl Filter {
 
     /// Makes the reliefs of the first row.
     fn begin(&mut self)
-        requires due { self.old.pairs ≡ 0 }
-        requires some { 1 ≤ self.old.height }
-        requires ready { self.old.taken
-            ≡ min self.old.height (self.old.pairs + self.old.radius + 1) }
-        ensures follows { (page : Gray) → Follows page self.old → Follows page self.new }
-        ensures goes { HasGone 0 1 self.old self.new }
+        requires first { self.old.pairs ≡ 0 }
+        requires due { IsRowDue self.old }
+        ensures { StepsOn self.old self.new }
     {
         self.raise();
         self.copy_down();
@@ -274,11 +268,8 @@ impl Filter {
     /// Makes the reliefs of a row behind the first one.
     fn go_on(&mut self)
         requires some { 1 ≤ self.old.pairs }
-        requires due { self.old.pairs < self.old.height }
-        requires ready { self.old.taken
-            ≡ min self.old.height (self.old.pairs + self.old.radius + 1) }
-        ensures follows { (page : Gray) → Follows page self.old → Follows page self.new }
-        ensures goes { HasGone 0 1 self.old self.new }
+        requires due { IsRowDue self.old }
+        ensures { StepsOn self.old self.new }
     {
         self.copy_down();
         self.raise();
@@ -288,8 +279,7 @@ impl Filter {
     /// Has the reliefs of the last row twice.
     fn finish(&mut self)
         requires due { self.old.pairs ≡ self.old.height }
-        ensures follows { (page : Gray) → Follows page self.old → Follows page self.new }
-        ensures goes { HasGone 0 1 self.old self.new }
+        ensures { StepsOn self.old self.new }
     {
         self.upper.copy_from_slice(&self.lower);
         self.pairs += 1;

@@ -1,5 +1,5 @@
 -- Where a pixel of the larger page lies among those of the page, in the program.
-use Rattle.std.specs.Prelude.{◌≡◌, ℕ, ◌≤◌}
+use Rattle.std.specs.Prelude.{◌≡◌, ℕ, ◌+◌, ◌*◌, ◌≤◌, List, length}
 use Rattle.mkbitmap.specs.Enlarged.{after_of, distance_behind}
 use Rattle.mkbitmap.specs.declared.enlarge.CentrePlace.{CentrePlace}
 use Rattle.mkbitmap.specs.declared.limits.TheConstants.{GREATEST_TIMES}
@@ -7,6 +7,10 @@ use Rattle.mkbitmap.specs.declared.limits.TheConstants.{GREATEST_TIMES}
 -- a page can be made so many times larger
 abbrev pub CanEnlarge : ℕ → Type 0
 CanEnlarge times = (1 ≤ times) × (times ≤ GREATEST_TIMES)
+
+-- a row of reliefs is wide enough for so many pixels of a page that is made so many times larger
+abbrev pub AreColumnsFor : ℕ → ℕ → List ℕ → Type 0
+AreColumnsFor times end reliefs = CanEnlarge times × (end + 2 * times ≤ times * length reliefs)
 
 -- this is the place of column X
 pub record IsPlaceOf (times X : ℕ) (p : CentrePlace) : Type 0 where

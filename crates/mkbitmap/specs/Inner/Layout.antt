@@ -3,9 +3,10 @@
 use Rattle.std.specs.Prelude.{◌≡◌, ℕ, ◌+◌, ◌-◌, ◌*◌, ◌/◌, ◌%◌, ◌<◌, ◌≤◌, min, List, [], length, get_or, map}
 use Rattle.std.specs.List.{range_with_len}
 use Rattle.pt_core.specs.declared.limits.TheConstants.{LONGEST_SIDE}
-use Rattle.mkbitmap.specs.Box.{sum_between}
+use Rattle.mkbitmap.specs.Box.{Gray, sum_between}
 use Rattle.mkbitmap.specs.Enlarged.{dark_limit}
-use Rattle.mkbitmap.specs.Filtering.{Filtering}
+use Rattle.mkbitmap.specs.Filtering.{Filtering, HasGone}
+use Rattle.mkbitmap.specs.Follows.{Follows}
 use Rattle.mkbitmap.specs.declared.limits.TheConstants.{GREATEST_MAXVAL, GREATEST_RADIUS, GREATEST_RELIEF, GREATEST_TIMES}
 use Rattle.mkbitmap.specs.declared.filter.Filter.TheInside.{Inside}
 
@@ -69,3 +70,11 @@ pub record IsLaidOut (f : Inside) : Type 0 where
   pub sums : (x : ℕ) → x < f.width → get_or f.columns.items x 0 ≡ sum_between (λ j. get_or (held_row f j) x 0) (first_held f) f.taken
   pub upper : (x : ℕ) → get_or f.upper.items x 0 ≤ GREATEST_RELIEF
   pub lower : (x : ℕ) → get_or f.lower.items x 0 ≤ GREATEST_RELIEF
+
+-- the reliefs of a row are still to be made, and the rows that they ask for were taken
+abbrev pub IsRowDue : Filtering → Type 0
+IsRowDue f = (f.pairs < f.height) × (f.taken ≡ min f.height (f.pairs + f.radius + 1))
+
+-- it holds of the same pages what it should, and has made the reliefs of one row more
+abbrev pub StepsOn : Filtering → Filtering → Type 0
+StepsOn old new = ((page : Gray) → Follows page old → Follows page new) × HasGone 0 1 old new

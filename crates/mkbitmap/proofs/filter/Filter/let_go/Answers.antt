@@ -13,8 +13,8 @@ leave-requires-clause-within c = λ x.
     let f = c.self.inside in
     let laid = c.self.invariant in
     let room = laid.room in
-    let due : f.pairs < f.height = subst (λ (v : Filtering). v.pairs < v.height) (sym c.self.view_is) c.requires.due in
-    let ready : f.taken ≡ min f.height (f.pairs + f.radius + 1) = subst (λ (v : Filtering). v.taken ≡ min v.height (v.pairs + v.radius + 1)) (sym c.self.view_is) c.requires.ready in
+    let due : f.pairs < f.height = subst (λ (v : Filtering). v.pairs < v.height) (sym c.self.view_is) c.requires.0 in
+    let ready : f.taken ≡ min f.height (f.pairs + f.radius + 1) = subst (λ (v : Filtering). v.taken ≡ min v.height (v.pairs + v.radius + 1)) (sym c.self.view_is) c.requires.1 in
     let slots : c.len.result ≡ 2 * f.radius + 1 = c.len.ensures ∙ f.ring.ok.0 ∙ room.slots in
     let modulo : (f.pairs - f.radius) % c.len.result < 2 * f.radius + 1 = rw slots (mod_below (f.pairs - f.radius) (2 * f.radius + 1) (omega arith)) in
     let below : (f.pairs - f.radius) % c.len.result < length f.ring.items = omega (arith, modulo, room.slots) in
@@ -34,8 +34,8 @@ invariant_of-self-2 c =
     let f = c.self.inside in
     let laid = c.self.invariant in
     let room = laid.room in
-    let due : f.pairs < f.height = subst (λ (v : Filtering). v.pairs < v.height) (sym c.self.view_is) c.requires.due in
-    let ready : f.taken ≡ min f.height (f.pairs + f.radius + 1) = subst (λ (v : Filtering). v.taken ≡ min v.height (v.pairs + v.radius + 1)) (sym c.self.view_is) c.requires.ready in
+    let due : f.pairs < f.height = subst (λ (v : Filtering). v.pairs < v.height) (sym c.self.view_is) c.requires.0 in
+    let ready : f.taken ≡ min f.height (f.pairs + f.radius + 1) = subst (λ (v : Filtering). v.taken ≡ min v.height (v.pairs + v.radius + 1)) (sym c.self.view_is) c.requires.1 in
     let slots : c.len.result ≡ 2 * f.radius + 1 = c.len.ensures ∙ f.ring.ok.0 ∙ room.slots in
     let modulo : (f.pairs - f.radius) % c.len.result < 2 * f.radius + 1 = rw slots (mod_below (f.pairs - f.radius) (2 * f.radius + 1) (omega arith)) in
     let below : (f.pairs - f.radius) % c.len.result < length f.ring.items = omega (arith, modulo, room.slots) in
@@ -70,8 +70,8 @@ invariant_of-self-2 c =
 pub returns-clause-holds : goal.returns-clause-holds
 returns-clause-holds c = λ page old.
     let f = c.self.inside in
-    let due : f.pairs < f.height = subst (λ (v : Filtering). v.pairs < v.height) (sym c.self.view_is) c.requires.due in
-    let ready : f.taken ≡ min f.height (f.pairs + f.radius + 1) = subst (λ (v : Filtering). v.taken ≡ min v.height (v.pairs + v.radius + 1)) (sym c.self.view_is) c.requires.ready in
+    let due : f.pairs < f.height = subst (λ (v : Filtering). v.pairs < v.height) (sym c.self.view_is) c.requires.0 in
+    let ready : f.taken ≡ min f.height (f.pairs + f.radius + 1) = subst (λ (v : Filtering). v.taken ≡ min v.height (v.pairs + v.radius + 1)) (sym c.self.view_is) c.requires.1 in
     let ring = ring_of page f c.self.invariant (subst (λ (v : Filtering). HoldsRows page v) (sym c.self.view_is) old) in
     holds_of page _ (2 * f.radius + 1) (min (f.pairs + 1) f.height - f.radius) f.ring.items refl (omega (arith, due, ready)) ring.width ring.height ring.maxval ring.bright
     (λ j from. ring.held j (omega (arith, from)))

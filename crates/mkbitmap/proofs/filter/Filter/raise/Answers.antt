@@ -13,8 +13,8 @@ pub raise_row-requires-clause-samples : goal.raise_row-requires-clause-samples
 raise_row-requires-clause-samples c = λ x.
     let f = c.self.inside in
     let laid = c.self.invariant in
-    let due : f.pairs < f.height = subst (λ (v : Filtering). v.pairs < v.height) (sym c.self.view_is) c.requires.due in
-    let ready : f.taken ≡ min f.height (f.pairs + f.radius + 1) = subst (λ (v : Filtering). v.taken ≡ min v.height (v.pairs + v.radius + 1)) (sym c.self.view_is) c.requires.ready in
+    let due : f.pairs < f.height = subst (λ (v : Filtering). v.pairs < v.height) (sym c.self.view_is) c.requires.0 in
+    let ready : f.taken ≡ min f.height (f.pairs + f.radius + 1) = subst (λ (v : Filtering). v.taken ≡ min v.height (v.pairs + v.radius + 1)) (sym c.self.view_is) c.requires.1 in
     let slots : c.len.result ≡ 2 * f.radius + 1 = c.len.ensures ∙ f.ring.ok.0 ∙ laid.room.slots in
     let below : f.pairs % c.len.result < length f.ring.items = rw (slots, laid.room.slots) (mod_below f.pairs (2 * f.radius + 1) (omega arith)) in
     let is : c.samples.result.now ≡ held_row f f.pairs
@@ -24,7 +24,7 @@ raise_row-requires-clause-samples c = λ x.
 pub raise_row-requires-clause-columns : goal.raise_row-requires-clause-columns
 raise_row-requires-clause-columns c = λ x.
     let f = c.self.inside in
-    let due : f.pairs < f.height = subst (λ (v : Filtering). v.pairs < v.height) (sym c.self.view_is) c.requires.due in
+    let due : f.pairs < f.height = subst (λ (v : Filtering). v.pairs < v.height) (sym c.self.view_is) c.requires.0 in
     let low : c.saturating_sub.result ≡ first_held f = omega (arith, c.saturating_sub.ensures, due) in
     rw (c.deref.ensures.value, low) (sums_small f c.self.invariant x)
 
@@ -33,8 +33,8 @@ invariant_of-self c =
     let f = c.self.inside in
     let laid = c.self.invariant in
     let room = laid.room in
-    let due : f.pairs < f.height = subst (λ (v : Filtering). v.pairs < v.height) (sym c.self.view_is) c.requires.due in
-    let ready : f.taken ≡ min f.height (f.pairs + f.radius + 1) = subst (λ (v : Filtering). v.taken ≡ min v.height (v.pairs + v.radius + 1)) (sym c.self.view_is) c.requires.ready in
+    let due : f.pairs < f.height = subst (λ (v : Filtering). v.pairs < v.height) (sym c.self.view_is) c.requires.0 in
+    let ready : f.taken ≡ min f.height (f.pairs + f.radius + 1) = subst (λ (v : Filtering). v.taken ≡ min v.height (v.pairs + v.radius + 1)) (sym c.self.view_is) c.requires.1 in
     let slots : c.len.result ≡ 2 * f.radius + 1 = c.len.ensures ∙ f.ring.ok.0 ∙ room.slots in
     let below : f.pairs % c.len.result < length f.ring.items = rw (slots, room.slots) (mod_below f.pairs (2 * f.radius + 1) (omega arith)) in
     let is : c.samples.result.now ≡ held_row f f.pairs
@@ -75,8 +75,8 @@ pub returns-clause-lower : goal.returns-clause-lower
 returns-clause-lower c = λ page old.
     let f = c.self.inside in
     let laid = c.self.invariant in
-    let due : f.pairs < f.height = subst (λ (v : Filtering). v.pairs < v.height) (sym c.self.view_is) c.requires.due in
-    let ready : f.taken ≡ min f.height (f.pairs + f.radius + 1) = subst (λ (v : Filtering). v.taken ≡ min v.height (v.pairs + v.radius + 1)) (sym c.self.view_is) c.requires.ready in
+    let due : f.pairs < f.height = subst (λ (v : Filtering). v.pairs < v.height) (sym c.self.view_is) c.requires.0 in
+    let ready : f.taken ≡ min f.height (f.pairs + f.radius + 1) = subst (λ (v : Filtering). v.taken ≡ min v.height (v.pairs + v.radius + 1)) (sym c.self.view_is) c.requires.1 in
     let pairs : c.args.self.now.pairs ≡ f.pairs = ap (λ (v : Filtering). v.pairs) (sym c.self.view_is) in
     let holds : HoldsRows page (filtering_of f) = subst (λ (v : Filtering). HoldsRows page v) (sym c.self.view_is) old in
     let slots : c.len.result ≡ 2 * f.radius + 1 = c.len.ensures ∙ f.ring.ok.0 ∙ laid.room.slots in
