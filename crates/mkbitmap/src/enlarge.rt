@@ -4,7 +4,7 @@ ghost use Rattle.mkbitmap.specs.Enlarged.{before_within, mix};
 ghost use Rattle.mkbitmap.specs.Inner.Enlarged.{dark};
 ghost use Rattle.mkbitmap.specs.Inner.Packing.{bit, byte_of};
 ghost use Rattle.mkbitmap.specs.Packing.{padded};
-ghost use Rattle.mkbitmap.specs.Inner.CentrePlace.{AreColumnsFor, CanEnlarge, IsPlaceOf};
+ghost use Rattle.mkbitmap.specs.Inner.CentrePlace.{CanEnlarge, IsPlaceOf, IsWideEnough};
 ghost use Rattle.mkbitmap.specs.declared.limits.TheConstants.{GREATEST_RELIEF};
 ghost use Rattle.pt_core.specs.declared.limits.TheConstants.{LONGEST_SIDE};
 ghost use Rattle.bit_image.specs.PbmText.{row_text};
@@ -91,7 +91,7 @@ fn is_dark(mixed: &[u32], after: u32, part: u32, whole: u32, limit: u64) -> bool
 
 /// What the pixel in a column adds to its byte. The row has no pixels from `end` on.
 fn pixel(mixed: &[u32], place: CentrePlace, times: u32, limit: u64, x: u32, end: u32) -> u32
-    requires columns { AreColumnsFor times end mixed.now }
+    requires wide { IsWideEnough times end mixed.now }
     requires place { IsPlaceOf times x place }
     ensures value { result ≡ bit (padded end (dark mixed.now times limit) x) }
     ensures most { result ≤ 1 }
@@ -106,7 +106,7 @@ fn pixel(mixed: &[u32], place: CentrePlace, times: u32, limit: u64, x: u32, end:
 /// Eight pixels of a row of the larger page as a byte, from a column on. The row has no pixels from
 /// `end` on.
 fn byte_at(mixed: &[u32], times: u32, limit: u64, column: u32, end: u32) -> u8
-    requires columns { AreColumnsFor times end mixed.now }
+    requires wide { IsWideEnough times end mixed.now }
     requires column { column ≤ LONGEST_SIDE }
     ensures { result ≡ byte_of (padded end (dark mixed.now times limit)) column }
 {
@@ -121,7 +121,7 @@ fn byte_at(mixed: &[u32], times: u32, limit: u64, column: u32, end: u32) -> u8
 
 /// A row of the larger page, packed.
 pub(crate) fn pack_row(mixed: &[u32], times: u32, limit: u64, end: u32, row: &mut [u8])
-    requires columns { AreColumnsFor times end mixed.now }
+    requires wide { IsWideEnough times end mixed.now }
     requires end { end ≤ LONGEST_SIDE }
     requires room { length row.old ≡ (end + 7) / 8 }
     ensures { row.new ≡ row_text end (padded end (dark mixed.now times limit)) }

@@ -9,8 +9,8 @@ abbrev pub CanEnlarge : ℕ → Type 0
 CanEnlarge times = (1 ≤ times) × (times ≤ GREATEST_TIMES)
 
 -- a row of reliefs is wide enough for so many pixels of a page that is made so many times larger
-abbrev pub AreColumnsFor : ℕ → ℕ → List ℕ → Type 0
-AreColumnsFor times end reliefs = CanEnlarge times × (end + 2 * times ≤ times * length reliefs)
+abbrev pub IsWideEnough : ℕ → ℕ → List ℕ → Type 0
+IsWideEnough times end reliefs = CanEnlarge times × (end + 2 * times ≤ times * length reliefs)
 
 -- this is the place of column X
 pub record IsPlaceOf (times X : ℕ) (p : CentrePlace) : Type 0 where

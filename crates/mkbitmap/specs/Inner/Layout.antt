@@ -75,6 +75,6 @@ pub record IsLaidOut (f : Inside) : Type 0 where
 abbrev pub IsRowDue : Filtering → Type 0
 IsRowDue f = (f.pairs < f.height) × (f.taken ≡ min f.height (f.pairs + f.radius + 1))
 
--- it holds of the same pages what it should, and has made the reliefs of one row more
+-- it follows each page that it followed before, and has made the reliefs of one row more
 abbrev pub StepsOn : Filtering → Filtering → Type 0
 StepsOn old new = ((page : Gray) → Follows page old → Follows page new) × HasGone 0 1 old new
