@@ -28,15 +28,22 @@ sources_of() {
   (cd "$1" && find crates.txt crates/*/{src,specs,proofs} -type f -print0 | LC_ALL=C sort -z | xargs -0 sha256sum | sha256sum)
 }
 
+# program_of CLONE CRATE: its program as the gate links it, which `./build` leaves beside that with the C library in it.
+program_of() {
+  local program=$1/crates/$2/out/$2
+  if [ -s "$program.dynamic" ]; then program+=.dynamic; fi
+  echo "$program"
+}
+
 sums=$(for clone in "${clones[@]}"; do sources_of "$clone"; done | sort -u)
 sed 's/ *-$/  what they are made of/' <<<"$sums"
 [ "$(wc -l <<<"$sums")" -eq 1 ] || echo "same: they are made of different sources" >&2
 differ=0
 while IFS=': ' read -r name crate; do
   for clone in "${clones[@]}"; do
-    [ -s "$clone/crates/$crate/out/$crate" ] || { echo "same: $clone has no program $name" >&2; exit 1; }
+    [ -s "$(program_of "$clone" "$crate")" ] || { echo "same: $clone has no program $name" >&2; exit 1; }
   done
-  sums=$(for clone in "${clones[@]}"; do sha256sum <"$clone/crates/$crate/out/$crate"; done | sort -u)
+  sums=$(for clone in "${clones[@]}"; do sha256sum <"$(program_of "$clone" "$crate")"; done | sort -u)
   [ "$(wc -l <<<"$sums")" -eq 1 ] || differ=1
   sed "s/ *-$/  $name/" <<<"$sums"
 done < <(grep -v '^#' "$top/programs.txt")
