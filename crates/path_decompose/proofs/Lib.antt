@@ -25,6 +25,7 @@ pub mod Rows
 pub mod Sides
 pub mod Area
 pub mod Noted
+pub mod Runs
 pub mod EdgeBits
 pub mod Taken
 pub mod EightPixels

@@ -45,13 +45,13 @@ none_noted f s points up down p u d =
       down_most = omega arith;
     })
 
-column_up-le : (x : ℕ) (d : Dir) → column_if_up x d ≤ x
+pub column_up-le : (x : ℕ) (d : Dir) → column_if_up x d ≤ x
 column_up-le x North = omega arith
 column_up-le x East = omega arith
 column_up-le x South = omega arith
 column_up-le x West = omega arith
 
-column_down-le : (x : ℕ) (d : Dir) → column_if_down x d ≤ x
+pub column_down-le : (x : ℕ) (d : Dir) → column_if_down x d ≤ x
 column_down-le x North = omega arith
 column_down-le x East = omega arith
 column_down-le x South = omega arith
@@ -125,7 +125,7 @@ noted_closed b policy sign x y width height points new_points up down new_up new
 -- the sums stay small, as a page has only so many edges
 pub noted_small : (b : Image) (policy : Policy) (sign : Sign) (x y width height : ℕ) (points : List Point) (up down : ℕ) (here : Edge)
     → IsFirstBlack b x y → Fits b width height → width ≤ LONGEST_SIDE → height ≤ LONGEST_SIDE → IsNoted (next b policy sign) (first_edge x y) points up down here
-    → (length points < suc width * suc height * 2) × (up < 2 ^ 63) × (down < 2 ^ 63)
+    → (length points < suc width * suc height * 2) × (up < 2 ^ 62) × (down < 2 ^ 62)
 noted_small b policy sign x y width height points up down here first fits w h noted =
     let short : length points < suc width * suc height * 2 = part_short b policy sign x y (length points) points here width height first fits noted.part in
     let sides : suc width * suc height ≤ suc LONGEST_SIDE * suc LONGEST_SIDE = mul-le (suc width) (suc height) (suc LONGEST_SIDE) (suc LONGEST_SIDE) (omega arith) (omega arith) in

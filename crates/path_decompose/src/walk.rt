@@ -1,10 +1,10 @@
 //! The walk along a boundary, once round.
-ghost use Rattle.std.specs.Prelude.{◌≡◌, ◌≢◌, ℕ, ◌+◌, ◌++◌, ◌∷◌, [], IfOk, OnOk, MatchBool, ◌^◌, ◌<◌};
+ghost use Rattle.std.specs.Prelude.{◌≡◌, ◌≢◌, ℕ, ◌+◌, ◌∷◌, [], IfOk, OnOk, MatchBool, ◌^◌, ◌<◌};
 ghost use Rattle.bit_image.specs.FirstBlack.{IsFirstBlack};
 ghost use Rattle.bit_image.specs.Page.{image_of};
 ghost use Rattle.path_decompose.specs.Inside.{inside, black_count};
-ghost use Rattle.path_decompose.specs.Inner.Trail.{column_up, column_down};
-ghost use Rattle.path_decompose.specs.Walk.{first_edge, start_of, IsBoundaryWalk};
+ghost use Rattle.path_decompose.specs.Inner.Trail.{edge_from, IsBelow, AreNoted, IsRun};
+ghost use Rattle.path_decompose.specs.Walk.{first_edge, IsBoundaryWalk};
 ghost use Rattle.turn_policies.specs.Boundary.{IsBoundary};
 ghost use Rattle.turn_policies.specs.Turn.{next};
 
@@ -43,11 +43,66 @@ pub(crate) fn walk_round(
         y: y + 1,
         heading: Dir::South,
     };
-    'steps: loop {
-        here = step(page, here, policy, sign, trail)?;
+    'runs: loop {
+        here = turned_after(page, here, policy, sign, trail)?;
         if is_first(here, x, y) {
             return Ok(());
         }
+    }
+}
+
+/// The edge to which a walk turns after a run of edges with one heading, which are noted down.
+#[inline(always)]
+fn turned_after(
+    page: &Edges,
+    edge: Edge,
+    policy: Policy,
+    sign: Sign,
+    trail: &mut Trail,
+) -> Result<Edge, NoMemory>
+    requires boundary { IsBoundary (image_of page.now) edge }
+    requires sums { IsBelow (2 ^ 62) trail.old }
+    ensures run { IfOk result (λ after.
+        IsRun (next (image_of page.now) policy sign) edge after trail.old trail.new) }
+    ensures turns { IfOk result (λ after. after.heading ≢ edge.heading) }
+{
+    let Edge { x, y, heading } = edge;
+    // Each heading has a loop of its own, in which neither it nor what it asks is looked up again, and in which the
+    // processor foresees the turns better.
+    match heading {
+        Dir::North => turned_run(page, x, y, Dir::North, policy, sign, trail),
+        Dir::East => turned_run(page, x, y, Dir::East, policy, sign, trail),
+        Dir::South => turned_run(page, x, y, Dir::South, policy, sign, trail),
+        Dir::West => turned_run(page, x, y, Dir::West, policy, sign, trail),
+    }
+}
+
+/// The same of the edge that leaves corner (x, y) with a heading.
+#[inline(always)]
+fn turned_run(
+    page: &Edges,
+    mut x: u32,
+    mut y: u32,
+    heading: Dir,
+    policy: Policy,
+    sign: Sign,
+    trail: &mut Trail,
+) -> Result<Edge, NoMemory>
+    requires boundary { IsBoundary (image_of page.now) (edge_from x y heading) }
+    requires sums { IsBelow (2 ^ 62) trail.old }
+    ensures run { IfOk result (λ after. IsRun (next (image_of page.now) policy sign)
+        (edge_from x y heading) after trail.old trail.new) }
+    ensures turns { IfOk result (λ after. after.heading ≢ heading) }
+{
+    // The width is asked, so that the proof sees that a page is small.
+    let _ = page.width();
+    'edges: loop {
+        let after = step(page, Edge { x, y, heading }, policy, sign, trail)?;
+        if after.heading != heading {
+            return Ok(after);
+        }
+        x = after.x;
+        y = after.y;
     }
 }
 
@@ -61,14 +116,10 @@ fn step(
     trail: &mut Trail,
 ) -> Result<Edge, NoMemory>
     requires boundary { IsBoundary (image_of page.now) edge }
-    requires up { trail.old.up < 2 ^ 63 }
-    requires down { trail.old.down < 2 ^ 63 }
+    requires sums { IsBelow (2 ^ 63) trail.old }
     ensures value { IfOk result (λ after. after ≡ next (image_of page.now) policy sign edge) }
     ensures boundary { IfOk result (λ after. IsBoundary (image_of page.now) after) }
-    ensures points { OnOk result
-        (trail.new.points.items ≡ trail.old.points.items ++ start_of edge ∷ []) }
-    ensures up { OnOk result (trail.new.up ≡ trail.old.up + column_up edge) }
-    ensures down { OnOk result (trail.new.down ≡ trail.old.down + column_down edge) }
+    ensures noted { OnOk result (AreNoted trail.old trail.new (edge ∷ [])) }
 {
     // The width is asked, so that the proof sees that an edge lies on the page.
     let _ = page.width();
@@ -77,9 +128,6 @@ fn step(
         x: x as i32,
         y: y as i32,
     })?;
-    // Each heading has code of its own, so that the processor foresees the turns better: in a model of the walk that
-    // took a fifth less on a page of text than a look at the heading for each end and each pixel, and a table with no
-    // branches was no faster.
     match heading {
         Dir::North => {
             trail.up += u64::from(x);

@@ -141,7 +141,7 @@ pub overflow_cast-y : goal.overflow_cast-y
 overflow_cast-y c = omega (arith, ints, corner c.args.page.now c.width.ensures.page c.width.ensures.fits c.args.edge c.requires.boundary)
 
 pub overflow_add-trail : goal.overflow_add-trail
-overflow_add-trail c = omega (arith, c.from.ensures, c.requires.up, corner c.args.page.now c.width.ensures.page c.width.ensures.fits c.args.edge c.requires.boundary)
+overflow_add-trail c = omega (arith, c.from.ensures, c.requires.sums.up, corner c.args.page.now c.width.ensures.page c.width.ensures.fits c.args.edge c.requires.boundary)
 
 pub overflow_add-trail-in-South : goal.overflow_add-trail-in-South
-overflow_add-trail-in-South c = omega (arith, c.from-in-South.ensures, c.requires.down, corner c.args.page.now c.width.ensures.page c.width.ensures.fits c.args.edge c.requires.boundary)
+overflow_add-trail-in-South c = omega (arith, c.from-in-South.ensures, c.requires.sums.down, corner c.args.page.now c.width.ensures.page c.width.ensures.fits c.args.edge c.requires.boundary)
