@@ -100,7 +100,7 @@ unfolding is_one
 first = refl
 
 -- a word of one bit
-is_one-bit : (k i : ℕ) → i < 64 → is_one (1 * 2 ^ k % 2 ^ 64) i ≡ nat_eq k i
+pub is_one-bit : (k i : ℕ) → i < 64 → is_one (1 * 2 ^ k % 2 ^ 64) i ≡ nat_eq k i
 is_one-bit k i p = elim (cases_order i k) [
   | inl same ↦
       is_one-shl 1 k i p (omega arith) ∙ ap (is_one 1) (let none : i - k ≡ 0 = omega arith in none) ∙ first ∙ sym (eq-eqb k i (sym same))
@@ -120,10 +120,10 @@ unfolding has_edge
 has_edge-low rows words k u v low = ap (λ t. t && is_one (get_or words (word_place rows k (u / 64) v) 0) (u % 64)) (lt-ltb v rows low)
 
 -- an edge that is flipped
-pub has_edge-flip : (rows : ℕ) (words : List ℕ) (kind x y at : ℕ) → y < rows → kind < 2 → at ≡ word_place rows kind (x / 64) y → at < length words
-    → (k u v : ℕ) → k < 2 → has_edge rows (set words at (bit_xor (get_or words at 0) (1 * 2 ^ (x % 64) % 2 ^ 64))) k u v ≡ differ (has_edge rows words k u v) (same_edge kind x y k u v)
-has_edge-flip rows words kind x y at low p place inside k u v q =
-    let word : ℕ = bit_xor (get_or words at 0) (1 * 2 ^ (x % 64) % 2 ^ 64) in
+pub has_edge-flip : (rows : ℕ) (words : List ℕ) (kind x y at bit : ℕ) → y < rows → kind < 2 → at ≡ word_place rows kind (x / 64) y → at < length words → ((i : ℕ) → i < 64 → is_one bit i ≡ nat_eq (x % 64) i)
+    → (k u v : ℕ) → k < 2 → has_edge rows (set words at (bit_xor (get_or words at 0) bit)) k u v ≡ differ (has_edge rows words k u v) (same_edge kind x y k u v)
+has_edge-flip rows words kind x y at bit low p place inside one k u v q =
+    let word : ℕ = bit_xor (get_or words at 0) bit in
     has_edge-set rows words kind (x / 64) y at word low p place inside k u v q
     ∙ elim (cases_Bool (same_edge kind (x / 64) y k (u / 64) v)) [
       | inr other ↦
@@ -136,8 +136,8 @@ has_edge-flip rows words kind x y at low p place inside k u v q =
           let b : x / 64 ≡ u / 64 = eqb-true (x / 64) (u / 64) rest.0 in
           let c : y ≡ v = eqb-true y v rest.1 in
           cond-true _ (is_one word (u % 64)) (has_edge rows words k u v) same
-          ∙ is_one-xor (get_or words at 0) (1 * 2 ^ (x % 64) % 2 ^ 64) (u % 64)
-          ∙ ap (λ t. differ (is_one (get_or words at 0) (u % 64)) t) (is_one-bit (x % 64) (u % 64) (omega arith) ∙ same_column x u b ∙ here (nat_eq kind k) (nat_eq x u) (nat_eq y v) first.0 rest.1)
+          ∙ is_one-xor (get_or words at 0) bit (u % 64)
+          ∙ ap (λ t. differ (is_one (get_or words at 0) (u % 64)) t) (one (u % 64) (omega arith) ∙ same_column x u b ∙ here (nat_eq kind k) (nat_eq x u) (nat_eq y v) first.0 rest.1)
           ∙ ap (λ t. differ t (same_edge kind x y k u v))
           (ap (λ n. is_one (get_or words n 0) (u % 64)) (place ∙ ap (λ n. word_place rows n (x / 64) y) a ∙ ap (λ n. word_place rows k n y) b ∙ ap (word_place rows k (u / 64)) c)
           ∙ sym (has_edge-low rows words k u v (omega arith)))

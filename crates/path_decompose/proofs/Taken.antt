@@ -1,9 +1,9 @@
 -- The edges that a path's lines are, and what is left without them.
-use Rattle.std.proofs.Common.{◌≡◌, ℕ, zero, suc, ◌+◌, ◌-◌, ◌*◌, ◌/◌, ◌%◌, ◌^◌, ◌<◌, ◌≤◌, ℤ, pos, ◌≤ℤ◌, nat_abs, Bool, true, false, ◌&&◌, ◌⊎◌, cond, min, max, nat_eq, nat_le, List, [], ◌∷◌, All, length, get_or, count_by, w32, to_z, of_z, refl, ap, sym, subst, ◌∙◌, inl, inr, arith}
+use Rattle.std.proofs.Common.{◌≡◌, ◌≢◌, ℕ, zero, suc, ◌+◌, ◌-◌, ◌*◌, ◌/◌, ◌%◌, ◌^◌, ◌<◌, ◌≤◌, ℤ, pos, ◌≤ℤ◌, nat_abs, Bool, true, false, ◌&&◌, ◌⊎◌, cond, min, max, nat_eq, nat_le, List, [], ◌∷◌, All, length, get_or, count_by, w32, to_z, of_z, refl, ap, sym, subst, ◌∙◌, inl, inr, arith}
 use Rattle.std.proofs.Math.Nat.{mod-eq_of_lt, mod_self}
 use Rattle.std.proofs.lemmas.Int.{ints}
 use Rattle.std.proofs.lemmas.Nat.{mul-le}
-use Rattle.std.proofs.lemmas.Bool.{cases_lt, eq-eqb, ne_eqb}
+use Rattle.std.proofs.lemmas.Bool.{cases_lt, eq-eqb, ne_eqb, false≢true}
 use Rattle.std.proofs.lemmas.Bool.Decides.{nat_tests}
 use Rattle.pt_core.specs.ClosedWalk.{origin, IsUnitStep, IsClosedWalk}
 use Rattle.pt_core.specs.declared.limits.TheConstants.{LONGEST_SIDE}
@@ -42,13 +42,6 @@ pub greater_is : (a b : ℤ) → pos 0 ≤ℤ a → nat_abs a + 3 < 2 ^ 16 → p
 greater_is a b low_a high_a low_b high_b =
     ap (λ z. max (nat_abs z) (nat_abs (to_z w32 (of_z w32 b)))) (word_back a low_a high_a) ∙ ap (λ z. max (nat_abs a) (nat_abs z)) (word_back b low_b high_b)
 
--- there is room for the greater column of two corners
-pub greater_room : (rows size : ℕ) (p q : Point) → FitsStrips rows size p → FitsStrips rows size q → 2 * (((max (nat_abs p.x) (nat_abs q.x) + 3) / 64 + 1) * rows) ≤ size
-greater_room rows size p q hp hq = elim (cases_lt (nat_abs p.x) (nat_abs q.x)) [
-  | inl less ↦ let right : nat_abs q.x ≡ max (nat_abs p.x) (nat_abs q.x) = omega arith in subst (λ n. 2 * (((n + 3) / 64 + 1) * rows) ≤ size) right hq.room
-  | inr more ↦ let left : nat_abs p.x ≡ max (nat_abs p.x) (nat_abs q.x) = omega arith in subst (λ n. 2 * (((n + 3) / 64 + 1) * rows) ≤ size) left hp.room
-]
-
 spot_up : (a b d k u v : ℕ) → (b ≡ suc d) ⊎ (d ≡ suc b) → (c : ℕ) → a ≡ c → same_edge 0 (max a c + 3) (max b d + 3) k u v ≡ is_along k u v (line_at a b c d)
 spot_up a b d k u v next c same =
     let column : max a c + 3 ≡ a + 3 = omega arith in
@@ -65,7 +58,7 @@ spot_level a b c d k u v next same =
     ∙ sym (ap (λ t. is_along k u v (cond t (upright a (min b d)) (level (min a c) b))) apart)
 
 -- the edge of the kind that the two columns tell is that along the line
-pub spot_is : (rows size : ℕ) (p q : Point) (kind k u v : ℕ) → FitsStrips rows size p → FitsStrips rows size q → IsUnitStep p q → (nat_abs p.x ≡ nat_abs q.x → kind ≡ 0) → (nat_eq (nat_abs p.x) (nat_abs q.x) ≡ false → kind ≡ 1)
+spot_is : (rows size : ℕ) (p q : Point) (kind k u v : ℕ) → FitsStrips rows size p → FitsStrips rows size q → IsUnitStep p q → (nat_abs p.x ≡ nat_abs q.x → kind ≡ 0) → (nat_eq (nat_abs p.x) (nat_abs q.x) ≡ false → kind ≡ 1)
     → same_edge kind (max (nat_abs p.x) (nat_abs q.x) + 3) (max (nat_abs p.y) (nat_abs q.y) + 3) k u v ≡ is_along k u v (line_between p q)
 spot_is rows size p q kind k u v hp hq (inr up) zero_is one_is =
     let same : nat_abs p.x ≡ nat_abs q.x = ap nat_abs up.0 in
@@ -76,6 +69,25 @@ spot_is rows size p q kind k u v hp hq (inl along) zero_is one_is =
     let apart : nat_eq (nat_abs p.x) (nat_abs q.x) ≡ false = ne_eqb (nat_abs p.x) (nat_abs q.x) (λ e. elim next [ inl left ↦ omega arith | inr right ↦ omega arith ]) in
     ap (λ n. same_edge n (max (nat_abs p.x) (nat_abs q.x) + 3) (max (nat_abs p.y) (nat_abs q.y) + 3) k u v) (one_is apart)
     ∙ spot_level (nat_abs p.x) (nat_abs p.y) (nat_abs q.x) (nat_abs q.y) k u v next (ap nat_abs along.0)
+
+-- an upright line, in its column
+pub upright_spot : (rows size : ℕ) (p q : Point) (row k u v : ℕ) → FitsStrips rows size p → FitsStrips rows size q → IsUnitStep p q → nat_abs p.x ≡ nat_abs q.x → row ≡ max (nat_abs p.y) (nat_abs q.y)
+    → same_edge 0 (nat_abs p.x + 3) (row + 3) k u v ≡ is_along k u v (line_between p q)
+upright_spot rows size p q row k u v hp hq step same greater =
+    let column : nat_abs p.x ≡ max (nat_abs p.x) (nat_abs q.x) = omega arith in
+    ap (λ n. same_edge 0 (n + 3) (row + 3) k u v) column
+    ∙ ap (λ n. same_edge 0 (max (nat_abs p.x) (nat_abs q.x) + 3) (n + 3) k u v) greater
+    ∙ spot_is rows size p q 0 k u v hp hq step (λ _. refl) (λ e. absurd (false≢true (sym e ∙ eq-eqb (nat_abs p.x) (nat_abs q.x) same)))
+
+-- a level line, in its row
+pub level_spot : (rows size : ℕ) (p q : Point) (column k u v : ℕ) → FitsStrips rows size p → FitsStrips rows size q → IsUnitStep p q → nat_abs p.x ≢ nat_abs q.x → column ≡ max (nat_abs p.x) (nat_abs q.x)
+    → same_edge 1 (column + 3) (nat_abs p.y + 3) k u v ≡ is_along k u v (line_between p q)
+level_spot rows size p q column k u v hp hq step apart greater =
+    let level : nat_abs p.y ≡ nat_abs q.y = elim step [ inl along ↦ ap nat_abs along.0 | inr up ↦ absurd (apart (ap nat_abs up.0)) ] in
+    let row : nat_abs p.y ≡ max (nat_abs p.y) (nat_abs q.y) = omega arith in
+    ap (λ n. same_edge 1 (n + 3) (nat_abs p.y + 3) k u v) greater
+    ∙ ap (λ n. same_edge 1 (max (nat_abs p.x) (nat_abs q.x) + 3) (n + 3) k u v) row
+    ∙ spot_is rows size p q 1 k u v hp hq step (λ e. absurd (apart e)) (λ _. refl)
 
 -- ---- all lines
 

@@ -1,17 +1,17 @@
 //! The boundary edges that are left of a page, and so the image that is left.
-ghost use Rattle.std.specs.Prelude.{◌≡◌, ◌≢◌, ℕ, suc, ◌+◌, ◌-◌, ◌*◌, ◌/◌, ◌≤◌, ◌<◌, ◌^◌, ◌&&◌, nat_le, true, false, length, IfOk, IsNone, IfSome, ◌↔◌, All, count_by};
+ghost use Rattle.std.specs.Prelude.{◌≡◌, ◌≢◌, ℕ, suc, ◌+◌, ◌-◌, ◌*◌, ◌/◌, ◌≤◌, ◌<◌, ◌^◌, ◌&&◌, nat_abs, nat_le, true, false, length, IfOk, IsNone, IfSome, ◌↔◌, All, count_by};
 ghost use Rattle.bit_image.specs.FirstBlack.{IsFirstBlackFrom};
 ghost use Rattle.bit_image.specs.Image.{Fits, IsWhiteTo, differ, south_west};
 ghost use Rattle.bit_image.specs.Page.{IsPage, SameSides, image_of, page_of};
 ghost use Rattle.bit_image.specs.Inner.Words.{black_in};
 ghost use Rattle.turn_policies.specs.Inner.Square.{IsSquare};
-ghost use Rattle.path_decompose.specs.Inner.BoundaryBits.{has_edge, changes, AreEdgesOf, AreWalked, FitsStrips, is_along};
+ghost use Rattle.path_decompose.specs.Inner.BoundaryBits.{has_edge, changes, AreEdgesOf, AreWalked, FitsStrips, IsColumn, is_along};
 ghost use Rattle.path_decompose.specs.Decomposition.{inverted};
 ghost use Rattle.path_decompose.specs.Inside.{line_between, lines_of, is_odd};
 ghost use Rattle.pt_core.specs.ClosedWalk.{IsUnitStep, IsClosedWalk};
 
 use crate::square::relative_square;
-use crate::strips::{self, DOWN, LEFT, flip};
+use crate::strips::{self, Column, DOWN, LEFT, column_at, flip};
 use bit_image::Bitmap;
 use pt_core::{NoMemory, Point};
 use std::alloc::Global;
@@ -184,38 +184,45 @@ fn flip_path(words: &mut [u64], rows: usize, points: &[Point])
 {
     if let Some((first, rest)) = points.split_first() {
         let mut from = *first;
+        let mut column = column_at(rows, from.x as u32 + MARGIN);
         'corners: for to in rest {
-            flip_line(words, rows, from, *to);
+            column = flip_line(words, rows, column, from, *to);
             from = *to;
         }
-        flip_line(words, rows, from, *first);
+        flip_line(words, rows, column, from, *first);
     }
 }
 
-/// Flips the edge along the line between two corners one step apart.
+/// Flips the edge along the line between two corners one step apart, and gives the second one's column.
 //
 // A line up or down is the edge that goes down from its upper corner, and one along a row the edge that goes left from
-// its right corner.
+// its right corner. So most lines stand in the first corner's column, and up and down no other one is looked up.
 #[inline(always)]
-fn flip_line(words: &mut [u64], rows: usize, from: Point, to: Point)
+fn flip_line(words: &mut [u64], rows: usize, column: Column, from: Point, to: Point) -> Column
     requires rows { rows < 2 ^ 16 }
+    requires column { IsColumn rows (nat_abs from.x + MARGIN) column }
     requires from { FitsStrips rows (length words.old) from }
     requires to { FitsStrips rows (length words.old) to }
     requires step { IsUnitStep from to }
     ensures length { length words.new ≡ length words.old }
     ensures edges { (k u v : ℕ) → k < 2 → has_edge rows words.new k u v
         ≡ differ (has_edge rows words.old k u v) (is_along k u v (line_between from to)) }
+    ensures column { IsColumn rows (nat_abs to.x + MARGIN) result }
 {
     let (x, y) = (from.x as u32, from.y as u32);
     let (end_x, end_y) = (to.x as u32, to.y as u32);
-    let kind = if x == end_x { DOWN } else { LEFT };
-    flip(
-        words,
-        rows,
-        kind,
-        x.max(end_x) + MARGIN,
-        y.max(end_y) + MARGIN,
-    );
+    if x == end_x {
+        flip(words, column, DOWN, y.max(end_y) + MARGIN);
+        return column;
+    }
+    let end = column_at(rows, end_x + MARGIN);
+    if x < end_x {
+        flip(words, end, LEFT, y + MARGIN);
+        end
+    } else {
+        flip(words, column, LEFT, y + MARGIN);
+        end
+    }
 }
 
 /// Puts the edges of a page into words that have none.

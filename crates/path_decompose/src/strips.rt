@@ -6,7 +6,7 @@ ghost use Rattle.std.specs.Prelude.{◌≡◌, ◌≢◌, ◌⊎◌, ◌↔◌, 
 ghost use Rattle.bit_image.specs.Image.{differ};
 ghost use Rattle.bit_image.specs.Words.{is_one};
 ghost use Rattle.bit_image.specs.Inner.Words.{black_in};
-ghost use Rattle.path_decompose.specs.Inner.BoundaryBits.{word_place, has_edge, AreStripWords, changes_in, same_edge};
+ghost use Rattle.path_decompose.specs.Inner.BoundaryBits.{word_place, has_edge, IsColumn, AreStripWords, changes_in, same_edge};
 
 /// The kind of the edges that go down from a corner.
 pub(crate) const DOWN: usize = 0;
@@ -40,19 +40,37 @@ pub(crate) fn has_edge(words: &[u64], rows: usize, kind: usize, x: u32, y: u32) 
     words[word_place(rows, kind, x as usize / 64, y as usize)] >> (x % 64) & 1 == 1
 }
 
-/// Adds an edge of a kind, or takes it away where it is there.
+/// Where the edges of a column stand in the words.
+#[derive(Clone, Copy)]
+pub(crate) struct Column {
+    /// How many rows the strips before its own have.
+    rows_before: usize,
+    /// A word in which only its bit is 1.
+    bit: u64,
+}
+
+/// Where the edges of column `x` stand.
 #[inline(always)]
-pub(crate) fn flip(words: &mut [u64], rows: usize, kind: usize, x: u32, y: u32)
-    requires kind { kind < 2 }
-    requires rows { rows < 2 ^ 16 }
-    requires y { y < rows }
-    requires x { x < 2 ^ 16 }
-    requires room { 2 * ((x / 64 + 1) * rows) ≤ length words.old }
+pub(crate) fn column_at(rows: usize, x: u32) -> Column
+    requires { rows < 2 ^ 16 }
+    ensures { IsColumn rows x result }
+{
+    Column {
+        rows_before: x as usize / 64 * rows,
+        bit: 1u64 << (x % 64),
+    }
+}
+
+/// Adds an edge of a kind in a column and a row, or takes it away where it is there.
+#[inline(always)]
+pub(crate) fn flip(words: &mut [u64], column: Column, kind: usize, y: u32)
+    requires { 2 * (column.rows_before + y) + kind < length words.old }
     ensures length { length words.new ≡ length words.old }
-    ensures edges { (k u v : ℕ) → k < 2 → has_edge rows words.new k u v
+    ensures edges { (rows x : ℕ) → IsColumn rows x column → y < rows → kind < 2
+        → (k u v : ℕ) → k < 2 → has_edge rows words.new k u v
         ≡ differ (has_edge rows words.old k u v) (same_edge kind x y k u v) }
 {
-    words[word_place(rows, kind, x as usize / 64, y as usize)] ^= 1u64 << (x % 64);
+    words[2 * (column.rows_before + y as usize) + kind] ^= column.bit;
 }
 
 /// Puts the edges of a kind into one row of a strip that has none there.
