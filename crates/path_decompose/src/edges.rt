@@ -174,6 +174,9 @@ impl Edges {
 }
 
 /// Flips the edges along the lines of a closed walk.
+//
+// It isn't inlined, so that its loop has the registers to itself.
+#[inline(never)]
 fn flip_path(words: &mut [u64], rows: usize, points: &[Point])
     requires rows { rows < 2 ^ 16 }
     requires closed { IsClosedWalk points.now }
@@ -186,8 +189,10 @@ fn flip_path(words: &mut [u64], rows: usize, points: &[Point])
         let mut from = *first;
         let mut column = column_at(rows, from.x as u32 + MARGIN);
         'corners: for to in rest {
-            column = flip_line(words, rows, column, from, *to);
-            from = *to;
+            // It is read once, before the words are written.
+            let end = *to;
+            column = flip_line(words, rows, column, from, end);
+            from = end;
         }
         flip_line(words, rows, column, from, *first);
     }
