@@ -18,7 +18,7 @@ use Rattle.turn_policies.specs.Heading.{end_x, end_y}
 use Rattle.turn_policies.specs.Turn.{next}
 use Rattle.turn_policies.proofs.Turning.{next_boundary}
 use Rattle.path_decompose.specs.declared.trail.Trail.{Trail}
-use Rattle.path_decompose.specs.Inner.Trail.{column_up, column_down, AreNoted, IsRun}
+use Rattle.path_decompose.specs.Inner.Trail.{column_up, column_down, AreNoted, IsStraightRun}
 use Rattle.path_decompose.specs.Walk.{first_edge, start_of, IsTrail}
 use Rattle.path_decompose.proofs.OnPage.{edge_on}
 use Rattle.path_decompose.proofs.Orbit.{nth_after-keeps}
@@ -28,7 +28,7 @@ use Rattle.path_decompose.proofs.Noted.{IsNoted, IsWholeWalk, noted_more, noted_
 -- ---- edge by edge
 
 -- nothing is passed yet
-pub no_run : (f : Edge → Edge) (from here : Edge) (trail : Trail) → from ≡ here → IsRun f from here trail trail
+pub no_run : (f : Edge → Edge) (from here : Edge) (trail : Trail) → from ≡ here → IsStraightRun f from here trail trail
 no_run f from here trail e =
     record {
       edges = [];
@@ -60,7 +60,7 @@ noted_push old mid new es e first last =
     }
 
 -- one edge more, with the same heading
-pub run_more : (f : Edge → Edge) (from here after : Edge) (old mid new : Trail) → IsRun f from here old mid → here.heading ≡ from.heading → after ≡ f here → AreNoted mid new (here ∷ []) → IsRun f from after old new
+pub run_more : (f : Edge → Edge) (from here after : Edge) (old mid new : Trail) → IsStraightRun f from here old mid → here.heading ≡ from.heading → after ≡ f here → AreNoted mid new (here ∷ []) → IsStraightRun f from after old new
 run_more f from here after old mid new run same next noted =
     record {
       edges = run.edges ++ here ∷ [];
@@ -195,7 +195,7 @@ noted_along b policy sign x y d from after (e ∷ h ∷ hs) points up down first
         omega (arith, parts, same, sum)
 
 -- a run that turns has an edge
-run_some : (f : Edge → Edge) (from after : Edge) (old new : Trail) → (run : IsRun f from after old new) → after.heading ≢ from.heading → 1 ≤ length run.edges
+run_some : (f : Edge → Edge) (from after : Edge) (old new : Trail) → (run : IsStraightRun f from after old new) → after.heading ≢ from.heading → 1 ≤ length run.edges
 run_some f from after old new run turns = some run.edges run.trail
   where
     some : (es : List Edge) → IsTrail f from es after → 1 ≤ length es
@@ -214,7 +214,7 @@ narrow b width height fits w e boundary = let on = edge_on b width height fits e
 -- what is noted down after a run
 noted_run : (b : Image) (policy : Policy) (sign : Sign) (x y width height : ℕ) (from after : Edge) (old new : Trail)
     → IsFirstBlack b x y → Fits b width height → width ≤ LONGEST_SIDE → IsNoted (next b policy sign) (first_edge x y) old.points.items old.up old.down from
-    → IsRun (next b policy sign) from after old new → after.heading ≢ from.heading
+    → IsStraightRun (next b policy sign) from after old new → after.heading ≢ from.heading
     → IsNotedTo (next b policy sign) (first_edge x y) after new.points.items new.up new.down
 noted_run b policy sign x y width height from after old new first fits w noted run turns =
     rw (run.noted.points, run.noted.up, run.noted.down)
@@ -225,7 +225,7 @@ noted_run b policy sign x y width height from after old new first fits w noted r
 -- a run that leads to another edge than the first one
 pub noted_on : (b : Image) (policy : Policy) (sign : Sign) (x y width height : ℕ) (from after : Edge) (old new : Trail)
     → IsFirstBlack b x y → Fits b width height → width ≤ LONGEST_SIDE → IsNoted (next b policy sign) (first_edge x y) old.points.items old.up old.down from
-    → IsRun (next b policy sign) from after old new → after.heading ≢ from.heading → after ≢ first_edge x y
+    → IsStraightRun (next b policy sign) from after old new → after.heading ≢ from.heading → after ≢ first_edge x y
     → IsNoted (next b policy sign) (first_edge x y) new.points.items new.up new.down after
 noted_on b policy sign x y width height from after old new first fits w noted run turns other =
     let to = noted_run b policy sign x y width height from after old new first fits w noted run turns in
@@ -236,7 +236,7 @@ noted_on b policy sign x y width height from after old new first fits w noted ru
 -- and one that leads to the first edge
 pub noted_round : (b : Image) (policy : Policy) (sign : Sign) (x y width height : ℕ) (from after : Edge) (old new : Trail)
     → IsFirstBlack b x y → Fits b width height → width ≤ LONGEST_SIDE → IsNoted (next b policy sign) (first_edge x y) old.points.items old.up old.down from
-    → IsRun (next b policy sign) from after old new → after.heading ≢ from.heading → after ≡ first_edge x y
+    → IsStraightRun (next b policy sign) from after old new → after.heading ≢ from.heading → after ≡ first_edge x y
     → IsWholeWalk b policy sign x y width height new.points.items new.up new.down
 noted_round b policy sign x y width height from after old new first fits w noted run turns closed =
     let to = noted_run b policy sign x y width height from after old new first fits w noted run turns in
@@ -244,6 +244,6 @@ noted_round b policy sign x y width height from after old new first fits w noted
     first fits to.noted to.points_is to.up_is to.down_is (sym to.leads ∙ closed)
 
 -- each run notes more points down
-pub length-run : (f : Edge → Edge) (from after : Edge) (old new : Trail) → IsRun f from after old new → after.heading ≢ from.heading → length old.points.items < length new.points.items
+pub length-run : (f : Edge → Edge) (from after : Edge) (old new : Trail) → IsStraightRun f from after old new → after.heading ≢ from.heading → length old.points.items < length new.points.items
 length-run f from after old new run turns =
     omega (arith, run_some f from after old new run turns, ap length run.noted.points, length-append old.points.items (map start_of run.edges), length-map run.edges start_of)

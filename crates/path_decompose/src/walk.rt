@@ -3,7 +3,7 @@ ghost use Rattle.std.specs.Prelude.{◌≡◌, ◌≢◌, ℕ, ◌+◌, ◌∷�
 ghost use Rattle.bit_image.specs.FirstBlack.{IsFirstBlack};
 ghost use Rattle.bit_image.specs.Page.{image_of};
 ghost use Rattle.path_decompose.specs.Inside.{inside, black_count};
-ghost use Rattle.path_decompose.specs.Inner.Trail.{edge_from, IsBelow, AreNoted, IsRun};
+ghost use Rattle.path_decompose.specs.Inner.Trail.{edge_from, AreSumsBelow, AreNoted, IsStraightRun};
 ghost use Rattle.path_decompose.specs.Walk.{first_edge, IsBoundaryWalk};
 ghost use Rattle.turn_policies.specs.Boundary.{IsBoundary};
 ghost use Rattle.turn_policies.specs.Turn.{next};
@@ -61,9 +61,9 @@ fn turned_after(
     trail: &mut Trail,
 ) -> Result<Edge, NoMemory>
     requires boundary { IsBoundary (image_of page.now) edge }
-    requires sums { IsBelow (2 ^ 62) trail.old }
+    requires sums { AreSumsBelow (2 ^ 62) trail.old }
     ensures run { IfOk result (λ after.
-        IsRun (next (image_of page.now) policy sign) edge after trail.old trail.new) }
+        IsStraightRun (next (image_of page.now) policy sign) edge after trail.old trail.new) }
     ensures turns { IfOk result (λ after. after.heading ≢ edge.heading) }
 {
     let Edge { x, y, heading } = edge;
@@ -89,8 +89,8 @@ fn turned_run(
     trail: &mut Trail,
 ) -> Result<Edge, NoMemory>
     requires boundary { IsBoundary (image_of page.now) (edge_from x y heading) }
-    requires sums { IsBelow (2 ^ 62) trail.old }
-    ensures run { IfOk result (λ after. IsRun (next (image_of page.now) policy sign)
+    requires sums { AreSumsBelow (2 ^ 62) trail.old }
+    ensures run { IfOk result (λ after. IsStraightRun (next (image_of page.now) policy sign)
         (edge_from x y heading) after trail.old trail.new) }
     ensures turns { IfOk result (λ after. after.heading ≢ heading) }
 {
@@ -116,7 +116,7 @@ fn step(
     trail: &mut Trail,
 ) -> Result<Edge, NoMemory>
     requires boundary { IsBoundary (image_of page.now) edge }
-    requires sums { IsBelow (2 ^ 63) trail.old }
+    requires sums { AreSumsBelow (2 ^ 63) trail.old }
     ensures value { IfOk result (λ after. after ≡ next (image_of page.now) policy sign edge) }
     ensures boundary { IfOk result (λ after. IsBoundary (image_of page.now) after) }
     ensures noted { OnOk result (AreNoted trail.old trail.new (edge ∷ [])) }

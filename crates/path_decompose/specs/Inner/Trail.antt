@@ -33,7 +33,7 @@ abbrev pub edge_from : ℕ → ℕ → Dir → Edge
 edge_from x y d = record { x = x; y = y; heading = d }
 
 -- both sums of a trail are below a number
-pub record IsBelow (most : ℕ) (trail : Trail) : Type 0 where
+pub record AreSumsBelow (most : ℕ) (trail : Trail) : Type 0 where
   pub up : trail.up < most
   pub down : trail.down < most
 
@@ -44,7 +44,7 @@ pub record AreNoted (old new : Trail) (edges : List Edge) : Type 0 where
   pub down : new.down ≡ old.down + sum_by column_down edges
 
 -- A walk by `step` goes from an edge to another one through edges with one heading. They are noted down, and the other one isn't.
-pub record IsRun (step : Edge → Edge) (from after : Edge) (old new : Trail) : Type 0 where
+pub record IsStraightRun (step : Edge → Edge) (from after : Edge) (old new : Trail) : Type 0 where
   pub edges : List Edge
   pub straight : All (λ e. e.heading ≡ from.heading) edges
   pub trail : IsTrail step from edges after

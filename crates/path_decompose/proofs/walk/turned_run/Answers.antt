@@ -5,7 +5,7 @@ use Rattle.bit_image.specs.Page.{image_of}
 use Rattle.turn_policies.specs.Boundary.{IsBoundary}
 use Rattle.turn_policies.specs.Turn.{next}
 use Rattle.turn_policies.specs.declared.edge.Edge.{Edge}
-use Rattle.path_decompose.specs.Inner.Trail.{edge_from, IsRun}
+use Rattle.path_decompose.specs.Inner.Trail.{edge_from, IsStraightRun}
 use Rattle.path_decompose.proofs.OnPage.{edge_on}
 use Rattle.path_decompose.proofs.Runs.{no_run, run_more, edges_left, edges_left-le, left_less, sums_more}
 use Rattle.path_decompose.proofs.walk.turned_run.Goals as goal
@@ -42,7 +42,7 @@ edges-preserved c =
     let same : c.in_ok-after.after.heading ≡ c.args.heading = search rules in
     record {
       run =
-          subst (λ d. IsRun (next (image_of page) c.args.policy c.args.sign) (edge_from c.args.x c.args.y c.args.heading) (edge_from c.in_ok-after.after.x c.in_ok-after.after.y d) c.args.trail.now c.step.new.trail) same
+          subst (λ d. IsStraightRun (next (image_of page) c.args.policy c.args.sign) (edge_from c.args.x c.args.y c.args.heading) (edge_from c.in_ok-after.after.x c.in_ok-after.after.y d) c.args.trail.now c.step.new.trail) same
           (run_more _ _ _ _ _ _ _ c.edges.invariant.run refl c.in_ok-after.ensures.value c.in_ok-after.ensures.noted);
       boundary = subst (λ d. IsBoundary (image_of page) (edge_from c.in_ok-after.after.x c.in_ok-after.after.y d)) same c.in_ok-after.ensures.boundary;
       up = omega (arith, sums.0, less, c.edges.invariant.up);

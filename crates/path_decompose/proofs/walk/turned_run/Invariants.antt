@@ -3,14 +3,14 @@ use Rattle.pt_core.specs.declared.limits.TheConstants.{LONGEST_SIDE}
 use Rattle.bit_image.specs.Page.{image_of}
 use Rattle.turn_policies.specs.Boundary.{IsBoundary}
 use Rattle.turn_policies.specs.Turn.{next}
-use Rattle.path_decompose.specs.Inner.Trail.{edge_from, IsRun}
+use Rattle.path_decompose.specs.Inner.Trail.{edge_from, IsStraightRun}
 use Rattle.path_decompose.proofs.Runs.{edges_left}
 use Rattle.path_decompose.proofs.walk.turned_run.Given as goal
 
 abbrev pub invariant-edges : goal.invariant-edges
 invariant-edges l =
     record {
-      run : IsRun (next (image_of l.page) l.policy l.sign) (edge_from l.fn.x l.fn.y l.heading) (edge_from l.x l.y l.heading) l.initial.trail l.trail;
+      run : IsStraightRun (next (image_of l.page) l.policy l.sign) (edge_from l.fn.x l.fn.y l.heading) (edge_from l.x l.y l.heading) l.initial.trail l.trail;
       boundary : IsBoundary (image_of l.page) (edge_from l.x l.y l.heading);
       up : l.trail.up + edges_left l.page.width l.page.height l.x l.y l.heading * LONGEST_SIDE < 2 ^ 63;
       down : l.trail.down + edges_left l.page.width l.page.height l.x l.y l.heading * LONGEST_SIDE < 2 ^ 63;
