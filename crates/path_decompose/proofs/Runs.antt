@@ -84,7 +84,8 @@ edges_left-le width height x y most East w h a b = omega arith
 edges_left-le width height x y most South w h a b = omega arith
 edges_left-le width height x y most West w h a b = omega arith
 
-past_sides : (b : Image) (x y : ℕ) → south_west b x y ≡ true → (1 ≤ x) × (1 ≤ y)
+-- a black pixel's upper right corner is none at the page's left or lower side
+pub past_sides : (b : Image) (x y : ℕ) → south_west b x y ≡ true → (1 ≤ x) × (1 ≤ y)
 past_sides b zero y black = absurd (false≢true black)
 past_sides b (suc x) zero black = absurd (false≢true black)
 past_sides b (suc x) (suc y) black = (omega arith, omega arith)

@@ -1,9 +1,8 @@
 -- Each heading's end, which lies on the page, and the turn there.
-use Rattle.std.proofs.Common.{◌≡◌, ℕ, zero, ◌-◌, ◌+◌, ◌≤◌, suc, pred, true, false, refl, sym, subst, arith, add-one}
+use Rattle.std.proofs.Common.{◌≡◌, ◌-◌, ◌+◌, ◌≤◌, suc, pred, true, false, refl, sym, subst, arith, add-one}
 use Rattle.std.proofs.lemmas.Int.{ints}
-use Rattle.std.proofs.lemmas.Bool.{false≢true}
 use Rattle.pt_core.specs.declared.limits.TheConstants.{LONGEST_SIDE}
-use Rattle.bit_image.specs.Image.{Image, Fits, south_west}
+use Rattle.bit_image.specs.Image.{Fits, south_west}
 use Rattle.bit_image.specs.Page.{Page, IsPage, image_of}
 use Rattle.turn_policies.specs.Boundary.{IsBoundary, left_pixel, right_pixel}
 use Rattle.turn_policies.specs.declared.edge.Edge.{Edge}
@@ -12,6 +11,7 @@ use Rattle.turn_policies.specs.declared.heading.Dir.TheVariants.{North, East, So
 use Rattle.turn_policies.specs.Heading.{end_x, end_y}
 use Rattle.turn_policies.proofs.Turning.{next_boundary, next_is}
 use Rattle.path_decompose.proofs.OnPage.{edge_on}
+use Rattle.path_decompose.proofs.Runs.{past_sides}
 use Rattle.path_decompose.proofs.walk.step.Goals as goal
 
 -- a corner of the page, the longest of which has short sides
@@ -34,12 +34,6 @@ black_behind page edge heading is boundary = subst (λ d. left_pixel (south_west
 
 white_behind : (page : Page) (edge : Edge) (heading : Dir) → edge.heading ≡ heading → IsBoundary (image_of page) edge → right_pixel (south_west (image_of page)) edge.x edge.y heading ≡ false
 white_behind page edge heading is boundary = subst (λ d. right_pixel (south_west (image_of page)) edge.x edge.y d ≡ false) is boundary.white_right
-
--- a black pixel's upper right corner is none at the page's left or lower side
-past_sides : (b : Image) (x y : ℕ) → south_west b x y ≡ true → (1 ≤ x) × (1 ≤ y)
-past_sides b zero y black = absurd (false≢true black)
-past_sides b (suc x) zero black = absurd (false≢true black)
-past_sides b (suc x) (suc y) black = (omega arith, omega arith)
 
 pub overflow_sub-y : goal.overflow_sub-y
 overflow_sub-y c = omega (arith, past_sides (image_of c.args.page.now) (suc c.args.edge.x) c.args.edge.y (black_behind c.args.page.now c.args.edge South c.in-South.is c.requires.boundary))
