@@ -57,19 +57,10 @@ impl Ends {
     fn with(self, span: Span, across: i64, steps: usize) -> Ends
         ensures { (most : ℕ) → steps ≤ most → AreUpTo most self → AreUpTo most result }
     {
-        if across < span.least {
-            return Ends {
-                right: steps,
-                left: self.left,
-            };
+        Ends {
+            right: if across < span.least { steps } else { self.right },
+            left: if span.greatest < across { steps } else { self.left },
         }
-        if span.greatest < across {
-            return Ends {
-                right: self.right,
-                left: steps,
-            };
-        }
-        self
     }
 
     /// How far the place farthest to the left is from that farthest to the right, in the quarter turned to be the one

@@ -1,4 +1,4 @@
-use Rattle.std.proofs.Common.{◌≡◌, ◌^◌, ℕ, ℤ, pos, neg_ℤ, ◌≤ℤ◌, w64, to_z, of_z, refl, sym, ap, ◌∙◌, subst, arith}
+use Rattle.std.proofs.Common.{◌≡◌, ◌^◌, ℕ, ℤ, pos, neg_ℤ, w64, to_z, of_z, refl, sym, ap, ◌∙◌, subst, arith}
 use Rattle.std.proofs.lemmas.Int.{ints}
 use Rattle.straight_paths.specs.Cones.{cross_of}
 use Rattle.straight_paths.specs.Straight.{path_from}
@@ -23,15 +23,6 @@ loop-steps-init c =
       span = subst (λ (span : Span). AreInSpan span (across_at c.args.way path) 0) zero start.across;
       ends = c.at_start-ends.ensures c.args.most;
     }
-
-ordered : (low high : ℤ) (span : Span) → IsSpan low high span → span.least ≤ℤ span.greatest
-ordered low high span is =
-    let a = is.least.most in
-    let b = is.greatest.least in
-    omega (arith, ints)
-
-pub with-span-requires : goal.with-span-requires
-with-span-requires c = ordered _ _ c.loop-steps.span c.loop-steps.invariant.small
 
 pub loop-steps-preserved : goal.loop-steps-preserved
 loop-steps-preserved c =
