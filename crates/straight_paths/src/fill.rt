@@ -6,11 +6,11 @@ ghost use Rattle.straight_paths.specs.Straight.{path_from, vector_of};
 ghost use Rattle.straight_paths.specs.Inner.Strips.{TakesStep};
 ghost use Rattle.straight_paths.specs.Inner.Sweeps.{AreEndsFrom, IsEnough, IsSeen, IsSweep, IsTold};
 ghost use Rattle.straight_paths.specs.Inner.Tables.{IsWordTable};
-ghost use Rattle.straight_paths.specs.Inner.Tails.{AreStraight, last_of, limit_of};
+ghost use Rattle.straight_paths.specs.Inner.Tails.{AreStraight, behind_of, last_of, limit_of};
 
 use crate::first::clear_steps;
 use crate::strip::Strip;
-use crate::sweep::{Seen, Sweep};
+use crate::sweep::{SHORT, Seen, Sweep};
 use crate::table::Table;
 use crate::tail::Tail;
 use crate::track::Track;
@@ -151,7 +151,7 @@ fn led_on(
             }
         }
         Sweep::Held(seen) => {
-            let held = held_on(track, last, lap, from, seen, steps);
+            let held = held_on(track, last, lap, from, seen, steps, table);
             Led {
                 index: held.index,
                 sweep: Sweep::Held(held.seen),
@@ -204,10 +204,10 @@ struct Hold {
     seen: Seen,
 }
 
-/// Writes down how many steps are straight, from a strip on, as far as it holds the points.
+/// Writes down how many steps are straight, from what a tail tells on, as long as the table isn't asked.
 //
-// What is straight is kept beside the loops here, and not in a sweep that is made anew for each point: to move that
-// took longer than all that is asked of a strip.
+// What is straight is kept beside the loops here, and not in a sweep that is made anew for each point or each strip: to
+// move that took longer than all that is asked of a strip.
 fn held_on(
     track: &Track,
     last: usize,
@@ -215,6 +215,7 @@ fn held_on(
     from: usize,
     seen: Seen,
     steps: &mut [u32],
+    table: &Table,
 ) -> Hold
     requires seen { IsSeen track.now last from seen }
     requires ends { AreEndsFrom track.now last lap from steps.old }
@@ -222,10 +223,47 @@ fn held_on(
     ensures seen { IsSeen track.now last result.index result.seen }
     ensures ends { AreEndsFrom track.now last lap result.index steps.new }
 {
-    let mut hold = Hold { index: from, seen };
-    if seen.is_along() {
-        return held_by_runs(track, last, lap, hold, steps);
+    let start = Hold { index: from, seen };
+    let mut hold = held_by_strip(track, last, lap, start, steps);
+    while hold.index > lap && (table.used == 0 || SHORT < hold.seen.tail.end - hold.index) {
+        let scanned = held_by_scan(track, last, lap, hold, steps);
+        hold = held_by_strip(track, last, lap, scanned, steps);
     }
+    hold
+}
+
+/// Writes down how many steps are straight from one index earlier, by the cones from there.
+#[inline(always)]
+fn held_by_scan(track: &Track, last: usize, lap: usize, hold: Hold, steps: &mut [u32]) -> Hold
+    requires more { lap < hold.index }
+    requires seen { IsSeen track.now last hold.index hold.seen }
+    requires ends { AreEndsFrom track.now last lap hold.index steps.old }
+    ensures index { result.index + 1 ≡ hold.index }
+    ensures seen { IsSeen track.now last result.index result.seen }
+    ensures ends { AreEndsFrom track.now last lap result.index steps.new }
+{
+    let index = hold.index - 1;
+    let seen = hold.seen.scanned(track, index, last);
+    steps[index - lap] = (seen.tail.end - index) as u32;
+    Hold { index, seen }
+}
+
+/// Writes down how many steps are straight, from a strip on, as far as it holds the points.
+#[inline(always)]
+fn held_by_strip(track: &Track, last: usize, lap: usize, start: Hold, steps: &mut [u32]) -> Hold
+    requires seen { IsSeen track.now last start.index start.seen }
+    requires ends { AreEndsFrom track.now last lap start.index steps.old }
+    ensures index { result.index ≤ start.index }
+    ensures seen { IsSeen track.now last result.index result.seen }
+    ensures ends { AreEndsFrom track.now last lap result.index steps.new }
+{
+    let Some(strip) = start.seen.strip else {
+        return start;
+    };
+    if strip.is_along() {
+        return held_by_runs(track, last, lap, start, steps);
+    }
+    let mut hold = held_onward(track, last, lap, start, strip, steps);
     while hold.index > lap {
         let Some(earlier) = held_back(track, last, lap, hold, steps) else {
             return hold;
@@ -233,6 +271,78 @@ fn held_on(
         hold = earlier;
     }
     hold
+}
+
+/// The same as long as no step goes back, where no later point is behind and one of the directions that go back isn't taken
+/// before the tail's end.
+#[inline(always)]
+fn held_onward(
+    track: &Track,
+    last: usize,
+    lap: usize,
+    hold: Hold,
+    strip: Strip,
+    steps: &mut [u32],
+) -> Hold
+    requires strip { hold.seen.strip ≡ Some strip }
+    requires seen { IsSeen track.now last hold.index hold.seen }
+    requires ends { AreEndsFrom track.now last lap hold.index steps.old }
+    ensures index { result.index ≤ hold.index }
+    ensures seen { IsSeen track.now last result.index result.seen }
+    ensures ends { AreEndsFrom track.now last lap result.index steps.new }
+{
+    let tail = hold.seen.tail;
+    if strip.back.is_nowhere() && tail.end <= tail.ahead.behind(strip.quarter) {
+        onward_back(track, last, lap, hold.index, tail, strip, steps)
+    } else {
+        hold
+    }
+}
+
+/// The same for such a strip.
+//
+// Along such steps the two directions that go back are taken as late as before. So nothing ends sooner but by the limit, and
+// what is behind isn't asked.
+fn onward_back(
+    track: &Track,
+    last: usize,
+    lap: usize,
+    from: usize,
+    tail: Tail,
+    start: Strip,
+    steps: &mut [u32],
+) -> Hold
+    requires behind { tail.end ≤ behind_of start.quarter tail.ahead }
+    requires seen { IsSeen track.now last from (record { tail = tail; strip = Some start }) }
+    requires ends { AreEndsFrom track.now last lap from steps.old }
+    ensures index { result.index ≤ from }
+    ensures seen { IsSeen track.now last result.index result.seen }
+    ensures ends { AreEndsFrom track.now last lap result.index steps.new }
+{
+    let limit = track.limit();
+    let mut index = from;
+    let mut ahead = tail.ahead;
+    let mut strip = start;
+    while index > lap {
+        let step = track.step(index - 1);
+        let Some(earlier) = strip.onward(step) else {
+            break;
+        };
+        strip = earlier;
+        index -= 1;
+        ahead = ahead.sooner(step, index);
+        steps[index - lap] = min(tail.end - index, limit) as u32;
+    }
+    Hold {
+        index,
+        seen: Seen {
+            tail: Tail {
+                end: min(tail.end, index + limit),
+                ahead,
+            },
+            strip: Some(strip),
+        },
+    }
 }
 
 /// The same by the straight runs along a row or a column.

@@ -70,6 +70,20 @@ abbrev pub TakesStep : Strip → Vector → Strip → Type 0
 TakesStep later step strip = (path : ℕ → Point) (count : ℕ) → step ≡ step_from path 0
     → StaysIn later (λ k. path (suc k)) count → StaysIn strip path (count + 1)
 
+-- the strip as it is seen from one step earlier, with the same quarter
+pub record IsEarlierStrip (later : Strip) (step : Vector) (strip : Strip) : Type 0 where
+  pub is_strip : IsStrip strip
+  pub takes : TakesStep later step strip
+  pub same_quarter : strip.quarter ≡ later.quarter
+
+-- the span, 0 among its numbers, takes in those of the strip as they are seen from one step earlier, and isn't too broad
+pub record IsAcrossBefore (later : Strip) (step : Vector) (across : Span) : Type 0 where
+  pub low : across.least ≤ℤ pos 0
+  pub high : pos 0 ≤ℤ across.greatest
+  pub least : across.least ≤ℤ (later.across.least +ℤ cross_of later.way step)
+  pub greatest : (later.across.greatest +ℤ cross_of later.way step) ≤ℤ across.greatest
+  pub narrow : (across.greatest -ℤ across.least) ≤ℤ later.breadth
+
 -- 0 alone
 abbrev pub no_span : Span
 no_span = record { least = pos 0; greatest = pos 0 }

@@ -1,9 +1,10 @@
 -- What is straight from an index on, within two laps of a closed path.
-use Rattle.std.specs.Prelude.{◌≡◌, ◌≢◌, ◌⊎◌, ℕ, ◌+◌, ◌-◌, ◌<◌, ◌≤◌, ℤ, pos, negsuc, min, List, length, slice_index}
+use Rattle.std.specs.Prelude.{◌≡◌, ◌≢◌, ◌⊎◌, ℕ, ◌+◌, ◌-◌, ◌<◌, ◌≤◌, ℤ, pos, negsuc, min, max, List, length, slice_index}
 use Rattle.pt_core.specs.declared.point.Point.{Point}
 use Rattle.straight_paths.specs.Straight.{vector_of, Takes, IsStraight, path_from, east, north, west, south}
 use Rattle.straight_paths.specs.Inner.Cones.{IsClear}
 use Rattle.straight_paths.specs.declared.vector.Vector.{Vector}
+use Rattle.straight_paths.specs.declared.quarter.Quarter.{Quarter}
 use Rattle.straight_paths.specs.declared.tail.Ahead.{Ahead}
 use Rattle.straight_paths.specs.declared.tail.Tail.{Tail}
 use Rattle.pt_core.specs.declared.limits.TheConstants.{MOST_STEPS}
@@ -93,3 +94,17 @@ pub record IsTail (points : List Point) (at : ℕ) (tail : Tail) : Type 0 where
   pub no_more : (c : ℕ) → c ≤ limit_of points → at + c ≤ tail.ahead.last
       → IsStraight (path_from points at) c → at + c ≤ tail.end
   pub ahead : IsAhead points at tail.ahead
+
+-- where the direction that goes back in a row is taken first, in a quarter whose sign in rows is this one
+abbrev pub back_in_row : ℤ → Ahead → ℕ
+back_in_row (pos n) ahead = ahead.west
+back_in_row (negsuc n) ahead = ahead.east
+
+-- the same in a column
+abbrev pub back_in_column : ℤ → Ahead → ℕ
+back_in_column (pos n) ahead = ahead.south
+back_in_column (negsuc n) ahead = ahead.north
+
+-- where the later of the two directions that go back in a quarter is taken first
+abbrev pub behind_of : Quarter → Ahead → ℕ
+behind_of quarter ahead = max (back_in_row quarter.right ahead) (back_in_column quarter.up ahead)

@@ -1,5 +1,5 @@
 -- Cones in one quarter of the plane, and how far a scan has come.
-use Rattle.std.specs.Prelude.{◌≡◌, ◌↔◌, ◌⊎◌, ℕ, ◌≤◌, ℤ, pos, negsuc, ◌+ℤ◌, ◌*ℤ◌, ◌<ℤ◌}
+use Rattle.std.specs.Prelude.{◌≡◌, ◌↔◌, ◌⊎◌, ℕ, ◌≤◌, ℤ, pos, negsuc, ◌+ℤ◌, ◌*ℤ◌, ◌<ℤ◌, ◌≤ℤ◌}
 use Rattle.pt_core.specs.declared.point.Point.{Point}
 use Rattle.straight_paths.specs.Inner.Cones.{HoldsNear, IsBetween, IsClear, IsProper, IsShort, IsSmall, IsSound}
 use Rattle.straight_paths.specs.Cones.{cross_of}
@@ -28,6 +28,11 @@ pub record IsInQuarter (quarter : Quarter) (way : Vector) : Type 0 where
   pub signs : IsQuarter quarter
   pub right : pos 0 <ℤ (quarter.right *ℤ way.x)
   pub up : pos 0 <ℤ (quarter.up *ℤ way.y)
+
+-- the way goes back in neither coordinate of the quarter
+pub record GoesOnward (quarter : Quarter) (way : Vector) : Type 0 where
+  pub right : pos 0 ≤ℤ (quarter.right *ℤ way.x)
+  pub up : pos 0 ≤ℤ (quarter.up *ℤ way.y)
 
 -- the border is short, and known is how far it goes into the quarter
 pub record IsBorder (quarter : Quarter) (border : Border) : Type 0 where
