@@ -263,7 +263,27 @@ fn held_by_strip(track: &Track, last: usize, lap: usize, start: Hold, steps: &mu
     if strip.is_along() {
         return held_by_runs(track, last, lap, start, steps);
     }
-    let mut hold = held_onward(track, last, lap, start, strip, steps);
+    let tail = start.seen.tail;
+    if !strip.back.is_nowhere() || tail.ahead.behind(strip.quarter) < tail.end {
+        return held_by_steps(track, last, lap, start, steps);
+    }
+    let hold = onward_back(track, last, lap, start.index, tail, strip, steps);
+    // A step onward that isn't held isn't asked for twice.
+    if hold.index == lap || strip.quarter.is_onward(track.step(hold.index - 1)) {
+        return hold;
+    }
+    held_by_steps(track, last, lap, hold, steps)
+}
+
+/// The same by one step at a time.
+fn held_by_steps(track: &Track, last: usize, lap: usize, start: Hold, steps: &mut [u32]) -> Hold
+    requires seen { IsSeen track.now last start.index start.seen }
+    requires ends { AreEndsFrom track.now last lap start.index steps.old }
+    ensures index { result.index ≤ start.index }
+    ensures seen { IsSeen track.now last result.index result.seen }
+    ensures ends { AreEndsFrom track.now last lap result.index steps.new }
+{
+    let mut hold = start;
     while hold.index > lap {
         let Some(earlier) = held_back(track, last, lap, hold, steps) else {
             return hold;
@@ -273,33 +293,8 @@ fn held_by_strip(track: &Track, last: usize, lap: usize, start: Hold, steps: &mu
     hold
 }
 
-/// The same as long as no step goes back, where no later point is behind and one of the directions that go back isn't taken
-/// before the tail's end.
-#[inline(always)]
-fn held_onward(
-    track: &Track,
-    last: usize,
-    lap: usize,
-    hold: Hold,
-    strip: Strip,
-    steps: &mut [u32],
-) -> Hold
-    requires strip { hold.seen.strip ≡ Some strip }
-    requires seen { IsSeen track.now last hold.index hold.seen }
-    requires ends { AreEndsFrom track.now last lap hold.index steps.old }
-    ensures index { result.index ≤ hold.index }
-    ensures seen { IsSeen track.now last result.index result.seen }
-    ensures ends { AreEndsFrom track.now last lap result.index steps.new }
-{
-    let tail = hold.seen.tail;
-    if strip.back.is_nowhere() && tail.end <= tail.ahead.behind(strip.quarter) {
-        onward_back(track, last, lap, hold.index, tail, strip, steps)
-    } else {
-        hold
-    }
-}
-
-/// The same for such a strip.
+/// The same as long as no step goes back, for a strip with no point behind, where one of the directions that go back isn't
+/// taken before the tail's end.
 //
 // Along such steps the two directions that go back are taken as late as before. So nothing ends sooner but by the limit, and
 // what is behind isn't asked.

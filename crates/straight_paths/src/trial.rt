@@ -1,11 +1,13 @@
 //! The search for a strip that holds what is straight from a point on: ways are tried, simple ones first.
-ghost use Rattle.std.specs.Prelude.{◌≤◌, ◌^◌, ℕ, pos, neg_ℤ, unsigned_abs, IfSome};
+ghost use Rattle.std.specs.Prelude.{◌≤◌, ℕ, unsigned_abs, IfSome};
 ghost use Rattle.straight_paths.specs.Inner.Cones.{IsShort, IsSound};
 ghost use Rattle.straight_paths.specs.Inner.Slopes.{AreSmallSlopes};
 ghost use Rattle.straight_paths.specs.Straight.{path_from};
-ghost use Rattle.straight_paths.specs.Inner.Tails.{IsSubpath};
-ghost use Rattle.straight_paths.specs.Inner.Strips.{AreInSpan, AreUpTo, HoldsPath, IsSpan, across_at};
+ghost use Rattle.pt_core.specs.declared.point.Point.{Point};
+ghost use Rattle.straight_paths.specs.Inner.Tails.{IsRun, IsSubpath};
+ghost use Rattle.straight_paths.specs.Inner.Strips.{AreUpTo, HoldsPath, IsSway};
 ghost use Rattle.straight_paths.specs.Inner.Wedges.{IsQuarter};
+ghost use Rattle.straight_paths.specs.declared.vector.Vector.{Vector};
 
 use crate::cone::Cone;
 use crate::quarter::Quarter;
@@ -40,9 +42,36 @@ pub(crate) struct StripTrial {
 
 /// How far a path goes to each side of a way, and after how many steps it is farthest.
 #[derive(Clone, Copy)]
-struct Sway {
-    span: Span,
-    ends: Ends,
+pub(crate) struct Sway {
+    pub span: Span,
+    pub ends: Ends,
+}
+
+impl Sway {
+    /// At the path's start alone.
+    fn at_start() -> Sway
+        ensures { (way : Vector) (path : ℕ → Point) → IsSway way path 0 result }
+    {
+        Sway {
+            span: Span::at_zero(),
+            ends: Ends::at_start(),
+        }
+    }
+
+    /// The same of more steps, where the path goes straight on.
+    #[inline(always)]
+    fn on(self, track: &Track, first: usize, way: Vector, steps: usize, next: usize) -> Sway
+        requires run { IsRun track.now first steps next }
+        requires short { IsShort 65535 way }
+        requires sway { IsSway way (path_from track.now first) steps self }
+        ensures { IsSway way (path_from track.now first) next result }
+    {
+        let across = way.cross(track.way(first, next));
+        Sway {
+            span: self.span.with(across),
+            ends: self.ends.with(self.span, across, next),
+        }
+    }
 }
 
 impl Ends {
@@ -175,24 +204,22 @@ fn strip_along(track: &Track, first: usize, most: usize, way: Vector) -> StripTr
 }
 
 /// How far the path from this point goes to each side of a way, in so many steps.
+//
+// Corners are asked for up to the last one before the end, so that no run in the loop has to be cut off there.
 fn sway_along(track: &Track, first: usize, most: usize, way: Vector) -> Sway
     requires subpath { IsSubpath track.now first most }
     requires short { IsShort 65535 way }
-    ensures small { IsSpan (neg_ℤ (pos (2 ^ 34))) (pos (2 ^ 34)) result.span }
-    ensures span { AreInSpan result.span (across_at way (path_from track.now first)) most }
-    ensures ends { AreUpTo most result.ends }
+    ensures { IsSway way (path_from track.now first) most result }
 {
-    let mut span = Span::at_zero();
-    let mut ends = Ends::at_start();
+    let mut sway = Sway::at_start();
     let mut steps = 0;
-    while steps < most {
-        let next = track.run_end(first, steps, most);
-        let across = way.cross(track.way(first, next));
-        ends = ends.with(span, across, next);
-        span = span.with(across);
+    let mut next = track.corner_after(first, 0);
+    while next < most {
+        sway = sway.on(track, first, way, steps, next);
         steps = next;
+        next = track.corner_after(first, steps);
     }
-    Sway { span, ends }
+    sway.on(track, first, way, steps, most)
 }
 
 /// The same strip, where the path may go back.

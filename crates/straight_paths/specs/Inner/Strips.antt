@@ -14,6 +14,7 @@ use Rattle.straight_paths.specs.declared.strip.Extent.{Extent}
 use Rattle.straight_paths.specs.declared.strip.Span.{Span}
 use Rattle.straight_paths.specs.declared.strip.Strip.{Strip}
 use Rattle.straight_paths.specs.declared.trial.Ends.{Ends}
+use Rattle.straight_paths.specs.declared.trial.Sway.{Sway}
 
 -- the number is from the one up to the other
 pub record IsFromTo (low high z : ℤ) : Type 0 where
@@ -132,3 +133,9 @@ pub record IsExtent (quarter : Quarter) (way : Vector) (path : ℕ → Point) (c
 pub record AreUpTo (most : ℕ) (ends : Ends) : Type 0 where
   pub right : ends.right ≤ most
   pub left : ends.left ≤ most
+
+-- how far the path's first `count` steps go to each side of the way, and after which of them it is farthest
+pub record IsSway (way : Vector) (path : ℕ → Point) (count : ℕ) (sway : Sway) : Type 0 where
+  pub small : IsSpan (neg_ℤ (pos (2 ^ 34))) (pos (2 ^ 34)) sway.span
+  pub span : AreInSpan sway.span (across_at way path) count
+  pub ends : AreUpTo count sway.ends

@@ -1,16 +1,17 @@
-use Rattle.std.proofs.Common.{◌-◌, ◌≤◌, ◌^◌, pos, neg_ℤ}
+use Rattle.std.proofs.Common.{◌+◌, ◌-◌, ◌<◌, ◌≤◌}
+use Rattle.straight_paths.specs.Corners.{IsNextCorner}
 use Rattle.straight_paths.specs.Straight.{path_from}
-use Rattle.straight_paths.specs.Inner.Strips.{AreInSpan, AreUpTo, IsSpan, across_at}
+use Rattle.straight_paths.specs.Inner.Strips.{IsSway}
 use Rattle.straight_paths.proofs.trial.sway_along.Given as goal
 
--- the span is that of the steps so far
-abbrev pub invariant-loop-steps : goal.invariant-loop-steps
-invariant-loop-steps l = record {
+-- the next corner, and how far the path goes up to the one before it
+abbrev pub invariant-loop-next : goal.invariant-loop-next
+invariant-loop-next l = record {
   within : l.steps ≤ l.most;
-  small : IsSpan (neg_ℤ (pos (2 ^ 34))) (pos (2 ^ 34)) l.span;
-  span : AreInSpan l.span (across_at l.way (path_from l.track l.first)) l.steps;
-  ends : AreUpTo l.most l.ends;
+  later : l.steps < l.next;
+  corner : IsNextCorner l.track (l.first + l.steps) (l.next - l.steps);
+  sway : IsSway l.way (path_from l.track l.first) l.steps l.sway;
 }
 
-abbrev pub decreases-loop-steps : goal.decreases-loop-steps
-decreases-loop-steps l = l.most - l.steps
+abbrev pub decreases-loop-next : goal.decreases-loop-next
+decreases-loop-next l = l.most - l.next

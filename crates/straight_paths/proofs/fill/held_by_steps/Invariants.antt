@@ -1,6 +1,6 @@
 use Rattle.std.proofs.Common.{◌≤◌}
 use Rattle.straight_paths.specs.Inner.Sweeps.{AreEndsFrom, IsSeen}
-use Rattle.straight_paths.proofs.fill.held_by_strip.Given as goal
+use Rattle.straight_paths.proofs.fill.held_by_steps.Given as goal
 
 -- the points from the index on are done
 abbrev pub invariant-loop-hold : goal.invariant-loop-hold
