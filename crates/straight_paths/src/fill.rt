@@ -10,7 +10,7 @@ ghost use Rattle.straight_paths.specs.Inner.Tails.{AreStraight, behind_of, last_
 
 use crate::first::clear_steps;
 use crate::strip::Strip;
-use crate::sweep::{SHORT, Seen, Sweep};
+use crate::sweep::{Seen, Sweep};
 use crate::table::Table;
 use crate::tail::Tail;
 use crate::track::Track;
@@ -204,10 +204,11 @@ struct Hold {
     seen: Seen,
 }
 
-/// Writes down how many steps are straight, from what a tail tells on, as long as the table isn't asked.
+/// Writes down how many steps are straight, from a strip on, as far as it holds the points; to the lap's beginning where no
+/// table is kept.
 //
-// What is straight is kept beside the loops here, and not in a sweep that is made anew for each point or each strip: to
-// move that took longer than all that is asked of a strip.
+// What is straight is kept beside the loops here, and not in a sweep that is made anew for each point: to move that
+// took longer than all that is asked of a strip.
 fn held_on(
     track: &Track,
     last: usize,
@@ -225,7 +226,7 @@ fn held_on(
 {
     let start = Hold { index: from, seen };
     let mut hold = held_by_strip(track, last, lap, start, steps);
-    while hold.index > lap && (table.used == 0 || SHORT < hold.seen.tail.end - hold.index) {
+    while hold.index > lap && table.used == 0 {
         let scanned = held_by_scan(track, last, lap, hold, steps);
         hold = held_by_strip(track, last, lap, scanned, steps);
     }
