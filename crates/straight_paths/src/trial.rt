@@ -211,13 +211,14 @@ fn sway_along(track: &Track, first: usize, most: usize, way: Vector) -> Sway
     requires short { IsShort 65535 way }
     ensures { IsSway way (path_from track.now first) most result }
 {
+    let in_lap = most <= track.size() - first;
     let mut sway = Sway::at_start();
     let mut steps = 0;
-    let mut next = track.corner_after(first, 0);
+    let mut next = track.corner_within(first, 0, in_lap);
     while next < most {
         sway = sway.on(track, first, way, steps, next);
         steps = next;
-        next = track.corner_after(first, steps);
+        next = track.corner_within(first, steps, in_lap);
     }
     sway.on(track, first, way, steps, most)
 }

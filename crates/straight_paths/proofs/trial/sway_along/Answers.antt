@@ -9,8 +9,8 @@ use Rattle.straight_paths.proofs.trial.sway_along.Goals as goal
 pub loop-next-init : goal.loop-next-init
 loop-next-init c = record {
   within = omega arith;
-  later = c.corner_after-next.ensures.later;
-  corner = c.corner_after-next.ensures.corner;
+  later = c.corner_within-next.ensures.later;
+  corner = c.corner_within-next.ensures.corner;
   sway = c.at_start-sway.ensures c.args.way (path_from c.args.track.now c.args.first);
 }
 
