@@ -87,8 +87,16 @@ impl Ends {
         ensures { (most : ℕ) → steps ≤ most → AreUpTo most self → AreUpTo most result }
     {
         Ends {
-            right: if across < span.least { steps } else { self.right },
-            left: if span.greatest < across { steps } else { self.left },
+            right: if across < span.least {
+                steps
+            } else {
+                self.right
+            },
+            left: if span.greatest < across {
+                steps
+            } else {
+                self.left
+            },
         }
     }
 

@@ -1,4 +1,4 @@
-use Rattle.std.proofs.Common.{◌≡◌, ◌^◌, ℕ, pos, neg_ℤ, refl, sym, subst, arith}
+use Rattle.std.proofs.Common.{◌^◌, pos, neg_ℤ, refl, sym, subst}
 use Rattle.straight_paths.specs.Inner.Strips.{AreInSpan, IsSpan, across_at, no_span}
 use Rattle.straight_paths.specs.declared.quarter.Quarter.{Quarter}
 use Rattle.straight_paths.specs.declared.strip.Extent.{Extent}
