@@ -60,71 +60,71 @@ module _ (cost_by : ℕ → ℕ) where
             subst (IsCheaperIn cost_by begin (end + 1) best) (sym (kept dear)) (passed begin end best so_far dear is)
       ]
 
-  -- one that was tried first, and the nearer ones
-  module _ (begin to cost : ℕ) (onwards : begin ≤ to) (is : cost ≡ cost_by to) where
-    abbrev pub guessed : ℕ → Onward
-    guessed cost = record { cost = cost; next = to }
+  -- the first one, and those beyond it
+  pub with_beyond : (begin end : ℕ) (first onward : Onward) → begin < end → HasCheapest cost_by begin (begin + 1) first
+      → IsCheaperIn cost_by (begin + 1) end first onward → HasCheapest cost_by begin end onward
+  with_beyond begin end first onward room is (found lower at) = record {
+    above = omega (arith, at.above);
+    below = at.below;
+    cost = at.cost;
+    cheapest = λ k above below. elim (cases_lt k (begin + 1)) [
+      | inl near ↦ omega (arith, is.cheapest k above near)
+      | inr far ↦ at.cheapest k far below
+    ];
+    first = λ k above below. elim (cases_lt k (begin + 1)) [
+      | inl near ↦ omega (arith, is.cheapest k above near)
+      | inr far ↦ at.first k far below
+    ];
+  }
+  with_beyond begin end first onward room is (none same dearer) =
+      subst (HasCheapest cost_by begin end) (sym same) (record {
+        above = is.above;
+        below = omega (arith, is.below);
+        cost = is.cost;
+        cheapest = λ k above below. elim (cases_lt k (begin + 1)) [
+          | inl near ↦ is.cheapest k above near
+          | inr far ↦ dearer k far below
+        ];
+        first = is.first;
+      })
 
-    nearer_or_guessed : (nearer best : Onward) → IsCheaperIn cost_by begin to (guessed (cost + 1)) nearer
-        → (nearer.cost ≤ cost → best ≡ nearer) → (cost < nearer.cost → best ≡ guessed cost)
-        → HasCheapest cost_by begin (to + 1) best
-    nearer_or_guessed nearer best (found lower at) taken kept =
-        subst (HasCheapest cost_by begin (to + 1)) (sym (taken (omega arith))) (record {
-          above = at.above;
-          below = omega (arith, at.below);
-          cost = at.cost;
-          cheapest = λ k above below. elim (cases_eq k to) [
-            | inl same ↦ omega (arith, ap cost_by same)
-            | inr other ↦ at.cheapest k above (omega arith)
-          ];
-          first = at.first;
-        })
-    nearer_or_guessed nearer best (none same dearer) taken kept =
-        subst (HasCheapest cost_by begin (to + 1)) (sym (kept (omega (arith, ap (λ (o : Onward). o.cost) same)))) (record {
-          above = onwards;
-          below = omega arith;
-          cost = is;
-          cheapest = λ k above below. elim (cases_eq k to) [
-            | inl same ↦ omega (arith, ap cost_by same)
-            | inr other ↦ omega (arith, dearer k above (omega arith))
-          ];
-          first = λ k above below. omega (arith, dearer k above below);
-        })
+  -- all of them, where one of them is cheaper than the bound
+  pub below_bound : (begin to end : ℕ) (bound first onward : Onward) → begin ≤ to → to < end → cost_by to < bound.cost
+      → IsCheaperIn cost_by begin (begin + 1) bound first → IsCheaperIn cost_by (begin + 1) end first onward
+      → HasCheapest cost_by begin end onward
+  below_bound begin to end bound first onward near room cheap (found lower is) beyond =
+      with_beyond begin end first onward (omega arith) is beyond
+  below_bound begin to end bound first onward near room cheap (none same dearer) (found lower is) = record {
+    above = omega (arith, is.above);
+    below = is.below;
+    cost = is.cost;
+    cheapest = λ k above below. elim (cases_lt k (begin + 1)) [
+      | inl here ↦ omega (arith, dearer k above here, ap (λ (o : Onward). o.cost) same)
+      | inr far ↦ is.cheapest k far below
+    ];
+    first = λ k above below. elim (cases_lt k (begin + 1)) [
+      | inl here ↦ omega (arith, dearer k above here, ap (λ (o : Onward). o.cost) same)
+      | inr far ↦ is.first k far below
+    ];
+  }
+  below_bound begin to end bound first onward near room cheap (none same dearer) (none as_first others) = elim (cases_lt to (begin + 1)) [
+    | inl here ↦ absurd (omega (arith, dearer to near here))
+    | inr far ↦ absurd (omega (arith, others to far room, ap (λ (o : Onward). o.cost) same))
+  ]
 
-    -- and the farther ones
-    with_farther : (end : ℕ) (best onward : Onward) → to < end → HasCheapest cost_by begin (to + 1) best
-        → IsCheaperIn cost_by (to + 1) end best onward → HasCheapest cost_by begin end onward
-    with_farther end best onward room so_far (found lower at) = record {
-      above = omega (arith, at.above);
-      below = at.below;
-      cost = at.cost;
-      cheapest = λ k above below. elim (cases_lt k (to + 1)) [
-        | inl near ↦ omega (arith, so_far.cheapest k above near)
-        | inr far ↦ at.cheapest k far below
-      ];
-      first = λ k above below. elim (cases_lt k (to + 1)) [
-        | inl near ↦ omega (arith, so_far.cheapest k above near)
-        | inr far ↦ at.first k far below
-      ];
-    }
-    with_farther end best onward room so_far (none same dearer) =
-        subst (HasCheapest cost_by begin end) (sym same) (record {
-          above = so_far.above;
-          below = omega (arith, so_far.below);
-          cost = so_far.cost;
-          cheapest = λ k above below. elim (cases_lt k (to + 1)) [
-            | inl near ↦ so_far.cheapest k above near
-            | inr far ↦ dearer k far below
-          ];
-          first = so_far.first;
-        })
+  -- one alone
+  pub alone : (to : ℕ) (onward : Onward) → onward.cost ≡ cost_by to → onward.next ≡ to → HasCheapest cost_by to (to + 1) onward
+  alone to onward is there = record {
+    above = omega (arith, there);
+    below = omega (arith, there);
+    cost = omega (arith, is, ap cost_by there);
+    cheapest = λ k above below. let e : k ≡ to = omega arith in omega (arith, is, ap cost_by e);
+    first = λ k above below. absurd (omega (arith, there));
+  }
 
-    pub cheapest_of_all : (end : ℕ) (nearer best onward : Onward) → to < end
-        → IsCheaperIn cost_by begin to (guessed (cost + 1)) nearer
-        → (nearer.cost ≤ cost → best ≡ nearer) × (cost < nearer.cost → best ≡ guessed cost)
-        → IsCheaperIn cost_by (to + 1) end best onward → HasCheapest cost_by begin end onward
-    cheapest_of_all end nearer best onward room near chosen far =
-        with_farther end best onward room (nearer_or_guessed nearer best near chosen.0 chosen.1) far
+  -- of which the cost is known
+  pub alone_costs : (to : ℕ) (onward : Onward) → HasCheapest cost_by to (to + 1) onward → onward.cost ≡ cost_by to
+  alone_costs to onward is = let e : onward.next ≡ to = omega (arith, is.above, is.below) in omega (arith, is.cost, ap cost_by e)
 
 -- one more segment, whose numbers are known by other names
 pub tried_by : (cost_by : ℕ → ℕ) (begin to j worth : ℕ) (best so_far onward : Onward) → begin ≤ to → j ≡ to → worth ≡ cost_by to

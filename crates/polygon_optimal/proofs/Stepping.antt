@@ -6,9 +6,9 @@ use Rattle.least_walk.specs.Inner.Suffix.{IsLeastCost, IsLeastNext}
 use Rattle.polygon_optimal.specs.declared.search.Onward.{Onward}
 use Rattle.polygon_optimal.specs.Inner.Lasts.{AreRising, IsUpToLast, LeadsOn}
 use Rattle.polygon_optimal.specs.Inner.Search.{AreKept, AreWindowEnds, BeginsWindow, HasCheapest, counts_of, slot_of}
-use Rattle.polygon_optimal.proofs.Counting.{AreCounted, counted}
+use Rattle.polygon_optimal.proofs.Counting.{AreCounted, before_end, counted, last_keeps, some_left}
 use Rattle.polygon_optimal.proofs.Leasts.{AreCheap, IsBeforeWindow, best_onward, costs_small}
-use Rattle.polygon_optimal.proofs.Opening.{HasNextWindow, left_here, vertex_here, opens_at, far_reaches}
+use Rattle.polygon_optimal.proofs.Opening.{HasNextWindow, left_here, vertex_here, opens_at, far_below, far_reaches}
 use Rattle.polygon_optimal.proofs.Slots.{cheapest_same}
 
 -- what a call for one window is given
@@ -39,6 +39,17 @@ module _ (size : ℕ) (lasts counts farthest : List ℕ) (window begin : ℕ) (w
         left = left_here size lasts counts farthest window begin w (first - 1) i_near reaches;
         here = vertex_here size lasts counts farthest window begin w (first - 1) i_near reaches;
       }
+
+  -- and leads to a point before the end, as the next one begins before it
+  pub before_end_too : begin ≤ slice_index lasts (first - 1) → begin < size → slice_index lasts (first - 1) < size
+  before_end_too reaches before =
+      let i_near : first - 1 ≤ slice_index farthest window = omega arith in
+      let below : first - 1 < size = omega (arith, far_below size lasts counts farthest window begin w) in
+      let left = left_here size lasts counts farthest window begin w (first - 1) i_near reaches in
+      let keeps = last_keeps size lasts counts w.known (first - 1) below in
+      let leads = w.known.leads (first - 1) below in
+      before_end size lasts counts w.known (slice_index lasts (first - 1)) leads.within
+      (omega (arith, keeps, left, some_left size lasts counts w.known begin before))
 
   -- where it doesn't, the window begins with the point that was done last
   pub begins_above : (first ≤ slice_index farthest window → slice_index counts first ≡ slice_index counts begin + 1)

@@ -20,7 +20,7 @@ ghost use Rattle.polygon_optimal.specs.Inner.Search.{AreKept, AreWindowEnds, Beg
 use crate::room::{SearchRoom, make_places};
 use crate::segments::Segments;
 use least_walk::Walk;
-use prefix_moments::{Growing, Roots, Start};
+use prefix_moments::{Growing, Roots};
 use pt_core::{NoMemory, Sequence};
 use std::alloc::Global;
 
@@ -28,9 +28,9 @@ use std::alloc::Global;
 /// found without a division.
 const SLOTS: usize = 1 << 16;
 
-/// A window of at least so many points is gone through by one segment that grows from point to point. A narrower one
-/// costs less where each of its segments is looked up by itself.
-const WIDE: u32 = 8;
+/// In a window that goes so far beyond its nearest point, the best segment is guessed first. In a narrower one that costs
+/// more than the roots that it saves.
+const WIDE: u32 = 12;
 
 /// A segment to go on by.
 //
@@ -221,8 +221,8 @@ fn fill_window(
 
 /// The cheapest segment from a point into the next window, and of several the shortest.
 //
-// The segment to where the best one from the next point leads is mostly the best here too, or nearly. So it
-// comes first, and hardly any of the others is better: they are refused without a root.
+// A window is mostly narrow: the nearest point is looked up, and from there on one segment grows from point to point. The
+// walk's end is a window of its own and a point of its second lap, so nothing that is said of laps is asked later.
 fn cheapest_from(
     segments: &Segments,
     from: u32,
@@ -234,6 +234,46 @@ fn cheapest_from(
     requires from { from < length segments.now.moments.now }
     requires onwards { from < begin }
     requires some { begin ≤ slice_index segments.now.lasts.items from }
+    requires lap { begin < length segments.now.moments.now
+        → slice_index segments.now.lasts.items from < length segments.now.moments.now }
+    requires slots { HasSlots (length segments.now.moments.now) costs.now }
+    requires small { (k : ℕ) → begin ≤ k → k ≤ slice_index segments.now.lasts.items from
+        → slice_index costs.now (slot_of k) < 2 ^ 56 }
+    ensures { HasCheapest
+        (λ k. penalty_of segments.now.moments.now from k + slice_index costs.now (slot_of k))
+        begin (slice_index segments.now.lasts.items from + 1) result }
+{
+    if begin as usize == segments.lasts.len() {
+        let whole = Growing::between(segments.moments, from, begin);
+        return onward_by(segments, &whole, costs, roots);
+    }
+    let last = segments.lasts[from as usize];
+    if last - begin >= WIDE {
+        return cheapest_by_guess(segments, from, begin, guess, costs, roots);
+    }
+    let nearest = Growing::in_lap(segments.moments, segments.points, from, begin);
+    let first = onward_by(segments, &nearest, costs, roots);
+    cheaper_beyond(segments, &nearest, last + 1, costs, first, roots)
+}
+
+/// The same in a wide window before the walk's end.
+//
+// The segment to where the best one from the next point leads is mostly the best here too, or nearly. So hardly any other
+// one is better than that, and all others are refused without a root. It isn't inlined, so the loop has the registers for
+// itself.
+#[inline(never)]
+fn cheapest_by_guess(
+    segments: &Segments,
+    from: u32,
+    begin: u32,
+    guess: u32,
+    costs: &[u64],
+    roots: &mut Roots,
+) -> Onward
+    requires from { from < length segments.now.moments.now }
+    requires onwards { from < begin }
+    requires some { begin ≤ slice_index segments.now.lasts.items from }
+    requires lap { slice_index segments.now.lasts.items from < length segments.now.moments.now }
     requires slots { HasSlots (length segments.now.moments.now) costs.now }
     requires small { (k : ℕ) → begin ≤ k → k ≤ slice_index segments.now.lasts.items from
         → slice_index costs.now (slot_of k) < 2 ^ 56 }
@@ -243,142 +283,47 @@ fn cheapest_from(
 {
     let last = segments.lasts[from as usize];
     let to = guess.max(begin).min(last);
-    let start = Start::at(segments.moments, from);
-    let cost = start.penalty_by(to, roots) + costs[slot(to as usize)];
-    let tried = Onward { cost, next: to };
+    let guessed = Growing::in_lap(segments.moments, segments.points, from, to);
+    let tried = onward_by(segments, &guessed, costs, roots);
     // A nearer one that costs as much is better.
     let bound = Onward {
-        cost: cost + 1,
+        cost: tried.cost + 1,
         next: to,
     };
-    let nearer = cheaper_in(segments, &start, begin, to, costs, bound, roots);
-    cheaper_in(
-        segments,
-        &start,
-        to + 1,
-        last + 1,
-        costs,
-        lower(nearer, tried),
-        roots,
-    )
+    let nearest = Growing::in_lap(segments.moments, segments.points, from, begin);
+    let rest = costs[slot(begin as usize)];
+    let first = cheaper_by(segments, &nearest, rest, bound, roots);
+    cheaper_beyond(segments, &nearest, last + 1, costs, first, roots)
 }
 
-/// The first of two segments, if it isn't dearer than the other one.
-fn lower(nearer: Onward, tried: Onward) -> Onward
-    ensures nearer { nearer.cost ≤ tried.cost → result ≡ nearer }
-    ensures tried { tried.cost < nearer.cost → result ≡ tried }
-{
-    if nearer.cost <= tried.cost {
-        nearer
-    } else {
-        tried
-    }
-}
-
-/// The cheapest segment to one of the points from `begin` to before `end`, and of several the shortest;
-/// or `best`, where none of them is cheaper.
+/// This segment, and what the polygon costs from it on.
 #[inline(always)]
-fn cheaper_in(
-    segments: &Segments,
-    start: &Start,
-    begin: u32,
-    end: u32,
-    costs: &[u64],
-    best: Onward,
-    roots: &mut Roots,
-) -> Onward
-    requires start { start.now.moments.now ≡ segments.now.moments.now }
-    requires onwards { start.now.from < begin }
-    requires ordered { begin ≤ end }
-    requires ends { end ≤ slice_index segments.now.lasts.items start.now.from + 1 }
+fn onward_by(segments: &Segments, segment: &Growing, costs: &[u64], roots: &mut Roots) -> Onward
+    requires segment { segment.now.moments.now ≡ segments.now.moments.now }
+    requires reached { segment.now.to ≤ slice_index segments.now.lasts.items segment.now.from }
     requires slots { HasSlots (length segments.now.moments.now) costs.now }
-    ensures { IsCheaperIn
-        (λ k. penalty_of segments.now.moments.now start.now.from k + slice_index costs.now (slot_of k))
-        begin end best result }
+    requires small { slice_index costs.now (slot_of segment.now.to) < 2 ^ 56 }
+    ensures { HasCheapest
+        (λ k. penalty_of segments.now.moments.now segment.now.from k + slice_index costs.now (slot_of k))
+        segment.now.to (segment.now.to + 1) result }
 {
-    if end - begin < WIDE {
-        cheaper_in_few(segments, start, begin, end, costs, best, roots)
-    } else {
-        cheaper_in_many(segments, start, begin, end, costs, best)
+    let rest = costs[slot(segment.to as usize)];
+    Onward {
+        cost: segment.penalty_by(roots) + rest,
+        next: segment.to,
     }
 }
 
-/// The same, where each segment is looked up by itself.
-#[inline(always)]
-fn cheaper_in_few(
-    segments: &Segments,
-    start: &Start,
-    begin: u32,
-    end: u32,
-    costs: &[u64],
-    best: Onward,
-    roots: &mut Roots,
-) -> Onward
-    requires start { start.now.moments.now ≡ segments.now.moments.now }
-    requires onwards { start.now.from < begin }
-    requires ordered { begin ≤ end }
-    requires ends { end ≤ slice_index segments.now.lasts.items start.now.from + 1 }
-    requires slots { HasSlots (length segments.now.moments.now) costs.now }
-    ensures { IsCheaperIn
-        (λ k. penalty_of segments.now.moments.now start.now.from k + slice_index costs.now (slot_of k))
-        begin end best result }
-{
-    let mut cheapest = best;
-    for to in begin..end {
-        cheapest = cheaper(
-            segments,
-            start,
-            to,
-            costs[slot(to as usize)],
-            cheapest,
-            roots,
-        );
-    }
-    cheapest
-}
-
-/// The same, by one segment that grows from point to point.
-//
-// Only the walk's end is a point of its second lap. So what is said of laps isn't asked at each point.
-#[inline(never)]
-fn cheaper_in_many(
-    segments: &Segments,
-    start: &Start,
-    begin: u32,
-    end: u32,
-    costs: &[u64],
-    best: Onward,
-) -> Onward
-    requires start { start.now.moments.now ≡ segments.now.moments.now }
-    requires onwards { start.now.from < begin }
-    requires several { begin + 1 < end }
-    requires ends { end ≤ slice_index segments.now.lasts.items start.now.from + 1 }
-    requires slots { HasSlots (length segments.now.moments.now) costs.now }
-    ensures { IsCheaperIn
-        (λ k. penalty_of segments.now.moments.now start.now.from k + slice_index costs.now (slot_of k))
-        begin end best result }
-{
-    let segment = Growing::between(segments.moments, start.from, begin);
-    let stop = end.min(segments.lasts.len() as u32);
-    let nearer = cheaper_in_lap(segments, &segment, stop, costs, best);
-    if stop == end {
-        return nearer;
-    }
-    let whole = Growing::between(segments.moments, start.from, stop);
-    cheaper_by(segments, &whole, costs[slot(stop as usize)], nearer)
-}
-
-/// The cheapest segment to one of the points of the first lap from a segment's end to before `stop`, and of several the
+/// The cheapest segment to one of the points of the first lap beyond a segment's end and before `stop`, and of several the
 /// shortest; or `best`, where none of them is cheaper.
-//
-// It isn't inlined, so the loop has the registers for itself.
-#[inline(never)]
-fn cheaper_in_lap(
+#[inline(always)]
+fn cheaper_beyond(
     segments: &Segments,
     segment: &Growing,
     stop: u32,
     costs: &[u64],
     best: Onward,
+    roots: &mut Roots,
 ) -> Onward
     requires segment { segment.now.moments.now ≡ segments.now.moments.now }
     requires some { segment.now.to < stop }
@@ -387,20 +332,29 @@ fn cheaper_in_lap(
     requires slots { HasSlots (length segments.now.moments.now) costs.now }
     ensures { IsCheaperIn
         (λ k. penalty_of segments.now.moments.now segment.now.from k + slice_index costs.now (slot_of k))
-        segment.now.to stop best result }
+        (segment.now.to + 1) stop best result }
 {
     let mut grown = *segment;
-    let mut cheapest = cheaper_by(segments, segment, costs[slot(segment.to as usize)], best);
+    let mut cheapest = best;
     for to in segment.to + 1..stop {
         grown = grown.longer_by(segments.points[to as usize]);
-        cheapest = cheaper_by(segments, &grown, costs[slot(to as usize)], cheapest);
+        let rest = costs[slot(to as usize)];
+        cheapest = cheaper_by(segments, &grown, rest, cheapest, roots);
     }
     cheapest
 }
 
 /// The segment, from whose end the rest costs so much, where it is cheaper than `best`.
+//
+// Where the rest alone isn't cheaper, the segment isn't looked at.
 #[inline(always)]
-fn cheaper_by(segments: &Segments, segment: &Growing, rest: u64, best: Onward) -> Onward
+fn cheaper_by(
+    segments: &Segments,
+    segment: &Growing,
+    rest: u64,
+    best: Onward,
+    roots: &mut Roots,
+) -> Onward
     requires segment { segment.now.moments.now ≡ segments.now.moments.now }
     requires reached { segment.now.to ≤ slice_index segments.now.lasts.items segment.now.from }
     ensures cheaper { penalty_of segments.now.moments.now segment.now.from segment.now.to + rest < best.cost
@@ -417,39 +371,7 @@ fn cheaper_by(segments: &Segments, segment: &Growing, rest: u64, best: Onward) -
         return best;
     }
     Onward {
-        cost: segment.penalty() + rest,
+        cost: segment.penalty_by(roots) + rest,
         next: segment.to,
-    }
-}
-
-/// The segment to this point, from which the rest costs so much, where it is cheaper than `best`.
-//
-// Where the rest alone isn't cheaper, the segment isn't looked at.
-#[inline(always)]
-fn cheaper(
-    segments: &Segments,
-    start: &Start,
-    to: u32,
-    rest: u64,
-    best: Onward,
-    roots: &mut Roots,
-) -> Onward
-    requires start { start.now.moments.now ≡ segments.now.moments.now }
-    requires onwards { start.now.from < to }
-    requires reached { to ≤ slice_index segments.now.lasts.items start.now.from }
-    ensures cheaper { penalty_of segments.now.moments.now start.now.from to + rest < best.cost
-        → (result.cost ≡ penalty_of segments.now.moments.now start.now.from to + rest) × (result.next ≡ to) }
-    ensures same { best.cost ≤ penalty_of segments.now.moments.now start.now.from to + rest → result ≡ best }
-{
-    if best.cost <= rest {
-        return best;
-    }
-    let limit = (best.cost - rest).min(1 << 24);
-    match start.penalty_below_by(to, limit, roots) {
-        Some(penalty) => Onward {
-            cost: penalty + rest,
-            next: to,
-        },
-        None => best,
     }
 }

@@ -1,9 +1,10 @@
 -- The sums over the points of a segment.
-use Rattle.std.proofs.Common.{◌≡◌, ℕ, ◌+◌, ◌-◌, ◌*◌, ◌≤◌, ℤ, pos, ◌-ℤ◌, ◌*ℤ◌, ◌≤ℤ◌, List, refl, sym, ap, ◌∙◌, subst, arith}
+use Rattle.std.proofs.Common.{◌≡◌, ℕ, ◌+◌, ◌-◌, ◌*◌, ◌<◌, ◌≤◌, ℤ, pos, ◌-ℤ◌, ◌*ℤ◌, ◌≤ℤ◌, List, length, refl, sym, ap, ◌∙◌, subst, arith}
 use Rattle.std.proofs.lemmas.Int.{ints}
-use Rattle.std.specs.Prelude.{unsigned_abs}
+use Rattle.std.proofs.Math.Nat.{mod-eq_of_lt}
+use Rattle.std.specs.Prelude.{unsigned_abs, slice_index_or}
 use Rattle.pt_core.specs.declared.point.Point.{Point}
-use Rattle.pt_core.specs.ClosedWalk.{point_at}
+use Rattle.pt_core.specs.ClosedWalk.{origin, point_at}
 use Rattle.pt_core.specs.declared.limits.TheConstants.{LONGEST_SIDE, MOST_STEPS}
 use Rattle.prefix_moments.specs.declared.raw.RawSums.{RawSums}
 use Rattle.prefix_moments.specs.declared.sums.Sums.{Sums}
@@ -95,3 +96,11 @@ pub total_is : (points : List Point) (i j : ℕ) (s : Sums) (right above t : ℤ
     → t ≡ spread_by s.xx s.xy s.yy right above → t ≡ spread_of points i j
 total_is points i j s right above t es er ea et =
     et ∙ rw (er, ea) (ap (λ v. spread_by v.xx v.xy v.yy (rightward_of points i j) (above_of points i j)) es) ∙ spread_of_is points i j
+
+-- a point of the first lap stands in the list
+pub listed : (list points : List Point) (k : ℕ) → list ≡ points → k < length points → slice_index_or list k origin ≡ point_at points k
+listed list points k same below = ap (λ l. slice_index_or l k origin) same ∙ ap (λ n. slice_index_or points n origin) (sym (mod-eq_of_lt below))
+
+-- and is on the page
+pub listed_on_page : (list points : List Point) (k : ℕ) → list ≡ points → k < length points → AreOnPage points → IsOnPage (slice_index_or list k origin)
+listed_on_page list points k same below on_page = subst IsOnPage (sym (listed list points k same below)) (on_page k)

@@ -9,6 +9,7 @@ ghost use Rattle.prefix_moments.specs.Sums.{above_of, rightward_of, spread_of, s
 
 use crate::moments::{Moments, between};
 use crate::raw::offset_product;
+use crate::roots::Roots;
 use crate::start::{is_reached, mean_root};
 use pt_core::{LONGEST_SIDE, MOST_STEPS, Point};
 
@@ -61,6 +62,35 @@ impl<'a> Growing<'a> {
         let sums = moments.sums(from, to);
         let first = moments.place(from);
         let last = moments.place(to);
+        Growing {
+            moments,
+            from,
+            to,
+            first,
+            count: u64::from(to - from + 1),
+            right: between(first.x, last.x),
+            above: between(first.y, last.y),
+            xx: sums.xx,
+            xy: sums.xy,
+            yy: sums.yy,
+        }
+    }
+
+    /// The same, where both points are in the first lap, by the list of the path's points.
+    #[inline(always)]
+    pub fn in_lap(moments: &'a Moments, points: &[Point], from: u32, to: u32) -> Growing<'a>
+        requires on_page { AreOnPage moments.now }
+        requires points { points.now ≡ moments.now }
+        requires onwards { from < to }
+        requires steps { to - from ≤ MOST_STEPS }
+        requires lap { to < length moments.now }
+        ensures moments { result.moments.now ≡ moments.now }
+        ensures from { result.from ≡ from }
+        ensures to { result.to ≡ to }
+    {
+        let first = points[from as usize];
+        let last = points[to as usize];
+        let sums = moments.sums_in_lap(first, from, to);
         Growing {
             moments,
             from,
@@ -137,6 +167,15 @@ impl<'a> Growing<'a> {
         ensures { IsPenalty self.now.moments.now self.now.from self.now.to result }
     {
         mean_root(self.total(), self.count())
+    }
+
+    /// The same penalty, by the roots that were taken before.
+    #[inline(always)]
+    pub fn penalty_by(&self, roots: &mut Roots) -> u64
+        requires small { unsigned_abs (spread_of self.now.moments.now self.now.from self.now.to) < 2 ^ 48 }
+        ensures { IsPenalty self.now.moments.now self.now.from self.now.to result }
+    {
+        roots.root(self.total(), self.count() as u32)
     }
 
     /// Its penalty, where it is below a limit and the squared cross products together are as small as those of a

@@ -57,6 +57,20 @@ impl Moments {
         offsets(raw, j - i + 1, i64::from(first.x), i64::from(first.y))
     }
 
+    /// The same, where both points are in the first lap and the first one is known.
+    #[inline(always)]
+    pub(crate) fn sums_in_lap(&self, first: Point, i: u32, j: u32) -> Sums
+        requires first { first ≡ point_at self.now i }
+        requires on_page { IsOnPage first }
+        requires onwards { i < j }
+        requires steps { j - i ≤ MOST_STEPS }
+        requires lap { j < length self.now }
+        ensures { result ≡ sums_of self.now i j }
+    {
+        let raw = self.segment_in_lap(i, j);
+        offsets(raw, j - i + 1, i64::from(first.x), i64::from(first.y))
+    }
+
     /// Point number `k`, in the first lap or in the second.
     pub(crate) fn place(&self, k: u32) -> Point
         requires { k < 2 * length self.now }
@@ -86,6 +100,29 @@ impl Moments {
         ensures most { IsRawOf (MOST_STEPS + 1) result }
     {
         self.row(j as usize + 1).minus(self.row(i as usize)).raw()
+    }
+
+    /// The same of points of the first lap.
+    #[inline(always)]
+    fn segment_in_lap(&self, i: u32, j: u32) -> RawSums
+        requires onwards { i < j }
+        requires steps { j - i ≤ MOST_STEPS }
+        requires lap { j < length self.now }
+        ensures value { result ≡ raw_of (λ d. point_at self.now (i + d)) (j - i + 1) }
+        ensures most { IsRawOf (MOST_STEPS + 1) result }
+    {
+        let before = self.row_in_lap(i as usize);
+        self.row_in_lap(j as usize + 1).minus(before).raw()
+    }
+
+    /// The sums over the first `k` points, of one lap at most.
+    #[inline(always)]
+    fn row_in_lap(&self, k: usize) -> Prefix
+        requires { k ≤ length self.now }
+        ensures value { result ≡ prefix_of self.now k }
+        ensures on_page { AreOnPage self.now }
+    {
+        self.rows[k]
     }
 
     /// The sums over the first `k` points, in the first lap or in the second.

@@ -4,8 +4,7 @@ ghost use Rattle.pt_core.specs.Root.{IsRoot};
 ghost use Rattle.pt_core.specs.declared.limits.TheConstants.{MOST_STEPS};
 ghost use Rattle.prefix_moments.specs.Inner.Kept.{IsMeanRoot};
 
-use crate::start::is_reached;
-use pt_core::{MOST_STEPS, NoMemory, isqrt};
+use pt_core::{NoMemory, isqrt};
 use std::alloc::Global;
 use std::marker::Model;
 
@@ -76,23 +75,6 @@ impl Roots {
         let root = MeanRoot::of(total, count);
         self.kept[at] = root;
         u64::from(root.root)
-    }
-
-    /// The same root, where it is below a limit; none is taken where it isn't.
-    #[inline(always)]
-    pub(crate) fn root_below(&mut self, total: u64, count: u32, limit: u64) -> Option<u64>
-        requires total { total < 2 ^ 48 }
-        requires some { 0 < count }
-        requires few { count ≤ MOST_STEPS + 1 }
-        requires limit { limit ≤ 2 ^ 24 }
-        ensures some { IfSome result (λ root. IsRoot (65536 * total / count) root) }
-        ensures below { IfSome result (λ root. root < limit) }
-        ensures none { IfNone result ((root : ℕ) → IsRoot (65536 * total / count) root → limit ≤ root) }
-    {
-        if is_reached(total, u64::from(count), limit) {
-            return None;
-        }
-        Some(self.root(total, count))
     }
 }
 

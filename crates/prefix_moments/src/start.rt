@@ -9,7 +9,6 @@ ghost use Rattle.prefix_moments.specs.Inner.Table.{prefix_of};
 use crate::moments::{Moments, between};
 use crate::prefix::Prefix;
 use crate::raw::{crossed, wrapped_spread};
-use crate::roots::Roots;
 use pt_core::{MOST_STEPS, Point, isqrt};
 
 /// The segments from one point of a path, for whoever asks for many of them: what these have in common is looked up
@@ -69,33 +68,6 @@ impl<'a> Start<'a> {
             → IsPenalty self.now.moments.now self.now.from to penalty → limit ≤ penalty) }
     {
         root_below(self.total(to), u64::from(to - self.from + 1), limit)
-    }
-
-    /// The same penalty as `penalty` gives, by the roots that were taken before.
-    pub fn penalty_by(&self, to: u32, roots: &mut Roots) -> u64
-        requires onwards { self.now.from < to }
-        requires steps { to - self.now.from ≤ MOST_STEPS }
-        requires lap { to - self.now.from ≤ length self.now.moments.now }
-        requires small { unsigned_abs (spread_of self.now.moments.now self.now.from to) < 2 ^ 48 }
-        ensures { IsPenalty self.now.moments.now self.now.from to result }
-    {
-        roots.root(self.total(to), to - self.from + 1)
-    }
-
-    /// The same penalty as `penalty_below` gives, by the roots that were taken before.
-    #[inline(always)]
-    pub fn penalty_below_by(&self, to: u32, limit: u64, roots: &mut Roots) -> Option<u64>
-        requires onwards { self.now.from < to }
-        requires steps { to - self.now.from ≤ MOST_STEPS }
-        requires lap { to - self.now.from ≤ length self.now.moments.now }
-        requires small { unsigned_abs (spread_of self.now.moments.now self.now.from to) < 2 ^ 48 }
-        requires limit { limit ≤ 2 ^ 24 }
-        ensures some { IfSome result (λ penalty. IsPenalty self.now.moments.now self.now.from to penalty) }
-        ensures below { IfSome result (λ penalty. penalty < limit) }
-        ensures none { IfNone result ((penalty : ℕ)
-            → IsPenalty self.now.moments.now self.now.from to penalty → limit ≤ penalty) }
-    {
-        roots.root_below(self.total(to), to - self.from + 1, limit)
     }
 
     /// The sum of the squared cross products of the points up to point number `to`.

@@ -10,7 +10,7 @@ use Rattle.polygon_optimal.specs.Inner.Search.{AreKept, counts_of}
 use Rattle.polygon_optimal.proofs.Counting.{last_of}
 use Rattle.polygon_optimal.proofs.Opening.{far_before, far_below, none_between}
 use Rattle.polygon_optimal.proofs.Slots.{kept_down, kept_more}
-use Rattle.polygon_optimal.proofs.Stepping.{begins_above, kept_best, kept_small, next_down, windows}
+use Rattle.polygon_optimal.proofs.Stepping.{before_end_too, begins_above, kept_best, kept_small, next_down, windows}
 use Rattle.polygon_optimal.proofs.search.fill_window.Goals as goal
 
 -- no point after the farthest one and before the next window is a vertex
@@ -75,6 +75,20 @@ cheapest_from-onward-requires-clause-onwards c =
     let counts = counts_of size lasts in
     let w = windows (length s.moments.now) s.lasts.items c.args.farthest.now c.args.window c.args.begin s.onwards s.rising c.requires.windows c.requires.window c.requires.begin in
     omega (arith, c.loop-first.invariant.near, far_before size lasts counts c.args.farthest.now c.args.window c.args.begin w)
+
+-- the walk's end is a window of its own
+pub cheapest_from-onward-requires-clause-lap : goal.cheapest_from-onward-requires-clause-lap
+cheapest_from-onward-requires-clause-lap c =
+    let s = c.args.segments.now in
+    let size = length s.moments.now in
+    let lasts = s.lasts.items in
+    let counts = counts_of size lasts in
+    let w = windows (length s.moments.now) s.lasts.items c.args.farthest.now c.args.window c.args.begin s.onwards s.rising c.requires.windows c.requires.window c.requires.begin in
+    let below = far_below size lasts counts c.args.farthest.now c.args.window c.args.begin w in
+    let there : c.loop-first.first - 1 < length lasts = omega (arith, c.loop-first.invariant.near, s.places) in
+    let last = last_of lasts (c.loop-first.first - 1) c.index.result.now there c.index.ensures in
+    before_end_too size lasts counts c.args.farthest.now c.args.window c.args.begin w c.loop-first.first (omega arith) c.loop-first.invariant.near
+    (omega (arith, c.if-begin-index.true, last))
 
 -- no way on from there costs as much as 2^56
 pub cheapest_from-onward-requires-clause-small : goal.cheapest_from-onward-requires-clause-small

@@ -2,7 +2,7 @@ use Rattle.std.proofs.Common.{◌≡◌, ◌+◌, ◌≤◌}
 use Rattle.std.specs.Prelude.{slice_index}
 use Rattle.polygon_optimal.specs.Polygon.{penalty_of}
 use Rattle.polygon_optimal.specs.Inner.Search.{IsCheaperIn, slot_of}
-use Rattle.polygon_optimal.proofs.search.cheaper_in_lap.Given as goal
+use Rattle.polygon_optimal.proofs.search.cheaper_beyond.Given as goal
 
 abbrev pub invariant-loop-to : goal.invariant-loop-to
 invariant-loop-to l = record {
@@ -10,5 +10,5 @@ invariant-loop-to l = record {
   from : l.grown.from ≡ l.segment.from;
   to : l.grown.to + 1 ≡ l.to;
   within : l.to ≤ l.stop;
-  tried : IsCheaperIn (λ k. penalty_of l.segments.moments.now l.segment.from k + slice_index l.costs (slot_of k)) l.segment.to l.to l.fn.best l.cheapest;
+  tried : IsCheaperIn (λ k. penalty_of l.segments.moments.now l.segment.from k + slice_index l.costs (slot_of k)) (l.segment.to + 1) l.to l.fn.best l.cheapest;
 }
