@@ -64,6 +64,10 @@ impl Roots {
         requires some { 0 < count }
         ensures { IsRoot (65536 * total / count) result }
     {
+        // That is a segment along a row or a column, as more than a third are on a page of text.
+        if total == 0 {
+            return 0;
+        }
         let at = place_of(total, count);
         if at >= self.kept.len() {
             return u64::from(MeanRoot::of(total, count).root);
