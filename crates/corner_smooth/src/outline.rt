@@ -5,13 +5,17 @@ ghost use Rattle.corner_smooth.specs.Corner.{IsNearWidePage, HasRoundness, Stays
 
 use crate::vertex::piece;
 use pt_core::{NoMemory, Piece, Point, Sequence};
-use std::alloc::Global;
 
 /// The smooth outline of a polygon: one piece for each vertex, in order.
 ///
 /// `vertices` are in units of 1/1024 pixel. A vertex that is as sharp as `alphamax`, in millionths, or
 /// sharper becomes a corner, and any other a curve: with 0 all are corners, and from 1333334 on none is.
-pub fn smooth(alloc: Global, vertices: &[Point], alphamax: u32) -> Result<Sequence<Piece>, NoMemory>
+/// The pieces take the place of what stands in `list`, so that one list may serve many outlines.
+pub fn smooth(
+    mut list: Vec<Piece>,
+    vertices: &[Point],
+    alphamax: u32,
+) -> Result<Sequence<Piece>, NoMemory>
     requires some { 2 ≤ length vertices.now }
     requires near { All IsNearWidePage vertices.now }
     requires alphamax { alphamax ≤ 1000000000 }
@@ -20,15 +24,16 @@ pub fn smooth(alloc: Global, vertices: &[Point], alphamax: u32) -> Result<Sequen
     ensures near { IfOk result (λ pieces. All StaysNear pieces) }
     ensures round { IfOk result (λ pieces. All HasRoundness pieces) }
 {
-    let mut pieces = Vec::with_capacity(alloc, vertices.len())?;
+    list.clear();
+    list.reserve(vertices.len())?;
     let mut before = vertices[vertices.len() - 1];
     for j in 0..vertices.len() {
         let at = vertices[j];
         let after = vertices[next(j, vertices.len())];
-        pieces.push(piece(alphamax, before, at, after))?;
+        list.push(piece(alphamax, before, at, after))?;
         before = at;
     }
-    Ok(Sequence::from_vec(pieces))
+    Ok(Sequence::from_vec(list))
 }
 
 /// The number of the vertex after number `j`, of so many: after the last one comes the first.

@@ -11,7 +11,7 @@ fn is_smoothed(alloc: Global, places: &[Place], alphamax: u32, rows: &[Row]) -> 
         return Ok(false);
     }
     let vertices = points_at(alloc, places)?;
-    let smoothed = smooth(alloc, &vertices, alphamax)?;
+    let smoothed = smooth(Vec::new(alloc), &vertices, alphamax)?;
     let wanted = pieces(alloc, rows)?;
     Ok(smoothed.as_slice() == wanted.as_slice())
 }

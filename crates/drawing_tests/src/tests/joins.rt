@@ -16,7 +16,7 @@ fn is_joined(alloc: Global, places: &[Place], tol: u16, rows: &[Row]) -> Result<
         return Ok(false);
     }
     let vertices = points_at(alloc, places)?;
-    let pieces = smooth(alloc, &vertices, 1_000_000)?;
+    let pieces = smooth(Vec::new(alloc), &vertices, 1_000_000)?;
     let joined = join(alloc, &vertices, pieces, u32::from(tol))?;
     let wanted = samples::pieces(alloc, rows)?;
     Ok(joined.as_slice() == wanted.as_slice())
@@ -29,7 +29,7 @@ fn run(alloc: Global, places: &[Place], first: u32, last: u32) -> Result<Option<
     requires most { length places.now ≤ 2 ^ 31 }
 {
     let vertices = points_at(alloc, places)?;
-    let pieces = smooth(alloc, &vertices, 1_000_000)?;
+    let pieces = smooth(Vec::new(alloc), &vertices, 1_000_000)?;
     Ok(joined(&vertices, pieces.as_slice(), first, last, 204))
 }
 

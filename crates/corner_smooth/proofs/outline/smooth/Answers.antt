@@ -7,11 +7,11 @@ use Rattle.corner_smooth.proofs.outline.smooth.Goals as goal
 
 pub loop-j-preserved : goal.loop-j-preserved
 loop-j-preserved c = record {
-  pieces = one_more c.args.alphamax c.args.vertices.now c.loop-j.j c.next.result c.loop-j.pieces.items _ c.loop-j.before c.piece.result
+  pieces = one_more c.args.alphamax c.args.vertices.now c.loop-j.j c.next.result c.loop-j.list.items _ c.loop-j.before c.piece.result
       c.loop-j-test.true c.next.ensures.value c.loop-j.invariant.before c.piece.ensures.value c.loop-j.invariant.pieces c.in_ok-push.ensures.items;
   before = one_lap_on c.args.vertices.now c.loop-j.j c.loop-j-test.true;
-  near = one_more_such StaysNear c.loop-j.pieces.items _ c.piece.result c.loop-j.invariant.near c.piece.ensures.near c.in_ok-push.ensures.items;
-  round = one_more_such HasRoundness c.loop-j.pieces.items _ c.piece.result c.loop-j.invariant.round c.piece.ensures.round c.in_ok-push.ensures.items;
+  near = one_more_such StaysNear c.loop-j.list.items _ c.piece.result c.loop-j.invariant.near c.piece.ensures.near c.in_ok-push.ensures.items;
+  round = one_more_such HasRoundness c.loop-j.list.items _ c.piece.result c.loop-j.invariant.round c.piece.ensures.round c.in_ok-push.ensures.items;
 }
 
 pub returns-clause-one_each : goal.returns-clause-one_each

@@ -7,8 +7,8 @@ use Rattle.corner_smooth.proofs.outline.smooth.Given as goal
 -- the pieces so far, which are near the page and round, and the vertex before the next one
 abbrev pub invariant-loop-j : goal.invariant-loop-j
 invariant-loop-j l = record {
-  pieces : l.pieces.items ≡ map (corner_piece l.alphamax l.vertices) (range_with_len 0 l.j);
+  pieces : l.list.items ≡ map (corner_piece l.alphamax l.vertices) (range_with_len 0 l.j);
   before : l.before ≡ point_at l.vertices (l.j + (length l.vertices - 1));
-  near : All StaysNear l.pieces.items;
-  round : All HasRoundness l.pieces.items;
+  near : All StaysNear l.list.items;
+  round : All HasRoundness l.list.items;
 }
