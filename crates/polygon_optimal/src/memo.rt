@@ -1,6 +1,6 @@
 //! What was found of other walks.
 use crate::room::SearchRoom;
-use prefix_moments::Roots;
+use prefix_moments::{Moments, MomentsRoom, Roots};
 use pt_core::NoMemory;
 use std::alloc::Global;
 use straight_paths::Memo;
@@ -43,5 +43,15 @@ impl PolygonMemo {
             roots: Roots::none(alloc),
             room: SearchRoom::new(alloc),
         }
+    }
+
+    /// Room for the sums of a walk, as far as it is kept.
+    pub fn take_moments(&mut self, alloc: Global) -> MomentsRoom {
+        self.room.take_moments(alloc)
+    }
+
+    /// Keeps the room of a walk's sums, which are no longer asked, for the next walk.
+    pub fn keep(&mut self, moments: Moments) {
+        self.room.keep(moments);
     }
 }

@@ -85,7 +85,7 @@ fn measured(
     ensures moments { IfOk result (λ both. both.1 ≡ points.now) }
 {
     let lasts = lasts(alloc, points, memo)?;
-    let moments = Moments::of(alloc, points)?;
+    let moments = Moments::in_room(room.take_moments(alloc), points)?;
     let polygon = polygon_of(alloc, points, &moments, lasts, roots, room)?;
     Ok((polygon, moments))
 }

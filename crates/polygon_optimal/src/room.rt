@@ -1,8 +1,10 @@
 //! Room for the lists that a search takes.
 ghost use Rattle.std.specs.Prelude.{◌≤◌, length, OnOk};
 
+use prefix_moments::{Moments, MomentsRoom};
 use pt_core::NoMemory;
 use std::alloc::Global;
+use std::mem::replace;
 
 /// From so many points on, a walk's lists are given back after its search: they would be held beside all that is made of
 /// the walk later.
@@ -10,12 +12,14 @@ const LONG: usize = 1 << 16;
 
 /// Lists that are kept from one walk to the next, whatever stands in them.
 //
-// A page of text has thousands of short walks, and to make three lists for each took a part of their search.
+// A page of text has thousands of short walks, and to make four lists for each took a part of their search.
 #[derive(Drop)]
 pub(crate) struct SearchRoom {
     pub(crate) costs: Vec<u64>,
     pub(crate) nexts: Vec<u32>,
     pub(crate) farthest: Vec<u32>,
+    /// The list of the sums.
+    moments: MomentsRoom,
 }
 
 impl SearchRoom {
@@ -25,6 +29,7 @@ impl SearchRoom {
             costs: Vec::new(alloc),
             nexts: Vec::new(alloc),
             farthest: Vec::new(alloc),
+            moments: MomentsRoom::new(alloc),
         }
     }
 
@@ -32,6 +37,18 @@ impl SearchRoom {
     pub(crate) fn give_back_long(&mut self, alloc: Global) {
         if self.nexts.len() > LONG {
             *self = SearchRoom::new(alloc);
+        }
+    }
+
+    /// Room for the sums of a walk.
+    pub(crate) fn take_moments(&mut self, alloc: Global) -> MomentsRoom {
+        replace(&mut self.moments, MomentsRoom::new(alloc))
+    }
+
+    /// Keeps the room of sums that are no longer asked, unless the walk was long.
+    pub(crate) fn keep(&mut self, moments: Moments) {
+        if moments.count() <= LONG {
+            self.moments = moments.into_room();
         }
     }
 }

@@ -8,12 +8,14 @@ pub mod growing;
 pub mod moments;
 mod prefix;
 mod raw;
+pub mod room;
 pub mod roots;
 pub mod start;
 pub mod sums;
 
 pub use growing::Growing;
 pub use moments::Moments;
+pub use room::MomentsRoom;
 pub use roots::Roots;
 pub use start::Start;
 pub use sums::Sums;

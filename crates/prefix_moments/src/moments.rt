@@ -8,6 +8,7 @@ ghost use Rattle.prefix_moments.specs.Inner.Table.{raw_of, prefix_of, IsRawOf, I
 
 use crate::prefix::Prefix;
 use crate::raw::{RawSums, moved, moved_products, spread};
+use crate::room::MomentsRoom;
 use crate::sums::Sums;
 use pt_core::{LONGEST_SIDE, MOST_STEPS, NoMemory, Point, isqrt};
 use std::alloc::Global;
@@ -39,9 +40,30 @@ impl Moments {
         requires on_page { AreOnPage points.now }
         ensures { IfOk result (λ moments. moments ≡ points.now) }
     {
+        Moments::in_room(MomentsRoom::new(alloc), points)
+    }
+
+    /// The same, in the room of another path's sums.
+    pub fn in_room(room: MomentsRoom, points: &[Point]) -> Result<Moments, NoMemory>
+        requires closed { IsClosedWalk points.now }
+        requires on_page { AreOnPage points.now }
+        ensures { IfOk result (λ moments. moments ≡ points.now) }
+    {
         Ok(Moments {
-            rows: table(alloc, points)?,
+            rows: table(room.rows, points)?,
         })
+    }
+
+    /// The room of these sums, which are no longer asked.
+    pub fn into_room(self) -> MomentsRoom {
+        MomentsRoom { rows: self.rows }
+    }
+
+    /// How many points the path has.
+    pub fn count(&self) -> usize
+        ensures { result ≡ length self.now }
+    {
+        self.rows.len() - 1
     }
 
     /// The sums over the points from number `i` to number `j`.
@@ -77,7 +99,7 @@ impl Moments {
         ensures value { result ≡ point_at self.now k }
         ensures on_page { IsOnPage result }
     {
-        self.place_in_lap(in_lap(k as usize, self.rows.len() - 1))
+        self.place_in_lap(in_lap(k as usize, self.count()))
     }
 
     /// The same of a point in the first lap.
@@ -131,7 +153,7 @@ impl Moments {
         ensures value { result ≡ prefix_of self.now k }
         ensures on_page { AreOnPage self.now }
     {
-        let lap = self.rows.len() - 1;
+        let lap = self.count();
         if k <= lap {
             self.rows[k]
         } else {
@@ -190,13 +212,14 @@ impl Moments {
     }
 }
 
-/// The rows of one lap.
-fn table(alloc: Global, points: &[Point]) -> Result<Vec<Prefix>, NoMemory>
+/// The rows of one lap, in place of what stood in a list.
+fn table(mut rows: Vec<Prefix>, points: &[Point]) -> Result<Vec<Prefix>, NoMemory>
     requires closed { IsClosedWalk points.now }
     requires on_page { AreOnPage points.now }
     ensures { IfOk result (λ rows. IsTable points.now rows.items) }
 {
-    let mut rows = Vec::with_capacity(alloc, points.len() + 1)?;
+    rows.clear();
+    rows.reserve(points.len() + 1)?;
     let mut sums = Prefix::none();
     for k in 0..points.len() {
         rows.push(sums)?;

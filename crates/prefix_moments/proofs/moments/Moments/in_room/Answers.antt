@@ -2,7 +2,7 @@ use Rattle.std.proofs.Common.{List, sym, subst}
 use Rattle.pt_core.specs.declared.point.Point.{Point}
 use Rattle.prefix_moments.specs.Inner.Table.{IsTable}
 use Rattle.prefix_moments.proofs.Prefixes.{points_of_table}
-use Rattle.prefix_moments.proofs.moments.Moments.of.Goals as goal
+use Rattle.prefix_moments.proofs.moments.Moments.in_room.Goals as goal
 
 pub invariant_of-result : goal.invariant_of-result
 invariant_of-result c =
