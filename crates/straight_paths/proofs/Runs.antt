@@ -6,7 +6,7 @@ use Rattle.pt_core.specs.declared.point.Point.{Point}
 use Rattle.straight_paths.specs.Straight.{path_from, vector_of}
 use Rattle.straight_paths.specs.Inner.Strips.{IsEarlierStrip, StaysIn, TakesStep}
 use Rattle.straight_paths.specs.Inner.Sweeps.{IsEnd, IsSeen}
-use Rattle.straight_paths.specs.Inner.Tails.{IsClearBefore, IsIndexOf, IsSooner, IsTail, back_in_column, back_in_row, behind_of, limit_of}
+use Rattle.straight_paths.specs.Inner.Tails.{IsClearBefore, IsIndexOf, IsSooner, IsTail, back_in_column, back_in_row, both_back_of, limit_of}
 use Rattle.straight_paths.specs.Inner.Wedges.{GoesOnward, IsQuarter, IsSign}
 use Rattle.straight_paths.specs.declared.quarter.Quarter.{Quarter}
 use Rattle.straight_paths.specs.declared.strip.Strip.{Strip}
@@ -122,7 +122,7 @@ column_as_late sign ahead sooner step at (inr e) on is =
 
 -- the directions that go back are taken as late as before
 pub behind_as_late : (quarter : Quarter) (ahead sooner : Ahead) (step : Vector) (at : ℕ) → IsQuarter quarter → GoesOnward quarter step
-    → IsSooner ahead step at sooner → behind_of quarter sooner ≡ behind_of quarter ahead
+    → IsSooner ahead step at sooner → both_back_of quarter sooner ≡ both_back_of quarter ahead
 behind_as_late quarter ahead sooner step at is onward here =
     let row = row_as_late quarter.right ahead sooner step at is.right onward.right here in
     let column = column_as_late quarter.up ahead sooner step at is.up onward.up here in
@@ -136,7 +136,7 @@ column_of_four : (sign : ℤ) (ahead : Ahead) → IsSign sign → back_in_column
 column_of_four sign ahead (inl e) = rw e (omega arith)
 column_of_four sign ahead (inr e) = rw e (omega arith)
 
-pub behind_of_four : (quarter : Quarter) (ahead : Ahead) → IsQuarter quarter → behind_of quarter ahead ≤ four_taken ahead
+pub behind_of_four : (quarter : Quarter) (ahead : Ahead) → IsQuarter quarter → both_back_of quarter ahead ≤ four_taken ahead
 behind_of_four quarter ahead is =
     let row = row_of_four quarter.right ahead is.right in
     let column = column_of_four quarter.up ahead is.up in

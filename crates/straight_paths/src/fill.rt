@@ -6,7 +6,7 @@ ghost use Rattle.straight_paths.specs.Straight.{path_from, vector_of};
 ghost use Rattle.straight_paths.specs.Inner.Strips.{TakesStep};
 ghost use Rattle.straight_paths.specs.Inner.Sweeps.{AreEndsFrom, IsEnough, IsSeen, IsSweep, IsTold};
 ghost use Rattle.straight_paths.specs.Inner.Tables.{IsWordTable};
-ghost use Rattle.straight_paths.specs.Inner.Tails.{AreStraight, behind_of, last_of, limit_of};
+ghost use Rattle.straight_paths.specs.Inner.Tails.{AreStraight, both_back_of, last_of, limit_of};
 
 use crate::first::clear_steps;
 use crate::strip::Strip;
@@ -308,7 +308,7 @@ fn onward_back(
     start: Strip,
     steps: &mut [u32],
 ) -> Hold
-    requires behind { tail.end ≤ behind_of start.quarter tail.ahead }
+    requires behind { tail.end ≤ both_back_of start.quarter tail.ahead }
     requires seen { IsSeen track.now last from (record { tail = tail; strip = Some start }) }
     requires ends { AreEndsFrom track.now last lap from steps.old }
     ensures index { result.index ≤ from }

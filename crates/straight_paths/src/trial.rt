@@ -4,7 +4,7 @@ ghost use Rattle.straight_paths.specs.Inner.Cones.{IsShort, IsSound};
 ghost use Rattle.straight_paths.specs.Inner.Slopes.{AreSmallSlopes};
 ghost use Rattle.straight_paths.specs.Straight.{path_from};
 ghost use Rattle.pt_core.specs.declared.point.Point.{Point};
-ghost use Rattle.straight_paths.specs.Inner.Tails.{IsRun, IsSubpath};
+ghost use Rattle.straight_paths.specs.Inner.Tails.{GoesStraightOn, IsSubpath};
 ghost use Rattle.straight_paths.specs.Inner.Strips.{AreUpTo, HoldsPath, IsSway};
 ghost use Rattle.straight_paths.specs.Inner.Wedges.{IsQuarter};
 ghost use Rattle.straight_paths.specs.declared.vector.Vector.{Vector};
@@ -61,7 +61,7 @@ impl Sway {
     /// The same of more steps, where the path goes straight on.
     #[inline(always)]
     fn on(self, track: &Track, first: usize, way: Vector, steps: usize, next: usize) -> Sway
-        requires run { IsRun track.now first steps next }
+        requires run { GoesStraightOn track.now first steps next }
         requires short { IsShort 65535 way }
         requires sway { IsSway way (path_from track.now first) steps self }
         ensures { IsSway way (path_from track.now first) next result }

@@ -25,7 +25,7 @@ pub record IsSubpath (points : List Point) (first steps : ℕ) : Type 0 where
   pub short_of_lap : steps < length points
 
 -- the path from a point of the first lap goes straight on from its point number `steps` to number `next`
-pub record IsRun (points : List Point) (first steps next : ℕ) : Type 0 where
+pub record GoesStraightOn (points : List Point) (first steps next : ℕ) : Type 0 where
   pub subpath : IsSubpath points first next
   pub order : steps ≤ next
   pub run : GoesStraight (path_from points first) steps (next - steps)
@@ -113,5 +113,5 @@ back_in_column (pos n) ahead = ahead.south
 back_in_column (negsuc n) ahead = ahead.north
 
 -- where the later of the two directions that go back in a quarter is taken first
-abbrev pub behind_of : Quarter → Ahead → ℕ
-behind_of quarter ahead = max (back_in_row quarter.right ahead) (back_in_column quarter.up ahead)
+abbrev pub both_back_of : Quarter → Ahead → ℕ
+both_back_of quarter ahead = max (back_in_row quarter.right ahead) (back_in_column quarter.up ahead)

@@ -1,7 +1,7 @@
 use Rattle.std.proofs.Common.{nat_cmp, ◌≡◌, ◌+◌, ◌-◌, ◌≤◌, ℕ, min, sym, subst, rules, arith}
 use Rattle.std.specs.Ordering.{ord_min}
 use Rattle.straight_paths.specs.Inner.Sweeps.{AreEndsFrom, IsEnd, IsSeen}
-use Rattle.straight_paths.specs.Inner.Tails.{behind_of, limit_of}
+use Rattle.straight_paths.specs.Inner.Tails.{both_back_of, limit_of}
 use Rattle.straight_paths.specs.declared.quarter.Quarter.{Quarter}
 use Rattle.straight_paths.proofs.Runs.{behind_as_late, behind_of_four, seen_by, seen_by_step}
 use Rattle.straight_paths.proofs.Windows.{end_of_seen, one_more}
@@ -43,14 +43,14 @@ loop-index-preserved c =
     let later = subst (λ (n : ℕ). IsSeen points c.args.last n (seen_by strip (min c.args.tail.end (n + limit_of points)) ahead)) e inv.seen in
     let late = behind_as_late strip.quarter ahead sooner c.step-step.result index quarter c.in-Some.ensures.onward c.sooner-ahead.ensures in
     let four = behind_of_four strip.quarter sooner quarter in
-    let behind_here : c.args.tail.end ≤ behind_of strip.quarter sooner = subst (λ (n : ℕ). c.args.tail.end ≤ n) (sym late) inv.behind in
+    let behind_here : c.args.tail.end ≤ both_back_of strip.quarter sooner = subst (λ (n : ℕ). c.args.tail.end ≤ n) (sym late) inv.behind in
     let seen = seen_by_step points c.limit-limit.ensures.closed c.args.last index old strip ahead c.step-step.result c.step-step.ensures.value later
     end earlier sooner before c.sooner-ahead.ensures (omega arith) (omega arith) in
     let before_end = later.tail.at_least in
     let e_told : end - index ≡ c.min.result = omega arith in
     record {
       index = omega arith;
-      behind = subst (λ (q : Quarter). c.args.tail.end ≤ behind_of q sooner) (sym before.same_quarter) behind_here;
+      behind = subst (λ (q : Quarter). c.args.tail.end ≤ both_back_of q sooner) (sym before.same_quarter) behind_here;
       seen = seen;
       ends = one_more points c.args.last c.args.lap index c.min.result c.loop-index.steps
           (subst (λ (n : ℕ). AreEndsFrom points c.args.last c.args.lap n c.loop-index.steps) e inv.ends) (omega arith)

@@ -2,7 +2,7 @@ use Rattle.std.proofs.Common.{ℕ, ◌+◌, ◌-◌, ◌≤◌, List, arith}
 use Rattle.pt_core.specs.declared.point.Point.{Point}
 use Rattle.straight_paths.specs.Corners.{IsNextCorner}
 use Rattle.straight_paths.specs.Straight.{path_from}
-use Rattle.straight_paths.specs.Inner.Tails.{IsRun, IsSubpath}
+use Rattle.straight_paths.specs.Inner.Tails.{GoesStraightOn, IsSubpath}
 use Rattle.straight_paths.proofs.Clear.{path_run}
 use Rattle.straight_paths.proofs.trial.sway_along.Goals as goal
 
@@ -16,7 +16,7 @@ loop-next-init c = record {
 
 -- the path goes straight on up to the next corner
 run_to : (points : List Point) (first most steps next end : ℕ) → IsSubpath points first most → IsNextCorner points (first + steps) (next - steps)
-    → steps ≤ end → end ≤ next → end ≤ most → IsRun points first steps end
+    → steps ≤ end → end ≤ next → end ≤ most → GoesStraightOn points first steps end
 run_to points first most steps next end subpath corner order within few =
     let short = subpath.short_of_lap in
     record {
