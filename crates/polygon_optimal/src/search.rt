@@ -10,10 +10,11 @@
 //!                                             Each ends with the farthest, and begins where the next
 //!                                             window is reached.
 //! ```
-ghost use Rattle.std.specs.Prelude.{◌≡◌, ℕ, ◌+◌, ◌-◌, ◌^◌, ◌<◌, ◌≤◌, length, slice_index, IfOk, OnOk};
+ghost use Rattle.std.specs.Prelude.{◌≡◌, ℕ, ◌+◌, ◌-◌, ◌^◌, ◌<◌, ◌≤◌, length, slice_index, unsigned_abs, IfOk, OnOk};
 ghost use Rattle.least_walk.specs.LeastWalk.{IsLeast, walk_from, step_count, total_cost};
 ghost use Rattle.least_walk.specs.Inner.Suffix.{HasNexts, IsFewestFrom, IsLeastCost};
 ghost use Rattle.polygon_optimal.specs.Inner.Lasts.{IsUpToLast};
+ghost use Rattle.prefix_moments.specs.Sums.{spread_of, IsPenalty};
 ghost use Rattle.polygon_optimal.specs.Polygon.{penalty_of};
 ghost use Rattle.polygon_optimal.specs.Inner.Search.{AreKept, AreWindowEnds, BeginsWindow, HasCheapest, HasSlots, IsCheaperIn, counts_of, slot_of};
 
@@ -253,14 +254,13 @@ fn cheapest_from(
     }
     let nearest = Growing::in_lap(segments.moments, segments.points, from, begin);
     let first = onward_by(segments, &nearest, costs, roots);
-    cheaper_beyond(segments, &nearest, last + 1, costs, first, roots)
+    cheaper_beyond(segments, &nearest, last + 1, costs, first, false, roots)
 }
 
 /// The same in a wide window before the walk's end.
 //
 // The segment to where the best one from the next point leads is mostly the best here too, or nearly. So hardly any other
-// one is better than that, and all others are refused without a root. It isn't inlined, so the loop has the registers for
-// itself.
+// one is better than that, and all others are refused without a root.
 #[inline(never)]
 fn cheapest_by_guess(
     segments: &Segments,
@@ -292,8 +292,8 @@ fn cheapest_by_guess(
     };
     let nearest = Growing::in_lap(segments.moments, segments.points, from, begin);
     let rest = costs[slot(begin as usize)];
-    let first = cheaper_by(segments, &nearest, rest, bound, roots);
-    cheaper_beyond(segments, &nearest, last + 1, costs, first, roots)
+    let first = cheaper_by(segments, &nearest, rest, bound, false, roots);
+    cheaper_far_beyond(segments, &nearest, last + 1, costs, first, roots)
 }
 
 /// This segment, and what the polygon costs from it on.
@@ -315,7 +315,7 @@ fn onward_by(segments: &Segments, segment: &Growing, costs: &[u64], roots: &mut 
 }
 
 /// The cheapest segment to one of the points of the first lap beyond a segment's end and before `stop`, and of several the
-/// shortest; or `best`, where none of them is cheaper.
+/// shortest; or `best`, where none of them is cheaper. No root is kept where they are taken seldom.
 #[inline(always)]
 fn cheaper_beyond(
     segments: &Segments,
@@ -323,6 +323,7 @@ fn cheaper_beyond(
     stop: u32,
     costs: &[u64],
     best: Onward,
+    seldom: bool,
     roots: &mut Roots,
 ) -> Onward
     requires segment { segment.now.moments.now ≡ segments.now.moments.now }
@@ -339,9 +340,33 @@ fn cheaper_beyond(
     for to in segment.to + 1..stop {
         grown = grown.longer_by(segments.points[to as usize]);
         let rest = costs[slot(to as usize)];
-        cheapest = cheaper_by(segments, &grown, rest, cheapest, roots);
+        cheapest = cheaper_by(segments, &grown, rest, cheapest, seldom, roots);
     }
     cheapest
+}
+
+/// The same of a wide window, in which roots are taken seldom.
+//
+// It isn't inlined, so the loop has the registers for itself.
+#[inline(never)]
+fn cheaper_far_beyond(
+    segments: &Segments,
+    segment: &Growing,
+    stop: u32,
+    costs: &[u64],
+    best: Onward,
+    roots: &mut Roots,
+) -> Onward
+    requires segment { segment.now.moments.now ≡ segments.now.moments.now }
+    requires some { segment.now.to < stop }
+    requires ends { stop ≤ slice_index segments.now.lasts.items segment.now.from + 1 }
+    requires lap { stop ≤ length segments.now.moments.now }
+    requires slots { HasSlots (length segments.now.moments.now) costs.now }
+    ensures { IsCheaperIn
+        (λ k. penalty_of segments.now.moments.now segment.now.from k + slice_index costs.now (slot_of k))
+        (segment.now.to + 1) stop best result }
+{
+    cheaper_beyond(segments, segment, stop, costs, best, true, roots)
 }
 
 /// The segment, from whose end the rest costs so much, where it is cheaper than `best`.
@@ -353,6 +378,7 @@ fn cheaper_by(
     segment: &Growing,
     rest: u64,
     best: Onward,
+    seldom: bool,
     roots: &mut Roots,
 ) -> Onward
     requires segment { segment.now.moments.now ≡ segments.now.moments.now }
@@ -371,7 +397,20 @@ fn cheaper_by(
         return best;
     }
     Onward {
-        cost: segment.penalty_by(roots) + rest,
+        cost: penalty(segment, seldom, roots) + rest,
         next: segment.to,
+    }
+}
+
+/// The segment's penalty, by the roots that are kept unless they are taken seldom.
+#[inline(always)]
+fn penalty(segment: &Growing, seldom: bool, roots: &mut Roots) -> u64
+    requires { unsigned_abs (spread_of segment.now.moments.now segment.now.from segment.now.to) < 2 ^ 48 }
+    ensures { IsPenalty segment.now.moments.now segment.now.from segment.now.to result }
+{
+    if seldom {
+        segment.penalty()
+    } else {
+        segment.penalty_by(roots)
     }
 }

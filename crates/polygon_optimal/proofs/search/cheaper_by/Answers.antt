@@ -24,8 +24,8 @@ returns-then-reaches-clause-cheaper c = λ lower.
 pub returns-clause-cheaper : goal.returns-clause-cheaper
 returns-clause-cheaper c = λ lower.
     let s = c.args.segment.now in
-    let P : List Point → Type 0 = λ points. IsPenalty points s.from s.to c.penalty_by.result in
-    let is = penalty_is_one c.args.segments.now.moments.now s.from s.to c.penalty_by.result (subst P c.requires.segment c.penalty_by.ensures) in
+    let P : List Point → Type 0 = λ points. IsPenalty points s.from s.to c.penalty.result in
+    let is = penalty_is_one c.args.segments.now.moments.now s.from s.to c.penalty.result (subst P c.requires.segment c.penalty.ensures) in
     (omega (arith, is), refl)
 
 pub returns-clause-same : goal.returns-clause-same

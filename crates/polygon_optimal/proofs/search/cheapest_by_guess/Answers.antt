@@ -27,7 +27,7 @@ returns c =
     let first = tried_by cost_by begin begin nearest.to _ bound bound c.cheaper_by-first.result (omega arith) at.to
     (worth_is (penalty_of points) costs c.args.from begin nearest.from nearest.to c.slot.result at.from at.to c.slot.ensures)
     c.cheaper_by-first.ensures.cheaper c.cheaper_by-first.ensures.same (tried_none cost_by begin bound) in
-    let beyond = rw (at.from, at.to) at c.cheaper_beyond.ensures in
-    let R : ℕ → Type 0 = λ end. HasCheapest cost_by begin (end + 1) c.cheaper_beyond.result in
+    let beyond = rw (at.from, at.to) at c.cheaper_far_beyond.ensures in
+    let R : ℕ → Type 0 = λ end. HasCheapest cost_by begin (end + 1) c.cheaper_far_beyond.result in
     subst R last
-    (below_bound cost_by begin to (c.index-last.result.now + 1) bound c.cheaper_by-first.result c.cheaper_beyond.result near room (omega (arith, cost)) first beyond)
+    (below_bound cost_by begin to (c.index-last.result.now + 1) bound c.cheaper_by-first.result c.cheaper_far_beyond.result near room (omega (arith, cost)) first beyond)
