@@ -1,5 +1,5 @@
 #!/usr/bin/env bash
-# Looks whether the programs are the same to the byte, whoever built them where.
+# Looks whether the programs that load the C library are the same to the byte, whoever built them where.
 #
 # usage: same.sh [CLONE ..]
 #
