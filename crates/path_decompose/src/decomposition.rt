@@ -17,7 +17,7 @@ use crate::edges::Edges;
 use crate::trail::Trail;
 use crate::walk::walk_round;
 use bit_image::Bitmap;
-use pt_core::{NoMemory, Path, Point, Policy, Sequence, Sign};
+use pt_core::{NoMemory, Path, Policy, Sequence, Sign};
 use std::alloc::Global;
 
 /// All paths of a page, in the order in which they are found. There are at most as many as pixels, so 32 bits count
@@ -126,28 +126,28 @@ fn found_from(
     let mut start = Some((x, y));
     'paths: while let Some((x, y)) = start {
         let (sign, area) = next_path(page, &mut rest, x, y, policy, &mut trail)?;
-        push_above(alloc, &mut paths, sign, area, &trail.points, limit)?;
+        push_above(alloc, &mut paths, sign, area, &mut trail, limit)?;
         start = start_after(&rest, x, y);
     }
     Ok(paths)
 }
 
-/// Adds a path, where it is above the limit.
+/// Adds the path that was noted down, where it is above the limit.
 fn push_above(
     alloc: Global,
     paths: &mut Vec<Path>,
     sign: Sign,
     area: u64,
-    points: &[Point],
+    trail: &mut Trail,
     limit: Option<u32>,
 ) -> Result<(), NoMemory>
     ensures added { OnOk result (paths.new.items
-        ≡ paths.old.items ++ above limit (path_of sign area points.now ∷ [])) }
+        ≡ paths.old.items ++ above limit (path_of sign area trail.old.points.items ∷ [])) }
     ensures more { OnOk result (length paths.new.items ≤ length paths.old.items + 1) }
     ensures kept { OnErr result (paths.new.items ≡ paths.old.items) }
 {
     if is_above(area, limit) {
-        let points = Vec::from_slice(alloc, points)?;
+        let points = trail.take_points(alloc)?;
         paths.push(Path {
             sign,
             area,

@@ -1,8 +1,12 @@
 //! What is noted down of a walk along a boundary.
-ghost use Rattle.std.specs.Prelude.{◌≡◌, []};
+ghost use Rattle.std.specs.Prelude.{◌≡◌, [], IfOk};
 
-use pt_core::Point;
+use pt_core::{NoMemory, Point};
 use std::alloc::Global;
+use std::mem::replace;
+
+/// The list of a walk of more points isn't copied.
+const LONG: usize = 1 << 14;
 
 /// What is noted down of a walk along a boundary. A trail serves for one walk after another.
 #[derive(Drop)]
@@ -34,5 +38,21 @@ impl Trail {
         self.points.clear();
         self.up = 0;
         self.down = 0;
+    }
+
+    /// The walk's points, in a list of their own.
+    //
+    // A long walk hands out its own one: a copy would be as much memory again that is used for the first time, which takes
+    // longer than the walk.
+    pub(crate) fn take_points(&mut self, alloc: Global) -> Result<Vec<Point>, NoMemory>
+        ensures { IfOk result (λ points. points.items ≡ self.old.points.items) }
+    {
+        if self.points.len() > LONG {
+            let mut points = replace(&mut self.points, Vec::new(alloc));
+            points.shrink_to_fit();
+            return Ok(points);
+        }
+        let points = Vec::from_slice(alloc, &self.points)?;
+        Ok(points)
     }
 }

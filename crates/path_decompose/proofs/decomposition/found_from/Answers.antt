@@ -55,7 +55,7 @@ paths-preserved c =
       start = c.start_after-start.ensures.start;
       paths =
           above_push page c.args.policy (image_of page) c.args.limit c.paths.paths.items c.push_above.new.paths.items (image_of before) (image_of rest) _ before.width before.height
-          c.paths.invariant.paths c.in_ok-sign.ensures.path c.paths.invariant.fits fits c.in_ok-sign.ensures.inverted (rw (← c.deref.ensures.value) c.in_ok-push_above.ensures.added);
+          c.paths.invariant.paths c.in_ok-sign.ensures.path c.paths.invariant.fits fits c.in_ok-sign.ensures.inverted c.in_ok-push_above.ensures.added;
       few = omega (arith, fewer, c.in_ok-push_above.ensures.more, c.paths.invariant.few);
     }
 
