@@ -3,8 +3,11 @@ pub mod Codes
 pub mod Cones
 pub mod Corners
 pub mod Courses
+pub mod Funnels
+pub mod Mirrors
 pub mod NextSteps
 pub mod Slopes
+pub mod Stairs
 pub mod Strips
 pub mod Sweeps
 pub mod Tables

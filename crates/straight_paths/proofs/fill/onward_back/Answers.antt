@@ -1,14 +1,11 @@
-use Rattle.std.proofs.Common.{nat_cmp, ◌≡◌, ◌+◌, ◌-◌, ◌≤◌, ℕ, min, sym, subst, rules, arith}
-use Rattle.std.specs.Ordering.{ord_min}
+use Rattle.std.proofs.Common.{◌≡◌, ◌+◌, ◌-◌, ◌≤◌, ℕ, min, sym, subst, arith}
 use Rattle.straight_paths.specs.Inner.Sweeps.{AreEndsFrom, IsEnd, IsSeen}
 use Rattle.straight_paths.specs.Inner.Tails.{both_back_of, limit_of}
 use Rattle.straight_paths.specs.declared.quarter.Quarter.{Quarter}
+use Rattle.straight_paths.proofs.Ends.{lesser_is}
 use Rattle.straight_paths.proofs.Runs.{behind_as_late, behind_of_four, seen_by, seen_by_step}
 use Rattle.straight_paths.proofs.Windows.{end_of_seen, one_more}
 use Rattle.straight_paths.proofs.fill.onward_back.Goals as goal
-
-lesser_is : (a b r : ℕ) → r ≡ ord_min nat_cmp a b → r ≡ min a b
-lesser_is a b r is = search rules
 
 pub loop-index-init : goal.loop-index-init
 loop-index-init c =
