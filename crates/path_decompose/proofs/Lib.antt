@@ -27,6 +27,7 @@ pub mod Area
 pub mod Noted
 pub mod Runs
 pub mod EdgeBits
+pub mod LineSpots
 pub mod Taken
 pub mod EightPixels
 pub mod Bounded

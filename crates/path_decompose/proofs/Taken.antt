@@ -1,11 +1,10 @@
 -- The edges that a path's lines are, and what is left without them.
-use Rattle.std.proofs.Common.{◌≡◌, ◌≢◌, ℕ, zero, suc, ◌+◌, ◌-◌, ◌*◌, ◌/◌, ◌%◌, ◌^◌, ◌<◌, ◌≤◌, ℤ, pos, ◌≤ℤ◌, nat_abs, Bool, true, false, ◌&&◌, ◌⊎◌, cond, min, max, nat_eq, nat_le, List, [], ◌∷◌, All, length, get_or, count_by, w32, to_z, of_z, refl, ap, sym, subst, ◌∙◌, inl, inr, arith}
-use Rattle.std.proofs.Math.Nat.{mod-eq_of_lt, mod_self}
+use Rattle.std.proofs.Common.{◌≡◌, ℕ, zero, suc, ◌+◌, ◌-◌, ◌*◌, ◌/◌, ◌<◌, ◌≤◌, ℤ, pos, ◌≤ℤ◌, nat_abs, Bool, true, false, ◌&&◌, ◌⊎◌, nat_le, List, [], ◌∷◌, All, length, get_or, count_by, refl, ap, sym, subst, ◌∙◌, inl, inr, arith}
 use Rattle.std.proofs.lemmas.Int.{ints}
 use Rattle.std.proofs.lemmas.Nat.{mul-le}
-use Rattle.std.proofs.lemmas.Bool.{cases_lt, eq-eqb, ne_eqb, false≢true}
+use Rattle.std.proofs.lemmas.Bool.{cases_lt}
 use Rattle.std.proofs.lemmas.Bool.Decides.{nat_tests}
-use Rattle.pt_core.specs.ClosedWalk.{origin, IsUnitStep, IsClosedWalk}
+use Rattle.pt_core.specs.ClosedWalk.{IsClosedWalk}
 use Rattle.pt_core.specs.declared.limits.TheConstants.{LONGEST_SIDE}
 use Rattle.pt_core.specs.declared.point.Point.{Point}
 use Rattle.pt_core.specs.declared.path.Sign.{Sign}
@@ -14,12 +13,11 @@ use Rattle.bit_image.specs.Image.{Image, Fits, differ}
 use Rattle.bit_image.specs.Page.{Page, SameSides, image_of, page_of}
 use Rattle.turn_policies.specs.Majority.{behind}
 use Rattle.turn_policies.specs.declared.edge.Edge.{Edge}
-use Rattle.turn_policies.specs.Turn.{next}
 use Rattle.path_decompose.specs.Bounds.{IsCornerOf}
 use Rattle.path_decompose.specs.Decomposition.{inverted}
 use Rattle.path_decompose.specs.GridEdges.{GridEdge, upright, level, same_line}
-use Rattle.path_decompose.specs.Inside.{line_at, line_between, lines_of, is_odd, inside}
-use Rattle.path_decompose.specs.Inner.BoundaryBits.{has_edge, changes, AreEdgesOf, bounded_image, AreEdges, same_edge, is_along, FitsStrips, AreWalked}
+use Rattle.path_decompose.specs.Inside.{lines_of, is_odd, inside}
+use Rattle.path_decompose.specs.Inner.BoundaryBits.{has_edge, changes, AreEdgesOf, bounded_image, AreEdges, is_along, FitsStrips, AreWalked}
 use Rattle.path_decompose.specs.Walk.{first_edge}
 use Rattle.path_decompose.proofs.Bounded.{behind-left, behind-low, changes-down, changes-left, bounded_is, image_of-bounded}
 use Rattle.path_decompose.proofs.Beyond.{fits_differ}
@@ -29,91 +27,7 @@ use Rattle.path_decompose.proofs.Differ.{differ_swap}
 use Rattle.path_decompose.proofs.EdgeLine.{line_of, inside_edges, odd_by-map}
 use Rattle.path_decompose.proofs.Parity.{odd_by, odd_by-same, is_odd-count}
 use Rattle.path_decompose.proofs.Round.{IsCircuit}
-use Rattle.path_decompose.proofs.Rows.{next_natural}
 use Rattle.path_decompose.proofs.Walked.{walk_circuit, walk_lines, walk_inside, walk_fits}
-
--- ---- one line
-
--- a coordinate is passed as it is
-pub word_back : (z : ℤ) → pos 0 ≤ℤ z → nat_abs z + 3 < 2 ^ 16 → to_z w32 (of_z w32 z) ≡ z
-word_back z low high = omega (arith, ints)
-
-pub greater_is : (a b : ℤ) → pos 0 ≤ℤ a → nat_abs a + 3 < 2 ^ 16 → pos 0 ≤ℤ b → nat_abs b + 3 < 2 ^ 16 → max (nat_abs (to_z w32 (of_z w32 a))) (nat_abs (to_z w32 (of_z w32 b))) ≡ max (nat_abs a) (nat_abs b)
-greater_is a b low_a high_a low_b high_b =
-    ap (λ z. max (nat_abs z) (nat_abs (to_z w32 (of_z w32 b)))) (word_back a low_a high_a) ∙ ap (λ z. max (nat_abs a) (nat_abs z)) (word_back b low_b high_b)
-
-spot_up : (a b d k u v : ℕ) → (b ≡ suc d) ⊎ (d ≡ suc b) → (c : ℕ) → a ≡ c → same_edge 0 (max a c + 3) (max b d + 3) k u v ≡ is_along k u v (line_at a b c d)
-spot_up a b d k u v next c same =
-    let column : max a c + 3 ≡ a + 3 = omega arith in
-    let row : max b d + 3 ≡ min b d + 4 = elim next [ inl down ↦ omega arith | inr up ↦ omega arith ] in
-    ap (λ n. same_edge 0 n (max b d + 3) k u v) column ∙ ap (λ n. same_edge 0 (a + 3) n k u v) row
-    ∙ sym (ap (λ t. is_along k u v (cond t (upright a (min b d)) (level (min a c) b))) (eq-eqb a c same))
-
-spot_level : (a b c d k u v : ℕ) → (a ≡ suc c) ⊎ (c ≡ suc a) → b ≡ d → same_edge 1 (max a c + 3) (max b d + 3) k u v ≡ is_along k u v (line_at a b c d)
-spot_level a b c d k u v next same =
-    let column : max a c + 3 ≡ min a c + 4 = elim next [ inl left ↦ omega arith | inr right ↦ omega arith ] in
-    let row : max b d + 3 ≡ b + 3 = omega arith in
-    let apart : nat_eq a c ≡ false = ne_eqb a c (λ e. elim next [ inl left ↦ omega arith | inr right ↦ omega arith ]) in
-    ap (λ n. same_edge 1 n (max b d + 3) k u v) column ∙ ap (λ n. same_edge 1 (min a c + 4) n k u v) row
-    ∙ sym (ap (λ t. is_along k u v (cond t (upright a (min b d)) (level (min a c) b))) apart)
-
--- the edge of the kind that the two columns tell is that along the line
-spot_is : (rows size : ℕ) (p q : Point) (kind k u v : ℕ) → FitsStrips rows size p → FitsStrips rows size q → IsUnitStep p q → (nat_abs p.x ≡ nat_abs q.x → kind ≡ 0) → (nat_eq (nat_abs p.x) (nat_abs q.x) ≡ false → kind ≡ 1)
-    → same_edge kind (max (nat_abs p.x) (nat_abs q.x) + 3) (max (nat_abs p.y) (nat_abs q.y) + 3) k u v ≡ is_along k u v (line_between p q)
-spot_is rows size p q kind k u v hp hq (inr up) zero_is one_is =
-    let same : nat_abs p.x ≡ nat_abs q.x = ap nat_abs up.0 in
-    ap (λ n. same_edge n (max (nat_abs p.x) (nat_abs q.x) + 3) (max (nat_abs p.y) (nat_abs q.y) + 3) k u v) (zero_is same)
-    ∙ spot_up (nat_abs p.x) (nat_abs p.y) (nat_abs q.y) k u v (next_natural p.y q.y hp.above hq.above up.1) (nat_abs q.x) same
-spot_is rows size p q kind k u v hp hq (inl along) zero_is one_is =
-    let next = next_natural p.x q.x hp.right hq.right along.1 in
-    let apart : nat_eq (nat_abs p.x) (nat_abs q.x) ≡ false = ne_eqb (nat_abs p.x) (nat_abs q.x) (λ e. elim next [ inl left ↦ omega arith | inr right ↦ omega arith ]) in
-    ap (λ n. same_edge n (max (nat_abs p.x) (nat_abs q.x) + 3) (max (nat_abs p.y) (nat_abs q.y) + 3) k u v) (one_is apart)
-    ∙ spot_level (nat_abs p.x) (nat_abs p.y) (nat_abs q.x) (nat_abs q.y) k u v next (ap nat_abs along.0)
-
--- an upright line, in its column
-pub upright_spot : (rows size : ℕ) (p q : Point) (row k u v : ℕ) → FitsStrips rows size p → FitsStrips rows size q → IsUnitStep p q → nat_abs p.x ≡ nat_abs q.x → row ≡ max (nat_abs p.y) (nat_abs q.y)
-    → same_edge 0 (nat_abs p.x + 3) (row + 3) k u v ≡ is_along k u v (line_between p q)
-upright_spot rows size p q row k u v hp hq step same greater =
-    let column : nat_abs p.x ≡ max (nat_abs p.x) (nat_abs q.x) = omega arith in
-    ap (λ n. same_edge 0 (n + 3) (row + 3) k u v) column
-    ∙ ap (λ n. same_edge 0 (max (nat_abs p.x) (nat_abs q.x) + 3) (n + 3) k u v) greater
-    ∙ spot_is rows size p q 0 k u v hp hq step (λ _. refl) (λ e. absurd (false≢true (sym e ∙ eq-eqb (nat_abs p.x) (nat_abs q.x) same)))
-
--- a level line, in its row
-pub level_spot : (rows size : ℕ) (p q : Point) (column k u v : ℕ) → FitsStrips rows size p → FitsStrips rows size q → IsUnitStep p q → nat_abs p.x ≢ nat_abs q.x → column ≡ max (nat_abs p.x) (nat_abs q.x)
-    → same_edge 1 (column + 3) (nat_abs p.y + 3) k u v ≡ is_along k u v (line_between p q)
-level_spot rows size p q column k u v hp hq step apart greater =
-    let level : nat_abs p.y ≡ nat_abs q.y = elim step [ inl along ↦ ap nat_abs along.0 | inr up ↦ absurd (apart (ap nat_abs up.0)) ] in
-    let row : nat_abs p.y ≡ max (nat_abs p.y) (nat_abs q.y) = omega arith in
-    ap (λ n. same_edge 1 (n + 3) (nat_abs p.y + 3) k u v) greater
-    ∙ ap (λ n. same_edge 1 (max (nat_abs p.x) (nat_abs q.x) + 3) (n + 3) k u v) row
-    ∙ spot_is rows size p q 1 k u v hp hq step (λ e. absurd (apart e)) (λ _. refl)
-
--- ---- all lines
-
-pub step_at : (points : List Point) (k : ℕ) → IsClosedWalk points → suc k < length points → IsUnitStep (get_or points k origin) (get_or points (suc k) origin)
-step_at points k closed short =
-    subst (λ j. IsUnitStep (get_or points j origin) (get_or points (suc k) origin)) (mod-eq_of_lt {n = k} {m = length points} (omega arith))
-    (subst (λ j. IsUnitStep (get_or points (k % length points) origin) (get_or points j origin)) (mod-eq_of_lt {n = suc k} {m = length points} short) (closed.steps k))
-
-pub step_last : (points : List Point) (k : ℕ) → IsClosedWalk points → suc k ≡ length points → IsUnitStep (get_or points k origin) (get_or points 0 origin)
-step_last points k closed last =
-    subst (λ j. IsUnitStep (get_or points j origin) (get_or points 0 origin)) (mod-eq_of_lt {n = k} {m = length points} (omega arith))
-    (subst (λ j. IsUnitStep (get_or points (k % length points) origin) (get_or points j origin)) (ap (λ n. n % length points) last ∙ mod_self (length points)) (closed.steps k))
-
--- a point of a list that is the path's
-pub rooms_at : (rows size kept : ℕ) (points list : List Point) (k : ℕ) (q : Point) → All (FitsStrips rows size) points → points ≡ list → kept ≡ size → k < length list → q ≡ get_or list k origin → FitsStrips rows kept q
-rooms_at rows size kept points list k q rooms same length_kept short at =
-    let there : FitsStrips rows size (get_or list k origin) = (subst (All (FitsStrips rows size)) same rooms) k origin short in
-    subst (λ n. FitsStrips rows n q) (sym length_kept) (subst (FitsStrips rows size) (sym at) there)
-
-pub step_from : (points list : List Point) (k : ℕ) (q : Point) → IsClosedWalk points → points ≡ list → suc k < length list → q ≡ get_or list k origin → IsUnitStep q (get_or list (suc k) origin)
-step_from points list k q closed same short at =
-    subst (λ p. IsUnitStep p (get_or list (suc k) origin)) (sym at) (step_at list k (subst IsClosedWalk same closed) short)
-
-pub step_to_first : (points list : List Point) (k : ℕ) (q : Point) → IsClosedWalk points → points ≡ list → suc k ≡ length list → q ≡ get_or list k origin → IsUnitStep q (get_or list 0 origin)
-step_to_first points list k q closed same last at =
-    subst (λ p. IsUnitStep p (get_or list 0 origin)) (sym at) (step_last list k (subst IsClosedWalk same closed) last)
 
 odd_by-none : {A : Type 0} (xs : List A) → odd_by (λ x. false) xs ≡ false
 odd_by-none [] = refl

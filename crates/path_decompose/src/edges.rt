@@ -5,13 +5,15 @@ ghost use Rattle.bit_image.specs.Image.{Fits, IsWhiteTo, differ, south_west};
 ghost use Rattle.bit_image.specs.Page.{IsPage, SameSides, image_of, page_of};
 ghost use Rattle.bit_image.specs.Inner.Words.{black_in};
 ghost use Rattle.turn_policies.specs.Inner.Square.{IsSquare};
-ghost use Rattle.path_decompose.specs.Inner.BoundaryBits.{has_edge, changes, AreEdgesOf, AreWalked, FitsStrips, IsColumn, is_along};
+ghost use Rattle.path_decompose.specs.Inner.BoundaryBits.{has_edge, changes, AreEdgesOf, AreWalked, FitsStrips, IsSpot, is_along};
 ghost use Rattle.path_decompose.specs.Decomposition.{inverted};
 ghost use Rattle.path_decompose.specs.Inside.{line_between, lines_of, is_odd};
 ghost use Rattle.pt_core.specs.ClosedWalk.{IsUnitStep, IsClosedWalk};
 
 use crate::square::relative_square;
-use crate::strips::{self, Column, DOWN, LEFT, column_at, flip};
+use crate::strips::{
+    self, DOWN, LEFT, Spot, flip, spot_above, spot_at, spot_below, spot_left, spot_right,
+};
 use bit_image::Bitmap;
 use pt_core::{NoMemory, Point};
 use std::alloc::Global;
@@ -175,7 +177,8 @@ impl Edges {
 
 /// Flips the edges along the lines of a closed walk.
 //
-// It isn't inlined, so that its loop has the registers to itself.
+// It isn't inlined, so that its loop has the registers to itself. Each corner is read again as the one before the next:
+// that is cheaper than to hold it.
 #[inline(never)]
 fn flip_path(words: &mut [u64], rows: usize, points: &[Point])
     requires rows { rows < 2 ^ 16 }
@@ -185,48 +188,47 @@ fn flip_path(words: &mut [u64], rows: usize, points: &[Point])
     ensures edges { (k u v : ℕ) → k < 2 → has_edge rows words.new k u v
         ≡ differ (has_edge rows words.old k u v) (is_odd (count_by (is_along k u v) (lines_of points.now))) }
 {
-    if let Some((first, rest)) = points.split_first() {
-        let mut from = *first;
-        let mut column = column_at(rows, from.x as u32 + MARGIN);
-        'corners: for to in rest {
-            // It is read once, before the words are written.
-            let end = *to;
-            column = flip_line(words, rows, column, from, end);
-            from = end;
-        }
-        flip_line(words, rows, column, from, *first);
+    let first = points[0];
+    let mut spot = spot_at(rows, first.x as u32 + MARGIN, first.y as u32 + MARGIN);
+    'corners: for i in 1..points.len() {
+        spot = flip_line(words, rows, spot, points[i - 1], points[i]);
     }
+    flip_line(words, rows, spot, points[points.len() - 1], first);
 }
 
-/// Flips the edge along the line between two corners one step apart, and gives the second one's column.
+/// Flips the edge along the line between two corners one step apart, and tells where the second one's stand.
 //
 // A line up or down is the edge that goes down from its upper corner, and one along a row the edge that goes left from
-// its right corner. So most lines stand in the first corner's column, and up and down no other one is looked up.
+// its right corner.
 #[inline(always)]
-fn flip_line(words: &mut [u64], rows: usize, column: Column, from: Point, to: Point) -> Column
+fn flip_line(words: &mut [u64], rows: usize, spot: Spot, from: Point, to: Point) -> Spot
     requires rows { rows < 2 ^ 16 }
-    requires column { IsColumn rows (nat_abs from.x + MARGIN) column }
+    requires spot { IsSpot rows (nat_abs from.x + MARGIN) (nat_abs from.y + MARGIN) spot }
     requires from { FitsStrips rows (length words.old) from }
     requires to { FitsStrips rows (length words.old) to }
     requires step { IsUnitStep from to }
     ensures length { length words.new ≡ length words.old }
     ensures edges { (k u v : ℕ) → k < 2 → has_edge rows words.new k u v
         ≡ differ (has_edge rows words.old k u v) (is_along k u v (line_between from to)) }
-    ensures column { IsColumn rows (nat_abs to.x + MARGIN) result }
+    ensures spot { IsSpot rows (nat_abs to.x + MARGIN) (nat_abs to.y + MARGIN) result }
 {
-    let (x, y) = (from.x as u32, from.y as u32);
-    let (end_x, end_y) = (to.x as u32, to.y as u32);
-    if x == end_x {
-        flip(words, column, DOWN, y.max(end_y) + MARGIN);
-        return column;
+    if to.y > from.y {
+        let end = spot_above(spot);
+        flip(words, end, DOWN);
+        return end;
     }
-    let end = column_at(rows, end_x + MARGIN);
-    if x < end_x {
-        flip(words, end, LEFT, y + MARGIN);
+    if to.y < from.y {
+        flip(words, spot, DOWN);
+        return spot_below(spot);
+    }
+    let (x, y) = (from.x as u32 + MARGIN, from.y as u32 + MARGIN);
+    if to.x > from.x {
+        let end = spot_right(spot, rows, x, y);
+        flip(words, end, LEFT);
         end
     } else {
-        flip(words, column, LEFT, y + MARGIN);
-        end
+        flip(words, spot, LEFT);
+        spot_left(spot, rows, x, y)
     }
 }
 

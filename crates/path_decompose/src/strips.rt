@@ -6,7 +6,7 @@ ghost use Rattle.std.specs.Prelude.{◌≡◌, ◌≢◌, ◌⊎◌, ◌↔◌, 
 ghost use Rattle.bit_image.specs.Image.{differ};
 ghost use Rattle.bit_image.specs.Words.{is_one};
 ghost use Rattle.bit_image.specs.Inner.Words.{black_in};
-ghost use Rattle.path_decompose.specs.Inner.BoundaryBits.{word_place, has_edge, IsColumn, AreStripWords, changes_in, same_edge};
+ghost use Rattle.path_decompose.specs.Inner.BoundaryBits.{word_place, has_edge, IsSpot, AreStripWords, changes_in, same_edge};
 
 /// The kind of the edges that go down from a corner.
 pub(crate) const DOWN: usize = 0;
@@ -40,37 +40,95 @@ pub(crate) fn has_edge(words: &[u64], rows: usize, kind: usize, x: u32, y: u32) 
     words[word_place(rows, kind, x as usize / 64, y as usize)] >> (x % 64) & 1 == 1
 }
 
-/// Where the edges of a column stand in the words.
+/// Where the edges of a corner stand in the words.
 #[derive(Clone, Copy)]
-pub(crate) struct Column {
-    /// How many rows the strips before its own have.
-    rows_before: usize,
-    /// A word in which only its bit is 1.
+pub(crate) struct Spot {
+    /// The place of the word with the edge that goes down. The edge that goes left is in the next one.
+    down: usize,
+    /// A word in which only their bit is 1.
     bit: u64,
 }
 
-/// Where the edges of column `x` stand.
+/// Where the edges in column `x` and row `y` stand.
 #[inline(always)]
-pub(crate) fn column_at(rows: usize, x: u32) -> Column
+pub(crate) fn spot_at(rows: usize, x: u32, y: u32) -> Spot
     requires { rows < 2 ^ 16 }
-    ensures { IsColumn rows x result }
+    ensures { IsSpot rows x y result }
 {
-    Column {
-        rows_before: x as usize / 64 * rows,
+    Spot {
+        down: 2 * (x as usize / 64 * rows + y as usize),
         bit: 1u64 << (x % 64),
     }
 }
 
-/// Adds an edge of a kind in a column and a row, or takes it away where it is there.
+/// Where those of the row above stand.
 #[inline(always)]
-pub(crate) fn flip(words: &mut [u64], column: Column, kind: usize, y: u32)
-    requires { 2 * (column.rows_before + y) + kind < length words.old }
+pub(crate) fn spot_above(spot: Spot) -> Spot
+    requires { spot.down + 2 < 2 ^ 64 }
+    ensures { (rows x y : ℕ) → IsSpot rows x y spot → IsSpot rows x (y + 1) result }
+{
+    Spot {
+        down: spot.down + 2,
+        ..spot
+    }
+}
+
+/// Where those of the row below stand.
+#[inline(always)]
+pub(crate) fn spot_below(spot: Spot) -> Spot
+    requires { 2 ≤ spot.down }
+    ensures { (rows x y : ℕ) → IsSpot rows x (y + 1) spot → IsSpot rows x y result }
+{
+    Spot {
+        down: spot.down - 2,
+        ..spot
+    }
+}
+
+/// Where the edges right of column `x` stand in row `y`, by where those of the column itself do.
+//
+// In most columns it is the next bit of the same word.
+#[inline(always)]
+pub(crate) fn spot_right(spot: Spot, rows: usize, x: u32, y: u32) -> Spot
+    requires rows { rows < 2 ^ 16 }
+    requires column { x + 1 < 2 ^ 32 }
+    requires spot { IsSpot rows x y spot }
+    ensures { IsSpot rows (x + 1) y result }
+{
+    let bit = spot.bit << 1;
+    if bit != 0 {
+        Spot { bit, ..spot }
+    } else {
+        spot_at(rows, x + 1, y)
+    }
+}
+
+/// And where those left of it stand.
+#[inline(always)]
+pub(crate) fn spot_left(spot: Spot, rows: usize, x: u32, y: u32) -> Spot
+    requires rows { rows < 2 ^ 16 }
+    requires column { 1 ≤ x }
+    requires spot { IsSpot rows x y spot }
+    ensures { IsSpot rows (x - 1) y result }
+{
+    let bit = spot.bit >> 1;
+    if bit != 0 {
+        Spot { bit, ..spot }
+    } else {
+        spot_at(rows, x - 1, y)
+    }
+}
+
+/// Adds a corner's edge of a kind, or takes it away where it is there.
+#[inline(always)]
+pub(crate) fn flip(words: &mut [u64], spot: Spot, kind: usize)
+    requires { spot.down + kind < length words.old }
     ensures length { length words.new ≡ length words.old }
-    ensures edges { (rows x : ℕ) → IsColumn rows x column → y < rows → kind < 2
+    ensures edges { (rows x y : ℕ) → IsSpot rows x y spot → y < rows → kind < 2
         → (k u v : ℕ) → k < 2 → has_edge rows words.new k u v
         ≡ differ (has_edge rows words.old k u v) (same_edge kind x y k u v) }
 {
-    words[2 * (column.rows_before + y as usize) + kind] ^= column.bit;
+    words[spot.down + kind] ^= spot.bit;
 }
 
 /// Puts the edges of a kind into one row of a strip that has none there.

@@ -12,7 +12,7 @@ use Rattle.bit_image.specs.Words.{is_one}
 use Rattle.bit_image.specs.Inner.Words.{black_in}
 use Rattle.turn_policies.specs.Majority.{behind}
 use Rattle.path_decompose.specs.declared.edges.TheConstants.{MARGIN, ROWS_BESIDE, STRIPS_BESIDE}
-use Rattle.path_decompose.specs.declared.strips.Column.{Column}
+use Rattle.path_decompose.specs.declared.strips.Spot.{Spot}
 use Rattle.path_decompose.specs.declared.strips.TheConstants.{DOWN, LEFT}
 use Rattle.path_decompose.specs.GridEdges.{GridEdge, upright, level}
 use Rattle.path_decompose.specs.Walk.{IsBoundaryWalk}
@@ -26,10 +26,10 @@ unfoldable pub has_edge : ℕ → List ℕ → ℕ → ℕ → ℕ → Bool
 has_edge rows words kind x y =
     nat_lt y rows && is_one (slice_index_or words (word_place rows kind (x / 64) y) 0) (x % 64)
 
--- the edges of column x stand after so many rows, and in this bit of each word
-pub record IsColumn (rows x : ℕ) (column : Column) : Type 0 where
-  pub rows_before : column.rows_before ≡ x / 64 * rows
-  pub bit : (i : ℕ) → i < 64 → is_one column.bit i ≡ nat_eq (x % 64) i
+-- the edges in column x and row y stand in this word and the next one, and in this bit of both
+pub record IsSpot (rows x y : ℕ) (spot : Spot) : Type 0 where
+  pub place : spot.down ≡ word_place rows DOWN (x / 64) y
+  pub bit : (i : ℕ) → i < 64 → is_one spot.bit i ≡ nat_eq (x % 64) i
 
 -- an image changes between a pixel and the next one in its row, or the one above it
 abbrev pub changes : Image → ℕ → ℕ → ℕ → Bool

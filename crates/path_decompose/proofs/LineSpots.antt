@@ -1,0 +1,132 @@
+-- Where the edge along a line between two corners stands, and the lines between a path's corners.
+use Rattle.std.proofs.Common.{◌≡◌, ◌≢◌, ℕ, suc, ◌+◌, ◌/◌, ◌%◌, ◌^◌, ◌<◌, ◌≤◌, ℤ, pos, ◌≤ℤ◌, nat_abs, true, false, ◌⊎◌, cond, min, max, nat_eq, List, All, length, get_or, w32, to_z, of_z, refl, ap, sym, subst, ◌∙◌, inl, inr, arith}
+use Rattle.std.specs.Int.Signed.{lt_z}
+use Rattle.std.proofs.Math.Nat.{mod-eq_of_lt, mod_self}
+use Rattle.std.proofs.lemmas.Int.{ints}
+use Rattle.std.proofs.lemmas.Bool.{eq-eqb, ne_eqb, false≢true}
+use Rattle.pt_core.specs.ClosedWalk.{origin, IsUnitStep, IsClosedWalk}
+use Rattle.pt_core.specs.declared.point.Point.{Point}
+use Rattle.path_decompose.specs.declared.strips.Spot.{Spot}
+use Rattle.path_decompose.specs.GridEdges.{upright, level}
+use Rattle.path_decompose.specs.Inside.{line_at, line_between}
+use Rattle.path_decompose.specs.Inner.BoundaryBits.{word_place, same_edge, is_along, FitsStrips, IsSpot}
+use Rattle.path_decompose.proofs.EdgeBits.{place_inside}
+use Rattle.path_decompose.proofs.Rows.{next_natural}
+
+less_abs : (a b : ℤ) → pos 0 ≤ℤ a → pos 0 ≤ℤ b → lt_z a b ≡ true → nat_abs a < nat_abs b
+less_abs a b low_a low_b less = omega (arith, ints)
+
+least_abs : (a b : ℤ) → pos 0 ≤ℤ a → pos 0 ≤ℤ b → lt_z a b ≡ false → nat_abs b ≤ nat_abs a
+least_abs a b low_a low_b least = omega (arith, ints)
+
+-- a coordinate is passed as it is
+pub word_back : (z : ℤ) → pos 0 ≤ℤ z → nat_abs z + 3 < 2 ^ 16 → to_z w32 (of_z w32 z) ≡ z
+word_back z low high = omega (arith, ints)
+
+-- and so are two that are compared
+pub less_back : (a b : ℤ) → pos 0 ≤ℤ a → nat_abs a + 3 < 2 ^ 16 → pos 0 ≤ℤ b → nat_abs b + 3 < 2 ^ 16 → lt_z (to_z w32 (of_z w32 a)) (to_z w32 (of_z w32 b)) ≡ true → nat_abs a < nat_abs b
+less_back a b low_a high_a low_b high_b less = less_abs a b low_a low_b (rw (word_back a low_a high_a, word_back b low_b high_b) at less)
+
+pub least_back : (a b : ℤ) → pos 0 ≤ℤ a → nat_abs a + 3 < 2 ^ 16 → pos 0 ≤ℤ b → nat_abs b + 3 < 2 ^ 16 → lt_z (to_z w32 (of_z w32 a)) (to_z w32 (of_z w32 b)) ≡ false → nat_abs b ≤ nat_abs a
+least_back a b low_a high_a low_b high_b least = least_abs a b low_a low_b (rw (word_back a low_a high_a, word_back b low_b high_b) at least)
+
+-- the line goes on up or down, or along the row
+pub unit_parts : (rows size : ℕ) (p q : Point) → FitsStrips rows size p → FitsStrips rows size q → IsUnitStep p q
+    → ((nat_abs p.x ≡ nat_abs q.x) × ((nat_abs p.y ≡ suc (nat_abs q.y)) ⊎ (nat_abs q.y ≡ suc (nat_abs p.y)))) ⊎ ((nat_abs p.y ≡ nat_abs q.y) × ((nat_abs p.x ≡ suc (nat_abs q.x)) ⊎ (nat_abs q.x ≡ suc (nat_abs p.x))))
+unit_parts rows size p q hp hq (inl along) = inr (ap nat_abs along.0, next_natural p.x q.x hp.right hq.right along.1)
+unit_parts rows size p q hp hq (inr up) = inl (ap nat_abs up.0, next_natural p.y q.y hp.above hq.above up.1)
+
+pub step_up : (rows size : ℕ) (p q : Point) → FitsStrips rows size p → FitsStrips rows size q → IsUnitStep p q → nat_abs p.y < nat_abs q.y → (nat_abs p.x ≡ nat_abs q.x) × (nat_abs q.y ≡ nat_abs p.y + 1)
+step_up rows size p q hp hq step rises = elim (unit_parts rows size p q hp hq step) [
+  | inr along ↦ absurd (omega (arith, along.0, rises))
+  | inl up ↦ (up.0, elim up.1 [ inl down ↦ absurd (omega (arith, down, rises)) | inr rise ↦ omega (arith, rise) ])
+]
+
+pub step_down : (rows size : ℕ) (p q : Point) → FitsStrips rows size p → FitsStrips rows size q → IsUnitStep p q → nat_abs q.y < nat_abs p.y → (nat_abs p.x ≡ nat_abs q.x) × (nat_abs p.y ≡ nat_abs q.y + 1)
+step_down rows size p q hp hq step falls = elim (unit_parts rows size p q hp hq step) [
+  | inr along ↦ absurd (omega (arith, along.0, falls))
+  | inl up ↦ (up.0, elim up.1 [ inl down ↦ omega (arith, down) | inr rise ↦ absurd (omega (arith, rise, falls)) ])
+]
+
+pub step_right : (rows size : ℕ) (p q : Point) → FitsStrips rows size p → FitsStrips rows size q → IsUnitStep p q → nat_abs p.x < nat_abs q.x → (nat_abs p.y ≡ nat_abs q.y) × (nat_abs q.x ≡ nat_abs p.x + 1)
+step_right rows size p q hp hq step grows = elim (unit_parts rows size p q hp hq step) [
+  | inl up ↦ absurd (omega (arith, up.0, grows))
+  | inr along ↦ (along.0, elim along.1 [ inl left ↦ absurd (omega (arith, left, grows)) | inr right ↦ omega (arith, right) ])
+]
+
+-- a line that goes neither up nor down nor to the right goes to the left
+pub step_left : (rows size : ℕ) (p q : Point) → FitsStrips rows size p → FitsStrips rows size q → IsUnitStep p q → nat_abs p.y ≡ nat_abs q.y → nat_abs q.x ≤ nat_abs p.x → nat_abs p.x ≡ nat_abs q.x + 1
+step_left rows size p q hp hq step row least = elim (unit_parts rows size p q hp hq step) [
+  | inl up ↦ absurd (elim up.1 [ inl down ↦ omega (arith, down, row) | inr rise ↦ omega (arith, rise, row) ])
+  | inr along ↦ elim along.1 [ inl left ↦ omega (arith, left) | inr right ↦ absurd (omega (arith, right, least)) ]
+]
+
+pub spot_same : (rows x y u v : ℕ) (spot : Spot) → IsSpot rows x y spot → x ≡ u → y ≡ v → IsSpot rows u v spot
+spot_same rows x y u v spot is column row = subst (λ n. IsSpot rows u n spot) row (subst (λ n. IsSpot rows n y spot) column is)
+
+-- a corner's two words are among the words
+pub spot_inside : (rows size kind : ℕ) (p : Point) (spot : Spot) → FitsStrips rows size p → IsSpot rows (nat_abs p.x + 3) (nat_abs p.y + 3) spot → kind < 2 → spot.down + kind < size
+spot_inside rows size kind p spot fits is small =
+    let inside : word_place rows kind ((nat_abs p.x + 3) / 64) (nat_abs p.y + 3) < size = place_inside rows ((nat_abs p.x + 3) / 64) (nat_abs p.y + 3) kind size fits.row small fits.room in
+    omega (arith, inside, is.place)
+
+spot_up : (a b d k u v : ℕ) → (b ≡ suc d) ⊎ (d ≡ suc b) → (c : ℕ) → a ≡ c → same_edge 0 (max a c + 3) (max b d + 3) k u v ≡ is_along k u v (line_at a b c d)
+spot_up a b d k u v next c same =
+    let column : max a c + 3 ≡ a + 3 = omega arith in
+    let row : max b d + 3 ≡ min b d + 4 = elim next [ inl down ↦ omega arith | inr up ↦ omega arith ] in
+    ap (λ n. same_edge 0 n (max b d + 3) k u v) column ∙ ap (λ n. same_edge 0 (a + 3) n k u v) row
+    ∙ sym (ap (λ t. is_along k u v (cond t (upright a (min b d)) (level (min a c) b))) (eq-eqb a c same))
+
+spot_level : (a b c d k u v : ℕ) → (a ≡ suc c) ⊎ (c ≡ suc a) → b ≡ d → same_edge 1 (max a c + 3) (max b d + 3) k u v ≡ is_along k u v (line_at a b c d)
+spot_level a b c d k u v next same =
+    let column : max a c + 3 ≡ min a c + 4 = elim next [ inl left ↦ omega arith | inr right ↦ omega arith ] in
+    let row : max b d + 3 ≡ b + 3 = omega arith in
+    let apart : nat_eq a c ≡ false = ne_eqb a c (λ e. elim next [ inl left ↦ omega arith | inr right ↦ omega arith ]) in
+    ap (λ n. same_edge 1 n (max b d + 3) k u v) column ∙ ap (λ n. same_edge 1 (min a c + 4) n k u v) row
+    ∙ sym (ap (λ t. is_along k u v (cond t (upright a (min b d)) (level (min a c) b))) apart)
+
+-- the edge of the kind that the two columns tell is that along the line
+spot_is : (rows size : ℕ) (p q : Point) (kind k u v : ℕ) → FitsStrips rows size p → FitsStrips rows size q → IsUnitStep p q → (nat_abs p.x ≡ nat_abs q.x → kind ≡ 0) → (nat_eq (nat_abs p.x) (nat_abs q.x) ≡ false → kind ≡ 1)
+    → same_edge kind (max (nat_abs p.x) (nat_abs q.x) + 3) (max (nat_abs p.y) (nat_abs q.y) + 3) k u v ≡ is_along k u v (line_between p q)
+spot_is rows size p q kind k u v hp hq (inr up) zero_is one_is =
+    let same : nat_abs p.x ≡ nat_abs q.x = ap nat_abs up.0 in
+    ap (λ n. same_edge n (max (nat_abs p.x) (nat_abs q.x) + 3) (max (nat_abs p.y) (nat_abs q.y) + 3) k u v) (zero_is same)
+    ∙ spot_up (nat_abs p.x) (nat_abs p.y) (nat_abs q.y) k u v (next_natural p.y q.y hp.above hq.above up.1) (nat_abs q.x) same
+spot_is rows size p q kind k u v hp hq (inl along) zero_is one_is =
+    let next = next_natural p.x q.x hp.right hq.right along.1 in
+    let apart : nat_eq (nat_abs p.x) (nat_abs q.x) ≡ false = ne_eqb (nat_abs p.x) (nat_abs q.x) (λ e. elim next [ inl left ↦ omega arith | inr right ↦ omega arith ]) in
+    ap (λ n. same_edge n (max (nat_abs p.x) (nat_abs q.x) + 3) (max (nat_abs p.y) (nat_abs q.y) + 3) k u v) (one_is apart)
+    ∙ spot_level (nat_abs p.x) (nat_abs p.y) (nat_abs q.x) (nat_abs q.y) k u v next (ap nat_abs along.0)
+
+-- an upright line, in its column
+pub upright_spot : (rows size : ℕ) (p q : Point) (row k u v : ℕ) → FitsStrips rows size p → FitsStrips rows size q → IsUnitStep p q → nat_abs p.x ≡ nat_abs q.x → row ≡ max (nat_abs p.y) (nat_abs q.y)
+    → same_edge 0 (nat_abs p.x + 3) (row + 3) k u v ≡ is_along k u v (line_between p q)
+upright_spot rows size p q row k u v hp hq step same greater =
+    let column : nat_abs p.x ≡ max (nat_abs p.x) (nat_abs q.x) = omega arith in
+    ap (λ n. same_edge 0 (n + 3) (row + 3) k u v) column
+    ∙ ap (λ n. same_edge 0 (max (nat_abs p.x) (nat_abs q.x) + 3) (n + 3) k u v) greater
+    ∙ spot_is rows size p q 0 k u v hp hq step (λ _. refl) (λ e. absurd (false≢true (sym e ∙ eq-eqb (nat_abs p.x) (nat_abs q.x) same)))
+
+-- a level line, in its row
+pub level_spot : (rows size : ℕ) (p q : Point) (column k u v : ℕ) → FitsStrips rows size p → FitsStrips rows size q → IsUnitStep p q → nat_abs p.x ≢ nat_abs q.x → column ≡ max (nat_abs p.x) (nat_abs q.x)
+    → same_edge 1 (column + 3) (nat_abs p.y + 3) k u v ≡ is_along k u v (line_between p q)
+level_spot rows size p q column k u v hp hq step apart greater =
+    let level : nat_abs p.y ≡ nat_abs q.y = elim step [ inl along ↦ ap nat_abs along.0 | inr up ↦ absurd (apart (ap nat_abs up.0)) ] in
+    let row : nat_abs p.y ≡ max (nat_abs p.y) (nat_abs q.y) = omega arith in
+    ap (λ n. same_edge 1 (n + 3) (nat_abs p.y + 3) k u v) greater
+    ∙ ap (λ n. same_edge 1 (max (nat_abs p.x) (nat_abs q.x) + 3) (n + 3) k u v) row
+    ∙ spot_is rows size p q 1 k u v hp hq step (λ e. absurd (apart e)) (λ _. refl)
+
+pub step_at : (points : List Point) (k : ℕ) → IsClosedWalk points → suc k < length points → IsUnitStep (get_or points k origin) (get_or points (suc k) origin)
+step_at points k closed short =
+    subst (λ j. IsUnitStep (get_or points j origin) (get_or points (suc k) origin)) (mod-eq_of_lt {n = k} {m = length points} (omega arith))
+    (subst (λ j. IsUnitStep (get_or points (k % length points) origin) (get_or points j origin)) (mod-eq_of_lt {n = suc k} {m = length points} short) (closed.steps k))
+
+pub step_last : (points : List Point) (k : ℕ) → IsClosedWalk points → suc k ≡ length points → IsUnitStep (get_or points k origin) (get_or points 0 origin)
+step_last points k closed last =
+    subst (λ j. IsUnitStep (get_or points j origin) (get_or points 0 origin)) (mod-eq_of_lt {n = k} {m = length points} (omega arith))
+    (subst (λ j. IsUnitStep (get_or points (k % length points) origin) (get_or points j origin)) (ap (λ n. n % length points) last ∙ mod_self (length points)) (closed.steps k))
+
+-- a point of a path, where the words are as many as they were
+pub rooms_at : (rows size kept : ℕ) (points : List Point) (k : ℕ) → All (FitsStrips rows size) points → kept ≡ size → k < length points → FitsStrips rows kept (get_or points k origin)
+rooms_at rows size kept points k rooms same short = subst (λ n. FitsStrips rows n (get_or points k origin)) (sym same) (rooms k origin short)
