@@ -7,3 +7,4 @@ pub mod Costs
 pub mod Cubic
 pub mod CutSearch
 pub mod Halves
+pub mod Powers

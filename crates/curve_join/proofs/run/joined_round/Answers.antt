@@ -12,13 +12,13 @@ use Rattle.curve_join.proofs.run.joined_round.Goals as goal
 module _ (c : goal.After-piece) where
   may : MayJoin c.args.tol c.args.run.now.bends.now
   may =
-      may_join c.args.tol c.args.run.now.bends.now c.in-Some.cubic (ap (λ both. both.0) c.in-Some.ensures.given.is) c.sense.result c.sense.ensures
+      may_join c.args.tol c.args.run.now.bends.now c.of-stand_in.result.cubic (c.of-stand_in.ensures ∙ ap (λ both. both.0) c.in-Some.ensures.given.is) c.sense.result c.sense.ensures
       c.args.run.now.some c.args.run.now.few c.requires.round
       c.in-Some.ensures.given.holds.0 c.in-Some.ensures.given.holds.1 c.in-Some-sides_penalty.ensures.holds.0 c.in-Some-pieces_penalty.ensures.holds.0
 
   penalty_is : c.in-Some-sides_penalty.sides + c.in-Some-pieces_penalty.pieces ≡ penalty_at c.args.run.now.bends.now
   penalty_is =
-      penalty_there c.args.tol c.args.run.now.bends.now c.in-Some.cubic (ap (λ both. both.0) c.in-Some.ensures.given.is) c.sense.result c.sense.ensures
+      penalty_there c.args.tol c.args.run.now.bends.now c.of-stand_in.result.cubic (c.of-stand_in.ensures ∙ ap (λ both. both.0) c.in-Some.ensures.given.is) c.sense.result c.sense.ensures
       c.in-Some-sides_penalty.sides c.in-Some-pieces_penalty.pieces c.in-Some-sides_penalty.ensures.is c.in-Some-pieces_penalty.ensures.is
 
 pub returns-in_default : goal.returns-in_default
@@ -26,12 +26,12 @@ returns-in_default c = λ both. not_curved c.args.tol c.args.run.now.bends.now c
 
 pub returns-in_default-sides_penalty : goal.returns-in_default-sides_penalty
 returns-in_default-sides_penalty c = λ both.
-    c.in_default-sides_penalty.ensures (sides_within c.args.tol c.args.run.now.bends.now c.in-Some.cubic (ap (λ both. both.0) c.in-Some.ensures.given.is) c.args.limit both.0 both.1)
+    c.in_default-sides_penalty.ensures (sides_within c.args.tol c.args.run.now.bends.now c.of-stand_in.result.cubic (c.of-stand_in.ensures ∙ ap (λ both. both.0) c.in-Some.ensures.given.is) c.args.limit both.0 both.1)
 
 pub returns-in_default-pieces_penalty : goal.returns-in_default-pieces_penalty
 returns-in_default-pieces_penalty c = λ both.
     c.in_default-pieces_penalty.ensures
-    (pieces_within c.args.tol c.args.run.now.bends.now c.in-Some.cubic (ap (λ both. both.0) c.in-Some.ensures.given.is) c.sense.result c.sense.ensures
+    (pieces_within c.args.tol c.args.run.now.bends.now c.of-stand_in.result.cubic (c.of-stand_in.ensures ∙ ap (λ both. both.0) c.in-Some.ensures.given.is) c.sense.result c.sense.ensures
     c.in-Some-sides_penalty.sides c.args.limit c.in-Some-sides_penalty.ensures.is both.0 both.1)
 
 pub returns : goal.returns
@@ -54,17 +54,11 @@ slice_bounds-inner-length c = omega (arith, length-take (length c.args.run.now.b
 pub sides_penalty-requires-clause-tol : goal.sides_penalty-requires-clause-tol
 sides_penalty-requires-clause-tol c = c.requires.tol
 
-pub sides_penalty-requires-clause-cubic : goal.sides_penalty-requires-clause-cubic
-sides_penalty-requires-clause-cubic c = c.in-Some.ensures.near
-
 pub sides_penalty-requires-clause-few : goal.sides_penalty-requires-clause-few
 sides_penalty-requires-clause-few c = omega (arith, c.args.run.now.few, length-take (length c.args.run.now.bends.now - 1) c.args.run.now.bends.now)
 
 pub pieces_penalty-requires-clause-tol : goal.pieces_penalty-requires-clause-tol
 pieces_penalty-requires-clause-tol c = c.requires.tol
-
-pub pieces_penalty-requires-clause-cubic : goal.pieces_penalty-requires-clause-cubic
-pieces_penalty-requires-clause-cubic c = c.in-Some.ensures.near
 
 pub pieces_penalty-requires-clause-small : goal.pieces_penalty-requires-clause-small
 pieces_penalty-requires-clause-small c = c.args.run.now.small
@@ -74,3 +68,6 @@ pieces_penalty-requires-clause-few c = c.args.run.now.few
 
 pub overflow_add-result : goal.overflow_add-result
 overflow_add-result c = record { fits = omega (arith, penalty_is c, joined_small c.args.tol c.requires.tol c.args.run.now.bends.now (may c)) }
+
+pub of-stand_in-requires : goal.of-stand_in-requires
+of-stand_in-requires c = c.in-Some.ensures.near

@@ -19,9 +19,6 @@ bounds-bends-bend-index c = c.loop-bend-test.true
 pub piece_share-requires-clause-tol : goal.piece_share-requires-clause-tol
 piece_share-requires-clause-tol c = c.requires.tol
 
-pub piece_share-requires-clause-cubic : goal.piece_share-requires-clause-cubic
-piece_share-requires-clause-cubic c = c.requires.cubic
-
 pub piece_share-requires-clause-small : goal.piece_share-requires-clause-small
 piece_share-requires-clause-small c = c.requires.small _ _ c.loop-bend-test.true
 
@@ -37,7 +34,7 @@ loop-bend-preserved c = let so_far = c.loop-bend.invariant in
     let bends = c.args.bends.now in
     let here = c.loop-bend-test.true in
     let sense = c.args.sense in
-    let cubic = c.args.cubic.now in
+    let cubic = c.args.stand_in.now.cubic in
     let most = piece_most c.requires.tol c.in-Some.ensures in
     let most-2 = so_far.most in
     record {
@@ -54,14 +51,14 @@ pub returns-then-limit-total : goal.returns-then-limit-total
 returns-then-limit-total c = λ both.
     let i = c.loop-bend.bend-index in
     let bends = c.args.bends.now in
-    let share = piece_penalty c.args.sense c.args.cubic.now in
+    let share = piece_penalty c.args.sense c.args.stand_in.now.cubic in
     let so_far = sum_by_more share bends i no_bend c.loop-bend-test.true in
     omega (arith, both.1, c.loop-bend.invariant.total, c.in-Some.ensures.is, so_far, sum_by-take-le share bends (i + 1), c.if-limit-total.true)
 
 pub returns : goal.returns
 returns c =
     let bends = c.args.bends.now in
-    let total : c.loop-bend.total ≡ sum_by (piece_penalty c.args.sense c.args.cubic.now) bends = c.loop-bend.invariant.total ∙ ap (λ bends. sum_by (piece_penalty c.args.sense c.args.cubic.now) bends) (take_all c.loop-bend.bend-index bends c.loop-bend-test.false) in
+    let total : c.loop-bend.total ≡ sum_by (piece_penalty c.args.sense c.args.stand_in.now.cubic) bends = c.loop-bend.invariant.total ∙ ap (λ bends. sum_by (piece_penalty c.args.sense c.args.stand_in.now.cubic) bends) (take_all c.loop-bend.bend-index bends c.loop-bend-test.false) in
     record {
       holds = (
         λ k d within. c.loop-bend.invariant.each k d (omega arith) (omega (arith, within, c.loop-bend-test.false)),
