@@ -19,10 +19,15 @@ limit_of points = min (length points - 1) (MOST_STEPS + 2)
 abbrev pub last_of : List Point → ℕ
 last_of points = length points + limit_of points
 
--- the subpath of so many steps from a point of the first lap is shorter than a lap
+-- so many places of the two laps are looked up: all of the first one, and of the second one what a few steps more reach
+abbrev pub known_of : List Point → ℕ
+known_of points = length points + min (length points) (MOST_STEPS + 4)
+
+-- the subpath of so many steps from a point of the first lap is shorter than a lap, and has no more than matter
 pub record IsSubpath (points : List Point) (first steps : ℕ) : Type 0 where
   pub in_lap : first < length points
   pub short_of_lap : steps < length points
+  pub few : steps ≤ limit_of points
 
 -- the path from a point of the first lap goes straight on from its point number `steps` to number `next`
 pub record GoesStraightOn (points : List Point) (first steps next : ℕ) : Type 0 where

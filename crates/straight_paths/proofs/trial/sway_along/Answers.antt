@@ -20,7 +20,7 @@ run_to : (points : List Point) (first most steps next end : ℕ) → IsSubpath p
 run_to points first most steps next end subpath corner order within few =
     let short = subpath.short_of_lap in
     record {
-      subpath = record { in_lap = subpath.in_lap; short_of_lap = omega arith };
+      subpath = record { in_lap = subpath.in_lap; short_of_lap = omega arith; few = omega (arith, subpath.few) };
       order = order;
       run = path_run points first steps (next - steps) (end - steps) corner (omega arith);
     }

@@ -17,7 +17,7 @@ pub strip_from-requires-clause-subpath : goal.strip_from-requires-clause-subpath
 strip_from-requires-clause-subpath c =
     let most = c.earlier-tail.ensures.tail.at_most in
     let within = c.place-place.ensures.within in
-    record { in_lap = within; short_of_lap = omega arith }
+    record { in_lap = within; short_of_lap = omega arith; few = omega arith }
 
 pub returns : goal.returns
 returns c =
