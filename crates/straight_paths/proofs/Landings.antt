@@ -39,16 +39,17 @@ mirrored_stairs path most stairs are = record {
 
 -- ---- from one landing to the next
 
+-- a step of the path from a point is one of the closed path
+pub step_here : (points : List Point) (first k : ℕ) → step_from (path_from points first) k ≡ step_from (point_at points) (first + k)
+step_here points first k =
+    let e : k + first ≡ first + k = omega arith in
+    let f : suc k + first ≡ suc (k + first) = omega arith in
+    let P : ℕ → Type 0 = λ i. vector_of (point_at points (k + first)) (point_at points i) ≡ step_from (point_at points) (k + first) in
+    subst P (sym f) refl ∙ ap (step_from (point_at points)) e
+
 module _ (points : List Point) (first most : ℕ) (l : Landing) (on : IsLanding points first most l) where
   abbrev stairs : ℕ → Point
   stairs = stairs_at points first l
-
-  step_here : (k : ℕ) → step_from (path_from points first) k ≡ step_from (point_at points) (first + k)
-  step_here k =
-      let e : k + first ≡ first + k = omega arith in
-      let f : suc k + first ≡ suc (k + first) = omega arith in
-      let P : ℕ → Type 0 = λ i. vector_of (point_at points (k + first)) (point_at points i) ≡ step_from (point_at points) (k + first) in
-      subst P (sym f) refl ∙ ap (step_from (point_at points)) e
 
   pub run_right : (d : ℕ) → d ≤ l.next - l.steps → l.steps + d ≤ most → GoesRight stairs l.steps d
   run_right d a b t h =
@@ -71,7 +72,7 @@ module _ (points : List Point) (first most : ℕ) (l : Landing) (on : IsLanding 
             let same = (on.stairs.turns before l.next (omega arith) h).1 (run_right d (omega arith) (omega arith) (d - 1) (omega arith) ∙ sym e) in
             let a : first + l.steps + (d - 1) ≡ first + before = omega arith in
             let b : first + l.steps + d ≡ first + l.next = omega arith in
-            absurd (on.corner.turns (ap (step_from (point_at points)) a ∙ sym (step_here before) ∙ same ∙ step_here l.next ∙ ap (step_from (point_at points)) (sym b)))
+            absurd (on.corner.turns (ap (step_from (point_at points)) a ∙ sym (step_here points first before) ∙ same ∙ step_here points first l.next ∙ ap (step_from (point_at points)) (sym b)))
         | inr up ↦ up
       ]
 
@@ -93,10 +94,10 @@ module _ (points : List Point) (first most : ℕ) (l : Landing) (on : IsLanding 
 
 -- ---- at the path's start
 
-no_truth : IsTrue false → ⊥
+pub no_truth : IsTrue false → ⊥
 no_truth h = search rules
 
-first_step : (points : List Point) (first : ℕ) (step : Vector) → step ≡ vector_of (point_at points first) (point_at points (first + 1))
+pub first_step : (points : List Point) (first : ℕ) (step : Vector) → step ≡ vector_of (point_at points first) (point_at points (first + 1))
     → step_from (path_from points first) 0 ≡ step
 first_step points first step is =
     let e : first ≡ 0 + first = omega arith in
@@ -152,7 +153,7 @@ module _ (points : List Point) (first most : ℕ) (q : Quarter) (signs : IsQuart
 
 -- ---- back to the path
 
-way_seen : (q : Quarter) (path : ℕ → Point) (k : ℕ) → way_along (stairs_of q path) k ≡ mirrored q (way_along path k)
+pub way_seen : (q : Quarter) (path : ℕ → Point) (k : ℕ) → way_along (stairs_of q path) k ≡ mirrored q (way_along path k)
 way_seen q path k =
     let x = part_start q.right (path 0).x in
     let y = part_start q.up (path 0).y in

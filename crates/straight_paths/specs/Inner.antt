@@ -10,6 +10,7 @@ pub mod Slopes
 pub mod Stairs
 pub mod Strips
 pub mod Sweeps
+pub mod Swings
 pub mod Tables
 pub mod Tails
 pub mod Wedges

@@ -4,8 +4,9 @@ ghost use Rattle.straight_paths.specs.Inner.Cones.{IsShort, IsSound};
 ghost use Rattle.straight_paths.specs.Inner.Slopes.{AreSmallSlopes};
 ghost use Rattle.straight_paths.specs.Straight.{path_from};
 ghost use Rattle.pt_core.specs.declared.point.Point.{Point};
-ghost use Rattle.straight_paths.specs.Inner.Tails.{GoesStraightOn, IsSubpath};
+ghost use Rattle.straight_paths.specs.Inner.Tails.{IsSubpath};
 ghost use Rattle.straight_paths.specs.Inner.Strips.{AreUpTo, HoldsPath, IsSway};
+ghost use Rattle.straight_paths.specs.Inner.Swings.{SwaysOn};
 ghost use Rattle.straight_paths.specs.Inner.Wedges.{IsQuarter};
 ghost use Rattle.straight_paths.specs.declared.vector.Vector.{Vector};
 
@@ -13,6 +14,7 @@ use crate::cone::Cone;
 use crate::quarter::Quarter;
 use crate::slopes::Slopes;
 use crate::strip::{Extent, Span, Strip};
+use crate::swing::sway_along;
 use crate::track::Track;
 use crate::vector::Vector;
 
@@ -49,7 +51,7 @@ pub(crate) struct Sway {
 
 impl Sway {
     /// At the path's start alone.
-    fn at_start() -> Sway
+    pub(crate) fn at_start() -> Sway
         ensures { (way : Vector) (path : ℕ → Point) → IsSway way path 0 result }
     {
         Sway {
@@ -58,15 +60,11 @@ impl Sway {
         }
     }
 
-    /// The same of more steps, where the path goes straight on.
+    /// The sway with a straight run that ends so far across the way, after this number of steps.
     #[inline(always)]
-    fn on(self, track: &Track, first: usize, way: Vector, steps: usize, next: usize) -> Sway
-        requires run { GoesStraightOn track.now first steps next }
-        requires short { IsShort 65535 way }
-        requires sway { IsSway way (path_from track.now first) steps self }
-        ensures { IsSway way (path_from track.now first) next result }
+    pub(crate) fn on(self, across: i64, next: usize) -> Sway
+        ensures { SwaysOn self across next result }
     {
-        let across = way.cross(track.way(first, next));
         Sway {
             span: self.span.with(across),
             ends: self.ends.with(self.span, across, next),
@@ -196,10 +194,10 @@ fn strip_along(track: &Track, first: usize, most: usize, way: Vector) -> StripTr
 {
     let quarter = Quarter::of(way);
     let onward = quarter.turned(track.way(first, most));
-    if onward.x + onward.y != most as i64 {
+    if most == 0 || onward.x + onward.y != most as i64 {
         return strip_by_extent(track, first, most, way);
     }
-    let sway = sway_along(track, first, most, way);
+    let sway = sway_along(track, first, most, quarter, way);
     let extent = Extent {
         across: sway.span,
         right: Span::up_to(onward.x),
@@ -209,26 +207,6 @@ fn strip_along(track: &Track, first: usize, most: usize, way: Vector) -> StripTr
         strip: extent.strip(quarter, way),
         ends: sway.ends,
     }
-}
-
-/// How far the path from this point goes to each side of a way, in so many steps.
-//
-// Corners are asked for up to the last one before the end, so that no run in the loop has to be cut off there.
-fn sway_along(track: &Track, first: usize, most: usize, way: Vector) -> Sway
-    requires subpath { IsSubpath track.now first most }
-    requires short { IsShort 65535 way }
-    ensures { IsSway way (path_from track.now first) most result }
-{
-    let in_lap = most <= track.size() - first;
-    let mut sway = Sway::at_start();
-    let mut steps = 0;
-    let mut next = track.corner_within(first, 0, in_lap);
-    while next < most {
-        sway = sway.on(track, first, way, steps, next);
-        steps = next;
-        next = track.corner_within(first, steps, in_lap);
-    }
-    sway.on(track, first, way, steps, most)
 }
 
 /// The same strip, where the path may go back.

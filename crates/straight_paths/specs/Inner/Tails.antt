@@ -3,7 +3,6 @@ use Rattle.std.specs.Prelude.{◌≡◌, ◌≢◌, ◌⊎◌, ℕ, ◌+◌, ◌
 use Rattle.pt_core.specs.declared.point.Point.{Point}
 use Rattle.straight_paths.specs.Straight.{vector_of, Takes, IsStraight, path_from, east, north, west, south}
 use Rattle.straight_paths.specs.Inner.Cones.{IsClear}
-use Rattle.straight_paths.specs.Inner.Corners.{GoesStraight}
 use Rattle.straight_paths.specs.declared.vector.Vector.{Vector}
 use Rattle.straight_paths.specs.declared.quarter.Quarter.{Quarter}
 use Rattle.straight_paths.specs.declared.tail.Ahead.{Ahead}
@@ -28,12 +27,6 @@ pub record IsSubpath (points : List Point) (first steps : ℕ) : Type 0 where
   pub in_lap : first < length points
   pub short_of_lap : steps < length points
   pub few : steps ≤ limit_of points
-
--- the path from a point of the first lap goes straight on from its point number `steps` to number `next`
-pub record GoesStraightOn (points : List Point) (first steps next : ℕ) : Type 0 where
-  pub subpath : IsSubpath points first next
-  pub order : steps ≤ next
-  pub run : GoesStraight (path_from points first) steps (next - steps)
 
 -- an index of the two laps, and its place in one lap
 abbrev pub IsAtPlace : List Point → ℕ → ℕ → Type 0
