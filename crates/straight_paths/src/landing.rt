@@ -77,7 +77,21 @@ fn last_landing(track: &Track, first: usize, most: usize, start: Landing) -> Lan
     ensures landing { IsLanding track.now first most result }
     ensures last { IsLastLanding most result }
 {
-    let in_lap = most <= track.size() - first;
+    if most <= track.size() - first {
+        return landing_within(track, first, most, true, start);
+    }
+    landing_within(track, first, most, false, start)
+}
+
+/// The same, where it is told whether all points are known to be in the first lap.
+#[inline(always)]
+fn landing_within(track: &Track, first: usize, most: usize, in_lap: bool, start: Landing) -> Landing
+    requires subpath { IsSubpath track.now first most }
+    requires in_lap { IsTrue in_lap → first + most ≤ length track.now }
+    requires landing { IsLanding track.now first most start }
+    ensures landing { IsLanding track.now first most result }
+    ensures last { IsLastLanding most result }
+{
     let mut landing = start;
     while landing.next < most {
         let Some(corner) = landing.run_on(track, first, most, in_lap) else {

@@ -114,7 +114,22 @@ fn last_swing(track: &Track, first: usize, most: usize, start: Swing) -> Swing
     ensures way { result.way ≡ start.way }
     ensures last { most ≤ result.next }
 {
-    let in_lap = most <= track.size() - first;
+    if most <= track.size() - first {
+        return swing_within(track, first, most, true, start);
+    }
+    swing_within(track, first, most, false, start)
+}
+
+/// The same, where it is told whether all points are known to be in the first lap.
+#[inline(always)]
+fn swing_within(track: &Track, first: usize, most: usize, in_lap: bool, start: Swing) -> Swing
+    requires subpath { IsSubpath track.now first most }
+    requires in_lap { IsTrue in_lap → first + most ≤ length track.now }
+    requires swing { IsSwing track.now first most start }
+    ensures swing { IsSwing track.now first most result }
+    ensures way { result.way ≡ start.way }
+    ensures last { most ≤ result.next }
+{
     let mut swing = start;
     while swing.next < most {
         let corner = swing.run_on(track, first, most, in_lap);

@@ -1,6 +1,6 @@
 use Rattle.std.proofs.Common.{◌≡◌, ◌-◌}
 use Rattle.straight_paths.specs.Inner.Swings.{IsSwing}
-use Rattle.straight_paths.proofs.swing.last_swing.Given as goal
+use Rattle.straight_paths.proofs.swing.swing_within.Given as goal
 
 -- a corner before the end
 abbrev pub invariant-loop-swing : goal.invariant-loop-swing

@@ -1,6 +1,6 @@
 use Rattle.std.proofs.Common.{◌-◌}
 use Rattle.straight_paths.specs.Inner.Stairs.{IsLanding}
-use Rattle.straight_paths.proofs.landing.last_landing.Given as goal
+use Rattle.straight_paths.proofs.landing.landing_within.Given as goal
 
 -- a landing before the end
 abbrev pub invariant-loop-landing : goal.invariant-loop-landing
