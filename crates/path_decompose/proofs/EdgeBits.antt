@@ -1,7 +1,7 @@
 -- One bit of the words of edges after a write.
 use Rattle.std.proofs.Common.{◌≡◌, ℕ, zero, suc, ◌+◌, ◌-◌, ◌*◌, ◌/◌, ◌%◌, ◌^◌, ◌<◌, ◌≤◌, Bool, true, false, cond, ◌&&◌, ◌||◌, nat_eq, nat_lt, List, [], ◌∷◌, length, get_or, set, w64, refl, ap, sym, ◌∙◌, inl, inr, arith}
 use Rattle.std.specs.Int.RustNames.{bit_and, bit_or, bit_xor}
-use Rattle.std.proofs.lemmas.Bool.{cases_lt, cases_eq, cases_order, cond-true, cond-false, eq-eqb, ne_eqb, eqb-true, and_from, and_parts, and_left, lt-ltb, cases_Bool, false≢true}
+use Rattle.std.proofs.lemmas.Bool.{cases_lt, cases_eq, cases_order, cond-true, cond-false, eq-eqb, ne_eqb, eqb-true, and_from, and_parts, and_left, lt-ltb, cases_Bool}
 use Rattle.std.proofs.lemmas.Bool.Decides.{nat_tests}
 use Rattle.std.specs.Int.{trailing_zeros}
 use Rattle.std.proofs.lemmas.Nat.{row_fits, mul-le, and_le_l}
@@ -109,13 +109,6 @@ is_one-bit k i p = elim (cases_order i k) [
       is_one-shl 1 k i p (omega arith) ∙ no_bit 1 1 (i - k) (omega arith) (omega arith) ∙ sym (ne_eqb k i (λ e. omega arith))
 ]
 
--- the lowest 1 of a word
-lowest_one : (word : ℕ) → 0 < word → word < 2 ^ 64 → (trailing_zeros w64 word < 64) × (is_one word (trailing_zeros w64 word) ≡ true)
-unfolding is_one
-lowest_one word some fits =
-    let lowest = bit_at-trailing_zeros w64 word some fits in
-    (lowest.0, ap (λ n. nat_eq n 1) lowest.1)
-
 same_column : (x u : ℕ) → x / 64 ≡ u / 64 → nat_eq (x % 64) (u % 64) ≡ nat_eq x u
 same_column x u e = elim (cases_eq x u) [
   | inl same ↦ eq-eqb (x % 64) (u % 64) (ap (λ n. n % 64) same) ∙ sym (eq-eqb x u same)
@@ -169,44 +162,6 @@ has_edge-flip rows words kind x y at bit low p place inside one k u v q =
     here true false true e h = refl
     here true b false e h = cc
     here false b c e h = cc
-
--- the only 1 of a word moves by one place, where it doesn't leave the word
-pub bit_right : (bit x : ℕ) → 0 < bit * 2 ^ 1 % 2 ^ 64 → ((i : ℕ) → i < 64 → is_one bit i ≡ nat_eq (x % 64) i)
-    → ((x + 1) / 64 ≡ x / 64) × ((i : ℕ) → i < 64 → is_one (bit * 2 ^ 1 % 2 ^ 64) i ≡ nat_eq ((x + 1) % 64) i)
-bit_right bit x some one =
-    let t : ℕ = trailing_zeros w64 (bit * 2 ^ 1 % 2 ^ 64) in
-    let lowest = lowest_one (bit * 2 ^ 1 % 2 ^ 64) some (omega arith) in
-    let above : 1 ≤ t = elim (cases_lt t 1) [ inl low ↦ absurd (false≢true (sym (is_one-shl_below bit 1 t lowest.0 low) ∙ lowest.1)) | inr up ↦ up ] in
-    let at : x % 64 ≡ t - 1 = eqb-true (x % 64) (t - 1) (sym (one (t - 1) (omega (arith, lowest.0))) ∙ sym (is_one-shl bit 1 t lowest.0 above) ∙ lowest.1) in
-    let next : (x + 1) % 64 ≡ x % 64 + 1 = omega (arith, lowest.0, above, at) in (
-      omega (arith, next),
-      λ i short. elim (cases_lt i 1) [
-        | inl low ↦ is_one-shl_below bit 1 i short low ∙ sym (ne_eqb ((x + 1) % 64) i (λ e. omega (arith, next, e, low)))
-        | inr up ↦ is_one-shl bit 1 i short up ∙ one (i - 1) (omega arith) ∙ same_after (x % 64) ((x + 1) % 64) i next up
-      ],
-    )
-  where
-    same_after : (a b i : ℕ) → b ≡ a + 1 → 1 ≤ i → nat_eq a (i - 1) ≡ nat_eq b i
-    same_after a b i next up = grind (arith, nat_tests)
-
-pub bit_left : (bit x : ℕ) → 0 < bit / 2 ^ 1 → bit < 2 ^ 64 → ((i : ℕ) → i < 64 → is_one bit i ≡ nat_eq (x % 64) i)
-    → ((x - 1) / 64 ≡ x / 64) × ((i : ℕ) → i < 64 → is_one (bit / 2 ^ 1) i ≡ nat_eq ((x - 1) % 64) i)
-bit_left bit x some fits one =
-    let t : ℕ = trailing_zeros w64 (bit / 2 ^ 1) in
-    let lowest = lowest_one (bit / 2 ^ 1) some (omega arith) in
-    let here : is_one bit (1 + t) ≡ true = sym (is_one-shr bit 1 t) ∙ lowest.1 in
-    let inside : 1 + t < 64 = elim (cases_lt (1 + t) 64) [ inl low ↦ low | inr up ↦ absurd (false≢true (sym (no_bit bit 64 (1 + t) fits up) ∙ here)) ] in
-    let at : x % 64 ≡ 1 + t = eqb-true (x % 64) (1 + t) (sym (one (1 + t) inside) ∙ here) in
-    let next : x % 64 ≡ (x - 1) % 64 + 1 = omega (arith, at, inside) in (
-      omega (arith, at),
-      λ i short. elim (cases_lt (1 + i) 64) [
-        | inl low ↦ is_one-shr bit 1 i ∙ one (1 + i) low ∙ same_before (x % 64) ((x - 1) % 64) i next
-        | inr up ↦ is_one-shr bit 1 i ∙ no_bit bit 64 (1 + i) fits up ∙ sym (ne_eqb ((x - 1) % 64) i (λ e. omega (arith, next, e, up)))
-      ],
-    )
-  where
-    same_before : (a b i : ℕ) → a ≡ b + 1 → nat_eq a (1 + i) ≡ nat_eq b i
-    same_before a b i next = grind (arith, nat_tests)
 
 pub or_false : (b : Bool) → b || false ≡ b
 or_false true = refl

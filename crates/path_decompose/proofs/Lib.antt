@@ -28,6 +28,7 @@ pub mod Noted
 pub mod Runs
 pub mod EdgeBits
 pub mod LineSpots
+pub mod Straight
 pub mod Taken
 pub mod EightPixels
 pub mod Bounded

@@ -1,65 +1,76 @@
--- Where the edge along a line between two corners stands, and the lines between a path's corners.
-use Rattle.std.proofs.Common.{◌≡◌, ◌≢◌, ℕ, suc, ◌+◌, ◌/◌, ◌%◌, ◌^◌, ◌<◌, ◌≤◌, ℤ, pos, ◌≤ℤ◌, nat_abs, true, false, ◌⊎◌, cond, min, max, nat_eq, List, All, length, get_or, w32, to_z, of_z, refl, ap, sym, subst, ◌∙◌, inl, inr, arith}
-use Rattle.std.specs.Int.Signed.{lt_z}
+-- Where the edges of a corner stand beside those of the next one, and which of them lies along the line between the two.
+use Rattle.std.proofs.Common.{◌≡◌, ◌≢◌, ℕ, suc, ◌+◌, ◌-◌, ◌*◌, ◌/◌, ◌%◌, ◌^◌, ◌<◌, ◌≤◌, ℤ, pos, ◌≤ℤ◌, nat_abs, true, false, ◌⊎◌, cond, min, max, nat_eq, List, All, length, get_or, w32, w64, to_z, of_z, refl, ap, sym, subst, ◌∙◌, inl, inr, arith}
+use Rattle.std.specs.Int.{trailing_zeros}
+use Rattle.std.proofs.lemmas.Nat.Bits.{bit_at-trailing_zeros}
+use Rattle.std.proofs.lemmas.Bool.Decides.{nat_tests}
+use Rattle.bit_image.specs.Words.{is_one}
+use Rattle.bit_image.proofs.Turned.{is_one-shr, is_one-shl, is_one-shl_below}
 use Rattle.std.proofs.Math.Nat.{mod-eq_of_lt, mod_self}
 use Rattle.std.proofs.lemmas.Int.{ints}
-use Rattle.std.proofs.lemmas.Bool.{eq-eqb, ne_eqb, false≢true}
+use Rattle.std.proofs.lemmas.Bool.{cases_lt, eq-eqb, eqb-true, ne_eqb, false≢true}
 use Rattle.pt_core.specs.ClosedWalk.{origin, IsUnitStep, IsClosedWalk}
 use Rattle.pt_core.specs.declared.point.Point.{Point}
 use Rattle.path_decompose.specs.declared.strips.Spot.{Spot}
 use Rattle.path_decompose.specs.GridEdges.{upright, level}
 use Rattle.path_decompose.specs.Inside.{line_at, line_between}
 use Rattle.path_decompose.specs.Inner.BoundaryBits.{word_place, same_edge, is_along, FitsStrips, IsSpot}
-use Rattle.path_decompose.proofs.EdgeBits.{place_inside}
+use Rattle.path_decompose.proofs.EdgeBits.{no_bit, place_inside}
 use Rattle.path_decompose.proofs.Rows.{next_natural}
 
-less_abs : (a b : ℤ) → pos 0 ≤ℤ a → pos 0 ≤ℤ b → lt_z a b ≡ true → nat_abs a < nat_abs b
-less_abs a b low_a low_b less = omega (arith, ints)
+-- the lowest 1 of a word
+lowest_one : (word : ℕ) → 0 < word → word < 2 ^ 64 → (trailing_zeros w64 word < 64) × (is_one word (trailing_zeros w64 word) ≡ true)
+unfolding is_one
+lowest_one word some fits =
+    let lowest = bit_at-trailing_zeros w64 word some fits in
+    (lowest.0, ap (λ n. nat_eq n 1) lowest.1)
 
-least_abs : (a b : ℤ) → pos 0 ≤ℤ a → pos 0 ≤ℤ b → lt_z a b ≡ false → nat_abs b ≤ nat_abs a
-least_abs a b low_a low_b least = omega (arith, ints)
+-- the only 1 of a word moves by one place, where it doesn't leave the word
+pub bit_right : (bit x : ℕ) → 0 < bit * 2 ^ 1 % 2 ^ 64 → ((i : ℕ) → i < 64 → is_one bit i ≡ nat_eq (x % 64) i)
+    → ((x + 1) / 64 ≡ x / 64) × ((i : ℕ) → i < 64 → is_one (bit * 2 ^ 1 % 2 ^ 64) i ≡ nat_eq ((x + 1) % 64) i)
+bit_right bit x some one =
+    let t : ℕ = trailing_zeros w64 (bit * 2 ^ 1 % 2 ^ 64) in
+    let lowest = lowest_one (bit * 2 ^ 1 % 2 ^ 64) some (omega arith) in
+    let above : 1 ≤ t = elim (cases_lt t 1) [ inl low ↦ absurd (false≢true (sym (is_one-shl_below bit 1 t lowest.0 low) ∙ lowest.1)) | inr up ↦ up ] in
+    let at : x % 64 ≡ t - 1 = eqb-true (x % 64) (t - 1) (sym (one (t - 1) (omega (arith, lowest.0))) ∙ sym (is_one-shl bit 1 t lowest.0 above) ∙ lowest.1) in
+    let next : (x + 1) % 64 ≡ x % 64 + 1 = omega (arith, lowest.0, above, at) in (
+      omega (arith, next),
+      λ i short. elim (cases_lt i 1) [
+        | inl low ↦ is_one-shl_below bit 1 i short low ∙ sym (ne_eqb ((x + 1) % 64) i (λ e. omega (arith, next, e, low)))
+        | inr up ↦ is_one-shl bit 1 i short up ∙ one (i - 1) (omega arith) ∙ same_after (x % 64) ((x + 1) % 64) i next up
+      ],
+    )
+  where
+    same_after : (a b i : ℕ) → b ≡ a + 1 → 1 ≤ i → nat_eq a (i - 1) ≡ nat_eq b i
+    same_after a b i next up = grind (arith, nat_tests)
+
+pub bit_left : (bit x : ℕ) → 0 < bit / 2 ^ 1 → bit < 2 ^ 64 → ((i : ℕ) → i < 64 → is_one bit i ≡ nat_eq (x % 64) i)
+    → ((x - 1) / 64 ≡ x / 64) × ((i : ℕ) → i < 64 → is_one (bit / 2 ^ 1) i ≡ nat_eq ((x - 1) % 64) i)
+bit_left bit x some fits one =
+    let t : ℕ = trailing_zeros w64 (bit / 2 ^ 1) in
+    let lowest = lowest_one (bit / 2 ^ 1) some (omega arith) in
+    let here : is_one bit (1 + t) ≡ true = sym (is_one-shr bit 1 t) ∙ lowest.1 in
+    let inside : 1 + t < 64 = elim (cases_lt (1 + t) 64) [ inl low ↦ low | inr up ↦ absurd (false≢true (sym (no_bit bit 64 (1 + t) fits up) ∙ here)) ] in
+    let at : x % 64 ≡ 1 + t = eqb-true (x % 64) (1 + t) (sym (one (1 + t) inside) ∙ here) in
+    let next : x % 64 ≡ (x - 1) % 64 + 1 = omega (arith, at, inside) in (
+      omega (arith, at),
+      λ i short. elim (cases_lt (1 + i) 64) [
+        | inl low ↦ is_one-shr bit 1 i ∙ one (1 + i) low ∙ same_before (x % 64) ((x - 1) % 64) i next
+        | inr up ↦ is_one-shr bit 1 i ∙ no_bit bit 64 (1 + i) fits up ∙ sym (ne_eqb ((x - 1) % 64) i (λ e. omega (arith, next, e, up)))
+      ],
+    )
+  where
+    same_before : (a b i : ℕ) → a ≡ b + 1 → nat_eq a (1 + i) ≡ nat_eq b i
+    same_before a b i next = grind (arith, nat_tests)
 
 -- a coordinate is passed as it is
 pub word_back : (z : ℤ) → pos 0 ≤ℤ z → nat_abs z + 3 < 2 ^ 16 → to_z w32 (of_z w32 z) ≡ z
 word_back z low high = omega (arith, ints)
-
--- and so are two that are compared
-pub less_back : (a b : ℤ) → pos 0 ≤ℤ a → nat_abs a + 3 < 2 ^ 16 → pos 0 ≤ℤ b → nat_abs b + 3 < 2 ^ 16 → lt_z (to_z w32 (of_z w32 a)) (to_z w32 (of_z w32 b)) ≡ true → nat_abs a < nat_abs b
-less_back a b low_a high_a low_b high_b less = less_abs a b low_a low_b (rw (word_back a low_a high_a, word_back b low_b high_b) at less)
-
-pub least_back : (a b : ℤ) → pos 0 ≤ℤ a → nat_abs a + 3 < 2 ^ 16 → pos 0 ≤ℤ b → nat_abs b + 3 < 2 ^ 16 → lt_z (to_z w32 (of_z w32 a)) (to_z w32 (of_z w32 b)) ≡ false → nat_abs b ≤ nat_abs a
-least_back a b low_a high_a low_b high_b least = least_abs a b low_a low_b (rw (word_back a low_a high_a, word_back b low_b high_b) at least)
 
 -- the line goes on up or down, or along the row
 pub unit_parts : (rows size : ℕ) (p q : Point) → FitsStrips rows size p → FitsStrips rows size q → IsUnitStep p q
     → ((nat_abs p.x ≡ nat_abs q.x) × ((nat_abs p.y ≡ suc (nat_abs q.y)) ⊎ (nat_abs q.y ≡ suc (nat_abs p.y)))) ⊎ ((nat_abs p.y ≡ nat_abs q.y) × ((nat_abs p.x ≡ suc (nat_abs q.x)) ⊎ (nat_abs q.x ≡ suc (nat_abs p.x))))
 unit_parts rows size p q hp hq (inl along) = inr (ap nat_abs along.0, next_natural p.x q.x hp.right hq.right along.1)
 unit_parts rows size p q hp hq (inr up) = inl (ap nat_abs up.0, next_natural p.y q.y hp.above hq.above up.1)
-
-pub step_up : (rows size : ℕ) (p q : Point) → FitsStrips rows size p → FitsStrips rows size q → IsUnitStep p q → nat_abs p.y < nat_abs q.y → (nat_abs p.x ≡ nat_abs q.x) × (nat_abs q.y ≡ nat_abs p.y + 1)
-step_up rows size p q hp hq step rises = elim (unit_parts rows size p q hp hq step) [
-  | inr along ↦ absurd (omega (arith, along.0, rises))
-  | inl up ↦ (up.0, elim up.1 [ inl down ↦ absurd (omega (arith, down, rises)) | inr rise ↦ omega (arith, rise) ])
-]
-
-pub step_down : (rows size : ℕ) (p q : Point) → FitsStrips rows size p → FitsStrips rows size q → IsUnitStep p q → nat_abs q.y < nat_abs p.y → (nat_abs p.x ≡ nat_abs q.x) × (nat_abs p.y ≡ nat_abs q.y + 1)
-step_down rows size p q hp hq step falls = elim (unit_parts rows size p q hp hq step) [
-  | inr along ↦ absurd (omega (arith, along.0, falls))
-  | inl up ↦ (up.0, elim up.1 [ inl down ↦ omega (arith, down) | inr rise ↦ absurd (omega (arith, rise, falls)) ])
-]
-
-pub step_right : (rows size : ℕ) (p q : Point) → FitsStrips rows size p → FitsStrips rows size q → IsUnitStep p q → nat_abs p.x < nat_abs q.x → (nat_abs p.y ≡ nat_abs q.y) × (nat_abs q.x ≡ nat_abs p.x + 1)
-step_right rows size p q hp hq step grows = elim (unit_parts rows size p q hp hq step) [
-  | inl up ↦ absurd (omega (arith, up.0, grows))
-  | inr along ↦ (along.0, elim along.1 [ inl left ↦ absurd (omega (arith, left, grows)) | inr right ↦ omega (arith, right) ])
-]
-
--- a line that goes neither up nor down nor to the right goes to the left
-pub step_left : (rows size : ℕ) (p q : Point) → FitsStrips rows size p → FitsStrips rows size q → IsUnitStep p q → nat_abs p.y ≡ nat_abs q.y → nat_abs q.x ≤ nat_abs p.x → nat_abs p.x ≡ nat_abs q.x + 1
-step_left rows size p q hp hq step row least = elim (unit_parts rows size p q hp hq step) [
-  | inl up ↦ absurd (elim up.1 [ inl down ↦ omega (arith, down, row) | inr rise ↦ omega (arith, rise, row) ])
-  | inr along ↦ elim along.1 [ inl left ↦ omega (arith, left) | inr right ↦ absurd (omega (arith, right, least)) ]
-]
 
 pub spot_same : (rows x y u v : ℕ) (spot : Spot) → IsSpot rows x y spot → x ≡ u → y ≡ v → IsSpot rows u v spot
 spot_same rows x y u v spot is column row = subst (λ n. IsSpot rows u n spot) row (subst (λ n. IsSpot rows n y spot) column is)

@@ -5,3 +5,4 @@ pub mod Decomposition
 pub mod GridEdges
 pub mod Start
 pub mod Trail
+pub mod Flipped

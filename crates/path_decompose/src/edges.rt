@@ -10,6 +10,7 @@ ghost use Rattle.path_decompose.specs.Decomposition.{inverted};
 ghost use Rattle.path_decompose.specs.Inside.{line_between, lines_of, is_odd};
 ghost use Rattle.pt_core.specs.ClosedWalk.{IsUnitStep, IsClosedWalk};
 
+use crate::flipping::flip_path;
 use crate::square::relative_square;
 use crate::strips::{
     self, DOWN, LEFT, Spot, flip, spot_above, spot_at, spot_below, spot_left, spot_right,
@@ -20,7 +21,7 @@ use std::alloc::Global;
 use std::marker::Model;
 
 /// How many columns and rows without edges lie before those of a page's first corners.
-const MARGIN: u32 = 3;
+pub(crate) const MARGIN: u32 = 3;
 
 /// How many rows of corners the strips have beside the page's rows.
 const ROWS_BESIDE: usize = 8;
@@ -172,63 +173,6 @@ impl Edges {
             → image_of self.new u v ≡ inverted (image_of self.old) points.now u v }
     {
         flip_path(&mut self.words, self.rows, points);
-    }
-}
-
-/// Flips the edges along the lines of a closed walk.
-//
-// It isn't inlined, so that its loop has the registers to itself. Each corner is read again as the one before the next:
-// that is cheaper than to hold it.
-#[inline(never)]
-fn flip_path(words: &mut [u64], rows: usize, points: &[Point])
-    requires rows { rows < 2 ^ 16 }
-    requires closed { IsClosedWalk points.now }
-    requires room { All (FitsStrips rows (length words.old)) points.now }
-    ensures length { length words.new ≡ length words.old }
-    ensures edges { (k u v : ℕ) → k < 2 → has_edge rows words.new k u v
-        ≡ differ (has_edge rows words.old k u v) (is_odd (count_by (is_along k u v) (lines_of points.now))) }
-{
-    let first = points[0];
-    let mut spot = spot_at(rows, first.x as u32 + MARGIN, first.y as u32 + MARGIN);
-    'corners: for i in 1..points.len() {
-        spot = flip_line(words, rows, spot, points[i - 1], points[i]);
-    }
-    flip_line(words, rows, spot, points[points.len() - 1], first);
-}
-
-/// Flips the edge along the line between two corners one step apart, and tells where the second one's stand.
-//
-// A line up or down is the edge that goes down from its upper corner, and one along a row the edge that goes left from
-// its right corner.
-#[inline(always)]
-fn flip_line(words: &mut [u64], rows: usize, spot: Spot, from: Point, to: Point) -> Spot
-    requires rows { rows < 2 ^ 16 }
-    requires spot { IsSpot rows (nat_abs from.x + MARGIN) (nat_abs from.y + MARGIN) spot }
-    requires from { FitsStrips rows (length words.old) from }
-    requires to { FitsStrips rows (length words.old) to }
-    requires step { IsUnitStep from to }
-    ensures length { length words.new ≡ length words.old }
-    ensures edges { (k u v : ℕ) → k < 2 → has_edge rows words.new k u v
-        ≡ differ (has_edge rows words.old k u v) (is_along k u v (line_between from to)) }
-    ensures spot { IsSpot rows (nat_abs to.x + MARGIN) (nat_abs to.y + MARGIN) result }
-{
-    if to.y > from.y {
-        let end = spot_above(spot);
-        flip(words, end, DOWN);
-        return end;
-    }
-    if to.y < from.y {
-        flip(words, spot, DOWN);
-        return spot_below(spot);
-    }
-    let (x, y) = (from.x as u32 + MARGIN, from.y as u32 + MARGIN);
-    if to.x > from.x {
-        let end = spot_right(spot, rows, x, y);
-        flip(words, end, LEFT);
-        end
-    } else {
-        flip(words, spot, LEFT);
-        spot_left(spot, rows, x, y)
     }
 }
 

@@ -20,6 +20,7 @@
 mod corner;
 pub mod decomposition;
 mod edges;
+mod flipping;
 pub mod interior;
 pub mod laws;
 pub mod line;

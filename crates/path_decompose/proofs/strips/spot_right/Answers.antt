@@ -1,5 +1,5 @@
 use Rattle.std.proofs.Common.{◌+◌, ◌*◌, ap, sym, ◌∙◌, arith}
-use Rattle.path_decompose.proofs.EdgeBits.{bit_right}
+use Rattle.path_decompose.proofs.LineSpots.{bit_right}
 use Rattle.path_decompose.proofs.strips.spot_right.Goals as goal
 
 pub returns-then-bit-ne0 : goal.returns-then-bit-ne0

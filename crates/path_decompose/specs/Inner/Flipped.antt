@@ -1,0 +1,44 @@
+-- What is flipped of the edges along a closed walk's lines, corner by corner.
+use Rattle.std.specs.Prelude.{◌≡◌, ◌^◌, nat_abs, ℕ, ◌+◌, ◌<◌, List, All, length, drop, slice_index_or, count_by}
+use Rattle.pt_core.specs.ClosedWalk.{origin, IsClosedWalk}
+use Rattle.pt_core.specs.declared.point.Point.{Point}
+use Rattle.bit_image.specs.Image.{differ}
+use Rattle.turn_policies.specs.declared.heading.Dir.{Dir}
+use Rattle.turn_policies.specs.declared.heading.Dir.TheVariants.{North, East, South, West}
+use Rattle.path_decompose.specs.declared.edges.TheConstants.{MARGIN}
+use Rattle.path_decompose.specs.declared.strips.Spot.{Spot}
+use Rattle.path_decompose.specs.GridEdges.{GridEdge}
+use Rattle.path_decompose.specs.Inside.{lines_to, is_odd}
+use Rattle.path_decompose.specs.Inner.BoundaryBits.{has_edge, is_along, FitsStrips, IsSpot}
+
+-- where the edges of the corner at a point stand
+abbrev pub IsSpotOf : ℕ → Point → Spot → Type 0
+IsSpotOf rows p spot = IsSpot rows (nat_abs p.x + MARGIN) (nat_abs p.y + MARGIN) spot
+
+-- a step with this heading leads from one point to the other
+abbrev pub IsTowards : Dir → Point → Point → Type 0
+IsTowards North p q = (nat_abs p.x ≡ nat_abs q.x) × (nat_abs q.y ≡ nat_abs p.y + 1)
+IsTowards East p q = (nat_abs p.y ≡ nat_abs q.y) × (nat_abs q.x ≡ nat_abs p.x + 1)
+IsTowards South p q = (nat_abs p.x ≡ nat_abs q.x) × (nat_abs p.y ≡ nat_abs q.y + 1)
+IsTowards West p q = (nat_abs p.y ≡ nat_abs q.y) × (nat_abs p.x ≡ nat_abs q.x + 1)
+
+-- words of this number, in strips of so many rows, have room for the edges of a closed walk's corners
+pub record AreWordsFor (points : List Point) (rows size : ℕ) : Type 0 where
+  pub few : rows < 2 ^ 16
+  pub closed : IsClosedWalk points
+  pub room : All (FitsStrips rows size) points
+
+-- corner i of a walk
+abbrev pub corner_of : List Point → ℕ → Point
+corner_of points i = slice_index_or points i origin
+
+-- the lines of a closed walk from its corner i on
+abbrev pub lines_from : List Point → ℕ → List GridEdge
+lines_from points i = lines_to (corner_of points 0) (corner_of points i) (drop (i + 1) points)
+
+-- the edges along a closed walk's lines from its corner i to its corner j are flipped, and no others
+pub record AreFlipped (rows : ℕ) (points : List Point) (i j : ℕ) (old new : List ℕ) : Type 0 where
+  pub count : length new ≡ length old
+  pub edges : (k u v : ℕ) → k < 2
+      → differ (has_edge rows new k u v) (is_odd (count_by (is_along k u v) (lines_from points j)))
+      ≡ differ (has_edge rows old k u v) (is_odd (count_by (is_along k u v) (lines_from points i)))
