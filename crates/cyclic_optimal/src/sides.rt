@@ -15,7 +15,7 @@ use straight_paths::Reach;
 /// The possible segments of a closed walk, and their penalties.
 #[derive(Drop)]
 pub(crate) struct WalkSegments<'a> {
-    pub(crate) moments: &'a Moments,
+    pub(crate) moments: &'a Moments<'a>,
     reach: Reach,
     pub(crate) size: usize,
     ghost some: { 1 ≤ length moments.now },
@@ -32,7 +32,7 @@ impl<'a> WalkSegments<'a> {
     pub(crate) fn of(
         alloc: Global,
         points: &[Point],
-        moments: &'a Moments,
+        moments: &'a Moments<'a>,
     ) -> Result<WalkSegments<'a>, NoMemory>
         requires closed { IsClosedWalk points.now }
         requires on_page { AreOnPage points.now }

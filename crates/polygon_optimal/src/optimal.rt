@@ -26,11 +26,11 @@ pub fn polygon(alloc: Global, points: &[Point]) -> Result<Polygon, NoMemory>
 }
 
 /// The same polygon, and the walk's sums, of which it was found, by what was found of other walks.
-pub fn polygon_with_moments(
+pub fn polygon_with_moments<'p>(
     alloc: Global,
-    points: &[Point],
+    points: &'p [Point],
     memo: &mut Memo,
-) -> Result<(Polygon, Moments), NoMemory>
+) -> Result<(Polygon, Moments<'p>), NoMemory>
     requires closed { IsClosedWalk points.now }
     requires on_page { AreOnPage points.now }
     ensures best { IfOk result (λ both. IsBestPolygon points.now both.0.at) }
@@ -47,11 +47,11 @@ pub fn polygon_with_moments(
 }
 
 /// The same, also by the roots that were taken for other walks.
-pub fn polygon_by(
+pub fn polygon_by<'p>(
     alloc: Global,
-    points: &[Point],
+    points: &'p [Point],
     memo: &mut PolygonMemo,
-) -> Result<(Polygon, Moments), NoMemory>
+) -> Result<(Polygon, Moments<'p>), NoMemory>
     requires closed { IsClosedWalk points.now }
     requires on_page { AreOnPage points.now }
     ensures best { IfOk result (λ both. IsBestPolygon points.now both.0.at) }
@@ -70,14 +70,14 @@ pub fn polygon_by(
 /// The same, by what was found of how far segments reach, by roots, and in the lists that a search takes.
 //
 // How far segments reach is measured before the points are summed up: the one takes 24 bytes a point, of which 20 are
-// given back, the other 32, which stay. In the other order a spiral of walls took a fifth more memory.
-fn measured(
+// given back, the other 8 for a long path, which stay.
+fn measured<'p>(
     alloc: Global,
-    points: &[Point],
+    points: &'p [Point],
     memo: &mut Memo,
     roots: &mut Roots,
     room: &mut SearchRoom,
-) -> Result<(Polygon, Moments), NoMemory>
+) -> Result<(Polygon, Moments<'p>), NoMemory>
     requires closed { IsClosedWalk points.now }
     requires on_page { AreOnPage points.now }
     ensures best { IfOk result (λ both. IsBestPolygon points.now both.0.at) }

@@ -10,10 +10,6 @@ use std::mem::replace;
 /// the walk later.
 const LONG: usize = 1 << 16;
 
-/// The sums of a walk of more points are given back once they are no longer asked: they take 32 bytes a point, and would
-/// be held beside the outline of that walk.
-const MOST_SUMMED: usize = 1 << 12;
-
 /// Lists that are kept from one walk to the next, whatever stands in them.
 //
 // A page of text has thousands of short walks, and to make four lists for each took a part of their search.
@@ -49,10 +45,12 @@ impl SearchRoom {
         replace(&mut self.moments, MomentsRoom::new(alloc))
     }
 
-    /// Keeps the room of sums that are no longer asked, unless they are too many.
+    /// Keeps the room of sums that are no longer asked, if it is small: a larger one would be held beside the outline of
+    /// its walk.
     pub(crate) fn keep(&mut self, moments: Moments) {
-        if moments.count() <= MOST_SUMMED {
-            self.moments = moments.into_room();
+        let room = moments.into_room();
+        if room.is_small() {
+            self.moments = room;
         }
     }
 }

@@ -18,7 +18,7 @@ use straight_paths::{Memo, Reach};
 // longest segment leads, decides every step. What else was measured, 20 bytes a point, is given back before the search.
 #[derive(Drop)]
 pub(crate) struct Segments<'a> {
-    pub(crate) moments: &'a Moments,
+    pub(crate) moments: &'a Moments<'a>,
     /// The walk's points. To look one up there takes less than by the sums.
     pub(crate) points: &'a [Point],
     /// For each point, where the longest segment from it leads.
@@ -39,7 +39,7 @@ pub(crate) struct Segments<'a> {
 
 impl<'a> Segments<'a> {
     /// The segments of a closed walk on a page that is summed up, whose longest ones lead to these points.
-    pub(crate) fn of(moments: &'a Moments, points: &'a [Point], lasts: Vec<u32>) -> Segments<'a>
+    pub(crate) fn of(moments: &'a Moments<'a>, points: &'a [Point], lasts: Vec<u32>) -> Segments<'a>
         requires points { points.now ≡ moments.now }
         requires closed { IsClosedWalk moments.now }
         requires on_page { AreOnPage moments.now }

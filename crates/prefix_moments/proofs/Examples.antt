@@ -2,7 +2,7 @@
 use Rattle.std.proofs.Common.{◌≡◌, ℕ, pos, negsuc, List, [], ◌∷◌, refl}
 use Rattle.pt_core.specs.declared.point.Point.{Point}
 use Rattle.prefix_moments.specs.Sums.{sums_of, chord_cross_of, spread_of}
-use Rattle.prefix_moments.specs.Inner.Table.{less_of, points_of, prefix_of}
+use Rattle.prefix_moments.specs.Inner.Table.{less_of}
 
 abbrev corner : ℕ → ℕ → Point
 corner x y = record { x = pos x; y = pos y }
@@ -35,11 +35,6 @@ spread_out = refl
 in_line : spread_of round 4 6 ≡ pos 0
 unfolding round
 in_line = refl
-
--- the points are what the rows differ by
-from_rows : points_of (prefix_of round 0 ∷ prefix_of round 1 ∷ prefix_of round 2 ∷ prefix_of round 3 ∷ prefix_of round 4 ∷ prefix_of round 5 ∷ prefix_of round 6 ∷ []) ≡ round
-unfolding round
-from_rows = refl
 
 -- a difference of rows is right where the rows themselves were cut
 wrapped : less_of (record { x = 1; y = 2; xx = 5; xy = 0; yy = 3 }) (record { x = 4294967295; y = 0; xx = 18446744073709551614; xy = 0; yy = 3 })

@@ -1,11 +1,12 @@
 -- The sums of a path's first points, as they are kept.
-use Rattle.std.proofs.Common.{◌≡◌, ℕ, zero, suc, ◌+◌, ◌-◌, ◌*◌, ◌%◌, ◌<◌, ◌≤◌, ◌^◌, ℤ, pos, negsuc, ◌+ℤ◌, ◌*ℤ◌, ◌≤ℤ◌, List, [], ◌∷◌, ◌++◌, length, get_or, refl, sym, ap, ◌∙◌, subst, add-one, arith}
-use Rattle.std.proofs.Math.Nat.{mod-add-mod, add-mod-mod, add-mod_left, mod-eq_of_lt, mod-lt}
+use Rattle.std.proofs.Common.{◌≡◌, ℕ, zero, suc, ◌+◌, ◌-◌, ◌*◌, ◌/◌, ◌%◌, ◌<◌, ◌≤◌, ◌^◌, ℤ, pos, negsuc, ◌+ℤ◌, ◌*ℤ◌, ◌≤ℤ◌, List, [], ◌∷◌, ◌++◌, length, get_or, refl, sym, ap, ◌∙◌, subst, add-one, arith}
+use Rattle.std.proofs.Math.Nat.{mod-add-mod, add-mod-mod, add-mod_left, mod-eq_of_lt, mod-lt, div-mul-le_self, le-div_iff_mul-le}
 use Rattle.std.proofs.Math.ListN.{get_or-append}
 use Rattle.std.proofs.Math.Seq.{get_or-append_seam}
 use Rattle.std.proofs.Math.Decide.{dec_lt}
 use Rattle.std.proofs.lemmas.Int.{ints, unsigned_abs-mul}
 use Rattle.std.proofs.lemmas.List.{get_or_read}
+use Rattle.std.proofs.lemmas.Nat.{le-div, pow_pos}
 use Rattle.std.specs.Prelude.{unsigned_abs, slice_index_or}
 use Rattle.pt_core.specs.declared.point.Point.{Point}
 use Rattle.pt_core.specs.ClosedWalk.{point_at, origin}
@@ -14,7 +15,7 @@ use Rattle.pt_core.specs.OnPage.{IsOnPage, AreOnPage}
 use Rattle.prefix_moments.specs.declared.prefix.Prefix.{Prefix}
 use Rattle.prefix_moments.specs.declared.raw.RawSums.{RawSums}
 use Rattle.prefix_moments.specs.Sums.{sum_of}
-use Rattle.prefix_moments.specs.Inner.Table.{raw_of, kept_of, prefix_of, both_of, less_of, no_prefix, IsTable, point_between, points_after, points_of}
+use Rattle.prefix_moments.specs.Inner.Table.{raw_of, kept_of, prefix_of, both_of, less_of, no_prefix, IsTable}
 use Rattle.prefix_moments.proofs.Summing.{split}
 use Rattle.prefix_moments.proofs.Rows.{raw_same, raw_most}
 
@@ -25,9 +26,6 @@ prefix_same : (p q : Prefix) → p.x ≡ q.x → p.y ≡ q.y → p.xx ≡ q.xx �
 prefix_same p q x y xx xy yy =
     ap (λ v. prefix v p.y p.xx p.xy p.yy) x ∙ ap (λ v. prefix q.x v p.xx p.xy p.yy) y ∙ ap (λ v. prefix q.x q.y v p.xy p.yy) xx
     ∙ ap (λ v. prefix q.x q.y q.xx v p.yy) xy ∙ ap (λ v. prefix q.x q.y q.xx q.xy v) yy
-
-point_same : (p q : Point) → p.x ≡ q.x → p.y ≡ q.y → p ≡ q
-point_same p q x y = ap (λ v. record { x = v; y = p.y }) x ∙ ap (λ v. record { x = q.x; y = v }) y
 
 -- no sum is below zero
 record IsNatural (r : RawSums) : Type 0 where
@@ -180,63 +178,43 @@ whole_back points on_page i count m r few e x y xx xy yy =
     (xy (omega (arith, is_xy, most.xy)) ∙ ap (λ v. pos v) is_xy ∙ natural_back _ n.xy)
     (yy (omega (arith, is_yy, most.yy)) ∙ ap (λ v. pos v) is_yy ∙ natural_back _ n.yy)
 
+-- a row of no more points than there are is in the table
+pub row_within : (size shift m : ℕ) → m * 2 ^ shift ≤ size → m ≤ size / 2 ^ shift
+row_within size shift m = le-div m size (2 ^ shift) (pow_pos shift)
+
+-- the points before a row of the table are the path's
+pub row_reaches : (size shift m : ℕ) → m ≤ size / 2 ^ shift → m * 2 ^ shift ≤ size
+row_reaches size shift m below = (le-div_iff_mul-le (pow_pos shift)).0 below
+
+-- where a row begins, as a shift gives it
+pub row_begins : (size shift m : ℕ) → size < 2 ^ 64 → m * 2 ^ shift ≤ size → m * 2 ^ shift % 2 ^ 64 ≡ m * 2 ^ shift
+row_begins size shift m short within = mod-eq_of_lt (omega arith)
+
 -- a row that was read from the table
-pub row_is : (points : List Point) (rows : List Prefix) → IsTable points rows → (i : ℕ) (r : Prefix) → i ≤ length points → r ≡ get_or rows i r
-    → r ≡ prefix_of points i
-row_is points rows t i r h e = get_or_read rows _ _ (omega (arith, t.lap)) e no_prefix ∙ t.each i h
+pub row_is : (points : List Point) (shift : ℕ) (rows : List Prefix) → IsTable points shift rows → (m : ℕ) (r : Prefix) → m * 2 ^ shift ≤ length points
+    → r ≡ get_or rows m r → r ≡ prefix_of points (m * 2 ^ shift)
+row_is points shift rows t m r within e =
+    get_or_read rows _ _ (omega (arith, t.lap, row_within (length points) shift m within)) e no_prefix ∙ t.each m within
+
+-- one that was read where each point has a row
+pub dense_row_is : (points : List Point) (shift : ℕ) (rows : List Prefix) → IsTable points shift rows → shift ≡ 0 → (k : ℕ) (r : Prefix) → k ≤ length points
+    → r ≡ get_or rows k r → r ≡ prefix_of points k
+dense_row_is points shift rows t dense k r within e =
+    let P : ℕ → Type 0 = λ s. IsTable points s rows in
+    let each : k * 2 ^ 0 ≡ k = omega arith in
+    row_is points 0 rows (subst P dense t) k r (omega (arith, each)) e ∙ ap (λ n. prefix_of points n) each
 
 -- the rows so far and one more
-pub push_row : (at : ℕ → Point) (rows : List Prefix) (r : Prefix) (k : ℕ) → length rows ≡ k → ((m : ℕ) → m < k → get_or rows m no_prefix ≡ kept_of (raw_of at m))
-    → r ≡ kept_of (raw_of at k) → (m : ℕ) → m < k + 1 → get_or (rows ++ r ∷ []) m no_prefix ≡ kept_of (raw_of at m)
-push_row at rows r k len each er m h =
+pub push_row : (row : ℕ → Prefix) (rows : List Prefix) (r : Prefix) (k : ℕ) → length rows ≡ k → ((m : ℕ) → m < k → get_or rows m no_prefix ≡ row m)
+    → r ≡ row k → (m : ℕ) → m < k + 1 → get_or (rows ++ r ∷ []) m no_prefix ≡ row m
+push_row row rows r k len each er m h =
     elim (dec_lt m k) [
       | yes below ↦ get_or-append rows (r ∷ []) no_prefix m (omega arith) ∙ each m below
       | no not_below ↦ (let e : length rows ≡ m = omega arith in
-          let P : ℕ → Type 0 = λ n. get_or (rows ++ r ∷ []) n no_prefix ≡ kept_of (raw_of at n) in
-          let Q : ℕ → Type 0 = λ n. get_or (rows ++ r ∷ []) (length rows) no_prefix ≡ kept_of (raw_of at n) in
+          let P : ℕ → Type 0 = λ n. get_or (rows ++ r ∷ []) n no_prefix ≡ row n in
+          let Q : ℕ → Type 0 = λ n. get_or (rows ++ r ∷ []) (length rows) no_prefix ≡ row n in
           subst P e (subst Q (sym len) (get_or-append_seam rows r [] no_prefix ∙ er)))
     ]
-
--- the point between two rows
-between_rows : (at : ℕ → Point) → ((i : ℕ) → IsOnPage (at i)) → (k : ℕ) → point_between (kept_of (raw_of at k)) (kept_of (raw_of at (suc k))) ≡ at k
-between_rows at on_page k =
-    let n = raw_natural at k on_page in
-    let here = on_page k in
-    point_same _ _
-    (ap (λ v. pos v) (less_kept ((raw_of at k).x) ((at k).x) n.x here.left (let r = here.right in omega (arith, ints))) ∙ natural_back _ here.left)
-    (ap (λ v. pos v) (less_kept ((raw_of at k).y) ((at k).y) n.y here.bottom (let r = here.top in omega (arith, ints))) ∙ natural_back _ here.bottom)
-
-points_back : (at : ℕ → Point) → ((i : ℕ) → IsOnPage (at i)) → (k : ℕ) (p : Prefix) (rows : List Prefix) (points : List Point) → length rows ≡ length points
-    → p ≡ kept_of (raw_of at k) → ((m : ℕ) → m < length rows → get_or rows m no_prefix ≡ kept_of (raw_of at (suc (k + m))))
-    → ((m : ℕ) → m < length points → slice_index_or points m origin ≡ at (k + m)) → points_after p rows ≡ points
-points_back at on_page k p [] [] len ep er eq = refl
-points_back at on_page k p [] (a ∷ points) len ep er eq = absurd (omega arith)
-points_back at on_page k p (q ∷ rows) [] len ep er eq = absurd (omega arith)
-points_back at on_page k p (q ∷ rows) (a ∷ points) len ep er eq =
-    let same : k + 0 ≡ k = omega arith in
-    let next : (m : ℕ) → k + suc m ≡ suc k + m = λ m. omega arith in
-    let is_q : q ≡ kept_of (raw_of at (suc k)) = er 0 (omega arith) ∙ ap (λ n. kept_of (raw_of at (suc n))) same in
-    let is_a : a ≡ at k = eq 0 (omega arith) ∙ ap at same in
-    ap (λ v. v ∷ points_after q rows) (rw (ep, is_q, is_a) (between_rows at on_page k))
-    ∙ ap (λ v. a ∷ v) (points_back at on_page (suc k) q rows points (omega arith) is_q
-    (λ m h. er (suc m) (omega arith) ∙ ap (λ n. kept_of (raw_of at (suc n))) (next m))
-    (λ m h. eq (suc m) (omega arith) ∙ ap at (next m)))
-
--- the points whose sums a table holds are the path's
-pub points_of_table : (points : List Point) (rows : List Prefix) → IsTable points rows → points_of rows ≡ points
-points_of_table points [] t = absurd (omega (arith, t.lap))
-points_of_table points (p ∷ rows) t =
-    points_back (point_at points) t.on_page 0 p rows points (omega (arith, t.lap)) (t.each 0 (omega arith))
-    (λ m h. t.each (suc m) (omega (arith, t.lap)) ∙ ap (λ n. prefix_of points n) (let e : suc m ≡ suc (0 + m) = omega arith in e))
-    (λ m h. ap (λ n. slice_index_or points n origin) (let e : m ≡ 0 + m = omega arith in sym (mod-eq_of_lt h) ∙ ap (λ n. n % length points) e))
-
--- the place of a point between its rows
-pub place_is : (points : List Point) (rows : List Prefix) → IsTable points rows → (k : ℕ) (a b : Prefix) → k < length points
-    → a ≡ get_or rows k a → b ≡ get_or rows (k + 1) b → point_between a b ≡ point_at points k
-place_is points rows t k a b within ea eb =
-    let is_a = row_is points rows t k a (omega arith) ea in
-    let is_b = row_is points rows t (k + 1) b (omega arith) eb in
-    rw (is_a, is_b, add-one) (between_rows (point_at points) t.on_page k)
 
 -- a point's number in the first lap stands for the same point
 pub same_place : (points : List Point) (k m : ℕ) → 0 < length points → m ≡ k % length points → point_at points m ≡ point_at points k

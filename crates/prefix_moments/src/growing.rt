@@ -17,7 +17,7 @@ use pt_core::{LONGEST_SIDE, MOST_STEPS, Point};
 /// products, where the sums over any segment are looked up in two rows and taken to its first point by ten.
 #[derive(Clone, Copy)]
 pub struct Growing<'a> {
-    pub moments: &'a Moments,
+    pub moments: &'a Moments<'a>,
     /// The number of its first point.
     pub from: u32,
     /// And of its last one.
@@ -49,7 +49,7 @@ pub struct Growing<'a> {
 
 impl<'a> Growing<'a> {
     /// The segment from point number `from` to number `to`.
-    pub fn between(moments: &'a Moments, from: u32, to: u32) -> Growing<'a>
+    pub fn between(moments: &'a Moments<'a>, from: u32, to: u32) -> Growing<'a>
         requires on_page { AreOnPage moments.now }
         requires start { from < length moments.now }
         requires onwards { from < to }
@@ -78,7 +78,7 @@ impl<'a> Growing<'a> {
 
     /// The same, where both points are in the first lap, by the list of the path's points.
     #[inline(always)]
-    pub fn in_lap(moments: &'a Moments, points: &[Point], from: u32, to: u32) -> Growing<'a>
+    pub fn in_lap(moments: &'a Moments<'a>, points: &[Point], from: u32, to: u32) -> Growing<'a>
         requires on_page { AreOnPage moments.now }
         requires points { points.now ≡ moments.now }
         requires onwards { from < to }

@@ -14,28 +14,38 @@ use pt_core::{LONGEST_SIDE, MOST_STEPS, NoMemory, Point, isqrt};
 use std::alloc::Global;
 use std::marker::Model;
 
+/// The most points of a path that has a row before each point.
+const MOST_DENSE: usize = 1 << 12;
+
+/// Of a longer path a row stands before one point in 2 to this power, for a quarter of the memory.
+//
+// Memory that is used for the first time takes the system longer than the points between two rows take.
+const SELDOM: u32 = 2;
+
 /// A path's sums, for any segment of at most one lap. Contracts see the path's points.
 #[derive(Debug, Drop)]
-pub struct Moments {
-    /// The sums over the points before each one, and over all. A point is what two of them differ by.
+pub struct Moments<'p> {
+    points: &'p [Point],
+    /// The sums over the points before one point in 2 to the power `shift`, from the first one on.
     rows: Vec<Prefix>,
+    shift: u32,
 }
 
-impl Model for Moments {
+impl<'p> Model for Moments<'p> {
     ghost use Rattle.std.specs.Prelude.{List};
     ghost use Rattle.pt_core.specs.declared.point.Point.{Point};
-    ghost use Rattle.prefix_moments.specs.Inner.Table.{IsTable, points_of};
+    ghost use Rattle.prefix_moments.specs.Inner.Table.{IsTable};
 
     ghost Value = { List Point };
 
-    ghost view = { λ moments. points_of moments.rows.items };
+    ghost view = { λ moments. moments.points.now };
 
-    ghost invariant = { λ moments. IsTable (points_of moments.rows.items) moments.rows.items };
+    ghost invariant = { λ moments. IsTable moments.points.now moments.shift moments.rows.items };
 }
 
-impl Moments {
+impl<'p> Moments<'p> {
     /// Sums up a closed walk on a page.
-    pub fn of(alloc: Global, points: &[Point]) -> Result<Moments, NoMemory>
+    pub fn of(alloc: Global, points: &'p [Point]) -> Result<Moments<'p>, NoMemory>
         requires closed { IsClosedWalk points.now }
         requires on_page { AreOnPage points.now }
         ensures { IfOk result (λ moments. moments ≡ points.now) }
@@ -44,13 +54,24 @@ impl Moments {
     }
 
     /// The same, in the room of another path's sums.
-    pub fn in_room(room: MomentsRoom, points: &[Point]) -> Result<Moments, NoMemory>
+    pub fn in_room(room: MomentsRoom, points: &'p [Point]) -> Result<Moments<'p>, NoMemory>
         requires closed { IsClosedWalk points.now }
         requires on_page { AreOnPage points.now }
         ensures { IfOk result (λ moments. moments ≡ points.now) }
     {
+        if points.len() <= MOST_DENSE {
+            let rows = table(room.rows, points, 0)?;
+            return Ok(Moments {
+                points,
+                rows,
+                shift: 0,
+            });
+        }
+        let rows = table(room.rows, points, SELDOM)?;
         Ok(Moments {
-            rows: table(room.rows, points)?,
+            points,
+            rows,
+            shift: SELDOM,
         })
     }
 
@@ -63,7 +84,7 @@ impl Moments {
     pub fn count(&self) -> usize
         ensures { result ≡ length self.now }
     {
-        self.rows.len() - 1
+        self.points.len()
     }
 
     /// The sums over the points from number `i` to number `j`.
@@ -109,7 +130,8 @@ impl Moments {
         ensures value { result ≡ point_at self.now k }
         ensures on_page { IsOnPage result }
     {
-        self.rows[k].point_before(self.rows[k + 1])
+        let points = self.points;
+        points[k]
     }
 
     /// The coordinates' own sums over the points from number `i` to number `j`.
@@ -133,18 +155,21 @@ impl Moments {
         ensures value { result ≡ raw_of (λ d. point_at self.now (i + d)) (j - i + 1) }
         ensures most { IsRawOf (MOST_STEPS + 1) result }
     {
-        let before = self.row_in_lap(i as usize);
-        self.row_in_lap(j as usize + 1).minus(before).raw()
+        if self.shift != 0 {
+            return self.segment(i, j);
+        }
+        let before = self.rows[i as usize];
+        self.rows[j as usize + 1].minus(before).raw()
     }
 
     /// The sums over the first `k` points, of one lap at most.
-    #[inline(always)]
     fn row_in_lap(&self, k: usize) -> Prefix
         requires { k ≤ length self.now }
         ensures value { result ≡ prefix_of self.now k }
         ensures on_page { AreOnPage self.now }
     {
-        self.rows[k]
+        let row = k >> self.shift;
+        sums_to(self.points, row << self.shift, self.rows[row], k)
     }
 
     /// The sums over the first `k` points, in the first lap or in the second.
@@ -155,9 +180,9 @@ impl Moments {
     {
         let lap = self.count();
         if k <= lap {
-            self.rows[k]
+            self.row_in_lap(k)
         } else {
-            self.rows[lap].plus(self.rows[k - lap])
+            self.row_in_lap(lap).plus(self.row_in_lap(k - lap))
         }
     }
 
@@ -212,21 +237,39 @@ impl Moments {
     }
 }
 
-/// The rows of one lap, in place of what stood in a list.
-fn table(mut rows: Vec<Prefix>, points: &[Point]) -> Result<Vec<Prefix>, NoMemory>
+/// The rows of one lap, each of 2 to the power `shift` points more, in place of what stood in a list.
+#[inline(always)]
+fn table(mut rows: Vec<Prefix>, points: &[Point], shift: u32) -> Result<Vec<Prefix>, NoMemory>
     requires closed { IsClosedWalk points.now }
     requires on_page { AreOnPage points.now }
-    ensures { IfOk result (λ rows. IsTable points.now rows.items) }
+    requires shift { shift < 32 }
+    ensures { IfOk result (λ rows. IsTable points.now shift rows.items) }
 {
     rows.clear();
-    rows.reserve(points.len() + 1)?;
+    let more = points.len() >> shift;
+    rows.reserve(more + 1)?;
     let mut sums = Prefix::none();
-    for k in 0..points.len() {
+    for m in 0..more {
         rows.push(sums)?;
-        sums = sums.with(points[k]);
+        sums = sums_to(points, m << shift, sums, (m + 1) << shift);
     }
     rows.push(sums)?;
     Ok(rows)
+}
+
+/// The sums over the first `to` points, by those over the first `from` of them.
+fn sums_to(points: &[Point], from: usize, before: Prefix, to: usize) -> Prefix
+    requires on_page { AreOnPage points.now }
+    requires before { before ≡ prefix_of points.now from }
+    requires onwards { from ≤ to }
+    requires lap { to ≤ length points.now }
+    ensures { result ≡ prefix_of points.now to }
+{
+    let mut sums = before;
+    for k in from..to {
+        sums = sums.with(points[k]);
+    }
+    sums
 }
 
 /// The number in the first lap of point number `k`, of so many points.

@@ -1,7 +1,7 @@
 //! Sums over the points before one, as much of them as their differences need.
 ghost use Rattle.std.specs.Prelude.{◌≡◌, ◌+◌, ◌-◌, ◌*◌, ◌%◌, ◌<◌, ◌≤◌, ◌^◌, ℕ, pos, unsigned_abs};
 ghost use Rattle.pt_core.specs.OnPage.{IsOnPage};
-ghost use Rattle.prefix_moments.specs.Inner.Table.{no_prefix, both_of, less_of, point_between};
+ghost use Rattle.prefix_moments.specs.Inner.Table.{no_prefix, both_of, less_of};
 
 use crate::raw::RawSums;
 use pt_core::{LONGEST_SIDE, Point};
@@ -73,17 +73,6 @@ impl Prefix {
             xx: self.xx.wrapping_sub(first.xx),
             xy: self.xy.wrapping_sub(first.xy),
             yy: self.yy.wrapping_sub(first.yy),
-        }
-    }
-
-    /// The one point that the next sums have more.
-    pub(crate) fn point_before(self, next: Prefix) -> Point
-        requires { IsOnPage (point_between self next) }
-        ensures { result ≡ point_between self next }
-    {
-        Point {
-            x: next.x.wrapping_sub(self.x) as i32,
-            y: next.y.wrapping_sub(self.y) as i32,
         }
     }
 

@@ -2,6 +2,9 @@
 use crate::prefix::Prefix;
 use std::alloc::Global;
 
+/// The most rows of a small table, of 32 bytes each.
+const MOST_SMALL: usize = 1 << 12;
+
 /// The list of a table that is no longer asked: the next path's table is made in it.
 #[derive(Drop)]
 pub struct MomentsRoom {
@@ -14,5 +17,10 @@ impl MomentsRoom {
         MomentsRoom {
             rows: Vec::new(alloc),
         }
+    }
+
+    /// Whether its table took little memory, 128 KiB at most, as that of a path of up to 16,383 points does.
+    pub fn is_small(&self) -> bool {
+        self.rows.len() <= MOST_SMALL
     }
 }

@@ -15,7 +15,7 @@ use pt_core::{MOST_STEPS, Point, isqrt};
 /// once.
 #[derive(Clone, Copy)]
 pub struct Start<'a> {
-    pub moments: &'a Moments,
+    pub moments: &'a Moments<'a>,
     /// The point's number.
     pub from: u32,
     place: Point,
@@ -29,7 +29,7 @@ pub struct Start<'a> {
 
 impl<'a> Start<'a> {
     /// The segments from point number `from`.
-    pub fn at(moments: &'a Moments, from: u32) -> Start<'a>
+    pub fn at(moments: &'a Moments<'a>, from: u32) -> Start<'a>
         requires { from < length moments.now }
         ensures moments { result.moments.now ≡ moments.now }
         ensures from { result.from ≡ from }

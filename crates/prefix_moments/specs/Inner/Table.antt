@@ -1,5 +1,5 @@
 -- What a path's table of sums holds.
-use Rattle.std.specs.Prelude.{◌≡◌, ℕ, ◌+◌, ◌-◌, ◌*◌, ◌%◌, ◌<◌, ◌≤◌, ◌^◌, ℤ, pos, ◌+ℤ◌, ◌-ℤ◌, ◌*ℤ◌, List, [], ◌∷◌, length, slice_index_or, unsigned_abs}
+use Rattle.std.specs.Prelude.{◌≡◌, ℕ, ◌+◌, ◌-◌, ◌*◌, ◌/◌, ◌%◌, ◌<◌, ◌≤◌, ◌^◌, ℤ, pos, ◌+ℤ◌, ◌-ℤ◌, ◌*ℤ◌, List, [], ◌∷◌, length, slice_index_or, unsigned_abs}
 use Rattle.pt_core.specs.declared.point.Point.{Point}
 use Rattle.pt_core.specs.ClosedWalk.{point_at}
 use Rattle.pt_core.specs.declared.limits.TheConstants.{LONGEST_SIDE}
@@ -65,20 +65,6 @@ less_of p q = record {
   yy = (p.yy + (2 ^ 64 - q.yy)) % 2 ^ 64;
 }
 
--- the one point that the latter of two rows has more
-abbrev pub point_between : Prefix → Prefix → Point
-point_between p q = record { x = pos ((q.x + (2 ^ 32 - p.x)) % 2 ^ 32); y = pos ((q.y + (2 ^ 32 - p.y)) % 2 ^ 32) }
-
--- the points that the rows after this one have more, one each
-abbrev pub points_after : Prefix → List Prefix → List Point
-points_after p [] = []
-points_after p (q ∷ rows) = point_between p q ∷ points_after q rows
-
--- the points whose sums a table holds
-abbrev pub points_of : List Prefix → List Point
-points_of [] = []
-points_of (p ∷ rows) = points_after p rows
-
 -- the sums of offsets from (x, y), for `count` points
 abbrev pub offsets_of : RawSums → ℕ → ℤ → ℤ → Sums
 offsets_of r count x y = record {
@@ -102,10 +88,11 @@ spread_from r count right above number =
     ((above *ℤ (above *ℤ r.xx -ℤ (right *ℤ r.xy) *ℤ pos 2)) +ℤ (right *ℤ right) *ℤ r.yy)
     +ℤ number *ℤ (count *ℤ number -ℤ (above *ℤ r.x -ℤ right *ℤ r.y) *ℤ pos 2)
 
--- row number k has the sums over the first k points, for one lap round the path
-pub record IsTable (points : List Point) (rows : List Prefix) : Type 0 where
+-- row number m has the sums over the first m * 2 ^ shift points, for one lap round the path
+pub record IsTable (points : List Point) (shift : ℕ) (rows : List Prefix) : Type 0 where
   pub some : 0 < length points
   pub few : length points ≤ 2 ^ 31
   pub on_page : AreOnPage points
-  pub lap : length rows ≡ length points + 1
-  pub each : (k : ℕ) → k ≤ length points → slice_index_or rows k no_prefix ≡ prefix_of points k
+  pub low : shift < 32
+  pub lap : length rows ≡ length points / 2 ^ shift + 1
+  pub each : (m : ℕ) → m * 2 ^ shift ≤ length points → slice_index_or rows m no_prefix ≡ prefix_of points (m * 2 ^ shift)
