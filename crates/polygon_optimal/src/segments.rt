@@ -19,7 +19,7 @@ use straight_paths::{Memo, Reach};
 #[derive(Drop)]
 pub(crate) struct Segments<'a> {
     pub(crate) moments: &'a Moments<'a>,
-    /// The walk's points. To look one up there takes less than by the sums.
+    /// The walk's points, beside the sums, so that a loop has them at hand.
     pub(crate) points: &'a [Point],
     /// For each point, where the longest segment from it leads.
     pub(crate) lasts: Vec<u32>,
