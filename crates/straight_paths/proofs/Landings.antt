@@ -17,7 +17,7 @@ use Rattle.straight_paths.specs.declared.landing.Landing.{Landing}
 use Rattle.straight_paths.specs.declared.quarter.Quarter.{Quarter}
 use Rattle.straight_paths.specs.declared.vector.Vector.{Vector}
 use Rattle.straight_paths.proofs.Bounds.{same_vector}
-use Rattle.straight_paths.proofs.Breadths.{mirrored, near_mirrored}
+use Rattle.straight_paths.proofs.Breadths.{turned, near_turned}
 use Rattle.straight_paths.proofs.Clear.{path_run}
 use Rattle.straight_paths.proofs.Funnels.{above_at, clear_on, on_way, way_at, way_on}
 use Rattle.straight_paths.proofs.Mirrors.{clear_back, clear_mirrored}
@@ -153,7 +153,7 @@ module _ (points : List Point) (first most : ℕ) (q : Quarter) (signs : IsQuart
 
 -- ---- back to the path
 
-pub way_seen : (q : Quarter) (path : ℕ → Point) (k : ℕ) → way_along (stairs_of q path) k ≡ mirrored q (way_along path k)
+pub way_seen : (q : Quarter) (path : ℕ → Point) (k : ℕ) → way_along (stairs_of q path) k ≡ turned q (way_along path k)
 way_seen q path k =
     let x = part_start q.right (path 0).x in
     let y = part_start q.up (path 0).y in
@@ -162,19 +162,19 @@ way_seen q path k =
 module _ (q : Quarter) (signs : IsQuarter q) (path : ℕ → Point) (count : ℕ) where
   clear_turned : IsClear (stairs_of q path) count → IsClear path count
   clear_turned clear = λ j k a b c.
-      near_mirrored q (way_along path j) (way_along path k) signs
-      (subst (λ (v : Vector). IsNear v (mirrored q (way_along path k))) (way_seen q path j)
+      near_turned q (way_along path j) (way_along path k) signs
+      (subst (λ (v : Vector). IsNear v (turned q (way_along path k))) (way_seen q path j)
       (subst (λ (v : Vector). IsNear (way_along (stairs_of q path) j) v) (way_seen q path k) (clear j k a b c)))
 
   turned_clear : IsClear path count → IsClear (stairs_of q path) count
   turned_clear clear = λ j k a b c.
-      let m : Vector = mirrored q (way_along path j) in
-      let e : Vector = mirrored q (way_along path k) in
-      let near : IsNear (mirrored q m) (mirrored q e) =
-      subst (λ (v : Vector). IsNear v (mirrored q e)) (sym (twice q (way_along path j) signs))
+      let m : Vector = turned q (way_along path j) in
+      let e : Vector = turned q (way_along path k) in
+      let near : IsNear (turned q m) (turned q e) =
+      subst (λ (v : Vector). IsNear v (turned q e)) (sym (twice q (way_along path j) signs))
       (subst (λ (v : Vector). IsNear (way_along path j) v) (sym (twice q (way_along path k) signs)) (clear j k a b c)) in
       subst (λ (v : Vector). IsNear v (way_along (stairs_of q path) k)) (sym (way_seen q path j))
-      (subst (λ (v : Vector). IsNear m v) (sym (way_seen q path k)) (near_mirrored q m e signs near))
+      (subst (λ (v : Vector). IsNear m v) (sym (way_seen q path k)) (near_turned q m e signs near))
 
   clear_seen : (m : Bool) → IsClear (seen_in m (stairs_of q path)) count → IsClear path count
   clear_seen false clear = clear_turned clear

@@ -22,7 +22,7 @@ use Rattle.straight_paths.specs.declared.swing.Swing.{Swing}
 use Rattle.straight_paths.specs.declared.trial.Sway.{Sway}
 use Rattle.straight_paths.specs.declared.vector.Vector.{Vector}
 use Rattle.straight_paths.proofs.Bounds.{crossed, same_vector}
-use Rattle.straight_paths.proofs.Breadths.{mirrored}
+use Rattle.straight_paths.proofs.Breadths.{turned}
 use Rattle.straight_paths.proofs.Clear.{path_run}
 use Rattle.straight_paths.proofs.Landings.{first_step, step_here, way_seen}
 use Rattle.straight_paths.proofs.Quarters.{sign_most, sign_small}
@@ -162,7 +162,7 @@ module _ (points : List Point) (first most : ℕ) (q : Quarter) (signs : IsQuart
   steps_seen k h =
       let step : Vector = step_from (path_from points first) k in
       let back = λ (to : Vector) (e : step_from (stairs_of q (path_from points first)) k ≡ to).
-      sym (twice q step signs) ∙ ap (mirrored q) (sym (step_seen q (path_from points first) k) ∙ e) in
+      sym (twice q step signs) ∙ ap (turned q) (sym (step_seen q (path_from points first) k) ∙ e) in
       elim (are.steps k h) [
         | inl e ↦ inl (back east e ∙ same_vector _ _ _ _ (omega (arith, ints)) (omega (arith, ints)))
         | inr e ↦ inr (back north e ∙ same_vector _ _ _ _ (omega (arith, ints)) (omega (arith, ints)))

@@ -277,6 +277,7 @@ fn held_by_strip(track: &Track, last: usize, lap: usize, start: Hold, steps: &mu
 }
 
 /// The same by one step at a time.
+#[inline(always)]
 fn held_by_steps(track: &Track, last: usize, lap: usize, start: Hold, steps: &mut [u32]) -> Hold
     requires seen { IsSeen track.now last start.index start.seen }
     requires ends { AreEndsFrom track.now last lap start.index steps.old }
@@ -344,6 +345,7 @@ fn onward_back(
 /// The same by the straight runs along a row or a column.
 //
 // A strip that goes another way has its borders shifted by each step, so none of its runs can be taken as a whole.
+#[inline(always)]
 fn held_by_runs(track: &Track, last: usize, lap: usize, start: Hold, steps: &mut [u32]) -> Hold
     requires seen { IsSeen track.now last start.index start.seen }
     requires ends { AreEndsFrom track.now last lap start.index steps.old }

@@ -132,6 +132,7 @@ fn by_sign(sign: i64, number: i64) -> i64
 // far it goes across a way to both sides, and where that is no more than the breadth it is a strip. The price: a strip
 // is no longer than its numbers say, and on ragged rims it holds two or three points, so that two points of five lie in
 // none.
+#[inline(never)]
 pub(crate) fn strip_from(track: &Track, first: usize, steps: usize, cone: Cone) -> Option<Strip>
     requires subpath { IsSubpath track.now first steps }
     requires cone { IsSound cone }
@@ -186,6 +187,7 @@ fn simplest_strip(
 //
 // Where the path goes as far into the way's quarter as it has steps, none of its steps goes back there. Then all that is
 // asked of its corners is how far across the way they are. Of maps and text nearly all subpaths are like that.
+#[inline(always)]
 fn strip_along(track: &Track, first: usize, most: usize, way: Vector) -> StripTrial
     requires subpath { IsSubpath track.now first most }
     requires short { IsShort 65535 way }

@@ -4,7 +4,7 @@ use Rattle.straight_paths.specs.Cones.{cross_of}
 use Rattle.straight_paths.specs.Inner.Wedges.{IsQuarter, IsSign}
 use Rattle.straight_paths.specs.declared.quarter.Quarter.{Quarter}
 use Rattle.straight_paths.specs.declared.vector.Vector.{Vector}
-use Rattle.straight_paths.proofs.Breadths.{cross_mirrored}
+use Rattle.straight_paths.proofs.Breadths.{cross_turned}
 use Rattle.straight_paths.proofs.Quarters.{sign_back}
 use Rattle.straight_paths.proofs.funnel.Funnel.cone.Goals as goal
 
@@ -23,7 +23,7 @@ over right up z other (inr e) (inr f) h = absurd (other (e ∙ sym f))
 module _ (q : Quarter) (signs : IsQuarter q) (a b a' b' : Vector) (x : a'.x ≡ q.right *ℤ a.x) (y : a'.y ≡ q.up *ℤ a.y)
     (x' : b'.x ≡ q.right *ℤ b.x) (y' : b'.y ≡ q.up *ℤ b.y) where
   turned_cross : cross_of a' b' ≡ q.right *ℤ q.up *ℤ cross_of a b
-  turned_cross = rw (x, y, x', y') (cross_mirrored q a b)
+  turned_cross = rw (x, y, x', y') (cross_turned q a b)
 
   same_signs : of_z w64 q.right ≡ of_z w64 q.up → q.right ≡ q.up
   same_signs e = sym (sign_back q.right signs.right) ∙ ap (to_z w64) e ∙ sign_back q.up signs.up
