@@ -19,7 +19,7 @@ const MOST_DENSE: usize = 1 << 12;
 
 /// Of a longer path a row stands before one point in 2 to this power, for a quarter of the memory.
 //
-// Before one in 8 the table would be half as large again, but in a model the sums of a segment took 1.7 times as long.
+// Before one in 8 the table would be half as large, but in a model the sums of a segment took 1.7 times as long.
 const SELDOM: u32 = 2;
 
 /// A path's sums, for any segment of at most one lap. Contracts see the path's points.
