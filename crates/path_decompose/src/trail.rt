@@ -42,8 +42,7 @@ impl Trail {
 
     /// The walk's points, in a list of their own.
     //
-    // A long walk hands out its own one: a copy would be as much memory again that is used for the first time, which takes
-    // longer than the walk.
+    // A long walk hands out its own one: a copy would be as much memory again that is used for the first time.
     pub(crate) fn take_points(&mut self, alloc: Global) -> Result<Vec<Point>, NoMemory>
         ensures { IfOk result (λ points. points.items ≡ self.old.points.items) }
     {
